@@ -1,0 +1,24 @@
+-- HMAC with SHA-256 (RFC 2104, section 2; SHA-256 is that of FIPS 180-4).
+use Rattle.std.specs.Prelude.{ℕ, ◌-◌, List, ◌++◌, length, map, replicate, nat_lt, if◌then◌else◌, bit_xor}
+use Rattle.sha2.specs.Sha256.{sha256}
+
+-- SHA-256 works on blocks of this many bytes.
+abbrev pub block_len : ℕ
+block_len = 64
+
+-- A key longer than a block stands for its hash.
+abbrev pub short_key : List ℕ → List ℕ
+short_key key = if nat_lt block_len (length key) then sha256 key else key
+
+-- the key as one block: zero bytes fill it up
+unfoldable pub key_block : List ℕ → List ℕ
+key_block key = short_key key ++ replicate (block_len - length (short_key key)) 0
+
+-- each byte of a block, exclusive or the pad's byte
+abbrev pub masked : ℕ → List ℕ → List ℕ
+masked pad block = map (λ byte. bit_xor byte pad) block
+
+-- H((K xor opad) ++ H((K xor ipad) ++ text))
+unfoldable pub hmac : List ℕ → List ℕ → List ℕ
+hmac key text =
+    sha256 (masked 0x5c (key_block key) ++ sha256 (masked 0x36 (key_block key) ++ text))

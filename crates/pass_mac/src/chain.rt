@@ -1,0 +1,61 @@
+ghost use Rattle.std.specs.Prelude.{◌≡◌, []};
+
+use crate::mac::{derive, hmac};
+use std::marker::Model;
+
+/// A signature that grows by one HMAC with each caveat. Contracts see it as its 32 bytes.
+#[derive(Drop)]
+pub struct Chain {
+    signature: [u8; 32],
+}
+
+impl Model for Chain {
+    ghost use Rattle.std.specs.Prelude.{ℕ, List};
+
+    ghost Value = { List ℕ };
+
+    ghost view = { λ chain. chain.signature };
+}
+
+impl Chain {
+    ghost use Rattle.std.specs.Prelude.{◌≡◌, []};
+    ghost use Rattle.pass_mac.specs.Hmac as spec;
+    ghost use Rattle.pass_mac.specs.Chain.{derived_key, chain};
+
+    /// The chain of an identifier under a root, before any caveat. Derives the root's key.
+    pub fn start(root: &[u8], identifier: &[u8]) -> Chain
+        ensures { result ≡ chain (derived_key root.now) identifier.now [] }
+    {
+        Chain::from_key(&derive(root), identifier)
+    }
+
+    /// The chain of an identifier under a key that was derived already.
+    pub fn from_key(derived: &[u8; 32], identifier: &[u8]) -> Chain
+        ensures { result ≡ chain derived.now identifier.now [] }
+    {
+        Chain {
+            signature: hmac(derived, identifier),
+        }
+    }
+
+    /// The chain that has this signature so far.
+    pub fn resume(signature: [u8; 32]) -> Chain
+        ensures { result ≡ signature }
+    {
+        Chain { signature }
+    }
+
+    /// Adds a caveat: one more HMAC, under the signature so far.
+    pub fn add(&mut self, caveat: &[u8])
+        ensures { self.new ≡ spec.hmac self.old caveat.now }
+    {
+        self.signature = hmac(&self.signature, caveat);
+    }
+
+    /// The signature so far.
+    pub fn signature(&self) -> [u8; 32]
+        ensures { result ≡ self.now }
+    {
+        self.signature
+    }
+}
