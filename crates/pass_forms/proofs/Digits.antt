@@ -1,0 +1,61 @@
+-- A digit that is read is the digit that was written, and so are four of them.
+use Rattle.std.proofs.Common.{◌≡◌, ℕ, ◌+◌, ◌*◌, ◌/◌, ◌%◌, ◌^◌, ◌<◌, List, [], ◌∷◌, ◌++◌, Option, Some, None, refl, sym, ap, ◌∙◌, arith}
+use Rattle.std.proofs.lemmas.Bool.Decides.{nat_tests}
+use Rattle.pass_forms.specs.V1.{hex_digit, four_digits}
+use Rattle.pass_forms.specs.V1Reading.{◌>>=◌, digit_value, len_at}
+
+pub digit_again : (n : ℕ) → n < 16 → digit_value (hex_digit n) ≡ Some n
+digit_again n h = grind (arith, nat_tests)
+
+pub digit_takes : (byte n : ℕ) → digit_value byte ≡ Some n → (n < 16) × (byte ≡ hex_digit n)
+digit_takes byte n h = grind (arith, nat_tests)
+
+abbrev value : ℕ → ℕ → ℕ → ℕ → ℕ
+value x y z w = x * 4096 + y * 256 + z * 16 + w
+
+digits_of_value : (x y z w : ℕ) → x < 16 → y < 16 → z < 16 → w < 16 → four_digits (value x y z w) ≡ hex_digit x ∷ hex_digit y ∷ hex_digit z ∷ hex_digit w ∷ []
+digits_of_value x y z w hx hy hz hw =
+    let first : value x y z w / 4096 ≡ x = omega arith in
+    let second : value x y z w / 256 % 16 ≡ y = omega arith in
+    let third : value x y z w / 16 % 16 ≡ z = omega arith in
+    let fourth : value x y z w % 16 ≡ w = omega arith in
+    rw (first, second, third, fourth) refl
+
+-- the number that a step gave, where none was refused
+pub bind_some : {A B : Type 0} (o : Option A) (f : A → Option B) (y : B) → (o >>= f) ≡ Some y → (x : A) × (o ≡ Some x) × (f x ≡ Some y)
+bind_some None f y e = absurd cc
+bind_some (Some x) f y e = (x, refl, e)
+
+pub some_is : {A : Type 0} (x y : A) → ◌≡◌ {A = Option A} (Some x) (Some y) → x ≡ y
+some_is x y e = cc
+
+joined : (a b c d x y z w n : ℕ) (rest : List ℕ) → (x < 16) × (a ≡ hex_digit x) → (y < 16) × (b ≡ hex_digit y) → (z < 16) × (c ≡ hex_digit z) → (w < 16) × (d ≡ hex_digit w) → value x y z w ≡ n → (n < 2 ^ 16) × (a ∷ b ∷ c ∷ d ∷ rest ≡ four_digits n ++ rest)
+joined a b c d x y z w n rest ha hb hc hd is_n =
+    let e : four_digits n ≡ hex_digit x ∷ hex_digit y ∷ hex_digit z ∷ hex_digit w ∷ [] = ap four_digits (sym is_n) ∙ digits_of_value x y z w ha.0 hb.0 hc.0 hd.0 in
+    (omega arith, rw (ha.1, hb.1, hc.1, hd.1) (ap (λ (ds : List ℕ). ds ++ rest) (sym e)))
+
+pub len_takes : (bytes : List ℕ) (n : ℕ) → len_at bytes ≡ Some n → (n < 2 ^ 16) × (rest : List ℕ) × (bytes ≡ four_digits n ++ rest)
+len_takes [] n e = absurd cc
+len_takes (a ∷ []) n e = absurd cc
+len_takes (a ∷ b ∷ []) n e = absurd cc
+len_takes (a ∷ b ∷ c ∷ []) n e = absurd cc
+len_takes (a ∷ b ∷ c ∷ d ∷ rest) n e =
+    let x = bind_some (digit_value a) (λ x. digit_value b >>= λ y. digit_value c >>= λ z. digit_value d >>= λ w. Some (value x y z w)) n e in
+    let y = bind_some (digit_value b) (λ y. digit_value c >>= λ z. digit_value d >>= λ w. Some (value x.0 y z w)) n x.2 in
+    let z = bind_some (digit_value c) (λ z. digit_value d >>= λ w. Some (value x.0 y.0 z w)) n y.2 in
+    let w = bind_some (digit_value d) (λ w. Some (value x.0 y.0 z.0 w)) n z.2 in
+    let tx = digit_takes a x.0 x.1 in
+    let ty = digit_takes b y.0 y.1 in
+    let tz = digit_takes c z.0 z.1 in
+    let tw = digit_takes d w.0 w.1 in
+    let j = joined a b c d x.0 y.0 z.0 w.0 n rest tx ty tz tw (some_is (value x.0 y.0 z.0 w.0) n w.2) in
+    (j.0, rest, j.1)
+
+pub len_again : (n : ℕ) (rest : List ℕ) → n < 2 ^ 16 → len_at (four_digits n ++ rest) ≡ Some n
+len_again n rest h =
+    let first : n / 4096 < 16 = omega arith in
+    let second : n / 256 % 16 < 16 = omega arith in
+    let third : n / 16 % 16 < 16 = omega arith in
+    let fourth : n % 16 < 16 = omega arith in
+    let sum : value (n / 4096) (n / 256 % 16) (n / 16 % 16) (n % 16) ≡ n = omega arith in
+    rw (digit_again (n / 4096) first, digit_again (n / 256 % 16) second, digit_again (n / 16 % 16) third, digit_again (n % 16) fourth, sum) refl

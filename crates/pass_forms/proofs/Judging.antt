@@ -1,0 +1,89 @@
+-- From one wide pass at most for each text to the one reading of it.
+use Rattle.std.proofs.Common.{◌≡◌, ℕ, ◌≤◌, Bool, true, false, cond, ltb, ◌||◌, List, [], ◌∷◌, length, map, Option, Some, None, Result, Ok, Err, refl, sym, ap, subst, ◌∙◌, arith}
+use Rattle.std.specs.Prelude.{is_some}
+use Rattle.std.specs.List.{list_any}
+use Rattle.std.proofs.lemmas.List.{length-map}
+use Rattle.std.proofs.lemmas.Bool.{ltb-true, ltb-false, le-ltb, lt-ltb}
+use Rattle.pass_forms.specs.declared.fault.FormFault.{FormFault}
+use Rattle.pass_forms.specs.declared.fault.FormFault.TheVariants.{TooLong, Malformed, ThirdParty, TooMany, Memory}
+use Rattle.pass_forms.specs.Pass.{Plain, WideCaveat, WidePass, is_third_party, has_third_party, widened_caveat, widened, narrowed_caveat, narrowed}
+use Rattle.pass_forms.specs.Reading.{max_text_len, max_caveats, IsReading, judged_if_any, reading_of}
+
+-- ---- a wide pass with no third party's caveat is a pass
+
+first_party : (identifier : List ℕ) (verifier_id location : Option (List ℕ)) → (is_some verifier_id || is_some location) ≡ false → ◌≡◌ {A = WideCaveat} (widened_caveat identifier) (record { identifier = identifier; verifier_id = verifier_id; location = location })
+first_party identifier None None e = refl
+first_party identifier None (Some location) e = absurd cc
+first_party identifier (Some verifier_id) location e = absurd cc
+
+neither : (a b : Bool) → (a || b) ≡ false → (a ≡ false) × (b ≡ false)
+neither true b e = absurd cc
+neither false b e = (refl, e)
+
+all_first_party : (caveats : List WideCaveat) → list_any is_third_party caveats ≡ false → map widened_caveat (map narrowed_caveat caveats) ≡ caveats
+all_first_party [] e = refl
+all_first_party (caveat ∷ caveats) e =
+    let both = neither (is_third_party caveat) (list_any is_third_party caveats) e in
+    let one : widened_caveat (narrowed_caveat caveat) ≡ caveat = first_party caveat.identifier caveat.verifier_id caveat.location both.0 in
+    ap (λ (c : WideCaveat). c ∷ map widened_caveat (map narrowed_caveat caveats)) one ∙ ap (λ (cs : List WideCaveat). caveat ∷ cs) (all_first_party caveats both.1)
+
+widened-narrowed : (wide : WidePass) → has_third_party wide ≡ false → widened (narrowed wide) ≡ wide
+widened-narrowed wide e =
+    ap (λ (caveats : List WideCaveat).
+    let w : WidePass = record { location = wide.location; identifier = wide.identifier; caveats = caveats; signature = wide.signature } in w) (all_first_party wide.caveats e)
+
+narrowed_caveats : (caveats : List (List ℕ)) → map narrowed_caveat (map widened_caveat caveats) ≡ caveats
+narrowed_caveats [] = refl
+narrowed_caveats (caveat ∷ caveats) = ap (λ (cs : List (List ℕ)). caveat ∷ cs) (narrowed_caveats caveats)
+
+narrowed-widened : (pass : Plain) → narrowed (widened pass) ≡ pass
+narrowed-widened pass =
+    ap (λ (caveats : List (List ℕ)).
+    let p : Plain = record { location = pass.location; identifier = pass.identifier; caveats = caveats; signature = pass.signature } in p) (narrowed_caveats pass.caveats)
+
+no_third_party : (caveats : List (List ℕ)) → list_any is_third_party (map widened_caveat caveats) ≡ false
+no_third_party [] = refl
+no_third_party (caveat ∷ caveats) = no_third_party caveats
+
+-- ---- the computing answer is the relation's
+
+-- What is computed is exactly what is spelled.
+pub record Computes (Spelled : WidePass → Type 0) (computed : Option WidePass) : Type 0 where
+  pub takes : (wide : WidePass) → computed ≡ Some wide → Spelled wide
+  pub again : (wide : WidePass) → Spelled wide → computed ≡ Some wide
+
+judged_by : (len : ℕ) (Spelled : WidePass → Type 0) (wide : WidePass) (third many : Bool) → has_third_party wide ≡ third → ltb max_caveats (length wide.caveats) ≡ many → len ≤ max_text_len → Spelled wide → IsReading len Spelled (cond third (Err ThirdParty) (cond many (Err TooMany) (Ok (narrowed wide))))
+judged_by len Spelled wide true many et em within spelled = (within, wide, spelled, et)
+judged_by len Spelled wide false true et em within spelled = (within, wide, spelled, et, ltb-true _ _ em)
+judged_by len Spelled wide false false et em within spelled =
+    (within, subst Spelled (sym (widened-narrowed wide et)) spelled, omega (arith, ltb-false _ _ em, length-map wide.caveats narrowed_caveat))
+
+judged_if_any_is : (len : ℕ) (Spelled : WidePass → Type 0) (computed : Option WidePass) → Computes Spelled computed → len ≤ max_text_len → IsReading len Spelled (judged_if_any computed)
+judged_if_any_is len Spelled None exact within = (within, λ wide spelled. let e = exact.again wide spelled in absurd cc)
+judged_if_any_is len Spelled (Some wide) exact within =
+    judged_by len Spelled wide (has_third_party wide) (ltb max_caveats (length wide.caveats)) refl refl within (exact.takes wide refl)
+
+reading_by : (len : ℕ) (Spelled : WidePass → Type 0) (computed : Option WidePass) (long : Bool) → ltb max_text_len len ≡ long → Computes Spelled computed → IsReading len Spelled (cond long (Err TooLong) (judged_if_any computed))
+reading_by len Spelled computed true e exact = ltb-true _ _ e
+reading_by len Spelled computed false e exact = judged_if_any_is len Spelled computed exact (ltb-false _ _ e)
+
+pub reading_is : (len : ℕ) (Spelled : WidePass → Type 0) (computed : Option WidePass) → Computes Spelled computed → IsReading len Spelled (reading_of len computed)
+reading_is len Spelled computed exact = reading_by len Spelled computed (ltb max_text_len len) refl exact
+
+nothing_computed : (computed : Option WidePass) → ((wide : WidePass) → computed ≡ Some wide → ⊥) → computed ≡ None
+nothing_computed None none = refl
+nothing_computed (Some wide) none = absurd (none wide refl)
+
+pub reading_determined : (len : ℕ) (Spelled : WidePass → Type 0) (computed : Option WidePass) (answer : Result Plain FormFault) → Computes Spelled computed → IsReading len Spelled answer → reading_of len computed ≡ answer
+reading_determined len Spelled computed (Err TooLong) exact h = rw (lt-ltb _ _ h) refl
+reading_determined len Spelled computed (Err Malformed) exact h =
+    let none : computed ≡ None = nothing_computed computed (λ wide e. h.1 wide (exact.takes wide e)) in
+    rw (le-ltb _ _ h.0, none) refl
+reading_determined len Spelled computed (Err ThirdParty) exact h =
+    rw (le-ltb _ _ h.0, exact.again h.1 h.2, h.3) refl
+reading_determined len Spelled computed (Err TooMany) exact h =
+    rw (le-ltb _ _ h.0, exact.again h.1 h.2, h.3, lt-ltb _ _ h.4) refl
+reading_determined len Spelled computed (Ok pass) exact h =
+    let few : ltb max_caveats (length (map widened_caveat pass.caveats)) ≡ false = le-ltb _ _ (omega (arith, h.2, length-map pass.caveats widened_caveat)) in
+    rw (le-ltb _ _ h.0, exact.again (widened pass) h.1, no_third_party pass.caveats, few) (ap (λ (p : Plain). Ok p) (narrowed-widened pass))
+reading_determined len Spelled computed (Err Memory) exact h = absurd h

@@ -1,0 +1,107 @@
+-- A packet that is read is the packet that was written, and what was written is read, whatever follows.
+use Rattle.std.proofs.Common.{◌≡◌, ℕ, zero, suc, ◌+◌, ◌-◌, ◌^◌, ◌<◌, ◌≤◌, Bool, true, false, cond, leb, nat_eq, List, [], ◌∷◌, ◌++◌, length, take, drop, Some, None, refl, sym, ap, ◌∙◌, append_assoc, arith}
+use Rattle.std.specs.Cmp.Lexicographic.{pointwise}
+use Rattle.std.proofs.lemmas.Bool.{leb-true, le-leb}
+use Rattle.std.proofs.lemmas.List.{take_at, drop_at, take-append-drop, length-append, length-take, length-drop}
+use Rattle.std.proofs.lemmas.Slice.Eq.{bytes_eq-Decides}
+use Rattle.pass_forms.specs.V1.{four_digits, packet_len, packet, FitsPacket}
+use Rattle.pass_forms.specs.V1Reading.{◌>>=◌, len_at, after_prefix, before_suffix, packet_at}
+use Rattle.pass_forms.proofs.Digits.{bind_some, some_is, len_takes, len_again}
+
+pub guard_some : {A : Type 0} (b : Bool) (x y : A) → cond b (Some x) None ≡ Some y → (b ≡ true) × (x ≡ y)
+guard_some true x y e = (refl, some_is x y e)
+guard_some false x y e = absurd cc
+
+take_take : (m n : ℕ) (xs : List ℕ) → m ≤ n → take m (take n xs) ≡ take m xs
+take_take zero n xs h = refl
+take_take (suc m) zero xs h = absurd (omega arith)
+take_take (suc m) (suc n) [] h = refl
+take_take (suc m) (suc n) (x ∷ xs) h = ap (λ (ys : List ℕ). x ∷ ys) (take_take m n xs (omega arith))
+
+after_prefix_takes : (prefix bytes rest : List ℕ) → after_prefix prefix bytes ≡ Some rest → bytes ≡ prefix ++ rest
+after_prefix_takes prefix bytes rest e =
+    let g = guard_some (pointwise nat_eq (take (length prefix) bytes) prefix) (drop (length prefix) bytes) rest e in
+    let front : take (length prefix) bytes ≡ prefix = (bytes_eq-Decides (take (length prefix) bytes) prefix).0 g.0 in
+    sym (take-append-drop (length prefix) bytes) ∙ ap (λ (x : List ℕ). x ++ drop (length prefix) bytes) front ∙ ap (λ (x : List ℕ). prefix ++ x) g.1
+
+after_prefix_again : (prefix rest : List ℕ) → after_prefix prefix (prefix ++ rest) ≡ Some rest
+after_prefix_again prefix rest =
+    let same : pointwise nat_eq prefix prefix ≡ true = (bytes_eq-Decides prefix prefix).1 refl in
+    rw (take_at prefix rest (length prefix) refl, same, drop_at prefix rest (length prefix) refl) refl
+
+before_suffix_takes : (suffix bytes front : List ℕ) → before_suffix suffix bytes ≡ Some front → bytes ≡ front ++ suffix
+before_suffix_takes suffix bytes front e =
+    let cut = length bytes - length suffix in
+    let g = guard_some (pointwise nat_eq (drop cut bytes) suffix) (take cut bytes) front e in
+    let back : drop cut bytes ≡ suffix = (bytes_eq-Decides (drop cut bytes) suffix).0 g.0 in
+    sym (take-append-drop cut bytes) ∙ ap (λ (x : List ℕ). x ++ drop cut bytes) g.1 ∙ ap (λ (x : List ℕ). front ++ x) back
+
+before_suffix_again : (suffix front : List ℕ) → before_suffix suffix (front ++ suffix) ≡ Some front
+before_suffix_again suffix front =
+    let same : pointwise nat_eq suffix suffix ≡ true = (bytes_eq-Decides suffix suffix).1 refl in
+    let cut : length (front ++ suffix) - length suffix ≡ length front = omega (arith, length-append front suffix) in
+    let back : drop (length front) (front ++ suffix) ≡ suffix = drop_at front suffix (length front) refl in
+    let whole : take (length front) (front ++ suffix) ≡ front = take_at front suffix (length front) refl in
+    rw (cut, back, same, whole) refl
+
+-- the frame of a packet: its length, its key and its end
+framed : (bytes more key text : List ℕ) (n : ℕ) → n < 2 ^ 16 → bytes ≡ four_digits n ++ more → n ≤ length bytes → drop 4 (take n bytes) ≡ key ++ (text ++ 10 ∷ []) → (bytes ≡ packet key text ++ drop n bytes) × FitsPacket key text
+framed bytes more key text n fits begins within body =
+    let whole = take n bytes in
+    let whole_len : length whole ≡ n = omega (arith, length-take n bytes) in
+    let body_len : length (drop 4 whole) ≡ length key + (length text + 1) = ap length body ∙ omega (arith, length-append key (text ++ 10 ∷ []), length-append text (10 ∷ [])) in
+    let long : 4 ≤ n = omega (arith, length-drop 4 whole) in
+    let is_n : packet_len key text ≡ n = omega (arith, length-drop 4 whole) in
+    let digits : take 4 whole ≡ four_digits n = take_take 4 n bytes long ∙ ap (take 4) begins ∙ take_at (four_digits n) more 4 refl in
+    let split : whole ≡ packet key text = sym (take-append-drop 4 whole) ∙ ap (λ (x : List ℕ). x ++ drop 4 whole) (digits ∙ ap four_digits (sym is_n)) ∙ ap (λ (x : List ℕ). four_digits (packet_len key text) ++ x) body in
+    (sym (take-append-drop n bytes) ∙ ap (λ (x : List ℕ). x ++ drop n bytes) split, omega arith)
+
+pub packet_takes : (key bytes text rest : List ℕ) → packet_at key bytes ≡ Some (text, rest) → (bytes ≡ packet key text ++ rest) × FitsPacket key text
+unfolding packet_at
+packet_takes key bytes text rest e =
+    let len = bind_some (len_at bytes) (λ len. cond (leb len (length bytes)) (Some (take len bytes)) None >>= λ whole. after_prefix key (drop 4 whole) >>= λ body. before_suffix (10 ∷ []) body >>= λ text. Some (text, drop len bytes)) (text, rest) e in
+    let n = len.0 in
+    let whole = bind_some (cond (leb n (length bytes)) (Some (take n bytes)) None) (λ whole. after_prefix key (drop 4 whole) >>= λ body. before_suffix (10 ∷ []) body >>= λ text. Some (text, drop n bytes)) (text, rest) len.2 in
+    let body = bind_some (after_prefix key (drop 4 whole.0)) (λ body. before_suffix (10 ∷ []) body >>= λ text. Some (text, drop n bytes)) (text, rest) whole.2 in
+    let found = bind_some (before_suffix (10 ∷ []) body.0) (λ text. Some (text, drop n bytes)) (text, rest) body.2 in
+    let digits = len_takes bytes n len.1 in
+    let within = guard_some (leb n (length bytes)) (take n bytes) whole.0 whole.1 in
+    let is_found : found.0 ≡ text = ap (λ (x : List ℕ × List ℕ). x.0) (some_is (found.0, drop n bytes) (text, rest) found.2) in
+    let is_rest : drop n bytes ≡ rest = ap (λ (x : List ℕ × List ℕ). x.1) (some_is (found.0, drop n bytes) (text, rest) found.2) in
+    let is_body : drop 4 (take n bytes) ≡ key ++ (text ++ 10 ∷ []) =
+    ap (drop 4) within.1 ∙ after_prefix_takes key (drop 4 whole.0) body.0 body.1
+    ∙ ap (λ (x : List ℕ). key ++ x) (before_suffix_takes (10 ∷ []) body.0 found.0 found.1 ∙ ap (λ (x : List ℕ). x ++ 10 ∷ []) is_found) in
+    let parts = framed bytes digits.1 key text n digits.0 digits.2 (leb-true n (length bytes) within.0) is_body in
+    (parts.0 ∙ ap (λ (x : List ℕ). packet key text ++ x) is_rest, parts.1)
+
+pub packet_again : (key text rest : List ℕ) → FitsPacket key text → packet_at key (packet key text ++ rest) ≡ Some (text, rest)
+unfolding packet_at
+packet_again key text rest fits =
+    let body = key ++ (text ++ 10 ∷ []) in
+    let n = packet_len key text in
+    let body_len : length body ≡ length key + (length text + 1) = omega (arith, length-append key (text ++ 10 ∷ []), length-append text (10 ∷ [])) in
+    let len : length (packet key text) ≡ n = omega (arith, length-append (four_digits n) body) in
+    let read : len_at (packet key text ++ rest) ≡ Some n = ap len_at (append_assoc (four_digits n) body rest) ∙ len_again n (body ++ rest) fits in
+    let within : leb n (length (packet key text ++ rest)) ≡ true = le-leb _ _ (omega (arith, length-append (packet key text) rest)) in
+    let front : take n (packet key text ++ rest) ≡ packet key text = take_at (packet key text) rest n len in
+    let back : drop n (packet key text ++ rest) ≡ rest = drop_at (packet key text) rest n len in
+    let inner : drop 4 (packet key text) ≡ body = drop_at (four_digits n) body 4 refl in
+    rw (read, within, front, back, inner, after_prefix_again key (text ++ 10 ∷ []), before_suffix_again (10 ∷ []) text) refl
+
+pub length-packet : (key text : List ℕ) → length (packet key text) ≡ packet_len key text
+length-packet key text =
+    let body = key ++ (text ++ 10 ∷ []) in
+    omega (arith, length-append (four_digits (packet_len key text)) body, length-append key (text ++ 10 ∷ []), length-append text (10 ∷ []))
+
+-- A packet of one key is none of a key with which its body doesn't begin.
+pub packet_other : (key other text rest : List ℕ) → FitsPacket other text → after_prefix key (other ++ (text ++ 10 ∷ [])) ≡ None → packet_at key (packet other text ++ rest) ≡ None
+unfolding packet_at
+packet_other key other text rest fits differs =
+    let body = other ++ (text ++ 10 ∷ []) in
+    let n = packet_len other text in
+    let len = length-packet other text in
+    let read : len_at (packet other text ++ rest) ≡ Some n = ap len_at (append_assoc (four_digits n) body rest) ∙ len_again n (body ++ rest) fits in
+    let within : leb n (length (packet other text ++ rest)) ≡ true = le-leb _ _ (omega (arith, length-append (packet other text) rest)) in
+    let front : take n (packet other text ++ rest) ≡ packet other text = take_at (packet other text) rest n len in
+    let inner : drop 4 (packet other text) ≡ body = drop_at (four_digits n) body 4 refl in
+    rw (read, within, front, inner, differs) refl

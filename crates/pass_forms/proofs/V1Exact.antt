@@ -1,0 +1,34 @@
+-- The reading of V1 is exact.
+use Rattle.std.proofs.Common.{◌≡◌, ℕ, List, length, Result, Ok, Err, sym, subst, ◌∙◌}
+use Rattle.pass_forms.specs.declared.fault.FormFault.{FormFault}
+use Rattle.pass_forms.specs.declared.fault.FormFault.TheVariants.{TooLong, Malformed, ThirdParty, TooMany, Memory}
+use Rattle.pass_forms.specs.Pass.{Plain, WidePass}
+use Rattle.pass_forms.specs.Reading.{IsReading, UnlessMemory}
+use Rattle.pass_forms.specs.V1.{SpellsV1}
+use Rattle.pass_forms.specs.V1Reading.{wide_at, reading_v1}
+use Rattle.pass_forms.proofs.Digits.{some_is}
+use Rattle.pass_forms.proofs.WholeV1.{wide_takes, wide_again}
+use Rattle.pass_forms.proofs.Judging.{Computes, reading_is, reading_determined}
+
+computes_v1 : (bytes : List ℕ) → Computes (SpellsV1 bytes) (wide_at bytes)
+computes_v1 bytes = record { takes = wide_takes bytes; again = wide_again bytes }
+
+pub one_v1 : (bytes : List ℕ) (one other : WidePass) → SpellsV1 bytes one → SpellsV1 bytes other → one ≡ other
+one_v1 bytes one other h k = some_is one other (sym (wide_again bytes one h) ∙ wide_again bytes other k)
+
+pub reading_v1_is : (bytes : List ℕ) → IsReading (length bytes) (SpellsV1 bytes) (reading_v1 bytes)
+unfolding reading_v1
+reading_v1_is bytes = reading_is (length bytes) (SpellsV1 bytes) (wide_at bytes) (computes_v1 bytes)
+
+pub reading_v1_determined : (bytes : List ℕ) (answer : Result Plain FormFault) → IsReading (length bytes) (SpellsV1 bytes) answer → reading_v1 bytes ≡ answer
+unfolding reading_v1
+reading_v1_determined bytes answer h = reading_determined (length bytes) (SpellsV1 bytes) (wide_at bytes) answer (computes_v1 bytes) h
+
+-- What holds of the computed answer holds of the reader's.
+pub unless_memory : (Holds : Result Plain FormFault → Type 0) (reading answer : Result Plain FormFault) → Holds reading → UnlessMemory (λ a. reading ≡ a) answer → UnlessMemory Holds answer
+unless_memory Holds reading (Ok pass) h e = subst Holds e h
+unless_memory Holds reading (Err TooLong) h e = subst Holds e h
+unless_memory Holds reading (Err Malformed) h e = subst Holds e h
+unless_memory Holds reading (Err ThirdParty) h e = subst Holds e h
+unless_memory Holds reading (Err TooMany) h e = subst Holds e h
+unless_memory Holds reading (Err Memory) h e = tt

@@ -1,0 +1,84 @@
+-- A pass that is read from packets is the pass that they spell, and a pass that is spelled is read.
+use Rattle.std.proofs.Common.{◌≡◌, ℕ, ◌≤◌, Bool, true, false, cond, eqb, ◌&&◌, List, [], ◌++◌, length, Some, None, refl, sym, ap, subst, ◌∙◌, arith}
+use Rattle.std.specs.List.{flat_map}
+use Rattle.std.proofs.lemmas.Bool.{eqb-true}
+use Rattle.std.proofs.lemmas.List.{append-nil, nil_from_length, length-append}
+use Rattle.pass_forms.specs.Pass.{WidePass}
+use Rattle.pass_forms.specs.V1.{packet, location_key, identifier_key, caveat_key, verifier_id_key, caveat_location_key, signature_key, caveat_packets, packets_of, FitsPacket, Fits, SpellsV1}
+use Rattle.pass_forms.specs.V1Reading.{◌>>=◌, packet_at, caveat_at, caveats_at, signature_at, wide_at}
+use Rattle.pass_forms.proofs.Digits.{bind_some, some_is}
+use Rattle.pass_forms.proofs.Packets.{packet_takes, packet_again, packet_other, guard_some}
+use Rattle.pass_forms.proofs.CaveatPackets.{EndsCaveat, caveats_take, caveats_again, caveats_fit}
+
+both_true : (a b : Bool) → (a && b) ≡ true → (a ≡ true) × (b ≡ true)
+both_true true b e = (refl, e)
+both_true false b e = absurd cc
+
+signature_takes : (bytes signature : List ℕ) → signature_at bytes ≡ Some signature → (bytes ≡ packet signature_key signature) × (length signature ≡ 32)
+unfolding signature_at
+signature_takes bytes signature e =
+    let s = bind_some (packet_at signature_key bytes) (λ s. cond (eqb (length s.0) 32 && eqb (length s.1) 0) (Some s.0) None) signature e in
+    let t = packet_takes signature_key bytes s.0.0 s.0.1 s.1 in
+    let g = guard_some (eqb (length s.0.0) 32 && eqb (length s.0.1) 0) s.0.0 signature s.2 in
+    let lens = both_true (eqb (length s.0.0) 32) (eqb (length s.0.1) 0) g.0 in
+    let nothing : s.0.1 ≡ [] = nil_from_length s.0.1 (eqb-true (length s.0.1) 0 lens.1) in
+    let parts : bytes ≡ packet signature_key s.0.0 = t.0 ∙ ap (λ (x : List ℕ). packet signature_key s.0.0 ++ x) nothing ∙ append-nil (packet signature_key s.0.0) in
+    subst (λ (x : List ℕ). (bytes ≡ packet signature_key x) × (length x ≡ 32)) g.1 (parts, eqb-true (length s.0.0) 32 lens.0)
+
+-- A signature of 32 bytes fits a packet, and is neither a caveat nor a part of one.
+signature_fits : (signature : List ℕ) → length signature ≡ 32 → FitsPacket signature_key signature
+signature_fits signature len = omega arith
+
+signature_again : (signature : List ℕ) → length signature ≡ 32 → signature_at (packet signature_key signature) ≡ Some signature
+unfolding signature_at
+signature_again signature len =
+    let read : packet_at signature_key (packet signature_key signature) ≡ Some (signature, []) =
+    ap (packet_at signature_key) (sym (append-nil (packet signature_key signature))) ∙ packet_again signature_key signature [] (signature_fits signature len) in
+    rw (read, len) refl
+
+signature_ends : (signature : List ℕ) → length signature ≡ 32 → EndsCaveat (packet signature_key signature)
+signature_ends signature len =
+    let more = sym (append-nil (packet signature_key signature)) in
+    record {
+      verifier_id = ap (packet_at verifier_id_key) more ∙ packet_other verifier_id_key signature_key signature [] (signature_fits signature len) refl;
+      location = ap (packet_at caveat_location_key) more ∙ packet_other caveat_location_key signature_key signature [] (signature_fits signature len) refl;
+    }
+
+signature_is_no_caveat : (signature : List ℕ) → length signature ≡ 32 → caveat_at (packet signature_key signature) ≡ None
+unfolding caveat_at
+signature_is_no_caveat signature len =
+    let none : packet_at caveat_key (packet signature_key signature) ≡ None =
+    ap (packet_at caveat_key) (sym (append-nil (packet signature_key signature))) ∙ packet_other caveat_key signature_key signature [] (signature_fits signature len) refl in
+    rw none refl
+
+pub wide_takes : (bytes : List ℕ) (wide : WidePass) → wide_at bytes ≡ Some wide → SpellsV1 bytes wide
+unfolding wide_at
+wide_takes bytes wide e =
+    let made = λ (l i : List ℕ × List ℕ) (s : List ℕ).
+    let w : WidePass = record { location = l.0; identifier = i.0; caveats = (caveats_at (length i.1) i.1).0; signature = s } in w in
+    let l = bind_some (packet_at location_key bytes) (λ l. packet_at identifier_key l.1 >>= λ i. signature_at (caveats_at (length i.1) i.1).1 >>= λ s. Some (made l i s)) wide e in
+    let i = bind_some (packet_at identifier_key l.0.1) (λ i. signature_at (caveats_at (length i.1) i.1).1 >>= λ s. Some (made l.0 i s)) wide l.2 in
+    let read = caveats_at (length i.0.1) i.0.1 in
+    let s = bind_some (signature_at read.1) (λ s. Some (made l.0 i.0 s)) wide i.2 in
+    let tl = packet_takes location_key bytes l.0.0 l.0.1 l.1 in
+    let ti = packet_takes identifier_key l.0.1 i.0.0 i.0.1 i.1 in
+    let tc = caveats_take (length i.0.1) i.0.1 in
+    let ts = signature_takes read.1 s.0 s.1 in
+    let parts : bytes ≡ packets_of (made l.0 i.0 s.0) =
+    tl.0 ∙ ap (λ (x : List ℕ). packet location_key l.0.0 ++ x) (ti.0 ∙ ap (λ (x : List ℕ). packet identifier_key i.0.0 ++ x)
+    (tc.0 ∙ ap (λ (x : List ℕ). flat_map caveat_packets read.0 ++ x) ts.0)) in
+    let fits : Fits (made l.0 i.0 s.0) = record { location = tl.1; identifier = ti.1; caveats = tc.1; signature = ts.1 } in
+    let spelled : SpellsV1 bytes (made l.0 i.0 s.0) = record { packets = parts; fits = fits } in
+    subst (λ (w : WidePass). SpellsV1 bytes w) (some_is (made l.0 i.0 s.0) wide s.2) spelled
+
+pub wide_again : (bytes : List ℕ) (wide : WidePass) → SpellsV1 bytes wide → wide_at bytes ≡ Some wide
+unfolding wide_at
+wide_again bytes wide spelled =
+    let fits = spelled.fits in
+    let last = packet signature_key wide.signature in
+    let caveats = flat_map caveat_packets wide.caveats ++ last in
+    let l = packet_again location_key wide.location (packet identifier_key wide.identifier ++ caveats) fits.location in
+    let i = packet_again identifier_key wide.identifier caveats fits.identifier in
+    let fuel : length wide.caveats ≤ length caveats = omega (arith, caveats_fit wide.caveats, length-append (flat_map caveat_packets wide.caveats) last) in
+    let c = caveats_again (length caveats) wide.caveats last fuel fits.caveats (signature_ends wide.signature fits.signature) (signature_is_no_caveat wide.signature fits.signature) in
+    ap wide_at spelled.packets ∙ rw (l, i, c, signature_again wide.signature fits.signature) refl

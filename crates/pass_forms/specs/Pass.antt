@@ -1,0 +1,62 @@
+-- What a pass is: a macaroon (NDSS 2014) of first-party caveats. A wide pass is what the formats can
+-- spell: its caveats may be third-party.
+use Rattle.std.specs.Prelude.{◌≡◌, ℕ, Bool, ◌||◌, List, Option, None, map, is_some}
+use Rattle.std.specs.List.{list_any}
+use Rattle.std.specs.Str.{bytes_eq}
+use Rattle.pass_mac.specs.Chain.{chain, derived_key}
+
+pub record Plain : Type 0 where
+  pub location : List ℕ
+  pub identifier : List ℕ
+  pub caveats : List (List ℕ)
+  pub signature : List ℕ
+
+pub record WideCaveat : Type 0 where
+  pub identifier : List ℕ
+  pub verifier_id : Option (List ℕ)
+  pub location : Option (List ℕ)
+
+pub record WidePass : Type 0 where
+  pub location : List ℕ
+  pub identifier : List ℕ
+  pub caveats : List WideCaveat
+  pub signature : List ℕ
+
+-- A caveat with a verifier id or a location, even an empty one, is a third party's.
+abbrev pub is_third_party : WideCaveat → Bool
+is_third_party caveat = is_some caveat.verifier_id || is_some caveat.location
+
+abbrev pub has_third_party : WidePass → Bool
+has_third_party wide = list_any is_third_party wide.caveats
+
+-- a first-party caveat and a pass, as wide ones
+abbrev pub widened_caveat : List ℕ → WideCaveat
+widened_caveat identifier = record { identifier = identifier; verifier_id = None; location = None }
+
+abbrev pub widened : Plain → WidePass
+widened pass = record {
+  location = pass.location;
+  identifier = pass.identifier;
+  caveats = map widened_caveat pass.caveats;
+  signature = pass.signature;
+}
+
+-- the pass that is left where verifier ids and locations of caveats are
+abbrev pub narrowed_caveat : WideCaveat → List ℕ
+narrowed_caveat caveat = caveat.identifier
+
+abbrev pub narrowed : WidePass → Plain
+narrowed wide = record {
+  location = wide.location;
+  identifier = wide.identifier;
+  caveats = map narrowed_caveat wide.caveats;
+  signature = wide.signature;
+}
+
+-- The signature is the chain of the identifier and the caveats under the root's derived key.
+abbrev pub IsSigned : List ℕ → Plain → Type 0
+IsSigned root pass = pass.signature ≡ chain (derived_key root) pass.identifier pass.caveats
+
+-- the same as a test
+unfoldable pub is_signed : List ℕ → Plain → Bool
+is_signed root pass = bytes_eq (chain (derived_key root) pass.identifier pass.caveats) pass.signature

@@ -1,0 +1,53 @@
+-- What a reader answers, whatever the form (ours: the limits, and the order of the faults).
+use Rattle.std.specs.Prelude.{◌≡◌, ℕ, Bool, ◌<◌, ◌≤◌, nat_lt, true, false, if◌then◌else◌, length, Option, Some, None, Result, Ok, Err}
+use Rattle.pass_forms.specs.declared.fault.FormFault.{FormFault}
+use Rattle.pass_forms.specs.declared.fault.FormFault.TheVariants.{TooLong, Malformed, ThirdParty, TooMany, Memory}
+use Rattle.pass_forms.specs.Pass.{Plain, WidePass, has_third_party, widened, narrowed}
+
+-- the longest text of a pass, in bytes
+abbrev pub max_text_len : ℕ
+max_text_len = 8192
+
+-- the most caveats of a pass
+abbrev pub max_caveats : ℕ
+max_caveats = 64
+
+-- What a text of this length stands for, where it spells the wide passes for which Spelled holds: the first
+-- that fits of too long, malformed, third-party and too many, else the pass.
+abbrev pub IsReading : ℕ → (WidePass → Type 0) → Result Plain FormFault → Type 0
+IsReading len Spelled (Err TooLong) = max_text_len < len
+IsReading len Spelled (Err Malformed) = (len ≤ max_text_len) × ((wide : WidePass) → ¬ Spelled wide)
+IsReading len Spelled (Err ThirdParty) =
+    (len ≤ max_text_len) × (wide : WidePass) × Spelled wide × (has_third_party wide ≡ true)
+IsReading len Spelled (Err TooMany) =
+    (len ≤ max_text_len) × (wide : WidePass) × Spelled wide × (has_third_party wide ≡ false) × (max_caveats < length wide.caveats)
+IsReading len Spelled (Ok pass) =
+    (len ≤ max_text_len) × Spelled (widened pass) × (length pass.caveats ≤ max_caveats)
+-- want of memory is no reading of a text
+IsReading len Spelled (Err Memory) = ⊥
+
+-- The same, computed from the wide pass that a text spells, if any.
+abbrev pub judged : WidePass → Result Plain FormFault
+judged wide =
+    if has_third_party wide then Err ThirdParty
+    else (if nat_lt max_caveats (length wide.caveats) then Err TooMany else Ok (narrowed wide))
+
+abbrev pub judged_if_any : Option WidePass → Result Plain FormFault
+judged_if_any None = Err Malformed
+judged_if_any (Some wide) = judged wide
+
+abbrev pub reading_of : ℕ → Option WidePass → Result Plain FormFault
+reading_of len spelled = if nat_lt max_text_len len then Err TooLong else judged_if_any spelled
+
+-- what a reader keeps of a wide pass: the pass, the number of its caveats, whether any is a third party's
+abbrev pub kept : WidePass → Plain × ℕ × Bool
+kept wide = (narrowed wide, length wide.caveats, has_third_party wide)
+
+-- This holds of what a reader answers, unless memory ran out.
+abbrev pub UnlessMemory : (Result Plain FormFault → Type 0) → Result Plain FormFault → Type 0
+UnlessMemory Holds (Err Memory) = Unit {0}
+UnlessMemory Holds (Err TooLong) = Holds (Err TooLong)
+UnlessMemory Holds (Err Malformed) = Holds (Err Malformed)
+UnlessMemory Holds (Err ThirdParty) = Holds (Err ThirdParty)
+UnlessMemory Holds (Err TooMany) = Holds (Err TooMany)
+UnlessMemory Holds (Ok pass) = Holds (Ok pass)

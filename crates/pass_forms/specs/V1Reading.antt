@@ -1,0 +1,108 @@
+-- V1 read from the front: what each part of the bytes stands for, and the bytes after it.
+use Rattle.std.specs.Prelude.{◌≡◌, ◌↔◌, ℕ, Bool, zero, suc, ◌+◌, ◌-◌, ◌*◌, nat_le, nat_eq, ◌==◌, ◌&&◌, if◌then◌else◌, List, [], ◌∷◌, length, take, drop, Option, Some, None, Result}
+use Rattle.std.specs.List.{list_any}
+use Rattle.std.specs.Cmp.Lexicographic.{pointwise}
+use Rattle.pass_forms.specs.declared.fault.FormFault.{FormFault}
+use Rattle.pass_forms.specs.Pass.{Plain, WideCaveat, WidePass, is_third_party}
+use Rattle.pass_forms.specs.Reading.{IsReading, reading_of}
+use Rattle.pass_forms.specs.V1.{SpellsV1, location_key, identifier_key, caveat_key, verifier_id_key, caveat_location_key, signature_key}
+
+infixl 10 ◌>>=◌
+abbrev pub ◌>>=◌ : {A B : Type 0} → Option A → (A → Option B) → Option B
+None >>= f = None
+(Some x) >>= f = f x
+
+abbrev pub digit_value : ℕ → Option ℕ
+digit_value byte =
+    if nat_le 48 byte && nat_le byte 57 then Some (byte - 48)
+    else (if nat_le 97 byte && nat_le byte 102 then Some (byte - 87) else None)
+
+-- the number that the first four bytes spell
+abbrev pub len_at : List ℕ → Option ℕ
+len_at (a ∷ b ∷ c ∷ d ∷ rest) = do
+  x ← digit_value a
+  y ← digit_value b
+  z ← digit_value c
+  w ← digit_value d
+  Some (x * 4096 + y * 256 + z * 16 + w)
+len_at _ = None
+
+abbrev pub after_prefix : List ℕ → List ℕ → Option (List ℕ)
+after_prefix prefix bytes =
+    if pointwise nat_eq (take (length prefix) bytes) prefix then Some (drop (length prefix) bytes) else None
+
+abbrev pub before_suffix : List ℕ → List ℕ → Option (List ℕ)
+before_suffix suffix bytes =
+    if pointwise nat_eq (drop (length bytes - length suffix) bytes) suffix then Some (take (length bytes - length suffix) bytes) else None
+
+-- the data of the packet of this key, and the bytes after it
+unfoldable pub packet_at : List ℕ → List ℕ → Option (List ℕ × List ℕ)
+packet_at key bytes = do
+  len ← len_at bytes
+  whole ← if nat_le len (length bytes) then Some (take len bytes) else None
+  body ← after_prefix key (drop 4 whole)
+  text ← before_suffix (10 ∷ []) body
+  Some (text, drop len bytes)
+
+-- the same for a packet that may be left out
+abbrev pub found_or_none : List ℕ → Option (List ℕ × List ℕ) → Option (List ℕ) × List ℕ
+found_or_none bytes None = (None, bytes)
+found_or_none bytes (Some found) = (Some found.0, found.1)
+
+abbrev pub optional_at : List ℕ → List ℕ → Option (List ℕ) × List ℕ
+optional_at key bytes = found_or_none bytes (packet_at key bytes)
+
+unfoldable pub caveat_at : List ℕ → Option (WideCaveat × List ℕ)
+caveat_at bytes = do
+  identifier ← packet_at caveat_key bytes
+  let verifier_id = optional_at verifier_id_key identifier.1 in
+      let location = optional_at caveat_location_key verifier_id.1 in
+      Some (record { identifier = identifier.0; verifier_id = verifier_id.0; location = location.0 }, location.1)
+
+-- what a reader keeps of a caveat: its identifier, whether it is a third party's, and the bytes after it
+abbrev pub seen : WideCaveat × List ℕ → List ℕ × Bool × List ℕ
+seen found = (found.0.identifier, is_third_party found.0, found.1)
+
+-- A caveat, if there is one, and then the others.
+abbrev pub and_others : (List ℕ → List WideCaveat × List ℕ) → List ℕ → Option (WideCaveat × List ℕ) → List WideCaveat × List ℕ
+and_others others bytes None = ([], bytes)
+and_others others bytes (Some found) = (found.0 ∷ (others found.1).0, (others found.1).1)
+
+-- the caveats that follow one another, but at most this number of them
+unfoldable pub caveats_at : ℕ → List ℕ → List WideCaveat × List ℕ
+caveats_at zero bytes = ([], bytes)
+caveats_at (suc n) bytes = and_others (caveats_at n) bytes (caveat_at bytes)
+
+-- what a reader tells of the caveats that it went over
+pub record Counts (count : ℕ) (third_party : Bool) (rest : List ℕ) (caveats : List WideCaveat × List ℕ) : Type 0 where
+  pub counted : count ≡ length caveats.0
+  pub any : third_party ≡ list_any is_third_party caveats.0
+  pub after : rest ≡ caveats.1
+
+-- the signature's packet, 32 bytes with nothing after them
+unfoldable pub signature_at : List ℕ → Option (List ℕ)
+signature_at bytes = do
+  signature ← packet_at signature_key bytes
+  if length signature.0 == 32 && length signature.1 == 0 then Some signature.0 else None
+
+-- the whole pass; no caveat is without bytes, so there are no more caveats than bytes
+unfoldable pub wide_at : List ℕ → Option WidePass
+wide_at bytes = do
+  location ← packet_at location_key bytes
+  identifier ← packet_at identifier_key location.1
+  signature ← signature_at (caveats_at (length identifier.1) identifier.1).1
+  Some (record {
+    location = location.0;
+    identifier = identifier.0;
+    caveats = (caveats_at (length identifier.1) identifier.1).0;
+    signature = signature;
+  })
+
+-- the reading of a text in V1
+unfoldable pub reading_v1 : List ℕ → Result Plain FormFault
+reading_v1 bytes = reading_of (length bytes) (wide_at bytes)
+
+-- It is the reading of what the bytes spell, and no other answer is.
+abbrev pub ReadsV1Exactly : Type 0
+ReadsV1Exactly = (bytes : List ℕ) (answer : Result Plain FormFault) →
+    IsReading (length bytes) (SpellsV1 bytes) answer ↔ (reading_v1 bytes ≡ answer)

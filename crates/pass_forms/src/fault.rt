@@ -1,0 +1,51 @@
+ghost use Rattle.std.specs.Prelude.{◌≡◌};
+ghost use Rattle.pass_forms.specs.declared.fault.FormFault.TheVariants.{Memory};
+
+use std::alloc::{AllocError, AllocFailed};
+use std::error::Error;
+use std::fmt;
+
+/// Why a text is no pass, or why a pass has no text.
+#[derive(Clone, Copy, Debug, PartialEq, Eq)]
+pub enum FormFault {
+    /// The text has more than 8,192 bytes.
+    TooLong,
+    /// The text spells no pass.
+    Malformed,
+    /// A caveat is a third party's.
+    ThirdParty,
+    /// There are more than 64 caveats.
+    TooMany,
+    /// Memory was refused.
+    Memory,
+}
+
+impl fmt::Display for FormFault {
+    fn fmt<W: fmt::Write>(&self, f: &mut fmt::Formatter<W>) -> fmt::Result {
+        f.write_str(match self {
+            FormFault::TooLong => "too long",
+            FormFault::Malformed => "malformed",
+            FormFault::ThirdParty => "third-party caveat",
+            FormFault::TooMany => "too many caveats",
+            FormFault::Memory => "out of memory",
+        })
+    }
+}
+
+impl Error for FormFault {}
+
+impl From<AllocError> for FormFault {
+    ghost from_gives = { λ _ fault. fault ≡ Memory };
+
+    fn from(_error: AllocError) -> FormFault {
+        FormFault::Memory
+    }
+}
+
+impl<T: Drop> From<AllocFailed<T>> for FormFault {
+    ghost from_gives = { λ _ fault. fault ≡ Memory };
+
+    fn from(_error: AllocFailed<T>) -> FormFault {
+        FormFault::Memory
+    }
+}

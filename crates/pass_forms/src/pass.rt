@@ -1,0 +1,105 @@
+ghost use Rattle.std.specs.Prelude.{◌≡◌, map};
+ghost use Rattle.pass_mac.specs.Chain.{chain, derived_key};
+
+use pass_mac::{Chain, same};
+use std::marker::Model;
+
+/// A macaroon of first-party caveats. Contracts see it as the record of its four values.
+#[derive(Drop)]
+pub struct Pass {
+    location: Vec<u8>,
+    identifier: Vec<u8>,
+    caveats: Vec<Vec<u8>>,
+    signature: [u8; 32],
+}
+
+impl Model for Pass {
+    ghost use Rattle.std.specs.Prelude.{map};
+    ghost use Rattle.pass_forms.specs.Pass.{Plain};
+
+    ghost Value = { Plain };
+
+    ghost view = { λ pass. record {
+      location = pass.location.items;
+      identifier = pass.identifier.items;
+      caveats = map (λ caveat. caveat.items) pass.caveats.items;
+      signature = pass.signature;
+    } };
+}
+
+impl Pass {
+    ghost use Rattle.std.specs.Prelude.{◌≡◌, ◌↔◌, map, IsTrue};
+    ghost use Rattle.pass_forms.specs.Pass.{IsSigned, is_signed};
+
+    /// A pass of these parts; nothing is tested.
+    pub fn new(
+        location: Vec<u8>,
+        identifier: Vec<u8>,
+        caveats: Vec<Vec<u8>>,
+        signature: [u8; 32],
+    ) -> Pass
+        ensures { result ≡ record {
+          location = location.items;
+          identifier = identifier.items;
+          caveats = map (λ caveat. caveat.items) caveats.items;
+          signature = signature;
+        } }
+    {
+        Pass {
+            location,
+            identifier,
+            caveats,
+            signature,
+        }
+    }
+
+    /// A hint at where the pass is good. It isn't signed.
+    pub fn location(&self) -> &[u8]
+        ensures { result.now ≡ self.now.location }
+    {
+        self.location.as_slice()
+    }
+
+    /// The identifier, which tells the desk under which root the pass was signed.
+    pub fn identifier(&self) -> &[u8]
+        ensures { result.now ≡ self.now.identifier }
+    {
+        self.identifier.as_slice()
+    }
+
+    /// The caveats, in the order in which they were added.
+    pub fn caveats(&self) -> &[Vec<u8>]
+        ensures { map (λ caveat. caveat.items) result.now ≡ self.now.caveats }
+    {
+        self.caveats.as_slice()
+    }
+
+    /// The last signature of the chain.
+    pub fn signature(&self) -> &[u8; 32]
+        ensures { result.now ≡ self.now.signature }
+    {
+        &self.signature
+    }
+
+    /// Whether the signature is that of the identifier and the caveats under this root, of any length. No memory is
+    /// taken.
+    #[tactic(auto, unfolding(crate::specs::Pass::is_signed))]
+    pub fn is_signed(&self, root: &[u8]) -> bool
+        ensures signed { IsTrue result ↔ IsSigned root.now self.now }
+        ensures computed { result ≡ is_signed root.now self.now }
+    {
+        let signature = signature_under(root, self.identifier(), self.caveats());
+        same(&signature, &self.signature)
+    }
+}
+
+// The signature of an identifier and caveats under a root.
+fn signature_under(root: &[u8], identifier: &[u8], caveats: &[Vec<u8>]) -> [u8; 32]
+    ensures { result ≡ chain (derived_key root.now) identifier.now (map (λ caveat. caveat.items) caveats.now) }
+{
+    let mut chain = Chain::start(root, identifier);
+    for caveat in caveats {
+        chain.add(caveat);
+    }
+    chain.signature()
+}
