@@ -1,12 +1,11 @@
 -- Caveats that are read are the caveats that were written, and what was written is read.
-use Rattle.std.proofs.Common.{◌≡◌, ℕ, zero, suc, ◌≤◌, List, [], ◌∷◌, ◌++◌, length, Option, Some, None, refl, sym, ap, subst, ◌∙◌, append_assoc, arith}
+use Rattle.std.proofs.Common.{◌≡◌, ℕ, ◌≤◌, List, ◌++◌, length, Option, Some, None, refl, sym, ap, subst, ◌∙◌, append_assoc, arith}
 use Rattle.std.specs.Prelude.{IfSome}
-use Rattle.std.specs.List.{flat_map, AllByRecursion}
 use Rattle.std.proofs.lemmas.List.{length-append}
-use Rattle.std.proofs.lemmas.List.Concat.{flat_map-cons}
 use Rattle.pass_forms.specs.Pass.{WideCaveat}
 use Rattle.pass_forms.specs.V1.{packet, optional_packet, caveat_key, verifier_id_key, caveat_location_key, caveat_packets, FitsPacket, FitsCaveat}
-use Rattle.pass_forms.specs.V1Reading.{found_or_none, packet_at, optional_at, caveat_at, and_others, caveats_at}
+use Rattle.pass_forms.specs.V1Reading.{found_or_none, packet_at, optional_at, caveat_at}
+use Rattle.pass_forms.proofs.CaveatTexts.{Exact}
 use Rattle.pass_forms.proofs.Digits.{bind_some, some_is}
 use Rattle.pass_forms.proofs.Packets.{packet_takes, packet_again, packet_other, length-packet}
 
@@ -14,7 +13,7 @@ optional_takes : (key bytes : List ℕ) (read : Option (List ℕ × List ℕ)) �
 optional_takes key bytes None e = (refl, tt)
 optional_takes key bytes (Some found) e = packet_takes key bytes found.0 found.1 e
 
-pub caveat_takes : (bytes : List ℕ) (found : WideCaveat × List ℕ) → caveat_at bytes ≡ Some found → (bytes ≡ caveat_packets found.0 ++ found.1) × FitsCaveat found.0
+caveat_takes : (bytes : List ℕ) (found : WideCaveat × List ℕ) → caveat_at bytes ≡ Some found → (bytes ≡ caveat_packets found.0 ++ found.1) × FitsCaveat found.0
 unfolding caveat_at
 caveat_takes bytes found e =
     let made = λ (i : List ℕ × List ℕ).
@@ -47,7 +46,7 @@ no_verifier_id : (location : Option (List ℕ)) (rest : List ℕ) → IfSome loc
 no_verifier_id None rest fits ends = ends.verifier_id
 no_verifier_id (Some location) rest fits ends = packet_other verifier_id_key caveat_location_key location rest fits refl
 
-pub caveat_again : (caveat : WideCaveat) (rest : List ℕ) → FitsCaveat caveat → EndsCaveat rest → caveat_at (caveat_packets caveat ++ rest) ≡ Some (caveat, rest)
+caveat_again : (caveat : WideCaveat) (rest : List ℕ) → FitsCaveat caveat → EndsCaveat rest → caveat_at (caveat_packets caveat ++ rest) ≡ Some (caveat, rest)
 unfolding caveat_at
 caveat_again caveat rest fits ends =
     let i = packet caveat_key caveat.identifier in
@@ -58,52 +57,22 @@ caveat_again caveat rest fits ends =
     let second = optional_again verifier_id_key caveat.verifier_id (l ++ rest) fits.verifier_id (no_verifier_id caveat.location rest fits.location ends) in
     ap caveat_at regrouped ∙ rw (packet_again caveat_key caveat.identifier (v ++ (l ++ rest)) fits.identifier, second, last) refl
 
-caveats_take_one : (n : ℕ) (bytes : List ℕ) (read : Option (WideCaveat × List ℕ)) → caveat_at bytes ≡ read → ((rest : List ℕ) → (rest ≡ flat_map caveat_packets (caveats_at n rest).0 ++ (caveats_at n rest).1) × AllByRecursion FitsCaveat (caveats_at n rest).0) → (bytes ≡ flat_map caveat_packets (and_others (caveats_at n) bytes read).0 ++ (and_others (caveats_at n) bytes read).1) × AllByRecursion FitsCaveat (and_others (caveats_at n) bytes read).0
-caveats_take_one n bytes None e others = (refl, tt)
-caveats_take_one n bytes (Some found) e others =
-    let first = caveat_takes bytes found e in
-    let more = others found.1 in
-    let left = caveats_at n found.1 in (
-      first.0 ∙ ap (λ (x : List ℕ). caveat_packets found.0 ++ x) more.0 ∙ sym (append_assoc (caveat_packets found.0) (flat_map caveat_packets left.0) left.1)
-          ∙ ap (λ (x : List ℕ). x ++ left.1) (sym (flat_map-cons caveat_packets found.0 left.0)),
-      (first.1, more.1),
-    )
-
-pub caveats_take : (n : ℕ) (bytes : List ℕ) → (bytes ≡ flat_map caveat_packets (caveats_at n bytes).0 ++ (caveats_at n bytes).1) × AllByRecursion FitsCaveat (caveats_at n bytes).0
-unfolding caveats_at
-caveats_take zero bytes = (refl, tt)
-caveats_take (suc n) bytes = caveats_take_one n bytes (caveat_at bytes) refl (caveats_take n)
-
--- A caveat, or what ends the caveats, ends the caveat before it.
-caveats_end : (caveats : List WideCaveat) (rest : List ℕ) → AllByRecursion FitsCaveat caveats → EndsCaveat rest → EndsCaveat (flat_map caveat_packets caveats ++ rest)
-caveats_end [] rest fits ends = ends
-caveats_end (caveat ∷ caveats) rest fits ends =
+-- A caveat ends the caveat before it.
+caveat_ends : (caveat : WideCaveat) (rest : List ℕ) → FitsCaveat caveat → EndsCaveat (caveat_packets caveat ++ rest)
+caveat_ends caveat rest fits =
     let i = packet caveat_key caveat.identifier in
     let optional = optional_packet verifier_id_key caveat.verifier_id ++ optional_packet caveat_location_key caveat.location in
-    let others = flat_map caveat_packets caveats ++ rest in
-    let regrouped : flat_map caveat_packets (caveat ∷ caveats) ++ rest ≡ i ++ (optional ++ others) =
-    ap (λ (x : List ℕ). x ++ rest) (flat_map-cons caveat_packets caveat caveats) ∙ append_assoc (i ++ optional) (flat_map caveat_packets caveats) rest ∙ append_assoc i optional others in
+    let regrouped = append_assoc i optional rest in
     record {
-      verifier_id = ap (packet_at verifier_id_key) regrouped ∙ packet_other verifier_id_key caveat_key caveat.identifier (optional ++ others) fits.0.identifier refl;
-      location = ap (packet_at caveat_location_key) regrouped ∙ packet_other caveat_location_key caveat_key caveat.identifier (optional ++ others) fits.0.identifier refl;
+      verifier_id = ap (packet_at verifier_id_key) regrouped ∙ packet_other verifier_id_key caveat_key caveat.identifier (optional ++ rest) fits.identifier refl;
+      location = ap (packet_at caveat_location_key) regrouped ∙ packet_other caveat_location_key caveat_key caveat.identifier (optional ++ rest) fits.identifier refl;
     }
 
-pub caveats_again : (n : ℕ) (caveats : List WideCaveat) (rest : List ℕ) → length caveats ≤ n → AllByRecursion FitsCaveat caveats → EndsCaveat rest → caveat_at rest ≡ None → caveats_at n (flat_map caveat_packets caveats ++ rest) ≡ (caveats, rest)
-unfolding caveats_at
-caveats_again zero [] rest h fits ends none = refl
-caveats_again (suc n) [] rest h fits ends none = rw none refl
-caveats_again zero (caveat ∷ caveats) rest h fits ends none = absurd (omega arith)
-caveats_again (suc n) (caveat ∷ caveats) rest h fits ends none =
-    let others = flat_map caveat_packets caveats ++ rest in
-    let regrouped : flat_map caveat_packets (caveat ∷ caveats) ++ rest ≡ caveat_packets caveat ++ others =
-    ap (λ (x : List ℕ). x ++ rest) (flat_map-cons caveat_packets caveat caveats) ∙ append_assoc (caveat_packets caveat) (flat_map caveat_packets caveats) rest in
-    let more = caveats_again n caveats rest (omega arith) fits.1 ends none in
-    ap (caveats_at (suc n)) regrouped ∙ rw (caveat_again caveat others fits.0 (caveats_end caveats rest fits.1 ends), more) refl
+pub exact_caveats : Exact caveat_at caveat_packets FitsCaveat EndsCaveat
+exact_caveats = record { takes = caveat_takes; again = caveat_again; next = caveat_ends }
 
--- There are no more caveats than bytes.
-pub caveats_fit : (caveats : List WideCaveat) → length caveats ≤ length (flat_map caveat_packets caveats)
-caveats_fit [] = omega arith
-caveats_fit (caveat ∷ caveats) =
+pub caveat_has_bytes : (caveat : WideCaveat) → 1 ≤ length (caveat_packets caveat)
+caveat_has_bytes caveat =
     let i = packet caveat_key caveat.identifier in
     let optional = optional_packet verifier_id_key caveat.verifier_id ++ optional_packet caveat_location_key caveat.location in
-    omega (arith, ap length (flat_map-cons caveat_packets caveat caveats), caveats_fit caveats, length-append (i ++ optional) (flat_map caveat_packets caveats), length-append i optional, length-packet caveat_key caveat.identifier)
+    omega (arith, length-append i optional, length-packet caveat_key caveat.identifier)

@@ -1,9 +1,12 @@
--- Going over caveats one by one: what was counted so far and what is left are the whole.
+-- Going over caveats one by one, in whichever layout: what was found so far and what is left are the whole.
 use Rattle.std.proofs.Common.{◌≡◌, ℕ, zero, suc, ◌+◌, Bool, true, false, ◌||◌, List, [], ◌∷◌, ◌++◌, length, map, Option, Some, None, option_map, refl, sym, ap, ◌∙◌, append_assoc, subst, arith}
 use Rattle.std.specs.List.{list_any}
 use Rattle.std.proofs.lemmas.List.{append-nil}
+use Rattle.pass_forms.specs.Caveats.{Counts, and_others, caveats_at, seen}
 use Rattle.pass_forms.specs.Pass.{WideCaveat, is_third_party, narrowed_caveat}
-use Rattle.pass_forms.specs.V1Reading.{Counts, caveat_at, caveats_at, seen}
+
+abbrev pub Reader : Type 0
+Reader = List ℕ → Option (WideCaveat × List ℕ)
 
 -- What a reader was told of a caveat is that caveat.
 pub seen_some : (read : Option (WideCaveat × List ℕ)) (told : List ℕ × Bool × List ℕ) → Some told ≡ option_map seen read → (found : WideCaveat × List ℕ) × (read ≡ Some found) × (seen found ≡ told)
@@ -13,6 +16,30 @@ seen_some (Some found) told e = (found, refl, cc)
 pub seen_none : (read : Option (WideCaveat × List ℕ)) → option_map seen None ≡ option_map seen read → read ≡ None
 seen_none None e = refl
 seen_none (Some found) e = absurd cc
+
+-- the caveats that follow, where one does
+pub one_more : (at : Reader) (fuel less : ℕ) (rest : List ℕ) (found : WideCaveat × List ℕ) → fuel ≡ suc less → at rest ≡ Some found → caveats_at at fuel rest ≡ (found.0 ∷ (caveats_at at less found.1).0, (caveats_at at less found.1).1)
+unfolding caveats_at
+one_more at fuel less rest found e is_found = rw (e, is_found) refl
+
+-- and where none does
+pub none_follow : (at : Reader) (fuel : ℕ) (rest : List ℕ) → at rest ≡ None → caveats_at at fuel rest ≡ ([], rest)
+unfolding caveats_at
+none_follow at zero rest e = refl
+none_follow at (suc fuel) rest e = rw e refl
+
+-- Going over as many caveats as there are finds the same ones.
+as_many_others : (at : Reader) (n : ℕ) (bytes : List ℕ) (read : Option (WideCaveat × List ℕ)) → at bytes ≡ read → ((rest : List ℕ) → caveats_at at (length (caveats_at at n rest).0) rest ≡ caveats_at at n rest) → caveats_at at (length (and_others (caveats_at at n) bytes read).0) bytes ≡ and_others (caveats_at at n) bytes read
+unfolding caveats_at
+as_many_others at n bytes None e others = refl
+as_many_others at n bytes (Some found) e others = rw (e, others found.1) refl
+
+pub as_many : (at : Reader) (n : ℕ) (bytes : List ℕ) → caveats_at at (length (caveats_at at n bytes).0) bytes ≡ caveats_at at n bytes
+unfolding caveats_at
+as_many at zero bytes = refl
+as_many at (suc n) bytes = as_many_others at n bytes (at bytes) refl (as_many at n)
+
+-- ---- counting
 
 -- Count and third_party are those of the caveats before the ones that are left; together they make the whole.
 pub record Keeps (count : ℕ) (third_party : Bool) (left whole : List WideCaveat × List ℕ) : Type 0 where
@@ -28,17 +55,6 @@ or_false : (a : Bool) → (a || false) ≡ a
 or_false true = refl
 or_false false = refl
 
--- the caveats that follow, where one does
-pub one_more : (fuel less : ℕ) (rest : List ℕ) (found : WideCaveat × List ℕ) → fuel ≡ suc less → caveat_at rest ≡ Some found → caveats_at fuel rest ≡ (found.0 ∷ (caveats_at less found.1).0, (caveats_at less found.1).1)
-unfolding caveats_at
-one_more fuel less rest found e is_found = rw (e, is_found) refl
-
--- and where none does
-pub none_follow : (fuel : ℕ) (rest : List ℕ) → caveat_at rest ≡ None → caveats_at fuel rest ≡ ([], rest)
-unfolding caveats_at
-none_follow zero rest e = refl
-none_follow (suc fuel) rest e = rw e refl
-
 keeps_one : (count : ℕ) (third_party : Bool) (caveat : WideCaveat) (left whole : List WideCaveat × List ℕ) → Keeps count third_party (caveat ∷ left.0, left.1) whole → Keeps (count + 1) (third_party || is_third_party caveat) left whole
 keeps_one count third_party caveat left whole kept = record {
   counted = omega (arith, kept.counted);
@@ -46,47 +62,44 @@ keeps_one count third_party caveat left whole kept = record {
   after = kept.after;
 }
 
-pub keeps_more : (count : ℕ) (third_party : Bool) (rest : List ℕ) (fuel less : ℕ) (whole : List WideCaveat × List ℕ) (found : WideCaveat × List ℕ) → fuel ≡ suc less → caveat_at rest ≡ Some found → Keeps count third_party (caveats_at fuel rest) whole → Keeps (count + 1) (third_party || is_third_party found.0) (caveats_at less found.1) whole
-keeps_more count third_party rest fuel less whole found e is_found kept =
-    keeps_one count third_party found.0 (caveats_at less found.1) whole
-    (subst (λ (left : List WideCaveat × List ℕ). Keeps count third_party left whole) (one_more fuel less rest found e is_found) kept)
-
--- Where no caveat follows, what was counted is the whole.
-pub keeps_all : (count : ℕ) (third_party : Bool) (rest : List ℕ) (left whole : List WideCaveat × List ℕ) → left ≡ ([], rest) → Keeps count third_party left whole → Counts count third_party rest whole
+keeps_all : (count : ℕ) (third_party : Bool) (rest : List ℕ) (left whole : List WideCaveat × List ℕ) → left ≡ ([], rest) → Keeps count third_party left whole → Counts count third_party rest whole
 keeps_all count third_party rest left whole ended kept =
     let known : Keeps count third_party ([], rest) whole = subst (λ (left : List WideCaveat × List ℕ). Keeps count third_party left whole) ended kept in
     record { counted = omega (arith, known.counted); any = sym (or_false third_party) ∙ known.any; after = known.after }
 
-pub none_left : (count : ℕ) (third_party : Bool) (rest : List ℕ) (fuel : ℕ) (whole : List WideCaveat × List ℕ) → option_map seen None ≡ option_map seen (caveat_at rest) → Keeps count third_party (caveats_at fuel rest) whole → Counts count third_party rest whole
-none_left count third_party rest fuel whole told kept =
-    keeps_all count third_party rest (caveats_at fuel rest) whole (none_follow fuel rest (seen_none (caveat_at rest) told)) kept
+-- Where no caveat follows, what was counted is the whole.
+pub none_left : (at : Reader) (count : ℕ) (third_party : Bool) (rest : List ℕ) (fuel : ℕ) (whole : List WideCaveat × List ℕ) → option_map seen None ≡ option_map seen (at rest) → Keeps count third_party (caveats_at at fuel rest) whole → Counts count third_party rest whole
+none_left at count third_party rest fuel whole told kept =
+    keeps_all count third_party rest (caveats_at at fuel rest) whole (none_follow at fuel rest (seen_none (at rest) told)) kept
 
-pub no_fuel_left : (count : ℕ) (third_party : Bool) (rest : List ℕ) (fuel : ℕ) (whole : List WideCaveat × List ℕ) → fuel ≡ 0 → Keeps count third_party (caveats_at fuel rest) whole → Counts count third_party rest whole
+pub no_fuel_left : (at : Reader) (count : ℕ) (third_party : Bool) (rest : List ℕ) (fuel : ℕ) (whole : List WideCaveat × List ℕ) → fuel ≡ 0 → Keeps count third_party (caveats_at at fuel rest) whole → Counts count third_party rest whole
 unfolding caveats_at
-no_fuel_left count third_party rest fuel whole e kept = keeps_all count third_party rest (caveats_at fuel rest) whole (rw e refl) kept
+no_fuel_left at count third_party rest fuel whole e kept = keeps_all count third_party rest (caveats_at at fuel rest) whole (rw e refl) kept
 
-pub one_left : (count : ℕ) (third_party : Bool) (rest : List ℕ) (fuel less : ℕ) (whole : List WideCaveat × List ℕ) (told : List ℕ × Bool × List ℕ) → fuel ≡ suc less → Some told ≡ option_map seen (caveat_at rest) → Keeps count third_party (caveats_at fuel rest) whole → Keeps (count + 1) (third_party || told.1) (caveats_at less told.2) whole
-one_left count third_party rest fuel less whole told e is_told kept =
-    let s = seen_some (caveat_at rest) told is_told in
-    subst (λ (t : List ℕ × Bool × List ℕ). Keeps (count + 1) (third_party || t.1) (caveats_at less t.2) whole) s.2 (keeps_more count third_party rest fuel less whole s.0 e s.1 kept)
+pub one_left : (at : Reader) (count : ℕ) (third_party : Bool) (rest : List ℕ) (fuel less : ℕ) (whole : List WideCaveat × List ℕ) (told : List ℕ × Bool × List ℕ) → fuel ≡ suc less → Some told ≡ option_map seen (at rest) → Keeps count third_party (caveats_at at fuel rest) whole → Keeps (count + 1) (third_party || told.1) (caveats_at at less told.2) whole
+one_left at count third_party rest fuel less whole told e is_told kept =
+    let s = seen_some (at rest) told is_told in
+    let split = subst (λ (left : List WideCaveat × List ℕ). Keeps count third_party left whole) (one_more at fuel less rest s.0 e s.1) kept in
+    subst (λ (t : List ℕ × Bool × List ℕ). Keeps (count + 1) (third_party || t.1) (caveats_at at less t.2) whole) s.2
+    (keeps_one count third_party s.0.0 (caveats_at at less s.0.1) whole split)
 
 -- ---- the identifiers
 
 -- Where no caveat follows, those so far are all of them.
-pub none_named : (front whole : List (List ℕ)) (rest : List ℕ) (fuel : ℕ) → option_map seen None ≡ option_map seen (caveat_at rest) → front ++ map narrowed_caveat (caveats_at fuel rest).0 ≡ whole → front ≡ whole
-none_named front whole rest fuel told kept =
-    sym (append-nil front) ∙ ap (λ (left : List WideCaveat × List ℕ). front ++ map narrowed_caveat left.0) (sym (none_follow fuel rest (seen_none (caveat_at rest) told))) ∙ kept
+pub none_named : (at : Reader) (front whole : List (List ℕ)) (rest : List ℕ) (fuel : ℕ) → option_map seen None ≡ option_map seen (at rest) → front ++ map narrowed_caveat (caveats_at at fuel rest).0 ≡ whole → front ≡ whole
+none_named at front whole rest fuel told kept =
+    sym (append-nil front) ∙ ap (λ (left : List WideCaveat × List ℕ). front ++ map narrowed_caveat left.0) (sym (none_follow at fuel rest (seen_none (at rest) told))) ∙ kept
 
-pub no_fuel_named : (front whole : List (List ℕ)) (rest : List ℕ) (fuel : ℕ) → fuel ≡ 0 → front ++ map narrowed_caveat (caveats_at fuel rest).0 ≡ whole → front ≡ whole
+pub no_fuel_named : (at : Reader) (front whole : List (List ℕ)) (rest : List ℕ) (fuel : ℕ) → fuel ≡ 0 → front ++ map narrowed_caveat (caveats_at at fuel rest).0 ≡ whole → front ≡ whole
 unfolding caveats_at
-no_fuel_named front whole rest fuel e kept =
-    sym (append-nil front) ∙ ap (λ (n : ℕ). front ++ map narrowed_caveat (caveats_at n rest).0) (sym e) ∙ kept
+no_fuel_named at front whole rest fuel e kept =
+    sym (append-nil front) ∙ ap (λ (n : ℕ). front ++ map narrowed_caveat (caveats_at at n rest).0) (sym e) ∙ kept
 
-pub one_named : (front whole : List (List ℕ)) (rest : List ℕ) (fuel less : ℕ) (told : List ℕ × Bool × List ℕ) → fuel ≡ suc less → Some told ≡ option_map seen (caveat_at rest) → front ++ map narrowed_caveat (caveats_at fuel rest).0 ≡ whole → (front ++ told.0 ∷ []) ++ map narrowed_caveat (caveats_at less told.2).0 ≡ whole
-one_named front whole rest fuel less told e is_told kept =
-    let s = seen_some (caveat_at rest) told is_told in
-    let split : caveats_at fuel rest ≡ (s.0.0 ∷ (caveats_at less s.0.1).0, (caveats_at less s.0.1).1) = one_more fuel less rest s.0 e s.1 in
-    let same : (front ++ narrowed_caveat s.0.0 ∷ []) ++ map narrowed_caveat (caveats_at less s.0.1).0 ≡ whole =
-    append_assoc front (narrowed_caveat s.0.0 ∷ []) (map narrowed_caveat (caveats_at less s.0.1).0)
+pub one_named : (at : Reader) (front whole : List (List ℕ)) (rest : List ℕ) (fuel less : ℕ) (told : List ℕ × Bool × List ℕ) → fuel ≡ suc less → Some told ≡ option_map seen (at rest) → front ++ map narrowed_caveat (caveats_at at fuel rest).0 ≡ whole → (front ++ told.0 ∷ []) ++ map narrowed_caveat (caveats_at at less told.2).0 ≡ whole
+one_named at front whole rest fuel less told e is_told kept =
+    let s = seen_some (at rest) told is_told in
+    let split : caveats_at at fuel rest ≡ (s.0.0 ∷ (caveats_at at less s.0.1).0, (caveats_at at less s.0.1).1) = one_more at fuel less rest s.0 e s.1 in
+    let same : (front ++ narrowed_caveat s.0.0 ∷ []) ++ map narrowed_caveat (caveats_at at less s.0.1).0 ≡ whole =
+    append_assoc front (narrowed_caveat s.0.0 ∷ []) (map narrowed_caveat (caveats_at at less s.0.1).0)
     ∙ ap (λ (left : List WideCaveat × List ℕ). front ++ map narrowed_caveat left.0) (sym split) ∙ kept in
-    subst (λ (t : List ℕ × Bool × List ℕ). (front ++ t.0 ∷ []) ++ map narrowed_caveat (caveats_at less t.2).0 ≡ whole) s.2 same
+    subst (λ (t : List ℕ × Bool × List ℕ). (front ++ t.0 ∷ []) ++ map narrowed_caveat (caveats_at at less t.2).0 ≡ whole) s.2 same

@@ -1,4 +1,10 @@
+pub mod Base64Bytes
+pub mod Base64Symbols
+pub mod Base64Spelling
+pub mod Base64Decoding
+pub mod EnvelopeLaws
 pub mod CaveatRuns
+pub mod CaveatTexts
 pub mod Digits
 pub mod Packets
 pub mod CaveatPackets

@@ -4,11 +4,13 @@ use Rattle.std.specs.List.{flat_map}
 use Rattle.std.proofs.lemmas.Bool.{eqb-true}
 use Rattle.std.proofs.lemmas.List.{append-nil, nil_from_length, length-append}
 use Rattle.pass_forms.specs.Pass.{WidePass}
-use Rattle.pass_forms.specs.V1.{packet, location_key, identifier_key, caveat_key, verifier_id_key, caveat_location_key, signature_key, caveat_packets, packets_of, FitsPacket, Fits, SpellsV1}
-use Rattle.pass_forms.specs.V1Reading.{◌>>=◌, packet_at, caveat_at, caveats_at, signature_at, wide_at}
+use Rattle.pass_forms.specs.V1.{packet, location_key, identifier_key, caveat_key, verifier_id_key, caveat_location_key, signature_key, caveat_packets, packets_of, FitsPacket, FitsCaveat, Fits, SpellsV1}
+use Rattle.pass_forms.specs.V1Reading.{◌>>=◌, packet_at, caveat_at, signature_at, wide_at}
+use Rattle.pass_forms.specs.Caveats.{caveats_at}
 use Rattle.pass_forms.proofs.Digits.{bind_some, some_is}
 use Rattle.pass_forms.proofs.Packets.{packet_takes, packet_again, packet_other, guard_some}
-use Rattle.pass_forms.proofs.CaveatPackets.{EndsCaveat, caveats_take, caveats_again, caveats_fit}
+use Rattle.pass_forms.proofs.CaveatPackets.{EndsCaveat, exact_caveats, caveat_has_bytes}
+use Rattle.pass_forms.proofs.CaveatTexts.{caveats_take, caveats_again, caveats_fit}
 
 both_true : (a b : Bool) → (a && b) ≡ true → (a ≡ true) × (b ≡ true)
 both_true true b e = (refl, e)
@@ -55,14 +57,14 @@ pub wide_takes : (bytes : List ℕ) (wide : WidePass) → wide_at bytes ≡ Some
 unfolding wide_at
 wide_takes bytes wide e =
     let made = λ (l i : List ℕ × List ℕ) (s : List ℕ).
-    let w : WidePass = record { location = l.0; identifier = i.0; caveats = (caveats_at (length i.1) i.1).0; signature = s } in w in
-    let l = bind_some (packet_at location_key bytes) (λ l. packet_at identifier_key l.1 >>= λ i. signature_at (caveats_at (length i.1) i.1).1 >>= λ s. Some (made l i s)) wide e in
-    let i = bind_some (packet_at identifier_key l.0.1) (λ i. signature_at (caveats_at (length i.1) i.1).1 >>= λ s. Some (made l.0 i s)) wide l.2 in
-    let read = caveats_at (length i.0.1) i.0.1 in
+    let w : WidePass = record { location = l.0; identifier = i.0; caveats = (caveats_at caveat_at (length i.1) i.1).0; signature = s } in w in
+    let l = bind_some (packet_at location_key bytes) (λ l. packet_at identifier_key l.1 >>= λ i. signature_at (caveats_at caveat_at (length i.1) i.1).1 >>= λ s. Some (made l i s)) wide e in
+    let i = bind_some (packet_at identifier_key l.0.1) (λ i. signature_at (caveats_at caveat_at (length i.1) i.1).1 >>= λ s. Some (made l.0 i s)) wide l.2 in
+    let read = caveats_at caveat_at (length i.0.1) i.0.1 in
     let s = bind_some (signature_at read.1) (λ s. Some (made l.0 i.0 s)) wide i.2 in
     let tl = packet_takes location_key bytes l.0.0 l.0.1 l.1 in
     let ti = packet_takes identifier_key l.0.1 i.0.0 i.0.1 i.1 in
-    let tc = caveats_take (length i.0.1) i.0.1 in
+    let tc = caveats_take caveat_at caveat_packets FitsCaveat EndsCaveat exact_caveats (length i.0.1) i.0.1 in
     let ts = signature_takes read.1 s.0 s.1 in
     let parts : bytes ≡ packets_of (made l.0 i.0 s.0) =
     tl.0 ∙ ap (λ (x : List ℕ). packet location_key l.0.0 ++ x) (ti.0 ∙ ap (λ (x : List ℕ). packet identifier_key i.0.0 ++ x)
@@ -79,6 +81,6 @@ wide_again bytes wide spelled =
     let caveats = flat_map caveat_packets wide.caveats ++ last in
     let l = packet_again location_key wide.location (packet identifier_key wide.identifier ++ caveats) fits.location in
     let i = packet_again identifier_key wide.identifier caveats fits.identifier in
-    let fuel : length wide.caveats ≤ length caveats = omega (arith, caveats_fit wide.caveats, length-append (flat_map caveat_packets wide.caveats) last) in
-    let c = caveats_again (length caveats) wide.caveats last fuel fits.caveats (signature_ends wide.signature fits.signature) (signature_is_no_caveat wide.signature fits.signature) in
+    let fuel : length wide.caveats ≤ length caveats = omega (arith, caveats_fit caveat_packets caveat_has_bytes wide.caveats, length-append (flat_map caveat_packets wide.caveats) last) in
+    let c = caveats_again caveat_at caveat_packets FitsCaveat EndsCaveat exact_caveats (length caveats) wide.caveats last fuel fits.caveats (signature_ends wide.signature fits.signature) (signature_is_no_caveat wide.signature fits.signature) in
     ap wide_at spelled.packets ∙ rw (l, i, c, signature_again wide.signature fits.signature) refl

@@ -1,5 +1,7 @@
 pub mod Pass
+pub mod FormFault
+pub mod Reading
+pub mod Caveats
 pub mod V1
 pub mod V1Reading
-pub mod Reading
-pub mod V1Fields
+pub mod Envelope

@@ -1,9 +1,9 @@
 -- V1 read from the front: what each part of the bytes stands for, and the bytes after it.
-use Rattle.std.specs.Prelude.{◌≡◌, ◌↔◌, ℕ, Bool, zero, suc, ◌+◌, ◌-◌, ◌*◌, nat_le, nat_eq, ◌==◌, ◌&&◌, if◌then◌else◌, List, [], ◌∷◌, length, take, drop, Option, Some, None, Result}
-use Rattle.std.specs.List.{list_any}
+use Rattle.std.specs.Prelude.{◌≡◌, ◌↔◌, ℕ, ◌+◌, ◌-◌, ◌*◌, nat_le, nat_eq, ◌==◌, ◌&&◌, if◌then◌else◌, List, [], ◌∷◌, length, take, drop, Option, Some, None, Result}
 use Rattle.std.specs.Cmp.Lexicographic.{pointwise}
 use Rattle.pass_forms.specs.declared.fault.FormFault.{FormFault}
-use Rattle.pass_forms.specs.Pass.{Plain, WideCaveat, WidePass, is_third_party}
+use Rattle.pass_forms.specs.Caveats.{caveats_at}
+use Rattle.pass_forms.specs.Pass.{Plain, WideCaveat, WidePass}
 use Rattle.pass_forms.specs.Reading.{IsReading, reading_of}
 use Rattle.pass_forms.specs.V1.{SpellsV1, location_key, identifier_key, caveat_key, verifier_id_key, caveat_location_key, signature_key}
 
@@ -59,26 +59,6 @@ caveat_at bytes = do
       let location = optional_at caveat_location_key verifier_id.1 in
       Some (record { identifier = identifier.0; verifier_id = verifier_id.0; location = location.0 }, location.1)
 
--- what a reader keeps of a caveat: its identifier, whether it is a third party's, and the bytes after it
-abbrev pub seen : WideCaveat × List ℕ → List ℕ × Bool × List ℕ
-seen found = (found.0.identifier, is_third_party found.0, found.1)
-
--- A caveat, if there is one, and then the others.
-abbrev pub and_others : (List ℕ → List WideCaveat × List ℕ) → List ℕ → Option (WideCaveat × List ℕ) → List WideCaveat × List ℕ
-and_others others bytes None = ([], bytes)
-and_others others bytes (Some found) = (found.0 ∷ (others found.1).0, (others found.1).1)
-
--- the caveats that follow one another, but at most this number of them
-unfoldable pub caveats_at : ℕ → List ℕ → List WideCaveat × List ℕ
-caveats_at zero bytes = ([], bytes)
-caveats_at (suc n) bytes = and_others (caveats_at n) bytes (caveat_at bytes)
-
--- what a reader tells of the caveats that it went over
-pub record Counts (count : ℕ) (third_party : Bool) (rest : List ℕ) (caveats : List WideCaveat × List ℕ) : Type 0 where
-  pub counted : count ≡ length caveats.0
-  pub any : third_party ≡ list_any is_third_party caveats.0
-  pub after : rest ≡ caveats.1
-
 -- the signature's packet, 32 bytes with nothing after them
 unfoldable pub signature_at : List ℕ → Option (List ℕ)
 signature_at bytes = do
@@ -90,11 +70,11 @@ unfoldable pub wide_at : List ℕ → Option WidePass
 wide_at bytes = do
   location ← packet_at location_key bytes
   identifier ← packet_at identifier_key location.1
-  signature ← signature_at (caveats_at (length identifier.1) identifier.1).1
+  signature ← signature_at (caveats_at caveat_at (length identifier.1) identifier.1).1
   Some (record {
     location = location.0;
     identifier = identifier.0;
-    caveats = (caveats_at (length identifier.1) identifier.1).0;
+    caveats = (caveats_at caveat_at (length identifier.1) identifier.1).0;
     signature = signature;
   })
 

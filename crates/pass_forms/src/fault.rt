@@ -21,14 +21,19 @@ pub enum FormFault {
 }
 
 impl fmt::Display for FormFault {
+    ghost use Rattle.std.specs.Prelude.{Some};
+    ghost use Rattle.pass_forms.specs.FormFault.{fault_text};
+
+    ghost output = { λ fault. Some (fault_text fault) };
+
     fn fmt<W: fmt::Write>(&self, f: &mut fmt::Formatter<W>) -> fmt::Result {
-        f.write_str(match self {
-            FormFault::TooLong => "too long",
-            FormFault::Malformed => "malformed",
-            FormFault::ThirdParty => "third-party caveat",
-            FormFault::TooMany => "too many caveats",
-            FormFault::Memory => "out of memory",
-        })
+        match self {
+            FormFault::TooLong => write!(f, "too long"),
+            FormFault::Malformed => write!(f, "malformed"),
+            FormFault::ThirdParty => write!(f, "third-party caveat"),
+            FormFault::TooMany => write!(f, "too many caveats"),
+            FormFault::Memory => write!(f, "out of memory"),
+        }
     }
 }
 

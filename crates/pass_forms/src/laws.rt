@@ -1,7 +1,28 @@
 //! Laws of the definitions, each the contract of a function that does nothing.
 
-ghost use Rattle.pass_forms.specs.V1Reading.{ReadsV1Exactly};
+ghost use Rattle.pass_forms.specs.Envelope.{FromBase64IsBase64, UnwrappedIsTheAnswer, WrapsBytes, WrapsOne};
 ghost use Rattle.pass_forms.specs.V1.{OnePassEachV1};
+ghost use Rattle.pass_forms.specs.V1Reading.{ReadsV1Exactly};
+
+/// A text wraps one form and one list of bytes at most, whichever alphabet and padding it is in.
+pub fn wraps_one()
+    ensures { WrapsOne }
+{}
+
+/// What a text wraps is a list of bytes.
+pub fn wraps_bytes()
+    ensures { WrapsBytes }
+{}
+
+/// The function `from_base64` of a text is what the relation `IsBase64` says of it.
+pub fn from_base64_is_base64()
+    ensures { FromBase64IsBase64 }
+{}
+
+/// The function `unwrapped` of a text is what the relation `IsUnwrapped` says of it, in every case.
+pub fn unwrapped_is_the_answer()
+    ensures { UnwrappedIsTheAnswer }
+{}
 
 /// The bytes of V1 spell one pass at most.
 pub fn one_pass_for_each_v1()

@@ -1,21 +1,18 @@
 //! Passes as bytes: macaroons in libmacaroons' packets (V1), and the envelope that carries each form as a text.
 #![tactic(auto)]
 
+mod envelope;
 mod fault;
 mod form;
 pub mod laws;
+mod layout;
 mod pass;
 #[cfg(test)]
 mod tests;
 mod v1;
 
+pub use envelope::{MAX_BYTES, MAX_TEXT, Unwrapped, unwrap_text};
 pub use fault::FormFault;
 pub use form::Form;
-pub use pass::Pass;
+pub use pass::{MAX_CAVEATS, Pass};
 pub use v1::read_v1;
-
-/// The longest text of a pass, in bytes.
-pub const MAX_TEXT_LEN: usize = 8192;
-
-/// The most caveats of a pass.
-pub const MAX_CAVEATS: usize = 64;

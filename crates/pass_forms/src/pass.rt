@@ -4,6 +4,9 @@ ghost use Rattle.pass_mac.specs.Chain.{chain, derived_key};
 use pass_mac::{Chain, same};
 use std::marker::Model;
 
+/// The most caveats of a pass.
+pub const MAX_CAVEATS: usize = 64;
+
 /// A macaroon of first-party caveats. Contracts see it as the record of its four values.
 #[derive(Drop)]
 pub struct Pass {

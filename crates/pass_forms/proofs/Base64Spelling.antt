@@ -1,0 +1,85 @@
+-- What is base64 of which bytes, and the engine that takes it off.
+use Rattle.std.proofs.Common.{◌≡◌, ℕ, ◌==◌, not, Bool, true, false, List, [], ◌∷◌, ◌++◌, drop, refl, sym, ap, ◌∙◌, inl, inr}
+use Rattle.std.proofs.lemmas.Bool.Decides.{Decides-eqb}
+use Rattle.std.proofs.lemmas.Slice.Eq.{starts_is}
+use Rattle.std.specs.List.{list_all}
+use Rattle.std.specs.Result.{result_ok}
+use Rattle.std.specs.declared.option.Option.TheVariants.{Some}
+use Rattle.std.specs.declared.result.Result.{Result}
+use Rattle.std.specs.declared.result.Result.TheVariants.{Ok, Err}
+use Rattle.base64.specs.Engines.{standard, standard_no_pad, url_safe}
+use Rattle.base64.specs.GeneralPurpose.{IsBytes, IsConsistent, IsStrict, decode_of, decoded_of, encode_of, engine_symbols}
+use Rattle.base64.specs.Rfc4648.{encode_symbols}
+use Rattle.base64.specs.declared.decode.DecodeError.{DecodeError}
+use Rattle.base64.specs.declared.engine.general_purpose.GeneralPurpose.{GeneralPurpose}
+use Rattle.base64.proofs.EngineFacts.{decode_of-encode_of, decode_of_strict}
+use Rattle.pass_forms.specs.Envelope.{IsBase64, starts_with_brace}
+use Rattle.pass_forms.proofs.Base64Bytes.{decode_of_are_bytes}
+use Rattle.pass_forms.proofs.Base64Symbols.{bare, bare-encode, encode_passes}
+
+-- the two alphabets
+abbrev standard_symbols : List ℕ
+standard_symbols = engine_symbols standard
+
+abbrev url_safe_symbols : List ℕ
+url_safe_symbols = engine_symbols url_safe
+
+some_ok : (r : Result (List ℕ) DecodeError) (b : List ℕ) → result_ok r ≡ Some b → r ≡ Ok b
+some_ok (Ok x) b some = cc some
+some_ok (Err e) b some = cc some
+
+-- What decodes is the encoding of bytes.
+pub decoded_spells : (e : GeneralPurpose) (text b : List ℕ) → IsStrict e → IsBytes text → decoded_of e text ≡ Some b → (text ≡ encode_of e b) × IsBytes b
+unfolding decoded_of
+decoded_spells e text b strict bytes decoded =
+    let ok = some_ok (decode_of e text) b decoded in
+    (decode_of_strict e text b strict bytes ok, decode_of_are_bytes e text b bytes ok)
+
+-- An encoding of bytes decodes to them.
+pub decoded-encode : (e : GeneralPurpose) (b : List ℕ) → IsConsistent e → IsBytes b → decoded_of e (encode_of e b) ≡ Some b
+unfolding decoded_of
+decoded-encode e b consistent bytes = rw (decode_of-encode_of e b consistent bytes) refl
+
+-- Base64 of bytes is their standard symbols, made bare.
+bare-spelling : (text b : List ℕ) → IsBase64 text b → bare text ≡ encode_symbols standard_symbols b
+bare-spelling text b is = elim is.spelled [
+  | inl e ↦ rw e (bare-encode url_safe_symbols standard_symbols b false refl)
+  | inr other ↦ elim other [
+    | inl e ↦ rw e (bare-encode url_safe_symbols standard_symbols b true refl)
+    | inr other ↦ elim other [
+      | inl e ↦ rw e (bare-encode standard_symbols standard_symbols b false refl)
+      | inr e ↦ rw e (bare-encode standard_symbols standard_symbols b true refl)
+    ]
+  ]
+]
+
+-- A text is base64 of one list of bytes at most.
+pub spells_one : (text a b : List ℕ) → IsBase64 text a → IsBase64 text b → a ≡ b
+spells_one text a b left right =
+    let same : encode_symbols standard_symbols a ≡ encode_symbols standard_symbols b = sym (bare-spelling text a left) ∙ bare-spelling text b right in
+    let decoded : decoded_of standard_no_pad (encode_symbols standard_symbols a ++ []) ≡ decoded_of standard_no_pad (encode_symbols standard_symbols b ++ []) =
+    ap (λ (symbols : List ℕ). decoded_of standard_no_pad (symbols ++ [])) same in
+    let both : Some a ≡ Some b = sym (decoded-encode standard_no_pad a refl left.are_bytes) ∙ decoded ∙ decoded-encode standard_no_pad b refl right.are_bytes in
+    cc both
+
+-- base64 passes a test that both alphabets, 0 and the padding pass
+spelling_passes : (p : ℕ → Bool) (text b : List ℕ) → p 0 ≡ true → p 61 ≡ true → list_all p standard_symbols ≡ true → list_all p url_safe_symbols ≡ true
+    → IsBase64 text b → list_all p text ≡ true
+spelling_passes p text b past padded std url is = elim is.spelled [
+  | inl e ↦ rw e (encode_passes p url_safe_symbols b 61 false past padded url)
+  | inr other ↦ elim other [
+    | inl e ↦ rw e (encode_passes p url_safe_symbols b 61 true past padded url)
+    | inr other ↦ elim other [
+      | inl e ↦ rw e (encode_passes p standard_symbols b 61 false past padded std)
+      | inr e ↦ rw e (encode_passes p standard_symbols b 61 true past padded std)
+    ]
+  ]
+]
+
+-- No base64 starts with a brace.
+pub spelling_brace : (text b : List ℕ) → IsBase64 text b → starts_with_brace text ≡ true → ⊥
+spelling_brace text b is brace =
+    let no_brace : ℕ → Bool = λ x. not (x == 123) in
+    let cut : text ≡ 123 ∷ drop 1 text = (starts_is Decides-eqb text (123 ∷ []) (starts_with_brace text) refl).0 brace in
+    let all : list_all no_brace text ≡ true = spelling_passes no_brace text b refl refl refl refl is in
+    cc (rw cut at all)

@@ -1,0 +1,103 @@
+-- What a text wraps, and the answer that tells it.
+use Rattle.std.proofs.Common.{◌≡◌, ◌↔◌, ◌⊎◌, ◌≤◌, ℕ, false, List, length, refl, sym, subst, ◌∙◌, inl, inr, Result, Ok, Err, Option, None, Some, arith}
+use Rattle.std.specs.Option.{ok_or, option_and_then}
+use Rattle.std.proofs.lemmas.Bool.{cases_Bool, cases_lt, lt-ltb, le-ltb}
+use Rattle.base64.specs.GeneralPurpose.{IsBytes}
+use Rattle.pass_forms.specs.declared.fault.FormFault.{FormFault}
+use Rattle.pass_forms.specs.declared.fault.FormFault.TheVariants.{TooLong, Malformed, ThirdParty, TooMany, Memory}
+use Rattle.pass_forms.specs.declared.form.Form.{Form}
+use Rattle.pass_forms.specs.Envelope.{IsBase64, IsUnwrapped, Wraps, form_of, from_base64, starts_with_brace, text_limit, unwrapped, with_form}
+use Rattle.pass_forms.proofs.Base64Decoding.{from_base64_spells, spells_from_base64}
+use Rattle.pass_forms.proofs.Base64Spelling.{spelling_brace, spells_one}
+
+-- A text wraps one form and one list of bytes at most.
+pub wraps_one : (text : List ℕ) (f g : Form) (a b : List ℕ) → Wraps text f a → Wraps text g b → (f ≡ g) × (a ≡ b)
+wraps_one text f g a b (inl x) (inl y) = (x.1 ∙ sym y.1, x.2 ∙ sym y.2)
+wraps_one text f g a b (inl x) (inr y) = absurd (spelling_brace text b y.0 x.0)
+wraps_one text f g a b (inr x) (inl y) = absurd (spelling_brace text a x.0 y.0)
+wraps_one text f g a b (inr x) (inr y) =
+    let same = spells_one text a b x.0 y.0 in
+    let told = sym x.1 ∙ rw (sym same) at y.1 in
+    (cc told, same)
+
+-- What it wraps is bytes, if the text is.
+pub wraps_bytes : (text : List ℕ) (form : Form) (b : List ℕ) → IsBytes text → Wraps text form b → IsBytes b
+wraps_bytes text form b bytes (inl plain) = subst IsBytes (sym plain.2) bytes
+wraps_bytes text form b bytes (inr told) = told.0.are_bytes
+
+abbrev pub Answer : Type 0
+Answer = Result (Form × List ℕ) FormFault
+
+option_cases : {A : Type 0} (o : Option A) → (o ≡ None) ⊎ ((x : A) × (o ≡ Some x))
+option_cases None = inl refl
+option_cases (Some x) = inr (x, refl)
+
+-- what a text answers that is no longer than it may be, and does not start with a brace
+decoded_answer : (text : List ℕ) → IsBytes text → length text ≤ text_limit → starts_with_brace text ≡ false
+    → IsUnwrapped text (ok_or (option_and_then with_form (from_base64 text)) Malformed)
+decoded_answer text bytes short brace = elim (option_cases (from_base64 text)) [
+  | inl none ↦
+      rw none (
+        short,
+        λ form b wraps. elim wraps [
+          | inl plain ↦ cc (plain.0, brace)
+          | inr is ↦ cc (spells_from_base64 text b bytes is.0, none)
+        ],
+      )
+  | inr some ↦
+      let b : List ℕ = some.0 in
+      let is : IsBase64 text b = from_base64_spells text b bytes some.1 in
+      elim (option_cases (form_of b)) [
+        | inl none ↦
+            rw (some.1, none) (
+              short,
+              λ form other wraps. elim wraps [
+                | inl plain ↦ cc (plain.0, brace)
+                | inr told ↦
+                    let same : other ≡ b = spells_one text other b told.0 is in
+                    cc (rw same at told.1, none)
+              ],
+            )
+        | inr form ↦ rw (some.1, form.1) (short, inr (is, form.1))
+      ]
+]
+
+-- `unwrapped` is what taking the text out of its envelope answers.
+pub unwrapped_answers : (text : List ℕ) → IsBytes text → IsUnwrapped text (unwrapped text)
+unfolding unwrapped
+unwrapped_answers text bytes = elim (cases_lt text_limit (length text)) [
+  | inl long ↦ rw (lt-ltb text_limit (length text) long) long
+  | inr short ↦ elim (cases_Bool (starts_with_brace text)) [
+    | inl brace ↦ rw (le-ltb text_limit (length text) short, brace) (short, inl (brace, refl, refl))
+    | inr brace ↦ rw (le-ltb text_limit (length text) short, brace) (decoded_answer text bytes short brace)
+  ]
+]
+
+-- A text has one answer.
+one_answer : (text : List ℕ) (x y : Answer) → IsUnwrapped text x → IsUnwrapped text y → x ≡ y
+one_answer text (Ok (f, a)) (Ok (g, b)) left right =
+    let same = wraps_one text f g a b left.1 right.1 in
+    rw (same.0, same.1) refl
+one_answer text (Ok x) (Err TooLong) left right = absurd (omega arith)
+one_answer text (Ok (f, a)) (Err Malformed) left right = absurd (right.1 f a left.1)
+one_answer text (Err TooLong) (Ok y) left right = absurd (omega arith)
+one_answer text (Err TooLong) (Err TooLong) left right = refl
+one_answer text (Err TooLong) (Err Malformed) left right = absurd (omega arith)
+one_answer text (Err Malformed) (Ok (g, b)) left right = absurd (left.1 g b right.1)
+one_answer text (Err Malformed) (Err TooLong) left right = absurd (omega arith)
+one_answer text (Err Malformed) (Err Malformed) left right = refl
+one_answer text (Err ThirdParty) y left right = absurd left
+one_answer text (Err TooMany) y left right = absurd left
+one_answer text (Err Memory) y left right = absurd left
+one_answer text x (Err ThirdParty) left right = absurd right
+one_answer text x (Err TooMany) left right = absurd right
+one_answer text x (Err Memory) left right = absurd right
+
+-- Nothing else is.
+pub unwrapped_is : (text : List ℕ) (answer : Answer) → IsBytes text → (unwrapped text ≡ answer) ↔ IsUnwrapped text answer
+unwrapped_is text answer bytes =
+    (λ e. subst (IsUnwrapped text) e (unwrapped_answers text bytes), one_answer text (unwrapped text) answer (unwrapped_answers text bytes))
+
+-- an answer that is `unwrapped` of the text
+pub answers_as : (text : List ℕ) (answer : Answer) → IsBytes text → answer ≡ unwrapped text → IsUnwrapped text answer
+answers_as text answer bytes is = subst (IsUnwrapped text) (sym is) (unwrapped_answers text bytes)

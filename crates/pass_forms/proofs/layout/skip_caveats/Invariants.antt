@@ -1,0 +1,10 @@
+-- The caveats so far and those that are left make all of them.
+use Rattle.std.proofs.Common.{length, ◌≤◌, ◌-◌}
+use Rattle.pass_forms.specs.Caveats.{caveats_at}
+use Rattle.pass_forms.proofs.CaveatRuns.{Keeps}
+use Rattle.pass_forms.proofs.layout.skip_caveats.Given as goal
+
+abbrev pub invariant-loop : goal.invariant-loop
+invariant-loop g l =
+    Keeps l.caveats.count l.caveats.third_party (caveats_at g.L.CaveatLayout.caveat_at (length l.bytes - l.counter) l.caveats.rest.now) (caveats_at g.L.CaveatLayout.caveat_at (length l.bytes) l.bytes)
+    × (l.caveats.count ≤ l.counter)

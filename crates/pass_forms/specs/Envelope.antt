@@ -1,0 +1,116 @@
+-- The envelope of a pass text: base64, and which form the bytes in it are in.
+use Rattle.std.specs.Prelude.{◌≡◌, ◌==◌, ◌≤◌, ◌<◌, ◌&&◌, ◌||◌, ◌⊎◌, ℕ, Bool, List, length, take, slice_get, nat_eq, nat_lt, nat_le, IsTrue, [], ◌∷◌, if◌then◌else◌, Option, None, Some, Result, Ok, Err, ◌↔◌}
+use Rattle.std.specs.List.{starts_with}
+use Rattle.std.specs.Option.{option_and_then, option_map, option_or, ok_or}
+use Rattle.base64.specs.Engines.{url_safe_no_pad, url_safe, standard_no_pad, standard}
+use Rattle.base64.specs.GeneralPurpose.{IsBytes, decoded_of, encode_of}
+use Rattle.pass_forms.specs.declared.envelope.Unwrapped.{Unwrapped}
+use Rattle.pass_forms.specs.declared.fault.FormFault.{FormFault}
+use Rattle.pass_forms.specs.declared.fault.FormFault.TheVariants.{TooLong, Malformed}
+use Rattle.pass_forms.specs.declared.form.Form.{Form}
+use Rattle.pass_forms.specs.declared.form.Form.TheVariants.{V1, V2, Json}
+
+-- The text is base64 of the bytes: in the URL-safe alphabet (RFC 4648, section 5) or in the standard
+-- one (section 4), with no padding or with all of it (section 3.2), the bits past the last byte zero
+-- (section 3.5). That either alphabet will do, and that padding may be left out, is ours.
+pub record IsBase64 (text bytes : List ℕ) : Type 0 where
+  pub are_bytes : IsBytes bytes
+  pub spelled : (text ≡ encode_of url_safe_no_pad bytes) ⊎ (text ≡ encode_of url_safe bytes)
+      ⊎ (text ≡ encode_of standard_no_pad bytes) ⊎ (text ≡ encode_of standard bytes)
+
+-- `{`
+abbrev pub open_brace : ℕ
+open_brace = 123
+
+abbrev pub starts_with_brace : List ℕ → Bool
+starts_with_brace bytes = starts_with nat_eq bytes (open_brace ∷ [])
+
+-- `0` to `9` or `a` to `f`
+abbrev pub is_lower_hex_digit : ℕ → Bool
+is_lower_hex_digit byte = (nat_le 48 byte && nat_le byte 57) || (nat_le 97 byte && nat_le byte 102)
+
+-- What the first byte tells: a V2 pass begins with the byte 2, a JSON pass with `{`, and a V1 pass
+-- with the lower-case hexadecimal length of a packet (ours, after libmacaroons' formats).
+abbrev pub form_of_byte : ℕ → Option Form
+form_of_byte first =
+    if first == 2 then Some V2
+    else if first == open_brace then Some Json
+    else if is_lower_hex_digit first then Some V1
+    else None
+
+-- the form that the bytes are in, by the first of them
+abbrev pub form_of : List ℕ → Option Form
+form_of bytes = option_and_then form_of_byte (slice_get bytes 0)
+
+-- The text wraps those bytes, in that form: a text that starts with `{` is JSON as it stands, and any
+-- other is base64 of bytes whose first tells the form (ours).
+abbrev pub Wraps : List ℕ → Form → List ℕ → Type 0
+Wraps text form bytes =
+    (IsTrue (starts_with_brace text) × (form ≡ Json) × (bytes ≡ text))
+    ⊎ (IsBase64 text bytes × (form_of bytes ≡ Some form))
+
+-- the most bytes that a pass text has (ours)
+abbrev pub text_limit : ℕ
+text_limit = 8192
+
+-- What taking a text out of its envelope answers (ours): it is too long above the limit, else malformed
+-- where it wraps nothing, else there is what it wraps. No other fault comes.
+abbrev pub IsUnwrapped : List ℕ → Result (Form × List ℕ) FormFault → Type 0
+IsUnwrapped text (Ok told) = (length text ≤ text_limit) × Wraps text told.0 told.1
+IsUnwrapped text (Err TooLong) = text_limit < length text
+IsUnwrapped text (Err Malformed) =
+    (length text ≤ text_limit) × ((form : Form) (bytes : List ℕ) → ¬ Wraps text form bytes)
+IsUnwrapped text (Err other) = ⊥
+
+-- The same as functions of the text, which compute.
+
+-- the bytes by the first of the four spellings that decodes
+unfoldable pub from_base64 : List ℕ → Option (List ℕ)
+from_base64 text =
+    option_or (decoded_of url_safe_no_pad text)
+    (option_or (decoded_of url_safe text)
+    (option_or (decoded_of standard_no_pad text) (decoded_of standard text)))
+
+-- the bytes, with the form that they are in
+abbrev pub with_form : List ℕ → Option (Form × List ℕ)
+with_form bytes = option_map (λ form. (form, bytes)) (form_of bytes)
+
+unfoldable pub unwrapped : List ℕ → Result (Form × List ℕ) FormFault
+unwrapped text =
+    if nat_lt text_limit (length text) then Err TooLong
+    else if starts_with_brace text then Ok (Json, text)
+    else ok_or (option_and_then with_form (from_base64 text)) Malformed
+
+-- What a result of `unwrap_text` tells, beside the text and what the room holds after the call.
+
+-- the bytes: the text where it is plain, else the first of the room
+abbrev pub told_bytes : Unwrapped → List ℕ → List ℕ → List ℕ
+told_bytes unwrapping text room = if unwrapping.plain then text else take unwrapping.len room
+
+-- the form and the bytes, or the fault
+abbrev pub told : Result Unwrapped FormFault → List ℕ → List ℕ → Result (Form × List ℕ) FormFault
+told (Ok unwrapping) text room = Ok (unwrapping.form, told_bytes unwrapping text room)
+told (Err fault) text room = Err fault
+
+-- Laws.
+
+-- A text wraps one form and one list of bytes at most.
+abbrev pub WrapsOne : Type 0
+WrapsOne = (text : List ℕ) (form other_form : Form) (bytes other_bytes : List ℕ)
+    → Wraps text form bytes → Wraps text other_form other_bytes
+    → (form ≡ other_form) × (bytes ≡ other_bytes)
+
+-- What it wraps is bytes, if the text is.
+abbrev pub WrapsBytes : Type 0
+WrapsBytes = (text : List ℕ) (form : Form) (bytes : List ℕ)
+    → IsBytes text → Wraps text form bytes → IsBytes bytes
+
+-- `from_base64` gives the bytes that the text is base64 of, and nothing where there are none.
+abbrev pub FromBase64IsBase64 : Type 0
+FromBase64IsBase64 = (text bytes : List ℕ)
+    → IsBytes text → (from_base64 text ≡ Some bytes) ↔ IsBase64 text bytes
+
+-- `unwrapped` of a text is what taking it out of its envelope answers, and nothing else is.
+abbrev pub UnwrappedIsTheAnswer : Type 0
+UnwrappedIsTheAnswer = (text : List ℕ) (answer : Result (Form × List ℕ) FormFault)
+    → IsBytes text → (unwrapped text ≡ answer) ↔ IsUnwrapped text answer

@@ -1,0 +1,110 @@
+use super::*;
+use std::test::Fail;
+
+// The bytes of a V2 pass of location `http://example.org/` and identifier `keyid`.
+const PASS: &[u8; 65] = b"\x02\x01\x13http://example.org/\x02\x05keyid\x00\x00\x06\x20\
+    \x7c\xde\xe7\x92\x51\x1c\x5b\xc6\xf5\x28\x48\x58\x05\xdf\xe9\xb2\
+    \x4e\x78\x5e\x28\xe2\xa9\x93\x01\xf9\xd7\x11\xc6\x09\xe3\x8e\xf7";
+
+#[test]
+fn takes_off_four_spellings(rt: HostRuntime) -> Result<(), Fail> {
+    for text in [
+        "AgETaHR0cDovL2V4YW1wbGUub3JnLwIFa2V5aWQAAAYgfN7nklEcW8b1KEhYBd_psk54XijiqZMB-dcRxgnjjvc",
+        "AgETaHR0cDovL2V4YW1wbGUub3JnLwIFa2V5aWQAAAYgfN7nklEcW8b1KEhYBd_psk54XijiqZMB-dcRxgnjjvc=",
+        "AgETaHR0cDovL2V4YW1wbGUub3JnLwIFa2V5aWQAAAYgfN7nklEcW8b1KEhYBd/psk54XijiqZMB+dcRxgnjjvc",
+        "AgETaHR0cDovL2V4YW1wbGUub3JnLwIFa2V5aWQAAAYgfN7nklEcW8b1KEhYBd/psk54XijiqZMB+dcRxgnjjvc=",
+    ] {
+        let mut room = [0u8; MAX_BYTES];
+        let unwrapped = unwrap_text(text.as_bytes(), &mut room)?;
+        assert_eq!(rt; unwrapped.form, Form::V2);
+        assert!(rt; !unwrapped.plain);
+        assert!(rt;
+            unwrapped.bytes(text.as_bytes(), &room) == PASS.as_slice(),
+            "in {text}"
+        );
+    }
+    Ok(())
+}
+
+#[test]
+fn refuses_other_texts(rt: HostRuntime) {
+    for text in [
+        // Both alphabets, too much padding, a last bit set.
+        b"AgETaHR0cDovL2V4YW1wbGUub3JnLwIFa2V5aWQAAAYgfN7nklEcW8b1KEhYBd_psk54XijiqZMB+dcRxgnjjvc".as_slice(),
+        b"AgETaHR0cDovL2V4YW1wbGUub3JnLwIFa2V5aWQAAAYgfN7nklEcW8b1KEhYBd_psk54XijiqZMB-dcRxgnjjvc==".as_slice(),
+        b"AgETaHR0cDovL2V4YW1wbGUub3JnLwIFa2V5aWQAAAYgfN7nklEcW8b1KEhYBd_psk54XijiqZMB-dcRxgnjjvd".as_slice(),
+        // Too little padding, padding alone, nothing, white space, bytes that are no text.
+        b"Zg=".as_slice(),
+        b"=".as_slice(),
+        b"".as_slice(),
+        b" {}".as_slice(),
+        b"\xff\xfe".as_slice(),
+    ] {
+        let mut room = [0u8; MAX_BYTES];
+        assert_eq!(rt;
+            unwrap_text(text, &mut room),
+            Err(FormFault::Malformed),
+            "of {text:?}"
+        );
+    }
+}
+
+#[test]
+fn first_byte_tells_the_form(rt: HostRuntime) {
+    // Base64 of one byte each: 1, 2, 3, then `/09:AF` and "`afgz{|".
+    for (text, form) in [
+        ("AQ", None),
+        ("Ag", Some(Form::V2)),
+        ("Aw", None),
+        ("Lw", None),
+        ("MA", Some(Form::V1)),
+        ("OQ", Some(Form::V1)),
+        ("Og", None),
+        ("QQ", None),
+        ("YA", None),
+        ("YQ", Some(Form::V1)),
+        ("Zg==", Some(Form::V1)),
+        ("Zw", None),
+        ("ew", Some(Form::Json)),
+        ("fA", None),
+    ] {
+        let mut room = [0u8; MAX_BYTES];
+        let told = unwrap_text(text.as_bytes(), &mut room).map(|unwrapped| unwrapped.form);
+        assert_eq!(rt; told, form.ok_or(FormFault::Malformed), "of {text}");
+    }
+}
+
+#[test]
+fn json_is_plain_or_in_base64(rt: HostRuntime) -> Result<(), Fail> {
+    let mut room = [0u8; MAX_BYTES];
+    for (text, bytes, plain) in [
+        (b"{}".as_slice(), b"{}".as_slice(), true),
+        (b"{\xff".as_slice(), b"{\xff".as_slice(), true),
+        (b"e30".as_slice(), b"{}".as_slice(), false),
+    ] {
+        let unwrapped = unwrap_text(text, &mut room)?;
+        assert_eq!(rt; unwrapped.form, Form::Json);
+        assert_eq!(rt; unwrapped.plain, plain);
+        assert_eq!(rt; unwrapped.len, bytes.len());
+        assert!(rt; unwrapped.bytes(text, &room) == bytes);
+    }
+    Ok(())
+}
+
+#[test]
+fn reads_up_to_8192_bytes(rt: HostRuntime) -> Result<(), Fail> {
+    let mut room = [1u8; MAX_BYTES];
+    let mut text = [b'A'; 8193];
+    assert_eq!(rt;
+        unwrap_text(&text[..8192], &mut room),
+        Err(FormFault::Malformed)
+    );
+    assert_eq!(rt; unwrap_text(&text, &mut room), Err(FormFault::TooLong));
+    text[1] = b'g';
+    let unwrapped = unwrap_text(&text[..8192], &mut room)?;
+    assert_eq!(rt; unwrapped.form, Form::V2);
+    assert_eq!(rt; unwrapped.bytes(&text, &room).len(), 6144);
+    text[0] = b'{';
+    assert_eq!(rt; unwrap_text(&text, &mut room), Err(FormFault::TooLong));
+    Ok(())
+}

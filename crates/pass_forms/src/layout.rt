@@ -1,0 +1,139 @@
+//! What the readers of packets and of the binary form share: a pass is scanned first, which takes no memory and finds
+//! each fault, and copied then.
+
+ghost use Rattle.std.specs.Prelude.{◌≡◌, Option, option_map, length, map, IfOk};
+ghost use Rattle.pass_forms.specs.Caveats.{caveats_at, plain_of, Counts};
+ghost use Rattle.pass_forms.specs.Pass.{narrowed_caveat};
+ghost use Rattle.pass_forms.specs.Reading.{reading_of, UnlessMemory};
+
+use crate::{FormFault, MAX_CAVEATS, MAX_TEXT, Pass};
+use std::alloc::{AllocError, Global};
+
+/// The caveat at the front of some bytes, and what follows it.
+#[derive(Drop)]
+pub struct Caveat<'a> {
+    pub identifier: &'a [u8],
+    pub third_party: bool,
+    pub rest: &'a [u8],
+}
+
+/// The fields of a pass, with its caveats still as bytes.
+#[derive(Drop)]
+pub struct Fields<'a> {
+    pub location: &'a [u8],
+    pub identifier: &'a [u8],
+    pub caveats: &'a [u8],
+    pub caveat_count: usize,
+    pub third_party: bool,
+    pub signature: [u8; 32],
+}
+
+/// How a caveat is laid out.
+pub trait CaveatLayout {
+    ghost use Rattle.std.specs.Prelude.{◌≡◌, ℕ, List, Option, option_map};
+    ghost use Rattle.pass_forms.specs.Caveats.{seen};
+    ghost use Rattle.pass_forms.specs.Pass.{WideCaveat};
+
+    // the caveat at the front of bytes, and the bytes after it
+    ghost caveat_at: { List ℕ → Option (WideCaveat × List ℕ) };
+
+    /// The caveat at the front.
+    fn first_caveat(bytes: &[u8]) -> Option<Caveat<'_>>
+        ensures { option_map (λ found. (found.identifier.now, found.third_party, found.rest.now)) result
+            ≡ option_map seen (caveat_at bytes.now) };
+}
+
+/// How a pass is laid out.
+pub trait Layout: CaveatLayout {
+    ghost use Rattle.std.specs.Prelude.{◌≡◌, ℕ, List, Option, option_map};
+    ghost use Rattle.pass_forms.specs.Caveats.{plain_of};
+    ghost use Rattle.pass_forms.specs.Pass.{WidePass};
+    ghost use Rattle.pass_forms.specs.Reading.{kept};
+
+    // the pass that bytes spell, all of them
+    ghost wide_at: { List ℕ → Option WidePass };
+
+    /// The fields of the pass that the bytes spell.
+    fn fields(bytes: &[u8]) -> Option<Fields<'_>>
+        ensures { option_map (λ fields. (plain_of Self.caveat_at fields, fields.caveat_count, fields.third_party)) result
+            ≡ option_map kept (wide_at bytes.now) };
+}
+
+/// How many caveats follow one another, whether any is a third party's, and what follows them.
+#[derive(Drop)]
+pub struct Caveats<'a> {
+    pub count: usize,
+    pub third_party: bool,
+    pub rest: &'a [u8],
+}
+
+/// Goes over the caveats at the front.
+pub fn skip_caveats<L: CaveatLayout>(bytes: &[u8]) -> Caveats<'_>
+    ensures { Counts result.count result.third_party result.rest.now (caveats_at L.caveat_at (length bytes.now) bytes.now) }
+{
+    let mut caveats = Caveats {
+        count: 0,
+        third_party: false,
+        rest: bytes,
+    };
+    for _ in 0..bytes.len() {
+        let Some(found) = L::first_caveat(caveats.rest) else {
+            return caveats;
+        };
+        caveats.count += 1;
+        caveats.third_party |= found.third_party;
+        caveats.rest = found.rest;
+    }
+    caveats
+}
+
+// The identifiers of so many caveats at the front, fewer where there aren't as many.
+fn identifiers<L: CaveatLayout>(
+    alloc: Global,
+    count: usize,
+    bytes: &[u8],
+) -> Result<Vec<Vec<u8>>, AllocError>
+    ensures { IfOk result (λ caveats. map (λ caveat. caveat.items) caveats.items
+        ≡ map narrowed_caveat (caveats_at L.caveat_at count bytes.now).0) }
+{
+    let mut caveats = Vec::with_capacity(alloc, count)?;
+    let mut rest = bytes;
+    for _ in 0..count {
+        let Some(found) = L::first_caveat(rest) else {
+            return Ok(caveats);
+        };
+        caveats.push(Vec::from_slice(alloc, found.identifier)?)?;
+        rest = found.rest;
+    }
+    Ok(caveats)
+}
+
+fn copied<L: CaveatLayout>(alloc: Global, fields: &Fields) -> Result<Pass, AllocError>
+    ensures { IfOk result (λ pass. pass ≡ plain_of L.caveat_at fields.now) }
+{
+    Ok(Pass::new(
+        Vec::from_slice(alloc, fields.location)?,
+        Vec::from_slice(alloc, fields.identifier)?,
+        identifiers::<L>(alloc, fields.caveat_count, fields.caveats)?,
+        fields.signature,
+    ))
+}
+
+/// The pass that the bytes spell in this layout, or the first fault that fits.
+pub fn read<L: Layout>(alloc: Global, bytes: &[u8]) -> Result<Pass, FormFault>
+    ensures { UnlessMemory (λ answer. reading_of (length bytes.now) (L.wide_at bytes.now) ≡ answer) result }
+{
+    if bytes.len() > MAX_TEXT {
+        return Err(FormFault::TooLong);
+    }
+    let Some(fields) = L::fields(bytes) else {
+        return Err(FormFault::Malformed);
+    };
+    if fields.third_party {
+        return Err(FormFault::ThirdParty);
+    }
+    if fields.caveat_count > MAX_CAVEATS {
+        return Err(FormFault::TooMany);
+    }
+    Ok(copied::<L>(alloc, &fields)?)
+}
