@@ -1,5 +1,5 @@
 -- From one wide pass at most for each text to the one reading of it.
-use Rattle.std.proofs.Common.{◌≡◌, ℕ, ◌≤◌, Bool, true, false, cond, ltb, ◌||◌, List, [], ◌∷◌, length, map, Option, Some, None, Result, Ok, Err, refl, sym, ap, subst, ◌∙◌, arith}
+use Rattle.std.proofs.Common.{◌≡◌, ℕ, ◌<◌, ◌≤◌, Bool, true, false, cond, ltb, ◌||◌, List, [], ◌∷◌, length, map, Option, Some, None, Result, Ok, Err, refl, sym, ap, subst, ◌∙◌, arith, ◌⊎◌, inl, inr}
 use Rattle.std.specs.Prelude.{is_some}
 use Rattle.std.specs.List.{list_any}
 use Rattle.std.proofs.lemmas.List.{length-map}
@@ -58,7 +58,7 @@ judged_by len Spelled wide false true et em within spelled = (within, wide, spel
 judged_by len Spelled wide false false et em within spelled =
     (within, subst Spelled (sym (widened-narrowed wide et)) spelled, omega (arith, ltb-false _ _ em, length-map wide.caveats narrowed_caveat))
 
-judged_if_any_is : (len : ℕ) (Spelled : WidePass → Type 0) (computed : Option WidePass) → Computes Spelled computed → len ≤ max_text_len → IsReading len Spelled (judged_if_any computed)
+pub judged_if_any_is : (len : ℕ) (Spelled : WidePass → Type 0) (computed : Option WidePass) → Computes Spelled computed → len ≤ max_text_len → IsReading len Spelled (judged_if_any computed)
 judged_if_any_is len Spelled None exact within = (within, λ wide spelled. let e = exact.again wide spelled in absurd cc)
 judged_if_any_is len Spelled (Some wide) exact within =
     judged_by len Spelled wide (has_third_party wide) (ltb max_caveats (length wide.caveats)) refl refl within (exact.takes wide refl)
@@ -74,16 +74,32 @@ nothing_computed : (computed : Option WidePass) → ((wide : WidePass) → compu
 nothing_computed None none = refl
 nothing_computed (Some wide) none = absurd (none wide refl)
 
-pub reading_determined : (len : ℕ) (Spelled : WidePass → Type 0) (computed : Option WidePass) (answer : Result Plain FormFault) → Computes Spelled computed → IsReading len Spelled answer → reading_of len computed ≡ answer
-reading_determined len Spelled computed (Err TooLong) exact h = rw (lt-ltb _ _ h) refl
-reading_determined len Spelled computed (Err Malformed) exact h =
+pub judged_determined : (len : ℕ) (Spelled : WidePass → Type 0) (computed : Option WidePass) (answer : Result Plain FormFault) → Computes Spelled computed → len ≤ max_text_len → IsReading len Spelled answer → judged_if_any computed ≡ answer
+judged_determined len Spelled computed (Err TooLong) exact within h = absurd (omega arith)
+judged_determined len Spelled computed (Err Malformed) exact within h =
     let none : computed ≡ None = nothing_computed computed (λ wide e. h.1 wide (exact.takes wide e)) in
-    rw (le-ltb _ _ h.0, none) refl
-reading_determined len Spelled computed (Err ThirdParty) exact h =
-    rw (le-ltb _ _ h.0, exact.again h.1 h.2, h.3) refl
-reading_determined len Spelled computed (Err TooMany) exact h =
-    rw (le-ltb _ _ h.0, exact.again h.1 h.2, h.3, lt-ltb _ _ h.4) refl
-reading_determined len Spelled computed (Ok pass) exact h =
+    rw none refl
+judged_determined len Spelled computed (Err ThirdParty) exact within h = rw (exact.again h.1 h.2, h.3) refl
+judged_determined len Spelled computed (Err TooMany) exact within h = rw (exact.again h.1 h.2, h.3, lt-ltb _ _ h.4) refl
+judged_determined len Spelled computed (Ok pass) exact within h =
     let few : ltb max_caveats (length (map widened_caveat pass.caveats)) ≡ false = le-ltb _ _ (omega (arith, h.2, length-map pass.caveats widened_caveat)) in
-    rw (le-ltb _ _ h.0, exact.again (widened pass) h.1, no_third_party pass.caveats, few) (ap (λ (p : Plain). Ok p) (narrowed-widened pass))
-reading_determined len Spelled computed (Err Memory) exact h = absurd h
+    rw (exact.again (widened pass) h.1, no_third_party pass.caveats, few) (ap (λ (p : Plain). Ok p) (narrowed-widened pass))
+judged_determined len Spelled computed (Err Memory) exact within h = absurd h
+
+-- Where an answer isn't too long, the text is within the limit.
+within_limit : (len : ℕ) (Spelled : WidePass → Type 0) (answer : Result Plain FormFault) → IsReading len Spelled answer → (answer ≡ Err TooLong) ⊎ (len ≤ max_text_len)
+within_limit len Spelled (Err TooLong) h = inl refl
+within_limit len Spelled (Err Malformed) h = inr h.0
+within_limit len Spelled (Err ThirdParty) h = inr h.0
+within_limit len Spelled (Err TooMany) h = inr h.0
+within_limit len Spelled (Ok pass) h = inr h.0
+within_limit len Spelled (Err Memory) h = absurd h
+
+pub reading_determined : (len : ℕ) (Spelled : WidePass → Type 0) (computed : Option WidePass) (answer : Result Plain FormFault) → Computes Spelled computed → IsReading len Spelled answer → reading_of len computed ≡ answer
+reading_determined len Spelled computed answer exact h =
+    elim (within_limit len Spelled answer h) [
+      | inl long ↦
+          let too_long : max_text_len < len = subst (IsReading len Spelled) long h in
+          rw (lt-ltb _ _ too_long) (sym long)
+      | inr within ↦ rw (le-ltb _ _ within) (judged_determined len Spelled computed answer exact within h)
+    ]

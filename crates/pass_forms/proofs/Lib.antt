@@ -11,4 +11,5 @@ pub mod CaveatPackets
 pub mod WholeV1
 pub mod Judging
 pub mod V1Exact
+pub mod TextExact
 pub mod WholePass

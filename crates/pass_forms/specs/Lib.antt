@@ -5,3 +5,4 @@ pub mod Caveats
 pub mod V1
 pub mod V1Reading
 pub mod Envelope
+pub mod Text

@@ -1,6 +1,7 @@
 //! Laws of the definitions, each the contract of a function that does nothing.
 
 ghost use Rattle.pass_forms.specs.Envelope.{FromBase64IsBase64, UnwrappedIsTheAnswer, WrapsBytes, WrapsOne};
+ghost use Rattle.pass_forms.specs.Text.{ReadsTextsExactly};
 ghost use Rattle.pass_forms.specs.V1.{OnePassEachV1};
 ghost use Rattle.pass_forms.specs.V1Reading.{ReadsV1Exactly};
 
@@ -32,4 +33,9 @@ pub fn one_pass_for_each_v1()
 /// The answer to bytes of V1 is determined, and is the one that is computed.
 pub fn reads_v1_exactly()
     ensures { ReadsV1Exactly }
+{}
+
+/// The answer to a text is determined and is the one that is computed, whatever bytes spell in each form.
+pub fn reads_texts_exactly()
+    ensures { ReadsTextsExactly }
 {}
