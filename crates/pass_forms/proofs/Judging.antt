@@ -7,7 +7,7 @@ use Rattle.std.proofs.lemmas.Bool.{ltb-true, ltb-false, le-ltb, lt-ltb}
 use Rattle.pass_forms.specs.declared.fault.FormFault.{FormFault}
 use Rattle.pass_forms.specs.declared.fault.FormFault.TheVariants.{TooLong, Malformed, ThirdParty, TooMany, Memory}
 use Rattle.pass_forms.specs.Pass.{Plain, WideCaveat, WidePass, is_third_party, has_third_party, widened_caveat, widened, narrowed_caveat, narrowed}
-use Rattle.pass_forms.specs.Reading.{max_text_len, max_caveats, IsReading, judged_if_any, reading_of}
+use Rattle.pass_forms.specs.Reading.{max_text_len, max_caveats, IsReading, UnlessMemory, judged_if_any, reading_of}
 
 -- ---- a wide pass with no third party's caveat is a pass
 
@@ -103,3 +103,12 @@ reading_determined len Spelled computed answer exact h =
           rw (lt-ltb _ _ too_long) (sym long)
       | inr within ↦ rw (le-ltb _ _ within) (judged_determined len Spelled computed answer exact within h)
     ]
+
+-- What holds of the computed answer holds of the reader's.
+pub unless_memory : (Holds : Result Plain FormFault → Type 0) (reading answer : Result Plain FormFault) → Holds reading → UnlessMemory (λ a. reading ≡ a) answer → UnlessMemory Holds answer
+unless_memory Holds reading (Ok pass) h e = subst Holds e h
+unless_memory Holds reading (Err TooLong) h e = subst Holds e h
+unless_memory Holds reading (Err Malformed) h e = subst Holds e h
+unless_memory Holds reading (Err ThirdParty) h e = subst Holds e h
+unless_memory Holds reading (Err TooMany) h e = subst Holds e h
+unless_memory Holds reading (Err Memory) h e = tt

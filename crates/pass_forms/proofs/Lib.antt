@@ -1,3 +1,4 @@
+pub mod Varints
 pub mod Base64Bytes
 pub mod Base64Symbols
 pub mod Base64Spelling
@@ -8,8 +9,11 @@ pub mod CaveatTexts
 pub mod Digits
 pub mod Packets
 pub mod CaveatPackets
+pub mod WholePass
 pub mod WholeV1
+pub mod Fields
+pub mod WholeV2
+pub mod V2Exact
 pub mod Judging
 pub mod V1Exact
 pub mod TextExact
-pub mod WholePass

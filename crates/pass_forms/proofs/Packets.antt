@@ -5,7 +5,8 @@ use Rattle.std.proofs.lemmas.Bool.{leb-true, le-leb}
 use Rattle.std.proofs.lemmas.List.{take_at, drop_at, take-append-drop, length-append, length-take, length-drop}
 use Rattle.std.proofs.lemmas.Slice.Eq.{bytes_eq-Decides}
 use Rattle.pass_forms.specs.V1.{four_digits, packet_len, packet, FitsPacket}
-use Rattle.pass_forms.specs.V1Reading.{◌>>=◌, len_at, after_prefix, before_suffix, packet_at}
+use Rattle.pass_forms.specs.Parts.{◌>>=◌, after_prefix, before_suffix}
+use Rattle.pass_forms.specs.V1Reading.{len_at, packet_at}
 use Rattle.pass_forms.proofs.Digits.{bind_some, some_is, len_takes, len_again}
 
 pub guard_some : {A : Type 0} (b : Bool) (x y : A) → cond b (Some x) None ≡ Some y → (b ≡ true) × (x ≡ y)
@@ -18,13 +19,13 @@ take_take (suc m) zero xs h = absurd (omega arith)
 take_take (suc m) (suc n) [] h = refl
 take_take (suc m) (suc n) (x ∷ xs) h = ap (λ (ys : List ℕ). x ∷ ys) (take_take m n xs (omega arith))
 
-after_prefix_takes : (prefix bytes rest : List ℕ) → after_prefix prefix bytes ≡ Some rest → bytes ≡ prefix ++ rest
+pub after_prefix_takes : (prefix bytes rest : List ℕ) → after_prefix prefix bytes ≡ Some rest → bytes ≡ prefix ++ rest
 after_prefix_takes prefix bytes rest e =
     let g = guard_some (pointwise nat_eq (take (length prefix) bytes) prefix) (drop (length prefix) bytes) rest e in
     let front : take (length prefix) bytes ≡ prefix = (bytes_eq-Decides (take (length prefix) bytes) prefix).0 g.0 in
     sym (take-append-drop (length prefix) bytes) ∙ ap (λ (x : List ℕ). x ++ drop (length prefix) bytes) front ∙ ap (λ (x : List ℕ). prefix ++ x) g.1
 
-after_prefix_again : (prefix rest : List ℕ) → after_prefix prefix (prefix ++ rest) ≡ Some rest
+pub after_prefix_again : (prefix rest : List ℕ) → after_prefix prefix (prefix ++ rest) ≡ Some rest
 after_prefix_again prefix rest =
     let same : pointwise nat_eq prefix prefix ≡ true = (bytes_eq-Decides prefix prefix).1 refl in
     rw (take_at prefix rest (length prefix) refl, same, drop_at prefix rest (length prefix) refl) refl

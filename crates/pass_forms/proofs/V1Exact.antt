@@ -23,12 +23,3 @@ reading_v1_is bytes = reading_is (length bytes) (SpellsV1 bytes) (wide_at bytes)
 pub reading_v1_determined : (bytes : List ℕ) (answer : Result Plain FormFault) → IsReading (length bytes) (SpellsV1 bytes) answer → reading_v1 bytes ≡ answer
 unfolding reading_v1
 reading_v1_determined bytes answer h = reading_determined (length bytes) (SpellsV1 bytes) (wide_at bytes) answer (computes_v1 bytes) h
-
--- What holds of the computed answer holds of the reader's.
-pub unless_memory : (Holds : Result Plain FormFault → Type 0) (reading answer : Result Plain FormFault) → Holds reading → UnlessMemory (λ a. reading ≡ a) answer → UnlessMemory Holds answer
-unless_memory Holds reading (Ok pass) h e = subst Holds e h
-unless_memory Holds reading (Err TooLong) h e = subst Holds e h
-unless_memory Holds reading (Err Malformed) h e = subst Holds e h
-unless_memory Holds reading (Err ThirdParty) h e = subst Holds e h
-unless_memory Holds reading (Err TooMany) h e = subst Holds e h
-unless_memory Holds reading (Err Memory) h e = tt

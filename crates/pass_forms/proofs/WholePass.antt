@@ -1,17 +1,41 @@
 -- From the parts that were found one after another to the whole pass.
-use Rattle.std.proofs.Common.{◌≡◌, ℕ, Bool, List, length, map, Some, option_map, refl, ap, ◌∙◌}
-use Rattle.pass_forms.specs.Pass.{WideCaveat, narrowed_caveat}
+use Rattle.std.proofs.Common.{◌≡◌, ℕ, Bool, List, length, map, Option, Some, option_map, refl, ap, ◌∙◌}
+use Rattle.pass_forms.specs.Caveats.{caveats_at, whole_at, Counts}
+use Rattle.pass_forms.specs.Parts.{◌>>=◌}
+use Rattle.pass_forms.specs.Pass.{WideCaveat, WidePass, narrowed_caveat}
 use Rattle.pass_forms.specs.Reading.{kept}
-use Rattle.pass_forms.specs.V1.{location_key, identifier_key}
-use Rattle.pass_forms.specs.V1Reading.{packet_at, caveat_at, signature_at, wide_at}
-use Rattle.pass_forms.specs.Caveats.{caveats_at, Counts}
-use Rattle.pass_forms.proofs.CaveatRuns.{as_many}
+use Rattle.pass_forms.proofs.Digits.{bind_some, some_is}
+use Rattle.pass_forms.proofs.CaveatRuns.{Reader, as_many}
 
 -- What a reader kept of the parts is what is kept of the pass.
-pub kept_whole : (bytes location rest identifier caveats signature after : List ℕ) (count : ℕ) (third_party : Bool) → Some (location, rest) ≡ packet_at location_key bytes → Some (identifier, caveats) ≡ packet_at identifier_key rest → Counts count third_party after (caveats_at caveat_at (length caveats) caveats) → Some signature ≡ signature_at after → Some (record { location = location; identifier = identifier; caveats = map narrowed_caveat (caveats_at caveat_at count caveats).0; signature = signature }, count, third_party) ≡ option_map kept (wide_at bytes)
-unfolding wide_at
-kept_whole bytes location rest identifier caveats signature after count third_party l i counts s =
+pub kept_whole : (header_at : List ℕ → Option (List ℕ × List ℕ × List ℕ)) (caveat_at : Reader) (footer_at : List ℕ → Option (List ℕ)) (bytes location identifier caveats signature after : List ℕ) (count : ℕ) (third_party : Bool) → Some (location, identifier, caveats) ≡ header_at bytes → Counts count third_party after (caveats_at caveat_at (length caveats) caveats) → Some signature ≡ footer_at after → Some (record { location = location; identifier = identifier; caveats = map narrowed_caveat (caveats_at caveat_at count caveats).0; signature = signature }, count, third_party) ≡ option_map kept (whole_at header_at caveat_at footer_at bytes)
+unfolding whole_at
+kept_whole header_at caveat_at footer_at bytes location identifier caveats signature after count third_party h counts s =
     let read = caveats_at caveat_at (length caveats) caveats in
-    let last : Some signature ≡ signature_at read.1 = s ∙ ap signature_at counts.after in
+    let last : Some signature ≡ footer_at read.1 = s ∙ ap footer_at counts.after in
     let same : (caveats_at caveat_at count caveats).0 ≡ read.0 = rw (counts.counted) (ap (λ (x : List WideCaveat × List ℕ). x.0) (as_many caveat_at (length caveats) caveats)) in
-    rw (← l, ← i, ← last, same, counts.counted, counts.any) refl
+    rw (← h, ← last, same, counts.counted, counts.any) refl
+
+-- the pass of a header, the caveats and a signature
+abbrev pub made : List ℕ × List ℕ × List ℕ → List WideCaveat → List ℕ → WidePass
+made header caveats signature = record { location = header.0; identifier = header.1; caveats = caveats; signature = signature }
+
+-- the parts of a whole pass
+pub record Parts (header_at : List ℕ → Option (List ℕ × List ℕ × List ℕ)) (caveat_at : Reader) (footer_at : List ℕ → Option (List ℕ)) (bytes : List ℕ) (wide : WidePass) : Type 0 where
+  pub header : List ℕ × List ℕ × List ℕ
+  pub signature : List ℕ
+  pub at_header : header_at bytes ≡ Some header
+  pub at_footer : footer_at (caveats_at caveat_at (length header.2) header.2).1 ≡ Some signature
+  pub whole : made header (caveats_at caveat_at (length header.2) header.2).0 signature ≡ wide
+
+pub whole_parts : (header_at : List ℕ → Option (List ℕ × List ℕ × List ℕ)) (caveat_at : Reader) (footer_at : List ℕ → Option (List ℕ)) (bytes : List ℕ) (wide : WidePass) → whole_at header_at caveat_at footer_at bytes ≡ Some wide → Parts header_at caveat_at footer_at bytes wide
+unfolding whole_at
+whole_parts header_at caveat_at footer_at bytes wide e =
+    let read = λ (h : List ℕ × List ℕ × List ℕ). caveats_at caveat_at (length h.2) h.2 in
+    let h = bind_some (header_at bytes) (λ h. footer_at (read h).1 >>= λ s. Some (made h (read h).0 s)) wide e in
+    let s = bind_some (footer_at (read h.0).1) (λ s. Some (made h.0 (read h.0).0 s)) wide h.2 in
+    record { header = h.0; signature = s.0; at_header = h.1; at_footer = s.1; whole = some_is (made h.0 (read h.0).0 s.0) wide s.2 }
+
+pub whole_again : (header_at : List ℕ → Option (List ℕ × List ℕ × List ℕ)) (caveat_at : Reader) (footer_at : List ℕ → Option (List ℕ)) (bytes : List ℕ) (header : List ℕ × List ℕ × List ℕ) (caveats : List WideCaveat) (rest signature : List ℕ) → header_at bytes ≡ Some header → caveats_at caveat_at (length header.2) header.2 ≡ (caveats, rest) → footer_at rest ≡ Some signature → whole_at header_at caveat_at footer_at bytes ≡ Some (made header caveats signature)
+unfolding whole_at
+whole_again header_at caveat_at footer_at bytes header caveats rest signature h c s = rw (h, c, s) refl

@@ -5,14 +5,16 @@ use Rattle.std.proofs.lemmas.Bool.{eqb-true}
 use Rattle.std.proofs.lemmas.List.{append-nil, nil_from_length, length-append}
 use Rattle.pass_forms.specs.Pass.{WidePass}
 use Rattle.pass_forms.specs.V1.{packet, location_key, identifier_key, caveat_key, verifier_id_key, caveat_location_key, signature_key, caveat_packets, packets_of, FitsPacket, FitsCaveat, Fits, SpellsV1}
-use Rattle.pass_forms.specs.V1Reading.{◌>>=◌, packet_at, caveat_at, signature_at, wide_at}
+use Rattle.pass_forms.specs.Parts.{◌>>=◌}
+use Rattle.pass_forms.specs.V1Reading.{packet_at, header_at, caveat_at, signature_at, wide_at}
 use Rattle.pass_forms.specs.Caveats.{caveats_at}
+use Rattle.pass_forms.proofs.WholePass.{made, whole_parts, whole_again}
 use Rattle.pass_forms.proofs.Digits.{bind_some, some_is}
 use Rattle.pass_forms.proofs.Packets.{packet_takes, packet_again, packet_other, guard_some}
 use Rattle.pass_forms.proofs.CaveatPackets.{EndsCaveat, exact_caveats, caveat_has_bytes}
 use Rattle.pass_forms.proofs.CaveatTexts.{caveats_take, caveats_again, caveats_fit}
 
-both_true : (a b : Bool) → (a && b) ≡ true → (a ≡ true) × (b ≡ true)
+pub both_true : (a b : Bool) → (a && b) ≡ true → (a ≡ true) × (b ≡ true)
 both_true true b e = (refl, e)
 both_true false b e = absurd cc
 
@@ -53,34 +55,42 @@ signature_is_no_caveat signature len =
     ap (packet_at caveat_key) (sym (append-nil (packet signature_key signature))) ∙ packet_other caveat_key signature_key signature [] (signature_fits signature len) refl in
     rw none refl
 
-pub wide_takes : (bytes : List ℕ) (wide : WidePass) → wide_at bytes ≡ Some wide → SpellsV1 bytes wide
-unfolding wide_at
-wide_takes bytes wide e =
-    let made = λ (l i : List ℕ × List ℕ) (s : List ℕ).
-    let w : WidePass = record { location = l.0; identifier = i.0; caveats = (caveats_at caveat_at (length i.1) i.1).0; signature = s } in w in
-    let l = bind_some (packet_at location_key bytes) (λ l. packet_at identifier_key l.1 >>= λ i. signature_at (caveats_at caveat_at (length i.1) i.1).1 >>= λ s. Some (made l i s)) wide e in
-    let i = bind_some (packet_at identifier_key l.0.1) (λ i. signature_at (caveats_at caveat_at (length i.1) i.1).1 >>= λ s. Some (made l.0 i s)) wide l.2 in
-    let read = caveats_at caveat_at (length i.0.1) i.0.1 in
-    let s = bind_some (signature_at read.1) (λ s. Some (made l.0 i.0 s)) wide i.2 in
+header_takes : (bytes : List ℕ) (header : List ℕ × List ℕ × List ℕ) → header_at bytes ≡ Some header → (bytes ≡ packet location_key header.0 ++ (packet identifier_key header.1 ++ header.2)) × FitsPacket location_key header.0 × FitsPacket identifier_key header.1
+unfolding header_at
+header_takes bytes header e =
+    let l = bind_some (packet_at location_key bytes) (λ l. packet_at identifier_key l.1 >>= λ i. Some (l.0, i.0, i.1)) header e in
+    let i = bind_some (packet_at identifier_key l.0.1) (λ i. Some (l.0.0, i.0, i.1)) header l.2 in
     let tl = packet_takes location_key bytes l.0.0 l.0.1 l.1 in
     let ti = packet_takes identifier_key l.0.1 i.0.0 i.0.1 i.1 in
-    let tc = caveats_take caveat_at caveat_packets FitsCaveat EndsCaveat exact_caveats (length i.0.1) i.0.1 in
-    let ts = signature_takes read.1 s.0 s.1 in
-    let parts : bytes ≡ packets_of (made l.0 i.0 s.0) =
-    tl.0 ∙ ap (λ (x : List ℕ). packet location_key l.0.0 ++ x) (ti.0 ∙ ap (λ (x : List ℕ). packet identifier_key i.0.0 ++ x)
-    (tc.0 ∙ ap (λ (x : List ℕ). flat_map caveat_packets read.0 ++ x) ts.0)) in
-    let fits : Fits (made l.0 i.0 s.0) = record { location = tl.1; identifier = ti.1; caveats = tc.1; signature = ts.1 } in
-    let spelled : SpellsV1 bytes (made l.0 i.0 s.0) = record { packets = parts; fits = fits } in
-    subst (λ (w : WidePass). SpellsV1 bytes w) (some_is (made l.0 i.0 s.0) wide s.2) spelled
+    let found : List ℕ × List ℕ × List ℕ = (l.0.0, i.0.0, i.0.1) in
+    subst (λ (h : List ℕ × List ℕ × List ℕ). (bytes ≡ packet location_key h.0 ++ (packet identifier_key h.1 ++ h.2)) × FitsPacket location_key h.0 × FitsPacket identifier_key h.1)
+    (some_is found header i.2) (tl.0 ∙ ap (λ (x : List ℕ). packet location_key l.0.0 ++ x) ti.0, tl.1, ti.1)
+
+header_again : (location identifier rest : List ℕ) → FitsPacket location_key location → FitsPacket identifier_key identifier → header_at (packet location_key location ++ (packet identifier_key identifier ++ rest)) ≡ Some (location, identifier, rest)
+unfolding header_at
+header_again location identifier rest fl fi =
+    rw (packet_again location_key location (packet identifier_key identifier ++ rest) fl, packet_again identifier_key identifier rest fi) refl
+
+pub wide_takes : (bytes : List ℕ) (wide : WidePass) → wide_at bytes ≡ Some wide → SpellsV1 bytes wide
+wide_takes bytes wide e =
+    let p = whole_parts header_at caveat_at signature_at bytes wide e in
+    let read = caveats_at caveat_at (length p.header.2) p.header.2 in
+    let h = header_takes bytes p.header p.at_header in
+    let c = caveats_take caveat_at caveat_packets FitsCaveat EndsCaveat exact_caveats (length p.header.2) p.header.2 in
+    let s = signature_takes read.1 p.signature p.at_footer in
+    let parts : bytes ≡ packets_of (made p.header read.0 p.signature) =
+    h.0 ∙ ap (λ (x : List ℕ). packet location_key p.header.0 ++ (packet identifier_key p.header.1 ++ x))
+    (c.0 ∙ ap (λ (x : List ℕ). flat_map caveat_packets read.0 ++ x) s.0) in
+    let fits : Fits (made p.header read.0 p.signature) = record { location = h.1; identifier = h.2; caveats = c.1; signature = s.1 } in
+    let spelled : SpellsV1 bytes (made p.header read.0 p.signature) = record { packets = parts; fits = fits } in
+    subst (λ (w : WidePass). SpellsV1 bytes w) p.whole spelled
 
 pub wide_again : (bytes : List ℕ) (wide : WidePass) → SpellsV1 bytes wide → wide_at bytes ≡ Some wide
-unfolding wide_at
 wide_again bytes wide spelled =
     let fits = spelled.fits in
     let last = packet signature_key wide.signature in
     let caveats = flat_map caveat_packets wide.caveats ++ last in
-    let l = packet_again location_key wide.location (packet identifier_key wide.identifier ++ caveats) fits.location in
-    let i = packet_again identifier_key wide.identifier caveats fits.identifier in
     let fuel : length wide.caveats ≤ length caveats = omega (arith, caveats_fit caveat_packets caveat_has_bytes wide.caveats, length-append (flat_map caveat_packets wide.caveats) last) in
+    let h = ap header_at spelled.packets ∙ header_again wide.location wide.identifier caveats fits.location fits.identifier in
     let c = caveats_again caveat_at caveat_packets FitsCaveat EndsCaveat exact_caveats (length caveats) wide.caveats last fuel fits.caveats (signature_ends wide.signature fits.signature) (signature_is_no_caveat wide.signature fits.signature) in
-    ap wide_at spelled.packets ∙ rw (l, i, c, signature_again wide.signature fits.signature) refl
+    whole_again header_at caveat_at signature_at bytes (wide.location, wide.identifier, caveats) wide.caveats last wide.signature h c (signature_again wide.signature fits.signature)

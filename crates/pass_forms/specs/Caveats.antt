@@ -3,7 +3,8 @@
 use Rattle.std.specs.Prelude.{◌≡◌, ℕ, Bool, zero, suc, List, [], ◌∷◌, length, map, Option, Some, None}
 use Rattle.std.specs.List.{list_any}
 use Rattle.pass_forms.specs.declared.layout.Fields.{Fields}
-use Rattle.pass_forms.specs.Pass.{Plain, WideCaveat, is_third_party, narrowed_caveat}
+use Rattle.pass_forms.specs.Parts.{◌>>=◌}
+use Rattle.pass_forms.specs.Pass.{Plain, WideCaveat, WidePass, is_third_party, narrowed_caveat}
 
 -- A caveat, if there is one, and then the others.
 abbrev pub and_others : (List ℕ → List WideCaveat × List ℕ) → List ℕ → Option (WideCaveat × List ℕ) → List WideCaveat × List ℕ
@@ -24,6 +25,19 @@ pub record Counts (count : ℕ) (third_party : Bool) (rest : List ℕ) (caveats 
   pub counted : count ≡ length caveats.0
   pub any : third_party ≡ list_any is_third_party caveats.0
   pub after : rest ≡ caveats.1
+
+-- A pass is a header (its location and its identifier), then its caveats, then what holds its signature. No caveat is
+-- without bytes, so there are no more caveats than bytes.
+unfoldable pub whole_at : (List ℕ → Option (List ℕ × List ℕ × List ℕ)) → (List ℕ → Option (WideCaveat × List ℕ)) → (List ℕ → Option (List ℕ)) → List ℕ → Option WidePass
+whole_at header_at caveat_at footer_at bytes = do
+  header ← header_at bytes
+  signature ← footer_at (caveats_at caveat_at (length header.2) header.2).1
+  Some (record {
+    location = header.0;
+    identifier = header.1;
+    caveats = (caveats_at caveat_at (length header.2) header.2).0;
+    signature = signature;
+  })
 
 -- the pass that a reader's fields stand for, whose caveats are still bytes
 abbrev pub plain_of : (List ℕ → Option (WideCaveat × List ℕ)) → Fields → Plain

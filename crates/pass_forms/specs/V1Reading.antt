@@ -1,16 +1,11 @@
 -- V1 read from the front: what each part of the bytes stands for, and the bytes after it.
 use Rattle.std.specs.Prelude.{◌≡◌, ◌↔◌, ℕ, ◌+◌, ◌-◌, ◌*◌, nat_le, nat_eq, ◌==◌, ◌&&◌, if◌then◌else◌, List, [], ◌∷◌, length, take, drop, Option, Some, None, Result}
-use Rattle.std.specs.Cmp.Lexicographic.{pointwise}
 use Rattle.pass_forms.specs.declared.fault.FormFault.{FormFault}
-use Rattle.pass_forms.specs.Caveats.{caveats_at}
+use Rattle.pass_forms.specs.Caveats.{whole_at}
+use Rattle.pass_forms.specs.Parts.{◌>>=◌, after_prefix, before_suffix, found_or_none}
 use Rattle.pass_forms.specs.Pass.{Plain, WideCaveat, WidePass}
 use Rattle.pass_forms.specs.Reading.{IsReading, reading_of}
 use Rattle.pass_forms.specs.V1.{SpellsV1, location_key, identifier_key, caveat_key, verifier_id_key, caveat_location_key, signature_key}
-
-infixl 10 ◌>>=◌
-abbrev pub ◌>>=◌ : {A B : Type 0} → Option A → (A → Option B) → Option B
-None >>= f = None
-(Some x) >>= f = f x
 
 abbrev pub digit_value : ℕ → Option ℕ
 digit_value byte =
@@ -27,14 +22,6 @@ len_at (a ∷ b ∷ c ∷ d ∷ rest) = do
   Some (x * 4096 + y * 256 + z * 16 + w)
 len_at _ = None
 
-abbrev pub after_prefix : List ℕ → List ℕ → Option (List ℕ)
-after_prefix prefix bytes =
-    if pointwise nat_eq (take (length prefix) bytes) prefix then Some (drop (length prefix) bytes) else None
-
-abbrev pub before_suffix : List ℕ → List ℕ → Option (List ℕ)
-before_suffix suffix bytes =
-    if pointwise nat_eq (drop (length bytes - length suffix) bytes) suffix then Some (take (length bytes - length suffix) bytes) else None
-
 -- the data of the packet of this key, and the bytes after it
 unfoldable pub packet_at : List ℕ → List ℕ → Option (List ℕ × List ℕ)
 packet_at key bytes = do
@@ -45,10 +32,6 @@ packet_at key bytes = do
   Some (text, drop len bytes)
 
 -- the same for a packet that may be left out
-abbrev pub found_or_none : List ℕ → Option (List ℕ × List ℕ) → Option (List ℕ) × List ℕ
-found_or_none bytes None = (None, bytes)
-found_or_none bytes (Some found) = (Some found.0, found.1)
-
 abbrev pub optional_at : List ℕ → List ℕ → Option (List ℕ) × List ℕ
 optional_at key bytes = found_or_none bytes (packet_at key bytes)
 
@@ -65,20 +48,18 @@ signature_at bytes = do
   signature ← packet_at signature_key bytes
   if length signature.0 == 32 && length signature.1 == 0 then Some signature.0 else None
 
--- the whole pass; no caveat is without bytes, so there are no more caveats than bytes
-unfoldable pub wide_at : List ℕ → Option WidePass
-wide_at bytes = do
+-- the location, the identifier, and the bytes after them
+unfoldable pub header_at : List ℕ → Option (List ℕ × List ℕ × List ℕ)
+header_at bytes = do
   location ← packet_at location_key bytes
   identifier ← packet_at identifier_key location.1
-  signature ← signature_at (caveats_at caveat_at (length identifier.1) identifier.1).1
-  Some (record {
-    location = location.0;
-    identifier = identifier.0;
-    caveats = (caveats_at caveat_at (length identifier.1) identifier.1).0;
-    signature = signature;
-  })
+  Some (location.0, identifier.0, identifier.1)
 
--- the reading of a text in V1
+-- the whole pass
+abbrev pub wide_at : List ℕ → Option WidePass
+wide_at bytes = whole_at header_at caveat_at signature_at bytes
+
+-- the reading of bytes in V1
 unfoldable pub reading_v1 : List ℕ → Result Plain FormFault
 reading_v1 bytes = reading_of (length bytes) (wide_at bytes)
 

@@ -4,6 +4,8 @@ ghost use Rattle.pass_forms.specs.Envelope.{FromBase64IsBase64, UnwrappedIsTheAn
 ghost use Rattle.pass_forms.specs.Text.{ReadsTextsExactly};
 ghost use Rattle.pass_forms.specs.V1.{OnePassEachV1};
 ghost use Rattle.pass_forms.specs.V1Reading.{ReadsV1Exactly};
+ghost use Rattle.pass_forms.specs.V2.{OnePassEachV2};
+ghost use Rattle.pass_forms.specs.V2Reading.{ReadsV2Exactly};
 
 /// A text wraps one form and one list of bytes at most, whichever alphabet and padding it is in.
 pub fn wraps_one()
@@ -33,6 +35,16 @@ pub fn one_pass_for_each_v1()
 /// The answer to bytes of V1 is determined, and is the one that is computed.
 pub fn reads_v1_exactly()
     ensures { ReadsV1Exactly }
+{}
+
+/// The bytes of V2 spell one pass at most.
+pub fn one_pass_for_each_v2()
+    ensures { OnePassEachV2 }
+{}
+
+/// The answer to bytes of V2 is determined, and is the one that is computed.
+pub fn reads_v2_exactly()
+    ensures { ReadsV2Exactly }
 {}
 
 /// The answer to a text is determined and is the one that is computed, whatever bytes spell in each form.

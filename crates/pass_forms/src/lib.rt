@@ -6,13 +6,14 @@ mod fault;
 mod form;
 pub mod laws;
 mod layout;
+mod parts;
 mod pass;
-#[cfg(test)]
-mod tests;
 mod v1;
+mod v2;
 
 pub use envelope::{MAX_BYTES, MAX_TEXT, Unwrapped, unwrap_text};
 pub use fault::FormFault;
 pub use form::Form;
 pub use pass::{MAX_CAVEATS, Pass};
 pub use v1::read_v1;
+pub use v2::read_v2;

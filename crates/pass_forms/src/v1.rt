@@ -3,7 +3,8 @@ ghost use Rattle.pass_forms.specs.Reading.{IsReading, UnlessMemory};
 ghost use Rattle.pass_forms.specs.V1.{SpellsV1};
 ghost use Rattle.pass_forms.specs.V1Reading as reading;
 
-use crate::layout::{self, Caveat, CaveatLayout, Fields, Layout};
+use crate::layout::{self, Caveat, Header, Layout};
+use crate::parts::{after_prefix, before_suffix};
 use crate::{FormFault, Pass};
 use std::alloc::Global;
 
@@ -43,18 +44,6 @@ fn packet_len(bytes: &[u8]) -> Option<usize>
     Some(a * 4096 + b * 256 + c * 16 + d)
 }
 
-fn after_prefix<'a>(prefix: &[u8], bytes: &'a [u8]) -> Option<&'a [u8]>
-    ensures { option_map (λ rest. rest.now) result ≡ reading.after_prefix prefix.now bytes.now }
-{
-    bytes.strip_prefix(prefix)
-}
-
-fn before_suffix<'a>(suffix: &[u8], bytes: &'a [u8]) -> Option<&'a [u8]>
-    ensures { option_map (λ rest. rest.now) result ≡ reading.before_suffix suffix.now bytes.now }
-{
-    bytes.strip_suffix(suffix)
-}
-
 // The data of the packet of this key at the front, and what follows it.
 #[tactic(auto, unfolding(crate::specs::V1Reading::packet_at))]
 fn first_packet<'a>(key: &[u8], bytes: &'a [u8]) -> Option<(&'a [u8], &'a [u8])>
@@ -83,25 +72,28 @@ fn optional_packet<'a>(key: &[u8], bytes: &'a [u8]) -> (bool, &'a [u8])
     }
 }
 
-// The signature's packet, which nothing follows.
-#[tactic(auto, unfolding(crate::specs::V1Reading::signature_at))]
-fn signature(bytes: &[u8]) -> Option<[u8; 32]>
-    ensures { result ≡ reading.signature_at bytes.now }
-{
-    let (signature, rest) = first_packet(SIGNATURE, bytes)?;
-    if !rest.is_empty() {
-        return None;
-    }
-    <[u8; 32]>::try_from(signature).ok()
-}
-
 // The layout of V1: packets, one after the other.
 struct Packets;
 
-impl CaveatLayout for Packets {
+impl Layout for Packets {
     ghost use Rattle.pass_forms.specs.V1Reading as reading;
 
+    ghost header_at = { reading.header_at };
+
     ghost caveat_at = { reading.caveat_at };
+
+    ghost footer_at = { reading.signature_at };
+
+    #[tactic(auto, unfolding(crate::specs::V1Reading::header_at))]
+    fn first_header(bytes: &[u8]) -> Option<Header<'_>> {
+        let (location, rest) = first_packet(LOCATION, bytes)?;
+        let (identifier, rest) = first_packet(IDENTIFIER, rest)?;
+        Some(Header {
+            location,
+            identifier,
+            rest,
+        })
+    }
 
     #[tactic(auto, unfolding(crate::specs::V1Reading::caveat_at))]
     fn first_caveat(bytes: &[u8]) -> Option<Caveat<'_>> {
@@ -114,27 +106,14 @@ impl CaveatLayout for Packets {
             rest,
         })
     }
-}
 
-impl Layout for Packets {
-    ghost use Rattle.pass_forms.specs.V1Reading as reading;
-
-    ghost wide_at = { reading.wide_at };
-
-    #[tactic(auto, unfolding(crate::specs::V1Reading::wide_at))]
-    fn fields(bytes: &[u8]) -> Option<Fields<'_>> {
-        let (location, rest) = first_packet(LOCATION, bytes)?;
-        let (identifier, caveats) = first_packet(IDENTIFIER, rest)?;
-        let skipped = layout::skip_caveats::<Packets>(caveats);
-        let signature = signature(skipped.rest)?;
-        Some(Fields {
-            location,
-            identifier,
-            caveats,
-            caveat_count: skipped.count,
-            third_party: skipped.third_party,
-            signature,
-        })
+    #[tactic(auto, unfolding(crate::specs::V1Reading::signature_at))]
+    fn footer(bytes: &[u8]) -> Option<[u8; 32]> {
+        let (signature, rest) = first_packet(SIGNATURE, bytes)?;
+        if !rest.is_empty() {
+            return None;
+        }
+        <[u8; 32]>::try_from(signature).ok()
     }
 }
 
@@ -153,3 +132,6 @@ pub fn read_v1(alloc: Global, bytes: &[u8]) -> Result<Pass, FormFault>
 {
     layout::read::<Packets>(alloc, bytes)
 }
+
+#[cfg(test)]
+mod tests;

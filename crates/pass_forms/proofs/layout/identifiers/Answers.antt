@@ -4,7 +4,7 @@ use Rattle.pass_forms.proofs.CaveatRuns.{none_named, no_fuel_named, one_named}
 use Rattle.pass_forms.proofs.layout.identifiers.Goals as goal
 
 pub returns-in_default : goal.returns-in_default
-returns-in_default g c = none_named g.L.CaveatLayout.caveat_at _ _ _ _ c.in_default.ensures c.loop.invariant
+returns-in_default g c = none_named g.L.Layout.caveat_at _ _ _ _ c.in_default.ensures c.loop.invariant
 
 pub loop-preserved : goal.loop-preserved
 loop-preserved g c =
@@ -12,7 +12,7 @@ loop-preserved g c =
     let found = c.in-Some.found in
     let copied : c.in_ok-from_slice.field-0.items ≡ found.identifier.now = c.in_ok-from_slice.ensures.items in
     rw (c.in_ok-push.ensures.items, map_push, copied)
-    (one_named g.L.CaveatLayout.caveat_at _ _ _ _ _ (found.identifier.now, found.third_party, found.rest.now) fuel c.in-Some.ensures c.loop.invariant)
+    (one_named g.L.Layout.caveat_at _ _ _ _ _ (found.identifier.now, found.third_party, found.rest.now) fuel c.in-Some.ensures c.loop.invariant)
 
 pub returns : goal.returns
-returns g c = no_fuel_named g.L.CaveatLayout.caveat_at _ _ _ _ (omega arith) c.loop.invariant
+returns g c = no_fuel_named g.L.Layout.caveat_at _ _ _ _ (omega arith) c.loop.invariant

@@ -6,5 +6,5 @@ use Rattle.pass_forms.proofs.layout.identifiers.Given as goal
 
 abbrev pub invariant-loop : goal.invariant-loop
 invariant-loop g l =
-    map (λ caveat. caveat.items) l.caveats.items ++ map narrowed_caveat (caveats_at g.L.CaveatLayout.caveat_at (l.count - l.counter) l.rest).0
-    ≡ map narrowed_caveat (caveats_at g.L.CaveatLayout.caveat_at l.count l.bytes).0
+    map (λ caveat. caveat.items) l.caveats.items ++ map narrowed_caveat (caveats_at g.L.Layout.caveat_at (l.count - l.counter) l.rest).0
+    ≡ map narrowed_caveat (caveats_at g.L.Layout.caveat_at l.count l.bytes).0

@@ -2,7 +2,8 @@ use Rattle.std.proofs.Common.{length}
 use Rattle.pass_forms.specs.Reading.{IsReading}
 use Rattle.pass_forms.specs.V1.{SpellsV1}
 use Rattle.pass_forms.specs.V1Reading.{reading_v1}
-use Rattle.pass_forms.proofs.V1Exact.{reading_v1_is, unless_memory}
+use Rattle.pass_forms.proofs.Judging.{unless_memory}
+use Rattle.pass_forms.proofs.V1Exact.{reading_v1_is}
 use Rattle.pass_forms.proofs.v1.read_v1.Goals as goal
 
 pub returns-clause-spelled : goal.returns-clause-spelled

@@ -1,4 +1,4 @@
-use super::*;
+use crate::{FormFault, read_v1};
 use std::alloc::{AllocError, Global};
 use std::test::Fail;
 

@@ -1,0 +1,175 @@
+-- A pass that is read from sections is the pass that they spell, and a pass that is spelled is read.
+use Rattle.std.proofs.Common.{◌≡◌, ℕ, ◌+◌, ◌<◌, ◌≤◌, Bool, true, false, cond, eqb, ◌&&◌, List, [], ◌∷◌, ◌++◌, length, Option, Some, None, refl, sym, ap, subst, ◌∙◌, append_assoc, arith}
+use Rattle.std.specs.Prelude.{unwrap_or}
+use Rattle.std.specs.List.{flat_map, AllByRecursion}
+use Rattle.std.proofs.lemmas.Bool.{eqb-true}
+use Rattle.std.proofs.lemmas.List.{append-nil, nil_from_length, length-append}
+use Rattle.pass_forms.specs.Caveats.{caveats_at}
+use Rattle.pass_forms.specs.Parts.{◌>>=◌, after_prefix}
+use Rattle.pass_forms.specs.Pass.{WideCaveat, WidePass}
+use Rattle.pass_forms.specs.V2.{field, optional_field, location_type, identifier_type, verifier_id_type, signature_type, end_of_section, caveat_section, sections, SpellsV2}
+use Rattle.pass_forms.specs.V2Reading.{field_at, optional_at, caveat_at, signature_at, header_at, footer_at, wide_at}
+use Rattle.pass_forms.proofs.CaveatTexts.{Exact, caveats_take, caveats_again, caveats_fit}
+use Rattle.pass_forms.proofs.Digits.{bind_some, some_is}
+use Rattle.pass_forms.proofs.Fields.{field_takes, field_again, optional_takes, optional_again}
+use Rattle.pass_forms.proofs.Packets.{guard_some, after_prefix_takes}
+use Rattle.pass_forms.proofs.WholePass.{made, whole_parts, whole_again}
+use Rattle.pass_forms.proofs.WholeV1.{both_true}
+
+-- ---- caveats
+
+section_assoc : (a b c rest : List ℕ) → (a ++ (b ++ (c ++ end_of_section))) ++ rest ≡ a ++ (b ++ (c ++ (end_of_section ++ rest)))
+section_assoc a b c rest =
+    append_assoc a (b ++ (c ++ end_of_section)) rest ∙ ap (λ (x : List ℕ). a ++ x) (append_assoc b (c ++ end_of_section) rest
+    ∙ ap (λ (x : List ℕ). b ++ x) (append_assoc c end_of_section rest))
+
+caveat_takes : (bytes : List ℕ) (found : WideCaveat × List ℕ) → caveat_at bytes ≡ Some found → (bytes ≡ caveat_section found.0 ++ found.1) × Unit {0}
+unfolding caveat_at
+caveat_takes bytes found e =
+    let l = optional_at location_type bytes in
+    let v = λ (i : List ℕ × List ℕ). optional_at verifier_id_type i.1 in
+    let caveat = λ (i : List ℕ × List ℕ). let c : WideCaveat = record { identifier = i.0; verifier_id = (v i).0; location = l.0 } in c in
+    let i = bind_some (field_at identifier_type l.1) (λ i. after_prefix end_of_section (v i).1 >>= λ rest. Some (caveat i, rest)) found e in
+    let r = bind_some (after_prefix end_of_section (v i.0).1) (λ rest. Some (caveat i.0, rest)) found i.2 in
+    let tl = optional_takes location_type bytes (field_at location_type bytes) refl in
+    let ti = field_takes identifier_type l.1 i.0.0 i.0.1 i.1 in
+    let tv = optional_takes verifier_id_type i.0.1 (field_at verifier_id_type i.0.1) refl in
+    let tr = after_prefix_takes end_of_section (v i.0).1 r.0 r.1 in
+    let lt = optional_field location_type l.0 in
+    let it = field identifier_type i.0.0 in
+    let vt = optional_field verifier_id_type (v i.0).0 in
+    let parts : bytes ≡ lt ++ (it ++ (vt ++ (end_of_section ++ r.0))) =
+    tl ∙ ap (λ (x : List ℕ). lt ++ x) (ti ∙ ap (λ (x : List ℕ). it ++ x) (tv ∙ ap (λ (x : List ℕ). vt ++ x) tr)) in
+    let grouped : caveat_section (caveat i.0) ++ r.0 ≡ lt ++ (it ++ (vt ++ (end_of_section ++ r.0))) = section_assoc lt it vt r.0 in
+    let same = some_is (caveat i.0, r.0) found r.2 in
+    (parts ∙ sym grouped ∙ ap (λ (x : WideCaveat × List ℕ). caveat_section x.0 ++ x.1) same, tt)
+
+no_optional : (type : ℕ) (bytes : List ℕ) → field_at type bytes ≡ None → optional_at type bytes ≡ (None, bytes)
+no_optional type bytes none = rw none refl
+
+-- A field of another type is no field of this one.
+not_location : (text rest : List ℕ) → field_at location_type (field identifier_type text ++ rest) ≡ None
+unfolding field_at
+not_location text rest = refl
+
+end_is_no_verifier_id : (rest : List ℕ) → field_at verifier_id_type (end_of_section ++ rest) ≡ None
+unfolding field_at
+end_is_no_verifier_id rest = refl
+
+caveat_again : (caveat : WideCaveat) (rest : List ℕ) → Unit {0} → Unit {0} → caveat_at (caveat_section caveat ++ rest) ≡ Some (caveat, rest)
+unfolding caveat_at
+caveat_again caveat rest fits ends =
+    let lt = optional_field location_type caveat.location in
+    let it = field identifier_type caveat.identifier in
+    let vt = optional_field verifier_id_type caveat.verifier_id in
+    let l = optional_again location_type caveat.location (it ++ (vt ++ (end_of_section ++ rest))) (not_location caveat.identifier (vt ++ (end_of_section ++ rest))) in
+    let i = field_again identifier_type caveat.identifier (vt ++ (end_of_section ++ rest)) in
+    let v = optional_again verifier_id_type caveat.verifier_id (end_of_section ++ rest) (end_is_no_verifier_id rest) in
+    ap caveat_at (section_assoc lt it vt rest) ∙ rw (l, i, v) refl
+
+exact_caveats : Exact caveat_at caveat_section (λ _. Unit {0}) (λ _. Unit {0})
+exact_caveats = record { takes = caveat_takes; again = caveat_again; next = λ _ _ _. tt }
+
+caveat_has_bytes : (caveat : WideCaveat) → 1 ≤ length (caveat_section caveat)
+caveat_has_bytes caveat =
+    let lt = optional_field location_type caveat.location in
+    let it = field identifier_type caveat.identifier in
+    let vt = optional_field verifier_id_type caveat.verifier_id in
+    omega (arith, length-append lt (it ++ (vt ++ end_of_section)), length-append it (vt ++ end_of_section), length-append vt end_of_section)
+
+-- ---- the signature
+
+signature_takes : (bytes signature : List ℕ) → signature_at bytes ≡ Some signature → (bytes ≡ field signature_type signature) × (length signature ≡ 32)
+unfolding signature_at
+signature_takes bytes signature e =
+    let s = bind_some (field_at signature_type bytes) (λ s. cond (eqb (length s.0) 32 && eqb (length s.1) 0) (Some s.0) None) signature e in
+    let t = field_takes signature_type bytes s.0.0 s.0.1 s.1 in
+    let g = guard_some (eqb (length s.0.0) 32 && eqb (length s.0.1) 0) s.0.0 signature s.2 in
+    let lens = both_true (eqb (length s.0.0) 32) (eqb (length s.0.1) 0) g.0 in
+    let nothing : s.0.1 ≡ [] = nil_from_length s.0.1 (eqb-true (length s.0.1) 0 lens.1) in
+    let parts : bytes ≡ field signature_type s.0.0 = t ∙ ap (λ (x : List ℕ). field signature_type s.0.0 ++ x) nothing ∙ append-nil (field signature_type s.0.0) in
+    subst (λ (x : List ℕ). (bytes ≡ field signature_type x) × (length x ≡ 32)) g.1 (parts, eqb-true (length s.0.0) 32 lens.0)
+
+signature_again : (signature : List ℕ) → length signature ≡ 32 → signature_at (field signature_type signature) ≡ Some signature
+unfolding signature_at
+signature_again signature len =
+    let read : field_at signature_type (field signature_type signature) ≡ Some (signature, []) =
+    ap (field_at signature_type) (sym (append-nil (field signature_type signature))) ∙ field_again signature_type signature [] in
+    rw (read, len) refl
+
+footer_takes : (bytes signature : List ℕ) → footer_at bytes ≡ Some signature → (bytes ≡ end_of_section ++ field signature_type signature) × (length signature ≡ 32)
+unfolding footer_at
+footer_takes bytes signature e =
+    let r = bind_some (after_prefix end_of_section bytes) signature_at signature e in
+    let s = signature_takes r.0 signature r.2 in
+    (after_prefix_takes end_of_section bytes r.0 r.1 ∙ ap (λ (x : List ℕ). end_of_section ++ x) s.0, s.1)
+
+footer_again : (signature : List ℕ) → length signature ≡ 32 → footer_at (end_of_section ++ field signature_type signature) ≡ Some signature
+unfolding footer_at
+footer_again signature len = signature_again signature len
+
+-- The end of the caveats is no caveat.
+end_is_no_caveat : (rest : List ℕ) → caveat_at (end_of_section ++ rest) ≡ None
+unfolding caveat_at field_at
+end_is_no_caveat rest = refl
+
+-- ---- the whole pass
+
+pub record Heads (bytes : List ℕ) (header : List ℕ × List ℕ × List ℕ) : Type 0 where
+  pub location : Option (List ℕ)
+  pub is_location : unwrap_or location [] ≡ header.0
+  pub parts : bytes ≡ 2 ∷ optional_field location_type location ++ (field identifier_type header.1 ++ (end_of_section ++ header.2))
+
+header_takes : (bytes : List ℕ) (header : List ℕ × List ℕ × List ℕ) → header_at bytes ≡ Some header → Heads bytes header
+unfolding header_at
+header_takes bytes header e =
+    let l = λ (first : List ℕ). optional_at location_type first in
+    let f = bind_some (after_prefix (2 ∷ []) bytes) (λ first. field_at identifier_type (l first).1 >>= λ i. after_prefix end_of_section i.1 >>= λ rest. Some (unwrap_or (l first).0 [], i.0, rest)) header e in
+    let i = bind_some (field_at identifier_type (l f.0).1) (λ i. after_prefix end_of_section i.1 >>= λ rest. Some (unwrap_or (l f.0).0 [], i.0, rest)) header f.2 in
+    let r = bind_some (after_prefix end_of_section i.0.1) (λ rest. Some (unwrap_or (l f.0).0 [], i.0.0, rest)) header i.2 in
+    let tf = after_prefix_takes (2 ∷ []) bytes f.0 f.1 in
+    let tl = optional_takes location_type f.0 (field_at location_type f.0) refl in
+    let ti = field_takes identifier_type (l f.0).1 i.0.0 i.0.1 i.1 in
+    let tr = after_prefix_takes end_of_section i.0.1 r.0 r.1 in
+    let lt = optional_field location_type (l f.0).0 in
+    let found : List ℕ × List ℕ × List ℕ = (unwrap_or (l f.0).0 [], i.0.0, r.0) in
+    let heads : Heads bytes found = record {
+      location = (l f.0).0;
+      is_location = refl;
+      parts = tf ∙ ap (λ (x : List ℕ). 2 ∷ x) (tl ∙ ap (λ (x : List ℕ). lt ++ x) (ti ∙ ap (λ (x : List ℕ). field identifier_type i.0.0 ++ x) tr));
+    } in
+    subst (λ (h : List ℕ × List ℕ × List ℕ). Heads bytes h) (some_is found header r.2) heads
+
+header_again : (location : Option (List ℕ)) (identifier rest : List ℕ) → header_at (2 ∷ optional_field location_type location ++ (field identifier_type identifier ++ (end_of_section ++ rest))) ≡ Some (unwrap_or location [], identifier, rest)
+unfolding header_at
+header_again location identifier rest =
+    let l = optional_again location_type location (field identifier_type identifier ++ (end_of_section ++ rest)) (not_location identifier (end_of_section ++ rest)) in
+    let i = field_again identifier_type identifier (end_of_section ++ rest) in
+    rw (l, i) refl
+
+pub wide_takes : (bytes : List ℕ) (wide : WidePass) → wide_at bytes ≡ Some wide → SpellsV2 bytes wide
+wide_takes bytes wide e =
+    let p = whole_parts header_at caveat_at footer_at bytes wide e in
+    let read = caveats_at caveat_at (length p.header.2) p.header.2 in
+    let h = header_takes bytes p.header p.at_header in
+    let c = caveats_take caveat_at caveat_section (λ _. Unit {0}) (λ _. Unit {0}) exact_caveats (length p.header.2) p.header.2 in
+    let s = footer_takes read.1 p.signature p.at_footer in
+    let parts : bytes ≡ sections h.location (made p.header read.0 p.signature) =
+    h.parts ∙ ap (λ (x : List ℕ). 2 ∷ optional_field location_type h.location ++ (field identifier_type p.header.1 ++ (end_of_section ++ x)))
+    (c.0 ∙ ap (λ (x : List ℕ). flat_map caveat_section read.0 ++ x) s.0) in
+    let spelled : SpellsV2 bytes (made p.header read.0 p.signature) = record { location = h.location; is_location = h.is_location; sections = parts; signature = s.1 } in
+    subst (λ (w : WidePass). SpellsV2 bytes w) p.whole spelled
+
+all_fit : (caveats : List WideCaveat) → AllByRecursion (λ _. Unit {0}) caveats
+all_fit [] = tt
+all_fit (caveat ∷ caveats) = (tt, all_fit caveats)
+
+pub wide_again : (bytes : List ℕ) (wide : WidePass) → SpellsV2 bytes wide → wide_at bytes ≡ Some wide
+wide_again bytes wide spelled =
+    let last = end_of_section ++ field signature_type wide.signature in
+    let caveats = flat_map caveat_section wide.caveats ++ last in
+    let fuel : length wide.caveats ≤ length caveats = omega (arith, caveats_fit caveat_section caveat_has_bytes wide.caveats, length-append (flat_map caveat_section wide.caveats) last) in
+    let h = ap header_at spelled.sections ∙ header_again spelled.location wide.identifier caveats in
+    let c = caveats_again caveat_at caveat_section (λ _. Unit {0}) (λ _. Unit {0}) exact_caveats (length caveats) wide.caveats last fuel (all_fit wide.caveats) tt (end_is_no_caveat (field signature_type wide.signature)) in
+    whole_again header_at caveat_at footer_at bytes (unwrap_or spelled.location [], wide.identifier, caveats) wide.caveats last wide.signature h c (footer_again wide.signature spelled.signature)
+    ∙ ap (λ (l : List ℕ). Some (made (l, wide.identifier, caveats) wide.caveats wide.signature)) spelled.is_location

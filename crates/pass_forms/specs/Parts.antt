@@ -1,0 +1,21 @@
+-- Reading from the front of bytes: a part, and the bytes after it.
+use Rattle.std.specs.Prelude.{ℕ, ◌-◌, nat_eq, if◌then◌else◌, List, length, take, drop, Option, Some, None}
+use Rattle.std.specs.Cmp.Lexicographic.{pointwise}
+
+infixl 10 ◌>>=◌
+abbrev pub ◌>>=◌ : {A B : Type 0} → Option A → (A → Option B) → Option B
+None >>= f = None
+(Some x) >>= f = f x
+
+abbrev pub after_prefix : List ℕ → List ℕ → Option (List ℕ)
+after_prefix prefix bytes =
+    if pointwise nat_eq (take (length prefix) bytes) prefix then Some (drop (length prefix) bytes) else None
+
+abbrev pub before_suffix : List ℕ → List ℕ → Option (List ℕ)
+before_suffix suffix bytes =
+    if pointwise nat_eq (drop (length bytes - length suffix) bytes) suffix then Some (take (length bytes - length suffix) bytes) else None
+
+-- a part that may be left out
+abbrev pub found_or_none : List ℕ → Option (List ℕ × List ℕ) → Option (List ℕ) × List ℕ
+found_or_none bytes None = (None, bytes)
+found_or_none bytes (Some found) = (Some found.0, found.1)

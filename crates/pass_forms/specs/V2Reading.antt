@@ -1,0 +1,78 @@
+-- V2 read from the front: what each part of the bytes stands for, and the bytes after it.
+use Rattle.std.specs.Prelude.{◌≡◌, ◌↔◌, ℕ, ◌+◌, ◌-◌, ◌*◌, nat_lt, nat_le, ◌==◌, ◌&&◌, if◌then◌else◌, List, [], ◌∷◌, length, take, drop, Option, Some, None, Result, unwrap_or}
+use Rattle.pass_forms.specs.declared.fault.FormFault.{FormFault}
+use Rattle.pass_forms.specs.Caveats.{whole_at}
+use Rattle.pass_forms.specs.Parts.{◌>>=◌, after_prefix, found_or_none}
+use Rattle.pass_forms.specs.Pass.{Plain, WideCaveat, WidePass}
+use Rattle.pass_forms.specs.Reading.{IsReading, reading_of}
+use Rattle.pass_forms.specs.V2.{SpellsV2, location_type, identifier_type, verifier_id_type, signature_type, end_of_section}
+
+-- the seven bits of a byte below the bits that follow, which aren't all zero
+abbrev pub above : ℕ → Option (ℕ × List ℕ) → Option (ℕ × List ℕ)
+above low None = None
+above low (Some high) = if high.0 == 0 then None else Some (low + 128 * high.0, high.1)
+
+unfoldable pub varint_at : List ℕ → Option (ℕ × List ℕ)
+varint_at [] = None
+varint_at (byte ∷ rest) =
+    if nat_lt byte 128 then Some (byte, rest)
+    else (if nat_lt byte 256 then above (byte - 128) (varint_at rest) else None)
+
+-- as many bytes as the number tells
+abbrev pub counted_at : ℕ × List ℕ → Option (List ℕ × List ℕ)
+counted_at len = if nat_le len.0 (length len.1) then Some (take len.0 len.1, drop len.0 len.1) else None
+
+unfoldable pub field_at : ℕ → List ℕ → Option (List ℕ × List ℕ)
+field_at type bytes = do
+  rest ← after_prefix (type ∷ []) bytes
+  len ← varint_at rest
+  counted_at len
+
+abbrev pub optional_at : ℕ → List ℕ → Option (List ℕ) × List ℕ
+optional_at type bytes = found_or_none bytes (field_at type bytes)
+
+unfoldable pub caveat_at : List ℕ → Option (WideCaveat × List ℕ)
+caveat_at bytes = do
+  identifier ← field_at identifier_type (optional_at location_type bytes).1
+  rest ← after_prefix end_of_section (optional_at verifier_id_type identifier.1).1
+  Some (
+    record {
+      identifier = identifier.0;
+      verifier_id = (optional_at verifier_id_type identifier.1).0;
+      location = (optional_at location_type bytes).0;
+    },
+    rest,
+  )
+
+-- the signature's field, 32 bytes with nothing after them
+unfoldable pub signature_at : List ℕ → Option (List ℕ)
+signature_at bytes = do
+  signature ← field_at signature_type bytes
+  if length signature.0 == 32 && length signature.1 == 0 then Some signature.0 else None
+
+-- the header: the location, the identifier, and the bytes after it
+unfoldable pub header_at : List ℕ → Option (List ℕ × List ℕ × List ℕ)
+header_at bytes = do
+  first ← after_prefix (2 ∷ []) bytes
+  identifier ← field_at identifier_type (optional_at location_type first).1
+  rest ← after_prefix end_of_section identifier.1
+  Some (unwrap_or (optional_at location_type first).0 [], identifier.0, rest)
+
+-- what follows the caveats: the end of their sections, and the signature
+unfoldable pub footer_at : List ℕ → Option (List ℕ)
+footer_at bytes = do
+  rest ← after_prefix end_of_section bytes
+  signature_at rest
+
+-- the whole pass
+abbrev pub wide_at : List ℕ → Option WidePass
+wide_at bytes = whole_at header_at caveat_at footer_at bytes
+
+-- the reading of bytes in V2
+unfoldable pub reading_v2 : List ℕ → Result Plain FormFault
+reading_v2 bytes = reading_of (length bytes) (wide_at bytes)
+
+-- It is the reading of what the bytes spell, and no other answer is.
+abbrev pub ReadsV2Exactly : Type 0
+ReadsV2Exactly = (bytes : List ℕ) (answer : Result Plain FormFault) →
+    IsReading (length bytes) (SpellsV2 bytes) answer ↔ (reading_v2 bytes ≡ answer)

@@ -1,0 +1,146 @@
+ghost use Rattle.std.specs.Prelude.{◌≡◌, ℕ, List, ◌<◌, ◌≤◌, Some, None, length, option_map, is_some, MatchOption};
+ghost use Rattle.pass_forms.specs.Reading.{IsReading, UnlessMemory};
+ghost use Rattle.pass_forms.specs.V2.{SpellsV2};
+ghost use Rattle.pass_forms.specs.V2Reading as reading;
+
+use crate::layout::{self, Caveat, Header, Layout};
+use crate::parts::after_prefix;
+use crate::{FormFault, Pass};
+use std::alloc::Global;
+
+const VERSION: &[u8] = &[2];
+
+const LOCATION: u8 = 1;
+
+const IDENTIFIER: u8 = 2;
+
+const VERIFIER_ID: u8 = 4;
+
+const SIGNATURE: u8 = 6;
+
+const END_OF_SECTION: &[u8] = &[0];
+
+// The number at the front, where it is at most so large. Each byte has seven bits of it, the lowest first.
+fn varint_up_to(most: usize, bytes: &[u8]) -> Option<(usize, &[u8])>
+    ensures { MatchOption result
+        ((n : ℕ) (rest : List ℕ) → reading.varint_at bytes.now ≡ Some (n, rest) → most < n)
+        (λ found. (reading.varint_at bytes.now ≡ Some (found.0, found.1.now)) × (found.0 ≤ most)) }
+{
+    let (first, rest) = bytes.split_first()?;
+    let low = usize::from(*first);
+    if low > most {
+        return None;
+    }
+    if low < 128 {
+        return Some((low, rest));
+    }
+    let (high, rest) = varint_up_to(most / 128, rest)?;
+    if high == 0 {
+        return None;
+    }
+    let number = high * 128;
+    if low - 128 > most - number {
+        return None;
+    }
+    Some((number + (low - 128), rest))
+}
+
+// The bytes of the field of this type at the front, and what follows it.
+#[tactic(auto, unfolding(crate::specs::V2Reading::field_at))]
+fn first_field<'a>(kind: u8, bytes: &'a [u8]) -> Option<(&'a [u8], &'a [u8])>
+    ensures { option_map (λ found. (found.0.now, found.1.now)) result ≡ reading.field_at kind bytes.now }
+{
+    let rest = after_prefix(&[kind], bytes)?;
+    let (len, rest) = varint_up_to(rest.len(), rest)?;
+    if len > rest.len() {
+        return None;
+    }
+    let (field, rest) = rest.split_at(len);
+    Some((field, rest))
+}
+
+// The same for a field that may be left out: nothing is taken off where there is none.
+fn optional_field<'a>(kind: u8, bytes: &'a [u8]) -> (Option<&'a [u8]>, &'a [u8])
+    ensures { (option_map (λ field. field.now) result.0, result.1.now) ≡ reading.optional_at kind bytes.now }
+{
+    match first_field(kind, bytes) {
+        Some((field, rest)) => (Some(field), rest),
+        None => (None, bytes),
+    }
+}
+
+// The signature's field, which nothing follows.
+#[tactic(auto, unfolding(crate::specs::V2Reading::signature_at))]
+fn signature(bytes: &[u8]) -> Option<[u8; 32]>
+    ensures { result ≡ reading.signature_at bytes.now }
+{
+    let (signature, rest) = first_field(SIGNATURE, bytes)?;
+    if !rest.is_empty() {
+        return None;
+    }
+    <[u8; 32]>::try_from(signature).ok()
+}
+
+// The layout of V2: sections of fields.
+struct Sections;
+
+impl Layout for Sections {
+    ghost use Rattle.pass_forms.specs.V2Reading as reading;
+
+    ghost header_at = { reading.header_at };
+
+    ghost caveat_at = { reading.caveat_at };
+
+    ghost footer_at = { reading.footer_at };
+
+    #[tactic(auto, unfolding(crate::specs::V2Reading::header_at))]
+    fn first_header(bytes: &[u8]) -> Option<Header<'_>> {
+        let rest = after_prefix(VERSION, bytes)?;
+        let (location, rest) = optional_field(LOCATION, rest);
+        let (identifier, rest) = first_field(IDENTIFIER, rest)?;
+        let rest = after_prefix(END_OF_SECTION, rest)?;
+        Some(Header {
+            location: location.unwrap_or(&[]),
+            identifier,
+            rest,
+        })
+    }
+
+    #[tactic(auto, unfolding(crate::specs::V2Reading::caveat_at))]
+    fn first_caveat(bytes: &[u8]) -> Option<Caveat<'_>> {
+        let (location, rest) = optional_field(LOCATION, bytes);
+        let (identifier, rest) = first_field(IDENTIFIER, rest)?;
+        let (verifier_id, rest) = optional_field(VERIFIER_ID, rest);
+        let rest = after_prefix(END_OF_SECTION, rest)?;
+        Some(Caveat {
+            identifier,
+            third_party: verifier_id.is_some() || location.is_some(),
+            rest,
+        })
+    }
+
+    #[tactic(auto, unfolding(crate::specs::V2Reading::footer_at))]
+    fn footer(bytes: &[u8]) -> Option<[u8; 32]> {
+        signature(after_prefix(END_OF_SECTION, bytes)?)
+    }
+}
+
+/// The pass that the bytes of V2 spell, all of the bytes. They are libmacaroons' binary form, without base64. Each
+/// number has its one shortest spelling (ours).
+///
+/// # Errors
+///
+/// The first that fits: `TooLong` for more than 8,192 bytes, `Malformed` where no pass is spelled, `ThirdParty` where a
+/// caveat is a third party's, `TooMany` for more than 64 caveats. `Memory` comes only where memory was refused.
+#[tactic(auto, unfolding(crate::specs::V2Reading::reading_v2))]
+pub fn read_v2(alloc: Global, bytes: &[u8]) -> Result<Pass, FormFault>
+    // By what the bytes spell.
+    ensures spelled { UnlessMemory (IsReading (length bytes.now) (SpellsV2 bytes.now)) result }
+    // The same, computed.
+    ensures computed { UnlessMemory (λ answer. reading.reading_v2 bytes.now ≡ answer) result }
+{
+    layout::read::<Sections>(alloc, bytes)
+}
+
+#[cfg(test)]
+mod tests;
