@@ -1,12 +1,11 @@
 -- A field that is read is the field that was written, and what was written is read, whatever follows.
-use Rattle.std.proofs.Common.{◌≡◌, ◌≢◌, ℕ, zero, suc, ◌+◌, ◌-◌, ◌*◌, ◌/◌, ◌%◌, ◌<◌, ◌≤◌, Bool, true, false, cond, ltb, leb, eqb, nat_eq, List, [], ◌∷◌, ◌++◌, length, take, drop, Option, Some, None, refl, sym, ap, subst, ◌∙◌, append_assoc, arith, inl, inr}
-use Rattle.std.specs.Prelude.{IfSome}
+use Rattle.std.proofs.Common.{◌≡◌, ◌≢◌, ℕ, zero, suc, ◌+◌, ◌-◌, ◌*◌, ◌/◌, ◌%◌, ◌<◌, ◌≤◌, true, false, leb, eqb, List, [], ◌∷◌, ◌++◌, length, take, drop, Option, Some, None, refl, sym, ap, subst, ◌∙◌, append_assoc, arith, inl, inr}
 use Rattle.std.proofs.lemmas.Bool.{cases_lt, leb-true, le-leb, lt-ltb, le-ltb}
 use Rattle.std.proofs.lemmas.Bool.Decides.{nat_tests}
 use Rattle.std.proofs.lemmas.List.{take_at, drop_at, take-append-drop, length-append, length-take}
 use Rattle.pass_forms.specs.Parts.{◌>>=◌, after_prefix, found_or_none}
 use Rattle.pass_forms.specs.V2.{groups, varint, field, optional_field}
-use Rattle.pass_forms.specs.V2Reading.{above, varint_at, counted_at, field_at, optional_at}
+use Rattle.pass_forms.specs.V2Reading.{varint_at, counted_at, field_at, optional_at}
 use Rattle.pass_forms.proofs.Digits.{bind_some, some_is}
 use Rattle.pass_forms.proofs.Packets.{guard_some, after_prefix_takes, after_prefix_again}
 use Rattle.pass_forms.proofs.Varints.{varint_last, varint_more, above_some}

@@ -1,9 +1,8 @@
 -- The reading of V2 is exact.
-use Rattle.std.proofs.Common.{◌≡◌, ℕ, List, length, Result, Ok, Err, sym, subst, ◌∙◌}
+use Rattle.std.proofs.Common.{◌≡◌, ℕ, List, length, Result, sym, ◌∙◌}
 use Rattle.pass_forms.specs.declared.fault.FormFault.{FormFault}
-use Rattle.pass_forms.specs.declared.fault.FormFault.TheVariants.{TooLong, Malformed, ThirdParty, TooMany, Memory}
 use Rattle.pass_forms.specs.Pass.{Plain, WidePass}
-use Rattle.pass_forms.specs.Reading.{IsReading, UnlessMemory}
+use Rattle.pass_forms.specs.Reading.{IsReading}
 use Rattle.pass_forms.specs.V2.{SpellsV2}
 use Rattle.pass_forms.specs.V2Reading.{wide_at, reading_v2}
 use Rattle.pass_forms.proofs.Digits.{some_is}

@@ -5,12 +5,9 @@ use std::test::Fail;
 const SIGNATURE: &[u8] =
     b"\x7c\xde\xe7\x92\x51\x1c\x5b\xc6\xf5\x28\x48\x58\x05\xdf\xe9\xb2\x4e\x78\x5e\x28\xe2\xa9\x93\x01\xf9\xd7\x11\xc6\x09\xe3\x8e\xf7";
 
-// Parts one after the other, and then the signature's field.
-fn signed(alloc: Global, parts: &[&[u8]]) -> Result<Vec<u8>, AllocError> {
-    let mut bytes = Vec::new(alloc);
-    for part in parts {
-        bytes.extend_from_slice(part)?;
-    }
+// A header and caveat sections, and then the signature's field.
+fn signed(alloc: Global, front: &[u8]) -> Result<Vec<u8>, AllocError> {
+    let mut bytes = Vec::from_slice(alloc, front)?;
     bytes.extend_from_slice(b"\x00\x06\x20")?;
     bytes.extend_from_slice(SIGNATURE)?;
     Ok(bytes)
@@ -18,7 +15,20 @@ fn signed(alloc: Global, parts: &[&[u8]]) -> Result<Vec<u8>, AllocError> {
 
 // A pass without a location, with these caveat sections.
 fn with_caveats(alloc: Global, caveats: &[u8]) -> Result<Vec<u8>, AllocError> {
-    signed(alloc, &[b"\x02\x02\x05keyid\x00", caveats])
+    let mut front = Vec::from_slice(alloc, b"\x02\x02\x05keyid\x00")?;
+    front.extend_from_slice(caveats)?;
+    signed(alloc, &front)
+}
+
+// A pass whose identifier has this length, spelled so.
+fn with_identifier(alloc: Global, spelled: &[u8], len: usize) -> Result<Vec<u8>, AllocError> {
+    let mut front = Vec::from_slice(alloc, b"\x02\x02")?;
+    front.extend_from_slice(spelled)?;
+    for _ in 0..len {
+        front.push(b'x')?;
+    }
+    front.push(0)?;
+    signed(alloc, &front)
 }
 
 fn is_fault(read: Result<Pass, FormFault>, fault: FormFault) -> bool {
@@ -28,7 +38,7 @@ fn is_fault(read: Result<Pass, FormFault>, fault: FormFault) -> bool {
 #[test]
 fn reads_the_known_pass(rt: HostRuntime) -> Result<(), Fail> {
     let header = b"\x02\x01\x13http://example.org/\x02\x05keyid\x00";
-    let mut bytes = signed(rt.alloc(), &[header])?;
+    let mut bytes = signed(rt.alloc(), header)?;
     assert_eq!(rt; bytes.len(), 65);
     let pass = read_v2(rt.alloc(), &bytes)?;
     assert_eq!(rt; pass.location(), b"http://example.org/".as_slice());
@@ -51,7 +61,7 @@ fn reads_the_known_pass(rt: HostRuntime) -> Result<(), Fail> {
 fn reads_an_empty_location(rt: HostRuntime) -> Result<(), Fail> {
     let pass = read_v2(
         rt.alloc(),
-        &signed(rt.alloc(), &[b"\x02\x01\x00\x02\x05keyid\x00"])?,
+        &signed(rt.alloc(), b"\x02\x01\x00\x02\x05keyid\x00")?,
     )?;
     assert!(rt; pass.location().is_empty());
     let pass = read_v2(rt.alloc(), &with_caveats(rt.alloc(), b"")?)?;
@@ -64,8 +74,7 @@ fn reads_an_empty_location(rt: HostRuntime) -> Result<(), Fail> {
 fn reads_lengths(rt: HostRuntime) -> Result<(), Fail> {
     let rows: [(&[u8], usize); 3] = [(b"\x7f", 127), (b"\x80\x01", 128), (b"\xc8\x01", 200)];
     for (spelled, len) in rows {
-        let identifier = vec![in rt.alloc(); b'x'; len]?;
-        let bytes = signed(rt.alloc(), &[b"\x02\x02", spelled, &identifier, b"\x00"])?;
+        let bytes = with_identifier(rt.alloc(), spelled, len)?;
         let pass = read_v2(rt.alloc(), &bytes)?;
         assert_eq!(rt; pass.identifier().len(), len);
     }
@@ -75,7 +84,7 @@ fn reads_lengths(rt: HostRuntime) -> Result<(), Fail> {
         b"\x02\x02\x06keyid",
     ];
     for header in malformed {
-        let bytes = signed(rt.alloc(), &[header])?;
+        let bytes = signed(rt.alloc(), header)?;
         assert!(rt;
             is_fault(read_v2(rt.alloc(), &bytes), FormFault::Malformed),
             "{header:?}"
