@@ -1,0 +1,120 @@
+-- The functions say what the definitions say.
+use Rattle.std.proofs.Common.{◌≡◌, ◌↔◌, ℕ, ◌+◌, Bool, true, false, cond, List, [], ◌∷◌, ◌++◌, length, map, ◌⊎◌, Option, Some, None, inl, inr, refl, sym, ap, subst, ◌∙◌, arith, add-zero}
+use Rattle.std.proofs.lemmas.List.Elements.{All-head, All-tail, All-push, All-nil, All-cons}
+use Rattle.std.proofs.lemmas.List.{append_assoc, append-nil}
+use Rattle.pass_caveats.specs.declared.caveat.Caveat.{Caveat}
+use Rattle.pass_caveats.specs.declared.ask.Ask.{Ask}
+use Rattle.pass_caveats.specs.declared.fault.CaveatFault.{CaveatFault}
+use Rattle.pass_caveats.specs.declared.fault.CaveatFault.TheVariants.{NotUnderstood, Denied}
+use Rattle.pass_caveats.specs.Reading.{Reads}
+use Rattle.pass_caveats.specs.Caveat.{Understood}
+use Rattle.pass_caveats.specs.CaveatOf.{candidate, spells, caveat_of, permits, first_fault_from, first_fault_of}
+use Rattle.pass_caveats.specs.Fault.{Allows, Allowed, IsUnknown, Denies, IsFirstFault}
+use Rattle.pass_caveats.proofs.CandidateLemmas.{candidate-caveat_text}
+use Rattle.pass_caveats.proofs.DecisionLemmas.{Decides-spells, Decides-permits}
+
+pub caveat_of-understood : (text : List ℕ) (caveat : Caveat) → Understood text caveat → caveat_of text ≡ Some caveat
+unfolding caveat_of
+caveat_of-understood text caveat h =
+    let e : candidate text ≡ caveat = ap candidate h.line.spelled ∙ candidate-caveat_text caveat h.line.real in
+    rw (e, (Decides-spells text caveat).1 h) refl
+
+chosen_is : (text : List ℕ) (found caveat : Caveat) (b : Bool) → (b ≡ true → Understood text found) → cond b (Some found) None ≡ Some caveat → Understood text caveat
+chosen_is text found caveat true h e =
+    let same : found ≡ caveat = cc in
+    let P : Caveat → Type 0 = λ c. Understood text c in
+    subst P same (h refl)
+chosen_is text found caveat false h e = absurd (cc)
+
+pub understood-caveat_of : (text : List ℕ) (caveat : Caveat) → caveat_of text ≡ Some caveat → Understood text caveat
+unfolding caveat_of
+understood-caveat_of text caveat e =
+    chosen_is text (candidate text) caveat (spells text (candidate text)) (Decides-spells text (candidate text)).0 e
+
+none_chosen : (found : Caveat) (b : Bool) → (b ≡ true → ⊥) → cond b (Some found) None ≡ None
+none_chosen found true h = absurd (h refl)
+none_chosen found false h = refl
+
+pub caveat_of-unknown : (text : List ℕ) → IsUnknown text → caveat_of text ≡ None
+unfolding caveat_of
+caveat_of-unknown text h =
+    none_chosen (candidate text) (spells text (candidate text)) (λ e. h (candidate text) ((Decides-spells text (candidate text)).0 e))
+
+-- a reader answers what the function does
+pub reads_caveat_of : (text : List ℕ) (r : Option Caveat) → Reads (Understood text) r → r ≡ caveat_of text
+reads_caveat_of text (Some caveat) h = sym (caveat_of-understood text caveat h)
+reads_caveat_of text None h = sym (caveat_of-unknown text h)
+
+not_true : (b : Bool) → (b ≡ true → ⊥) → b ≡ false
+not_true true h = absurd (h refl)
+not_true false h = refl
+
+-- caveats that allow the request are passed over
+passed : (n : ℕ) (front rest : List (List ℕ)) (ask : Ask) → Allowed front ask → first_fault_from n (map caveat_of (front ++ rest)) ask ≡ first_fault_from (n + length front) (map caveat_of rest) ask
+passed n [] rest ask h = rw add-zero refl
+passed n (text ∷ front) rest ask h =
+    let first = All-head (λ t. Allows t ask) text front h in
+    let next : n + 1 + length front ≡ n + length (text ∷ front) = omega arith in
+    rw (caveat_of-understood text first.0 first.1, (Decides-permits first.0 ask).1 first.2) (passed (n + 1) front rest ask (All-tail (λ t. Allows t ask) text front h) ∙ rw next refl)
+
+all_passed : (n : ℕ) (texts : List (List ℕ)) (ask : Ask) → Allowed texts ask → first_fault_from n (map caveat_of texts) ask ≡ None
+all_passed n [] ask h = refl
+all_passed n (text ∷ texts) ask h =
+    let first = All-head (λ t. Allows t ask) text texts h in
+    rw (caveat_of-understood text first.0 first.1, (Decides-permits first.0 ask).1 first.2) (all_passed (n + 1) texts ask (All-tail (λ t. Allows t ask) text texts h))
+
+-- the function finds the first fault
+pub first_fault-is : (texts : List (List ℕ)) (ask : Ask) (r : Option CaveatFault) → IsFirstFault texts ask r → r ≡ first_fault_of (map caveat_of texts) ask
+first_fault-is texts ask None h = sym (all_passed 1 texts ask h)
+first_fault-is texts ask (Some (NotUnderstood n)) h =
+    let number : 1 + length h.front ≡ n = omega (arith, h.number) in
+    sym (rw h.place (passed 1 h.front (h.text ∷ h.rest) ask h.before ∙ rw (caveat_of-unknown h.text h.fault, number) refl))
+first_fault-is texts ask (Some (Denied n)) h =
+    let number : 1 + length h.front ≡ n = omega (arith, h.number) in
+    let denied = not_true (permits h.fault.0 ask) (λ e. h.fault.2 ((Decides-permits h.fault.0 ask).0 e)) in
+    sym (rw h.place (passed 1 h.front (h.text ∷ h.rest) ask h.before ∙ rw (caveat_of-understood h.text h.fault.0 h.fault.1, denied, number) refl))
+
+verdict_on : (text : List ℕ) (ask : Ask) (caveat : Caveat) (b : Bool) → Understood text caveat → permits caveat ask ≡ b → Allows text ask ⊎ (IsUnknown text ⊎ Denies text ask)
+verdict_on text ask caveat true h e = inl (caveat, h, (Decides-permits caveat ask).0 e)
+verdict_on text ask caveat false h e =
+    inr (inr (caveat, h, λ permitted. let t = (Decides-permits caveat ask).1 permitted in cc))
+
+verdict_by : (text : List ℕ) (ask : Ask) (found : Option Caveat) → caveat_of text ≡ found → Allows text ask ⊎ (IsUnknown text ⊎ Denies text ask)
+verdict_by text ask None e = inr (inl (λ caveat h. let t = caveat_of-understood text caveat h in cc))
+verdict_by text ask (Some caveat) e = verdict_on text ask caveat _ (understood-caveat_of text caveat e) refl
+
+-- what a text says to a request
+verdict : (text : List ℕ) (ask : Ask) → Allows text ask ⊎ (IsUnknown text ⊎ Denies text ask)
+verdict text ask = verdict_by text ask (caveat_of text) refl
+
+-- there is a first fault, or none
+some_fault : (front texts : List (List ℕ)) (ask : Ask) → Allowed front ask → (r : Option CaveatFault) × IsFirstFault (front ++ texts) ask r
+some_fault front [] ask h = let P : List (List ℕ) → Type 0 = λ texts. Allowed texts ask in (None, subst P (sym (append-nil front)) h)
+some_fault front (text ∷ texts) ask h =
+    elim (verdict text ask) [
+      | inl allows ↦
+          let found = some_fault (front ++ text ∷ []) texts ask (All-push (λ t. Allows t ask) front text h allows) in
+          let P : List (List ℕ) → Type 0 = λ all. IsFirstFault all ask found.0 in
+          (found.0, subst P (append_assoc front (text ∷ []) texts) found.1)
+      | inr (inl unknown) ↦
+          (Some (NotUnderstood (length front + 1)), record { front = front; text = text; rest = texts; place = refl; number = refl; before = h; fault = unknown })
+      | inr (inr denies) ↦
+          (Some (Denied (length front + 1)), record { front = front; text = text; rest = texts; place = refl; number = refl; before = h; fault = denies })
+    ]
+
+-- and the function gives it
+pub first_fault_of-is_first : (texts : List (List ℕ)) (ask : Ask) → IsFirstFault texts ask (first_fault_of (map caveat_of texts) ask)
+first_fault_of-is_first texts ask =
+    let found = some_fault [] texts ask (All-nil (λ t. Allows t ask)) in
+    let P : Option CaveatFault → Type 0 = λ r. IsFirstFault texts ask r in
+    subst P (first_fault-is texts ask found.0 found.1) found.1
+
+pub none_where_allowed : (texts : List (List ℕ)) (ask : Ask) (fault : Option CaveatFault) → IsFirstFault texts ask fault → (fault ≡ None) ↔ Allowed texts ask
+none_where_allowed texts ask fault h =
+    let P : Option CaveatFault → Type 0 = λ r. IsFirstFault texts ask r in
+    ((λ e. subst P e h), (λ allowed. first_fault-is texts ask fault h ∙ all_passed 1 texts ask allowed))
+
+pub narrower : (texts more : List (List ℕ)) (ask : Ask) → Allowed (texts ++ more) ask → Allowed texts ask
+narrower [] more ask h = All-nil (λ t. Allows t ask)
+narrower (text ∷ texts) more ask h =
+    All-cons (λ t. Allows t ask) text texts (All-head (λ t. Allows t ask) text (texts ++ more) h) (narrower texts more ask (All-tail (λ t. Allows t ask) text (texts ++ more) h))

@@ -1,0 +1,104 @@
+-- The tests decide what they test.
+use Rattle.std.proofs.Common.{IsTrue, ◌↔◌, ◌≡◌, ◌≢◌, ℕ, ◌+◌, ◌<◌, ◌≤◌, Bool, true, nat_le, List, [], ◌∷◌, length, Option, Some, None, inl, inr, refl, ap, arith, Decides}
+use Rattle.std.specs.Prelude.{Contains, IsSomeAnd}
+use Rattle.std.specs.Int.{IsInRange, is_in_range}
+use Rattle.std.specs.List.{list_all, list_any}
+use Rattle.std.specs.Str.{bytes_eq}
+use Rattle.std.proofs.lemmas.Bool.Decides.{same_from_decides, Decides-like, Decides-and, Decides-or, Decides-not, Decides-ltb, Decides-eqb, Decides-by_and, Decides-by_or, leb_tells}
+use Rattle.std.proofs.lemmas.List.Elements.{at_from_Contains}
+use Rattle.std.proofs.lemmas.Slice.Eq.{bytes_eq-Decides}
+use Rattle.pass_caveats.specs.declared.caveat.Caveat.{Caveat}
+use Rattle.pass_caveats.specs.declared.caveat.Caveat.TheVariants.{Facility, Kind, Hours, Days, Until, Guests, Spend, Actions}
+use Rattle.pass_caveats.specs.declared.kind.Kind.{Kind as AKind}
+use Rattle.pass_caveats.specs.declared.kind.Kind.TheVariants.{Court, Boat, Room}
+use Rattle.pass_caveats.specs.declared.slot.Slot.{Slot}
+use Rattle.pass_caveats.specs.declared.ask.Ask.{Ask}
+use Rattle.pass_caveats.specs.Name.{is_name_byte, IsName}
+use Rattle.pass_caveats.specs.Names.{AreNames}
+use Rattle.pass_caveats.specs.Actions.{texts_of}
+use Rattle.pass_caveats.specs.Caveat.{IsCaveat, caveat_text, Understood, Permits}
+use Rattle.pass_caveats.specs.TextOf.{is_name}
+use Rattle.pass_caveats.specs.CaveatOf.{is_caveat, spells, in_slot, same_kind, is_kind, permits}
+
+Decides-leb : (a b : ℕ) → Decides (nat_le a b) (a ≤ b)
+Decides-leb a b = elim (leb_tells a b) [ inl t ↦ ((λ e. t.1), (λ h. t.0)) | inr t ↦ ((λ e. absurd (cc)), (λ h. absurd (omega arith))) ]
+
+pub Decides-range : (low high n : ℕ) → Decides (is_in_range low high n) (IsInRange low high n)
+Decides-range low high n = Decides-and _ _ (Decides-leb low n) (Decides-leb n high)
+
+pub Decides-is_name : (bytes : List ℕ) → Decides (is_name bytes) (IsName bytes)
+Decides-is_name bytes =
+    let all = Decides-by_and is_name_byte (λ byte. is_name_byte byte ≡ true) (list_all is_name_byte) (λ byte. ((λ e. e), (λ e. e))) refl (λ _ _. refl) bytes in
+    Decides-like _ (λ h. record { nonempty = h.0.0.0; short = h.0.0.1; letters = h.0.1; first = h.1 })
+    (λ h. (((h.nonempty, h.short), h.letters), h.first))
+    (Decides-and _ _ (Decides-and _ _ (Decides-and _ _ (Decides-ltb 0 (length bytes)) (Decides-leb (length bytes) 24)) all) (Decides-not _ (Decides-eqb _ 45)))
+
+Decides-are_names : (names : List (List ℕ)) → Decides (is_caveat (Facility names)) (AreNames names)
+Decides-are_names names =
+    let all = Decides-by_and is_name IsName (list_all is_name) Decides-is_name refl (λ _ _. refl) names in
+    Decides-like _ (λ h. record { some = h.0.0; few = h.0.1; named = h.1 }) (λ h. ((h.some, h.few), h.named))
+    (Decides-and _ _ (Decides-and _ _ (Decides-ltb 0 (length names)) (Decides-leb (length names) 8)) all)
+
+nonempty_from : {A : Type 0} (xs : List A) → 0 < length xs → xs ≢ []
+nonempty_from [] h e = absurd (omega arith)
+nonempty_from (x ∷ xs) h e = cc
+
+nonempty_to : {A : Type 0} (xs : List A) → xs ≢ [] → 0 < length xs
+nonempty_to [] h = absurd (h refl)
+nonempty_to (x ∷ xs) h = omega arith
+
+Decides-is_caveat : (caveat : Caveat) → Decides (is_caveat caveat) (IsCaveat caveat)
+Decides-is_caveat (Facility names) = Decides-are_names names
+Decides-is_caveat (Kind kind) = ((λ e. tt), (λ h. refl))
+Decides-is_caveat (Hours from until) = Decides-and _ _ (Decides-ltb from until) (Decides-leb until 24)
+Decides-is_caveat (Days first last) =
+    Decides-like _ (λ h. (h.0.0, h.0.1, h.1)) (λ h. ((h.0, h.1), h.2))
+    (Decides-and _ _ (Decides-and _ _ (Decides-range 10957 47481 first) (Decides-range 10957 47481 last)) (Decides-leb first last))
+Decides-is_caveat (Until moment) = Decides-range 15_778_080 68_374_079 moment
+Decides-is_caveat (Guests n) = Decides-leb n 49
+Decides-is_caveat (Spend n) = Decides-leb n 999_999_999
+Decides-is_caveat (Actions actions) =
+    Decides-like _ (nonempty_from (texts_of actions)) (nonempty_to (texts_of actions)) (Decides-ltb 0 (length (texts_of actions)))
+
+pub Decides-spells : (text : List ℕ) (caveat : Caveat) → Decides (spells text caveat) (Understood text caveat)
+Decides-spells text caveat =
+    Decides-like _ (λ h. record { line = record { real = h.0.0; spelled = h.0.1 }; short = h.1 }) (λ h. ((h.line.real, h.line.spelled), h.short))
+    (Decides-and _ _ (Decides-and _ _ (Decides-is_caveat caveat) (bytes_eq-Decides text (caveat_text caveat))) (Decides-leb (length text) 256))
+
+Decides-in_slot : (slot : Option Slot) (p : Slot → Bool) (P : Slot → Type 0) → ((s : Slot) → Decides (p s) (P s)) → Decides (in_slot slot p) (IsSomeAnd slot P)
+Decides-in_slot None p P h = ((λ e. cc), (λ h. absurd h))
+Decides-in_slot (Some slot) p P h = h slot
+
+Decides-same_kind : (a b : AKind) → Decides (same_kind a b) (a ≡ b)
+Decides-same_kind Court Court = ((λ e. refl), (λ h. refl))
+Decides-same_kind Court Boat = ((λ e. cc), (λ h. cc))
+Decides-same_kind Court Room = ((λ e. cc), (λ h. cc))
+Decides-same_kind Boat Court = ((λ e. cc), (λ h. cc))
+Decides-same_kind Boat Boat = ((λ e. refl), (λ h. refl))
+Decides-same_kind Boat Room = ((λ e. cc), (λ h. cc))
+Decides-same_kind Room Court = ((λ e. cc), (λ h. cc))
+Decides-same_kind Room Boat = ((λ e. cc), (λ h. cc))
+Decides-same_kind Room Room = ((λ e. refl), (λ h. refl))
+
+Decides-is_kind : (a : Option AKind) (kind : AKind) → Decides (is_kind a kind) (a ≡ Some kind)
+Decides-is_kind None kind = ((λ e. cc), (λ h. cc))
+Decides-is_kind (Some a) kind = Decides-like _ (λ e. ap Some e) (λ e. cc) (Decides-same_kind a kind)
+
+Decides-has : (names : List (List ℕ)) (name : List ℕ) → Decides (list_any (λ n. bytes_eq n name) names) (Contains names name)
+Decides-has names name =
+    Decides-like _ (λ h. (h.0, h.1, h.2 name)) (at_from_Contains names name)
+    (Decides-by_or (λ n. bytes_eq n name) (λ n. n ≡ name) (list_any (λ n. bytes_eq n name)) (λ n. bytes_eq-Decides n name) refl (λ _ _. refl) names)
+
+pub Decides-permits : (caveat : Caveat) (ask : Ask) → Decides (permits caveat ask) (Permits caveat ask)
+unfolding permits
+Decides-permits (Facility names) ask = Decides-in_slot ask.slot _ _ (λ slot. Decides-has names slot.facility)
+Decides-permits (Kind kind) ask = Decides-in_slot ask.slot _ _ (λ slot. Decides-is_kind ask.kind kind)
+Decides-permits (Hours from until) ask = Decides-in_slot ask.slot _ _ (λ slot. Decides-and _ _ (Decides-leb from slot.hour) (Decides-ltb slot.hour until))
+Decides-permits (Days first last) ask = Decides-in_slot ask.slot _ _ (λ slot. Decides-and _ _ (Decides-leb first slot.day) (Decides-leb slot.day last))
+Decides-permits (Until moment) ask = Decides-ltb ask.moment moment
+Decides-permits (Guests n) ask = Decides-leb ask.guests n
+Decides-permits (Spend n) ask = Decides-or _ _ (Decides-eqb ask.owed 0) (Decides-leb (ask.spent + ask.owed) n)
+Decides-permits (Actions actions) ask = ((λ e. e), (λ e. e))
+
+pub same_as_permits : (caveat : Caveat) (ask : Ask) (r : Bool) → IsTrue r ↔ Permits caveat ask → r ≡ permits caveat ask
+same_as_permits caveat ask r h = same_from_decides r (permits caveat ask) h (Decides-permits caveat ask)

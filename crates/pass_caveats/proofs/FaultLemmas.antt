@@ -1,0 +1,31 @@
+-- Lists of caveats.
+use Rattle.std.proofs.Common.{◌≡◌, ℕ, ◌+◌, ◌<◌, List, [], ◌∷◌, ◌++◌, length, get_or, take, drop, map, add-one, Vec, refl, sym, ap, ◌∙◌, arith}
+use Rattle.std.specs.Vec.{vec_items}
+use Rattle.std.proofs.lemmas.List.{take-append-drop, length-take-le, get_or-map}
+use Rattle.std.proofs.lemmas.List.Elements.{All-push}
+use Rattle.std.proofs.Math.Seq.{take-suc, drop-cons}
+use Rattle.pass_caveats.specs.declared.ask.Ask.{Ask}
+use Rattle.pass_caveats.specs.Fault.{Allows, Allowed, IsFirstAt}
+
+pub text_at : {Z : Type 0} (vs : List (Vec ℕ Z)) (i : ℕ) (v : Vec ℕ Z) (text : List ℕ) → i < length vs → v ≡ get_or vs i v → text ≡ vec_items v → get_or (map vec_items vs) i [] ≡ text
+text_at vs i v text h at e = get_or-map vec_items vs i v [] h ∙ (ap vec_items (sym at) ∙ sym e)
+
+split_here : (texts : List (List ℕ)) (i : ℕ) → i < length texts → texts ≡ take i texts ++ get_or texts i [] ∷ drop (i + 1) texts
+split_here texts i h =
+    sym (take-append-drop i texts) ∙ ap (λ (rest : List (List ℕ)). take i texts ++ rest) (drop-cons texts i [] h ∙ rw add-one refl)
+
+pub first_at : (texts : List (List ℕ)) (ask : Ask) (i : ℕ) (text : List ℕ) (Fault : List ℕ → Type 0) → i < length texts → get_or texts i [] ≡ text → Allowed (take i texts) ask → Fault text → IsFirstAt texts ask (i + 1) Fault
+first_at texts ask i text Fault h at before fault =
+    record {
+      front = take i texts;
+      text = text;
+      rest = drop (i + 1) texts;
+      place = rw at at (split_here texts i h);
+      number = ap (λ (n : ℕ). n + 1) (sym (length-take-le i texts (omega arith)));
+      before = before;
+      fault = fault;
+    }
+
+pub one_more : (texts : List (List ℕ)) (ask : Ask) (i : ℕ) (text : List ℕ) → i < length texts → get_or texts i [] ≡ text → Allowed (take i texts) ask → Allows text ask → Allowed (take (i + 1) texts) ask
+one_more texts ask i text h at before allows =
+    rw (add-one, take-suc texts i [] h, at) (All-push (λ t. Allows t ask) (take i texts) text before allows)

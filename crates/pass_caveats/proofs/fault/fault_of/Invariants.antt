@@ -1,0 +1,8 @@
+use Rattle.std.proofs.Common.{map, take}
+use Rattle.std.specs.Vec.{vec_items}
+use Rattle.pass_caveats.specs.Fault.{Allowed}
+use Rattle.pass_caveats.proofs.fault.fault_of.Given as goal
+
+-- all caveats so far allow the request
+abbrev pub invariant-loop-index : goal.invariant-loop-index
+invariant-loop-index l = Allowed (take l.index (map vec_items l.caveats)) l.ask

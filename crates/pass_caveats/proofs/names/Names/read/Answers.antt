@@ -1,0 +1,32 @@
+use Rattle.std.proofs.Common.{◌≡◌, true, sym, arith}
+use Rattle.pass_caveats.specs.Names.{AreNames}
+use Rattle.pass_caveats.specs.Parts.{parts_of}
+use Rattle.pass_caveats.proofs.PartLemmas.{joined-parts_of, some_part, names_are_parts}
+use Rattle.pass_caveats.proofs.names.Names.read.Goals as goal
+use Rattle.pass_caveats.proofs.names.Names.read.Goals.{else-are_all_names-via-then-are_all_names+else-count_of_parts-le-MAX_NAMES, else-are_all_names-via-else-are_all_names}
+
+pub invariant_of-result : goal.invariant_of-result
+invariant_of-result c =
+    record {
+      some = some_part c.args.text.now;
+      few = omega arith;
+      named = c.are_all_names.ensures.0 c.if-are_all_names.true;
+    }
+
+pub returns-then-count_of_parts-le-MAX_NAMES : goal.returns-then-count_of_parts-le-MAX_NAMES
+returns-then-count_of_parts-le-MAX_NAMES c = (
+  record {
+    some = some_part c.args.text.now;
+    few = omega arith;
+    named = c.are_all_names.ensures.0 c.if-are_all_names.true;
+  },
+  sym (joined-parts_of c.args.text.now),
+)
+
+pub returns-else-are_all_names : goal.returns-else-are_all_names
+returns-else-are_all_names c = λ names h.
+    let are : AreNames (parts_of c.args.text.now) = names_are_parts c.args.text.now names h in
+    elim c.else-are_all_names.branch [
+      | else-are_all_names-via-then-are_all_names+else-count_of_parts-le-MAX_NAMES w ↦ absurd (omega (arith, are.few))
+      | else-are_all_names-via-else-are_all_names w ↦ let t : c.are_all_names.result ≡ true = c.are_all_names.ensures.1 are.named in cc
+    ]

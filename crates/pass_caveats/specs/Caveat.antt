@@ -1,0 +1,56 @@
+-- The lines that a caveat may be, and the requests that each allows (ours).
+use Rattle.std.specs.Prelude.{◌≡◌, ◌≢◌, ◌⊎◌, ℕ, ◌+◌, ◌<◌, ◌≤◌, IsTrue, List, [], ◌∷◌, ◌++◌, length, Some, IsSomeAnd, Contains, codes, ⊤}
+use Rattle.std.specs.Fmt.{decimal}
+use Rattle.pass_caveats.specs.declared.caveat.Caveat.{Caveat}
+use Rattle.pass_caveats.specs.declared.caveat.Caveat.TheVariants.{Facility, Kind, Hours, Days, Until, Guests, Spend, Actions}
+use Rattle.pass_caveats.specs.declared.ask.Ask.{Ask}
+use Rattle.pass_caveats.specs.Digits.{two_digits}
+use Rattle.pass_caveats.specs.Day.{IsDay, day_text}
+use Rattle.pass_caveats.specs.Moment.{IsMoment, moment_text}
+use Rattle.pass_caveats.specs.Kind.{kind_text}
+use Rattle.pass_caveats.specs.Names.{AreNames}
+use Rattle.pass_caveats.specs.Parts.{joined}
+use Rattle.pass_caveats.specs.Actions.{has_action, texts_of}
+
+-- the values that a line may have
+abbrev pub IsCaveat : Caveat → Type 0
+IsCaveat (Facility names) = AreNames names
+IsCaveat (Kind kind) = ⊤
+IsCaveat (Hours from until) = (from < until) × (until ≤ 24)
+IsCaveat (Days first last) = IsDay first × IsDay last × (first ≤ last)
+IsCaveat (Until moment) = IsMoment moment
+IsCaveat (Guests n) = n ≤ 49
+IsCaveat (Spend n) = n ≤ 999_999_999
+IsCaveat (Actions actions) = texts_of actions ≢ []
+
+-- the line of these values
+abbrev pub caveat_text : Caveat → List ℕ
+caveat_text (Facility names) = codes "facility = " ++ joined names
+caveat_text (Kind kind) = codes "kind = " ++ kind_text kind
+caveat_text (Hours from until) = codes "hours = " ++ (two_digits from ++ 45 ∷ two_digits until)
+caveat_text (Days first last) = codes "days = " ++ (day_text first ++ (codes ".." ++ day_text last))
+caveat_text (Until moment) = codes "until < " ++ moment_text moment
+caveat_text (Guests n) = codes "guests <= " ++ decimal n
+caveat_text (Spend n) = codes "spend <= " ++ decimal n
+caveat_text (Actions actions) = codes "actions = " ++ joined (texts_of actions)
+
+-- the text is a line
+pub record Spells (text : List ℕ) (caveat : Caveat) : Type 0 where
+  pub real : IsCaveat caveat
+  pub spelled : text ≡ caveat_text caveat
+
+-- the text is a line of at most 256 bytes
+pub record Understood (text : List ℕ) (caveat : Caveat) : Type 0 where
+  pub line : Spells text caveat
+  pub short : length text ≤ 256
+
+-- the set of the requests that a caveat allows
+abbrev pub Permits : Caveat → Ask → Type 0
+Permits (Facility names) ask = IsSomeAnd ask.slot (λ slot. Contains names slot.facility)
+Permits (Kind kind) ask = IsSomeAnd ask.slot (λ _. ask.kind ≡ Some kind)
+Permits (Hours from until) ask = IsSomeAnd ask.slot (λ slot. (from ≤ slot.hour) × (slot.hour < until))
+Permits (Days first last) ask = IsSomeAnd ask.slot (λ slot. (first ≤ slot.day) × (slot.day ≤ last))
+Permits (Until moment) ask = ask.moment < moment
+Permits (Guests n) ask = ask.guests ≤ n
+Permits (Spend n) ask = (ask.owed ≡ 0) ⊎ (ask.spent + ask.owed ≤ n)
+Permits (Actions actions) ask = IsTrue (has_action actions ask.action)

@@ -1,0 +1,94 @@
+-- The caveat that a text is, and whether it permits a request, as functions for whoever computes with them. What they mean is
+-- said by `Understood` and `Permits`; laws say that they agree.
+use Rattle.std.specs.Prelude.{ℕ, ◌+◌, ◌==◌, ◌&&◌, ◌||◌, Bool, true, false, List, [], ◌∷◌, length, drop, slice_index, nat_lt, nat_le, if◌then◌else◌, Option, Some, None, codes}
+use Rattle.std.specs.List.{list_all, list_any}
+use Rattle.std.specs.Str.{bytes_eq}
+use Rattle.std.specs.Str.Parse.{digits_value}
+use Rattle.pass_caveats.specs.declared.caveat.Caveat.{Caveat}
+use Rattle.pass_caveats.specs.declared.caveat.Caveat.TheVariants.{Facility, Kind, Hours, Days, Until, Guests, Spend, Actions}
+use Rattle.pass_caveats.specs.declared.kind.Kind.{Kind as AKind}
+use Rattle.pass_caveats.specs.declared.kind.Kind.TheVariants.{Court, Boat, Room}
+use Rattle.pass_caveats.specs.declared.actions.Actions.{Actions as SomeActions}
+use Rattle.std.specs.Int.{is_in_range}
+use Rattle.pass_caveats.specs.declared.slot.Slot.{Slot}
+use Rattle.pass_caveats.specs.declared.ask.Ask.{Ask}
+use Rattle.pass_caveats.specs.declared.fault.CaveatFault.{CaveatFault}
+use Rattle.pass_caveats.specs.declared.fault.CaveatFault.TheVariants.{NotUnderstood, Denied}
+use Rattle.pass_caveats.specs.TextOf.{two_at, day_of, moment_of, kind_of, is_name}
+use Rattle.pass_caveats.specs.Parts.{parts_of}
+use Rattle.pass_caveats.specs.Actions.{has_action, texts_of}
+use Rattle.pass_caveats.specs.Caveat.{caveat_text}
+
+abbrev pub actions_of : List (List ℕ) → SomeActions
+actions_of parts =
+    record {
+      view = list_any (λ part. bytes_eq part (codes "view")) parts;
+      book = list_any (λ part. bytes_eq part (codes "book")) parts;
+      cancel = list_any (λ part. bytes_eq part (codes "cancel")) parts;
+      account = list_any (λ part. bytes_eq part (codes "account")) parts;
+    }
+
+-- the one caveat that a text can be: its first letter tells which line
+unfoldable pub candidate : List ℕ → Caveat
+candidate text =
+    let first = slice_index text 0 in
+    if first == 102 then Facility (parts_of (drop 11 text))
+    else (if first == 107 then Kind (kind_of (drop 7 text))
+    else (if first == 104 then Hours (two_at text 8) (two_at text 11)
+    else (if first == 100 then Days (day_of (drop 7 text)) (day_of (drop 19 text))
+    else (if first == 117 then Until (moment_of (drop 8 text))
+    else (if first == 103 then Guests (digits_value 10 (drop 10 text))
+    else (if first == 115 then Spend (digits_value 10 (drop 9 text))
+    else Actions (actions_of (parts_of (drop 10 text)))))))))
+
+-- whether the values may stand in a line
+abbrev pub is_caveat : Caveat → Bool
+is_caveat (Facility names) = nat_lt 0 (length names) && nat_le (length names) 8 && list_all is_name names
+is_caveat (Kind kind) = true
+is_caveat (Hours from until) = nat_lt from until && nat_le until 24
+is_caveat (Days first last) = is_in_range 10957 47481 first && is_in_range 10957 47481 last && nat_le first last
+is_caveat (Until moment) = is_in_range 15_778_080 68_374_079 moment
+is_caveat (Guests n) = nat_le n 49
+is_caveat (Spend n) = nat_le n 999_999_999
+is_caveat (Actions actions) = nat_lt 0 (length (texts_of actions))
+
+abbrev pub spells : List ℕ → Caveat → Bool
+spells text caveat = is_caveat caveat && bytes_eq text (caveat_text caveat) && nat_le (length text) 256
+
+-- the caveat that is understood
+unfoldable pub caveat_of : List ℕ → Option Caveat
+caveat_of text = if spells text (candidate text) then Some (candidate text) else None
+
+abbrev pub in_slot : Option Slot → (Slot → Bool) → Bool
+in_slot None test = false
+in_slot (Some slot) test = test slot
+
+abbrev pub same_kind : AKind → AKind → Bool
+same_kind Court Court = true
+same_kind Boat Boat = true
+same_kind Room Room = true
+same_kind a b = false
+
+abbrev pub is_kind : Option AKind → AKind → Bool
+is_kind None kind = false
+is_kind (Some a) kind = same_kind a kind
+
+-- whether a caveat permits a request
+unfoldable pub permits : Caveat → Ask → Bool
+permits (Facility names) ask = in_slot ask.slot (λ slot. list_any (λ name. bytes_eq name slot.facility) names)
+permits (Kind kind) ask = in_slot ask.slot (λ _. is_kind ask.kind kind)
+permits (Hours from until) ask = in_slot ask.slot (λ slot. nat_le from slot.hour && nat_lt slot.hour until)
+permits (Days first last) ask = in_slot ask.slot (λ slot. nat_le first slot.day && nat_le slot.day last)
+permits (Until moment) ask = nat_lt ask.moment moment
+permits (Guests n) ask = nat_le ask.guests n
+permits (Spend n) ask = ask.owed == 0 || nat_le (ask.spent + ask.owed) n
+permits (Actions actions) ask = has_action actions ask.action
+
+-- the first fault of caveats that were read, of which the first has this number
+abbrev pub first_fault_from : ℕ → List (Option Caveat) → Ask → Option CaveatFault
+first_fault_from n [] ask = None
+first_fault_from n (None ∷ caveats) ask = Some (NotUnderstood n)
+first_fault_from n (Some caveat ∷ caveats) ask = if permits caveat ask then first_fault_from (n + 1) caveats ask else Some (Denied n)
+
+abbrev pub first_fault_of : List (Option Caveat) → Ask → Option CaveatFault
+first_fault_of caveats ask = first_fault_from 1 caveats ask

@@ -1,0 +1,51 @@
+-- Laws of the definitions.
+use Rattle.std.specs.Prelude.{◌≡◌, ◌↔◌, ℕ, IsTrue, List, ◌++◌, map, Option, Some, None}
+use Rattle.pass_caveats.specs.declared.caveat.Caveat.{Caveat}
+use Rattle.pass_caveats.specs.declared.ask.Ask.{Ask}
+use Rattle.pass_caveats.specs.declared.fault.CaveatFault.{CaveatFault}
+use Rattle.pass_caveats.specs.Day.{IsDay, SpellsDay, day_text}
+use Rattle.pass_caveats.specs.Moment.{IsMoment, SpellsMoment, moment_text}
+use Rattle.pass_caveats.specs.Caveat.{Understood, Permits}
+use Rattle.pass_caveats.specs.CaveatOf.{caveat_of, permits, first_fault_of}
+use Rattle.pass_caveats.specs.Fault.{Allowed, IsFirstFault}
+
+-- more caveats never open more
+abbrev pub Narrows : Type 0
+Narrows = (texts more : List (List ℕ)) (ask : Ask) → Allowed (texts ++ more) ask → Allowed texts ask
+
+-- the first fault is none exactly where the request is allowed
+abbrev pub FaultsOnlyWhereNotAllowed : Type 0
+FaultsOnlyWhereNotAllowed =
+    (texts : List (List ℕ)) (ask : Ask) (fault : Option CaveatFault) → IsFirstFault texts ask fault → (fault ≡ None) ↔ Allowed texts ask
+
+-- a list of caveats has one first fault or none, and this function finds it
+abbrev pub FindsTheFirstFault : Type 0
+FindsTheFirstFault =
+    (texts : List (List ℕ)) (ask : Ask) (fault : Option CaveatFault) → IsFirstFault texts ask fault ↔ (fault ≡ first_fault_of (map caveat_of texts) ask)
+
+-- this function reads what is understood
+abbrev pub ReadsWhatIsUnderstood : Type 0
+ReadsWhatIsUnderstood = (text : List ℕ) (caveat : Caveat) → Understood text caveat ↔ (caveat_of text ≡ Some caveat)
+
+-- this function tests the set
+abbrev pub TestsTheSet : Type 0
+TestsTheSet = (caveat : Caveat) (ask : Ask) → Permits caveat ask ↔ IsTrue (permits caveat ask)
+
+-- a text is understood as one caveat at most
+abbrev pub IsUnderstoodOnce : Type 0
+IsUnderstoodOnce = (text : List ℕ) (a b : Caveat) → Understood text a → Understood text b → a ≡ b
+
+-- a day's text spells the day, and no other text does
+abbrev pub IsTextOfDay : Type 0
+IsTextOfDay = (text : List ℕ) (n : ℕ) → SpellsDay text n ↔ (IsDay n × (text ≡ day_text n))
+
+-- the same of moments
+abbrev pub IsTextOfMoment : Type 0
+IsTextOfMoment = (text : List ℕ) (n : ℕ) → SpellsMoment text n ↔ (IsMoment n × (text ≡ moment_text n))
+
+-- no two days have one text, and no two moments
+abbrev pub TellsDays : Type 0
+TellsDays = (a b : ℕ) → IsDay a → IsDay b → day_text a ≡ day_text b → a ≡ b
+
+abbrev pub TellsMoments : Type 0
+TellsMoments = (a b : ℕ) → IsMoment a → IsMoment b → moment_text a ≡ moment_text b → a ≡ b

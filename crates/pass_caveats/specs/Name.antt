@@ -1,0 +1,15 @@
+-- The names of members, keys and facilities.
+use Rattle.std.specs.Prelude.{◌≢◌, ◌==◌, ◌||◌, ℕ, ◌<◌, ◌≤◌, Bool, List, length, slice_index}
+use Rattle.std.specs.Int.{is_in_range}
+use Rattle.std.specs.List.{AllPass}
+
+-- a to z, 0 to 9, or a hyphen
+abbrev pub is_name_byte : ℕ → Bool
+is_name_byte byte = is_in_range 97 122 byte || is_in_range 48 57 byte || byte == 45
+
+-- 1 to 24 such bytes, the first no hyphen (ours)
+pub record IsName (bytes : List ℕ) : Type 0 where
+  pub nonempty : 0 < length bytes
+  pub short : length bytes ≤ 24
+  pub letters : AllPass is_name_byte bytes
+  pub first : slice_index bytes 0 ≢ 45

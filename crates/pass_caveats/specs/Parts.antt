@@ -1,0 +1,27 @@
+-- Lists with commas.
+use Rattle.std.specs.Prelude.{ℕ, ◌==◌, Bool, false, if◌then◌else◌, List, [], ◌∷◌, Option, Some, None}
+use Rattle.std.specs.List.{slice_split, join_with_byte}
+use Rattle.std.specs.Str.{bytes_eq}
+
+-- the parts of a text, between its commas
+abbrev pub parts_of : List ℕ → List (List ℕ)
+parts_of text = slice_split (λ byte. byte == 44) text
+
+-- the text of the parts, with a comma between each two
+abbrev pub joined : List (List ℕ) → List ℕ
+joined parts = join_with_byte 44 parts
+
+-- the parts of what is left of a text
+abbrev pub parts_left : Option (List ℕ) → List (List ℕ)
+parts_left None = []
+parts_left (Some text) = parts_of text
+
+-- whether the first part is the word
+abbrev pub is_next : List ℕ → List (List ℕ) → Bool
+is_next word [] = false
+is_next word (part ∷ parts) = bytes_eq part word
+
+-- the parts without the word at their front
+abbrev pub after_next : List ℕ → List (List ℕ) → List (List ℕ)
+after_next word [] = []
+after_next word (part ∷ parts) = if bytes_eq part word then parts else part ∷ parts

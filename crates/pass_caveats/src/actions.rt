@@ -1,0 +1,50 @@
+ghost use Rattle.std.specs.Prelude.{◌≡◌, ◌≢◌, []};
+ghost use Rattle.pass_caveats.specs.Reading.{Reads};
+ghost use Rattle.pass_caveats.specs.Parts.{joined};
+
+use crate::action::Action;
+use crate::parts::skip;
+
+/// A set of actions.
+#[derive(Clone, Copy, Debug, PartialEq, Eq)]
+pub struct Actions {
+    pub view: bool,
+    pub book: bool,
+    pub cancel: bool,
+    pub account: bool,
+}
+
+impl Actions {
+    ghost use Rattle.pass_caveats.specs.Actions.{has_action, texts_of};
+
+    /// The set of a list with commas: some of `view,book,cancel,account`, in this order; `None` for any other text.
+    pub fn read(text: &[u8]) -> Option<Actions>
+        ensures { Reads (λ actions. (texts_of actions ≢ []) × (text.now ≡ joined (texts_of actions))) result }
+    {
+        let (view, rest) = skip(Some(text), b"view");
+        let (book, rest) = skip(rest, b"book");
+        let (cancel, rest) = skip(rest, b"cancel");
+        let (account, rest) = skip(rest, b"account");
+        if rest.is_some() {
+            return None;
+        }
+        Some(Actions {
+            view,
+            book,
+            cancel,
+            account,
+        })
+    }
+
+    /// Whether an action is in the set.
+    pub fn contains(self, action: Action) -> bool
+        ensures { result ≡ has_action self action }
+    {
+        match action {
+            Action::View => self.view,
+            Action::Book => self.book,
+            Action::Cancel => self.cancel,
+            Action::Account => self.account,
+        }
+    }
+}

@@ -1,0 +1,119 @@
+ghost use Rattle.std.specs.Prelude.{◌≡◌, ◌⊎◌, ◌+◌, ◌≤◌, ◌↔◌, IsTrue};
+ghost use Rattle.pass_caveats.specs.Reading.{Reads};
+ghost use Rattle.pass_caveats.specs.Caveat.{Spells, Understood, Permits};
+ghost use Rattle.pass_caveats.specs.CaveatOf.{caveat_of, permits};
+
+use crate::actions::Actions;
+use crate::ask::Ask;
+use crate::day::Day;
+use crate::kind::Kind;
+use crate::lines::{
+    read_actions, read_days, read_facility, read_guests, read_hours, read_kind, read_spend,
+    read_until,
+};
+use crate::moment::Moment;
+use crate::names::Names;
+
+/// The most bytes of a caveat that is understood.
+pub const MAX_CAVEAT_LEN: usize = 256;
+
+/// A caveat that is understood. Each kind of line allows a set of requests.
+#[derive(Debug, Drop)]
+pub enum Caveat<'a> {
+    /// The slot's facility is one of the names.
+    Facility(Names<'a>),
+    /// The slot's facility is of this kind.
+    Kind(Kind),
+    /// The slot's hour is `from` or later, and before `until`, 1 to 24.
+    Hours { from: u8, until: u8 },
+    /// The slot's day lies from `first` to `last`, both included.
+    Days { first: Day, last: Day },
+    /// The moment of the request is before this one.
+    Until(Moment),
+    /// No more guests than this, 0 to 49.
+    Guests(u8),
+    /// Nothing is owed, or all that the key has spent comes to no more than this, 0 to 999,999,999 points.
+    Spend(u32),
+    /// The action is in the set.
+    Actions(Actions),
+}
+
+fn line_of(text: &[u8]) -> Option<Caveat<'_>>
+    ensures { Reads (Spells text.now) result }
+{
+    if let Some(names) = read_facility(text) {
+        return Some(Caveat::Facility(names));
+    }
+    if let Some(kind) = read_kind(text) {
+        return Some(Caveat::Kind(kind));
+    }
+    if let Some((from, until)) = read_hours(text) {
+        return Some(Caveat::Hours { from, until });
+    }
+    if let Some((first, last)) = read_days(text) {
+        return Some(Caveat::Days { first, last });
+    }
+    if let Some(moment) = read_until(text) {
+        return Some(Caveat::Until(moment));
+    }
+    if let Some(guests) = read_guests(text) {
+        return Some(Caveat::Guests(guests));
+    }
+    if let Some(points) = read_spend(text) {
+        return Some(Caveat::Spend(points));
+    }
+    let actions = read_actions(text)?;
+    Some(Caveat::Actions(actions))
+}
+
+fn short_line_of(text: &[u8]) -> Option<Caveat<'_>>
+    ensures { Reads (Understood text.now) result }
+{
+    if text.len() > MAX_CAVEAT_LEN {
+        return None;
+    }
+    line_of(text)
+}
+
+/// The caveat that a text is; `None` where the text is no line of the language, or longer than 256 bytes.
+pub fn read(bytes: &[u8]) -> Option<Caveat<'_>>
+    ensures understood { Reads (Understood bytes.now) result }
+    ensures function { result ≡ caveat_of bytes.now }
+{
+    short_line_of(bytes)
+}
+
+fn is_in_set(caveat: &Caveat, ask: &Ask) -> bool
+    ensures { IsTrue result ↔ Permits caveat.now ask.now }
+{
+    match caveat {
+        Caveat::Facility(names) => match &ask.slot {
+            Some(slot) => names.contains(&slot.facility),
+            None => false,
+        },
+        Caveat::Kind(kind) => ask.slot.is_some() && ask.kind == Some(*kind),
+        Caveat::Hours { from, until } => ask.slot.is_some_and(|slot| *from <= slot.hour.number()
+            && slot.hour.number() < *until),
+        Caveat::Days { first, last } => ask
+            .slot
+            .is_some_and(|slot| *first <= slot.day && slot.day <= *last),
+        Caveat::Until(moment) => ask.moment < *moment,
+        Caveat::Guests(guests) => ask.guests <= *guests,
+        Caveat::Spend(points) => is_within(ask, u64::from(*points)),
+        Caveat::Actions(actions) => actions.contains(ask.action),
+    }
+}
+
+fn is_within(ask: &Ask, points: u64) -> bool
+    ensures { IsTrue result ↔ ((ask.now.owed ≡ 0) ⊎ (ask.now.spent + ask.now.owed ≤ points)) }
+{
+    ask.owed == 0 || (ask.spent <= points && ask.owed <= points - ask.spent)
+}
+
+/// Whether a caveat allows a request: whether the request is in its set.
+pub fn allows(caveat: &Caveat, ask: &Ask) -> bool
+    ensures set { IsTrue result ↔ Permits caveat.now ask.now }
+    ensures function { result ≡ permits caveat.now ask.now }
+{
+    is_in_set(caveat, ask)
+}

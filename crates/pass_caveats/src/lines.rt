@@ -1,0 +1,92 @@
+//! A reader for each kind of line that a caveat may be.
+
+ghost use Rattle.pass_caveats.specs.Reading.{Reads};
+ghost use Rattle.pass_caveats.specs.Caveat.{Spells};
+ghost use Rattle.pass_caveats.specs.declared.caveat.Caveat.TheVariants as caveats;
+
+use crate::actions::Actions;
+use crate::day::Day;
+use crate::digits::read_two;
+use crate::kind::Kind;
+use crate::moment::Moment;
+use crate::names::Names;
+use crate::text::{after, number_of};
+
+/// The most guests that a caveat may name.
+const MAX_GUESTS: u32 = 49;
+
+/// The last hour at which a caveat's hours may end.
+const LAST_HOUR: u8 = 24;
+
+pub(crate) fn read_facility(text: &[u8]) -> Option<Names<'_>>
+    ensures { Reads (λ names. Spells text.now (caveats.Facility names)) result }
+{
+    Names::read(after(text, b"facility = ")?)
+}
+
+pub(crate) fn read_kind(text: &[u8]) -> Option<Kind>
+    ensures { Reads (λ kind. Spells text.now (caveats.Kind kind)) result }
+{
+    Kind::read(after(text, b"kind = ")?)
+}
+
+pub(crate) fn read_hours(text: &[u8]) -> Option<(u8, u8)>
+    ensures { Reads (λ hours. Spells text.now (caveats.Hours hours.0 hours.1)) result }
+{
+    let [a1, a2, b'-', b1, b2] = *after(text, b"hours = ")? else {
+        return None;
+    };
+    let from = read_two(a1, a2)?;
+    let until = read_two(b1, b2)?;
+    if from < until && until <= LAST_HOUR {
+        Some((from, until))
+    } else {
+        None
+    }
+}
+
+pub(crate) fn read_days(text: &[u8]) -> Option<(Day, Day)>
+    ensures { Reads (λ days. Spells text.now (caveats.Days days.0 days.1)) result }
+{
+    let rest = after(text, b"days = ")?;
+    if rest.len() < 10 {
+        return None;
+    }
+    let (first, rest) = rest.split_at(10);
+    let first = Day::read(first)?;
+    let last = Day::read(after(rest, b"..")?)?;
+    if first <= last {
+        Some((first, last))
+    } else {
+        None
+    }
+}
+
+pub(crate) fn read_until(text: &[u8]) -> Option<Moment>
+    ensures { Reads (λ moment. Spells text.now (caveats.Until moment)) result }
+{
+    Moment::read(after(text, b"until < ")?)
+}
+
+pub(crate) fn read_guests(text: &[u8]) -> Option<u8>
+    ensures { Reads (λ n. Spells text.now (caveats.Guests n)) result }
+{
+    let guests = number_of(after(text, b"guests <= ")?)?;
+    if guests <= MAX_GUESTS {
+        Some(guests as u8)
+    } else {
+        None
+    }
+}
+
+pub(crate) fn read_spend(text: &[u8]) -> Option<u32>
+    ensures { Reads (λ n. Spells text.now (caveats.Spend n)) result }
+{
+    number_of(after(text, b"spend <= ")?)
+}
+
+pub(crate) fn read_actions(text: &[u8]) -> Option<Actions>
+    ensures { Reads (λ actions. Spells text.now (caveats.Actions actions)) result }
+{
+    Actions::read(after(text, b"actions = ")?)
+}

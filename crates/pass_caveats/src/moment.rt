@@ -1,0 +1,144 @@
+ghost use Rattle.std.specs.Prelude.{◌≡◌, ◌+◌, ◌*◌, ◌/◌, ◌%◌, ◌<◌, ◌↔◌, IsSome, IfSome, Some};
+ghost use Rattle.pass_caveats.specs.Reading.{Reads};
+ghost use Rattle.pass_caveats.specs.Day.{IsDay};
+ghost use Rattle.pass_caveats.specs.Moment.{IsMoment, SpellsTime, SpellsMoment, moment_text};
+ghost use Rattle.pass_caveats.specs.TextOf.{moment_of_text};
+
+use crate::ascii::text_of;
+use crate::day::Day;
+use crate::digits::{read_two, two_digits};
+use std::fmt;
+use std::marker::Model;
+
+/// The minutes of a day.
+pub const MINUTES_A_DAY: u16 = 1440;
+
+/// A civil minute from 2000-01-01T00:00 to 2099-12-31T23:59. Contracts see it as its number, the minutes since
+/// 1970-01-01T00:00. Moments are ordered in time.
+#[derive(Clone, Copy, Debug, PartialEq, Eq, PartialOrd, Ord)]
+pub struct Moment {
+    number: u32,
+}
+
+impl Model for Moment {
+    ghost use Rattle.std.specs.Prelude.{ℕ};
+
+    ghost Value = { ℕ };
+
+    ghost use Rattle.pass_caveats.specs.Moment.{IsMoment};
+
+    ghost view = { λ moment. moment.number };
+
+    ghost invariant = { λ moment. IsMoment moment.number };
+
+    ghost inverse = { λ n. record { number = n } };
+}
+
+/// The minute of the day of a text `THH:MM`.
+fn minute_of(text: &[u8]) -> Option<u16>
+    ensures { Reads (SpellsTime text.now) result }
+{
+    let [b'T', h1, h2, b':', m1, m2] = *text else {
+        return None;
+    };
+    let hour = read_two(h1, h2)?;
+    let minute = read_two(m1, m2)?;
+    if hour < 24 && minute < 60 {
+        Some(u16::from(hour) * 60 + u16::from(minute))
+    } else {
+        None
+    }
+}
+
+fn moment_in(text: &[u8]) -> Option<Moment>
+    ensures { Reads (SpellsMoment text.now) result }
+{
+    if text.len() < 10 {
+        return None;
+    }
+    let (date, time) = text.split_at(10);
+    let day = Day::read(date)?;
+    let minute = minute_of(time)?;
+    Moment::new(day, minute)
+}
+
+impl Moment {
+    /// The moment with this number of minutes since 1970-01-01T00:00; `None` out of range.
+    pub fn from_number(number: u32) -> Option<Moment>
+        ensures within { IsSome result ↔ IsMoment number }
+        ensures value { IfSome result (λ moment. moment ≡ number) }
+    {
+        if number < 15_778_080 || number > 68_374_079 {
+            return None;
+        }
+        Some(Moment { number })
+    }
+
+    /// The moment at a minute of a day; `None` from minute 1,440 on.
+    pub fn new(day: Day, minute: u16) -> Option<Moment>
+        ensures within { IsSome result ↔ (minute < 1440) }
+        ensures value { IfSome result (λ moment. moment ≡ day * 1440 + minute) }
+    {
+        if minute >= MINUTES_A_DAY {
+            return None;
+        }
+        Some(Moment {
+            number: u32::from(day.number()) * u32::from(MINUTES_A_DAY) + u32::from(minute),
+        })
+    }
+
+    /// The minutes since 1970-01-01T00:00.
+    pub fn number(self) -> u32
+        ensures value { result ≡ self }
+        ensures within { IsMoment result }
+    {
+        self.number
+    }
+
+    /// The day of the moment.
+    pub fn day(self) -> Day
+        ensures value { result ≡ self / 1440 }
+        ensures within { IsDay result }
+    {
+        let number = self.number / u32::from(MINUTES_A_DAY);
+        Day::from_number(number as u16).unwrap()
+    }
+
+    /// The minutes since the day began, 0 to 1,439.
+    pub fn minute_of_day(self) -> u16
+        ensures value { result ≡ self % 1440 }
+        ensures within { result < 1440 }
+    {
+        (self.number % u32::from(MINUTES_A_DAY)) as u16
+    }
+
+    /// The moment of a text `YYYY-MM-DDTHH:MM`; `None` where the text is no moment in range.
+    pub fn read(text: &[u8]) -> Option<Moment>
+        ensures spelled { Reads (SpellsMoment text.now) result }
+        ensures function { result ≡ moment_of_text text.now }
+    {
+        moment_in(text)
+    }
+
+    /// The text `YYYY-MM-DDTHH:MM`.
+    pub fn text(self) -> [u8; 16]
+        ensures value { result ≡ moment_text self }
+        ensures spelled { SpellsMoment result self }
+    {
+        let minute = self.minute_of_day();
+        let [h1, h2] = two_digits((minute / 60) as u8);
+        let [m1, m2] = two_digits((minute % 60) as u8);
+        let [y1, y2, y3, y4, dash1, o1, o2, dash2, d1, d2] = self.day().text();
+        [
+            y1, y2, y3, y4, dash1, o1, o2, dash2, d1, d2, b'T', h1, h2, b':', m1, m2,
+        ]
+    }
+}
+
+impl fmt::Display for Moment {
+    ghost output = { λ moment. Some (moment_text moment) };
+
+    fn fmt<W: fmt::Write>(&self, f: &mut fmt::Formatter<W>) -> fmt::Result {
+        f.write_str(text_of(&self.text()))
+    }
+}

@@ -1,0 +1,50 @@
+ghost use Rattle.std.specs.Prelude.{◌≡◌, ◌↔◌, IsTrue, Contains};
+ghost use Rattle.pass_caveats.specs.Reading.{Reads};
+ghost use Rattle.pass_caveats.specs.Names.{AreNames};
+ghost use Rattle.pass_caveats.specs.Parts.{joined};
+
+use crate::name::Name;
+use crate::parts::{are_all_names, count_of_parts, has_part};
+use std::marker::Model;
+
+/// The most names of a list in a caveat.
+pub const MAX_NAMES: usize = 8;
+
+/// One to eight names with commas between them, borrowed from a text. Contracts see the list of the names.
+#[derive(Debug, Drop)]
+pub struct Names<'a> {
+    text: &'a [u8],
+}
+
+impl<'a> Model for Names<'a> {
+    ghost use Rattle.std.specs.Prelude.{ℕ, List};
+
+    ghost Value = { List (List ℕ) };
+
+    ghost use Rattle.pass_caveats.specs.Names.{AreNames};
+    ghost use Rattle.pass_caveats.specs.Parts.{parts_of};
+
+    ghost view = { λ names. parts_of names.text.now };
+
+    ghost invariant = { λ names. AreNames (parts_of names.text.now) };
+}
+
+impl<'a> Names<'a> {
+    /// The names of a list with commas; `None` where it is no list of one to eight names.
+    pub fn read(text: &'a [u8]) -> Option<Names<'a>>
+        ensures { Reads (λ names. AreNames names × (text.now ≡ joined names)) result }
+    {
+        if are_all_names(text) && count_of_parts(text) <= MAX_NAMES {
+            Some(Names { text })
+        } else {
+            None
+        }
+    }
+
+    /// Whether a name is in the list.
+    pub fn contains(&self, name: &Name) -> bool
+        ensures { IsTrue result ↔ Contains self.now name.now }
+    {
+        has_part(self.text, name.as_bytes())
+    }
+}

@@ -1,0 +1,31 @@
+ghost use Rattle.std.specs.Prelude.{◌≡◌, ◌↔◌, ◌++◌, List, ℕ, IsTrue, MatchOption};
+ghost use Rattle.pass_caveats.specs.Reading.{Reads};
+ghost use Rattle.pass_caveats.specs.Number.{IsNumber, SpellsNumber};
+
+use crate::ascii::text_of;
+
+/// What follows a word at the front of a text.
+pub(crate) fn after<'a>(text: &'a [u8], word: &[u8]) -> Option<&'a [u8]>
+    ensures { MatchOption result ((rest : List ℕ) → ¬ (text.now ≡ word.now ++ rest)) (λ rest. text.now ≡ word.now ++ rest.now) }
+{
+    text.strip_prefix(word)
+}
+
+fn is_number(text: &[u8]) -> bool
+    ensures { IsTrue result ↔ IsNumber text.now }
+{
+    !text.is_empty()
+        && text.len() <= 9
+        && (text[0] != b'0' || text.len() == 1)
+        && text.iter().all(|byte| byte.is_ascii_digit())
+}
+
+/// The number of decimal digits without leading zeros, up to 999,999,999.
+pub(crate) fn number_of(text: &[u8]) -> Option<u32>
+    ensures { Reads (SpellsNumber text.now) result }
+{
+    if !is_number(text) {
+        return None;
+    }
+    text_of(text).parse().ok()
+}
