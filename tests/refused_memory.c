@@ -1,0 +1,29 @@
+// Refuses the allocation whose number the variable REFUSED_ALLOCATION tells, counted from 1. Loaded before the C library.
+#define _GNU_SOURCE
+#include <dlfcn.h>
+#include <errno.h>
+#include <stdlib.h>
+
+static int refuses(void) {
+    static long refused = -1, seen;
+    if (refused < 0) {
+        const char *number = getenv("REFUSED_ALLOCATION");
+        refused = number ? atol(number) : 0;
+    }
+    seen++;
+    if (seen != refused) return 0;
+    errno = ENOMEM;
+    return 1;
+}
+
+void *malloc(size_t size) {
+    static void *(*next)(size_t);
+    if (!next) next = dlsym(RTLD_NEXT, "malloc");
+    return refuses() ? NULL : next(size);
+}
+
+void *realloc(void *old, size_t size) {
+    static void *(*next)(void *, size_t);
+    if (!next) next = dlsym(RTLD_NEXT, "realloc");
+    return refuses() ? NULL : next(old, size);
+}
