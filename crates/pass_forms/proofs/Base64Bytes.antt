@@ -22,11 +22,11 @@ TypeOf {A} x = A
 abbrev Leftover : Type 0
 Leftover = TypeOf no_leftover
 
-nil_is_bytes : IsBytes []
+pub nil_is_bytes : IsBytes []
 nil_is_bytes zero = omega arith
 nil_is_bytes (suc i) = omega arith
 
-append_is_bytes : (a b : List ℕ) → IsBytes a → IsBytes b → IsBytes (a ++ b)
+pub append_is_bytes : (a b : List ℕ) → IsBytes a → IsBytes b → IsBytes (a ++ b)
 append_is_bytes [] b front back i = back i
 append_is_bytes (x ∷ a) b front back zero = front 0
 append_is_bytes (x ∷ a) b front back (suc i) = append_is_bytes a b (λ k. front (suc k)) back i

@@ -35,14 +35,14 @@ groups_same (suc bound) (suc more) (suc less) n b m l = elim (cases_lt n 128) [
 ]
 
 -- a number of more than seven bits
-varint_large : (n : ℕ) → 128 ≤ n → varint n ≡ (128 + n % 128) ∷ varint (n / 128)
+pub varint_large : (n : ℕ) → 128 ≤ n → varint n ≡ (128 + n % 128) ∷ varint (n / 128)
 unfolding varint
 varint_large zero large = absurd (omega arith)
 varint_large (suc m) large =
     groups_more m (suc m) large
     ∙ ap (λ (x : List ℕ). (128 + suc m % 128) ∷ x) (groups_same m m (suc m / 128) (suc m / 128) (omega arith) (omega arith) (omega arith))
 
-varint_small : (n : ℕ) → n < 128 → varint n ≡ n ∷ []
+pub varint_small : (n : ℕ) → n < 128 → varint n ≡ n ∷ []
 unfolding varint
 varint_small n small = groups_enough n n small
 

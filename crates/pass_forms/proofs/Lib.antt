@@ -17,3 +17,10 @@ pub mod V2Exact
 pub mod Judging
 pub mod V1Exact
 pub mod TextExact
+pub mod PutVarints
+pub mod PutCaveats
+pub mod PutTogether
+pub mod WrittenBytes
+pub mod WrittenTexts
+pub mod WrittenV1
+pub mod WrittenV2

@@ -9,3 +9,5 @@ pub mod Envelope
 pub mod Text
 pub mod V2
 pub mod V2Reading
+pub mod Writing
+pub mod Putting

@@ -6,6 +6,7 @@ ghost use Rattle.pass_forms.specs.V1.{OnePassEachV1};
 ghost use Rattle.pass_forms.specs.V1Reading.{ReadsV1Exactly};
 ghost use Rattle.pass_forms.specs.V2.{OnePassEachV2};
 ghost use Rattle.pass_forms.specs.V2Reading.{ReadsV2Exactly};
+ghost use Rattle.pass_forms.specs.Writing.{NarrowedStaysSigned, TextsReadBack, WritesExactly};
 
 /// A text wraps one form and one list of bytes at most, whichever alphabet and padding it is in.
 pub fn wraps_one()
@@ -50,4 +51,19 @@ pub fn reads_v2_exactly()
 /// The answer to a text is determined and is the one that is computed, whatever bytes spell in each form.
 pub fn reads_texts_exactly()
     ensures { ReadsTextsExactly }
+{}
+
+/// The text that is computed of a pass is the one that may be written of it.
+pub fn writes_exactly()
+    ensures { WritesExactly }
+{}
+
+/// The text that is written of a pass, in either form, is read back as that form and that pass.
+pub fn texts_read_back()
+    ensures { TextsReadBack }
+{}
+
+/// A pass that is signed under a root stays signed under it with one more caveat.
+pub fn narrowed_stays_signed()
+    ensures { NarrowedStaysSigned }
 {}

@@ -1,7 +1,12 @@
-ghost use Rattle.std.specs.Prelude.{◌≡◌, map};
+ghost use Rattle.std.specs.Prelude.{◌≡◌, ◌↔◌, ◌≤◌, ℕ, List, Err, IfErr, OnErr, OnOk, length, map};
 ghost use Rattle.pass_mac.specs.Chain.{chain, derived_key};
+ghost use Rattle.pass_forms.specs.declared.fault.FormFault.TheVariants.{Memory, TooMany};
+ghost use Rattle.pass_forms.specs.Pass.{IsSigned};
+ghost use Rattle.pass_forms.specs.Writing.{IsNarrowingFault, with_caveat};
 
+use crate::FormFault;
 use pass_mac::{Chain, same};
+use std::alloc::Global;
 use std::marker::Model;
 
 /// The most caveats of a pass.
@@ -17,7 +22,7 @@ pub struct Pass {
 }
 
 impl Model for Pass {
-    ghost use Rattle.std.specs.Prelude.{map};
+    ghost use Rattle.std.specs.Prelude.{◌≡◌, length, map};
     ghost use Rattle.pass_forms.specs.Pass.{Plain};
 
     ghost Value = { Plain };
@@ -28,10 +33,12 @@ impl Model for Pass {
       caveats = map (λ caveat. caveat.items) pass.caveats.items;
       signature = pass.signature;
     } };
+
+    ghost invariant = { λ pass. length pass.signature ≡ 32 };
 }
 
 impl Pass {
-    ghost use Rattle.std.specs.Prelude.{◌≡◌, ◌↔◌, map, IsTrue};
+    ghost use Rattle.std.specs.Prelude.{◌≡◌, ◌↔◌, length, map, IsTrue};
     ghost use Rattle.pass_forms.specs.Pass.{IsSigned, is_signed};
 
     /// A pass of these parts; nothing is tested.
@@ -79,7 +86,8 @@ impl Pass {
 
     /// The last signature of the chain.
     pub fn signature(&self) -> &[u8; 32]
-        ensures { result.now ≡ self.now.signature }
+        ensures value { result.now ≡ self.now.signature }
+        ensures len { length self.now.signature ≡ 32 }
     {
         &self.signature
     }
@@ -105,4 +113,26 @@ fn signature_under(root: &[u8], identifier: &[u8], caveats: &[Vec<u8>]) -> [u8; 
         chain.add(caveat);
     }
     chain.signature()
+}
+
+/// Adds a caveat to a pass, and signs it without the root: the signature is one more HMAC, under the signature so far.
+///
+/// # Errors
+///
+/// `TooMany` for a pass of 64 caveats or more. `Memory` comes only where memory was refused. The pass stays as it was then.
+pub fn narrow(alloc: Global, pass: &mut Pass, caveat: &[u8]) -> Result<(), FormFault>
+    ensures ok { OnOk result (pass.new ≡ with_caveat caveat.now pass.old) }
+    ensures signed { OnOk result ((root : List ℕ) → IsSigned root pass.old → IsSigned root pass.new) }
+    ensures err { OnErr result (pass.new ≡ pass.old) }
+    ensures too_many { (result ≡ Err TooMany) ↔ (MAX_CAVEATS ≤ length pass.old.caveats) }
+    ensures fault { IfErr result IsNarrowingFault }
+{
+    if pass.caveats.len() >= MAX_CAVEATS {
+        return Err(FormFault::TooMany);
+    }
+    pass.caveats.push(Vec::from_slice(alloc, caveat)?)?;
+    let mut chain = Chain::resume(pass.signature);
+    chain.add(caveat);
+    pass.signature = chain.signature();
+    Ok(())
 }

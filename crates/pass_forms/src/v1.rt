@@ -8,17 +8,17 @@ use crate::parts::{after_prefix, before_suffix};
 use crate::{FormFault, Pass};
 use std::alloc::Global;
 
-const LOCATION: &[u8] = b"location ";
+pub const LOCATION: &[u8] = b"location ";
 
-const IDENTIFIER: &[u8] = b"identifier ";
+pub const IDENTIFIER: &[u8] = b"identifier ";
 
-const CAVEAT: &[u8] = b"cid ";
+pub const CAVEAT: &[u8] = b"cid ";
 
 const VERIFIER_ID: &[u8] = b"vid ";
 
 const CAVEAT_LOCATION: &[u8] = b"cl ";
 
-const SIGNATURE: &[u8] = b"signature ";
+pub const SIGNATURE: &[u8] = b"signature ";
 
 fn digit_value(byte: u8) -> Option<u8>
     ensures { result ≡ reading.digit_value byte }
@@ -73,7 +73,7 @@ fn optional_packet<'a>(key: &[u8], bytes: &'a [u8]) -> (bool, &'a [u8])
 }
 
 // The layout of V1: packets, one after the other.
-struct Packets;
+pub struct Packets;
 
 impl Layout for Packets {
     ghost use Rattle.pass_forms.specs.V1Reading as reading;

@@ -8,17 +8,17 @@ use crate::parts::after_prefix;
 use crate::{FormFault, Pass};
 use std::alloc::Global;
 
-const VERSION: &[u8] = &[2];
+pub const VERSION: &[u8] = &[2];
 
-const LOCATION: u8 = 1;
+pub const LOCATION: u8 = 1;
 
-const IDENTIFIER: u8 = 2;
+pub const IDENTIFIER: u8 = 2;
 
 const VERIFIER_ID: u8 = 4;
 
-const SIGNATURE: u8 = 6;
+pub const SIGNATURE: u8 = 6;
 
-const END_OF_SECTION: &[u8] = &[0];
+pub const END_OF_SECTION: &[u8] = &[0];
 
 // The number at the front, where it is at most so large. Each byte has seven bits of it, the lowest first.
 fn varint_up_to(most: usize, bytes: &[u8]) -> Option<(usize, &[u8])>
@@ -82,7 +82,7 @@ fn signature(bytes: &[u8]) -> Option<[u8; 32]>
 }
 
 // The layout of V2: sections of fields.
-struct Sections;
+pub struct Sections;
 
 impl Layout for Sections {
     ghost use Rattle.pass_forms.specs.V2Reading as reading;
