@@ -1,8 +1,8 @@
 -- Caveats that are put one after the other.
-use Rattle.std.proofs.Common.{◌≡◌, Vec, Global, ℕ, suc, ◌+◌, ◌<◌, List, [], ◌∷◌, ◌++◌, length, map, drop, get_or, sym, ap, ◌∙◌, append_assoc, add-one, drop-cons, arith}
+use Rattle.std.proofs.Common.{◌≡◌, Vec, Global, ℕ, suc, ◌+◌, ◌<◌, List, ◌∷◌, ◌++◌, length, map, drop, get_or, sym, ap, ◌∙◌, append_assoc, add-one, drop-cons, arith}
 use Rattle.std.proofs.Math.ListN.{get_or-map}
 use Rattle.std.specs.List.{flat_map}
-use Rattle.std.proofs.lemmas.List.{drop_all, length-append}
+use Rattle.std.proofs.lemmas.List.{length-append}
 use Rattle.pass_forms.specs.Pass.{WideCaveat, widened_caveat}
 use Rattle.pass_forms.specs.Putting.{room_len}
 
@@ -15,9 +15,6 @@ pub left_next : (text : WideCaveat → List ℕ) (caveats : List (List ℕ)) (i 
 left_next text caveats i caveat h is =
     let split : drop i caveats ≡ caveat ∷ drop (i + 1) caveats = rw add-one (drop-cons caveats i caveat h ∙ ap (λ (c : List ℕ). c ∷ drop (suc i) caveats) (sym is)) in
     ap (λ (left : List (List ℕ)). flat_map text (map widened_caveat left)) split
-
-pub left_none : (text : WideCaveat → List ℕ) (caveats : List (List ℕ)) (i : ℕ) → length caveats ≡ i → left_from text caveats i ≡ []
-left_none text caveats i h = ap (λ (left : List (List ℕ)). flat_map text (map widened_caveat left)) (drop_all i caveats (omega arith))
 
 -- One more caveat was put.
 pub one_put : (text : WideCaveat → List ℕ) (caveats : List (List ℕ)) (i : ℕ) (caveat room next total : List ℕ) → i < length caveats → caveat ≡ get_or caveats i caveat →

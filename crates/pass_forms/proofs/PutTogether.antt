@@ -10,8 +10,3 @@ puts_others part others old between new (Ok _) put rest =
     rest ∙ ap (λ (x : List ℕ). x ++ others) put ∙ append_assoc old part others
 puts_others part others old between new (Err fault) put rest =
     (rest.0, omega (arith, rest.1, ap length put, length-append between others, length-append old part, length-append part others, length-append old (part ++ others)))
-
--- The first part had no room.
-pub puts_no_more : (part others old new other_new : List ℕ) (fault : FormFault) → Puts part old new (Err fault) → Puts (part ++ others) old other_new (Err fault)
-puts_no_more part others old new other_new fault full =
-    (full.0, omega (arith, full.1, length-append old part, length-append part others, length-append old (part ++ others)))

@@ -44,9 +44,6 @@ caveat_takes bytes found e =
     let same = some_is (caveat i.0, r.0) found r.2 in
     (parts ∙ sym grouped ∙ ap (λ (x : WideCaveat × List ℕ). caveat_section x.0 ++ x.1) same, tt)
 
-no_optional : (type : ℕ) (bytes : List ℕ) → field_at type bytes ≡ None → optional_at type bytes ≡ (None, bytes)
-no_optional type bytes none = rw none refl
-
 -- A field of another type is no field of this one.
 not_location : (text rest : List ℕ) → field_at location_type (field identifier_type text ++ rest) ≡ None
 unfolding field_at

@@ -1,5 +1,5 @@
 -- Lemmas on what verifying answers.
-use Rattle.std.proofs.Common.{◌≡◌, ◌⊎◌, inl, inr, ◌≤◌, ℕ, List, Bool, Result, Ok, Err, length, length-take, take, cond, true, false, refl, ap, subst, arith}
+use Rattle.std.proofs.Common.{◌≡◌, ◌⊎◌, inl, inr, ◌≤◌, ℕ, List, Bool, Result, Ok, Err, length, length-take, take, cond, true, false, refl, subst, arith}
 use Rattle.std.specs.Io.BufRead.{strip_last}
 use Rattle.pass_forms.specs.Envelope.{IsUnwrapped, told_bytes, Wraps, WrapsOne}
 use Rattle.pass_forms.specs.Pass.{Plain, WidePass}
@@ -12,10 +12,9 @@ use Rattle.pass_forms.specs.declared.form.Form.{Form}
 use Rattle.pass_forms.specs.declared.form.Form.TheVariants.{Json, V1, V2}
 use Rattle.pass_forms.specs.declared.envelope.Unwrapped.{Unwrapped}
 use Rattle.passtool.specs.Fault.{of_form}
-use Rattle.passtool.specs.Run.{IsAnswer, told}
-use Rattle.passtool.specs.Verify.{IsVerdict, IsVerdictUnlessMemory, Spells, StandsFor}
+use Rattle.passtool.specs.Run.{IsAnswer}
+use Rattle.passtool.specs.Verify.{IsVerdictUnlessMemory, Spells, StandsFor}
 use Rattle.passtool.specs.declared.answer.Fault.TheVariants.{Memory as no_memory}
-use Rattle.passtool.specs.declared.answer.Outcome.{Outcome}
 use Rattle.passtool.specs.declared.command.Command.TheVariants.{Verify}
 
 -- a text that can't be taken out of its envelope stands for the envelope's fault
@@ -59,12 +58,7 @@ told_short unwrapping text room fits full = go unwrapping.plain
     go true = fits
     go false = omega (arith, length-take unwrapping.len room)
 
--- the verdict with its line is the answer of `verify`
-pub answered : (root bytes text : List ℕ) (signed : Bool) (outcome : Outcome) → IsVerdict root (strip_last 10 bytes) (Ok signed)
-    → (outcome, text) ≡ told signed → IsAnswer (Verify root) bytes (Ok (outcome, text))
-answered root bytes text signed outcome verdict is = (Ok signed, verdict, ap Ok is)
-
--- and a fault of the pass is its fault
+-- A fault of the pass is the fault of `verify`.
 faulted_by : (root bytes : List ℕ) (fault : FormFault) → IsVerdictUnlessMemory root (strip_last 10 bytes) (Err fault)
     → (of_form fault ≡ no_memory) ⊎ IsAnswer (Verify root) bytes (Err (of_form fault))
 faulted_by root bytes TooLong verdict = inr (Err TooLong, verdict, refl)
