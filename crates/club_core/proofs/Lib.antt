@@ -1,0 +1,7 @@
+pub mod RootLemmas
+pub mod ViewLemmas
+pub mod Ordered
+pub mod SheetOrder
+pub mod SheetText
+pub mod ColumnLemmas
+pub mod AnswerLemmas

@@ -1,0 +1,13 @@
+use Rattle.std.proofs.Common.{sym, ap, refl, ◌∙◌}
+use Rattle.club_core.specs.Sheet.{sheet_text}
+use Rattle.club_core.proofs.SheetOrder.{day_rows, one_list}
+use Rattle.club_core.proofs.laws.one_sheet_a_day.Goals as goal
+
+pub returns-clause-one : goal.returns-clause-one
+returns-clause-one c =
+    λ club day text other a b. a.told ∙ ap (sheet_text day) (one_list club day a.rows b.rows a.are b.are) ∙ sym b.told
+
+pub returns-clause-some : goal.returns-clause-some
+returns-clause-some c = λ club sound day.
+    let made = day_rows club sound day in
+    (sheet_text day made.0, record { rows = made.0; are = made.1; told = refl })

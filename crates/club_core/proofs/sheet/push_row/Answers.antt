@@ -1,0 +1,23 @@
+use Rattle.std.proofs.Common.{◌≡◌, ◌+◌, ◌++◌, ap, refl, ◌∙◌, lit<}
+use Rattle.std.proofs.lemmas.Result.{IfOk-weaker}
+use Rattle.std.specs.Fmt.{styled_decimal, styled_text}
+use Rattle.std.specs.String.{string_bytes}
+use Rattle.club_core.proofs.SheetText.{laid_text, laid_text-row_text, left-of, right-of}
+use Rattle.club_core.proofs.sheet.push_row.Goals as goal
+
+pub returns : goal.returns
+unfolding laid_text
+returns c =
+    let row = c.args.row.now in
+    let facility = left-of c.laid_out.result c.as_str-facility.result.now row.slot.facility c.laid_out.ensures c.as_str-facility.ensures.value c.as_str-facility.ensures.name in
+    let key = left-of c.laid_out-2.result c.as_str-key.result.now row.key c.laid_out-2.ensures c.as_str-key.ensures.value c.as_str-key.ensures.name in
+    let number = right-of 9 c.laid_out-3.result c.get-number.result row.number c.laid_out-3.ensures c.get-number.ensures.value (lit< tt) in
+    let persons = right-of 2 c.laid_out-4.result c.persons-persons.result (row.guests + 1) c.laid_out-4.ensures c.persons-persons.ensures.value (lit< tt) in
+    let charge = right-of 6 c.laid_out-5.result row.charge row.charge c.laid_out-5.ensures refl (lit< tt) in
+    IfOk-weaker c.writeln.result _ _
+    (λ _ h.
+    let e : string_bytes c.writeln.new.self ≡ string_bytes c.args.text.now ++ laid_text (styled_text c.laid_out.result c.as_str-facility.result.now)
+    row.slot.hour (styled_text c.laid_out-2.result c.as_str-key.result.now) (styled_decimal c.laid_out-3.result c.get-number.result)
+    (styled_decimal c.laid_out-4.result c.persons-persons.result) (styled_decimal c.laid_out-5.result row.charge) = h in
+    e ∙ ap (λ text. string_bytes c.args.text.now ++ text) (laid_text-row_text row _ _ _ _ _ facility key number persons charge))
+    c.writeln.ensures.bytes

@@ -1,0 +1,38 @@
+-- The club after a change (ours).
+use Rattle.std.specs.Prelude.{ℕ, ◌+◌, ◌==◌, ◌&&◌, ◌||◌, not, Bool, List, [], ◌∷◌, ◌++◌, map, if◌then◌else◌}
+use Rattle.std.specs.Str.{bytes_eq}
+use Rattle.club_core.specs.declared.member.Member.{Member}
+use Rattle.club_core.specs.declared.key.Key.{Key}
+use Rattle.club_core.specs.declared.booking.Booking.{Booking}
+use Rattle.club_core.specs.declared.change.Change.{Change}
+use Rattle.club_core.specs.declared.change.Change.TheVariants.{InsertMember, AddCredit, InsertFacility, InsertKey, MarkRevoked, MarkClosed, InsertBooking, MarkCancelled}
+use Rattle.club_core.specs.Club.{Club}
+use Rattle.club_core.specs.Sums.{is_under}
+
+-- a member's row after points for a member of this name
+abbrev pub credited : List ℕ → ℕ → Member → Member
+credited name points member =
+    record member { credited = if bytes_eq member.name name then member.credited + points else member.credited }
+
+abbrev pub revoked : List ℕ → Key → Key
+revoked name key = record key { revoked = key.revoked || bytes_eq key.name name }
+
+-- whether a cancelling under this key and number marks the booking
+abbrev pub is_marked : List ℕ → ℕ → Booking → Bool
+is_marked key number booking = is_under key booking && booking.number == number && not booking.cancelled
+
+abbrev pub cancelled : List ℕ → ℕ → ℕ → Booking → Booking
+cancelled key number refund booking = record booking {
+  cancelled = booking.cancelled || is_marked key number booking;
+  refund = if is_marked key number booking then refund else booking.refund;
+}
+
+abbrev pub after : Change → Club → Club
+after (InsertMember member) club = record club { members = club.members ++ member ∷ [] }
+after (AddCredit name points) club = record club { members = map (credited name points) club.members }
+after (InsertFacility facility) club = record club { facilities = club.facilities ++ facility ∷ [] }
+after (InsertKey key) club = record club { keys = club.keys ++ key ∷ [] }
+after (MarkRevoked name) club = record club { keys = map (revoked name) club.keys }
+after (MarkClosed slot) club = record club { closed = club.closed ++ slot ∷ [] }
+after (InsertBooking booking) club = record club { bookings = club.bookings ++ booking ∷ [] }
+after (MarkCancelled key number refund) club = record club { bookings = map (cancelled key number refund) club.bookings }

@@ -1,0 +1,69 @@
+-- The answer to a request (ours): the pass is accepted or refused, and then the decision. It depends on nothing but the words,
+-- the moment and the basis.
+use Rattle.std.specs.Prelude.{ℕ, not, Bool, false, List, [], ◌∷◌, Option, Some, None, Result, Ok, Err, is_some, option_map}
+use Rattle.pass_caveats.specs.declared.ask.Ask.{Ask}
+use Rattle.pass_caveats.specs.declared.fault.CaveatFault.{CaveatFault}
+use Rattle.pass_caveats.specs.declared.fault.CaveatFault.TheVariants.{NotUnderstood, Denied}
+use Rattle.pass_caveats.specs.CaveatOf.{first_fault_of}
+use Rattle.club_core.specs.declared.facility.Facility.{Facility}
+use Rattle.club_core.specs.declared.view.View.{View}
+use Rattle.club_core.specs.declared.verdict.Verdict.{Verdict}
+use Rattle.club_core.specs.declared.refusal.Refusal.{Refusal}
+use Rattle.club_core.specs.declared.refusal.Refusal.TheVariants.{PassTooLong, PassMalformed, ThirdPartyCaveat, TooManyCaveats, NotVerified, KeyRevoked, CaveatNotUnderstood, CaveatDenies}
+use Rattle.club_core.specs.declared.request.Request.{Request}
+use Rattle.club_core.specs.declared.request.Request.TheVariants as asked
+use Rattle.club_core.specs.Lines.{Line, line, first_of}
+use Rattle.club_core.specs.Pass.{FormFault, TooLong, Malformed, ThirdParty, TooMany, Pass, Words}
+use Rattle.club_core.specs.Facility.{charge_of}
+use Rattle.club_core.specs.Verdict.{refused, verdict_of}
+use Rattle.club_core.specs.Basis.{Basis, view_of}
+use Rattle.club_core.specs.Request.{action_of, slot_of, guests_of}
+
+-- the charge of a booking under a new number at a known facility, and else nothing
+abbrev pub owed_at : Request → Bool → Option Facility → ℕ
+owed_at (asked.Book slot number guests) false (Some facility) = charge_of facility guests
+owed_at request recorded facility = 0
+
+-- what caveats see of a request
+abbrev pub ask_of : View → Request → ℕ → Ask
+ask_of view request moment = record {
+  action = action_of request;
+  slot = slot_of request;
+  kind = option_map (λ (facility : Facility). facility.kind) view.facility;
+  guests = guests_of request;
+  moment = moment;
+  owed = owed_at request (is_some view.booking) view.facility;
+  spent = view.spent;
+}
+
+abbrev pub form_refusal : FormFault → Refusal
+form_refusal TooLong = PassTooLong
+form_refusal Malformed = PassMalformed
+form_refusal ThirdParty = ThirdPartyCaveat
+form_refusal TooMany = TooManyCaveats
+
+-- the first caveat at fault refuses, and where there is none, the decision answers
+abbrev pub after_caveats : Option CaveatFault → Verdict → Verdict
+after_caveats None verdict = verdict
+after_caveats (Some (NotUnderstood n)) verdict = refused (CaveatNotUnderstood n)
+after_caveats (Some (Denied n)) verdict = refused (CaveatDenies n)
+
+-- why a pass of a known key is refused
+abbrev pub acceptance_lines : Pass → Basis → List (Line Verdict)
+acceptance_lines pass basis =
+    line (not (pass.is_signed basis.key.root)) (refused NotVerified) ∷ line basis.key.revoked (refused KeyRevoked) ∷ []
+
+-- where the key is known
+abbrev pub answer_under : Pass → Request → ℕ → Basis → Verdict
+answer_under pass request moment basis =
+    let view = view_of basis request moment in
+    first_of (acceptance_lines pass basis)
+    (after_caveats (first_fault_of pass.caveats (ask_of view request moment)) (verdict_of view request moment))
+
+abbrev pub answer_to : Result Pass FormFault → Request → ℕ → Option Basis → Verdict
+answer_to (Err fault) request moment basis = refused (form_refusal fault)
+answer_to (Ok pass) request moment None = refused NotVerified
+answer_to (Ok pass) request moment (Some basis) = answer_under pass request moment basis
+
+abbrev pub answer_of : Words → ℕ → Option Basis → Verdict
+answer_of words moment basis = answer_to words.pass words.request moment basis

@@ -1,0 +1,78 @@
+-- The club: its rows, and what holds of them (ours). It holds no totals.
+use Rattle.std.specs.Prelude.{◌≡◌, ◌≢◌, ℕ, ◌≤◌, Bool, List, [], map, filter, find, sum_by, Option, All, AllPairs, Contains}
+use Rattle.std.specs.List.{list_any}
+use Rattle.std.specs.Str.{bytes_eq}
+use Rattle.pass_caveats.specs.declared.slot.Slot.{Slot}
+use Rattle.club_core.specs.declared.member.Member.{Member}
+use Rattle.club_core.specs.declared.facility.Facility.{Facility}
+use Rattle.club_core.specs.declared.key.Key.{Key}
+use Rattle.club_core.specs.declared.booking.Booking.{Booking}
+use Rattle.club_core.specs.Rows.{IsMember, IsFacility, IsKey, IsSlot, IsBooking}
+use Rattle.club_core.specs.Booking.{same_slot}
+use Rattle.club_core.specs.Sums.{cost_of, taken_in}
+
+-- the rows, oldest first, and the slots that are closed
+pub record Club : Type 0 where
+  pub members : List Member
+  pub facilities : List Facility
+  pub keys : List Key
+  pub bookings : List Booking
+  pub closed : List Slot
+
+abbrev pub empty_club : Club
+empty_club = record { members = []; facilities = []; keys = []; bookings = []; closed = [] }
+
+abbrev pub member_named : List ℕ → Club → Option Member
+member_named name club = find (λ (member : Member). bytes_eq member.name name) club.members
+
+abbrev pub facility_named : List ℕ → Club → Option Facility
+facility_named name club = find (λ (facility : Facility). bytes_eq facility.name name) club.facilities
+
+abbrev pub key_named : List ℕ → Club → Option Key
+key_named name club = find (λ (key : Key). bytes_eq key.name name) club.keys
+
+abbrev pub is_closed : Slot → Club → Bool
+is_closed slot club = list_any (λ other. same_slot other slot) club.closed
+
+-- the keys of a member, and the bookings of all of them
+abbrev pub keys_of : List ℕ → Club → List Key
+keys_of member club = filter (λ (key : Key). bytes_eq key.member member) club.keys
+
+abbrev pub is_key_of : List ℕ → Club → List ℕ → Bool
+is_key_of member club name = list_any (λ (key : Key). bytes_eq key.name name) (keys_of member club)
+
+abbrev pub bookings_of : List ℕ → Club → List Booking
+bookings_of member club = filter (λ (booking : Booking). is_key_of member club booking.key) club.bookings
+
+-- each row is within its limits
+pub record HasRows (club : Club) : Type 0 where
+  pub members : All IsMember club.members
+  pub facilities : All IsFacility club.facilities
+  pub keys : All IsKey club.keys
+  pub bookings : All IsBooking club.bookings
+  pub closed : All IsSlot club.closed
+
+-- no two rows have one name; a booking's name is its key and number
+pub record HasUniqueNames (club : Club) : Type 0 where
+  pub members : AllPairs (λ (a : Member) (b : Member). a.name ≢ b.name) club.members
+  pub facilities : AllPairs (λ (a : Facility) (b : Facility). a.name ≢ b.name) club.facilities
+  pub keys : AllPairs (λ (a : Key) (b : Key). a.name ≢ b.name) club.keys
+  pub bookings : AllPairs (λ (a : Booking) (b : Booking). ¬ ((a.key ≡ b.key) × (a.number ≡ b.number))) club.bookings
+  pub closed : AllPairs (λ (a : Slot) (b : Slot). a ≢ b) club.closed
+
+-- each name that a row refers to is among them
+pub record HasReferences (club : Club) : Type 0 where
+  pub keys : All (λ (key : Key). Contains (map (λ (m : Member). m.name) club.members) key.member) club.keys
+  pub bookings : All (λ (booking : Booking). Contains (map (λ (k : Key). k.name) club.keys) booking.key) club.bookings
+  pub booked : All (λ (booking : Booking). Contains (map (λ (f : Facility). f.name) club.facilities) booking.slot.facility) club.bookings
+  pub closed : All (λ (slot : Slot). Contains (map (λ (f : Facility). f.name) club.facilities) slot.facility) club.closed
+
+-- what holds of every club
+pub record IsSound (club : Club) : Type 0 where
+  pub rows : HasRows club
+  pub unique : HasUniqueNames club
+  pub references : HasReferences club
+  -- no balance is below 0
+  pub balances : All (λ (member : Member). sum_by cost_of (bookings_of member.name club) ≤ member.credited) club.members
+  -- no slot has more persons than places
+  pub places : All (λ (facility : Facility). (slot : Slot) → slot.facility ≡ facility.name → taken_in slot club.bookings ≤ facility.places) club.facilities

@@ -1,0 +1,107 @@
+-- Runs from the empty club that compute (ours).
+use Rattle.std.specs.Prelude.{◌≡◌, ℕ, true, List, [], ◌∷◌, Option, Some, Ok, replicate, codes}
+use Rattle.pass_caveats.specs.declared.kind.Kind.TheVariants.{Court}
+use Rattle.pass_caveats.specs.declared.slot.Slot.{Slot}
+use Rattle.pass_caveats.specs.declared.caveat.Caveat.{Caveat}
+use Rattle.pass_caveats.specs.declared.caveat.Caveat.TheVariants.{Spend}
+use Rattle.club_core.specs.declared.command.Command.TheVariants.{AddMember, Credit, AddFacility, AddKey, CloseSlot}
+use Rattle.club_core.specs.declared.command.OfficeFault.TheVariants.{Exists, SlotInUse}
+use Rattle.club_core.specs.declared.refusal.Refusal.TheVariants as refusals
+use Rattle.club_core.specs.declared.reply.Reply.TheVariants.{Booked, Cancelled, AccountShown, Refused}
+use Rattle.club_core.specs.declared.request.Request.{Request}
+use Rattle.club_core.specs.declared.request.Request.TheVariants as asked
+use Rattle.club_core.specs.Club.{Club, empty_club}
+use Rattle.club_core.specs.Run.{Event, Asked, Ordered, EventReply, Replied, Answered, Done, NotDone, replies_of, club_after}
+
+abbrev pub root : List ℕ
+root = replicate 16 7
+
+-- member amy with quota 5 and 10,000 points, her key amy-1, and court-1 with 4 places for 200 points, from 8 to 22
+abbrev pub opening : List Event
+opening =
+    Ordered (AddMember (codes "amy") 5)
+    ∷ Ordered (Credit (codes "amy") 10_000)
+    ∷ Ordered (AddFacility (codes "court-1") Court 4 200 8 22)
+    ∷ Ordered (AddKey (codes "amy-1") (codes "amy") root)
+    ∷ []
+
+abbrev pub opened_club : Club
+opened_club = club_after empty_club opening
+
+-- court-1 on 2026-05-01
+abbrev pub slot_at : ℕ → Slot
+slot_at hour = record { facility = codes "court-1"; day = 20574; hour = hour }
+
+-- 2026-04-20T12:00, and a minute after the slot at 18 has begun
+abbrev pub noon : ℕ
+noon = 29_611_440
+
+abbrev pub late : ℕ
+late = 29_627_641
+
+-- a request of the key amy-1, under a pass with these caveats
+abbrev pub ask_with : List (Option Caveat) → Request → ℕ → Event
+ask_with caveats request moment =
+    Asked (record { pass = Ok (record { key = Some (codes "amy-1"); caveats = caveats; is_signed = λ _. true }); request = request }) moment
+
+abbrev pub ask : Request → ℕ → Event
+ask request moment = ask_with [] request moment
+
+abbrev pub booked : ℕ → ℕ → ℕ → EventReply
+booked number charge left = Replied (Booked (codes "amy-1") number charge left)
+
+abbrev pub cancelled : ℕ → ℕ → EventReply
+cancelled number refund = Replied (Cancelled (codes "amy-1") number refund)
+
+abbrev pub account : ℕ → ℕ → ℕ → EventReply
+account balance count spent = Replied (AccountShown (codes "amy") balance 5 count spent)
+
+-- one member's list: a booking, the account, a cancelling
+abbrev pub BooksAndCancels : Type 0
+BooksAndCancels =
+    replies_of opened_club
+    (ask (asked.Book (slot_at 18) 7 2) noon ∷ ask asked.Account noon ∷ ask (asked.Cancel (slot_at 18) 7) noon ∷ [])
+    ≡ booked 7 600 1 ∷ account 9_400 1 600 ∷ cancelled 7 600 ∷ []
+
+-- a repeat is told what was told first, also after a cancelling and when the slot has begun, and nothing is charged
+abbrev pub RepeatsAfterACancelling : Type 0
+RepeatsAfterACancelling =
+    replies_of opened_club
+    (ask (asked.Book (slot_at 18) 7 2) noon
+    ∷ ask (asked.Cancel (slot_at 18) 7) noon
+    ∷ ask (asked.Book (slot_at 18) 7 2) late
+    ∷ ask (asked.Book (slot_at 18) 7 1) noon
+    ∷ ask asked.Account late
+    ∷ [])
+    ≡ booked 7 600 1 ∷ cancelled 7 600 ∷ booked 7 600 1 ∷ Replied (Refused refusals.NumberUsed) ∷ account 10_000 0 0 ∷ []
+
+-- a slot is closed once nobody has booked it, and then nobody books it
+abbrev pub ClosesASlot : Type 0
+ClosesASlot =
+    replies_of opened_club
+    (ask (asked.Book (slot_at 18) 7 2) noon
+    ∷ Ordered (CloseSlot (slot_at 18))
+    ∷ ask (asked.Cancel (slot_at 18) 7) noon
+    ∷ Ordered (CloseSlot (slot_at 18))
+    ∷ Ordered (CloseSlot (slot_at 18))
+    ∷ ask (asked.Book (slot_at 18) 8 0) noon
+    ∷ [])
+    ≡ booked 7 600 1
+    ∷ Answered (NotDone SlotInUse)
+    ∷ cancelled 7 600
+    ∷ Answered Done
+    ∷ Answered (NotDone Exists)
+    ∷ Replied (Refused refusals.SlotClosed)
+    ∷ []
+
+-- a pass that spends 600 points at most spends them again once they came back
+abbrev pub KeepsASpendLimit : Type 0
+KeepsASpendLimit =
+    let limited = ask_with (Some (Spend 600) ∷ []) in
+    replies_of opened_club
+    (limited (asked.Book (slot_at 18) 7 2) noon
+    ∷ limited (asked.Book (slot_at 19) 8 0) noon
+    ∷ limited (asked.Cancel (slot_at 18) 7) noon
+    ∷ limited (asked.Book (slot_at 19) 8 0) noon
+    ∷ [])
+    ≡ booked 7 600 1 ∷ Replied (Refused (refusals.CaveatDenies 1)) ∷ cancelled 7 600 ∷ booked 8 200 3 ∷ []

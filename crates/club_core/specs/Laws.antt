@@ -1,0 +1,40 @@
+-- Laws of the definitions.
+use Rattle.std.specs.Prelude.{◌≡◌, ℕ, List, Contains, Option, None}
+use Rattle.club_core.specs.declared.key.Key.{Key}
+use Rattle.club_core.specs.declared.refusal.Refusal.{Refusal}
+use Rattle.club_core.specs.declared.reply.Reply.TheVariants.{Refused}
+use Rattle.club_core.specs.declared.verdict.Verdict.{Verdict}
+use Rattle.club_core.specs.Answer.{answer_of}
+use Rattle.club_core.specs.Basis.{Basis, basis_of}
+use Rattle.club_core.specs.Club.{Club, IsSound, bookings_of}
+use Rattle.club_core.specs.Pass.{Words}
+use Rattle.club_core.specs.Seen.{answer_by_view, view_for}
+use Rattle.club_core.specs.Sheet.{IsSheet}
+use Rattle.club_core.specs.Sums.{booking_under, spent_under}
+
+-- a refusal changes nothing
+pub record KeepsWhereRefused (verdict : Verdict) : Type 0 where
+  pub kept : (refusal : Refusal) → verdict.reply ≡ Refused refusal → verdict.change ≡ None
+
+abbrev pub RefusalsChangeNothing : Type 0
+RefusalsChangeNothing = (words : Words) (moment : ℕ) (basis : Option Basis) → KeepsWhereRefused (answer_of words moment basis)
+
+-- a club has one sheet a day
+abbrev pub OneSheet : Type 0
+OneSheet = (club : Club) (day : ℕ) (text other : List ℕ) → IsSheet club day text → IsSheet club day other → text ≡ other
+
+-- who decides on the sums of a view answers as one who has the bookings
+abbrev pub ViewsDecide : Type 0
+ViewsDecide = (club : Club) (words : Words) (moment : ℕ) →
+    answer_of words moment (basis_of club words) ≡ answer_by_view words.pass words.request moment (view_for club words moment)
+
+-- what a key spent and booked stands among its member's bookings
+pub record HasOwnBookings (club : Club) (key : Key) : Type 0 where
+  pub spent : spent_under key.name (bookings_of key.member club) ≡ spent_under key.name club.bookings
+  pub booked : (number : ℕ) → booking_under key.name number (bookings_of key.member club) ≡ booking_under key.name number club.bookings
+
+abbrev pub OwnBookings : Type 0
+OwnBookings = (club : Club) (key : Key) → Contains club.keys key → HasOwnBookings club key
+
+abbrev pub SomeSheet : Type 0
+SomeSheet = (club : Club) → IsSound club → (day : ℕ) → (text : List ℕ) × IsSheet club day text

@@ -1,0 +1,71 @@
+-- The sheet of a day (ours).
+use Rattle.std.specs.Prelude.{◌≡◌, ◌⊎◌, ℕ, ◌-◌, ◌<◌, ◌==◌, ◌&&◌, not, Bool, List, [], ◌∷◌, ◌++◌, length, replicate, filter, sum_by, flat_map, AllPairs, IsPermutation, codes}
+use Rattle.std.specs.Ordering.{nat_cmp}
+use Rattle.std.specs.declared.cmp.Ordering.TheVariants.{Less}
+use Rattle.std.specs.Cmp.Lexicographic.{slice_cmp}
+use Rattle.std.specs.Fmt.{decimal}
+use Rattle.pass_caveats.specs.Digits.{two_digits}
+use Rattle.pass_caveats.specs.Day.{day_text}
+use Rattle.club_core.specs.declared.booking.Booking.{Booking}
+use Rattle.club_core.specs.Booking.{persons_of}
+use Rattle.club_core.specs.Club.{Club}
+
+-- the bookings of the day that aren't cancelled
+abbrev pub is_on : ℕ → Booking → Bool
+is_on day booking = not booking.cancelled && booking.slot.day == day
+
+-- one text is before another, as their bytes are
+abbrev pub IsBefore : List ℕ → List ℕ → Type 0
+IsBefore a b = slice_cmp nat_cmp a b ≡ Less
+
+-- in the order of facility, hour, key and number
+abbrev pub Precedes : Booking → Booking → Type 0
+Precedes a b =
+    IsBefore a.slot.facility b.slot.facility
+    ⊎ ((a.slot.facility ≡ b.slot.facility) × ((a.slot.hour < b.slot.hour)
+    ⊎ ((a.slot.hour ≡ b.slot.hour) × (IsBefore a.key b.key
+    ⊎ ((a.key ≡ b.key) × (a.number < b.number))))))
+
+-- the rows of the sheet: the day's bookings, in order
+pub record AreRowsOf (club : Club) (day : ℕ) (rows : List Booking) : Type 0 where
+  pub same : IsPermutation (filter (is_on day) club.bookings) rows
+  pub sorted : AllPairs Precedes rows
+
+-- a text in so many places, on the left and on the right
+abbrev pub left_in : ℕ → List ℕ → List ℕ
+left_in places text = text ++ replicate (places - length text) 32
+
+abbrev pub right_in : ℕ → List ℕ → List ℕ
+right_in places text = replicate (places - length text) 32 ++ text
+
+abbrev pub row_text : Booking → List ℕ
+row_text booking =
+    left_in 24 booking.slot.facility
+    ++ 32 ∷ two_digits booking.slot.hour
+    ++ codes ":00 "
+    ++ left_in 24 booking.key
+    ++ 32 ∷ right_in 9 (decimal booking.number)
+    ++ 32 ∷ right_in 2 (decimal (persons_of booking))
+    ++ 32 ∷ right_in 6 (decimal booking.charge)
+    ++ 10 ∷ []
+
+abbrev pub totals_text : List Booking → List ℕ
+totals_text [] = codes "No bookings." ++ 10 ∷ []
+totals_text (row ∷ rows) =
+    codes "Total bookings "
+    ++ decimal (length (row ∷ rows))
+    ++ codes ", persons "
+    ++ decimal (sum_by persons_of (row ∷ rows))
+    ++ codes ", charge "
+    ++ decimal (sum_by (λ (b : Booking). b.charge) (row ∷ rows))
+    ++ 10 ∷ []
+
+-- the text of these rows
+abbrev pub sheet_text : ℕ → List Booking → List ℕ
+sheet_text day rows = codes "Day sheet " ++ day_text day ++ 10 ∷ [] ++ flat_map row_text rows ++ totals_text rows
+
+-- the sheet of a club's day
+pub record IsSheet (club : Club) (day : ℕ) (text : List ℕ) : Type 0 where
+  pub rows : List Booking
+  pub are : AreRowsOf club day rows
+  pub told : text ≡ sheet_text day rows

@@ -1,0 +1,101 @@
+-- What a member's replies depend on: the member's own rows and events, and what others hold of the slots asked for (ours).
+use Rattle.std.specs.Prelude.{ℕ, ◌+◌, not, Bool, true, false, List, [], ◌∷◌, ◌++◌, filter, Option, Some, None, Result, Ok, Err, option_map, if◌then◌else◌}
+use Rattle.std.specs.Str.{bytes_eq}
+use Rattle.pass_caveats.specs.declared.slot.Slot.{Slot}
+use Rattle.club_core.specs.declared.member.Member.{Member}
+use Rattle.club_core.specs.declared.booking.Booking.{Booking}
+use Rattle.club_core.specs.declared.reply.Reply.{Reply}
+use Rattle.club_core.specs.declared.verdict.Verdict.{Verdict}
+use Rattle.club_core.specs.declared.change.Change.{Change}
+use Rattle.club_core.specs.declared.change.Change.TheVariants.{InsertMember, AddCredit, InsertFacility, InsertKey, MarkRevoked, MarkClosed, InsertBooking, MarkCancelled}
+use Rattle.club_core.specs.declared.command.OfficeFault.{OfficeFault}
+use Rattle.club_core.specs.Pass.{Words}
+use Rattle.club_core.specs.Club.{Club, keys_of, is_key_of, bookings_of, is_closed}
+use Rattle.club_core.specs.Sums.{taken_in}
+use Rattle.club_core.specs.Basis.{Basis, basis_of}
+use Rattle.club_core.specs.Request.{slot_of}
+use Rattle.club_core.specs.Answer.{answer_of}
+use Rattle.club_core.specs.After.{after}
+use Rattle.club_core.specs.Office.{office_verdict}
+use Rattle.club_core.specs.Run.{Event, Asked, Ordered, step, after_change}
+
+-- what others hold of a slot: their persons, and whether it is closed
+pub record Outside : Type 0 where
+  pub taken : ℕ
+  pub closed : Bool
+
+abbrev pub bookings_of_others : List ℕ → Club → List Booking
+bookings_of_others member club = filter (λ (booking : Booking). not (is_key_of member club booking.key)) club.bookings
+
+abbrev pub outside : List ℕ → Club → Option Slot → Outside
+outside member club None = record { taken = 0; closed = false }
+outside member club (Some slot) = record {
+  taken = taken_in slot (bookings_of_others member club);
+  closed = is_closed slot club;
+}
+
+-- a request of the member's with what others hold of its slot, or a change that the member's part follows
+pub data OwnEvent : Type 0 where
+  OwnAsk : (words : Words) (moment : ℕ) (others : Outside) → OwnEvent
+  OwnChange : (change : Change) → OwnEvent
+
+-- whether an order's change is the member's own: the member, its credit and keys, and each new facility
+abbrev pub is_own : List ℕ → Club → Change → Bool
+is_own name club (InsertMember member) = bytes_eq member.name name
+is_own name club (AddCredit member points) = bytes_eq member name
+is_own name club (InsertFacility facility) = true
+is_own name club (InsertKey key) = bytes_eq key.member name
+is_own name club (MarkRevoked key) = is_key_of name club key
+is_own name club (MarkClosed slot) = false
+is_own name club (InsertBooking booking) = false
+is_own name club (MarkCancelled key number refund) = false
+
+abbrev pub own_change : List ℕ → Club → Result Change OfficeFault → List OwnEvent
+own_change name club (Err fault) = []
+own_change name club (Ok change) = if is_own name club change then OwnChange change ∷ [] else []
+
+-- a request is the member's where it names a key of the member
+abbrev pub own_ask : List ℕ → Club → Words → ℕ → Option Basis → List OwnEvent
+own_ask name club words moment None = []
+own_ask name club words moment (Some basis) =
+    if bytes_eq basis.member.name name then OwnAsk words moment (outside name club (slot_of words.request)) ∷ [] else []
+
+abbrev pub own_part : List ℕ → Club → Event → List OwnEvent
+own_part name club (Asked words moment) = own_ask name club words moment (basis_of club words)
+own_part name club (Ordered command) = own_change name club (office_verdict club command)
+
+-- the member's own events in a run, in order
+abbrev pub own_events : List ℕ → Club → List Event → List OwnEvent
+own_events name club [] = []
+own_events name club (event ∷ events) = own_part name club event ++ own_events name (step club event).club events
+
+-- the member's own rows, and the facilities
+abbrev pub part_of : List ℕ → Club → Club
+part_of name club = record {
+  members = filter (λ (member : Member). bytes_eq member.name name) club.members;
+  facilities = club.facilities;
+  keys = keys_of name club;
+  bookings = bookings_of name club;
+  closed = [];
+}
+
+-- the basis in a club that holds the member's part alone, with what others hold of the slot
+abbrev pub with_others : Outside → Basis → Basis
+with_others others basis = record basis {
+  state = record {
+    facility = basis.state.facility;
+    taken = basis.state.taken + others.taken;
+    closed = others.closed;
+  };
+}
+
+abbrev pub solo_verdict : Club → Words → ℕ → Outside → Verdict
+solo_verdict part words moment others = answer_of words moment (option_map (with_others others) (basis_of part words))
+
+-- the replies to the member's requests in a club that holds nothing but the member's part
+abbrev pub solo_replies : Club → List OwnEvent → List Reply
+solo_replies part [] = []
+solo_replies part (OwnChange change ∷ events) = solo_replies (after change part) events
+solo_replies part (OwnAsk words moment others ∷ events) =
+    (solo_verdict part words moment others).reply
+    ∷ solo_replies (after_change (solo_verdict part words moment others).change part) events

@@ -1,0 +1,42 @@
+-- Sums over bookings (ours).
+use Rattle.std.specs.Prelude.{ℕ, ◌-◌, ◌==◌, ◌&&◌, not, Bool, List, length, nat_lt, filter, find, sum_by, Option}
+use Rattle.std.specs.Str.{bytes_eq}
+use Rattle.pass_caveats.specs.declared.slot.Slot.{Slot}
+use Rattle.pass_caveats.specs.Slot.{start_of}
+use Rattle.club_core.specs.declared.booking.Booking.{Booking}
+use Rattle.club_core.specs.declared.member.Member.{Member}
+use Rattle.club_core.specs.Booking.{same_slot, persons_of}
+
+-- whether a booking has a place in the slot
+abbrev pub is_in : Slot → Booking → Bool
+is_in slot booking = not booking.cancelled && same_slot booking.slot slot
+
+-- the persons who booked the slot
+abbrev pub taken_in : Slot → List Booking → ℕ
+taken_in slot bookings = sum_by persons_of (filter (is_in slot) bookings)
+
+-- what a booking has cost
+abbrev pub cost_of : Booking → ℕ
+cost_of booking = booking.charge - booking.refund
+
+abbrev pub is_under : List ℕ → Booking → Bool
+is_under key booking = bytes_eq booking.key key
+
+-- what a key has spent
+abbrev pub spent_under : List ℕ → List Booking → ℕ
+spent_under key bookings = sum_by cost_of (filter (is_under key) bookings)
+
+-- what a member has, of the points credited, after these bookings
+abbrev pub balance_of : Member → List Booking → ℕ
+balance_of member bookings = member.credited - sum_by cost_of bookings
+
+-- whether a booking is still to come
+abbrev pub is_to_come : ℕ → Booking → Bool
+is_to_come moment booking = not booking.cancelled && nat_lt moment (start_of booking.slot)
+
+abbrev pub count_to_come : ℕ → List Booking → ℕ
+count_to_come moment bookings = length (filter (is_to_come moment) bookings)
+
+-- the booking that the key has under a number
+abbrev pub booking_under : List ℕ → ℕ → List Booking → Option Booking
+booking_under key number bookings = find (λ booking. is_under key booking && booking.number == number) bookings

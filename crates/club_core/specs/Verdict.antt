@@ -1,0 +1,131 @@
+-- What an accepted request is answered, by what it sees (ours). The first line that fits decides.
+use Rattle.std.specs.Prelude.{ℕ, ◌+◌, ◌-◌, ◌==◌, ◌&&◌, not, false, List, [], ◌∷◌, nat_lt, nat_le, if◌then◌else◌, Option, Some, None}
+use Rattle.pass_caveats.specs.declared.slot.Slot.{Slot}
+use Rattle.pass_caveats.specs.Slot.{start_of}
+use Rattle.club_core.specs.declared.view.View.{View}
+use Rattle.club_core.specs.declared.verdict.Verdict.{Verdict}
+use Rattle.club_core.specs.declared.facility.Facility.{Facility}
+use Rattle.club_core.specs.declared.booking.Booking.{Booking}
+use Rattle.club_core.specs.declared.refusal.Refusal.{Refusal}
+use Rattle.club_core.specs.declared.refusal.Refusal.TheVariants.{NumberUsed, NoSuchFacility, NoSuchBooking, NotBookable, SlotClosed, NoPlaces, QuotaReached, BalanceTooLow, SlotHasBegun}
+use Rattle.club_core.specs.declared.reply.Reply.{Reply}
+use Rattle.club_core.specs.declared.reply.Reply.TheVariants.{SlotShown, Booked, Cancelled, AccountShown, Refused}
+use Rattle.club_core.specs.declared.change.Change.TheVariants.{InsertBooking, MarkCancelled}
+use Rattle.club_core.specs.declared.request.Request.{Request}
+use Rattle.club_core.specs.declared.request.Request.TheVariants as asked
+use Rattle.club_core.specs.Lines.{Line, line, first_of}
+use Rattle.club_core.specs.Facility.{charge_of, is_bookable}
+use Rattle.club_core.specs.Booking.{same_slot, refund_at}
+
+-- a reply that changes nothing
+abbrev pub told : Reply → Verdict
+told reply = record { reply = reply; change = None }
+
+abbrev pub refused : Refusal → Verdict
+refused refusal = told (Refused refusal)
+
+-- a slot is shown, with its facility
+abbrev pub slot_shown : View → Slot → Facility → Verdict
+slot_shown view slot facility = told (SlotShown slot facility.kind facility.price facility.places view.taken view.closed)
+
+-- the reply of a booking that is on record, as it was first told
+abbrev pub booked_before : Booking → Verdict
+booked_before booking = told (Booked booking.key booking.number booking.charge booking.left)
+
+-- the booking is written, with the places that it leaves
+abbrev pub new_booking : View → Slot → ℕ → ℕ → Facility → Booking
+new_booking view slot number guests facility = record {
+  key = view.key.name;
+  number = number;
+  slot = slot;
+  guests = guests;
+  charge = charge_of facility guests;
+  left = facility.places - (view.taken + guests + 1);
+  cancelled = false;
+  refund = 0;
+}
+
+abbrev pub booked : Booking → Verdict
+booked booking = record {
+  reply = Booked booking.key booking.number booking.charge booking.left;
+  change = Some (InsertBooking booking);
+}
+
+-- the booking is marked cancelled with its refund
+abbrev pub cancelled : Booking → ℕ → Verdict
+cancelled booking refund = record {
+  reply = Cancelled booking.key booking.number refund;
+  change = Some (MarkCancelled booking.key booking.number refund);
+}
+
+-- the refund of a booking that is cancelled, as it was first told
+abbrev pub cancelled_before : Booking → Verdict
+cancelled_before booking = told (Cancelled booking.key booking.number booking.refund)
+
+-- a booking under a number that is on record
+abbrev pub rebook_verdict : Booking → Slot → ℕ → Verdict
+rebook_verdict booking slot guests =
+    if same_slot booking.slot slot && booking.guests == guests then booked_before booking else refused NumberUsed
+
+-- why a booking under a new number is refused
+abbrev pub book_lines : View → Slot → ℕ → ℕ → Facility → List (Line Verdict)
+book_lines view slot guests moment facility =
+    line (not (is_bookable facility slot moment)) (refused NotBookable)
+    ∷ line view.closed (refused SlotClosed)
+    ∷ line (nat_lt facility.places (view.taken + guests + 1)) (refused NoPlaces)
+    ∷ line (nat_le view.member.quota view.open_count) (refused QuotaReached)
+    ∷ line (nat_lt view.balance (charge_of facility guests)) (refused BalanceTooLow)
+    ∷ []
+
+-- a booking under a new number
+abbrev pub new_verdict : View → Slot → ℕ → ℕ → ℕ → Option Facility → Verdict
+new_verdict view slot number guests moment None = refused NoSuchFacility
+new_verdict view slot number guests moment (Some facility) =
+    first_of (book_lines view slot guests moment facility) (booked (new_booking view slot number guests facility))
+
+abbrev pub recorded_or : Option Booking → (Booking → Verdict) → Verdict → Verdict
+recorded_or None recorded other = other
+recorded_or (Some booking) recorded other = recorded booking
+
+abbrev pub book_verdict : View → Slot → ℕ → ℕ → ℕ → Verdict
+book_verdict view slot number guests moment =
+    recorded_or view.booking (λ booking. rebook_verdict booking slot guests)
+    (new_verdict view slot number guests moment view.facility)
+
+-- what a cancelling of a number on record is told, where it changes nothing
+abbrev pub cancel_lines : Booking → Slot → ℕ → List (Line Verdict)
+cancel_lines booking slot moment =
+    line (not (same_slot booking.slot slot)) (refused NumberUsed)
+    ∷ line booking.cancelled (cancelled_before booking)
+    ∷ line (nat_le (start_of booking.slot) moment) (refused SlotHasBegun)
+    ∷ []
+
+-- a cancelling of a number that is on record
+abbrev pub recancel_verdict : Booking → Slot → ℕ → Verdict
+recancel_verdict booking slot moment =
+    first_of (cancel_lines booking slot moment) (cancelled booking (refund_at booking moment))
+
+-- a cancelling of a number that isn't on record
+abbrev pub unknown_verdict : Option Facility → Verdict
+unknown_verdict None = refused NoSuchFacility
+unknown_verdict (Some facility) = refused NoSuchBooking
+
+abbrev pub cancel_verdict : View → Slot → ℕ → Verdict
+cancel_verdict view slot moment =
+    recorded_or view.booking (λ booking. recancel_verdict booking slot moment) (unknown_verdict view.facility)
+
+abbrev pub shown_at : View → Slot → Option Facility → Verdict
+shown_at view slot None = refused NoSuchFacility
+shown_at view slot (Some facility) = slot_shown view slot facility
+
+abbrev pub view_verdict : View → Slot → Verdict
+view_verdict view slot = shown_at view slot view.facility
+
+abbrev pub account_verdict : View → Verdict
+account_verdict view = told (AccountShown view.member.name view.balance view.member.quota view.open_count view.spent)
+
+abbrev pub verdict_of : View → Request → ℕ → Verdict
+verdict_of view (asked.View slot) moment = view_verdict view slot
+verdict_of view (asked.Book slot number guests) moment = book_verdict view slot number guests moment
+verdict_of view (asked.Cancel slot number) moment = cancel_verdict view slot moment
+verdict_of view asked.Account moment = account_verdict view

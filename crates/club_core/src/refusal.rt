@@ -1,0 +1,154 @@
+ghost use Rattle.std.specs.Prelude.{◌≡◌, Some};
+
+use std::fmt;
+
+/// The methods of a path.
+#[derive(Clone, Copy, Debug, PartialEq, Eq)]
+pub enum Methods {
+    Get,
+    PutAndDelete,
+}
+
+/// Why a request is refused. The order is the one in which the causes are tested, but for the caveats, which go by their
+/// positions, and `Unavailable`, which can come at any time.
+#[derive(Clone, Copy, Debug, PartialEq, Eq)]
+pub enum Refusal {
+    BadRequest,
+    NoSuchPath,
+    /// The path is known, and has these methods alone.
+    MethodNotAllowed(Methods),
+    NoPass,
+    PassTooLong,
+    PassMalformed,
+    ThirdPartyCaveat,
+    TooManyCaveats,
+    /// The identifier names no key, or the signature is wrong.
+    NotVerified,
+    KeyRevoked,
+    /// The number of the caveat, from 1.
+    CaveatNotUnderstood(usize),
+    /// The number of the caveat, from 1.
+    CaveatDenies(usize),
+    /// The key used the number before, with other words.
+    NumberUsed,
+    NoSuchFacility,
+    NoSuchBooking,
+    /// The hour is out of opening, in the past, or too far ahead.
+    NotBookable,
+    SlotClosed,
+    NoPlaces,
+    QuotaReached,
+    BalanceTooLow,
+    SlotHasBegun,
+    /// Memory or storage was refused.
+    Unavailable,
+}
+
+impl Refusal {
+    ghost use Rattle.club_core.specs.Refusal.{telling_of, caveat_of_refusal};
+
+    /// The number of the fault in a reply, 1 to 22.
+    pub fn number(self) -> u8
+        ensures { result ≡ (telling_of self).number }
+    {
+        match self {
+            Refusal::BadRequest => 1,
+            Refusal::NoSuchPath => 2,
+            Refusal::MethodNotAllowed(_) => 3,
+            Refusal::NoPass => 4,
+            Refusal::PassTooLong => 5,
+            Refusal::PassMalformed => 6,
+            Refusal::ThirdPartyCaveat => 7,
+            Refusal::TooManyCaveats => 8,
+            Refusal::NotVerified => 9,
+            Refusal::KeyRevoked => 10,
+            Refusal::CaveatNotUnderstood(_) => 11,
+            Refusal::CaveatDenies(_) => 12,
+            Refusal::NumberUsed => 13,
+            Refusal::NoSuchFacility => 14,
+            Refusal::NoSuchBooking => 15,
+            Refusal::NotBookable => 16,
+            Refusal::SlotClosed => 17,
+            Refusal::NoPlaces => 18,
+            Refusal::QuotaReached => 19,
+            Refusal::BalanceTooLow => 20,
+            Refusal::SlotHasBegun => 21,
+            Refusal::Unavailable => 22,
+        }
+    }
+
+    /// The HTTP status of the reply.
+    pub fn status(self) -> u16
+        ensures { result ≡ (telling_of self).status }
+    {
+        match self {
+            Refusal::BadRequest
+            | Refusal::PassTooLong
+            | Refusal::PassMalformed
+            | Refusal::ThirdPartyCaveat
+            | Refusal::TooManyCaveats => 400,
+            Refusal::NoPass | Refusal::NotVerified => 401,
+            Refusal::BalanceTooLow => 402,
+            Refusal::KeyRevoked | Refusal::CaveatNotUnderstood(_) | Refusal::CaveatDenies(_) => 403,
+            Refusal::NoSuchPath | Refusal::NoSuchFacility | Refusal::NoSuchBooking => 404,
+            Refusal::MethodNotAllowed(_) => 405,
+            Refusal::NumberUsed
+            | Refusal::NotBookable
+            | Refusal::SlotClosed
+            | Refusal::NoPlaces
+            | Refusal::QuotaReached
+            | Refusal::SlotHasBegun => 409,
+            Refusal::Unavailable => 503,
+        }
+    }
+
+    /// The text of the fault in a reply.
+    pub fn text(self) -> &'static str
+        ensures { result.now ≡ (telling_of self).text }
+    {
+        match self {
+            Refusal::BadRequest => "bad request",
+            Refusal::NoSuchPath => "no such path",
+            Refusal::MethodNotAllowed(_) => "method not allowed",
+            Refusal::NoPass => "no pass",
+            Refusal::PassTooLong => "pass too long",
+            Refusal::PassMalformed => "pass malformed",
+            Refusal::ThirdPartyCaveat => "third-party caveat",
+            Refusal::TooManyCaveats => "too many caveats",
+            Refusal::NotVerified => "not verified",
+            Refusal::KeyRevoked => "key revoked",
+            Refusal::CaveatNotUnderstood(_) => "caveat not understood",
+            Refusal::CaveatDenies(_) => "caveat denies",
+            Refusal::NumberUsed => "number used",
+            Refusal::NoSuchFacility => "no such facility",
+            Refusal::NoSuchBooking => "no such booking",
+            Refusal::NotBookable => "not bookable",
+            Refusal::SlotClosed => "slot closed",
+            Refusal::NoPlaces => "no places",
+            Refusal::QuotaReached => "quota reached",
+            Refusal::BalanceTooLow => "balance too low",
+            Refusal::SlotHasBegun => "slot has begun",
+            Refusal::Unavailable => "unavailable",
+        }
+    }
+
+    /// The number of the caveat that refuses, from 1.
+    pub fn caveat(self) -> Option<usize>
+        ensures { result ≡ caveat_of_refusal self }
+    {
+        match self {
+            Refusal::CaveatNotUnderstood(n) | Refusal::CaveatDenies(n) => Some(n),
+            _ => None,
+        }
+    }
+}
+
+impl fmt::Display for Refusal {
+    ghost use Rattle.club_core.specs.Refusal.{telling_of};
+
+    ghost output = { λ refusal. Some (telling_of refusal).text };
+
+    fn fmt<W: fmt::Write>(&self, f: &mut fmt::Formatter<W>) -> fmt::Result {
+        f.write_str(self.text())
+    }
+}

@@ -1,0 +1,38 @@
+use crate::booking_number::BookingNumber;
+use crate::refusal::Refusal;
+use pass_caveats::{Kind, Name, Slot};
+
+/// What a request is answered.
+#[derive(Clone, Copy, Debug, PartialEq, Eq)]
+pub enum Reply {
+    SlotShown {
+        slot: Slot,
+        kind: Kind,
+        price: u16,
+        places: u8,
+        /// The persons who booked.
+        taken: u32,
+        closed: bool,
+    },
+    Booked {
+        key: Name,
+        number: BookingNumber,
+        charge: u32,
+        /// The places that were left after the booking.
+        left: u8,
+    },
+    Cancelled {
+        key: Name,
+        number: BookingNumber,
+        refund: u32,
+    },
+    AccountShown {
+        member: Name,
+        balance: u32,
+        quota: u8,
+        open_count: u64,
+        /// The points that this key has spent.
+        spent: u64,
+    },
+    Refused(Refusal),
+}

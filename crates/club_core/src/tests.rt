@@ -1,0 +1,419 @@
+use super::*;
+use pass_caveats::{Action, Day, Hour, Kind, Moment, Name, Slot};
+use std::alloc::{AllocError, Global};
+use std::test::*;
+
+/// `court-1` on 2026-05-01, at 18 unless told.
+fn slot_at(hour: u8) -> Option<Slot> {
+    Some(Slot {
+        facility: Name::read(b"court-1")?,
+        day: Day::read(b"2026-05-01")?,
+        hour: Hour::from_number(hour)?,
+    })
+}
+
+fn key() -> Option<Key> {
+    Some(Key {
+        name: Name::read(b"amy-1")?,
+        member: Name::read(b"amy")?,
+        root: Root::new(&[7; 16])?,
+        revoked: false,
+    })
+}
+
+fn court() -> Option<Facility> {
+    Some(Facility {
+        name: Name::read(b"court-1")?,
+        kind: Kind::Court,
+        places: 4,
+        price: 200,
+        opens: 8,
+        shuts: 22,
+    })
+}
+
+/// What a key sees before its first booking, of a member with quota 5 and 10,000 points.
+fn fresh() -> Option<View> {
+    let key = key()?;
+    Some(View {
+        key,
+        spent: 0,
+        member: Member {
+            name: key.member,
+            credited: 10_000,
+            quota: 5,
+        },
+        balance: 10_000,
+        open_count: 0,
+        facility: court(),
+        taken: 0,
+        closed: false,
+        booking: None,
+    })
+}
+
+/// The key's booking 7, of `court-1` on 2026-05-01 at 18 with two guests.
+fn booking() -> Option<Booking> {
+    Some(Booking {
+        key: Name::read(b"amy-1")?,
+        number: BookingNumber::new(7)?,
+        slot: slot_at(18)?,
+        guests: Guests::new(2)?,
+        charge: 600,
+        left: 1,
+        cancelled: false,
+        refund: 0,
+    })
+}
+
+/// The charge and the places left, or the refusal, of booking 7 at 18.
+fn booked(view: &View, guests: u8, moment: u32) -> Option<Result<(u32, u8), Refusal>> {
+    booked_at(view, 18, guests, moment)
+}
+
+fn booked_at(view: &View, hour: u8, guests: u8, moment: u32) -> Option<Result<(u32, u8), Refusal>> {
+    let slot = slot_at(hour)?;
+    let number = BookingNumber::new(7)?;
+    let moment = Moment::from_number(moment)?;
+    match decide_book(view, &slot, number, Guests::new(guests)?, moment).reply {
+        Reply::Booked { charge, left, .. } => Some(Ok((charge, left))),
+        Reply::Refused(refusal) => Some(Err(refusal)),
+        _ => None,
+    }
+}
+
+/// The refund, or the refusal, of a cancelling of booking 7 at an hour.
+fn cancelled(view: &View, hour: u8, moment: u32) -> Option<Result<u32, Refusal>> {
+    match decide_cancel(view, &slot_at(hour)?, Moment::from_number(moment)?).reply {
+        Reply::Cancelled { refund, .. } => Some(Ok(refund)),
+        Reply::Refused(refusal) => Some(Err(refusal)),
+        _ => None,
+    }
+}
+
+// 2026-04-20T12:00, and the minute at which the slot at 18 begins.
+const NOON: u32 = 29_611_440;
+
+const START: u32 = 29_627_640;
+
+#[test]
+fn bookings(rt: HostRuntime) -> Result<(), Fail> {
+    let cases = [
+        (3, 10_000, 0, false, 0, Ok((200, 0))),
+        (3, 10_000, 0, false, 1, Err(Refusal::NoPlaces)),
+        (0, 600, 0, false, 2, Ok((600, 1))),
+        (0, 599, 0, false, 2, Err(Refusal::BalanceTooLow)),
+        (4, 0, 5, true, 0, Err(Refusal::SlotClosed)),
+        (4, 0, 5, false, 0, Err(Refusal::NoPlaces)),
+        (0, 0, 5, false, 0, Err(Refusal::QuotaReached)),
+        (0, 0, 4, false, 0, Err(Refusal::BalanceTooLow)),
+    ];
+    for (taken, balance, open_count, closed, guests, want) in cases {
+        let mut view = fresh().ok_or("a view")?;
+        view.taken = taken;
+        view.balance = balance;
+        view.open_count = open_count;
+        view.closed = closed;
+        assert_eq!(rt; booked(&view, guests, NOON), Some(want));
+    }
+    Ok(())
+}
+
+/// The first refusal that fits, where every one fits that could come later.
+#[test]
+fn order_of_refusals(rt: HostRuntime) -> Result<(), Fail> {
+    let mut view = fresh().ok_or("a view")?;
+    view.taken = 4;
+    view.balance = 0;
+    view.open_count = 5;
+    view.closed = true;
+    assert_eq!(rt; booked(&view, 0, NOON), Some(Err(Refusal::SlotClosed)));
+    assert_eq!(rt; booked(&view, 0, START), Some(Err(Refusal::NotBookable)));
+    view.facility = None;
+    assert_eq!(rt; booked(&view, 0, START), Some(Err(Refusal::NoSuchFacility)));
+    view.booking = booking();
+    assert_eq!(rt; booked(&view, 0, START), Some(Err(Refusal::NumberUsed)));
+    assert_eq!(rt; cancelled(&view, 19, START), Some(Err(Refusal::NumberUsed)));
+    assert_eq!(rt;
+        cancelled(&view, 18, START),
+        Some(Err(Refusal::SlotHasBegun))
+    );
+    Ok(())
+}
+
+#[test]
+fn booking_window(rt: HostRuntime) -> Result<(), Fail> {
+    let view = fresh().ok_or("a view")?;
+    let cases = [
+        (18, START - 86_400, true),
+        (18, START - 86_401, false),
+        (18, START - 1, true),
+        (18, START, false),
+        (7, NOON, false),
+        (8, NOON, true),
+        (21, NOON, true),
+        (22, NOON, false),
+    ];
+    for (hour, moment, served) in cases {
+        let want = if served {
+            Ok((200, 3))
+        } else {
+            Err(Refusal::NotBookable)
+        };
+        assert_eq!(rt;
+            booked_at(&view, hour, 0, moment),
+            Some(want),
+            "{hour} {moment}"
+        );
+    }
+    Ok(())
+}
+
+#[test]
+fn largest_charge(rt: HostRuntime) -> Result<(), Fail> {
+    let mut view = fresh().ok_or("a view")?;
+    let mut facility = court().ok_or("a facility")?;
+    facility.places = 50;
+    facility.price = 9_999;
+    view.facility = Some(facility);
+    view.balance = 499_950;
+    assert_eq!(rt; booked(&view, 49, NOON), Some(Ok((499_950, 0))));
+    view.balance = 499_949;
+    assert_eq!(rt; booked(&view, 49, NOON), Some(Err(Refusal::BalanceTooLow)));
+    view.facility = None;
+    assert_eq!(rt; booked(&view, 49, NOON), Some(Err(Refusal::NoSuchFacility)));
+    Ok(())
+}
+
+#[test]
+fn repeats(rt: HostRuntime) -> Result<(), Fail> {
+    let mut view = fresh().ok_or("a view")?;
+    let mut recorded = booking().ok_or("a booking")?;
+    recorded.cancelled = true;
+    recorded.refund = 600;
+    view.booking = Some(recorded);
+    view.taken = 4;
+    assert_eq!(rt; booked(&view, 2, START), Some(Ok((600, 1))));
+    assert_eq!(rt; booked(&view, 1, NOON), Some(Err(Refusal::NumberUsed)));
+    assert_eq!(rt;
+        booked_at(&view, 19, 2, NOON),
+        Some(Err(Refusal::NumberUsed))
+    );
+    let slot = slot_at(18).ok_or("a slot")?;
+    let number = BookingNumber::new(7).ok_or("a number")?;
+    let guests = Guests::new(2).ok_or("guests")?;
+    let moment = Moment::from_number(NOON).ok_or("a moment")?;
+    let verdict = decide_book(&view, &slot, number, guests, moment);
+    assert_eq!(rt; verdict.change, None);
+    Ok(())
+}
+
+#[test]
+fn cancellings(rt: HostRuntime) -> Result<(), Fail> {
+    let mut view = fresh().ok_or("a view")?;
+    assert_eq!(rt;
+        cancelled(&view, 18, NOON),
+        Some(Err(Refusal::NoSuchBooking))
+    );
+    view.facility = None;
+    assert_eq!(rt;
+        cancelled(&view, 18, NOON),
+        Some(Err(Refusal::NoSuchFacility))
+    );
+    let mut recorded = booking().ok_or("a booking")?;
+    recorded.charge = 601;
+    view.booking = Some(recorded);
+    let cases = [
+        (18, START - 1440, Ok(601)),
+        (18, START - 1439, Ok(300)),
+        (18, START - 1, Ok(300)),
+        (18, START, Err(Refusal::SlotHasBegun)),
+        (19, START, Err(Refusal::NumberUsed)),
+    ];
+    for (hour, moment, want) in cases {
+        assert_eq!(rt;
+            cancelled(&view, hour, moment),
+            Some(want),
+            "{hour} {moment}"
+        );
+    }
+    let mut recorded = booking().ok_or("a booking")?;
+    recorded.cancelled = true;
+    recorded.refund = 300;
+    view.booking = Some(recorded);
+    assert_eq!(rt; cancelled(&view, 18, START), Some(Ok(300)));
+    Ok(())
+}
+
+#[test]
+fn showing(rt: HostRuntime) -> Result<(), Fail> {
+    let mut view = fresh().ok_or("a view")?;
+    view.taken = 3;
+    view.balance = 9_400;
+    view.open_count = 1;
+    view.spent = 600;
+    let slot = slot_at(18).ok_or("a slot")?;
+    let shown = Reply::SlotShown {
+        slot,
+        kind: Kind::Court,
+        price: 200,
+        places: 4,
+        taken: 3,
+        closed: false,
+    };
+    let account = Reply::AccountShown {
+        member: Name::read(b"amy").ok_or("a name")?,
+        balance: 9_400,
+        quota: 5,
+        open_count: 1,
+        spent: 600,
+    };
+    let moment = Moment::from_number(START).ok_or("a moment")?;
+    assert_eq!(rt; decide_view(&view, &slot).reply, shown);
+    assert_eq!(rt; decide_account(&view).reply, account);
+    assert_eq!(rt; decide(&view, &Request::Account, moment).reply, account);
+    view.facility = None;
+    let unknown = Reply::Refused(Refusal::NoSuchFacility);
+    assert_eq!(rt; decide_view(&view, &slot).reply, unknown);
+    Ok(())
+}
+
+#[test]
+fn asks(rt: HostRuntime) -> Result<(), Fail> {
+    let mut view = fresh().ok_or("a view")?;
+    let recorded = booking().ok_or("a booking")?;
+    let moment = Moment::from_number(NOON).ok_or("a moment")?;
+    let request = Request::Book {
+        slot: recorded.slot,
+        number: recorded.number,
+        guests: recorded.guests,
+    };
+    let ask = view.ask(&request, moment);
+    assert_eq!(rt; ask.action, Action::Book);
+    assert_eq!(rt; ask.kind, Some(Kind::Court));
+    assert_eq!(rt; (ask.guests, ask.owed, ask.spent), (2, 600, 0));
+    view.booking = Some(recorded);
+    assert_eq!(rt; view.ask(&request, moment).owed, 0);
+    assert_eq!(rt; view.ask(&Request::Account, moment).slot, None);
+    Ok(())
+}
+
+#[test]
+fn refusals(rt: HostRuntime) {
+    let cases = [
+        (
+            Refusal::MethodNotAllowed(Methods::Get),
+            3,
+            405,
+            "method not allowed",
+        ),
+        (Refusal::NotVerified, 9, 401, "not verified"),
+        (Refusal::CaveatDenies(1), 12, 403, "caveat denies"),
+        (Refusal::BalanceTooLow, 20, 402, "balance too low"),
+        (Refusal::SlotHasBegun, 21, 409, "slot has begun"),
+        (Refusal::Unavailable, 22, 503, "unavailable"),
+    ];
+    for (refusal, number, status, text) in cases {
+        assert_eq!(rt; (refusal.number(), refusal.status()), (number, status));
+        assert_eq!(rt; refusal.text(), text);
+    }
+    assert_eq!(rt; Refusal::CaveatNotUnderstood(2).caveat(), Some(2));
+}
+
+#[test]
+fn limits(rt: HostRuntime) {
+    for (number, within) in [
+        (0, false),
+        (1, true),
+        (999_999_999, true),
+        (1_000_000_000, false),
+    ] {
+        assert_eq!(rt; BookingNumber::new(number).is_some(), within);
+    }
+    assert_eq!(rt; Guests::new(49).map(|guests| guests.persons()), Some(50));
+    assert_eq!(rt; Guests::new(50), None);
+    for (len, within) in [(15, false), (16, true), (64, true), (65, false)] {
+        let bytes = [9; 65];
+        assert_eq!(rt; Root::new(&bytes[..len]).is_some(), within, "{len}");
+    }
+}
+
+#[test]
+fn columns(rt: HostRuntime) {
+    assert!(rt; Member::from_columns(b"amy", 999_999_999, 99).is_some());
+    assert_eq!(rt; Member::from_columns(b"amy", 1_000_000_000, 99), None);
+    assert_eq!(rt; Member::from_columns(b"amy", -1, 5), None);
+    assert_eq!(rt; Member::from_columns(b"Amy", 0, 5), None);
+    assert_eq!(rt; Key::from_columns(b"amy-1", b"amy", &[7; 16], 0), key());
+    assert_eq!(rt; Key::from_columns(b"amy-1", b"amy", &[7; 16], 2), None);
+    assert_eq!(rt; slot_from_columns(b"court-1", 20_574, 18), slot_at(18));
+    assert_eq!(rt; slot_from_columns(b"court-1", 20_574, 24), None);
+    let mut court_columns = FacilityColumns {
+        name: b"court-1",
+        kind: b"court",
+        places: 4,
+        price: 200,
+        opens: 8,
+        shuts: 22,
+    };
+    assert_eq!(rt; Facility::from_columns(&court_columns), court());
+    court_columns.shuts = 8;
+    assert_eq!(rt; Facility::from_columns(&court_columns), None);
+}
+
+#[test]
+fn booking_columns(rt: HostRuntime) {
+    let mut columns = BookingColumns {
+        key: b"amy-1",
+        number: 7,
+        facility: b"court-1",
+        day: 20_574,
+        hour: 18,
+        guests: 2,
+        charge: 600,
+        left: 1,
+        cancelled: 0,
+        refund: 0,
+    };
+    assert_eq!(rt; Booking::from_columns(&columns), booking());
+    columns.refund = 1;
+    assert_eq!(rt; Booking::from_columns(&columns), None);
+    columns.cancelled = 1;
+    assert!(rt; Booking::from_columns(&columns).is_some());
+    columns.refund = 601;
+    assert_eq!(rt; Booking::from_columns(&columns), None);
+}
+
+/// The bookings of two keys at `court-1` on 2026-05-01 at 18, of two guests and of none.
+fn day_rows() -> Option<[Booking; 2]> {
+    let first = booking()?;
+    let mut second = first;
+    second.key = Name::read(b"bob-1")?;
+    second.number = BookingNumber::new(2)?;
+    second.guests = Guests::new(0)?;
+    second.charge = 200;
+    second.left = 0;
+    Some([first, second])
+}
+
+fn is_sheet(alloc: Global, date: &[u8], rows: &[Booking], want: &str) -> Result<bool, AllocError> {
+    let Some(day) = Day::read(date) else {
+        return Ok(false);
+    };
+    Ok(sheet_text(alloc, day, rows)?.as_str() == want)
+}
+
+#[test]
+fn day_sheet(rt: HostRuntime) -> Result<(), Fail> {
+    let rows = day_rows().ok_or("rows")?;
+    let full = "\
+Day sheet 2026-05-01
+court-1                  18:00 amy-1                            7  3    600
+court-1                  18:00 bob-1                            2  1    200
+Total bookings 2, persons 4, charge 800
+";
+    assert!(rt; is_sheet(rt.alloc(), b"2026-05-01", &rows, full)?);
+    let empty = "Day sheet 2026-05-02\nNo bookings.\n";
+    assert!(rt; is_sheet(rt.alloc(), b"2026-05-02", &[], empty)?);
+    Ok(())
+}
