@@ -1,0 +1,54 @@
+-- What a basis is made of.
+use Rattle.std.proofs.Common.{◌≡◌, ℕ, List, Option, Some, None, Result, Ok, option_map, option_and_then, bytes_eq, refl, sym, ap, ◌∙◌, subst}
+use Rattle.std.proofs.lemmas.Option.{same_Some}
+use Rattle.club_core.specs.declared.key.Key.{Key}
+use Rattle.club_core.specs.declared.member.Member.{Member}
+use Rattle.club_core.specs.declared.request.Request.{Request}
+use Rattle.club_core.specs.Request.{slot_of}
+use Rattle.club_core.specs.Pass.{FormFault, Pass, Words}
+use Rattle.club_core.specs.Club.{Club, key_named, member_named, bookings_of}
+use Rattle.club_core.specs.Basis.{Basis, basis_of, basis_under, state_of, key_of}
+use Rattle.club_laws.proofs.Finding.{find_passes, same_bytes}
+
+abbrev pub basis_with : Club → Request → Key → Member → Basis
+basis_with club request key member =
+    record { key = key; member = member; bookings = bookings_of member.name club; state = state_of club (slot_of request) }
+
+-- the rows that a basis rests on
+pub record RestsOn (club : Club) (request : Request) (name : Option (List ℕ)) (basis : Basis) : Type 0 where
+  pub named : name ≡ Some basis.key.name
+  pub row : key_named basis.key.name club ≡ Some basis.key
+  pub member : member_named basis.key.member club ≡ Some basis.member
+  pub whole : basis ≡ basis_with club request basis.key basis.member
+
+with_member : (club : Club) (request : Request) (key : Key) (member : Option Member) (basis : Basis) → option_map (basis_with club request key) member ≡ Some basis → (key ≡ basis.key) × (member ≡ Some basis.member) × (basis ≡ basis_with club request basis.key basis.member)
+with_member club request key None basis e = absurd (cc)
+with_member club request key (Some member) basis e =
+    let s : basis_with club request key member ≡ basis = same_Some (basis_with club request key member) basis e in
+    let k : key ≡ basis.key = ap (λ (b : Basis). b.key) s in
+    let m : member ≡ basis.member = ap (λ (b : Basis). b.member) s in
+    (k, ap Some m, sym s ∙ (ap (λ (x : Key). basis_with club request x member) k ∙ ap (λ (x : Member). basis_with club request basis.key x) m))
+
+with_key : (club : Club) (request : Request) (name : List ℕ) (key : Option Key) (basis : Basis) → key_named name club ≡ key → option_and_then (basis_under club request) key ≡ Some basis → RestsOn club request (Some name) basis
+with_key club request name None basis f e = absurd (cc)
+with_key club request name (Some key) basis f e =
+    let parts = with_member club request key (member_named key.member club) basis e in
+    let same : key.name ≡ name = same_bytes key.name name (find_passes (λ (k : Key). bytes_eq k.name name) club.keys key f) in
+    let at : name ≡ basis.key.name = sym same ∙ ap (λ (k : Key). k.name) parts.0 in
+    record {
+      named = ap Some at;
+      row = subst (λ (n : List ℕ). key_named n club ≡ Some basis.key) at (f ∙ ap Some parts.0);
+      member = subst (λ (k : Key). member_named k.member club ≡ Some basis.member) parts.0 parts.1;
+      whole = parts.2;
+    }
+
+with_name : (club : Club) (request : Request) (name : Option (List ℕ)) (basis : Basis) → option_and_then (basis_under club request) (option_and_then (λ (n : List ℕ). key_named n club) name) ≡ Some basis → RestsOn club request name basis
+with_name club request None basis e = absurd (cc)
+with_name club request (Some name) basis e = with_key club request name (key_named name club) basis refl e
+
+pub rests_on_name : (club : Club) (words : Words) (basis : Basis) → basis_of club words ≡ Some basis → RestsOn club words.request (key_of words.pass) basis
+rests_on_name club words basis e = with_name club words.request (key_of words.pass) basis e
+
+pub rests_on : (club : Club) (words : Words) (pass : Pass) (basis : Basis) → words.pass ≡ Ok pass → basis_of club words ≡ Some basis → RestsOn club words.request pass.key basis
+rests_on club words pass basis f e =
+    subst (λ (p : Result Pass FormFault). RestsOn club words.request (key_of p) basis) f (rests_on_name club words basis e)

@@ -1,0 +1,116 @@
+-- A total that grows with each first entry is the total of the first entries.
+use Rattle.std.proofs.Common.{◌≡◌, ℕ, ◌+◌, Bool, true, false, cond, List, [], ◌∷◌, ◌++◌, refl, sym, ap, ◌∙◌, subst, arith}
+use Rattle.std.specs.Prelude.{◌&&◌, ◌||◌, ◌==◌, not, filter, sum_by}
+use Rattle.std.specs.Str.{bytes_eq}
+use Rattle.std.proofs.lemmas.List.Elements.{filter_agree}
+use Rattle.std.proofs.lemmas.List.Sums.{sum_by-cons}
+use Rattle.std.proofs.lemmas.Bool.{and_parts, eqb-true}
+use Rattle.club_laws.specs.Points.{Entry, is_entry_of, firsts}
+use Rattle.club_laws.proofs.FoundRows.{bytes_same}
+
+-- which keys and numbers are on record
+abbrev pub Seen : Type 0
+Seen = List ℕ → ℕ → Bool
+
+-- one more key and number
+abbrev pub with_entry : Entry → Seen → Seen
+with_entry entry seen key number = seen key number || (bytes_eq key entry.key && number == entry.number)
+
+-- an entry that counts: its key passes, and it is not on record
+abbrev pub counts : (List ℕ → Bool) → Seen → Entry → Bool
+counts p seen entry = p entry.key && not (seen entry.key entry.number)
+
+abbrev pub points_of : Entry → ℕ
+points_of entry = entry.points
+
+-- the points of the first entries that aren't on record
+abbrev pub unseen_total : (List ℕ → Bool) → Seen → List Entry → ℕ
+unseen_total p seen entries = sum_by points_of (filter (counts p seen) (firsts entries))
+
+pub filter-filter : {X : Type 0} (p q : X → Bool) (xs : List X) → filter p (filter q xs) ≡ filter (λ x. q x && p x) xs
+filter-filter p q [] = refl
+filter-filter {X} p q (x ∷ xs) = go (p x) (q x) refl (filter-filter p q xs)
+  where
+    go : (b c : Bool) → p x ≡ b → filter p (filter q xs) ≡ filter (λ y. q y && p y) xs → filter p (cond c (x ∷ filter q xs) (filter q xs)) ≡ cond (c && b) (x ∷ filter (λ y. q y && p y) xs) (filter (λ y. q y && p y) xs)
+    go true true e rest = rw e (ap (λ (ys : List X). x ∷ ys) rest)
+    go false true e rest = rw e rest
+    go b false e rest = rest
+
+-- the entries of a key and number are alike to whoever sees the key and number alone
+alike : (seen : Seen) (entry other : Entry) → is_entry_of entry.key entry.number other ≡ true → seen other.key other.number ≡ seen entry.key entry.number
+alike seen entry other e =
+    let parts = and_parts (bytes_eq other.key entry.key) (other.number == entry.number) e in
+    ap (λ (key : List ℕ). seen key other.number) (bytes_same other.key entry.key parts.0) ∙ ap (seen entry.key) (eqb-true other.number entry.number parts.1)
+
+-- an entry on record adds nothing
+pub seen_adds_nothing : (p : List ℕ → Bool) (seen : Seen) (entry : Entry) (entries : List Entry) → seen entry.key entry.number ≡ true → unseen_total p seen (entry ∷ entries) ≡ unseen_total p seen entries
+seen_adds_nothing p seen entry entries e =
+    let others : Entry → Bool = λ (other : Entry). not (is_entry_of entry.key entry.number other) in
+    let rest : filter (counts p seen) (filter others (firsts entries)) ≡ filter (counts p seen) (firsts entries) =
+    filter-filter (counts p seen) others (firsts entries) ∙ filter_agree (λ other. others other && counts p seen other) (counts p seen) (λ other. same other) (firsts entries) in
+    ap (λ (kept : List Entry). sum_by points_of kept) (drops (p entry.key) (seen entry.key entry.number) e (filter (counts p seen) (filter others (firsts entries))) ∙ rest)
+  where
+    drops : (b c : Bool) → c ≡ true → (kept : List Entry) → cond (b && not c) (entry ∷ kept) kept ≡ kept
+    drops true true h kept = refl
+    drops false c h kept = refl
+    drops true false h kept = absurd (cc)
+
+    go : (a b c : Bool) → (a ≡ true → c ≡ true) → (not a && (b && not c)) ≡ (b && not c)
+    go false b c h = refl
+    go true true true h = refl
+    go true false c h = refl
+    go true true false h = absurd (let f : false ≡ true = h refl in cc)
+
+    same : (other : Entry) → (not (is_entry_of entry.key entry.number other) && counts p seen other) ≡ counts p seen other
+    same other = go (is_entry_of entry.key entry.number other) (p other.key) (seen other.key other.number) (λ h. alike seen entry other h ∙ e)
+
+-- a new one adds its points, and is on record from then on
+pub new_adds_its_points : (p : List ℕ → Bool) (seen : Seen) (entry : Entry) (entries : List Entry) → seen entry.key entry.number ≡ false → unseen_total p seen (entry ∷ entries) ≡ cond (p entry.key) entry.points 0 + unseen_total p (with_entry entry seen) entries
+new_adds_its_points p seen entry entries e =
+    let others : Entry → Bool = λ (other : Entry). not (is_entry_of entry.key entry.number other) in
+    let rest : filter (counts p seen) (filter others (firsts entries)) ≡ filter (counts p (with_entry entry seen)) (firsts entries) =
+    filter-filter (counts p seen) others (firsts entries) ∙ filter_agree (λ other. others other && counts p seen other) (counts p (with_entry entry seen)) (λ other. same other) (firsts entries) in
+    keeps (p entry.key) (seen entry.key entry.number) e (filter (counts p seen) (filter others (firsts entries)))
+    ∙ ap (λ (kept : List Entry). cond (p entry.key) entry.points 0 + sum_by points_of kept) rest
+  where
+    keeps : (b c : Bool) → c ≡ false → (kept : List Entry) → sum_by points_of (cond (b && not c) (entry ∷ kept) kept) ≡ cond b entry.points 0 + sum_by points_of kept
+    keeps true false h kept = sum_by-cons points_of entry kept
+    keeps false c h kept = omega arith
+    keeps true true h kept = absurd (cc)
+
+    go : (a b c d : Bool) → a ≡ d → (not a && (b && not c)) ≡ (b && not (c || d))
+    go true true true d h = refl
+    go true true false true h = refl
+    go true true false false h = absurd (cc)
+    go true false c d h = refl
+    go false true true d h = refl
+    go false true false false h = refl
+    go false true false true h = absurd (cc)
+    go false false c d h = refl
+
+    same : (other : Entry) → (not (is_entry_of entry.key entry.number other) && counts p seen other) ≡ counts p (with_entry entry seen) other
+    same other = go (is_entry_of entry.key entry.number other) (p other.key) (seen other.key other.number) (is_entry_of entry.key entry.number other) refl
+
+-- how a total and what is on record move with what a reply tells
+pub data Moves (p : List ℕ → Bool) (total new_total : ℕ) (seen new_seen : Seen) (told : List Entry) : Type 0 where
+  Stays : told ≡ [] → new_total ≡ total → ((key : List ℕ) (number : ℕ) → new_seen key number ≡ seen key number) → Moves p total new_total seen new_seen told
+  Repeats : (entry : Entry) → told ≡ entry ∷ [] → seen entry.key entry.number ≡ true → new_total ≡ total → ((key : List ℕ) (number : ℕ) → new_seen key number ≡ seen key number) → Moves p total new_total seen new_seen told
+  Adds : (entry : Entry) → told ≡ entry ∷ [] → seen entry.key entry.number ≡ false → new_total ≡ total + cond (p entry.key) entry.points 0 → ((key : List ℕ) (number : ℕ) → new_seen key number ≡ with_entry entry seen key number) → Moves p total new_total seen new_seen told
+
+same_unseen : (p : List ℕ → Bool) (seen new_seen : Seen) (entries : List Entry) → ((key : List ℕ) (number : ℕ) → new_seen key number ≡ seen key number) → unseen_total p new_seen entries ≡ unseen_total p seen entries
+same_unseen p seen new_seen entries h =
+    ap (λ (kept : List Entry). sum_by points_of kept)
+    (filter_agree (counts p new_seen) (counts p seen) (λ entry. ap (λ b. p entry.key && not b) (h entry.key entry.number)) (firsts entries))
+
+pub moved : (p : List ℕ → Bool) (total new_total : ℕ) (seen new_seen : Seen) (told rest : List Entry) (end : ℕ) → Moves p total new_total seen new_seen told → end ≡ new_total + unseen_total p new_seen rest → end ≡ total + unseen_total p seen (told ++ rest)
+moved p total new_total seen new_seen told rest end (Stays none same kept) h =
+    let later = same_unseen p seen new_seen rest kept in
+    subst (λ (t : List Entry). end ≡ total + unseen_total p seen (t ++ rest)) (sym none) (omega arith)
+moved p total new_total seen new_seen told rest end (Repeats entry one known same kept) h =
+    let later = same_unseen p seen new_seen rest kept in
+    let first = seen_adds_nothing p seen entry rest known in
+    subst (λ (t : List Entry). end ≡ total + unseen_total p seen (t ++ rest)) (sym one) (omega arith)
+moved p total new_total seen new_seen told rest end (Adds entry one new more kept) h =
+    let later = same_unseen p (with_entry entry seen) new_seen rest kept in
+    let first = new_adds_its_points p seen entry rest new in
+    subst (λ (t : List Entry). end ≡ total + unseen_total p seen (t ++ rest)) (sym one) (omega arith)

@@ -1,0 +1,123 @@
+-- The changes that requests make fit a sound club.
+use Rattle.std.proofs.Common.{◌≡◌, ℕ, ◌+◌, ◌-◌, ◌*◌, ◌/◌, ◌≤◌, Bool, true, false, cond, List, get_or, refl, sym, ap, ◌∙◌, subst, arith}
+use Rattle.std.specs.Prelude.{◌==◌, not, nat_le, sum_by}
+use Rattle.std.specs.Str.{bytes_eq}
+use Rattle.std.proofs.lemmas.Bool.{both_ways, and_parts, and_from, eq-eqb, ltb-false}
+use Rattle.std.proofs.lemmas.List.Folds.{Any-from_list_any}
+use Rattle.std.proofs.lemmas.Nat.{mul-le}
+use Rattle.pass_caveats.specs.declared.slot.Slot.{Slot}
+use Rattle.pass_caveats.specs.Slot.{start_of}
+use Rattle.club_core.specs.declared.member.Member.{Member}
+use Rattle.club_core.specs.declared.facility.Facility.{Facility}
+use Rattle.club_core.specs.declared.key.Key.{Key}
+use Rattle.club_core.specs.declared.booking.Booking.{Booking}
+use Rattle.club_core.specs.declared.verdict.Verdict.{Verdict}
+use Rattle.club_core.specs.declared.request.Request.TheVariants as asked
+use Rattle.club_core.specs.Rows.{IsFacility, IsKey, IsBooking}
+use Rattle.club_core.specs.Booking.{same_slot, refund_at}
+use Rattle.club_core.specs.Facility.{charge_of}
+use Rattle.club_core.specs.Pass.{Words}
+use Rattle.club_core.specs.Club.{Club, IsSound, is_key_of, bookings_of}
+use Rattle.club_core.specs.Sums.{cost_of, taken_in, is_under, balance_of}
+use Rattle.club_core.specs.Basis.{basis_of}
+use Rattle.club_core.specs.After.{is_marked}
+use Rattle.club_core.specs.Answer.{answer_of}
+use Rattle.club_laws.specs.Events.{IsRequest}
+use Rattle.club_laws.proofs.FoundRows.{at_found, found_is_there, found_passes, none_found, Contains-map, All-each, bytes_same, same_bytes}
+use Rattle.club_laws.proofs.NamedRows.{named_there, only_named, slots_same, is_numbered, numbered, only_numbered}
+use Rattle.club_laws.proofs.KeyOwners.{is_own, is_key_of-any}
+use Rattle.club_laws.proofs.AnswerCases.{Knows, Books, Cancels, written, answer_cases}
+use Rattle.club_laws.proofs.FittingChanges.{FitsIfAny, FitsBooking, FitsCancelling}
+
+-- whoever's key it is, is the member that its row names
+pub owner : (club : Club) → IsSound club → (words : Words) (key : Key) (member : Member) → Knows club words key member → (name : List ℕ) → is_key_of name club key.name ≡ true → name ≡ key.member
+owner club s words key member k name e =
+    let any = Any-from_list_any (is_own name key.name) club.keys (sym (is_key_of-any name club key.name) ∙ e) in
+    let other = get_or club.keys any.0 any.1 in
+    let is : any.1 ≡ key =
+    subst (λ (x : Key). bytes_eq x.name key.name ≡ true → x ≡ key) any.3
+    (only_named (λ (x : Key). x.name) key.name club.keys key s.unique.keys k.known any.0 any.1 any.2)
+    (and_parts (bytes_eq any.1.member name) (bytes_eq any.1.name key.name) any.4).1 in
+    sym (bytes_same any.1.member name (and_parts (bytes_eq any.1.member name) (bytes_eq any.1.name key.name) any.4).0) ∙ ap (λ (x : Key). x.member) is
+
+module _ (club : Club) (s : IsSound club) (words : Words) (key : Key) (member : Member) (k : Knows club words key member) where
+  row_of_booking : (slot : Slot) (number guests : ℕ) (facility : Facility) → IsRequest (asked.Book slot number guests) → Books club key member slot number guests facility → IsBooking (written club key slot number guests facility)
+  row_of_booking slot number guests facility r b =
+      let row = at_found IsFacility (λ (f : Facility). bytes_eq f.name slot.facility) club.facilities facility s.rows.facilities b.located in
+      let key_row = at_found IsKey (λ (other : Key). bytes_eq other.name key.name) club.keys key s.rows.keys k.known in
+      let few : guests ≤ 49 = r.2 in
+      let small : facility.price * (guests + 1) ≤ 9_999 * 50 = mul-le facility.price (guests + 1) 9_999 50 row.price (omega arith) in
+      let places : facility.places ≤ 50 = row.few_places in
+      record {
+        key = key_row.name;
+        number = r.1;
+        slot = r.0;
+        guests = r.2;
+        charge = small;
+        left = omega arith;
+        refund = omega arith;
+        kept = λ e. refl;
+      }
+
+  paid_for : (slot : Slot) (number guests : ℕ) (facility : Facility) → Books club key member slot number guests facility → (other : Member) → (bytes_eq other.name key.member ≡ true → other ≡ member) → is_key_of other.name club key.name ≡ true → sum_by cost_of (bookings_of other.name club) + (charge_of facility guests - 0) ≤ other.credited
+  paid_for slot number guests facility b other is e =
+      let own : other.name ≡ key.member = owner club s words key member k other.name e in
+      let same : other ≡ member = is (subst (λ (n : List ℕ). bytes_eq other.name n ≡ true) own (same_bytes other.name)) in
+      let enough = ltb-false (balance_of member (bookings_of member.name club)) (charge_of facility guests) b.paid in
+      let covered : sum_by cost_of (bookings_of member.name club) ≤ member.credited =
+      at_found (λ (m : Member). sum_by cost_of (bookings_of m.name club) ≤ m.credited) (λ (m : Member). bytes_eq m.name key.member) club.members member s.balances k.owned in
+      subst (λ (m : Member). sum_by cost_of (bookings_of m.name club) + (charge_of facility guests - 0) ≤ m.credited) (sym same) (omega arith)
+
+  placed_in : (slot : Slot) (number guests : ℕ) (facility : Facility) → Books club key member slot number guests facility → (other : Facility) → (bytes_eq other.name slot.facility ≡ true → other ≡ facility) → (at : Slot) → at.facility ≡ other.name → same_slot slot at ≡ true → taken_in at club.bookings + (guests + 1) ≤ other.places
+  placed_in slot number guests facility b other is at of e =
+      let same : slot ≡ at = slots_same slot at e in
+      let name : other.name ≡ slot.facility = sym of ∙ ap (λ (x : Slot). x.facility) (sym same) in
+      let it : other ≡ facility = is (subst (λ (n : List ℕ). bytes_eq other.name n ≡ true) name (same_bytes other.name)) in
+      let room = ltb-false facility.places (taken_in slot club.bookings + guests + 1) b.placed in
+      let there : taken_in slot club.bookings + (guests + 1) ≤ facility.places = omega arith in
+      subst (λ (x : Slot). taken_in x club.bookings + (guests + 1) ≤ other.places) same
+      (subst (λ (f : Facility). taken_in slot club.bookings + (guests + 1) ≤ f.places) (sym it) there)
+
+  fits_booking : (slot : Slot) (number guests : ℕ) (facility : Facility) → IsRequest (asked.Book slot number guests) → Books club key member slot number guests facility → FitsBooking club (written club key slot number guests facility)
+  fits_booking slot number guests facility r b = record {
+    row = row_of_booking slot number guests facility r b;
+    fresh =
+        All-each (λ (other : Booking). is_numbered key.name number other ≡ false) (λ (other : Booking). ¬ ((other.key ≡ key.name) × (other.number ≡ number))) club.bookings
+        (λ other f same. both_ways (is_numbered key.name number other) f
+        (and_from (is_under key.name other) (other.number == number) (subst (λ (n : List ℕ). bytes_eq other.key n ≡ true) same.0 (same_bytes other.key)) (eq-eqb other.number number same.1)))
+        (none_found (is_numbered key.name number) club.bookings b.new);
+    known = Contains-map (λ (x : Key). x.name) club.keys key (found_is_there (λ (other : Key). bytes_eq other.name key.name) club.keys key k.known);
+    located = named_there (λ (f : Facility). f.name) slot.facility club.facilities facility b.located;
+    paid = λ i d short. paid_for slot number guests facility b (get_or club.members i d) (only_named (λ (m : Member). m.name) key.member club.members member s.unique.members k.owned i d short);
+    placed = λ i d short at of e. placed_in slot number guests facility b (get_or club.facilities i d) (only_named (λ (f : Facility). f.name) slot.facility club.facilities facility s.unique.facilities b.located i d short) at of e;
+  }
+
+  refund_covered : (booking : Booking) (moment : ℕ) → refund_at booking moment ≤ booking.charge
+  refund_covered booking moment = go (nat_le (moment + 1440) (start_of booking.slot))
+    where
+      go : (b : Bool) → cond b booking.charge (booking.charge / 2) ≤ booking.charge
+      go true = omega arith
+      go false = omega arith
+
+  fits_cancelling : (slot : Slot) (number moment : ℕ) (booking : Booking) → Cancels club key slot number booking → FitsCancelling club booking.key booking.number (refund_at booking moment)
+  fits_cancelling slot number moment booking c =
+      let it = numbered key.name number booking (found_passes (is_numbered key.name number) club.bookings booking c.found) in
+      record {
+        covered =
+            All-each (λ other. is_numbered key.name number other ≡ true → other ≡ booking) (λ other. is_marked booking.key booking.number other ≡ true → refund_at booking moment ≤ other.charge) club.bookings
+            (λ other is e.
+            let parts = and_parts (is_numbered booking.key booking.number other) (not other.cancelled) e in
+            let at : is_numbered key.name number other ≡ true = subst (λ (n : ℕ). is_numbered key.name n other ≡ true) it.1 (subst (λ (n : List ℕ). is_numbered n booking.number other ≡ true) it.0 parts.0) in
+            subst (λ (n : ℕ). refund_at booking moment ≤ n) (sym (ap (λ (x : Booking). x.charge) (is at))) (refund_covered booking moment))
+            (only_numbered key.name number club.bookings booking s.unique.bookings c.found);
+      }
+
+pub fits_answer : (club : Club) (words : Words) (moment : ℕ) → IsSound club → IsRequest words.request → FitsIfAny club (answer_of words moment (basis_of club words)).change
+fits_answer club words moment s r =
+    answer_cases (λ (v : Verdict). FitsIfAny club v.change) club words moment (record {
+      silent = λ reply h. tt;
+      rebooks = λ key member slot number guests booking k e b. tt;
+      books = λ key member slot number guests facility k e b. fits_booking club s words key member k slot number guests facility (subst IsRequest e r) b;
+      recancels = λ key member slot number booking k e b. tt;
+      cancels = λ key member slot number booking k e c. fits_cancelling club s words key member k slot number moment booking c;
+    })

@@ -1,0 +1,45 @@
+use Rattle.std.proofs.Common.{[], ◌∷◌, Some, Ok, refl}
+use Rattle.std.specs.Prelude.{true, false, codes}
+use Rattle.pass_caveats.specs.declared.kind.Kind.TheVariants.{Court}
+use Rattle.pass_caveats.specs.declared.caveat.Caveat.TheVariants.{Spend}
+use Rattle.pass_caveats.specs.CaveatOf.{permits}
+use Rattle.club_core.specs.declared.request.Request.TheVariants as asked
+use Rattle.club_core.specs.Examples.{slot_at, noon, root, ask}
+use Rattle.club_laws.proofs.once.accepts_a_repeat.Goals as goal
+
+pub returns : goal.returns
+unfolding permits
+returns c = record {
+  served = record {
+    front = [];
+    first = record {
+      pass = Ok (record { key = Some (codes "amy-1"); caveats = []; is_signed = λ _. true });
+      request = asked.Book (slot_at 18) 7 2;
+    };
+    moment = noon;
+    rest = ask (asked.Cancel (slot_at 18) 7) noon ∷ [];
+    place = refl;
+    told = refl;
+    served = tt;
+    same_key = refl;
+    same_request = refl;
+  };
+  accepted = record {
+    pass = record { key = Some (codes "amy-1"); caveats = Some (Spend 0) ∷ []; is_signed = λ _. true };
+    basis = record {
+      key = record { name = codes "amy-1"; member = codes "amy"; root = root; revoked = false };
+      member = record { name = codes "amy"; credited = 10_000; quota = 5 };
+      bookings = record { key = codes "amy-1"; number = 7; slot = slot_at 18; guests = 2; charge = 600; left = 1; cancelled = true; refund = 600 } ∷ [];
+      state = record {
+        facility = Some (record { name = codes "court-1"; kind = Court; places = 4; price = 200; opens = 8; shuts = 22 });
+        taken = 0;
+        closed = false;
+      };
+    };
+    formed = refl;
+    known = refl;
+    signed = refl;
+    valid = refl;
+    allowed = refl;
+  };
+}

@@ -1,0 +1,31 @@
+-- Points are neither made nor lost, and no slot is overbooked (ours).
+use Rattle.std.specs.Prelude.{◌≡◌, ℕ, ◌+◌, ◌≤◌, List, All, sum_by, Some, MatchOption}
+use Rattle.pass_caveats.specs.declared.slot.Slot.{Slot}
+use Rattle.club_core.specs.declared.member.Member.{Member}
+use Rattle.club_core.specs.declared.facility.Facility.{Facility}
+use Rattle.club_core.specs.Club.{Club, empty_club, member_named, facility_named, bookings_of}
+use Rattle.club_core.specs.Sums.{cost_of, balance_of, taken_in}
+use Rattle.club_core.specs.Run.{Event, EventReply, replies_of, club_after}
+use Rattle.club_laws.specs.Events.{IsEvent}
+use Rattle.club_laws.specs.Points.{keys_given, credits_accepted, charges_told, refunds_told, total_under}
+
+-- what the member has and what its keys were first charged for each number make what it was credited and what its keys
+-- were first refunded; and its balance, which is what it was credited less what its bookings cost, is never below 0
+pub record IsConserved (club : Club) (events : List Event) (replies : List EventReply) (member : Member) : Type 0 where
+  pub balanced :
+      balance_of member (bookings_of member.name club) + total_under (keys_given member.name events replies) (charges_told replies)
+      ≡ credits_accepted member.name events replies + total_under (keys_given member.name events replies) (refunds_told replies)
+  pub covered : sum_by cost_of (bookings_of member.name club) ≤ member.credited
+
+abbrev pub ConservesPoints : Type 0
+ConservesPoints =
+    (events : List Event) (name : List ℕ) (member : Member) → All IsEvent events
+    → member_named name (club_after empty_club events) ≡ Some member
+    → IsConserved (club_after empty_club events) events (replies_of empty_club events) member
+
+-- the persons who booked a slot have places in it; nobody booked a slot of no facility
+abbrev pub NeverOverbooks : Type 0
+NeverOverbooks =
+    (events : List Event) (slot : Slot) → All IsEvent events
+    → let club = club_after empty_club events in
+    MatchOption (facility_named slot.facility club) (taken_in slot club.bookings ≡ 0) (λ (facility : Facility). taken_in slot club.bookings ≤ facility.places)

@@ -1,0 +1,56 @@
+-- Runs on which the definitions of points and repeats compute (ours).
+use Rattle.std.specs.Prelude.{◌≡◌, ℕ, true, List, [], ◌∷◌, ◌++◌, Some, Ok, codes}
+use Rattle.pass_caveats.specs.declared.caveat.Caveat.TheVariants.{Spend}
+use Rattle.club_core.specs.declared.reply.Reply.TheVariants.{Booked}
+use Rattle.club_core.specs.declared.request.Request.TheVariants as asked
+use Rattle.club_core.specs.Pass.{Words}
+use Rattle.club_core.specs.Club.{empty_club}
+use Rattle.club_core.specs.Examples.{opening, opened_club, slot_at, noon, late, ask}
+use Rattle.club_core.specs.Run.{Event, EventReply, replies_of, club_after}
+use Rattle.club_laws.specs.Points.{keys_given, credits_accepted, charges_told, refunds_told, total_under}
+use Rattle.club_laws.specs.Repeats.{WasServed, IsAccepted}
+
+-- twelve hours before the slot at 18 begins
+abbrev pub at_six : ℕ
+at_six = 29_626_920
+
+-- one member's list: two bookings, one of them again, its cancelling, and both of these again
+abbrev pub some_events : List Event
+some_events =
+    opening
+    ++ ask (asked.Book (slot_at 18) 7 2) noon
+    ∷ ask (asked.Book (slot_at 19) 8 0) noon
+    ∷ ask (asked.Book (slot_at 18) 7 2) late
+    ∷ ask (asked.Cancel (slot_at 18) 7) at_six
+    ∷ ask (asked.Cancel (slot_at 18) 7) noon
+    ∷ ask (asked.Book (slot_at 18) 7 2) noon
+    ∷ []
+
+-- what the member was charged, credited and refunded, as these events and replies tell it
+pub record AreFigures (events : List Event) (replies : List EventReply) (charged credited refunded : ℕ) : Type 0 where
+  pub charges : total_under (keys_given (codes "amy") events replies) (charges_told replies) ≡ charged
+  pub credits : credits_accepted (codes "amy") events replies ≡ credited
+  pub refunds : total_under (keys_given (codes "amy") events replies) (refunds_told replies) ≡ refunded
+
+-- 600 and 200 points charged, 10,000 credited, and half of 600 refunded
+abbrev pub CountsEachOnce : Type 0
+CountsEachOnce = AreFigures some_events (replies_of empty_club some_events) 800 10_000 300
+
+-- a booking, then its cancelling
+abbrev pub comes_and_goes : List Event
+comes_and_goes = ask (asked.Book (slot_at 18) 7 2) noon ∷ ask (asked.Cancel (slot_at 18) 7) noon ∷ []
+
+-- the booking, under a pass of its key that may spend nothing
+abbrev pub words_again : Words
+words_again = record {
+  pass = Ok (record { key = Some (codes "amy-1"); caveats = Some (Spend 0) ∷ []; is_signed = λ _. true });
+  request = asked.Book (slot_at 18) 7 2;
+}
+
+-- it is a repeat, which is accepted even when the slot has begun
+pub record IsAcceptedRepeat (words : Words) (moment : ℕ) : Type 0 where
+  pub served : WasServed opened_club comes_and_goes words (Booked (codes "amy-1") 7 600 1)
+  pub accepted : IsAccepted (club_after opened_club comes_and_goes) words moment
+
+abbrev pub AcceptsARepeat : Type 0
+AcceptsARepeat = IsAcceptedRepeat words_again late

@@ -1,0 +1,42 @@
+-- What a change and an event leave alone of a member's part (ours).
+use Rattle.std.specs.Prelude.{◌≡◌, ℕ, ◌+◌, Bool, List, [], if◌then◌else◌, Some}
+use Rattle.pass_caveats.specs.declared.slot.Slot.{Slot}
+use Rattle.club_core.specs.declared.change.Change.{Change}
+use Rattle.club_core.specs.declared.change.Change.TheVariants.{InsertBooking, MarkCancelled}
+use Rattle.club_core.specs.Club.{Club, IsSound, is_key_of}
+use Rattle.club_core.specs.Sums.{taken_in}
+use Rattle.club_core.specs.After.{after}
+use Rattle.club_core.specs.Run.{Event, step}
+use Rattle.club_core.specs.Solo.{outside, is_own, own_part, part_of}
+
+-- whether a change is made in the member's part: the member's own changes, and the bookings and cancellings under its keys
+abbrev pub is_of_part : List ℕ → Club → Change → Bool
+is_of_part name club (InsertBooking booking) = is_key_of name club booking.key
+is_of_part name club (MarkCancelled key number refund) = is_key_of name club key
+is_of_part name club change = is_own name club change
+
+-- the member's part after a change of the club: changed alike, or left alone
+abbrev pub part_after : List ℕ → Club → Change → Club
+part_after name club change = if is_of_part name club change then after change (part_of name club) else part_of name club
+
+-- what each kind of change does to a member's part, where it leaves a sound club
+abbrev pub ChangesThePartAlike : Type 0
+ChangesThePartAlike =
+    (name : List ℕ) (club : Club) (change : Change)
+    → IsSound club
+    → IsSound (after change club)
+    → part_of name (after change club) ≡ part_after name club change
+
+-- an event with no entry among the member's own leaves the member's part as it is
+abbrev pub LeavesThePart : Type 0
+LeavesThePart =
+    (name : List ℕ) (club : Club) (event : Event)
+    → IsSound club
+    → own_part name club event ≡ []
+    → part_of name (step club event).club ≡ part_of name club
+
+-- in every club, so before and after each event, the persons in a slot are the member's own and what others hold
+abbrev pub TakenIsOwnAndOthers : Type 0
+TakenIsOwnAndOthers =
+    (name : List ℕ) (club : Club) (slot : Slot)
+    → taken_in slot club.bookings ≡ taken_in slot (part_of name club).bookings + (outside name club (Some slot)).taken

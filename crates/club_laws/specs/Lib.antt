@@ -1,0 +1,12 @@
+pub mod Events
+pub mod SoundRuns
+pub mod DeskLaw
+pub mod Points
+pub mod Conservation
+pub mod Repeats
+pub mod ExampleRuns
+pub mod Frame
+pub mod Failed
+pub mod FailedExample
+pub mod SoloLaw
+pub mod SoloExamples

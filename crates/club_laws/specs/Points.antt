@@ -1,0 +1,61 @@
+-- What a run tells of points, as a reader of its events and replies computes it, without the tables (ours).
+use Rattle.std.specs.Prelude.{ℕ, ◌+◌, ◌==◌, ◌&&◌, not, Bool, List, [], ◌∷◌, ◌++◌, filter, flat_map, sum_by, if◌then◌else◌}
+use Rattle.std.specs.Str.{bytes_eq}
+use Rattle.std.specs.List.{list_any}
+use Rattle.club_core.specs.declared.reply.Reply.TheVariants.{Booked, Cancelled}
+use Rattle.club_core.specs.declared.command.Command.TheVariants.{Credit, AddKey}
+use Rattle.club_core.specs.Run.{Event, Ordered, EventReply, Replied, Answered, Done, NewKey}
+
+-- points that a reply tells, with the key and the number of the booking
+pub record Entry : Type 0 where
+  pub key : List ℕ
+  pub number : ℕ
+  pub points : ℕ
+
+abbrev pub is_entry_of : List ℕ → ℕ → Entry → Bool
+is_entry_of key number entry = bytes_eq entry.key key && entry.number == number
+
+-- of each key and number the first entry
+abbrev pub firsts : List Entry → List Entry
+firsts [] = []
+firsts (entry ∷ entries) = entry ∷ filter (λ (other : Entry). not (is_entry_of entry.key entry.number other)) (firsts entries)
+
+-- the charge that a served booking tells
+abbrev pub charge_told : EventReply → List Entry
+charge_told (Replied (Booked key number charge left)) = record { key = key; number = number; points = charge } ∷ []
+charge_told reply = []
+
+abbrev pub charges_told : List EventReply → List Entry
+charges_told replies = flat_map charge_told replies
+
+-- the refund that a served cancelling tells
+abbrev pub refund_told : EventReply → List Entry
+refund_told (Replied (Cancelled key number refund)) = record { key = key; number = number; points = refund } ∷ []
+refund_told reply = []
+
+abbrev pub refunds_told : List EventReply → List Entry
+refunds_told replies = flat_map refund_told replies
+
+-- the keys that a member was given
+abbrev pub key_given : List ℕ → Event → EventReply → List (List ℕ)
+key_given member (Ordered (AddKey name owner root)) (Answered (NewKey told seed)) = if bytes_eq owner member then name ∷ [] else []
+key_given member event reply = []
+
+abbrev pub keys_given : List ℕ → List Event → List EventReply → List (List ℕ)
+keys_given member (event ∷ events) (reply ∷ replies) = key_given member event reply ++ keys_given member events replies
+keys_given member events replies = []
+
+-- the points that a member was credited
+abbrev pub credit_accepted : List ℕ → Event → EventReply → ℕ
+credit_accepted member (Ordered (Credit name points)) (Answered Done) = if bytes_eq name member then points else 0
+credit_accepted member event reply = 0
+
+abbrev pub credits_accepted : List ℕ → List Event → List EventReply → ℕ
+credits_accepted member (event ∷ events) (reply ∷ replies) = credit_accepted member event reply + credits_accepted member events replies
+credits_accepted member events replies = 0
+
+-- the points of the first entries under these keys
+abbrev pub total_under : List (List ℕ) → List Entry → ℕ
+total_under keys entries =
+    sum_by (λ (entry : Entry). entry.points)
+    (filter (λ (entry : Entry). list_any (λ (key : List ℕ). bytes_eq key entry.key) keys) (firsts entries))

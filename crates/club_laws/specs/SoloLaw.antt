@@ -1,0 +1,62 @@
+-- A member's replies in a run are those of a machine that holds the member's part alone (ours).
+use Rattle.std.specs.Prelude.{◌≡◌, ℕ, Bool, true, false, List, [], ◌∷◌, map, filter, if◌then◌else◌}
+use Rattle.club_core.specs.declared.reply.Reply.{Reply}
+use Rattle.club_core.specs.Club.{Club, IsSound}
+use Rattle.club_core.specs.After.{after}
+use Rattle.club_core.specs.Run.{Event, EventReply, Replied, step, after_change, replies_of, club_after, events_where}
+use Rattle.club_core.specs.Solo.{OwnEvent, OwnAsk, OwnChange, own_part, own_events, part_of, solo_verdict, solo_replies}
+use Rattle.club_laws.specs.Failed.{IsRun}
+
+-- whether an event's entry among the member's own is a request
+abbrev pub is_ask : List OwnEvent → Bool
+is_ask (OwnAsk words moment others ∷ events) = true
+is_ask events = false
+
+-- of the replies to a list of events, those to the member's requests
+abbrev pub replies_to : {R : Type 0} → List ℕ → Club → List Event → List R → List R
+replies_to name club (event ∷ events) (reply ∷ replies) =
+    if is_ask (own_part name club event)
+    then reply ∷ replies_to name (step club event).club events replies
+    else replies_to name (step club event).club events replies
+replies_to name club events replies = []
+
+-- the replies to a member's requests are those that the member's part and own events give, whoever else does what in between
+abbrev pub SoloLaw : Type 0
+SoloLaw =
+    (name : List ℕ) (club : Club) (events : List Event)
+    → IsSound club
+    → replies_to name club events (replies_of club events) ≡ map Replied (solo_replies (part_of name club) (own_events name club events))
+
+-- so two clubs in which a member has one part, and two lists with the same events of the member's own, give it the same replies
+abbrev pub SoloLawOfTwo : Type 0
+SoloLawOfTwo =
+    (name : List ℕ) (a b : Club) (events others : List Event)
+    → IsSound a
+    → IsSound b
+    → part_of name a ≡ part_of name b
+    → own_events name a events ≡ own_events name b others
+    → replies_to name a events (replies_of a events) ≡ replies_to name b others (replies_of b others)
+
+-- the same in a run of which some events failed, in the replies as they are told (`shown`), without those that failed
+abbrev pub SoloLawAsTold : Type 0 → Type 0
+SoloLawAsTold R =
+    (shown : EventReply → R) (counts : R → Bool) (name : List ℕ) (club last : Club) (events : List Event) (replies : List R)
+    → IsSound club
+    → IsRun shown counts club events replies last
+    → replies_to name club (events_where counts events replies) (filter counts replies)
+    ≡ map (λ (reply : Reply). shown (Replied reply))
+    (solo_replies (part_of name club) (own_events name club (events_where counts events replies)))
+
+-- the part that the member's own events leave
+abbrev pub solo_part : Club → List OwnEvent → Club
+solo_part part [] = part
+solo_part part (OwnChange change ∷ events) = solo_part (after change part) events
+solo_part part (OwnAsk words moment others ∷ events) =
+    solo_part (after_change (solo_verdict part words moment others).change part) events
+
+-- it is the member's part at the end of the run
+abbrev pub EndsWithThePart : Type 0
+EndsWithThePart =
+    (name : List ℕ) (club : Club) (events : List Event)
+    → IsSound club
+    → solo_part (part_of name club) (own_events name club events) ≡ part_of name (club_after club events)
