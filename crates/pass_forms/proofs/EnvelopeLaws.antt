@@ -6,7 +6,8 @@ use Rattle.base64.specs.GeneralPurpose.{IsBytes}
 use Rattle.pass_forms.specs.declared.fault.FormFault.{FormFault}
 use Rattle.pass_forms.specs.declared.fault.FormFault.TheVariants.{TooLong, Malformed, ThirdParty, TooMany, Memory}
 use Rattle.pass_forms.specs.declared.form.Form.{Form}
-use Rattle.pass_forms.specs.Envelope.{IsBase64, IsUnwrapped, Wraps, form_of, from_base64, starts_with_brace, text_limit, unwrapped, with_form}
+use Rattle.pass_forms.specs.Envelope.{IsBase64, IsUnwrapped, Wraps, form_of, from_base64, starts_with_brace, unwrapped, with_form}
+use Rattle.pass_forms.specs.Reading.{max_text_len}
 use Rattle.pass_forms.proofs.Base64Decoding.{from_base64_spells, spells_from_base64}
 use Rattle.pass_forms.proofs.Base64Spelling.{spelling_brace, spells_one}
 
@@ -33,7 +34,7 @@ option_cases None = inl refl
 option_cases (Some x) = inr (x, refl)
 
 -- what a text answers that is no longer than it may be, and does not start with a brace
-decoded_answer : (text : List ℕ) → IsBytes text → length text ≤ text_limit → starts_with_brace text ≡ false
+decoded_answer : (text : List ℕ) → IsBytes text → length text ≤ max_text_len → starts_with_brace text ≡ false
     → IsUnwrapped text (ok_or (option_and_then with_form (from_base64 text)) Malformed)
 decoded_answer text bytes short brace = elim (option_cases (from_base64 text)) [
   | inl none ↦
@@ -65,11 +66,11 @@ decoded_answer text bytes short brace = elim (option_cases (from_base64 text)) [
 -- `unwrapped` is what taking the text out of its envelope answers.
 pub unwrapped_answers : (text : List ℕ) → IsBytes text → IsUnwrapped text (unwrapped text)
 unfolding unwrapped
-unwrapped_answers text bytes = elim (cases_lt text_limit (length text)) [
-  | inl long ↦ rw (lt-ltb text_limit (length text) long) long
+unwrapped_answers text bytes = elim (cases_lt max_text_len (length text)) [
+  | inl long ↦ rw (lt-ltb max_text_len (length text) long) long
   | inr short ↦ elim (cases_Bool (starts_with_brace text)) [
-    | inl brace ↦ rw (le-ltb text_limit (length text) short, brace) (short, inl (brace, refl, refl))
-    | inr brace ↦ rw (le-ltb text_limit (length text) short, brace) (decoded_answer text bytes short brace)
+    | inl brace ↦ rw (le-ltb max_text_len (length text) short, brace) (short, inl (brace, refl, refl))
+    | inr brace ↦ rw (le-ltb max_text_len (length text) short, brace) (decoded_answer text bytes short brace)
   ]
 ]
 

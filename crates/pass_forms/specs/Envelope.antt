@@ -9,6 +9,7 @@ use Rattle.pass_forms.specs.declared.fault.FormFault.{FormFault}
 use Rattle.pass_forms.specs.declared.fault.FormFault.TheVariants.{TooLong, Malformed}
 use Rattle.pass_forms.specs.declared.form.Form.{Form}
 use Rattle.pass_forms.specs.declared.form.Form.TheVariants.{V1, V2, Json}
+use Rattle.pass_forms.specs.Reading.{max_text_len}
 
 -- The text is base64 of the bytes: in the URL-safe alphabet (RFC 4648, section 5) or in the standard
 -- one (section 4), with no padding or with all of it (section 3.2), the bits past the last byte zero
@@ -49,17 +50,13 @@ Wraps text form bytes =
     (IsTrue (starts_with_brace text) × (form ≡ Json) × (bytes ≡ text))
     ⊎ (IsBase64 text bytes × (form_of bytes ≡ Some form))
 
--- the most bytes that a pass text has (ours)
-abbrev pub text_limit : ℕ
-text_limit = 8192
-
 -- What taking a text out of its envelope answers (ours): it is too long above the limit, else malformed
 -- where it wraps nothing, else there is what it wraps. No other fault comes.
 abbrev pub IsUnwrapped : List ℕ → Result (Form × List ℕ) FormFault → Type 0
-IsUnwrapped text (Ok told) = (length text ≤ text_limit) × Wraps text told.0 told.1
-IsUnwrapped text (Err TooLong) = text_limit < length text
+IsUnwrapped text (Ok told) = (length text ≤ max_text_len) × Wraps text told.0 told.1
+IsUnwrapped text (Err TooLong) = max_text_len < length text
 IsUnwrapped text (Err Malformed) =
-    (length text ≤ text_limit) × ((form : Form) (bytes : List ℕ) → ¬ Wraps text form bytes)
+    (length text ≤ max_text_len) × ((form : Form) (bytes : List ℕ) → ¬ Wraps text form bytes)
 IsUnwrapped text (Err other) = ⊥
 
 -- The same as functions of the text, which compute.
@@ -77,7 +74,7 @@ with_form bytes = option_map (λ form. (form, bytes)) (form_of bytes)
 
 unfoldable pub unwrapped : List ℕ → Result (Form × List ℕ) FormFault
 unwrapped text =
-    if nat_lt text_limit (length text) then Err TooLong
+    if nat_lt max_text_len (length text) then Err TooLong
     else if starts_with_brace text then Ok (Json, text)
     else ok_or (option_and_then with_form (from_base64 text)) Malformed
 

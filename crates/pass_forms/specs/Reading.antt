@@ -1,5 +1,5 @@
 -- What a reader answers, whatever the form (ours: the limits, and the order of the faults).
-use Rattle.std.specs.Prelude.{◌≡◌, ℕ, Bool, ◌<◌, ◌≤◌, nat_lt, true, false, if◌then◌else◌, length, Option, Some, None, Result, Ok, Err}
+use Rattle.std.specs.Prelude.{◌≡◌, ◌↔◌, ℕ, Bool, ◌<◌, ◌≤◌, nat_lt, true, false, if◌then◌else◌, length, Option, Some, None, Result, Ok, Err}
 use Rattle.pass_forms.specs.declared.fault.FormFault.{FormFault}
 use Rattle.pass_forms.specs.declared.fault.FormFault.TheVariants.{TooLong, Malformed, ThirdParty, TooMany, Memory}
 use Rattle.pass_forms.specs.Pass.{Plain, WidePass, has_third_party, widened, narrowed}
@@ -44,10 +44,15 @@ abbrev pub kept : WidePass → Plain × ℕ × Bool
 kept wide = (narrowed wide, length wide.caveats, has_third_party wide)
 
 -- This holds of what a reader answers, unless memory ran out.
-abbrev pub UnlessMemory : (Result Plain FormFault → Type 0) → Result Plain FormFault → Type 0
+abbrev pub UnlessMemory : {A : Type 0} → (Result A FormFault → Type 0) → Result A FormFault → Type 0
 UnlessMemory Holds (Err Memory) = Unit {0}
 UnlessMemory Holds (Err TooLong) = Holds (Err TooLong)
 UnlessMemory Holds (Err Malformed) = Holds (Err Malformed)
 UnlessMemory Holds (Err ThirdParty) = Holds (Err ThirdParty)
 UnlessMemory Holds (Err TooMany) = Holds (Err TooMany)
-UnlessMemory Holds (Ok pass) = Holds (Ok pass)
+UnlessMemory Holds (Ok read) = Holds (Ok read)
+
+-- The computed answer is what a text stands for that spells the computed wide pass and no other, and nothing else is.
+abbrev pub AnswersExactly : Type 0
+AnswersExactly = (len : ℕ) (computed : Option WidePass) (answer : Result Plain FormFault) →
+    IsReading len (λ wide. computed ≡ Some wide) answer ↔ (reading_of len computed ≡ answer)

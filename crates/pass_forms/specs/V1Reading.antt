@@ -59,6 +59,10 @@ header_at bytes = do
 abbrev pub wide_at : List ℕ → Option WidePass
 wide_at bytes = whole_at header_at caveat_at signature_at bytes
 
+-- What is computed of bytes is what they spell.
+abbrev pub ComputesV1 : Type 0
+ComputesV1 = (bytes : List ℕ) (wide : WidePass) → SpellsV1 bytes wide ↔ (wide_at bytes ≡ Some wide)
+
 -- the reading of bytes in V1
 unfoldable pub reading_v1 : List ℕ → Result Plain FormFault
 reading_v1 bytes = reading_of (length bytes) (wide_at bytes)

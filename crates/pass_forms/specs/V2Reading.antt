@@ -68,6 +68,10 @@ footer_at bytes = do
 abbrev pub wide_at : List ℕ → Option WidePass
 wide_at bytes = whole_at header_at caveat_at footer_at bytes
 
+-- What is computed of bytes is what they spell.
+abbrev pub ComputesV2 : Type 0
+ComputesV2 = (bytes : List ℕ) (wide : WidePass) → SpellsV2 bytes wide ↔ (wide_at bytes ≡ Some wide)
+
 -- the reading of bytes in V2
 unfoldable pub reading_v2 : List ℕ → Result Plain FormFault
 reading_v2 bytes = reading_of (length bytes) (wide_at bytes)

@@ -1,5 +1,6 @@
 ghost use Rattle.std.specs.Prelude.{◌≡◌, ◌≤◌, Option, length, take, IfOk, IfSome};
 ghost use Rattle.std.specs.Option.{option_map, option_or};
+ghost use Rattle.base64.specs.Decode.{decoded_estimate};
 ghost use Rattle.base64.specs.GeneralPurpose.{decoded_of};
 ghost use Rattle.pass_forms.specs.Envelope.{IsUnwrapped, form_of, from_base64, starts_with_brace, told, told_bytes, unwrapped};
 
@@ -8,6 +9,7 @@ use crate::form::Form;
 use base64::engine::general_purpose::{
     GeneralPurpose, STANDARD, STANDARD_NO_PAD, URL_SAFE, URL_SAFE_NO_PAD,
 };
+use std::alloc::{AllocError, Global};
 
 /// The most bytes that a pass text has.
 pub const MAX_TEXT: usize = 8192;
@@ -89,11 +91,25 @@ fn form_of(bytes: &[u8]) -> Option<Form>
     }
 }
 
-// Takes base64 off a text, into the start of the room. Answers the number of bytes.
-fn decode(text: &[u8], room: &mut [u8; MAX_BYTES]) -> Option<usize>
-    requires { length text.now ≤ MAX_TEXT }
+/// The bytes that a text is base64 of (RFC 4648), if it is base64 of any: in the URL-safe or the standard alphabet, unpadded
+/// or padded, with trailing bits that are zero. `from_base64_is_base64` among the laws ties this to the relation `IsBase64`.
+pub fn decode_base64(alloc: Global, text: &[u8]) -> Result<Option<Vec<u8>>, AllocError>
+    ensures { IfOk result (λ found. option_map (λ bytes. bytes.items) found ≡ from_base64 text.now) }
+{
+    let mut room = vec![in alloc; 0; text.len().div_ceil(4) * 3]?;
+    let Some(len) = decode(text, &mut room) else {
+        return Ok(None);
+    };
+    room.truncate(len);
+    Ok(Some(room))
+}
+
+// Takes base64 off a text, into the start of the room, which holds what so long a text can stand for. Answers the number of
+// bytes.
+fn decode(text: &[u8], room: &mut [u8]) -> Option<usize>
+    requires { decoded_estimate (length text.now) ≤ length room.old }
     ensures bytes { option_map (λ len. take len room.new) result ≡ from_base64 text.now }
-    ensures len { IfSome result (λ len. len ≤ MAX_BYTES) }
+    ensures len { IfSome result (λ len. len ≤ length room.old) }
 {
     // Only a padded text ends in `=`.
     if text.ends_with(b"=") {
@@ -108,12 +124,12 @@ fn decode_under(
     first: &GeneralPurpose,
     second: &GeneralPurpose,
     text: &[u8],
-    room: &mut [u8; MAX_BYTES],
+    room: &mut [u8],
 ) -> Option<usize>
-    requires { length text.now ≤ MAX_TEXT }
+    requires { decoded_estimate (length text.now) ≤ length room.old }
     ensures bytes { option_map (λ len. take len room.new) result
         ≡ option_or (decoded_of first.now text.now) (decoded_of second.now text.now) }
-    ensures len { IfSome result (λ len. len ≤ MAX_BYTES) }
+    ensures len { IfSome result (λ len. len ≤ length room.old) }
 {
     if let Some(len) = decode_by(first, text, room) {
         return Some(len);
@@ -121,11 +137,11 @@ fn decode_under(
     decode_by(second, text, room)
 }
 
-// The same by one engine. The room holds what so long a text can stand for.
-fn decode_by(engine: &GeneralPurpose, text: &[u8], room: &mut [u8; MAX_BYTES]) -> Option<usize>
-    requires { length text.now ≤ MAX_TEXT }
+// The same by one engine.
+fn decode_by(engine: &GeneralPurpose, text: &[u8], room: &mut [u8]) -> Option<usize>
+    requires { decoded_estimate (length text.now) ≤ length room.old }
     ensures bytes { option_map (λ len. take len room.new) result ≡ decoded_of engine.now text.now }
-    ensures len { IfSome result (λ len. len ≤ MAX_BYTES) }
+    ensures len { IfSome result (λ len. len ≤ length room.old) }
 {
     engine.decode_slice_unchecked(text, room).ok()
 }

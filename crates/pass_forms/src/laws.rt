@@ -1,11 +1,12 @@
 //! Laws of the definitions, each the contract of a function that does nothing.
 
 ghost use Rattle.pass_forms.specs.Envelope.{FromBase64IsBase64, UnwrappedIsTheAnswer, WrapsBytes, WrapsOne};
+ghost use Rattle.pass_forms.specs.Reading.{AnswersExactly};
 ghost use Rattle.pass_forms.specs.Text.{ReadsTextsExactly};
 ghost use Rattle.pass_forms.specs.V1.{OnePassEachV1};
-ghost use Rattle.pass_forms.specs.V1Reading.{ReadsV1Exactly};
+ghost use Rattle.pass_forms.specs.V1Reading.{ComputesV1, ReadsV1Exactly};
 ghost use Rattle.pass_forms.specs.V2.{OnePassEachV2};
-ghost use Rattle.pass_forms.specs.V2Reading.{ReadsV2Exactly};
+ghost use Rattle.pass_forms.specs.V2Reading.{ComputesV2, ReadsV2Exactly};
 ghost use Rattle.pass_forms.specs.Writing.{NarrowedStaysSigned, TextsReadBack, WritesExactly};
 
 /// A text wraps one form and one list of bytes at most, whichever alphabet and padding it is in.
@@ -33,6 +34,11 @@ pub fn one_pass_for_each_v1()
     ensures { OnePassEachV1 }
 {}
 
+/// What is computed of the bytes of V1 is what they spell.
+pub fn computes_v1()
+    ensures { ComputesV1 }
+{}
+
 /// The answer to bytes of V1 is determined, and is the one that is computed.
 pub fn reads_v1_exactly()
     ensures { ReadsV1Exactly }
@@ -43,9 +49,19 @@ pub fn one_pass_for_each_v2()
     ensures { OnePassEachV2 }
 {}
 
+/// What is computed of the bytes of V2 is what they spell.
+pub fn computes_v2()
+    ensures { ComputesV2 }
+{}
+
 /// The answer to bytes of V2 is determined, and is the one that is computed.
 pub fn reads_v2_exactly()
     ensures { ReadsV2Exactly }
+{}
+
+/// Of what is computed to be spelled, the answer is determined and is the one that is computed, whatever the form.
+pub fn answers_exactly()
+    ensures { AnswersExactly }
 {}
 
 /// The answer to a text is determined and is the one that is computed, whatever bytes spell in each form.

@@ -12,7 +12,7 @@ mod v1;
 mod v2;
 mod write;
 
-pub use envelope::{MAX_BYTES, MAX_TEXT, Unwrapped, unwrap_text};
+pub use envelope::{MAX_BYTES, MAX_TEXT, Unwrapped, decode_base64, unwrap_text};
 pub use fault::FormFault;
 pub use form::Form;
 pub use pass::{MAX_CAVEATS, Pass, narrow};

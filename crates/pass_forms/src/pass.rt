@@ -2,6 +2,7 @@ ghost use Rattle.std.specs.Prelude.{◌≡◌, ◌↔◌, ◌≤◌, ℕ, List, 
 ghost use Rattle.pass_mac.specs.Chain.{chain, derived_key};
 ghost use Rattle.pass_forms.specs.declared.fault.FormFault.TheVariants.{Memory, TooMany};
 ghost use Rattle.pass_forms.specs.Pass.{IsSigned};
+ghost use Rattle.pass_forms.specs.Reading.{max_caveats};
 ghost use Rattle.pass_forms.specs.Writing.{IsNarrowingFault, with_caveat};
 
 use crate::FormFault;
@@ -124,7 +125,7 @@ pub fn narrow(alloc: Global, pass: &mut Pass, caveat: &[u8]) -> Result<(), FormF
     ensures ok { OnOk result (pass.new ≡ with_caveat caveat.now pass.old) }
     ensures signed { OnOk result ((root : List ℕ) → IsSigned root pass.old → IsSigned root pass.new) }
     ensures err { OnErr result (pass.new ≡ pass.old) }
-    ensures too_many { (result ≡ Err TooMany) ↔ (MAX_CAVEATS ≤ length pass.old.caveats) }
+    ensures too_many { (result ≡ Err TooMany) ↔ (max_caveats ≤ length pass.old.caveats) }
     ensures fault { IfErr result IsNarrowingFault }
 {
     if pass.caveats.len() >= MAX_CAVEATS {

@@ -108,3 +108,25 @@ fn reads_up_to_8192_bytes(rt: HostRuntime) -> Result<(), Fail> {
     assert_eq!(rt; unwrap_text(&text, &mut room), Err(FormFault::TooLong));
     Ok(())
 }
+
+// RFC 4648's vectors, in each alphabet and with padding or without.
+#[test]
+fn decodes_base64(rt: HostRuntime) -> Result<(), Fail> {
+    let rows: [(&str, &[u8]); 7] = [
+        ("", b""),
+        ("Zg", b"f"),
+        ("Zm8=", b"fo"),
+        ("Zm9v", b"foo"),
+        ("Zm9vYmFy", b"foobar"),
+        ("-_8", b"\xfb\xff"),
+        ("+/8=", b"\xfb\xff"),
+    ];
+    for (text, bytes) in rows {
+        let decoded = decode_base64(rt.alloc(), text.as_bytes())?.ok_or("no base64")?;
+        assert_eq!(rt; decoded.as_slice(), bytes, "of {text}");
+    }
+    for text in ["Z", "Zg=", "Zh", "-/8", " Zg"] {
+        assert!(rt; decode_base64(rt.alloc(), text.as_bytes())?.is_none(), "of {text}");
+    }
+    Ok(())
+}

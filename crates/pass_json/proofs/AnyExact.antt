@@ -1,0 +1,49 @@
+-- The reading of a text in any form is exact.
+use Rattle.std.proofs.Common.{◌≡◌, ◌↔◌, ℕ, List, length, Some, Result, Ok, Err}
+use Rattle.base64.specs.GeneralPurpose.{IsBytes}
+use Rattle.pass_forms.specs.declared.fault.FormFault.{FormFault}
+use Rattle.pass_forms.specs.declared.form.Form.{Form}
+use Rattle.pass_forms.specs.declared.form.Form.TheVariants.{V1, V2, Json}
+use Rattle.pass_forms.specs.Pass.{Plain, WidePass}
+use Rattle.pass_forms.specs.Text.{SpellsText, IsTextReading, ReadsTextsExactly}
+use Rattle.pass_forms.specs.V1Reading.{ComputesV1}
+use Rattle.pass_forms.specs.V2Reading.{ComputesV2}
+use Rattle.pass_json.specs.AnyForm.{Spells, IsAnyReading, reading, wide_in}
+use Rattle.pass_json.specs.JsonReading.{ComputesJson}
+use Rattle.pass_json.proofs.SameReading.{same_answer}
+
+abbrev Relation : Type 1
+Relation = Form → List ℕ → WidePass → Type 0
+
+-- Readings by relations that imply each other are the same.
+same_in : (One Other : Relation) → ((form : Form) (bytes : List ℕ) (wide : WidePass) → One form bytes wide → Other form bytes wide)
+    → (text : List ℕ) (form : Form) (wide : WidePass) → SpellsText One text form wide → SpellsText Other text form wide
+same_in One Other to text form wide h = (h.0, h.1, to form h.0 wide h.2)
+
+same_reading : (One Other : Relation) → ((form : Form) (bytes : List ℕ) (wide : WidePass) → One form bytes wide → Other form bytes wide)
+    → ((form : Form) (bytes : List ℕ) (wide : WidePass) → Other form bytes wide → One form bytes wide)
+    → (text : List ℕ) (answer : Result (Form × Plain) FormFault) → IsTextReading One text answer → IsTextReading Other text answer
+same_reading One Other to from text (Ok (form, pass)) h =
+    same_answer (SpellsText One text form) (SpellsText Other text form) (same_in One Other to text form) (same_in Other One from text form) (length text) (Ok pass) h
+same_reading One Other to from text (Err fault) h =
+    same_answer (λ wide. (form : Form) × SpellsText One text form wide) (λ wide. (form : Form) × SpellsText Other text form wide)
+    (λ wide k. (k.0, same_in One Other to text k.0 wide k.1)) (λ wide k. (k.0, same_in Other One from text k.0 wide k.1)) (length text) (Err fault) h
+
+abbrev Computed : Relation
+Computed form bytes wide = wide_in form bytes ≡ Some wide
+
+-- by the laws of each form, and of texts
+module _ (v1 : ComputesV1) (v2 : ComputesV2) (json : ComputesJson) (texts : ReadsTextsExactly) where
+  in_each : (form : Form) (bytes : List ℕ) (wide : WidePass) → Spells form bytes wide ↔ Computed form bytes wide
+  unfolding wide_in
+  in_each V1 bytes wide = v1 bytes wide
+  in_each V2 bytes wide = v2 bytes wide
+  in_each Json bytes wide = json bytes wide
+
+  pub reading_exact : (text : List ℕ) (answer : Result (Form × Plain) FormFault) → IsBytes text → IsAnyReading text answer ↔ (reading text ≡ answer)
+  unfolding reading
+  reading_exact text answer bytes =
+      let to = λ (form : Form) (b : List ℕ) (wide : WidePass). (in_each form b wide).0 in
+      let from = λ (form : Form) (b : List ℕ) (wide : WidePass). (in_each form b wide).1 in
+      let exact = texts wide_in text answer bytes in
+      (λ h. exact.0 (same_reading Spells Computed to from text answer h), λ e. same_reading Computed Spells from to text answer (exact.1 e))

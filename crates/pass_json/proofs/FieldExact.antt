@@ -1,0 +1,152 @@
+-- A field, computed, is what is spelled.
+use Rattle.std.proofs.Common.{◌≡◌, ℕ, zero, suc, ◌<◌, Bool, true, false, cond, ltb, ◌&&◌, List, [], ◌∷◌, Option, Some, None, refl, sym, ap, subst, arith, ◌⊎◌, inl, inr}
+use Rattle.std.specs.List.{list_all}
+use Rattle.std.specs.Option.{option_map}
+use Rattle.std.specs.Str.{IsAscii}
+use Rattle.std.proofs.lemmas.Bool.{lt-ltb, ltb-true}
+use Rattle.base64.specs.declared.engine.general_purpose.GeneralPurpose.{GeneralPurpose}
+use Rattle.base64.specs.Engines.{standard, standard_no_pad, url_safe, url_safe_no_pad}
+use Rattle.base64.specs.GeneralPurpose.{IsBytes, encode_of}
+use Rattle.base64.proofs.EngineFacts.{IsAscii-encode_of}
+use Rattle.serde_json.specs.Data.{Data, null, boolean, number, string, array, object, Members}
+use Rattle.serde_json.specs.Find.{get, as_str}
+use Rattle.pass_forms.specs.Envelope.{FromBase64IsBase64, IsBase64, from_base64}
+use Rattle.pass_forms.specs.Parts.{◌>>=◌}
+use Rattle.pass_json.specs.Json.{IsField}
+use Rattle.pass_json.specs.JsonReading.{base64_bytes, decoded_text, told, field_at, required}
+
+pub bound : {A B : Type 0} (o : Option A) (f : A → Option B) (b : B) → (o >>= f) ≡ Some b → (a : A) × (o ≡ Some a) × (f a ≡ Some b)
+bound None f b e = absurd cc
+bound (Some a) f b e = (a, refl, e)
+
+-- ---- bytes, as a test
+
+all_below : (text : List ℕ) → IsBytes text → list_all (λ byte. ltb byte 256) text ≡ true
+all_below [] bytes = refl
+all_below (byte ∷ text) bytes =
+    let first : byte < 256 = bytes 0 in
+    let rest : list_all (λ b. ltb b 256) text ≡ true = all_below text (λ i. bytes (suc i)) in
+    rw (lt-ltb byte 256 first) rest
+
+pub base64_bytes_is : (text : List ℕ) → IsBytes text → base64_bytes text ≡ from_base64 text
+unfolding base64_bytes
+base64_bytes_is text bytes = rw (all_below text bytes) refl
+
+both_true : (a b : Bool) → (a && b) ≡ true → (a ≡ true) × (b ≡ true)
+both_true true b e = (refl, e)
+both_true false b e = absurd cc
+
+nil_below : IsBytes []
+nil_below zero = omega arith
+nil_below (suc i) = omega arith
+
+are_below : (text : List ℕ) → list_all (λ byte. ltb byte 256) text ≡ true → IsBytes text
+are_below [] e i = nil_below i
+are_below (byte ∷ text) e zero = ltb-true byte 256 (both_true (ltb byte 256) (list_all (λ b. ltb b 256) text) e).0
+are_below (byte ∷ text) e (suc i) = are_below text (both_true (ltb byte 256) (list_all (λ b. ltb b 256) text) e).1 i
+
+encoded_below : (e : GeneralPurpose) (text bytes : List ℕ) → text ≡ encode_of e bytes → IsBytes text
+encoded_below e text bytes is i =
+    let ascii : IsAscii text = subst IsAscii (sym is) (IsAscii-encode_of e bytes) in
+    omega (arith, ascii i)
+
+spelled_below : (text bytes : List ℕ) → IsBase64 text bytes → IsBytes text
+spelled_below text bytes is = elim is.spelled [
+  | inl e ↦ encoded_below url_safe_no_pad text bytes e
+  | inr other ↦ elim other [
+    | inl e ↦ encoded_below url_safe text bytes e
+    | inr other ↦ elim other [
+      | inl e ↦ encoded_below standard_no_pad text bytes e
+      | inr e ↦ encoded_below standard text bytes e
+    ]
+  ]
+]
+
+-- ---- values
+
+str_of : (value : Data) (text : List ℕ) → as_str value ≡ Some text → value ≡ string text
+str_of null text e = absurd cc
+str_of (boolean b) text e = absurd cc
+str_of (number n) text e = absurd cc
+str_of (string s) text e = ap string cc
+str_of (array items) text e = absurd cc
+str_of (object fields) text e = absurd cc
+
+mapped : (o : Option (List ℕ)) (t : Option (List ℕ)) → option_map (λ bytes. Some bytes) o ≡ Some t → (bytes : List ℕ) × (o ≡ Some bytes) × (t ≡ Some bytes)
+mapped None t e = absurd cc
+mapped (Some bytes) t e = (bytes, refl, cc)
+
+-- `IsField`, of what stands under the two names
+abbrev IsTold : Option Data → Option Data → Option (List ℕ) → Type 0
+IsTold plain base64 None = (plain ≡ None) × (base64 ≡ None)
+IsTold plain base64 (Some bytes) =
+    ((plain ≡ Some (string bytes)) × (base64 ≡ None))
+    ⊎ ((plain ≡ None) × (text : List ℕ) × (base64 ≡ Some (string text)) × IsBase64 text bytes)
+
+required_by : (o : Option (Option (List ℕ))) (bytes : List ℕ) → required o ≡ Some bytes → o ≡ Some (Some bytes)
+required_by None bytes e = absurd cc
+required_by (Some t) bytes e = ap (λ (x : Option (List ℕ)). Some x) e
+
+-- What has a field is an object.
+pub is_object : (plain base64 : List ℕ) (value : Data) (bytes : List ℕ) → IsField plain base64 value (Some bytes) → (members : Members) × (value ≡ object members)
+is_object plain base64 null bytes (inl h) = absurd (cc h.0)
+is_object plain base64 null bytes (inr h) = absurd (cc h.2)
+is_object plain base64 (boolean b) bytes (inl h) = absurd (cc h.0)
+is_object plain base64 (boolean b) bytes (inr h) = absurd (cc h.2)
+is_object plain base64 (number n) bytes (inl h) = absurd (cc h.0)
+is_object plain base64 (number n) bytes (inr h) = absurd (cc h.2)
+is_object plain base64 (string s) bytes (inl h) = absurd (cc h.0)
+is_object plain base64 (string s) bytes (inr h) = absurd (cc h.2)
+is_object plain base64 (array items) bytes (inl h) = absurd (cc h.0)
+is_object plain base64 (array items) bytes (inr h) = absurd (cc h.2)
+is_object plain base64 (object members) bytes h = (members, refl)
+
+-- ---- fields, by the law of base64
+
+module _ (law : FromBase64IsBase64) where
+  base64_by : (text bytes : List ℕ) (test : Bool) → list_all (λ byte. ltb byte 256) text ≡ test → cond test (from_base64 text) None ≡ Some bytes → IsBase64 text bytes
+  base64_by text bytes true below e = (law text bytes (are_below text below)).0 e
+  base64_by text bytes false below e = absurd cc
+
+  pub base64_takes : (text bytes : List ℕ) → base64_bytes text ≡ Some bytes → IsBase64 text bytes
+  unfolding base64_bytes
+  base64_takes text bytes e = base64_by text bytes (list_all (λ byte. ltb byte 256) text) refl e
+
+  pub base64_again : (text bytes : List ℕ) → IsBase64 text bytes → base64_bytes text ≡ Some bytes
+  base64_again text bytes is =
+      let below : IsBytes text = spelled_below text bytes is in
+      rw (base64_bytes_is text below) ((law text bytes below).1 is)
+
+  told_takes : (plain base64 : Option Data) (t : Option (List ℕ)) → told plain base64 ≡ Some t → IsTold plain base64 t
+  told_takes None None t e =
+      let none : None ≡ t = cc in
+      subst (IsTold None None) none (refl, refl)
+  told_takes (Some value) None t e =
+      let m = mapped (as_str value) t e in
+      subst (IsTold (Some value) None) (sym m.2) (inl (ap (λ (d : Data). Some d) (str_of value m.0 m.1), refl))
+  told_takes None (Some value) t e =
+      let m = mapped (decoded_text value) t e in
+      let d = bound (as_str value) base64_bytes m.0 m.1 in
+      subst (IsTold None (Some value)) (sym m.2) (inr (refl, d.0, ap (λ (d : Data). Some d) (str_of value d.0 d.1), base64_takes d.0 m.0 d.2))
+  told_takes (Some value) (Some other) t e = absurd cc
+
+  told_again : (plain base64 : Option Data) (t : Option (List ℕ)) → IsTold plain base64 t → told plain base64 ≡ Some t
+  told_again plain base64 None h = rw (h.0, h.1) refl
+  told_again plain base64 (Some bytes) (inl h) = rw (h.0, h.1) refl
+  told_again plain base64 (Some bytes) (inr h) = rw (h.0, h.2, base64_again h.1 bytes h.3) refl
+
+  pub field_takes : (plain base64 : List ℕ) (value : Data) (t : Option (List ℕ)) → field_at plain base64 value ≡ Some t → IsField plain base64 value t
+  unfolding field_at
+  field_takes plain base64 value None e = told_takes (get plain value) (get base64 value) None e
+  field_takes plain base64 value (Some bytes) e = told_takes (get plain value) (get base64 value) (Some bytes) e
+
+  pub field_again : (plain base64 : List ℕ) (value : Data) (t : Option (List ℕ)) → IsField plain base64 value t → field_at plain base64 value ≡ Some t
+  unfolding field_at
+  field_again plain base64 value None h = told_again (get plain value) (get base64 value) None h
+  field_again plain base64 value (Some bytes) h = told_again (get plain value) (get base64 value) (Some bytes) h
+
+  pub required_takes : (plain base64 : List ℕ) (value : Data) (bytes : List ℕ) → required (field_at plain base64 value) ≡ Some bytes → IsField plain base64 value (Some bytes)
+  required_takes plain base64 value bytes e = field_takes plain base64 value (Some bytes) (required_by (field_at plain base64 value) bytes e)
+
+  pub required_again : (plain base64 : List ℕ) (value : Data) (bytes : List ℕ) → IsField plain base64 value (Some bytes) → required (field_at plain base64 value) ≡ Some bytes
+  required_again plain base64 value bytes h = ap required (field_again plain base64 value (Some bytes) h)

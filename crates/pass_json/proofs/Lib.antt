@@ -1,0 +1,14 @@
+pub mod KnownNames
+pub mod CaveatList
+pub mod SameReading
+pub mod FieldExact
+pub mod NamesExact
+pub mod JsonExact
+pub mod KeptPass
+pub mod AnyExact
+pub mod Wrapped
+pub mod InEachForm
+pub mod ReadsText
+pub mod ObjectOf
+pub mod WrittenJson
+pub mod WritingJson

@@ -1,0 +1,28 @@
+-- What is told by one spelling is told by another that spells the same.
+use Rattle.std.proofs.Common.{ℕ, Result, Ok, Err}
+use Rattle.pass_forms.specs.declared.fault.FormFault.{FormFault}
+use Rattle.pass_forms.specs.declared.fault.FormFault.TheVariants.{TooLong, Malformed, ThirdParty, TooMany, Memory}
+use Rattle.pass_forms.specs.Pass.{Plain, WidePass, widened}
+use Rattle.pass_forms.specs.Reading.{IsReading, UnlessMemory}
+
+abbrev Spelling : Type 1
+Spelling = WidePass → Type 0
+
+pub same_answer : (One Other : Spelling) → ((wide : WidePass) → One wide → Other wide) → ((wide : WidePass) → Other wide → One wide)
+    → (len : ℕ) (answer : Result Plain FormFault) → IsReading len One answer → IsReading len Other answer
+same_answer One Other to from len (Ok pass) h = (h.0, to (widened pass) h.1, h.2)
+same_answer One Other to from len (Err TooLong) h = h
+same_answer One Other to from len (Err Malformed) h = (h.0, λ wide k. h.1 wide (from wide k))
+same_answer One Other to from len (Err ThirdParty) h = (h.0, h.1, to h.1 h.2, h.3)
+same_answer One Other to from len (Err TooMany) h = (h.0, h.1, to h.1 h.2, h.3, h.4)
+same_answer One Other to from len (Err Memory) h = h
+
+-- What holds of the computed answer holds of the reader's.
+pub unless_memory : {A : Type 0} (Holds Other : Result A FormFault → Type 0) (answer : Result A FormFault)
+    → ((a : Result A FormFault) → Holds a → Other a) → UnlessMemory Holds answer → UnlessMemory Other answer
+unless_memory Holds Other (Ok read) to h = to (Ok read) h
+unless_memory Holds Other (Err TooLong) to h = to (Err TooLong) h
+unless_memory Holds Other (Err Malformed) to h = to (Err Malformed) h
+unless_memory Holds Other (Err ThirdParty) to h = to (Err ThirdParty) h
+unless_memory Holds Other (Err TooMany) to h = to (Err TooMany) h
+unless_memory Holds Other (Err Memory) to h = tt

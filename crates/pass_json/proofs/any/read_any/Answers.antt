@@ -1,0 +1,10 @@
+use Rattle.std.proofs.Common.{◌≡◌, arith}
+use Rattle.pass_json.specs.AnyForm.{IsAnyReading, reading}
+use Rattle.pass_json.proofs.SameReading.{unless_memory}
+use Rattle.pass_json.proofs.any.read_any.Goals as goal
+
+pub returns-clause-spelled : goal.returns-clause-spelled
+returns-clause-spelled c =
+    let text = c.args.text.now in
+    unless_memory (λ answer. reading text ≡ answer) (IsAnyReading text) c.unwrapped.result
+    (λ answer e. (c.reads_any_form_exactly.ensures text answer (λ i. omega (arith, c.type_inv.text i))).1 e) c.unwrapped.ensures

@@ -1,0 +1,90 @@
+-- The JSON spelling of a pass: one object, after libmacaroons' V2 JSON. Which names may be left out, and that a `64` name
+-- takes either alphabet of base64, is ours.
+use Rattle.std.specs.Prelude.{◌≡◌, ◌⊎◌, ℕ, List, [], ◌∷◌, codes, length, Option, None, Some, unwrap_or, IsSome, IsUtf8}
+use Rattle.serde_json.specs.Data.{Data, number, string, array, unsigned, Items, no_items, item}
+use Rattle.serde_json.specs.Find.{get}
+use Rattle.serde_json.specs.Read.{read}
+use Rattle.pass_forms.specs.Envelope.{IsBase64}
+use Rattle.pass_forms.specs.Pass.{WideCaveat, WidePass}
+
+-- Bytes stand under a plain name, as a text that has these bytes in UTF-8, or under a `64` name, as a text that is base64
+-- of them. They never stand under both, and may stand under neither.
+abbrev pub IsField : List ℕ → List ℕ → Data → Option (List ℕ) → Type 0
+IsField plain base64 value None = (get plain value ≡ None) × (get base64 value ≡ None)
+IsField plain base64 value (Some bytes) =
+    ((get plain value ≡ Some (string bytes)) × (get base64 value ≡ None))
+    ⊎ ((get plain value ≡ None) × (text : List ℕ) × (get base64 value ≡ Some (string text)) × IsBase64 text bytes)
+
+abbrev pub IsLocation : Data → Option (List ℕ) → Type 0
+IsLocation = IsField (codes "l") (codes "l64")
+
+abbrev pub IsIdentifier : Data → Option (List ℕ) → Type 0
+IsIdentifier = IsField (codes "i") (codes "i64")
+
+abbrev pub IsSignature : Data → Option (List ℕ) → Type 0
+IsSignature = IsField (codes "s") (codes "s64")
+
+-- of a caveat alone: in a pass `v` is the version
+abbrev pub IsVerifierId : Data → Option (List ℕ) → Type 0
+IsVerifierId = IsField (codes "v") (codes "v64")
+
+abbrev pub IsOneOf : List (List ℕ) → List ℕ → Type 0
+IsOneOf [] name = ⊥
+IsOneOf (known ∷ others) name = (name ≡ known) ⊎ IsOneOf others name
+
+-- There are no other names.
+abbrev pub HasOnly : List (List ℕ) → Data → Type 0
+HasOnly names value = (name : List ℕ) → IsSome (get name value) → IsOneOf names name
+
+abbrev pub pass_names : List (List ℕ)
+pass_names =
+    codes "v" ∷ codes "l" ∷ codes "l64" ∷ codes "i" ∷ codes "i64" ∷ codes "c" ∷ codes "s" ∷ codes "s64" ∷ []
+
+abbrev pub caveat_names : List (List ℕ)
+caveat_names = codes "i" ∷ codes "i64" ∷ codes "l" ∷ codes "l64" ∷ codes "v" ∷ codes "v64" ∷ []
+
+-- what has an identifier is an object
+pub record IsCaveat (value : Data) (caveat : WideCaveat) : Type 0 where
+  pub names : HasOnly caveat_names value
+  pub identifier : IsIdentifier value (Some caveat.identifier)
+  pub verifier_id : IsVerifierId value caveat.verifier_id
+  pub location : IsLocation value caveat.location
+
+-- each item is a caveat, in their order
+abbrev pub AreCaveats : Items → List WideCaveat → Type 0
+AreCaveats no_items [] = Unit {0}
+AreCaveats (item value values) (caveat ∷ caveats) = IsCaveat value caveat × AreCaveats values caveats
+AreCaveats values caveats = ⊥
+
+-- the list of caveats, which may be left out where it is empty
+abbrev pub IsCaveatList : Option Data → List WideCaveat → Type 0
+IsCaveatList None caveats = caveats ≡ []
+IsCaveatList (Some value) caveats = (items : Items) × (value ≡ array items) × AreCaveats items caveats
+
+-- the whole number 2, which may be left out
+abbrev pub IsVersion : Option Data → Type 0
+IsVersion None = Unit {0}
+IsVersion (Some value) = value ≡ number (unsigned 2)
+
+pub record IsPass (value : Data) (wide : WidePass) : Type 0 where
+  pub names : HasOnly pass_names value
+  pub version : IsVersion (get (codes "v") value)
+  -- a location that is left out is the empty one
+  pub location : Option (List ℕ)
+  pub is_location : IsLocation value location
+  pub location_is : wide.location ≡ unwrap_or location []
+  pub identifier : IsIdentifier value (Some wide.identifier)
+  pub caveats : IsCaveatList (get (codes "c") value) wide.caveats
+  pub signature : IsSignature value (Some wide.signature)
+  pub signature_len : length wide.signature ≡ 32
+
+-- The bytes are JSON, as `serde_json` reads it, of an object that holds the wide pass.
+pub record SpellsJson (bytes : List ℕ) (wide : WidePass) : Type 0 where
+  pub value : Data
+  pub utf8 : IsUtf8 bytes
+  pub is_read : read bytes ≡ Some value
+  pub is_pass : IsPass value wide
+
+-- No bytes spell two passes.
+abbrev pub OnePassEachJson : Type 0
+OnePassEachJson = (bytes : List ℕ) (one other : WidePass) → SpellsJson bytes one → SpellsJson bytes other → one ≡ other

@@ -1,0 +1,4 @@
+pub mod Json
+pub mod JsonReading
+pub mod AnyForm
+pub mod JsonWriting

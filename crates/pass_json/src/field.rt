@@ -1,0 +1,59 @@
+//! One field of an object: bytes under a plain name, or under a `64` name.
+
+ghost use Rattle.std.specs.Prelude.{◌≡◌, Some, option_map, IfErr, IfOk};
+ghost use Rattle.serde_json.specs.Find.{as_str};
+ghost use Rattle.serde_json.specs.View.{view};
+ghost use Rattle.pass_json.specs.JsonReading.{base64_bytes, decoded_text, field_at, RefusesPart};
+
+use pass_forms::{FormFault, decode_base64};
+use serde_json::Value;
+use std::alloc::{AllocError, Global};
+
+/// The bytes under the plain name or the `64` name, if there are any.
+#[tactic(auto, unfolding(crate::specs::JsonReading::field_at))]
+pub fn field(
+    alloc: Global,
+    object: &Value,
+    plain: &str,
+    base64: &str,
+) -> Result<Option<Vec<u8>>, FormFault>
+    ensures ok { IfOk result (λ bytes. field_at plain.now base64.now (view object.now)
+        ≡ Some (option_map (λ b. b.items) bytes)) }
+    ensures err { IfErr result (RefusesPart (field_at plain.now base64.now (view object.now))) }
+{
+    match (object.get(plain), object.get(base64)) {
+        (None, None) => Ok(None),
+        (Some(text), None) => Ok(Some(plain_bytes(alloc, text)?)),
+        (None, Some(text)) => Ok(Some(decoded(alloc, text)?)),
+        (Some(_), Some(_)) => Err(FormFault::Malformed),
+    }
+}
+
+// The bytes of a text.
+fn plain_bytes(alloc: Global, value: &Value) -> Result<Vec<u8>, FormFault>
+    ensures ok { IfOk result (λ bytes. as_str (view value.now) ≡ Some bytes.items) }
+    ensures err { IfErr result (RefusesPart (as_str (view value.now))) }
+{
+    let Some(text) = value.as_str() else {
+        return Err(FormFault::Malformed);
+    };
+    Ok(Vec::from_slice(alloc, text.as_bytes())?)
+}
+
+// The bytes that a text is base64 of.
+fn decoded(alloc: Global, value: &Value) -> Result<Vec<u8>, FormFault>
+    ensures ok { IfOk result (λ bytes. decoded_text (view value.now) ≡ Some bytes.items) }
+    ensures err { IfErr result (RefusesPart (decoded_text (view value.now))) }
+{
+    let Some(text) = value.as_str() else {
+        return Err(FormFault::Malformed);
+    };
+    decode(alloc, text)?.ok_or(FormFault::Malformed)
+}
+
+// The same, of the text's bytes.
+fn decode(alloc: Global, text: &str) -> Result<Option<Vec<u8>>, AllocError>
+    ensures { IfOk result (λ bytes. option_map (λ b. b.items) bytes ≡ base64_bytes text.now) }
+{
+    decode_base64(alloc, text.as_bytes())
+}

@@ -1,0 +1,14 @@
+//! Passes as JSON, and as a text in any form.
+#![tactic(auto)]
+
+mod any;
+mod field;
+pub mod laws;
+mod names;
+mod object;
+mod read;
+mod write;
+
+pub use any::{read_any, write_any};
+pub use read::read_json;
+pub use write::write_json;

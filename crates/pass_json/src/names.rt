@@ -1,0 +1,33 @@
+//! The names of an object's members.
+
+ghost use Rattle.std.specs.Prelude.{◌≡◌, map};
+ghost use Rattle.std.specs.BTreeMap.{keys};
+ghost use Rattle.std.specs.List.{list_all, list_any};
+ghost use Rattle.std.specs.Str.{bytes_eq};
+ghost use Rattle.std.specs.String.{string_bytes};
+ghost use Rattle.serde_json.specs.View.{view};
+ghost use Rattle.pass_json.specs.JsonReading as reading;
+
+use serde_json::{Map, Value};
+
+/// Whether the value is an object with no other names than these.
+pub fn has_only(value: &Value, names: &[&str]) -> bool
+    ensures { result ≡ reading.has_only (map (λ name. name.now) names.now) (view value.now) }
+{
+    match value.as_object() {
+        Some(members) => are_among(members, names),
+        None => false,
+    }
+}
+
+fn are_among(members: &Map<String, Value>, names: &[&str]) -> bool
+    ensures { result ≡ list_all (λ key. list_any (λ name. bytes_eq (string_bytes key) name.now) names.now) (keys members.now) }
+{
+    members.keys().all(|key| is_among(key.as_str(), names))
+}
+
+fn is_among(key: &str, names: &[&str]) -> bool
+    ensures { result ≡ list_any (λ name. bytes_eq key.now name.now) names.now }
+{
+    names.iter().any(|name| key == *name)
+}

@@ -1,0 +1,68 @@
+//! The reader of the JSON form.
+
+ghost use Rattle.std.specs.Prelude.{◌≡◌, length, IfErr, IfOk, Some};
+ghost use Rattle.pass_forms.specs.Reading.{IsReading, UnlessMemory};
+ghost use Rattle.serde_json.specs.View.{view};
+ghost use Rattle.pass_json.specs.Json.{SpellsJson};
+ghost use Rattle.pass_json.specs.JsonReading as reading;
+ghost use Rattle.pass_json.specs.JsonReading.{RefusesPart};
+
+use crate::laws::reads_json_exactly;
+use crate::object;
+use pass_forms::{FormFault, MAX_CAVEATS, MAX_TEXT, Pass};
+use serde_json::Value;
+use std::alloc::Global;
+
+/// The pass that the bytes spell in JSON: one object after libmacaroons' V2 JSON, as `serde_json` reads it. Its names may
+/// stand in any order, and white space may stand round it.
+///
+/// # Errors
+///
+/// The first that fits: `TooLong` for more than 8,192 bytes, `Malformed` where no pass is spelled, `ThirdParty` where a
+/// caveat is a third party's, `TooMany` for more than 64 caveats. `Memory` comes only where memory was refused.
+pub fn read_json(alloc: Global, bytes: &[u8]) -> Result<Pass, FormFault>
+    // By what the bytes spell.
+    ensures spelled { UnlessMemory (IsReading (length bytes.now) (SpellsJson bytes.now)) result }
+    // The same, computed.
+    ensures computed { UnlessMemory (λ answer. reading.reading_json bytes.now ≡ answer) result }
+{
+    reads_json_exactly();
+    read_object(alloc, bytes)
+}
+
+// The pass of an object, or the first fault that fits.
+#[tactic(auto, unfolding(crate::specs::JsonReading::reading_json, crate::specs::JsonReading::wide_json))]
+fn read_object(alloc: Global, bytes: &[u8]) -> Result<Pass, FormFault>
+    ensures { UnlessMemory (λ answer. reading.reading_json bytes.now ≡ answer) result }
+{
+    if bytes.len() > MAX_TEXT {
+        return Err(FormFault::TooLong);
+    }
+    let read = object::pass_of(alloc, &value_of(alloc, bytes)?)?;
+    if read.third_party {
+        return Err(FormFault::ThirdParty);
+    }
+    if read.caveat_count > MAX_CAVEATS {
+        return Err(FormFault::TooMany);
+    }
+    Ok(read.pass)
+}
+
+// The value of the bytes, as `serde_json` reads them.
+fn value_of(alloc: Global, bytes: &[u8]) -> Result<Value, FormFault>
+    ensures ok { IfOk result (λ value. reading.value_of bytes.now ≡ Some (view value)) }
+    ensures err { IfErr result (RefusesPart (reading.value_of bytes.now)) }
+{
+    match Value::from_slice(alloc, bytes) {
+        Ok(value) => Ok(value),
+        Err(error) => {
+            if error.is_memory() {
+                return Err(FormFault::Memory);
+            }
+            Err(FormFault::Malformed)
+        }
+    }
+}
+
+#[cfg(test)]
+mod tests;

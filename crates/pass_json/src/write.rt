@@ -1,0 +1,156 @@
+//! The writer of the JSON form.
+
+ghost use Rattle.std.specs.Prelude.{◌≡◌, Ok, length, map, IfErr, IfOk, MatchResult, OnOk};
+ghost use Rattle.std.specs.List.{AllByRecursion};
+ghost use Rattle.std.specs.String.{string_bytes};
+ghost use Rattle.base64.specs.GeneralPurpose.{IsBytes};
+ghost use Rattle.serde_json.specs.Data.{array};
+ghost use Rattle.serde_json.specs.View.{members_view, view};
+ghost use Rattle.pass_json.specs.JsonWriting as spec;
+ghost use Rattle.pass_forms.specs.declared.form.Form.TheVariants.{Json};
+ghost use Rattle.pass_forms.specs.Writing.{HasBytes, IsReadBack, IsWritten};
+ghost use Rattle.pass_json.specs.JsonReading.{reading_json};
+ghost use Rattle.pass_json.specs.JsonWriting.{MayFailAs, IsJsonText, IsRefusedJson, base64_text, with_field, with_location, writing_json};
+
+use crate::laws::{json_reads_back, writes_json_exactly};
+use base64::engine::general_purpose::URL_SAFE_NO_PAD;
+use pass_forms::{FormFault, MAX_CAVEATS, MAX_TEXT, Pass};
+use serde_json::{Map, Value, put};
+use std::alloc::{AllocError, Global};
+
+/// The text of a pass in JSON, with no white space and the names in the order of their bytes. A `64` name is written only
+/// where the bytes are no UTF-8, but for the signature, which always has it.
+///
+/// # Errors
+///
+/// `TooMany` for more than 64 caveats, else `TooLong` for a text of more than 8,192 bytes. `Memory` comes only where memory
+/// was refused.
+pub fn write_json(alloc: Global, pass: &Pass) -> Result<String, FormFault>
+    ensures ok { IfOk result (λ text. IsWritten IsJsonText pass.now (string_bytes text)) }
+    ensures err { IfErr result (IsRefusedJson pass.now) }
+    ensures read_back { IfOk result (λ text. IsReadBack reading_json Json (string_bytes text) pass.now (string_bytes text)) }
+    // By what is computed of the pass.
+    ensures computed { MatchResult result (λ text. writing_json pass.now ≡ Ok (string_bytes text)) (MayFailAs (writing_json pass.now)) }
+{
+    json_reads_back();
+    writes_json_exactly();
+    short_text(alloc, pass)
+}
+
+// The text, or the first fault that fits.
+#[tactic(auto, unfolding(crate::specs::JsonWriting::writing_json, crate::specs::JsonWriting::json_text))]
+fn short_text(alloc: Global, pass: &Pass) -> Result<String, FormFault>
+    ensures bytes { OnOk result (HasBytes pass.now) }
+    ensures signature { OnOk result (length pass.now.signature ≡ 32) }
+    ensures computed { MatchResult result (λ text. writing_json pass.now ≡ Ok (string_bytes text)) (MayFailAs (writing_json pass.now)) }
+{
+    if pass.caveats().len() > MAX_CAVEATS {
+        return Err(FormFault::TooMany);
+    }
+    let text = text_of(alloc, pass)?;
+    if text.len() > MAX_TEXT {
+        return Err(FormFault::TooLong);
+    }
+    Ok(text)
+}
+
+// The text, however long it is.
+#[tactic(auto, unfolding(crate::specs::JsonWriting::json_text))]
+fn text_of(alloc: Global, pass: &Pass) -> Result<String, AllocError>
+    ensures bytes { OnOk result (HasBytes pass.now) }
+    ensures signature { OnOk result (length pass.now.signature ≡ 32) }
+    ensures text { IfOk result (λ text. string_bytes text ≡ spec.json_text pass.now) }
+{
+    object_of(alloc, pass)?.to_string(alloc)
+}
+
+#[tactic(auto, unfolding(crate::specs::JsonWriting::object_of))]
+fn object_of(alloc: Global, pass: &Pass) -> Result<Value, AllocError>
+    ensures bytes { OnOk result (HasBytes pass.now) }
+    ensures signature { OnOk result (length pass.now.signature ≡ 32) }
+    ensures value { IfOk result (λ value. view value ≡ spec.object_of pass.now) }
+{
+    let mut members = Map::new(alloc);
+    put_location(alloc, &mut members, pass.location())?;
+    put_field(alloc, &mut members, "i", "i64", pass.identifier())?;
+    put(
+        &mut members,
+        alloc,
+        "c",
+        caveat_objects(alloc, pass.caveats())?,
+    )?;
+    put(
+        &mut members,
+        alloc,
+        "s64",
+        base64_of(alloc, pass.signature())?,
+    )?;
+    put(&mut members, alloc, "v", Value::from(2u64))?;
+    Ok(Value::Object(members))
+}
+
+// Puts a location, unless it is empty.
+fn put_location(
+    alloc: Global,
+    members: &mut Map<String, Value>,
+    location: &[u8],
+) -> Result<(), AllocError>
+    ensures bytes { IsBytes location.now }
+    ensures members { OnOk result (members_view members.new.entries
+        ≡ with_location location.now (members_view members.old.entries)) }
+{
+    if location.is_empty() {
+        return Ok(());
+    }
+    put_field(alloc, members, "l", "l64", location)
+}
+
+fn caveat_objects(alloc: Global, caveats: &[Vec<u8>]) -> Result<Value, AllocError>
+    ensures bytes { OnOk result (AllByRecursion IsBytes (map (λ caveat. caveat.items) caveats.now)) }
+    ensures value { IfOk result (λ value. view value ≡ array (spec.caveat_objects (map (λ caveat. caveat.items) caveats.now))) }
+{
+    let mut objects = Vec::new(alloc);
+    for caveat in caveats {
+        objects.push(caveat_object(alloc, caveat)?)?;
+    }
+    Ok(Value::Array(objects))
+}
+
+fn caveat_object(alloc: Global, caveat: &[u8]) -> Result<Value, AllocError>
+    ensures bytes { IsBytes caveat.now }
+    ensures value { IfOk result (λ value. view value ≡ spec.caveat_object caveat.now) }
+{
+    let mut members = Map::new(alloc);
+    put_field(alloc, &mut members, "i", "i64", caveat)?;
+    Ok(Value::Object(members))
+}
+
+// Puts bytes under the plain name where they are UTF-8, else under the `64` name.
+#[tactic(auto, unfolding(crate::specs::JsonWriting::with_field))]
+fn put_field(
+    alloc: Global,
+    members: &mut Map<String, Value>,
+    plain: &str,
+    base64: &str,
+    bytes: &[u8],
+) -> Result<(), AllocError>
+    ensures bytes { IsBytes bytes.now }
+    ensures members { OnOk result (members_view members.new.entries
+        ≡ with_field plain.now base64.now bytes.now (members_view members.old.entries)) }
+{
+    match str::from_utf8(bytes) {
+        Ok(text) => put(members, alloc, plain, Value::try_from_str(alloc, text)?),
+        Err(_) => put(members, alloc, base64, base64_of(alloc, bytes)?),
+    }
+}
+
+// Bytes as a text in URL-safe base64 without padding.
+fn base64_of(alloc: Global, bytes: &[u8]) -> Result<Value, AllocError>
+    ensures bytes { IsBytes bytes.now }
+    ensures value { IfOk result (λ value. view value ≡ base64_text bytes.now) }
+{
+    Ok(Value::String(URL_SAFE_NO_PAD.encode(alloc, bytes)?))
+}
+
+#[cfg(test)]
+mod tests;

@@ -1,0 +1,30 @@
+#!/bin/sh
+# Runs tests of a crate with each of their first 300 allocations refused in turn: each must end well, or end with want of
+# memory. Run `rt test` in the crate first. Not part of the gate. Give tests that pass each fault on by `?`, since one that
+# asserts a fault of another kind fails where memory is refused instead.
+#   tests/refused_memory_tests.sh pass_json any::tests::reads_and_writes_any_form write::tests::writes_one_text
+set -eu
+here=$(CDPATH='' cd -P -- "$(dirname -- "$0")" && pwd)
+command -v cc >/dev/null || apt-get install -y gcc libc6-dev >/dev/null
+work=$(mktemp -d)
+trap 'rm -rf "$work"' EXIT
+cc -shared -fPIC -O1 -o "$work/refuse.so" "$here/refused_memory.c" -ldl
+
+crate=$1
+shift
+for test; do
+    refused=0
+    for number in $(seq 300); do
+        status=0
+        REFUSED_ALLOCATION=$number LD_PRELOAD=$work/refuse.so "$here/../crates/$crate/out/${crate}_tests" "$test" \
+            >"$work/out" 2>&1 || status=$?
+        if [ "$status" = 0 ]; then continue; fi
+        if ! grep -Eq 'Memory|AllocError' "$work/out"; then
+            echo "$test, allocation $number refused: status $status" >&2
+            cat "$work/out" >&2
+            exit 1
+        fi
+        refused=$((refused + 1))
+    done
+    echo "$test: $refused refused allocations ended the run, each with want of memory"
+done
