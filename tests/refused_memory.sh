@@ -1,6 +1,6 @@
 #!/bin/sh
-# Runs passtool with each of its first 200 allocations refused in turn, more than it makes. Each run must end with status
-# 4, `out of memory` and no output, or as the stored run does. Not part of the gate.
+# Runs each command of passtool with each of its first 400 allocations refused in turn, more than any makes. Each run must
+# end with status 4, `out of memory` and no output, or as it does with ample memory. Not part of the gate.
 set -eu
 here=$(CDPATH='' cd -P -- "$(dirname -- "$0")" && pwd)
 tool=$here/../crates/passtool
@@ -10,18 +10,36 @@ work=$(mktemp -d)
 trap 'rm -rf "$work"' EXIT
 cc -shared -fPIC -O1 -o "$work/refuse.so" "$here/refused_memory.c" -ldl
 
-set -- $(cat "$tool/args")
-refused=0
-for number in $(seq 200); do
-    status=0
-    REFUSED_ALLOCATION=$number LD_PRELOAD=$work/refuse.so "$tool/out/passtool" "$@" \
-        <"$tool/stdin" >"$work/out" 2>"$work/fault" || status=$?
-    if [ "$status" = 0 ] && cmp -s "$work/out" "$tool/stdout"; then continue; fi
-    if [ "$status" != 4 ] || [ -s "$work/out" ] || [ "$(cat "$work/fault")" != "out of memory" ]; then
-        echo "allocation $number refused: status $status" >&2
-        cat "$work/out" "$work/fault" >&2
+# try WORD..: the words of one run, whose input is $work/pass.
+try() {
+    "$tool/out/passtool" "$@" <"$work/pass" >"$work/wanted"
+    refused=0
+    for number in $(seq 400); do
+        status=0
+        REFUSED_ALLOCATION=$number LD_PRELOAD=$work/refuse.so "$tool/out/passtool" "$@" \
+            <"$work/pass" >"$work/out" 2>"$work/fault" || status=$?
+        if [ "$status" = 0 ] && cmp -s "$work/out" "$work/wanted"; then continue; fi
+        if [ "$status" != 4 ] || [ -s "$work/out" ] || [ "$(cat "$work/fault")" != "out of memory" ]; then
+            echo "$1: allocation $number refused: status $status" >&2
+            cat "$work/out" "$work/fault" >&2
+            exit 1
+        fi
+        refused=$((refused + 1))
+    done
+    if [ "$refused" = 0 ] || [ "$refused" = 400 ]; then
+        echo "$1: $refused of 400 runs were refused" >&2
         exit 1
     fi
-    refused=$((refused + 1))
+    echo "passtool $1: $refused refused allocations ended the run, each with status 4 and no output"
+}
+
+root=$(tail -n 1 "$tool/args")
+for form in v1 v2 json; do
+    "$tool/out/passtool" convert --form "$form" <"$tool/stdin" >"$work/pass"
+    try mint --root "$root" --id key:amy-1 --location club-desk --form "$form" "kind = court" "guests <= 2"
+    try show
+    try narrow "kind = court" "guests <= 2"
+    try convert --form json
+    try convert --form v2
+    try verify --root "$root"
 done
-echo "passtool: $refused refused allocations ended the run, each with status 4 and no output"

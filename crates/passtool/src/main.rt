@@ -1,25 +1,14 @@
-//! Passes on the command line.
+//! Passes on the command line: `pass_commands` on the process's words, standard input and standard output.
 #![tactic(auto)]
 
 ghost use Rattle.std.specs.Prelude.{IfErr};
-ghost use Rattle.passtool.specs.Fault.{IsOfWords};
+ghost use Rattle.pass_commands.specs.Fault.{IsOfWords};
 
-mod answer;
-mod application;
-mod command;
-mod input;
-mod laws;
-mod root;
-#[cfg(test)]
-mod tests;
-mod tool;
-mod verify;
-
-use answer::{Fault, Outcome};
-use application::make_application;
-use clap::error::ErrorKind;
+use pass_commands::{Fault, Outcome, not_text};
 use std::process::ExitCode;
 use std::{env, io};
+
+pub use pass_commands::run;
 
 fn main(rt: HostRuntime) -> ExitCode {
     let status = match run_here(&rt) {
@@ -36,7 +25,7 @@ fn main(rt: HostRuntime) -> ExitCode {
 // Runs on the process's words, standard input and standard output.
 fn run_here(rt: &HostRuntime) -> Result<Outcome, Fault> {
     let words = given_words(rt)?;
-    tool::run(
+    run(
         rt.alloc(),
         words.as_slice(),
         &mut rt.stdin(),
@@ -50,21 +39,7 @@ fn given_words(rt: &HostRuntime) -> Result<Vec<String>, Fault>
     match env::args(rt) {
         Ok(words) => Ok(words.collect(rt.alloc())?),
         Err(error) if error.kind() == io::ErrorKind::OutOfMemory => Err(Fault::Memory),
-        Err(_) => Err(not_text(rt)),
-    }
-}
-
-// The fault of words that aren't UTF-8, which `clap` never sees here.
-fn not_text(rt: &HostRuntime) -> Fault
-    ensures { IsOfWords result }
-{
-    let message = "invalid UTF-8 was detected in one or more arguments";
-    match make_application(rt.alloc()) {
-        Ok(mut application) => match application.error(ErrorKind::ValueValidation, message) {
-            Ok(error) => Fault::Words(error),
-            Err(_) => Fault::Memory,
-        },
-        Err(_) => Fault::Memory,
+        Err(_) => Err(not_text(rt.alloc())),
     }
 }
 

@@ -126,7 +126,10 @@ fn decodes_base64(rt: HostRuntime) -> Result<(), Fail> {
         assert_eq!(rt; decoded.as_slice(), bytes, "of {text}");
     }
     for text in ["Z", "Zg=", "Zh", "-/8", " Zg"] {
-        assert!(rt; decode_base64(rt.alloc(), text.as_bytes())?.is_none(), "of {text}");
+        assert!(rt;
+            decode_base64(rt.alloc(), text.as_bytes())?.is_none(),
+            "of {text}"
+        );
     }
     Ok(())
 }

@@ -1,0 +1,12 @@
+pub mod RootLemmas
+pub mod InputLemmas
+pub mod AppLemmas
+pub mod OptionLemmas
+pub mod NarrowLemmas
+pub mod ShownLemmas
+pub mod WordsLemmas
+pub mod NamedLemmas
+pub mod RunLemmas
+pub mod AnswerLaws
+pub mod WordLaws
+pub mod NarrowLaws

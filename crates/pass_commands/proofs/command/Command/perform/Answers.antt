@@ -1,0 +1,14 @@
+use Rattle.std.proofs.lemmas.Result.{err_from_is_err_and}
+use Rattle.pass_commands.proofs.RunLemmas.{failed, performed}
+use Rattle.pass_commands.proofs.command.Command.perform.Goals as goal
+
+pub returns-in_err-answer-clause-answer : goal.returns-in_err-answer-clause-answer
+returns-in_err-answer-clause-answer g c =
+    let p = err_from_is_err_and c.from_residual-in_err-answer.result c.from_residual-in_err-answer.ensures.1 in
+    let held = g.W.Write.contents c.args.writer.now in
+    rw (p.1, p.2) (failed c.args.self.now _ _ held held _ c.in_ok-count.ensures.bytes.1 _ c.in_err-answer.ensures)
+
+pub returns-clause-answer : goal.returns-clause-answer
+returns-clause-answer g c =
+    performed c.args.self.now _ _ _ _ _ c.in_ok-count.ensures.bytes.1 c.in_ok-answer.answer c.outcome.result c.text.result.now
+    c.in_ok-answer.ensures c.outcome.ensures c.text.ensures c.in_ok-write_text.ensures

@@ -1,0 +1,109 @@
+-- What each command answers (ours).
+use Rattle.std.specs.Prelude.{ℕ, ◌+◌, Bool, true, false, nat_lt, if◌then◌else◌, List, [], ◌++◌, length, codes, Result, Ok, Err}
+use Rattle.std.specs.Io.BufRead.{strip_last}
+use Rattle.pass_mac.specs.Chain.{chain, derived_key, extended}
+use Rattle.pass_forms.specs.declared.fault.FormFault.{FormFault}
+use Rattle.pass_forms.specs.declared.fault.FormFault.TheVariants.{TooMany}
+use Rattle.pass_forms.specs.declared.form.Form.{Form}
+use Rattle.pass_forms.specs.Pass.{Plain, is_signed}
+use Rattle.pass_forms.specs.Reading.{max_caveats}
+use Rattle.pass_json.specs.AnyForm.{reading, writing}
+use Rattle.pass_commands.specs.Minting.{Minting}
+use Rattle.pass_commands.specs.Shown.{line, shown}
+use Rattle.pass_commands.specs.declared.answer.Outcome.{Outcome}
+use Rattle.pass_commands.specs.declared.answer.Outcome.TheVariants.{Done, NotSigned}
+use Rattle.pass_commands.specs.declared.command.Command.{Command}
+use Rattle.pass_commands.specs.declared.command.Command.TheVariants.{Mint, Show, Narrow, Convert, Verify}
+
+-- how the command ended, and the text that it wrote
+abbrev pub Told : Type 0
+Told = Outcome × List ℕ
+
+-- the ? of the logic
+infixl 10 ◌>>=◌
+abbrev pub ◌>>=◌ : {A B : Type 0} → Result A FormFault → (A → Result B FormFault) → Result B FormFault
+Ok x >>= f = f x
+Err fault >>= f = Err fault
+
+-- the form and the pass of what was read, of which one line feed at the end is no part
+abbrev pub pass_in : List ℕ → Result (Form × Plain) FormFault
+pass_in bytes = reading (strip_last 10 bytes)
+
+-- a pass is written with a line feed behind it
+abbrev pub done_with : List ℕ → Result Told FormFault
+done_with text = Ok (Done, line text)
+
+abbrev pub written : Form → Plain → Result Told FormFault
+written form pass = writing form pass >>= done_with
+
+-- the pass with more caveats, each signed under the signature before it
+abbrev pub with_caveats : List (List ℕ) → Plain → Plain
+with_caveats caveats pass = record {
+  location = pass.location;
+  identifier = pass.identifier;
+  caveats = pass.caveats ++ caveats;
+  signature = extended pass.signature caveats;
+}
+
+-- the same, where a pass may have so many
+unfoldable pub narrowing : List (List ℕ) → Plain → Result Plain FormFault
+narrowing caveats pass =
+    if nat_lt max_caveats (length pass.caveats + length caveats) then Err TooMany
+    else Ok (with_caveats caveats pass)
+
+-- a new pass under a root, with no caveats yet
+abbrev pub new_pass : Minting → Plain
+new_pass minting = record {
+  location = minting.location;
+  identifier = minting.identifier;
+  caveats = [];
+  signature = chain (derived_key minting.root) minting.identifier [];
+}
+
+-- whether a pass is signed, as `verify` tells it
+abbrev pub told : Bool → Told
+told true = (Done, line (codes "signed"))
+told false = (NotSigned, line (codes "not signed"))
+
+-- What each command answers to the bytes that it read: how it ended and what it writes, or the fault of a pass.
+
+abbrev pub minted : Minting → Result Told FormFault
+minted minting = do
+  pass ← narrowing minting.caveats (new_pass minting)
+  written minting.form pass
+
+abbrev pub shown_of : List ℕ → Result Told FormFault
+shown_of bytes = do
+  read ← pass_in bytes
+  Ok (Done, shown read.0 read.1)
+
+abbrev pub narrowed_of : List (List ℕ) → List ℕ → Result Told FormFault
+narrowed_of caveats bytes = do
+  read ← pass_in bytes
+  pass ← narrowing caveats read.1
+  written read.0 pass
+
+abbrev pub converted_of : Form → List ℕ → Result Told FormFault
+converted_of form bytes = do
+  read ← pass_in bytes
+  written form read.1
+
+abbrev pub verified_of : List ℕ → List ℕ → Result Told FormFault
+verified_of root bytes = do
+  read ← pass_in bytes
+  Ok (told (is_signed root read.1))
+
+unfoldable pub answer_of : Command → List ℕ → Result Told FormFault
+answer_of (Mint minting) bytes = minted minting
+answer_of Show bytes = shown_of bytes
+answer_of (Narrow caveats) bytes = narrowed_of caveats bytes
+answer_of (Convert form) bytes = converted_of form bytes
+answer_of (Verify root) bytes = verified_of root bytes
+
+-- `mint` alone reads no input
+abbrev pub reads_input : Command → Bool
+reads_input (Mint minting) = false
+reads_input Show = true
+reads_input (Narrow caveats) = true
+reads_input (Convert form) = true
+reads_input (Verify root) = true

@@ -1,0 +1,77 @@
+-- The program's commands and options, as `clap` reads them (ours).
+use Rattle.std.specs.Prelude.{List, [], ◌∷◌, Option, Some, true, codes}
+use Rattle.clap.specs.Words.{App, Kinds, Row, Rule, Shape, Text, fault_of, new_app, new_rule}
+use Rattle.clap.specs.Words.{subcommand_of, with_rule, with_subcommand}
+use Rattle.clap.specs.Simple.{on_top}
+use Rattle.clap.specs.declared.builder.action.ArgAction.TheVariants.{Append, SetTrue}
+
+-- `--NAME VALUE`
+abbrev pub option_named : Text → Rule
+option_named name = record (new_rule name) { long = Some name; value_names = 1 }
+
+abbrev pub required : Rule → Rule
+required rule = record rule { required = true }
+
+abbrev pub root_option : Rule
+root_option = required (option_named (codes "root"))
+
+abbrev pub id_option : Rule
+id_option = required (option_named (codes "id"))
+
+abbrev pub location_option : Rule
+location_option = option_named (codes "location")
+
+abbrev pub form_option : Rule
+form_option = option_named (codes "form")
+
+-- the same, where V2 stands for an option that is left out
+abbrev pub form_or_v2 : Rule
+form_or_v2 = record form_option { defaults = codes "v2" ∷ [] }
+
+-- `--any`
+abbrev pub any_flag : Rule
+any_flag = record (new_rule (codes "any")) { long = Some (codes "any"); action = Some SetTrue }
+
+-- any number of words
+abbrev pub caveat_words : Rule
+caveat_words = record (new_rule (codes "caveat")) { action = Some Append; value_names = 1 }
+
+-- `mint --root HEX --id TEXT [--location TEXT] [--form F] [CAVEAT]...`
+abbrev pub mint_command : App
+mint_command =
+    with_rule (with_rule (with_rule (with_rule (with_rule (new_app (codes "mint"))
+    root_option) id_option) location_option) form_or_v2) caveat_words
+
+-- `show`
+abbrev pub show_command : App
+show_command = new_app (codes "show")
+
+-- `narrow [--any] CAVEAT...`
+abbrev pub narrow_command : App
+narrow_command = with_rule (with_rule (new_app (codes "narrow")) any_flag) (required caveat_words)
+
+-- `convert --form F`
+abbrev pub convert_command : App
+convert_command = with_rule (new_app (codes "convert")) (required form_option)
+
+-- `verify --root HEX`
+abbrev pub verify_command : App
+verify_command = with_rule (new_app (codes "verify")) root_option
+
+abbrev pub needs_subcommand : Shape → Shape
+needs_subcommand top = record top { subcommand_required = true }
+
+-- `passtool COMMAND`, where a command must be named
+unfoldable pub application : App
+application =
+    with_subcommand (with_subcommand (with_subcommand (with_subcommand (with_subcommand
+    (on_top needs_subcommand (new_app (codes "passtool")))
+    mint_command.top) show_command.top) narrow_command.top) convert_command.top) verify_command.top
+
+-- what clap has against the words, the program's name first; empty where it reads them
+unfoldable pub refusals : List Text → Kinds
+refusals words = fault_of application words
+
+-- the command that the words name, with what clap found of its options
+unfoldable pub subcommand : List Text → Option (Text × List Row)
+subcommand words = subcommand_of application words

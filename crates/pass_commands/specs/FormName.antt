@@ -1,0 +1,17 @@
+-- The forms by their names on the command line (ours).
+use Rattle.std.specs.Prelude.{ℕ, List, Option, Some, None, codes, if◌then◌else◌}
+use Rattle.std.specs.Str.{bytes_eq}
+use Rattle.pass_forms.specs.declared.form.Form.{Form}
+use Rattle.pass_forms.specs.declared.form.Form.TheVariants.{V1, V2, Json}
+
+abbrev pub form_name : Form → List ℕ
+form_name V1 = codes "v1"
+form_name V2 = codes "v2"
+form_name Json = codes "json"
+
+-- the form of this name
+abbrev pub form_named : List ℕ → Option Form
+form_named name =
+    if bytes_eq name (form_name V1) then Some V1
+    else (if bytes_eq name (form_name V2) then Some V2
+    else (if bytes_eq name (form_name Json) then Some Json else None))

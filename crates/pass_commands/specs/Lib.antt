@@ -1,0 +1,11 @@
+pub mod Application
+pub mod Root
+pub mod Minting
+pub mod FormName
+pub mod Input
+pub mod Fault
+pub mod Shown
+pub mod Answer
+pub mod Words
+pub mod Run
+pub mod Laws

@@ -1,0 +1,25 @@
+//! The commands of `passtool`: passes made, shown, narrowed, converted and verified, over words, a reader and a writer.
+#![tactic(auto)]
+
+mod answer;
+mod application;
+mod caveats;
+mod command;
+mod convert;
+mod form_name;
+mod input;
+pub mod laws;
+mod mint;
+mod narrow;
+mod options;
+mod output;
+mod root;
+mod show;
+#[cfg(test)]
+mod tests;
+mod tool;
+mod verify;
+
+pub use answer::{Fault, Outcome};
+pub use application::not_text;
+pub use tool::run;

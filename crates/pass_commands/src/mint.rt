@@ -1,0 +1,85 @@
+//! `mint`: a new pass.
+
+ghost use Rattle.std.specs.Prelude.{◌≡◌, IfOk};
+ghost use Rattle.pass_forms.specs.Reading.{UnlessMemory};
+ghost use Rattle.pass_commands.specs.Answer as spec;
+
+use crate::answer::Answer;
+use crate::caveats::Caveats;
+use crate::narrow::narrowed;
+use crate::output::written;
+use crate::root::Root;
+use pass_forms::{Form, FormFault, Pass};
+use pass_mac::Chain;
+use std::alloc::{AllocError, Global};
+use std::marker::Model;
+
+/// What a new pass is made of.
+#[derive(Drop)]
+pub struct Mint<'a> {
+    root: Root,
+    identifier: &'a str,
+    location: &'a str,
+    form: Form,
+    caveats: Caveats<'a>,
+}
+
+impl<'a> Model for Mint<'a> {
+    ghost use Rattle.pass_commands.specs.Minting.{Minting};
+
+    ghost Value = { Minting };
+
+    ghost view = { λ mint. record {
+      root = mint.root;
+      identifier = mint.identifier.now;
+      location = mint.location.now;
+      form = mint.form;
+      caveats = mint.caveats;
+    } };
+}
+
+impl<'a> Mint<'a> {
+    /// A pass of these parts, to be written in this form.
+    pub fn new(
+        root: Root,
+        identifier: &'a str,
+        location: &'a str,
+        form: Form,
+        caveats: Caveats<'a>,
+    ) -> Mint<'a>
+        ensures { result ≡ record {
+          root = root;
+          identifier = identifier.entry.now;
+          location = location.entry.now;
+          form = form;
+          caveats = caveats.entry;
+        } }
+    {
+        Mint {
+            root,
+            identifier,
+            location,
+            form,
+            caveats,
+        }
+    }
+
+    /// Makes the pass and its text.
+    pub fn answer(&self, alloc: Global) -> Result<Answer, FormFault>
+        ensures { UnlessMemory (λ answer. spec.minted self.now ≡ answer) result }
+    {
+        let pass = self.new_pass(alloc)?;
+        let pass = narrowed(alloc, pass, self.caveats.as_slice())?;
+        written(alloc, self.form, &pass)
+    }
+
+    // The pass before its caveats.
+    fn new_pass(&self, alloc: Global) -> Result<Pass, AllocError>
+        ensures { IfOk result (λ pass. pass ≡ spec.new_pass self.now) }
+    {
+        let chain = Chain::start(self.root.as_slice(), self.identifier.as_bytes());
+        let location = Vec::from_slice(alloc, self.location.as_bytes())?;
+        let identifier = Vec::from_slice(alloc, self.identifier.as_bytes())?;
+        Ok(Pass::new(location, identifier, Vec::new(alloc), chain.signature()))
+    }
+}

@@ -1,0 +1,32 @@
+//! `narrow`: a pass with more caveats.
+
+ghost use Rattle.std.specs.Prelude.{◌≡◌, ◌≤◌, length, map};
+ghost use Rattle.pass_forms.specs.Reading.{UnlessMemory, max_caveats};
+ghost use Rattle.pass_commands.specs.Answer as spec;
+
+use crate::answer::Answer;
+use crate::caveats::Caveats;
+use crate::input::read_pass;
+use crate::output::written;
+use pass_forms::{FormFault, Pass};
+use std::alloc::Global;
+
+/// The pass of the input with the caveats added in their order, in the form it came in.
+pub fn narrow(alloc: Global, caveats: &Caveats<'_>, bytes: &[u8]) -> Result<Answer, FormFault>
+    ensures { UnlessMemory (λ answer. spec.narrowed_of caveats.now bytes.now ≡ answer) result }
+{
+    let (form, pass) = read_pass(alloc, bytes)?;
+    let pass = narrowed(alloc, pass, caveats.as_slice())?;
+    written(alloc, form, &pass)
+}
+
+/// A pass with caveats added in turn. A pass that was read or made has few enough itself.
+pub fn narrowed(alloc: Global, mut pass: Pass, caveats: &[&str]) -> Result<Pass, FormFault>
+    requires { length pass.caveats ≤ max_caveats }
+    ensures { UnlessMemory (λ answer. spec.narrowing (map (λ caveat. caveat.now) caveats.now) pass ≡ answer) result }
+{
+    for caveat in caveats {
+        pass_forms::narrow(alloc, &mut pass, caveat.as_bytes())?;
+    }
+    Ok(pass)
+}

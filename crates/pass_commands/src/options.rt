@@ -1,0 +1,74 @@
+//! The options of a command, out of what `clap` found.
+
+ghost use Rattle.std.specs.Prelude.{◌≡◌, IfOk};
+ghost use Rattle.clap.specs.Words.{found_of, kind_of, rows_of};
+ghost use Rattle.clap.specs.declared.error.kind.ErrorKind.TheVariants as kind;
+ghost use Rattle.pass_commands.specs.Fault.{IsBadForm};
+ghost use Rattle.pass_commands.specs.Words.{AnswersAsked, caveats_in, form_in, root_in, value_in};
+
+use crate::answer::Fault;
+use crate::application::refusal;
+use crate::caveats::Caveats;
+use crate::form_name::form_named;
+use crate::root::Root;
+use clap::ArgMatches;
+use clap::error::ErrorKind;
+use pass_forms::Form;
+use std::alloc::{AllocError, Global};
+
+/// The value of an option; empty where it was left out.
+pub fn value_of<'a>(options: &ArgMatches<'a>, id: &str) -> &'a str
+    ensures { result.now ≡ value_in id.now (rows_of (found_of options.now)) }
+{
+    options.get_str(id).unwrap_or("")
+}
+
+/// The root that `--root` spells.
+pub fn root_of(options: &ArgMatches<'_>) -> Result<Root, Fault>
+    ensures { AnswersAsked (root_in (rows_of (found_of options.now))) result }
+{
+    match Root::from_hex(value_of(options, "root")) {
+        Some(root) => Ok(root),
+        None => Err(Fault::BadRoot),
+    }
+}
+
+/// The form that `--form` names.
+pub fn form_of(alloc: Global, options: &ArgMatches<'_>) -> Result<Form, Fault>
+    ensures { AnswersAsked (form_in (rows_of (found_of options.now))) result }
+{
+    let name = value_of(options, "form");
+    match form_named(name) {
+        Some(form) => Ok(form),
+        None => Err(bad_form(alloc, name)),
+    }
+}
+
+// The fault of a form of this name.
+fn bad_form(alloc: Global, name: &str) -> Fault
+    ensures { IsBadForm result }
+{
+    match form_refusal(alloc, name) {
+        Ok(error) => Fault::Words(error),
+        Err(_) => Fault::Memory,
+    }
+}
+
+fn form_refusal(alloc: Global, name: &str) -> Result<clap::Error, AllocError>
+    ensures { IfOk result (λ error. kind_of error ≡ kind.InvalidValue) }
+{
+    let message = format!(in alloc;
+        "invalid value '{name}' for '--form <F>'\n  [possible values: v1, v2, json]"
+    )?;
+    refusal(alloc, ErrorKind::InvalidValue, message.as_str())
+}
+
+/// The caveats among the words.
+pub fn caveats_of<'a>(alloc: Global, options: &ArgMatches<'a>) -> Result<Caveats<'a>, AllocError>
+    ensures { IfOk result (λ caveats. caveats ≡ caveats_in (rows_of (found_of options.now))) }
+{
+    match options.get_strs("caveat") {
+        Some(texts) => Caveats::new(alloc, texts),
+        None => Caveats::new(alloc, &[]),
+    }
+}

@@ -1,0 +1,58 @@
+//! A run of the program, over words, a reader and a writer.
+
+ghost use Rattle.std.specs.Prelude.{◌≡◌, ◌≢◌, IfErr, MatchResult, Some, false, map};
+ghost use Rattle.pass_commands.specs.Run.{AnswersWords, Performs, asks_input};
+ghost use Rattle.pass_commands.specs.Words.{asked};
+ghost use Rattle.pass_commands.specs.declared.command.Command.{Command as CommandOf};
+
+use crate::answer::{Fault, Outcome};
+use crate::command::{Command, Request};
+use std::alloc::Global;
+use std::convert::AsStr;
+use std::io::{Read, Write};
+
+/// Runs the program on its words, of which the first is its name.
+///
+/// The words are judged before the input is read: by `clap`, then a form, a root and caveats. The input is read to its end,
+/// but at most 8,194 bytes of it; `mint` reads none. After a fault nothing was written, but for a failing writer. Help is
+/// written as `clap` makes it.
+///
+/// # Errors
+///
+/// Of the words: `Words` where `clap` refuses them or a form is none, `BadRoot`, and `CaveatNotUnderstood` with the number of
+/// the caveat among those given. Of the pass: `TooLong`, `Malformed`, `ThirdParty` and `TooMany`. `InputOutput` where the
+/// reader or the writer failed. `Memory` comes only where memory was refused.
+pub fn run<S: AsStr, R: Read, W: Write>(
+    alloc: Global,
+    words: &[S],
+    reader: &mut R,
+    writer: &mut W,
+) -> Result<Outcome, Fault>
+    // The fault of the words, or what they ask for.
+    ensures words { AnswersWords (map S.text words.now) result }
+    // Where they ask for a command: it read its input, and wrote its answer to that.
+    ensures command { (command : CommandOf) → asked (map S.text words.now) ≡ Some command
+        → Performs command (R.remaining reader.old) (R.remaining reader.new)
+        (W.contents writer.old) (W.contents writer.new) result }
+    // Where they ask for none, or one that reads no input, nothing was read.
+    ensures unread { asks_input (asked (map S.text words.now)) ≡ false → reader.new ≡ reader.old }
+    // After a fault nothing was written, unless the writer failed.
+    ensures silent { IfErr result (λ fault. fault ≢ Fault.InputOutput
+        → writer.new ≡ writer.old) }
+{
+    match Request::from_words(alloc, words) {
+        Ok(Request::ShowHelp(help)) => show(&help, writer),
+        Ok(Request::Perform(command)) => command.perform(alloc, reader, writer),
+        Err(fault) => Err(fault),
+    }
+}
+
+// Writes the help text, whose bytes no clause states.
+fn show<W: Write>(help: &clap::Error, writer: &mut W) -> Result<Outcome, Fault>
+    ensures { MatchResult result (λ outcome. outcome ≡ Outcome.Done)
+        (λ fault. fault ≡ Fault.InputOutput) }
+{
+    write!(writer, "{help}")?;
+    writer.flush()?;
+    Ok(Outcome::Done)
+}

@@ -1,0 +1,94 @@
+//! A walk through the commands of `passtool`: each command line, with what it prints. A pass that is printed goes into a
+//! file, and the next commands read it from there.
+#![tactic(auto)]
+
+use pass_commands::run;
+use std::alloc::Global;
+
+const ROOT: &str = "00112233445566778899aabbccddeeff";
+
+const OTHER_ROOT: &str = "ffeeddccbbaa99887766554433221100";
+
+fn main(rt: HostRuntime) -> anyhow::Result<()> {
+    let pass = minted(&rt)?;
+    let words = [
+        "passtool",
+        "narrow",
+        "kind = court",
+        "until < 2026-05-01T18:00",
+    ];
+    let narrowed = step(
+        &rt,
+        words.as_slice(),
+        " < pass | tee narrowed",
+        pass.as_str(),
+    )?;
+    let words = ["passtool", "show"];
+    step(&rt, words.as_slice(), " < narrowed", narrowed.as_str())?;
+    let words = ["passtool", "convert", "--form", "json"];
+    let json = step(
+        &rt,
+        words.as_slice(),
+        " < narrowed | tee json",
+        narrowed.as_str(),
+    )?;
+    for root in [ROOT, OTHER_ROOT] {
+        let words = ["passtool", "verify", "--root", root];
+        step(&rt, words.as_slice(), " < json", json.as_str())?;
+    }
+    let words = ["passtool", "narrow", "shoe = red"];
+    step(&rt, words.as_slice(), " < json", json.as_str())?;
+    Ok(())
+}
+
+fn minted(rt: &(impl Print + Alloc<A = Global>)) -> anyhow::Result<String> {
+    let words = [
+        "passtool",
+        "mint",
+        "--root",
+        ROOT,
+        "--id",
+        "key:amy-1",
+        "--location",
+        "club-desk",
+    ];
+    step(rt, words.as_slice(), " | tee pass", "")
+}
+
+// Prints a command line and what a run on it prints, which is handed on.
+fn step(
+    rt: &(impl Print + Alloc<A = Global>),
+    words: &[&str],
+    files: &str,
+    input: &str,
+) -> anyhow::Result<String> {
+    let line = command_line(rt.alloc(), words)?;
+    println!(rt; "$ {line}{files}")?;
+    let told = told_by(rt.alloc(), words, input)?;
+    print!(rt; "{told}")?;
+    Ok(told)
+}
+
+// What a run writes, or its line on standard error.
+fn told_by(alloc: Global, words: &[&str], input: &str) -> anyhow::Result<String> {
+    let mut written = Vec::new(alloc);
+    match run(alloc, words, &mut input.as_bytes(), &mut written) {
+        Ok(_) => Ok(String::from_utf8_lossy(alloc, written.as_slice())?),
+        Err(fault) => Ok(format!(in alloc; "{fault}\n")?),
+    }
+}
+
+// The words as a shell takes them, with quotes where a word has a space.
+fn command_line(alloc: Global, words: &[&str]) -> anyhow::Result<String> {
+    let mut line = String::new(alloc);
+    for (index, word) in words.iter().enumerate() {
+        if index > 0 {
+            line.push(' ')?;
+        }
+        let quote = if word.contains(' ') { "\"" } else { "" };
+        line.push_str(quote)?;
+        line.push_str(word)?;
+        line.push_str(quote)?;
+    }
+    Ok(line)
+}
