@@ -1,0 +1,8 @@
+pub mod SumLemmas
+pub mod EditLemmas
+pub mod NameLemmas
+pub mod WidthLemmas
+pub mod KeptLemmas
+pub mod OrderLemmas
+pub mod RunLemmas
+pub mod PartLemmas

@@ -1,0 +1,24 @@
+-- What takes memory (ours): a new row, and nothing else.
+use Rattle.std.specs.Prelude.{ℕ, ◌+◌, ◌<◌, Bool, true, false, length}
+use Rattle.club_core.specs.declared.change.Change.{Change}
+use Rattle.club_core.specs.declared.change.Change.TheVariants.{InsertMember, AddCredit, InsertFacility, InsertKey, MarkRevoked, MarkClosed, InsertBooking, MarkCancelled}
+use Rattle.club_core.specs.Club.{Club}
+use Rattle.club_core.specs.Run.{Event, step}
+
+abbrev pub is_growth : Change → Bool
+is_growth (InsertMember member) = true
+is_growth (AddCredit member points) = false
+is_growth (InsertFacility facility) = true
+is_growth (InsertKey key) = true
+is_growth (MarkRevoked key) = false
+is_growth (MarkClosed slot) = true
+is_growth (InsertBooking booking) = true
+is_growth (MarkCancelled key number refund) = false
+
+-- how many rows a club has
+abbrev pub row_count : Club → ℕ
+row_count club =
+    length club.members + length club.facilities + length club.keys + length club.bookings + length club.closed
+
+abbrev pub AddsRow : Club → Event → Type 0
+AddsRow club event = row_count club < row_count (step club event).club

@@ -1,0 +1,17 @@
+-- A member's bookings, from lists of keys and bookings (ours).
+use Rattle.std.specs.Prelude.{ℕ, not, Bool, List, filter}
+use Rattle.std.specs.List.{list_any}
+use Rattle.std.specs.Str.{bytes_eq}
+use Rattle.club_core.specs.declared.key.Key.{Key}
+use Rattle.club_core.specs.declared.booking.Booking.{Booking}
+
+-- whether a key of this name is the member's
+abbrev pub is_held : List Key → List ℕ → List ℕ → Bool
+is_held keys member name =
+    list_any (λ (key : Key). bytes_eq key.name name) (filter (λ (key : Key). bytes_eq key.member member) keys)
+
+abbrev pub held_under : List Key → List ℕ → List Booking → List Booking
+held_under keys member bookings = filter (λ (booking : Booking). is_held keys member booking.key) bookings
+
+abbrev pub others_under : List Key → List ℕ → List Booking → List Booking
+others_under keys member bookings = filter (λ (booking : Booking). not (is_held keys member booking.key)) bookings

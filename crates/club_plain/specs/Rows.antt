@@ -1,0 +1,12 @@
+-- The club that lists of rows hold (ours).
+use Rattle.club_core.specs.Club.{Club as Rows}
+use Rattle.club_plain.specs.declared.club.Club.TheInside.{Inside}
+
+abbrev pub rows_of : Inside → Rows
+rows_of club = record {
+  members = club.members.items;
+  facilities = club.facilities.items;
+  keys = club.keys.items;
+  bookings = club.bookings.items;
+  closed = club.closed.items;
+}

@@ -1,0 +1,166 @@
+//! The solo machine: a club that holds a member's part alone, and is told what others hold of each slot that is asked for.
+
+ghost use Rattle.std.specs.Prelude.{◌≡◌, ◌≤◌, ◌<◌, ◌^◌, IfOk, IfSome, OnOk, OnErr, filter, option_map};
+ghost use Rattle.std.specs.Str.{bytes_eq};
+ghost use Rattle.club_core.specs.declared.member.Member.{Member as MemberRow};
+ghost use Rattle.club_core.specs.declared.key.Key.{Key as KeyRow};
+ghost use Rattle.club_core.specs.Sums as sums;
+ghost use Rattle.club_plain.specs.Held.{held_under, others_under};
+ghost use Rattle.club_plain.specs.Solo.{outside_of, with_outside};
+ghost use Rattle.club_plain.specs.Words.{words_of};
+
+use crate::answer::answer_seen;
+use crate::club::{Club, copied};
+use crate::pass::Words;
+use crate::sums::{is_held, persons};
+use club_core::{Booking, Key, Member, Reply, Verdict, View};
+use pass_caveats::{Moment, Name, Slot};
+use std::alloc::{AllocError, Global};
+
+fn members_of(alloc: Global, members: &[Member], name: &Name) -> Result<Vec<Member>, AllocError>
+    ensures { IfOk result (λ rows. rows.items ≡ filter (λ (member : MemberRow). bytes_eq member.name name.now) members.now) }
+{
+    members
+        .iter()
+        .filter(|member| member.name == *name)
+        .copied()
+        .collect(alloc)
+}
+
+fn keys_of(alloc: Global, keys: &[Key], member: &Name) -> Result<Vec<Key>, AllocError>
+    ensures { IfOk result (λ rows. rows.items ≡ filter (λ (key : KeyRow). bytes_eq key.member member.now) keys.now) }
+{
+    keys.iter()
+        .filter(|key| key.member == *member)
+        .copied()
+        .collect(alloc)
+}
+
+fn bookings_of(
+    alloc: Global,
+    keys: &[Key],
+    bookings: &[Booking],
+    member: &Name,
+) -> Result<Vec<Booking>, AllocError>
+    ensures { IfOk result (λ rows. rows.items ≡ held_under keys.now member.now bookings.now) }
+{
+    bookings
+        .iter()
+        .filter(|booking| is_held(keys, member, &booking.key))
+        .copied()
+        .collect(alloc)
+}
+
+/// The persons whom others booked into the slot.
+fn taken_by_others(keys: &[Key], bookings: &[Booking], member: &Name, slot: &Slot) -> u32
+    requires { sums.taken_in slot.now (others_under keys.now member.now bookings.now) < 2 ^ 32 }
+    ensures { result ≡ sums.taken_in slot.now (others_under keys.now member.now bookings.now) }
+{
+    bookings
+        .iter()
+        .filter(|booking| !is_held(keys, member, &booking.key))
+        .filter(|booking| !booking.cancelled && booking.slot == *slot)
+        .map(|booking| persons(booking))
+        .sum()
+}
+
+/// What others hold of a slot.
+#[derive(Clone, Copy, Debug, PartialEq, Eq)]
+pub struct Outside {
+    /// Their persons.
+    pub taken: u8,
+    /// Whether the slot is closed.
+    pub closed: bool,
+}
+
+fn with_outside(view: Option<View>, others: Outside) -> Option<View>
+    requires { IfSome view (λ v. v.taken ≤ 50) }
+    ensures { result ≡ option_map (with_outside others) view }
+{
+    let mut view = view?;
+    view.taken += u32::from(others.taken);
+    view.closed = others.closed;
+    Some(view)
+}
+
+impl Club {
+    ghost use Rattle.club_plain.specs.Widths.{FitsWidths};
+    ghost use Rattle.club_core.specs.Run.{after_change};
+    ghost use Rattle.club_core.specs.Solo as solo;
+
+    /// The rows of a member, and the facilities.
+    pub fn part(&self, member: &Name) -> Result<Club, AllocError>
+        ensures { IfOk result (λ part. part ≡ solo.part_of member.now self.now) }
+    {
+        let alloc = *self.members.allocator();
+        let members = members_of(alloc, &self.members, member)?;
+        let facilities = copied(&self.facilities)?;
+        let keys = keys_of(alloc, &self.keys, member)?;
+        let bookings = bookings_of(alloc, &self.keys, &self.bookings, member)?;
+        Ok(Club {
+            members,
+            facilities,
+            keys,
+            bookings,
+            closed: Vec::new(alloc),
+        })
+    }
+
+    /// What others than the member hold of the slot that is asked for.
+    pub fn outside(&self, member: &Name, slot: Option<Slot>) -> Outside
+        ensures { outside_of result ≡ solo.outside member.now self.now slot }
+    {
+        match slot {
+            None => Outside {
+                taken: 0,
+                closed: false,
+            },
+            Some(slot) => {
+                let taken = taken_by_others(&self.keys, &self.bookings, member, &slot);
+                Outside {
+                    taken: taken as u8,
+                    closed: self.is_closed(&slot),
+                }
+            }
+        }
+    }
+
+    /// The answer to a request on a member's part, with what others hold of its slot.
+    fn answer_alone(&self, words: &Words, moment: Moment, others: Outside) -> Verdict
+        ensures value { result ≡ solo.solo_verdict self.now (words_of words.now) moment (outside_of others) }
+        ensures fits { FitsWidths self.now }
+    {
+        let _members = &self.members;
+        match &words.pass {
+            Err(fault) => Verdict::refused(fault.refusal()),
+            Ok(pass) => {
+                let view = self.view(pass.key, &words.request, moment);
+                answer_seen(pass, &words.request, moment, with_outside(view, others))
+            }
+        }
+    }
+
+    /// The reply to a request on a member's part, with what others hold of its slot. The part is then as the request leaves
+    /// it; where memory is refused, it stays as it was.
+    pub fn ask_alone(
+        &mut self,
+        words: &Words,
+        moment: Moment,
+        others: Outside,
+    ) -> Result<Reply, AllocError>
+        ensures reply { IfOk result (λ reply. reply
+            ≡ (solo.solo_verdict self.old (words_of words.now) moment (outside_of others)).reply) }
+        ensures part { OnOk result (self.new
+            ≡ after_change (solo.solo_verdict self.old (words_of words.now) moment (outside_of others)).change self.old) }
+        ensures err { OnErr result (self.new ≡ self.old) }
+    {
+        let Verdict { reply, change } = self.answer_alone(words, moment, others);
+        match change {
+            None => Ok(reply),
+            Some(change) => {
+                self.apply(change)?;
+                Ok(reply)
+            }
+        }
+    }
+}
