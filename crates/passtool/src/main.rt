@@ -4,11 +4,10 @@
 ghost use Rattle.std.specs.Prelude.{IfErr};
 ghost use Rattle.pass_commands.specs.Fault.{IsOfWords};
 
+pub use pass_commands::run;
 use pass_commands::{Fault, Outcome, not_text};
 use std::process::ExitCode;
 use std::{env, io};
-
-pub use pass_commands::run;
 
 fn main(rt: HostRuntime) -> ExitCode {
     let status = match run_here(&rt) {
