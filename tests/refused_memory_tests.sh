@@ -19,7 +19,7 @@ for test; do
         REFUSED_ALLOCATION=$number LD_PRELOAD=$work/refuse.so "$here/../crates/$crate/out/${crate}_tests" "$test" \
             >"$work/out" 2>&1 || status=$?
         if [ "$status" = 0 ]; then continue; fi
-        if ! grep -Eq 'Memory|AllocError' "$work/out"; then
+        if ! grep -Eq 'Memory|AllocError|AllocFailed' "$work/out"; then
             echo "$test, allocation $number refused: status $status" >&2
             cat "$work/out" >&2
             exit 1

@@ -20,5 +20,10 @@ abbrev pub row_count : Club → ℕ
 row_count club =
     length club.members + length club.facilities + length club.keys + length club.bookings + length club.closed
 
+-- the new club has more rows
+abbrev pub Grows : Club → Club → Type 0
+Grows old new = row_count old < row_count new
+
+-- the event adds a row
 abbrev pub AddsRow : Club → Event → Type 0
-AddsRow club event = row_count club < row_count (step club event).club
+AddsRow club event = Grows club (step club event).club

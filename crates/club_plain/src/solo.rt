@@ -5,6 +5,7 @@ ghost use Rattle.std.specs.Str.{bytes_eq};
 ghost use Rattle.club_core.specs.declared.member.Member.{Member as MemberRow};
 ghost use Rattle.club_core.specs.declared.key.Key.{Key as KeyRow};
 ghost use Rattle.club_core.specs.Sums as sums;
+ghost use Rattle.club_plain.specs.Growth.{Grows};
 ghost use Rattle.club_plain.specs.Held.{held_under, others_under};
 ghost use Rattle.club_plain.specs.Solo.{outside_of, with_outside};
 ghost use Rattle.club_plain.specs.Words.{words_of};
@@ -141,7 +142,7 @@ impl Club {
     }
 
     /// The reply to a request on a member's part, with what others hold of its slot. The part is then as the request leaves
-    /// it; where memory is refused, it stays as it was.
+    /// it. Memory is wanted for a new booking alone, and where it is refused, the part stays as it was.
     pub fn ask_alone(
         &mut self,
         words: &Words,
@@ -153,6 +154,8 @@ impl Club {
         ensures part { OnOk result (self.new
             ≡ after_change (solo.solo_verdict self.old (words_of words.now) moment (outside_of others)).change self.old) }
         ensures err { OnErr result (self.new ≡ self.old) }
+        ensures growth { OnErr result (Grows self.old
+            (after_change (solo.solo_verdict self.old (words_of words.now) moment (outside_of others)).change self.old)) }
     {
         let Verdict { reply, change } = self.answer_alone(words, moment, others);
         match change {
