@@ -1,0 +1,97 @@
+-- What a crash leaves, and what an opening makes of it.
+use Rattle.std.proofs.Common.{◌≡◌, List, [], ◌∷◌, length, inl, inr, map, refl, sym, ap, subst, arith}
+use Rattle.std.specs.List.{AllZip}
+use Rattle.std.proofs.Math.Logic.{∥∥₁_map}
+use Rattle.sqlite_catalog.specs.Listing.{IsSound, AreListed, IsTableRow, IsIndexRow, IsViewRow, cut}
+use Rattle.sqlite_catalog.proofs.ReadLemmas.{reads, read_once}
+use Rattle.sqlite_trees.specs.Objects.{catalog_tree}
+use Rattle.sqlite_disk.specs.declared.Disk.{Ghosts}
+use Rattle.sqlite.specs.declared.FileStore.{FileStore}
+use Rattle.sqlite.specs.FileStore.{recovers}
+use Rattle.sqlite.specs.Start.{FindsIn}
+use Rattle.sqlite.specs.Recovery.{Image}
+use Rattle.sqlite.specs.Schema.{Schema}
+use Rattle.sqlite.specs.Tree.{Trees}
+use Rattle.sqlite.specs.Effect.{Database, IsDatabase}
+use Rattle.sqlite.specs.Held.{AreDatabases}
+use Rattle.sqlite.specs.State.{State, Opens, IsLive}
+use Rattle.sqlite.proofs.Theorems.{opens_again}
+use Rattle.club_core.specs.Club.{Club, empty_club}
+use Rattle.club_store.specs.Schema.{no_schema}
+use Rattle.club_store.specs.Tables.{HoldsClub, IsLeftOf, Stands, IsFound}
+use Rattle.club_store.specs.Crash.{OneStands, HoldsOneOf, CrashLeaves}
+use Rattle.club_store.proofs.OpenLemmas.{IsSettled}
+
+-- trees list one schema
+pub schema_once : (one other : Schema) (trees : Trees) → IsSound one trees → IsSound other trees → one ≡ other
+schema_once one other trees p q =
+    let read = reads (trees catalog_tree) one p.lists in
+    read_once (map cut (trees catalog_tree)) one other read.tables read.indexes read.views (reads (trees catalog_tree) other q.lists)
+
+-- so a database is known by its trees
+pub database_once : (one other : Database) → IsDatabase one → IsDatabase other → one.trees ≡ other.trees → one ≡ other
+database_once one other p q same =
+    let schemas = schema_once one.schema other.schema other.trees (subst (IsSound one.schema) same p) q in
+    λ i. record { schema = schemas i; trees = same i }
+
+pub is_database : (db : Database) (club : Club) → HoldsClub db club → IsDatabase db
+is_database db club (inl tables) = tables.database
+is_database db club (inr blank) = blank.2
+
+-- what a crash left is a database
+pub left_is_sound : (trees : Trees) (clubs : List Club) → IsLeftOf trees clubs → (schema : Schema) × IsSound schema trees
+left_is_sound trees [] left = absurd left
+left_is_sound trees (club ∷ clubs) (inl here) = (here.0.schema, subst (IsSound here.0.schema) here.1 (is_database here.0 club here.2))
+left_is_sound trees (club ∷ clubs) (inr there) = left_is_sound trees clubs there
+
+module _ (now : State) (opened : Opens now) (live : IsLive now) (settled : IsSettled now) where
+  -- the connection that is opened holds the club that was left
+  holds_left : (club : Club) → (db : Database) → db.trees ≡ now.committed.trees → HoldsClub db club → HoldsClub now.committed club
+  holds_left club db same holds =
+      subst (λ (d : Database). HoldsClub d club) (database_once db now.committed (is_database db club holds) (live opened.is_open).1 same) holds
+
+  finds : (club : Club) → HoldsClub now.committed club → IsFound now club []
+  finds club holds = record {
+    held = λ _ _. holds;
+    settled = λ _ _. opened.clean;
+    left = λ _ trees may. inl (now.committed, sym (settled opened.is_open trees may), holds);
+  }
+
+  pub one_stands : (next : State) → ((club : Club) (others : List Club) → IsFound now club others → Stands next club others)
+      → (clubs : List Club) → IsLeftOf now.committed.trees clubs → OneStands next clubs
+  one_stands next opens [] left = left
+  one_stands next opens (club ∷ clubs) (inl here) = inl (opens club [] (finds club (holds_left club here.0 here.1 here.2)))
+  one_stands next opens (club ∷ clubs) (inr there) = inr (one_stands next opens clubs there)
+
+-- the files that a crash leaves hold a database of one of the clubs
+pub files_hold : {D : Type 0} {g : Ghosts D} (it : FileStore D g) (clubs : List Club) (left : Image) → CrashLeaves it clubs left → ∥ HoldsOneOf left clubs ∥₁
+files_hold it clubs left crash =
+    let sound : AreDatabases (recovers it) = λ trees allowed. left_is_sound trees clubs (crash.one_of crash.clean trees allowed) in
+    ∥∥₁_map (opens_again it crash.numbered sound left crash.files) (λ db. let held : HoldsOneOf left clubs = (db.0, db.2, crash.one_of crash.clean db.0 db.1) in held)
+
+lists_nothing : {X Y : Type 0} (R : X → Y → Type 0) (ys : List Y) → AllZip R [] ys → ys ≡ []
+lists_nothing R [] h = refl
+lists_nothing R (y ∷ ys) h = absurd h
+
+-- trees that list nothing have no tables
+unlisted : (schema : Schema) → AreListed [] schema → schema ≡ no_schema
+unlisted schema listed = λ i. record {
+  tables = lists_nothing IsTableRow schema.tables listed.tables i;
+  indexes = lists_nothing (IsIndexRow schema.tables) schema.indexes listed.indexes i;
+  views = lists_nothing IsViewRow schema.views listed.views i;
+}
+
+blank_if_unlisted : (db : Database) → IsDatabase db → db.trees catalog_tree ≡ [] → HoldsClub db empty_club
+blank_if_unlisted db sound none = inr (unlisted db.schema (subst (λ rows. AreListed rows db.schema) none sound.lists.listed), refl, sound)
+
+-- what is found in an empty file is no table
+pub new_is_blank : (start : Image) (opened : State) → start.db ≡ [] → FindsIn start opened → IsDatabase opened.committed → HoldsClub opened.committed empty_club
+new_is_blank start opened none found sound = elim found.reads [
+  | inl old ↦ absurd (let some = old.3.found.present in omega (arith, some, ap length none))
+  | inr new ↦ blank_if_unlisted opened.committed sound new.1.1
+]
+
+-- of one club, that one stands
+pub the_one : (state : State) (club : Club) → OneStands state (club ∷ []) → Stands state club []
+the_one state club (inl stands) = stands
+the_one state club (inr none) = absurd none

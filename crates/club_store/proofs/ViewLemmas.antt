@@ -1,0 +1,41 @@
+-- What the parts of a view make together.
+use Rattle.std.proofs.Common.{◌≡◌, ℕ, suc, Bool, true, false, cond, List, [], ◌∷◌, Option, Some, None, refl, sym, ap, subst, ◌∙◌, arith}
+use Rattle.std.specs.Prelude.{find, Contains, option_and_then}
+use Rattle.std.specs.Str.{bytes_eq}
+use Rattle.std.proofs.lemmas.Slice.Eq.{bytes_eq-Decides}
+use Rattle.club_core.specs.declared.key.Key.{Key}
+use Rattle.club_core.specs.declared.member.Member.{Member}
+use Rattle.club_core.specs.declared.request.Request.{Request}
+use Rattle.club_core.specs.Club.{Club, bookings_of, key_named, member_named}
+use Rattle.club_core.specs.Laws.{OwnBookings, HasOwnBookings}
+use Rattle.club_core.specs.Request.{number_of}
+use Rattle.club_core.specs.Store.{view_in}
+use Rattle.club_core.specs.Sums.{booking_under, spent_under}
+use Rattle.club_store.specs.Figures.{seen}
+
+-- what is found is an element, and passes
+found : {X : Type 0} (p : X → Bool) (xs : List X) (x : X) → find p xs ≡ Some x → Contains xs x × (p x ≡ true)
+found p [] x h = absurd (cc)
+found {X} p (y ∷ xs) x h = go (p y) refl (λ e. found p xs x e) h
+  where
+    go : (b : Bool) → p y ≡ b → (find p xs ≡ Some x → Contains xs x × (p x ≡ true)) → cond b (Some y) (find p xs) ≡ Some x → Contains (y ∷ xs) x × (p x ≡ true)
+    go true passes more e = let same : y ≡ x = cc in ((0, omega arith, same), ap p (sym same) ∙ passes)
+    go false fails more e = let later = more e in ((suc later.0.0, omega (arith, later.0.1), later.0.2), later.1)
+
+at_number : (club : Club) (key : Key) → HasOwnBookings club key → (number : Option ℕ)
+    → option_and_then (λ (n : ℕ). booking_under key.name n (bookings_of key.member club)) number ≡ option_and_then (λ (n : ℕ). booking_under key.name n club.bookings) number
+at_number club key own None = refl
+at_number club key own (Some number) = own.booked number
+
+-- the view over all bookings of a key is that over the bookings of its member
+pub seen_is : OwnBookings → (club : Club) (name : List ℕ) (key : Key) (member : Member) (request : Request) (moment : ℕ) → key_named name club ≡ Some key → member_named key.member club ≡ Some member
+    → view_in club name request moment ≡ Some (seen club key member request moment)
+seen_is law club name key member request moment named owned =
+    let there = found (λ (k : Key). bytes_eq k.name name) club.keys key named in
+    let its = found (λ (m : Member). bytes_eq m.name key.member) club.members member owned in
+    let same : key.member ≡ member.name = sym ((bytes_eq-Decides member.name key.member).0 its.1) in
+    let own = law club key there.0 in
+    let spent = subst (λ (m : List ℕ). spent_under key.name (bookings_of m club) ≡ spent_under key.name club.bookings) same own.spent in
+    let booked = subst (λ (m : List ℕ). option_and_then (λ (n : ℕ). booking_under key.name n (bookings_of m club)) (number_of request) ≡ option_and_then (λ (n : ℕ). booking_under key.name n club.bookings) (number_of request)) same
+    (at_number club key own (number_of request)) in
+    rw (named, owned) (cc)

@@ -1,0 +1,39 @@
+-- What a crash leaves of a store, and what an opening makes of it (ours).
+use Rattle.std.specs.Prelude.{List, [], ◌∷◌, ◌⊎◌, IsTrue}
+use Rattle.sqlite_disk.specs.declared.Disk as disk
+use Rattle.sqlite.specs.declared.FileStore.{FileStore}
+use Rattle.sqlite.specs.FileStore as file
+use Rattle.sqlite.specs.Store.{Ghosts}
+use Rattle.sqlite.specs.Tree.{Trees}
+use Rattle.sqlite.specs.View.{IsClean}
+use Rattle.sqlite.specs.Recovery.{Image}
+use Rattle.sqlite.specs.State.{State, Opens, IsLive}
+use Rattle.sqlite.specs.Files.{HoldsDatabase, over_files}
+use Rattle.club_core.specs.Club.{Club}
+use Rattle.club_store.specs.Tables.{IsLeftOf, Stands}
+
+-- whatever a crash leaves of the store is a database of one of these clubs
+abbrev pub LeavesOneOf : {S : Type 0} → Ghosts S → S → List Club → Type 0
+LeavesOneOf g store clubs = IsClean (g.view store) → (trees : Trees) → g.recovers store trees → IsLeftOf trees clubs
+
+-- a connection as it was opened, over a database of one of these clubs
+pub record IsOpenedOn (state : State) (clubs : List Club) : Type 0 where
+  pub opened : Opens state
+  pub live : IsLive state
+  pub left : IsLeftOf state.committed.trees clubs
+
+-- one of these clubs stands, and every crash leaves that one
+abbrev pub OneStands : State → List Club → Type 0
+OneStands state [] = ⊥
+OneStands state (club ∷ clubs) = Stands state club [] ⊎ OneStands state clubs
+
+-- the file and its log hold a database of one of these clubs
+abbrev pub HoldsOneOf : Image → List Club → Type 0
+HoldsOneOf image clubs = (trees : Trees) × HoldsDatabase image trees × IsLeftOf trees clubs
+
+-- a crash may leave this of a store's file and log, where what it may leave are databases of these clubs
+pub record CrashLeaves {D : Type 0} {g : disk.Ghosts D} (store : FileStore D g) (clubs : List Club) (left : Image) : Type 0 where
+  pub clean : IsClean (file.view store)
+  pub numbered : IsTrue (file.view store).is_numbered
+  pub one_of : LeavesOneOf over_files store clubs
+  pub files : (file.state store).may_leave left

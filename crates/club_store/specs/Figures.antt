@@ -1,0 +1,56 @@
+-- The parts of a view, by the rows of the club (ours).
+use Rattle.std.specs.Prelude.{ℕ, List, Option, option_and_then, IfSome}
+use Rattle.pass_caveats.specs.declared.slot.Slot.{Slot}
+use Rattle.club_core.specs.declared.booking.Booking.{Booking}
+use Rattle.club_core.specs.declared.key.Key.{Key}
+use Rattle.club_core.specs.declared.member.Member.{Member}
+use Rattle.club_core.specs.declared.request.Request.{Request}
+use Rattle.club_core.specs.declared.view.View.{View}
+use Rattle.club_core.specs.Basis.{state_of}
+use Rattle.club_core.specs.Club.{Club, bookings_of}
+use Rattle.club_core.specs.Request.{slot_of, number_of}
+use Rattle.club_core.specs.Rows.{IsMember, IsFacility, IsKey, IsBooking}
+use Rattle.club_core.specs.Sums.{spent_under, balance_of, count_to_come, booking_under}
+use Rattle.club_store.specs.declared.figures.Account.{Account}
+use Rattle.club_store.specs.declared.figures.SlotState.{SlotState}
+
+-- what a key spent, and what its member has left and open at a moment
+abbrev pub account_of : Club → List ℕ → Member → ℕ → Account
+account_of club key member moment = record {
+  spent = spent_under key club.bookings;
+  balance = balance_of member (bookings_of member.name club);
+  open_count = count_to_come moment (bookings_of member.name club);
+}
+
+-- the state of a slot, where there is one
+abbrev pub slot_state : Club → Option Slot → SlotState
+slot_state club slot = record {
+  facility = (state_of club slot).facility;
+  taken = (state_of club slot).taken;
+  closed = (state_of club slot).closed;
+}
+
+-- the booking of the key with a number, where there is one
+abbrev pub booked_under : Club → List ℕ → Option ℕ → Option Booking
+booked_under club key number = option_and_then (λ (n : ℕ). booking_under key n club.bookings) number
+
+-- what a key of a member sees of a request
+abbrev pub seen : Club → Key → Member → Request → ℕ → View
+seen club key member request moment = record {
+  key = key;
+  spent = (account_of club key.name member moment).spent;
+  member = member;
+  balance = (account_of club key.name member moment).balance;
+  open_count = (account_of club key.name member moment).open_count;
+  facility = (slot_state club (slot_of request)).facility;
+  taken = (slot_state club (slot_of request)).taken;
+  closed = (slot_state club (slot_of request)).closed;
+  booking = booked_under club key.name (number_of request);
+}
+
+-- the rows of a view are within their limits
+pub record HasLimits (view : View) : Type 0 where
+  pub key : IsKey view.key
+  pub member : IsMember view.member
+  pub facility : IfSome view.facility IsFacility
+  pub booking : IfSome view.booking IsBooking

@@ -1,0 +1,10 @@
+pub mod Schema
+pub mod Columns
+pub mod Tables
+pub mod Told
+pub mod Transaction
+pub mod Statements
+pub mod Crash
+pub mod Opening
+pub mod Sheet
+pub mod Figures

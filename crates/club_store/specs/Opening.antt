@@ -1,0 +1,79 @@
+-- What an opening finds, what it takes for the tables of a club, and what it makes (ours).
+use Rattle.std.specs.Prelude.{◌≡◌, ◌⊎◌, ℕ, List, [], ◌∷◌, All, Ok, IsTrue, is_ok, false, codes}
+use Rattle.sqlite_disk.specs.declared.Disk as disk
+use Rattle.sqlite.specs.declared.FileStore.{FileStore}
+use Rattle.sqlite.specs.Recovery.{Image}
+use Rattle.sqlite.specs.Order.{Row}
+use Rattle.sqlite.specs.Schema.{Schema}
+use Rattle.sqlite.specs.Change.{is_used}
+use Rattle.sqlite.specs.Store.{Ghosts}
+use Rattle.sqlite.specs.Effect.{Database, Reads}
+use Rattle.sqlite.specs.Listing.{understood}
+use Rattle.sqlite.specs.State.{State}
+use Rattle.sqlite.specs.Held.{Held, state}
+use Rattle.sqlite.specs.Files.{over_files, file_state, IsOpened}
+use Rattle.sqlite.specs.Start.{FindsIn}
+use Rattle.sqlite_resolve.specs.declared.compiled.Compiled.{Compiled}
+use Rattle.club_core.specs.Club.{Club, empty_club}
+use Rattle.club_store.specs.declared.texts.TheConstants.{VERSION, KEY, MEMBER, FACILITY, SLOT, BOOKING, MAKE_DESK, MAKE_MEMBERS, MAKE_FACILITIES, MAKE_KEYS, MAKE_SLOTS, MAKE_BOOKINGS, ADD_VERSION}
+use Rattle.club_store.specs.Columns.{HasValues, version_values}
+use Rattle.club_store.specs.Tables.{Stands, IsFound}
+use Rattle.club_store.specs.Crash.{HoldsOneOf, OneStands}
+use Rattle.club_store.specs.Transaction.{RanAll}
+
+-- the statements that give a row by its key, and the batch that makes the tables
+abbrev pub texts_by_key : List (List ℕ)
+texts_by_key = KEY.now ∷ MEMBER.now ∷ FACILITY.now ∷ SLOT.now ∷ BOOKING.now ∷ []
+
+abbrev pub table_texts : List (List ℕ)
+table_texts = MAKE_DESK.now ∷ MAKE_MEMBERS.now ∷ MAKE_FACILITIES.now ∷ MAKE_KEYS.now ∷ MAKE_SLOTS.now ∷ MAKE_BOOKINGS.now ∷ ADD_VERSION.now ∷ []
+
+-- the text is a statement over these tables
+abbrev pub IsUnderstood : Schema → List ℕ → Type 0
+IsUnderstood schema sql = IsTrue (is_ok (understood schema sql))
+
+-- nothing is called `desk`, in capitals or not, and so no version can be asked for
+pub record HasNoDesk (schema : Schema) : Type 0 where
+  pub unused : is_used schema (codes "desk") ≡ false
+  pub unasked : ¬ IsUnderstood schema VERSION.now
+
+-- the text is a query that has these rows for its answer
+abbrev pub IsAnswered : List ℕ → Database → List Row → Type 0
+IsAnswered sql db rows = (c : Compiled) × (understood db.schema sql ≡ Ok c) × Reads c.command db [] rows
+
+-- tables of version 1: the version is the one row 1, and each row can be asked for by its key
+pub record IsReady (db : Database) : Type 0 where
+  pub version : (row : Row) × IsAnswered VERSION.now db (row ∷ []) × HasValues row (version_values 1)
+  pub by_key : All (IsUnderstood db.schema) texts_by_key
+
+-- nothing is on its way
+abbrev pub IsAtRest : State → Type 0
+IsAtRest state = IsTrue state.is_open → state.now ≡ state.committed
+
+-- tables of version 1 were there, and are as they were
+pub record FoundReady (old new : State) : Type 0 where
+  pub ready : IsReady new.committed
+  pub same : new.committed ≡ old.committed
+
+-- there was no version, and the whole batch was run over what was there
+pub record MadeAll {S : Type 0} (g : Ghosts S) (old new : Held S) : Type 0 where
+  pub from : Held S
+  pub same : (state g from).now ≡ (state g old).committed
+  pub unversioned : HasNoDesk (state g old).committed.schema
+  pub ran : RanAll g table_texts from (state g new).committed
+
+-- what an opening takes: tables of version 1 that were there, or those that the whole batch made where there was no version
+abbrev pub IsAccepted : {S : Type 0} → Ghosts S → Held S → Held S → Type 0
+IsAccepted g old new = FoundReady (state g old) (state g new) ⊎ MadeAll g old new
+
+-- the files held a database, its tables were taken, and the club that was found in it stands
+pub record OpensFrom {D : Type 0} {g : disk.Ghosts D} (start : Image) (now : Held (FileStore D g)) : Type 0 where
+  pub was : Held (FileStore D g)
+  pub opened : IsOpened was
+  pub found : FindsIn start (file_state was)
+  pub accepted : IsTrue (file_state now).is_open → IsAccepted over_files was now
+  pub stands : (club : Club) (others : List Club) → IsFound (file_state was) club others → Stands (file_state now) club others
+  -- what a crash left of one of these clubs is that club, whole
+  pub again : (clubs : List Club) → HoldsOneOf start clubs → OneStands (file_state now) clubs
+  -- a new file gets the tables of the empty club
+  pub fresh : start.db ≡ [] → Stands (file_state now) empty_club []

@@ -1,0 +1,109 @@
+-- The tables of the club as sqlite understands them (ours): six STRICT tables, each column NOT NULL.
+use Rattle.std.specs.Prelude.{ℕ, pos, true, false, codes, None, List, [], ◌∷◌, ◌++◌, map, slice_get, unwrap_or}
+use Rattle.sqlite_value.specs.declared.value.Value.TheVariants.{Null, Int}
+use Rattle.sqlite_value.specs.declared.keys.Collation.TheVariants.{Binary}
+use Rattle.sqlite_value.specs.Keys.{plain}
+use Rattle.sqlite_sql.specs.declared.ops.BinaryOp.TheVariants.{And, Compare}
+use Rattle.sqlite_sql.specs.declared.ops.CompareOp.TheVariants.{Ge, Le}
+use Rattle.sqlite_sql.specs.Term.{Term, lit, col, op2}
+use Rattle.sqlite_schema.specs.declared.schema.Action.TheVariants.{NoAction}
+use Rattle.sqlite_schema.specs.declared.schema.Column.{Column}
+use Rattle.sqlite_schema.specs.declared.schema.Kind.{Kind}
+use Rattle.sqlite_schema.specs.declared.schema.Kind.TheVariants.{Integer, Text, Blob}
+use Rattle.sqlite_schema.specs.declared.schema.Reference.{Reference}
+use Rattle.sqlite_schema.specs.declared.schema.Table.{Table}
+use Rattle.sqlite_schema.specs.declared.schema.Schema.{Schema}
+use Rattle.sqlite.specs.Change.{created}
+
+abbrev pub column_of : Kind → List ℕ → Column
+column_of kind name =
+    record { name = name; kind = kind; is_strict = true; not_null = true; default = Null; collation = Binary }
+
+abbrev pub text : List ℕ → Column
+text = column_of Text
+
+abbrev pub number : List ℕ → Column
+number = column_of Integer
+
+-- CHECK (.. BETWEEN low AND high), of the column at a place; the rowid has place 0
+abbrev pub within : ℕ → ℕ → ℕ → Term
+within place low high =
+    op2 And (op2 (Compare Ge Binary) (col 1 place) (lit (Int (pos low)))) (op2 (Compare Le Binary) (col 1 place) (lit (Int (pos high))))
+
+-- the column at a place REFERENCES the column `name` of a table
+abbrev pub refers_to : List ℕ → ℕ → Reference
+refers_to parent place = record {
+  columns = place ∷ [];
+  parent = parent;
+  parent_columns = codes "name" ∷ [];
+  on_delete = NoAction;
+  on_update = NoAction;
+  is_deferred = false;
+}
+
+-- a table, whose key has the columns at these places, or none
+abbrev pub table_of : List ℕ → List Column → List (List ℕ) → List Term → List Reference → Table
+table_of name columns keys checks references = record {
+  name = name;
+  tree = 0;
+  columns = columns;
+  key = None;
+  primary = unwrap_or (slice_get keys 0) [];
+  uniques = keys;
+  orders = map (λ _. plain) keys;
+  checks = checks;
+  references = references;
+  computed = [];
+  stamps = record { places = []; terms = []; formats = [] };
+  is_counted = false;
+}
+
+-- the version of the tables
+abbrev pub desk_table : Table
+desk_table = table_of (codes "desk") (number (codes "version") ∷ []) [] [] []
+
+abbrev pub members_table : Table
+members_table =
+    table_of (codes "members") (text (codes "name") ∷ number (codes "credited") ∷ number (codes "quota") ∷ []) ((1 ∷ []) ∷ [])
+    (within 2 0 999_999_999 ∷ within 3 0 99 ∷ []) []
+
+abbrev pub facilities_table : Table
+facilities_table =
+    table_of (codes "facilities")
+    (text (codes "name") ∷ text (codes "kind") ∷ number (codes "places") ∷ number (codes "price") ∷ number (codes "opens")
+    ∷ number (codes "shuts") ∷ []) ((1 ∷ []) ∷ [])
+    (within 3 1 50 ∷ within 4 0 9_999 ∷ within 5 0 23 ∷ within 6 1 24 ∷ []) []
+
+abbrev pub keys_table : Table
+keys_table =
+    table_of (codes "keys")
+    (text (codes "name") ∷ text (codes "member") ∷ column_of Blob (codes "root") ∷ number (codes "revoked") ∷ []) ((1 ∷ []) ∷ [])
+    (within 4 0 1 ∷ []) (refers_to (codes "members") 2 ∷ [])
+
+-- the columns of a slot
+abbrev pub slot_columns : List Column
+slot_columns = text (codes "facility") ∷ number (codes "day") ∷ number (codes "hour") ∷ []
+
+abbrev pub slots_table : Table
+slots_table =
+    table_of (codes "slots") (slot_columns ++ number (codes "closed") ∷ []) ((1 ∷ 2 ∷ 3 ∷ []) ∷ [])
+    (within 2 10_957 47_481 ∷ within 3 0 23 ∷ within 4 0 1 ∷ []) (refers_to (codes "facilities") 1 ∷ [])
+
+abbrev pub bookings_table : Table
+bookings_table =
+    table_of (codes "bookings")
+    (text (codes "pass_key") ∷ number (codes "number") ∷ slot_columns
+    ++ number (codes "guests") ∷ number (codes "charge") ∷ number (codes "remains") ∷ number (codes "cancelled")
+    ∷ number (codes "refund") ∷ []) ((1 ∷ 2 ∷ []) ∷ [])
+    (within 2 1 999_999_999 ∷ within 4 10_957 47_481 ∷ within 5 0 23 ∷ within 6 0 49 ∷ within 7 0 499_950 ∷ within 8 0 49
+    ∷ within 9 0 1 ∷ within 10 0 499_950 ∷ [])
+    (refers_to (codes "keys") 1 ∷ refers_to (codes "facilities") 3 ∷ [])
+
+abbrev pub no_schema : Schema
+no_schema = record { tables = []; indexes = []; views = [] }
+
+-- the tables, made in this order: each takes the next trees, for itself and for its key
+abbrev pub club_schema : Schema
+club_schema =
+    created (created (created (created (created (created no_schema desk_table) members_table) facilities_table) keys_table) slots_table)
+    bookings_table

@@ -1,0 +1,31 @@
+-- The statements, as sqlite understands them over the tables of the club (ours).
+use Rattle.std.specs.Prelude.{ℕ, pos, negsuc, false, None, List, [], map}
+use Rattle.sqlite_value.specs.declared.value.Value.TheVariants.{Int}
+use Rattle.sqlite_value.specs.declared.keys.Collation.TheVariants.{Binary}
+use Rattle.sqlite_value.specs.Keys.{ascending}
+use Rattle.sqlite_sql.specs.declared.ops.BinaryOp.TheVariants.{Compare}
+use Rattle.sqlite_sql.specs.declared.ops.CompareOp.TheVariants.{Eq}
+use Rattle.sqlite.specs.Term.{Term, lit, col, op2}
+use Rattle.sqlite.specs.Query.{Query, Join}
+
+-- the column at a place of the row equals a parameter; parameters count from 0
+abbrev pub is_given : ℕ → ℕ → Term
+is_given place parameter = op2 (Compare Eq Binary) (col 1 place) (col 0 parameter)
+
+-- SELECT .. FROM .. WHERE .., in no order
+abbrev pub select : Join → List Term → List Term → Query
+select from filter project = record {
+  from = from;
+  filter = filter;
+  group = None;
+  project = project;
+  distinct = false;
+  collations = [];
+  order = [];
+  limit = lit (Int (negsuc 0));
+  offset = lit (Int (pos 0));
+}
+
+-- the same with ORDER BY: each term rises, and texts go by their bytes
+abbrev pub in_order : List Term → Query → Query
+in_order terms query = record query { order = map (λ (term : Term). (term, ascending Binary)) terms }

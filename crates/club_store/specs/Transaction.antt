@@ -1,0 +1,51 @@
+-- What one statement in a transaction of its own tells or makes.
+use Rattle.std.specs.Prelude.{◌≡◌, ℕ, ◌<◌, true, List, [], ◌∷◌, length, Ok, IsTrue}
+use Rattle.sqlite.specs.Store.{Ghosts}
+use Rattle.sqlite.specs.Order.{Row}
+use Rattle.sqlite.specs.Effect.{Database}
+use Rattle.sqlite.specs.State.{State, HasCleanDisk, Executes, Shown}
+use Rattle.sqlite.specs.Held.{Held, state}
+use Rattle.sqlite.specs.declared.error.Error.{Error}
+use Rattle.sqlite.specs.declared.error.Error.TheVariants.{SqliteFailure}
+use Rattle.sqlite.specs.declared.error.ErrorCode.TheVariants.{OutOfMemory}
+use Rattle.club_core.specs.declared.store.StoreFault.{StoreFault}
+use Rattle.club_core.specs.declared.store.StoreFault.TheVariants.{Memory, Storage}
+
+-- want of memory is Memory, and each other error Storage
+abbrev pub fault_by : Error → StoreFault
+fault_by (SqliteFailure OutOfMemory) = Memory
+fault_by _ = Storage
+
+-- a connection as a transaction begins
+abbrev pub begun : {S : Type 0} → Held S → Held S
+begun held = record held { in_transaction = true }
+
+-- the text, with these parameters, was asked for, and these are the rows
+pub record Asked {S : Type 0} (g : Ghosts S) (sql : List ℕ) (params : Row) (old : Held S) (rows : List Row) : Type 0 where
+  pub mid : Held S
+  pub shown : Shown sql params (state g (begun old)) (state g mid) rows
+
+-- the text was run, and leaves this database
+pub record Ran {S : Type 0} (g : Ghosts S) (sql : List ℕ) (params : Row) (old : Held S) (db : Database) : Type 0 where
+  pub mid : Held S
+  pub count : ℕ
+  pub opened : IsTrue (state g old).is_open
+  pub executed : Executes sql params (state g (begun old)) (state g mid) (Ok count)
+  pub is : db ≡ (state g mid).now
+
+-- nothing was committed, and nothing is on its way
+abbrev pub IsKept : State → State → Type 0
+IsKept old new = HasCleanDisk new → IsTrue new.is_open → IsTrue old.is_open × (new.now ≡ old.committed) × (new.committed ≡ old.committed)
+
+-- these texts were run in turn, within a transaction
+abbrev pub RanInTurn : {S : Type 0} → Ghosts S → List (List ℕ) → Held S → Held S → Type 0
+RanInTurn g [] old new = new ≡ old
+RanInTurn {S} g (sql ∷ more) old new =
+    (mid : Held S) × (count : ℕ) × Executes sql [] (state g old) (state g mid) (Ok count) × RanInTurn g more mid new
+
+-- these texts were run in turn, in a transaction of their own, and leave this database
+pub record RanAll {S : Type 0} (g : Ghosts S) (texts : List (List ℕ)) (old : Held S) (db : Database) : Type 0 where
+  pub last : Held S
+  pub opened : 0 < length texts → IsTrue (state g old).is_open
+  pub turns : RanInTurn g texts (begun old) last
+  pub is : db ≡ (state g last).now

@@ -1,0 +1,53 @@
+//! The store of a club, as a desk needs it.
+
+use crate::store::Store;
+use club_core::{
+    Booking, Change, ClubStore, Facility, Key, Member, Request, SlotUse, StoreFault, View,
+};
+use pass_caveats::{Day, Moment, Name, Slot};
+use sqlite::Alter;
+
+impl<S: Alter> ClubStore for Store<S> {
+    ghost use Rattle.sqlite.specs.State.{HasCleanDisk};
+    ghost use Rattle.sqlite.specs.Held.{state};
+    ghost use Rattle.club_store.specs.Told.{sound_in};
+
+    ghost stands = { sound_in S.Store };
+
+    ghost is_honest = { λ store. HasCleanDisk (state S.Store store) };
+
+    fn key(&mut self, name: &Name) -> Result<Option<Key>, StoreFault> {
+        Store::key(self, name)
+    }
+
+    fn member(&mut self, name: &Name) -> Result<Option<Member>, StoreFault> {
+        Store::member(self, name)
+    }
+
+    fn facility(&mut self, name: &Name) -> Result<Option<Facility>, StoreFault> {
+        Store::facility(self, name)
+    }
+
+    fn slot(&mut self, slot: &Slot) -> Result<SlotUse, StoreFault> {
+        Store::slot(self, slot)
+    }
+
+    fn view(
+        &mut self,
+        key: &Name,
+        request: &Request,
+        moment: Moment,
+    ) -> Result<Option<View>, StoreFault> {
+        Store::view(self, key, request, moment)
+    }
+
+    fn day(&mut self, day: Day) -> Result<Vec<Booking>, StoreFault> {
+        Store::day(self, day)
+    }
+
+    fn apply(&mut self, change: &Change) -> Result<(), StoreFault> {
+        Store::apply(self, change)
+    }
+
+    ghost sound = { λ store club others stands. stands.0 };
+}

@@ -1,0 +1,124 @@
+//! Rows of the tables as rows of the club: none where a value is of another kind, or out of its limits.
+
+ghost use Rattle.std.specs.Prelude.{◌≡◌, false, true, [], ◌∷◌, List, Err, IfOk, option_map};
+ghost use Rattle.sqlite_value.specs.Order.{column};
+ghost use Rattle.pass_caveats.specs.Reading.{Reads};
+ghost use Rattle.club_core.specs.Rows.{IsMember, IsFacility, IsKey, IsBooking};
+ghost use Rattle.club_core.specs.declared.booking.Booking.{Booking as BookingRow};
+ghost use Rattle.club_store.specs.Sheet.{AreBookings};
+ghost use Rattle.club_store.specs.Columns.{whole, HasValues, text_in, bytes_in, integer_in, member_values, facility_values, key_values, booking_values};
+
+use club_core::{Booking, BookingColumns, Facility, FacilityColumns, Key, Member, StoreFault};
+use sqlite::Row;
+use sqlite::types::ValueRef;
+use std::alloc::Global;
+
+fn text_at(row: &Row, at: usize) -> Option<&[u8]>
+    ensures { option_map (λ text. text.now) result ≡ text_in (column row.now at) }
+{
+    match row.get_ref(at) {
+        Ok(ValueRef::Text(text)) => Some(text),
+        _ => None,
+    }
+}
+
+fn bytes_at(row: &Row, at: usize) -> Option<&[u8]>
+    ensures { option_map (λ bytes. bytes.now) result ≡ bytes_in (column row.now at) }
+{
+    match row.get_ref(at) {
+        Ok(ValueRef::Blob(bytes)) => Some(bytes),
+        _ => None,
+    }
+}
+
+pub(crate) fn integer_at(row: &Row, at: usize) -> Option<i64>
+    ensures { result ≡ integer_in (column row.now at) }
+{
+    match row.get_ref(at) {
+        Ok(ValueRef::Int(number)) => Some(number),
+        _ => None,
+    }
+}
+
+/// Whether a slot is closed, by its row: open where there is none.
+pub(crate) fn is_closed(rows: &[Row]) -> Option<bool>
+    ensures none { rows.now ≡ [] → result ≡ Some false }
+    ensures marked { rows.now ≡ (whole 1 ∷ []) ∷ [] → result ≡ Some true }
+{
+    match rows {
+        [] => Some(false),
+        [row] => match integer_at(row, 0)? {
+            0 => Some(false),
+            1 => Some(true),
+            _ => None,
+        },
+        _ => None,
+    }
+}
+
+pub(crate) fn member_in(row: &Row) -> Option<Member>
+    ensures { Reads (λ member. IsMember member × HasValues row.now (member_values member)) result }
+{
+    Member::from_columns(text_at(row, 0)?, integer_at(row, 1)?, integer_at(row, 2)?)
+}
+
+pub(crate) fn key_in(row: &Row) -> Option<Key>
+    ensures { Reads (λ key. IsKey key × HasValues row.now (key_values key)) result }
+{
+    Key::from_columns(
+        text_at(row, 0)?,
+        text_at(row, 1)?,
+        bytes_at(row, 2)?,
+        integer_at(row, 3)?,
+    )
+}
+
+pub(crate) fn facility_in(row: &Row) -> Option<Facility>
+    ensures { Reads (λ facility. IsFacility facility × HasValues row.now (facility_values facility)) result }
+{
+    let columns = FacilityColumns {
+        name: text_at(row, 0)?,
+        kind: text_at(row, 1)?,
+        places: integer_at(row, 2)?,
+        price: integer_at(row, 3)?,
+        opens: integer_at(row, 4)?,
+        shuts: integer_at(row, 5)?,
+    };
+    Facility::from_columns(&columns)
+}
+
+pub(crate) fn booking_in(row: &Row) -> Option<Booking>
+    ensures { Reads (λ booking. IsBooking booking × HasValues row.now (booking_values booking)) result }
+{
+    let columns = BookingColumns {
+        key: text_at(row, 0)?,
+        number: integer_at(row, 1)?,
+        facility: text_at(row, 2)?,
+        day: integer_at(row, 3)?,
+        hour: integer_at(row, 4)?,
+        guests: integer_at(row, 5)?,
+        charge: integer_at(row, 6)?,
+        left: integer_at(row, 7)?,
+        cancelled: integer_at(row, 8)?,
+        refund: integer_at(row, 9)?,
+    };
+    Booking::from_columns(&columns)
+}
+
+/// The bookings of rows, in their order. A row that is out of its limits is a fault of storage.
+pub(crate) fn bookings_in(alloc: Global, rows: &[Row]) -> Result<Vec<Booking>, StoreFault>
+    ensures are { IfOk result (λ bookings. AreBookings rows.now bookings.items) }
+    ensures storage { result ≡ Err StoreFault.Storage → (bookings : List BookingRow) → ¬ (AreBookings rows.now bookings) }
+{
+    let mut bookings = match Vec::with_capacity(alloc, rows.len()) {
+        Ok(bookings) => bookings,
+        Err(_) => return Err(StoreFault::Memory),
+    };
+    for row in rows {
+        let Some(booking) = booking_in(row) else {
+            return Err(StoreFault::Storage);
+        };
+        bookings.push_reserved(booking);
+    }
+    Ok(bookings)
+}

@@ -1,0 +1,361 @@
+ghost use Rattle.std.specs.Prelude.{◌≡◌, List, [], ◌∷◌, All, IsTrue, IfOk, IfErr, IfSome, MatchResult, IsErrAnd, codes, Err};
+ghost use Rattle.sqlite.specs.State.{HasCleanDisk, Survives};
+ghost use Rattle.sqlite.specs.Held.{state};
+ghost use Rattle.club_core.specs.Club.{Club, empty_club, key_named, member_named, facility_named};
+ghost use Rattle.club_core.specs.Sheet.{AreRowsOf};
+ghost use Rattle.club_core.specs.Store.{KeepsStanding, Tells, slot_use, view_in};
+ghost use Rattle.club_core.specs.Rows.{IsMember, IsFacility, IsKey, IsBooking};
+ghost use Rattle.club_core.specs.declared.change.Change.TheVariants.{InsertMember, AddCredit, InsertFacility, InsertKey, MarkRevoked, MarkClosed};
+ghost use Rattle.sqlite.specs.Steps.{over_memory, IsFresh, IsEmpty};
+ghost use Rattle.sqlite.specs.View.{IsClean};
+ghost use Rattle.sqlite.specs.Files.{file_state};
+ghost use Rattle.sqlite.specs.WalFiles.{image_at};
+ghost use Rattle.club_store.specs.Crash.{LeavesOneOf, IsOpenedOn, OneStands};
+ghost use Rattle.club_store.specs.Opening.{OpensFrom, IsAccepted};
+ghost use Rattle.club_store.specs.Tables.{Stands, IsFound};
+ghost use Rattle.club_store.specs.Told.{stands_in, found_in, Changes};
+ghost use Rattle.club_store.specs.Figures.{slot_state, seen, HasLimits};
+
+use crate::figures::{SlotState, account_at, booked};
+use crate::open::open_tables;
+use crate::row::{bookings_in, facility_in, is_closed, key_in, member_in};
+use crate::transaction::fault_of;
+use crate::{reads, sum, writes};
+use club_core::laws::own_bookings_suffice;
+use club_core::{Booking, Change, Facility, Key, Member, Request, SlotUse, StoreFault, View};
+use pass_caveats::{Day, Moment, Name, Slot};
+use sqlite::{Alter, Connection, FileFrom, FileStore, MemStore, Start};
+use std::alloc::Global;
+use std::marker::Model;
+use std::rt::HostRuntime;
+
+/// The tables of a club over a connection, which is in no transaction between calls. Contracts see it as the connection.
+#[derive(Drop)]
+pub struct Store<S: Alter> {
+    connection: Connection<S>,
+    alloc: Global,
+}
+
+impl<S: Alter> Model for Store<S> {
+    ghost use Rattle.std.specs.Prelude.{◌≡◌, false};
+    ghost use Rattle.sqlite.specs.Held.{Held, held_code};
+
+    ghost Value = { Held S };
+
+    ghost coded = { held_code S.code };
+
+    ghost view = { λ store. store.connection };
+
+    ghost invariant = { λ store. store.connection.in_transaction ≡ false };
+}
+
+impl Store<MemStore> {
+    /// A new database in memory, with the tables of an empty club.
+    pub fn open_in_memory(alloc: Global) -> Result<Store<MemStore>, StoreFault>
+        ensures { IfOk result (λ store. Stands (state over_memory store) empty_club []) }
+    {
+        let connection = match Connection::open_in_memory(alloc) {
+            Ok(connection) => connection,
+            Err(_) => return Err(StoreFault::Memory),
+        };
+        match Store::adopt(alloc, connection) {
+            Ok(store) => Ok(store),
+            Err((fault, _)) => Err(fault),
+        }
+    }
+}
+
+impl<Q: Start> Store<FileStore<FileFrom<Q>>> {
+    /// The tables in the file at a path, which is made where there is none. `start` stands for what the file and its log hold.
+    /// A refusal is as that of `adopt`; a path that names no file is Storage.
+    pub fn open_file(
+        rt: &HostRuntime,
+        path: &str,
+        start: Q,
+    ) -> Result<Store<FileStore<FileFrom<Q>>>, StoreFault>
+        ensures no_file { path.now ≡ codes ":memory:" → result ≡ Err StoreFault.Storage }
+        ensures opened { IfOk result (λ store. HasCleanDisk (file_state store) → OpensFrom (image_at Q.Start) store) }
+    {
+        let connection = match Connection::open_from(rt, path, false, start) {
+            Ok(connection) => connection,
+            Err((error, _)) => return Err(fault_of(error)),
+        };
+        match Store::adopt(rt.alloc(), connection) {
+            Ok(store) => Ok(store),
+            Err((fault, _)) => Err(fault),
+        }
+    }
+}
+
+impl<S: Alter + Drop> Store<S> {
+    /// Takes over a connection, whose database has the tables of a club, or none, and then gets those of an empty club. A refusal
+    /// changes nothing, and hands the connection back beside the fault: Storage for another version, other tables, or a
+    /// connection in a transaction.
+    pub fn adopt(
+        alloc: Global,
+        mut connection: Connection<S>,
+    ) -> Result<Store<S>, (StoreFault, Connection<S>)>
+        ensures honest { MatchResult result (λ store. HasCleanDisk (state S.Store store) → HasCleanDisk (state S.Store connection)) (λ e. HasCleanDisk (state S.Store e.1) → HasCleanDisk (state S.Store connection)) }
+        ensures opened { IfOk result (λ store. HasCleanDisk (state S.Store store) → (club : Club) (others : _) → IsFound (state S.Store connection) club others → Stands (state S.Store store) club others) }
+        ensures accepted { IfOk result (λ store. HasCleanDisk (state S.Store store) → IsTrue (state S.Store store).is_open → IsAccepted S.Store connection store) }
+        ensures busy { IsTrue connection.in_transaction → IsErrAnd result (λ e. (e.0 ≡ StoreFault.Storage) × (e.1 ≡ connection)) }
+        ensures refused { IfErr result (λ e. HasCleanDisk (state S.Store e.1) → KeepsStanding (found_in S.Store) connection e.1) }
+        ensures again { IfOk result (λ store. HasCleanDisk (state S.Store store) → (clubs : List Club) → IsOpenedOn (state S.Store connection) clubs → OneStands (state S.Store store) clubs) }
+        ensures empty { IfOk result (λ store. HasCleanDisk (state S.Store store) → IsEmpty (state S.Store connection) → Stands (state S.Store store) empty_club []) }
+    {
+        if !connection.is_autocommit() {
+            return Err((StoreFault::Storage, connection));
+        }
+        match open_tables(&mut connection) {
+            Ok(()) => Ok(Store { connection, alloc }),
+            Err(fault) => Err((fault, connection)),
+        }
+    }
+
+    /// Gives up the connection, and hands out the store below it. Whatever a crash leaves of that is a database of the club that
+    /// stood or of one of the others. A crash in a call is a disk that fails from there on, so this speaks of it too.
+    pub fn into_store(self) -> S
+        ensures honest { IsClean (S.Store.view result) → HasCleanDisk (state S.Store self) }
+        ensures numbered { IsClean (S.Store.view result) → IsTrue (S.Store.view result).is_numbered }
+        ensures committed { IsClean (S.Store.view result) → IsTrue (S.Store.view result).is_open → IsFresh (S.Store.view result) × ((S.Store.view result).committed ≡ (state S.Store self).committed.trees) }
+        ensures left { (club : Club) (others : _) → Stands (state S.Store self) club others → LeavesOneOf S.Store result (club ∷ others) }
+    {
+        self.into_connection().into_store()
+    }
+}
+
+impl<S: Alter> Store<S> {
+    /// Gives the connection back, as it is.
+    pub fn into_connection(self) -> Connection<S>
+        ensures { result ≡ self }
+    {
+        let Store {
+            connection,
+            alloc: _,
+        } = self;
+        connection
+    }
+
+    /// The key of this name; `None` where there is none. A row out of its limits is a fault of storage.
+    pub fn key(&mut self, name: &Name) -> Result<Option<Key>, StoreFault>
+        ensures told { HasCleanDisk (state S.Store self.new) → Tells (stands_in S.Store) self.old result (λ club key. key ≡ key_named name.now club) }
+        ensures limits { IfOk result (λ key. IfSome key IsKey) }
+        ensures kept { HasCleanDisk (state S.Store self.new) → KeepsStanding (stands_in S.Store) self.old self.new }
+        ensures survives { Survives (state S.Store self.old) (state S.Store self.new) (λ _. ⊥) }
+    {
+        let rows = reads::key(&mut self.connection, name)?;
+        match rows.first() {
+            None => Ok(None),
+            Some(row) => match key_in(row) {
+                Some(key) => Ok(Some(key)),
+                None => Err(StoreFault::Storage),
+            },
+        }
+    }
+
+    /// The member of this name; `None` where there is none. A row out of its limits is a fault of storage.
+    pub fn member(&mut self, name: &Name) -> Result<Option<Member>, StoreFault>
+        ensures told { HasCleanDisk (state S.Store self.new) → Tells (stands_in S.Store) self.old result (λ club member. member ≡ member_named name.now club) }
+        ensures limits { IfOk result (λ member. IfSome member IsMember) }
+        ensures kept { HasCleanDisk (state S.Store self.new) → KeepsStanding (stands_in S.Store) self.old self.new }
+        ensures survives { Survives (state S.Store self.old) (state S.Store self.new) (λ _. ⊥) }
+    {
+        let rows = reads::member(&mut self.connection, name)?;
+        match rows.first() {
+            None => Ok(None),
+            Some(row) => match member_in(row) {
+                Some(member) => Ok(Some(member)),
+                None => Err(StoreFault::Storage),
+            },
+        }
+    }
+
+    /// The facility of this name; `None` where there is none. A row out of its limits is a fault of storage.
+    pub fn facility(&mut self, name: &Name) -> Result<Option<Facility>, StoreFault>
+        ensures told { HasCleanDisk (state S.Store self.new) → Tells (stands_in S.Store) self.old result (λ club facility. facility ≡ facility_named name.now club) }
+        ensures limits { IfOk result (λ facility. IfSome facility IsFacility) }
+        ensures kept { HasCleanDisk (state S.Store self.new) → KeepsStanding (stands_in S.Store) self.old self.new }
+        ensures survives { Survives (state S.Store self.old) (state S.Store self.new) (λ _. ⊥) }
+    {
+        let rows = reads::facility(&mut self.connection, name)?;
+        match rows.first() {
+            None => Ok(None),
+            Some(row) => match facility_in(row) {
+                Some(facility) => Ok(Some(facility)),
+                None => Err(StoreFault::Storage),
+            },
+        }
+    }
+
+    /// What is taken of a slot: nothing of one that nobody booked or closed.
+    pub fn slot(&mut self, slot: &Slot) -> Result<SlotUse, StoreFault>
+        ensures told { HasCleanDisk (state S.Store self.new) → Tells (stands_in S.Store) self.old result (λ club found. found ≡ slot_use club slot.now) }
+        ensures kept { HasCleanDisk (state S.Store self.new) → KeepsStanding (stands_in S.Store) self.old self.new }
+        ensures survives { Survives (state S.Store self.old) (state S.Store self.new) (λ _. ⊥) }
+    {
+        let closed = reads::closed(&mut self.connection, slot)?;
+        let Some(closed) = is_closed(&closed) else {
+            return Err(StoreFault::Storage);
+        };
+        let guests = reads::guests(&mut self.connection, slot)?;
+        let taken = sum::persons(&guests)?;
+        Ok(SlotUse { taken, closed })
+    }
+
+    /// The day's bookings that aren't cancelled, in the order of the day sheet: by facility, hour, key and number.
+    pub fn day(&mut self, day: Day) -> Result<Vec<Booking>, StoreFault>
+        ensures told { HasCleanDisk (state S.Store self.new) → Tells (stands_in S.Store) self.old result (λ club rows. AreRowsOf club day rows.items) }
+        ensures within { IfOk result (λ rows. All IsBooking rows.items) }
+        ensures kept { HasCleanDisk (state S.Store self.new) → KeepsStanding (stands_in S.Store) self.old self.new }
+        ensures survives { Survives (state S.Store self.old) (state S.Store self.new) (λ _. ⊥) }
+    {
+        let rows = reads::day(&mut self.connection, day)?;
+        bookings_in(self.alloc, &rows)
+    }
+
+    /// The state of a slot, where there is one: its facility, and what is taken of it.
+    fn slot_state(&mut self, slot: Option<Slot>) -> Result<SlotState, StoreFault>
+        ensures told { HasCleanDisk (state S.Store self.new) → Tells (stands_in S.Store) self.old result (λ club found. found ≡ slot_state club slot) }
+        ensures limits { IfOk result (λ found. IfSome found.facility IsFacility) }
+        ensures kept { HasCleanDisk (state S.Store self.new) → KeepsStanding (stands_in S.Store) self.old self.new }
+        ensures survives { Survives (state S.Store self.old) (state S.Store self.new) (λ _. ⊥) }
+    {
+        let Some(slot) = slot else {
+            return Ok(SlotState {
+                facility: None,
+                taken: 0,
+                closed: false,
+            });
+        };
+        let facility = self.facility(&slot.facility)?;
+        let SlotUse { taken, closed } = self.slot(&slot)?;
+        Ok(SlotState {
+            facility,
+            taken,
+            closed,
+        })
+    }
+
+    /// What a key of a member sees of a request.
+    fn seen(
+        &mut self,
+        key: Key,
+        member: Member,
+        request: &Request,
+        moment: Moment,
+    ) -> Result<View, StoreFault>
+        ensures told { HasCleanDisk (state S.Store self.new) → Tells (stands_in S.Store) self.old result (λ club view. view ≡ seen club key member request.now moment) }
+        ensures limits { IsKey key → IsMember member → IfOk result HasLimits }
+        ensures kept { HasCleanDisk (state S.Store self.new) → KeepsStanding (stands_in S.Store) self.old self.new }
+        ensures survives { Survives (state S.Store self.old) (state S.Store self.new) (λ _. ⊥) }
+    {
+        let account = account_at(&mut self.connection, &key.name, &member, moment)?;
+        let booking = booked(&mut self.connection, &key.name, request.number())?;
+        let slot = self.slot_state(request.slot())?;
+        Ok(View {
+            key,
+            spent: account.spent,
+            member,
+            balance: account.balance,
+            open_count: account.open_count,
+            facility: slot.facility,
+            taken: slot.taken,
+            closed: slot.closed,
+            booking,
+        })
+    }
+
+    /// What a key sees of a request at a moment: its own row, what it spent, its booking of the number, its member's row, balance
+    /// and open bookings, and the state of the slot. `None` where the key is unknown. A row out of its limits is a fault of storage.
+    pub fn view(
+        &mut self,
+        key: &Name,
+        request: &Request,
+        moment: Moment,
+    ) -> Result<Option<View>, StoreFault>
+        ensures told { HasCleanDisk (state S.Store self.new) → Tells (stands_in S.Store) self.old result (λ club view. view ≡ view_in club key.now request.now moment) }
+        ensures limits { IfOk result (λ view. IfSome view HasLimits) }
+        ensures kept { HasCleanDisk (state S.Store self.new) → KeepsStanding (stands_in S.Store) self.old self.new }
+        ensures survives { Survives (state S.Store self.old) (state S.Store self.new) (λ _. ⊥) }
+    {
+        own_bookings_suffice();
+        let Some(key) = self.key(key)? else {
+            return Ok(None);
+        };
+        let Some(member) = self.member(&key.member)? else {
+            return Ok(None);
+        };
+        let view = self.seen(key, member, request, moment)?;
+        Ok(Some(view))
+    }
+
+    /// Makes a change that fits, in one transaction. A refusal leaves the club that stood, and a crash may yet leave the changed one.
+    pub fn apply(&mut self, change: &Change) -> Result<(), StoreFault>
+        ensures honest { HasCleanDisk (state S.Store self.new) → HasCleanDisk (state S.Store self.old) }
+        ensures changed { HasCleanDisk (state S.Store self.new) → Changes (stands_in S.Store) change.now self.old self.new result }
+    {
+        let conn = &mut self.connection;
+        match change {
+            Change::InsertMember(member) => writes::insert_member(conn, member),
+            Change::AddCredit { member, points } => writes::add_credit(conn, member, *points),
+            Change::InsertFacility(facility) => writes::insert_facility(conn, facility),
+            Change::InsertKey(key) => writes::insert_key(conn, key),
+            Change::MarkRevoked { key } => writes::revoke_key(conn, key),
+            Change::MarkClosed(slot) => writes::close_slot(conn, slot),
+            Change::InsertBooking(booking) => writes::insert_booking(conn, booking),
+            Change::MarkCancelled {
+                key,
+                number,
+                refund,
+            } => writes::cancel_booking(conn, key, *number, *refund),
+        }
+    }
+
+    /// Inserts a member, in one transaction. A refusal is as that of `apply`.
+    pub fn insert_member(&mut self, member: &Member) -> Result<(), StoreFault>
+        ensures honest { HasCleanDisk (state S.Store self.new) → HasCleanDisk (state S.Store self.old) }
+        ensures changed { HasCleanDisk (state S.Store self.new) → Changes (stands_in S.Store) (InsertMember member.now) self.old self.new result }
+    {
+        writes::insert_member(&mut self.connection, member)
+    }
+
+    /// Adds points to what a member was credited, in one transaction. A refusal is as that of `apply`.
+    pub fn add_credit(&mut self, member: &Name, points: u32) -> Result<(), StoreFault>
+        ensures honest { HasCleanDisk (state S.Store self.new) → HasCleanDisk (state S.Store self.old) }
+        ensures changed { HasCleanDisk (state S.Store self.new) → Changes (stands_in S.Store) (AddCredit member.now points) self.old self.new result }
+    {
+        writes::add_credit(&mut self.connection, member, points)
+    }
+
+    /// Inserts a facility, in one transaction. A refusal is as that of `apply`.
+    pub fn insert_facility(&mut self, facility: &Facility) -> Result<(), StoreFault>
+        ensures honest { HasCleanDisk (state S.Store self.new) → HasCleanDisk (state S.Store self.old) }
+        ensures changed { HasCleanDisk (state S.Store self.new) → Changes (stands_in S.Store) (InsertFacility facility.now) self.old self.new result }
+    {
+        writes::insert_facility(&mut self.connection, facility)
+    }
+
+    /// Inserts a key, in one transaction. A refusal is as that of `apply`.
+    pub fn insert_key(&mut self, key: &Key) -> Result<(), StoreFault>
+        ensures honest { HasCleanDisk (state S.Store self.new) → HasCleanDisk (state S.Store self.old) }
+        ensures changed { HasCleanDisk (state S.Store self.new) → Changes (stands_in S.Store) (InsertKey key.now) self.old self.new result }
+    {
+        writes::insert_key(&mut self.connection, key)
+    }
+
+    /// Marks a key revoked, in one transaction. A refusal is as that of `apply`.
+    pub fn revoke_key(&mut self, key: &Name) -> Result<(), StoreFault>
+        ensures honest { HasCleanDisk (state S.Store self.new) → HasCleanDisk (state S.Store self.old) }
+        ensures changed { HasCleanDisk (state S.Store self.new) → Changes (stands_in S.Store) (MarkRevoked key.now) self.old self.new result }
+    {
+        writes::revoke_key(&mut self.connection, key)
+    }
+
+    /// Marks a slot closed, in one transaction. A refusal is as that of `apply`.
+    pub fn close_slot(&mut self, slot: &Slot) -> Result<(), StoreFault>
+        ensures honest { HasCleanDisk (state S.Store self.new) → HasCleanDisk (state S.Store self.old) }
+        ensures changed { HasCleanDisk (state S.Store self.new) → Changes (stands_in S.Store) (MarkClosed slot.now) self.old self.new result }
+    {
+        writes::close_slot(&mut self.connection, slot)
+    }
+}
