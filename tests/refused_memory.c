@@ -1,8 +1,11 @@
-// Refuses the allocation whose number the variable REFUSED_ALLOCATION tells, counted from 1. Loaded before the C library.
+// Refuses the allocation whose number the variable REFUSED_ALLOCATION tells, counted from 1, and then makes the file whose path
+// the variable REFUSAL_TOLD tells, if any. Loaded before the C library.
 #define _GNU_SOURCE
 #include <dlfcn.h>
 #include <errno.h>
+#include <fcntl.h>
 #include <stdlib.h>
+#include <unistd.h>
 
 static int refuses(void) {
     static long refused = -1, seen;
@@ -12,6 +15,8 @@ static int refuses(void) {
     }
     seen++;
     if (seen != refused) return 0;
+    const char *told = getenv("REFUSAL_TOLD");
+    if (told) close(open(told, O_CREAT | O_WRONLY, 0600));
     errno = ENOMEM;
     return 1;
 }

@@ -1,0 +1,309 @@
+#!/bin/sh
+# Holds the tables against sqlite3: what store_walk puts into a file, sqlite3 finds there, with the columns, keys, references
+# and limits of docs/TABLES.md; what sqlite3 changes within them, store_walk reads; and a file that holds no club is refused as
+# a fault of storage and stays as it was, byte for byte. Not part of the gate.
+set -eu
+here=$(CDPATH='' cd -P -- "$(dirname -- "$0")" && pwd)
+walk=$here/../crates/store_walk
+command -v sqlite3 >/dev/null || apt-get install -y sqlite3 >/dev/null
+work=$(mktemp -d)
+trap 'rm -rf "$work"' EXIT
+# It proves and builds the program first, where that isn't done.
+(cd "$walk" && rt run) </dev/null >/dev/null 2>"$work/log" || { cat "$work/log" >&2; exit 1; }
+walk=$walk/out/store_walk
+cd "$work"
+checks=0
+
+# same WHAT FOUND: FOUND is the text on standard input.
+same() {
+    checks=$((checks + 1))
+    printf '%s\n' "$2" >found
+    cat >wanted
+    cmp -s found wanted || { echo "$1: wanted and found" >&2; diff wanted found >&2; exit 1; }
+}
+
+# sql FILE TEXT: what sqlite3 answers, with references on.
+sql() {
+    sqlite3 -bail "$1" "PRAGMA foreign_keys = ON; $2"
+}
+
+"$walk" make club >shown
+same 'what make prints' "$(cat shown)" <<'ROWS'
+member amy: credited 10000 quota 5
+facility court-1: kind court places 4 price 200 opens 8 shuts 22
+facility room-1: kind room places 1 price 601 opens 8 shuts 22
+key amy-1: member amy revoked false
+slot court-1 2026-05-01 09: taken 0 closed true
+slot court-1 2026-05-01 18: taken 3 closed false
+slot room-1 2026-05-01 18: taken 0 closed false
+booking 7: court-1 2026-05-01 18 guests 2 charge 600 left 1 cancelled false refund 0
+booking 8: room-1 2026-05-01 18 guests 0 charge 601 left 0 cancelled true refund 300
+account: spent 901 balance 9099 open 1
+Day sheet 2026-05-01
+court-1                  18:00 amy-1                            7  3    600
+Total bookings 1, persons 3, charge 600
+ROWS
+# The club lies in the one file: a copy without the log holds it all.
+cp club copied
+same 'what sqlite3 finds' "$(sql copied "PRAGMA integrity_check; PRAGMA foreign_key_check;
+    SELECT * FROM desk; SELECT * FROM members; SELECT * FROM facilities; SELECT name, member, hex(root), revoked FROM keys;
+    SELECT * FROM slots; SELECT * FROM bookings")" <<'ROWS'
+ok
+1
+amy|10000|5
+court-1|court|4|200|8|22
+room-1|room|1|601|8|22
+amy-1|amy|30313233343536373839616263646566|0
+court-1|20574|9|1
+amy-1|7|court-1|20574|18|2|600|1|0|0
+amy-1|8|room-1|20574|18|0|601|0|1|300
+ROWS
+taken="SELECT total(guests + 1) FROM bookings WHERE cancelled = 0 AND day = 20574 AND hour = 18 AND facility ="
+same 'the sums of an auditor' "$(sql club "
+    SELECT total(charge - refund) FROM bookings WHERE pass_key = 'amy-1';
+    SELECT credited - (SELECT total(charge - refund) FROM bookings JOIN keys ON name = pass_key WHERE member = 'amy')
+        FROM members WHERE name = 'amy';
+    $taken 'court-1'; $taken 'room-1'; SELECT date(20574 * 86400, 'unixepoch')")" <<'ROWS'
+901.0
+9099.0
+3.0
+0.0
+2026-05-01
+ROWS
+
+# Columns: table, name, type, place in the key. None may be null, and all tables are STRICT.
+same 'the columns' "$(sql club "SELECT t.name, c.name, c.type, c.pk FROM pragma_table_list t, pragma_table_info(t.name) c
+    WHERE t.strict AND c.\"notnull\" ORDER BY t.name, c.cid;
+    SELECT count(*) FROM pragma_table_list t, pragma_table_info(t.name) c
+        WHERE t.name NOT LIKE 'sqlite%' AND NOT (t.strict AND c.\"notnull\")")" <<'ROWS'
+bookings|pass_key|TEXT|1
+bookings|number|INTEGER|2
+bookings|facility|TEXT|0
+bookings|day|INTEGER|0
+bookings|hour|INTEGER|0
+bookings|guests|INTEGER|0
+bookings|charge|INTEGER|0
+bookings|remains|INTEGER|0
+bookings|cancelled|INTEGER|0
+bookings|refund|INTEGER|0
+desk|version|INTEGER|0
+facilities|name|TEXT|1
+facilities|kind|TEXT|0
+facilities|places|INTEGER|0
+facilities|price|INTEGER|0
+facilities|opens|INTEGER|0
+facilities|shuts|INTEGER|0
+keys|name|TEXT|1
+keys|member|TEXT|0
+keys|root|BLOB|0
+keys|revoked|INTEGER|0
+members|name|TEXT|1
+members|credited|INTEGER|0
+members|quota|INTEGER|0
+slots|facility|TEXT|1
+slots|day|INTEGER|2
+slots|hour|INTEGER|3
+slots|closed|INTEGER|0
+0
+ROWS
+same 'the references' "$(sql club "SELECT t.name, f.\"from\", f.\"table\", f.\"to\" FROM pragma_table_list t,
+    pragma_foreign_key_list(t.name) f ORDER BY t.name, f.\"from\"")" <<'ROWS'
+bookings|facility|facilities|name
+bookings|pass_key|keys|name
+keys|member|members|name
+slots|facility|facilities|name
+ROWS
+
+# Limits: table, column, least, most. Each is taken, and the numbers beside them are refused.
+while read -r table column least most; do
+    for value in "$least" "$most" $((least - 1)) $((most + 1)); do
+        cp club limits
+        wanted=0
+        if [ "$value" -lt "$least" ] || [ "$value" -gt "$most" ]; then wanted=19; fi
+        status=0
+        sql limits "UPDATE $table SET $column = $value WHERE rowid = 1" 2>refusal || status=$?
+        checks=$((checks + 1))
+        if [ "$status" != "$wanted" ] || { [ "$wanted" != 0 ] && ! grep -q 'CHECK constraint failed' refusal; }; then
+            echo "$table.$column = $value: status $status" >&2
+            exit 1
+        fi
+    done
+done <<'LIMITS'
+members credited 0 999999999
+members quota 0 99
+facilities places 1 50
+facilities price 0 9999
+facilities opens 0 23
+facilities shuts 1 24
+keys revoked 0 1
+slots closed 0 1
+bookings cancelled 0 1
+slots day 10957 47481
+bookings day 10957 47481
+slots hour 0 23
+bookings hour 0 23
+bookings number 1 999999999
+bookings guests 0 49
+bookings remains 0 49
+bookings charge 0 499950
+bookings refund 0 499950
+LIMITS
+
+# What sqlite3 writes within the limits, store_walk reads, beside the log that it left.
+cp club written
+"$walk" show written >/dev/null
+sql written "UPDATE members SET credited = credited + 5, quota = 99; UPDATE keys SET revoked = 1; DELETE FROM slots;
+    INSERT INTO slots VALUES ('room-1', 20574, 18, 1), ('court-1', 20574, 9, 0);
+    INSERT INTO bookings VALUES ('amy-1', 9, 'court-1', 20574, 18, 0, 200, 0, 0, 0)"
+same 'what sqlite3 wrote' "$("$walk" show written)" <<'ROWS'
+member amy: credited 10005 quota 99
+facility court-1: kind court places 4 price 200 opens 8 shuts 22
+facility room-1: kind room places 1 price 601 opens 8 shuts 22
+key amy-1: member amy revoked true
+slot court-1 2026-05-01 09: taken 0 closed false
+slot court-1 2026-05-01 18: taken 4 closed false
+slot room-1 2026-05-01 18: taken 0 closed true
+booking 7: court-1 2026-05-01 18 guests 2 charge 600 left 1 cancelled false refund 0
+booking 8: room-1 2026-05-01 18 guests 0 charge 601 left 0 cancelled true refund 300
+account: spent 1101 balance 8904 open 2
+Day sheet 2026-05-01
+court-1                  18:00 amy-1                            7  3    600
+court-1                  18:00 amy-1                            9  1    200
+Total bookings 2, persons 4, charge 800
+ROWS
+
+# An empty file, and one that isn't there, become a club with no rows.
+for file in empty missing; do
+    if [ "$file" = empty ]; then : >empty; fi
+    same "$file" "$("$walk" show "$file")" <<'ROWS'
+member amy: none
+facility court-1: none
+facility room-1: none
+key amy-1: none
+slot court-1 2026-05-01 09: taken 0 closed false
+slot court-1 2026-05-01 18: taken 0 closed false
+slot room-1 2026-05-01 18: taken 0 closed false
+booking 7: none
+booking 8: none
+account: none
+Day sheet 2026-05-01
+No bookings.
+ROWS
+    same "$file, by sqlite3" "$(sql "$file" "PRAGMA integrity_check; SELECT * FROM desk;
+        SELECT count(*) FROM members, facilities, keys, slots, bookings")" <<'ROWS'
+ok
+1
+0
+ROWS
+done
+
+# refused WHAT WORD..: store_walk answers a fault of storage and leaves `bad` as it is. What it leaves beside it, a log with no
+# commit, doesn't change what sqlite3 reads.
+refused() {
+    what=$1
+    shift
+    cp bad bad.before
+    sqlite3 bad.before .dump >dump.before 2>&1 || :
+    status=0
+    "$walk" "$@" >/dev/null 2>fault || status=$?
+    checks=$((checks + 1))
+    if [ "$status" != 3 ] || [ "$(cat fault)" != "fault: storage" ]; then
+        echo "$what: status $status, $(cat fault)" >&2
+        exit 1
+    fi
+    cmp bad bad.before || { echo "$what: the file was changed" >&2; exit 1; }
+    sqlite3 bad .dump >dump 2>&1 || :
+    cmp dump dump.before || { echo "$what: sqlite3 reads other rows" >&2; exit 1; }
+    rm -f bad*
+}
+
+printf 'x%.0s' $(seq 100) >bad
+refused 'no database' show bad
+sqlite3 bad "CREATE TABLE notes (text TEXT); INSERT INTO notes VALUES ('a')"
+cp bad notes
+"$walk" show notes >/dev/null
+same 'tables of others stay' "$(sql notes 'SELECT * FROM notes; SELECT * FROM desk')" <<'ROWS'
+a
+1
+ROWS
+rm bad
+head -c 20000 club >bad
+refused 'half a file' show bad
+cp club bad
+printf '\377\377\377\377' | dd of=bad bs=1 seek=16385 conv=notrunc 2>/dev/null
+refused 'a damaged page' show bad
+cp club bad
+refused 'a second club' make bad
+
+# What sqlite3 makes of a club by each line.
+while IFS= read -r text; do
+    cp club bad
+    sqlite3 -bail bad "PRAGMA foreign_keys = OFF; PRAGMA ignore_check_constraints = ON; $text"
+    refused "$text" show bad
+done <<'TEXTS'
+UPDATE desk SET version = 9
+UPDATE desk SET version = 0
+UPDATE desk SET version = -1
+DELETE FROM desk
+INSERT INTO desk VALUES (1)
+DROP TABLE desk
+DROP TABLE desk; CREATE TABLE desk (version TEXT) STRICT; INSERT INTO desk VALUES ('1')
+DROP TABLE desk; CREATE TABLE desk (number INTEGER NOT NULL) STRICT; INSERT INTO desk VALUES (1)
+DROP TABLE members
+DROP TABLE facilities
+DROP TABLE keys
+DROP TABLE slots
+DROP TABLE bookings
+ALTER TABLE members RENAME COLUMN quota TO most
+ALTER TABLE facilities RENAME COLUMN price TO points
+ALTER TABLE keys RENAME COLUMN root TO secret
+ALTER TABLE slots RENAME COLUMN closed TO shut
+ALTER TABLE bookings RENAME COLUMN remains TO remaining
+UPDATE members SET credited = 1000000000
+UPDATE members SET credited = -1
+UPDATE members SET quota = 100
+UPDATE members SET name = 'Amy'
+UPDATE members SET name = 'Amy'; UPDATE keys SET member = 'Amy'
+UPDATE facilities SET kind = 'pool' WHERE name = 'court-1'
+UPDATE facilities SET places = 0
+UPDATE facilities SET places = 51
+UPDATE facilities SET price = 10000
+UPDATE facilities SET opens = 22 WHERE name = 'room-1'
+UPDATE facilities SET opens = 24, shuts = 25
+UPDATE keys SET member = 'bob'
+UPDATE keys SET member = ''
+UPDATE keys SET root = x'00112233445566778899aabbccddee'
+UPDATE keys SET root = zeroblob(65)
+UPDATE keys SET revoked = 2
+UPDATE slots SET closed = 2
+UPDATE slots SET facility = 'court-2'
+UPDATE slots SET day = 10956
+UPDATE slots SET hour = 24
+UPDATE bookings SET pass_key = 'amy-2'
+UPDATE bookings SET facility = 'room-2'
+UPDATE bookings SET number = 0 WHERE number = 7
+UPDATE bookings SET number = 1000000000 WHERE number = 7
+UPDATE bookings SET day = 47482
+UPDATE bookings SET guests = 50
+UPDATE bookings SET charge = 499951
+UPDATE bookings SET remains = -1
+UPDATE bookings SET cancelled = 2
+UPDATE bookings SET refund = -1
+UPDATE bookings SET refund = 602 WHERE number = 8
+UPDATE bookings SET refund = 1 WHERE number = 7
+UPDATE facilities SET name = 'Court-1' WHERE name = 'court-1'; UPDATE bookings SET facility = 'Court-1' WHERE number = 7; UPDATE slots SET facility = 'Court-1'
+TEXTS
+
+# A path where no file can lie, and a file that sqlite3 has locked.
+for path in no/club . ''; do
+    : >bad
+    refused "the path '$path'" show "$path"
+done
+cp club bad
+sqlite3 bad "BEGIN EXCLUSIVE; SELECT count(*) FROM members" ".system $walk show bad >/dev/null 2>fault; echo \$? >>fault" >/dev/null
+same 'a file in use' "$(cat fault)" <<'ROWS'
+fault: storage
+3
+ROWS
+
+echo "$checks checks against sqlite3 $(sqlite3 --version | cut -d ' ' -f 1) passed"
