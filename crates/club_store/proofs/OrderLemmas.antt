@@ -1,10 +1,10 @@
 -- What a SELECT over one table with ORDER BY gives, where the table holds a list.
-use Rattle.std.proofs.Common.{◌≡◌, ℕ, ◌+◌, ℤ, Bool, true, false, cond, List, [], ◌∷◌, map, refl, sym, ap, subst, ◌∙◌, arith}
+use Rattle.std.proofs.Common.{◌≡◌, ℕ, ◌+◌, ℤ, Bool, false, cond, List, [], ◌∷◌, map, ap, subst, ◌∙◌, arith}
 use Rattle.std.specs.Prelude.{filter, flat_map, AllPairs, IsPermutation, IsSorted}
 use Rattle.std.specs.declared.cmp.Ordering.{Ordering}
 use Rattle.std.specs.Ordering.{is_lt}
 use Rattle.std.specs.Cmp.{IsTotalOrder}
-use Rattle.std.specs.List.{AllZip, list_all}
+use Rattle.std.specs.List.{list_all}
 use Rattle.std.proofs.lemmas.List.{length-map, get_or-map}
 use Rattle.std.proofs.lemmas.List.Elements.{All-from_recursion}
 use Rattle.std.proofs.lemmas.List.Kept.{AllPairs-cons}
@@ -18,13 +18,13 @@ use Rattle.sqlite.specs.Query.{Query, inner, end, IsAnswer, Output, output, outp
 use Rattle.sqlite.specs.Program.{overlay}
 use Rattle.sqlite.specs.Command.TheVariants.{Select}
 use Rattle.sqlite.specs.Effect.{Database, Reads}
-use Rattle.club_store.specs.Tables.{IsRowOf, Holds}
+use Rattle.club_store.specs.Tables.{Holds}
 use Rattle.club_store.specs.Statements.{select}
-use Rattle.club_store.proofs.SelectLemmas.{test, pick_by_if, no_overlay, Apart}
+use Rattle.club_store.proofs.SelectLemmas.{test, pick_by_if, no_overlay, picked, Apart}
 
 -- ---- sorted lists
 
-pub IsSorted-from_map : {X Y : Type 0} (cmp : Y → Y → Ordering) (f : X → Y) (xs : List X) → IsSorted cmp (map f xs) → IsSorted (λ a b. cmp (f a) (f b)) xs
+IsSorted-from_map : {X Y : Type 0} (cmp : Y → Y → Ordering) (f : X → Y) (xs : List X) → IsSorted cmp (map f xs) → IsSorted (λ a b. cmp (f a) (f b)) xs
 IsSorted-from_map cmp f xs sorted k d low high =
     rw (get_or-map f xs (k + 1) d (f d) high, get_or-map f xs k d (f d) (omega arith)) at (sorted k (f d) low (rw length-map high))
 
@@ -52,22 +52,6 @@ pairs_from_apart R [] apart = λ i j d less low. absurd (omega arith)
 pairs_from_apart R (x ∷ xs) apart = AllPairs-cons R x xs (All-from_recursion (R x) xs apart.0) (pairs_from_apart R xs apart.1)
 
 -- ---- a query of one table
-
--- what the rows of a table give whose test passes is what the elements give that pass
-pub passing : {X B : Type 0} (values : X → Row) (test : Row → Bool) (p : X → Bool) (f : Row → B) (g : X → B)
-    → ((id : ℤ) (x : X) → test (Int id ∷ values x) ≡ p x) → ((id : ℤ) (x : X) → f (Int id ∷ values x) ≡ g x)
-    → (rows : List Row) (xs : List X) → AllZip (λ row x. IsRowOf (values x) row) rows xs → map f (filter test rows) ≡ map g (filter p xs)
-passing values test p f g tested says [] [] h = refl
-passing values test p f g tested says [] (x ∷ xs) h = absurd h
-passing values test p f g tested says (r ∷ rows) [] h = absurd h
-passing values test p f g tested says (r ∷ rows) (x ∷ xs) h =
-    let more = passing values test p f g tested says rows xs h.1 in
-    let passes : test r ≡ p x = ap test h.0.1 ∙ tested h.0.0 x in
-    let gives : f r ≡ g x = ap f h.0.1 ∙ says h.0.0 x in
-    let rest = filter test rows in
-    subst (λ b. map f (cond b (r ∷ rest) rest) ≡ map g (filter p (x ∷ xs))) (sym passes)
-    (elim (p x) as (λ b. map f (cond b (r ∷ rest) rest) ≡ map g (cond b (x ∷ filter p xs) (filter p xs)))
-    [ true ↦ cc | false ↦ more ])
 
 -- the rows are those of the elements, in some order that is sorted
 pub record InOrder {X : Type 0} (show : X → Row) (cmp : X → X → Ordering) (xs : List X) (rows : List Row) : Type 0 where
@@ -104,7 +88,7 @@ module _ {X : Type 0} (values : X → Row) (params : Row) (tests project : List 
       a.grouped ∙ ap (flat_map (λ row. cond (passes row) (each row ∷ []) [])) (no_overlay db.trees tree) ∙ pick_by_if passes each (db.trees tree) in
       let kept : a.kept ≡ map out (filter p xs) =
       a.distinct ∙ ap (map (output q)) staged ∙ map-map (output q) each (filter passes (db.trees tree))
-      ∙ passing values passes p (λ row. output q (each row)) out tested (says tree) (db.trees tree) xs held.same in
+      ∙ picked values p out passes (λ row. output q (each row)) tested (says tree) (db.trees tree) xs held.same in
       let back = pull_back out a.kept a.ordered a.same (filter p xs) kept in
       record {
         ordered = back.0;

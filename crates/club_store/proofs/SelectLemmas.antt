@@ -86,9 +86,9 @@ module _ (params : Row) (tests : List Term) (project : List Term) where
       let all : map (λ (o : Output). o.1) a.kept ≡ map shows (filter test (db.trees tree)) = ap (map (λ (o : Output). o.1)) kept ∙ merge_maps tree (filter test (db.trees tree)) in
       subst (λ ys. IsPermutation ys rows) all (subst (IsPermutation (map (λ (o : Output). o.1) a.kept)) (sym a.shown) same)
 
-module _ {X : Type 0} (values : X → Row) (p : X → Bool) (show : X → Row) where
+module _ {X B : Type 0} (values : X → Row) (p : X → Bool) (show : X → B) where
   -- what is shown of the rows that pass is what is shown of the elements that do
-  pub picked : (passes : Row → Bool) (shown : Row → Row) → ((id : ℤ) (x : X) → passes (Int id ∷ values x) ≡ p x) → ((id : ℤ) (x : X) → shown (Int id ∷ values x) ≡ show x)
+  pub picked : (passes : Row → Bool) (shown : Row → B) → ((id : ℤ) (x : X) → passes (Int id ∷ values x) ≡ p x) → ((id : ℤ) (x : X) → shown (Int id ∷ values x) ≡ show x)
       → (rows : List Row) (xs : List X) → AllZip (λ row x. IsRowOf (values x) row) rows xs → map shown (filter passes rows) ≡ map show (filter p xs)
   picked passes shown tested says [] [] h = refl
   picked passes shown tested says [] (x ∷ xs) h = absurd h
