@@ -1,8 +1,7 @@
 -- A member's part keeps the numbers of the club within their widths.
-use Rattle.std.proofs.Common.{◌≡◌, ℕ, ◌<◌, ◌≤◌, Bool, true, false, cond, List, [], ◌∷◌, length, get_or, zero, suc, refl, arith, ◌∙◌, sym, ap, subst}
-use Rattle.std.specs.Prelude.{Option, Some, None, find, filter, All, not}
+use Rattle.std.proofs.Common.{◌≡◌, ℕ, ◌≤◌, Bool, true, false, cond, List, [], ◌∷◌, get_or, zero, suc, refl, arith, ◌∙◌, sym, ap, subst}
+use Rattle.std.specs.Prelude.{Some, find, filter, All}
 use Rattle.std.specs.Str.{bytes_eq}
-use Rattle.pass_caveats.specs.declared.slot.Slot.{Slot}
 use Rattle.club_core.specs.declared.member.Member.{Member}
 use Rattle.club_core.specs.declared.facility.Facility.{Facility}
 use Rattle.club_core.specs.declared.booking.Booking.{Booking}

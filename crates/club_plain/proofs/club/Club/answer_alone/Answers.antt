@@ -3,7 +3,7 @@ use Rattle.std.specs.Prelude.{Option, Some, None, Result, Ok, option_map, option
 use Rattle.club_core.specs.declared.request.Request.{Request}
 use Rattle.club_core.specs.Club.{key_named}
 use Rattle.club_core.specs.Basis.{Basis, view_of, key_of, basis_under}
-use Rattle.club_core.specs.Pass.{Pass, FormFault}
+use Rattle.club_core.specs.Pass.{Pass}
 use Rattle.club_core.specs.Answer.{answer_to}
 use Rattle.club_core.specs.Solo.{with_others}
 use Rattle.club_plain.specs.declared.pass.FormFault.{FormFault as Fault}
