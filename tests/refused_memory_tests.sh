@@ -1,5 +1,5 @@
 #!/bin/sh
-# Runs tests of a crate with each of their allocations refused in turn: each must end well, or end with want of memory. Run
+# Runs tests of a crate with each of their allocations refused in turn: each must end well, or end with out of memory. Run
 # `rt test` in the crate first. Not part of the gate. Give tests that pass each fault on by `?`, since one that asserts a fault
 # of another kind fails where memory is refused instead.
 #   tests/refused_memory_tests.sh club_store tests::shows_what_a_key_sees tests::tells_a_day_in_order
@@ -32,5 +32,5 @@ for test; do
         fi
         number=$((number + 1))
     done
-    echo "$test: of $((number - 1)) allocations, refused in turn, $refused ended the run, each with want of memory"
+    echo "$test: of $((number - 1)) allocations, refused in turn, $refused ended the run, each with out of memory"
 done
