@@ -1,15 +1,16 @@
 -- The functions say what the definitions say.
 use Rattle.std.proofs.Common.{◌≡◌, ◌↔◌, ℕ, ◌+◌, Bool, true, false, cond, List, [], ◌∷◌, ◌++◌, length, map, ◌⊎◌, Option, Some, None, inl, inr, refl, sym, ap, subst, ◌∙◌, arith, add-zero}
+use Rattle.std.specs.Option.{option_or}
 use Rattle.std.proofs.lemmas.List.Elements.{All-head, All-tail, All-push, All-nil, All-cons}
 use Rattle.std.proofs.lemmas.List.{append_assoc, append-nil}
 use Rattle.pass_caveats.specs.declared.caveat.Caveat.{Caveat}
 use Rattle.pass_caveats.specs.declared.ask.Ask.{Ask}
 use Rattle.pass_caveats.specs.declared.fault.CaveatFault.{CaveatFault}
 use Rattle.pass_caveats.specs.declared.fault.CaveatFault.TheVariants.{NotUnderstood, Denied}
-use Rattle.pass_caveats.specs.Reading.{Reads}
+use Rattle.club_values.specs.Reading.{Reads}
 use Rattle.pass_caveats.specs.Caveat.{Understood}
 use Rattle.pass_caveats.specs.CaveatOf.{candidate, spells, caveat_of, permits, first_fault_from, first_fault_of}
-use Rattle.pass_caveats.specs.Fault.{Allows, Allowed, IsUnknown, Denies, IsFirstFault}
+use Rattle.pass_caveats.specs.Fault.{Allows, Allowed, IsUnknown, Denies, IsFaultAt, IsFirstFault}
 use Rattle.pass_caveats.proofs.CandidateLemmas.{candidate-caveat_text}
 use Rattle.pass_caveats.proofs.DecisionLemmas.{Decides-spells, Decides-permits}
 
@@ -108,6 +109,26 @@ first_fault_of-is_first texts ask =
     let found = some_fault [] texts ask (All-nil (λ t. Allows t ask)) in
     let P : Option CaveatFault → Type 0 = λ r. IsFirstFault texts ask r in
     subst P (first_fault-is texts ask found.0 found.1) found.1
+
+fault_by : (b : Bool) (all front last : Option CaveatFault) (fault : CaveatFault) → all ≡ option_or front last → cond b all (Some fault) ≡ option_or (cond b front (Some fault)) last
+fault_by true all front last fault e = e
+fault_by false all front last fault e = refl
+
+-- the first fault of a list with one more caveat
+pub fault_of_one_more : (n : ℕ) (caveats : List (Option Caveat)) (caveat : Option Caveat) (ask : Ask) → first_fault_from n (caveats ++ caveat ∷ []) ask ≡ option_or (first_fault_from n caveats ask) (first_fault_from (n + length caveats) (caveat ∷ []) ask)
+fault_of_one_more n [] caveat ask = rw add-zero refl
+fault_of_one_more n (None ∷ caveats) caveat ask = refl
+fault_of_one_more n (Some first ∷ caveats) caveat ask =
+    let next : n + 1 + length caveats ≡ n + length (Some first ∷ caveats) = omega arith in
+    fault_by (permits first ask) _ _ _ (Denied n) (rw next at (fault_of_one_more (n + 1) caveats caveat ask))
+
+-- the fault of one text
+pub fault_at-is : (text : List ℕ) (n : ℕ) (ask : Ask) (r : Option CaveatFault) → IsFaultAt text n ask r → r ≡ first_fault_from n (caveat_of text ∷ []) ask
+fault_at-is text n ask None h = rw (caveat_of-understood text h.0 h.1, (Decides-permits h.0 ask).1 h.2) refl
+fault_at-is text n ask (Some (NotUnderstood m)) h = rw (caveat_of-unknown text h.1, h.0) refl
+fault_at-is text n ask (Some (Denied m)) h =
+    let denied = not_true (permits h.1.0 ask) (λ e. h.1.2 ((Decides-permits h.1.0 ask).0 e)) in
+    rw (caveat_of-understood text h.1.0 h.1.1, denied, h.0) refl
 
 pub none_where_allowed : (texts : List (List ℕ)) (ask : Ask) (fault : Option CaveatFault) → IsFirstFault texts ask fault → (fault ≡ None) ↔ Allowed texts ask
 none_where_allowed texts ask fault h =

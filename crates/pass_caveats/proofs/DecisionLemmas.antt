@@ -1,37 +1,25 @@
 -- The tests decide what they test.
-use Rattle.std.proofs.Common.{IsTrue, ◌↔◌, ◌≡◌, ◌≢◌, ℕ, ◌+◌, ◌<◌, ◌≤◌, Bool, true, nat_le, List, [], ◌∷◌, length, Option, Some, None, inl, inr, refl, ap, arith, Decides}
+use Rattle.std.proofs.Common.{IsTrue, ◌↔◌, ◌≡◌, ◌≢◌, ℕ, ◌+◌, ◌<◌, Bool, nat_lt, List, [], ◌∷◌, length, Option, Some, None, refl, ap, arith, Decides}
 use Rattle.std.specs.Prelude.{Contains, IsSomeAnd}
-use Rattle.std.specs.Int.{IsInRange, is_in_range}
 use Rattle.std.specs.List.{list_all, list_any}
 use Rattle.std.specs.Str.{bytes_eq}
-use Rattle.std.proofs.lemmas.Bool.Decides.{same_from_decides, Decides-like, Decides-and, Decides-or, Decides-not, Decides-ltb, Decides-eqb, Decides-by_and, Decides-by_or, leb_tells}
+use Rattle.std.proofs.lemmas.Bool.Decides.{same_from_decides, Decides-like, Decides-and, Decides-or, Decides-ltb, Decides-eqb, Decides-by_and, Decides-by_or}
 use Rattle.std.proofs.lemmas.List.Elements.{at_from_Contains}
 use Rattle.std.proofs.lemmas.Slice.Eq.{bytes_eq-Decides}
 use Rattle.pass_caveats.specs.declared.caveat.Caveat.{Caveat}
-use Rattle.pass_caveats.specs.declared.caveat.Caveat.TheVariants.{Facility, Kind, Hours, Days, Until, Guests, Spend, Actions}
-use Rattle.pass_caveats.specs.declared.kind.Kind.{Kind as AKind}
-use Rattle.pass_caveats.specs.declared.kind.Kind.TheVariants.{Court, Boat, Room}
-use Rattle.pass_caveats.specs.declared.slot.Slot.{Slot}
+use Rattle.pass_caveats.specs.declared.caveat.Caveat.TheVariants.{Facility, Kind, Hours, Days, Weekdays, Until, Guests, Spend, Actions}
+use Rattle.club_values.specs.declared.kind.Kind.{Kind as AKind}
+use Rattle.club_values.specs.declared.kind.Kind.TheVariants.{Court, Boat, Room}
+use Rattle.club_values.specs.declared.slot.Slot.{Slot}
 use Rattle.pass_caveats.specs.declared.ask.Ask.{Ask}
-use Rattle.pass_caveats.specs.Name.{is_name_byte, IsName}
+use Rattle.club_values.specs.Name.{IsName}
 use Rattle.pass_caveats.specs.Names.{AreNames}
-use Rattle.pass_caveats.specs.Actions.{texts_of}
+use Rattle.pass_caveats.specs.Actions.{action_texts}
+use Rattle.pass_caveats.specs.Weekdays.{weekday_texts}
 use Rattle.pass_caveats.specs.Caveat.{IsCaveat, caveat_text, Understood, Permits}
-use Rattle.pass_caveats.specs.TextOf.{is_name}
+use Rattle.club_values.specs.TextOf.{is_name}
+use Rattle.club_values.proofs.TestLemmas.{Decides-leb, Decides-range, Decides-is_name}
 use Rattle.pass_caveats.specs.CaveatOf.{is_caveat, spells, in_slot, same_kind, is_kind, permits}
-
-Decides-leb : (a b : ℕ) → Decides (nat_le a b) (a ≤ b)
-Decides-leb a b = elim (leb_tells a b) [ inl t ↦ ((λ e. t.1), (λ h. t.0)) | inr t ↦ ((λ e. absurd (cc)), (λ h. absurd (omega arith))) ]
-
-pub Decides-range : (low high n : ℕ) → Decides (is_in_range low high n) (IsInRange low high n)
-Decides-range low high n = Decides-and _ _ (Decides-leb low n) (Decides-leb n high)
-
-pub Decides-is_name : (bytes : List ℕ) → Decides (is_name bytes) (IsName bytes)
-Decides-is_name bytes =
-    let all = Decides-by_and is_name_byte (λ byte. is_name_byte byte ≡ true) (list_all is_name_byte) (λ byte. ((λ e. e), (λ e. e))) refl (λ _ _. refl) bytes in
-    Decides-like _ (λ h. record { nonempty = h.0.0.0; short = h.0.0.1; letters = h.0.1; first = h.1 })
-    (λ h. (((h.nonempty, h.short), h.letters), h.first))
-    (Decides-and _ _ (Decides-and _ _ (Decides-and _ _ (Decides-ltb 0 (length bytes)) (Decides-leb (length bytes) 24)) all) (Decides-not _ (Decides-eqb _ 45)))
 
 Decides-are_names : (names : List (List ℕ)) → Decides (is_caveat (Facility names)) (AreNames names)
 Decides-are_names names =
@@ -47,6 +35,9 @@ nonempty_to : {A : Type 0} (xs : List A) → xs ≢ [] → 0 < length xs
 nonempty_to [] h = absurd (h refl)
 nonempty_to (x ∷ xs) h = omega arith
 
+Decides-some : (texts : List (List ℕ)) → Decides (nat_lt 0 (length texts)) (texts ≢ [])
+Decides-some texts = Decides-like _ (nonempty_from texts) (nonempty_to texts) (Decides-ltb 0 (length texts))
+
 Decides-is_caveat : (caveat : Caveat) → Decides (is_caveat caveat) (IsCaveat caveat)
 Decides-is_caveat (Facility names) = Decides-are_names names
 Decides-is_caveat (Kind kind) = ((λ e. tt), (λ h. refl))
@@ -54,11 +45,11 @@ Decides-is_caveat (Hours from until) = Decides-and _ _ (Decides-ltb from until) 
 Decides-is_caveat (Days first last) =
     Decides-like _ (λ h. (h.0.0, h.0.1, h.1)) (λ h. ((h.0, h.1), h.2))
     (Decides-and _ _ (Decides-and _ _ (Decides-range 10957 47481 first) (Decides-range 10957 47481 last)) (Decides-leb first last))
+Decides-is_caveat (Weekdays set) = Decides-some (weekday_texts set)
 Decides-is_caveat (Until moment) = Decides-range 15_778_080 68_374_079 moment
 Decides-is_caveat (Guests n) = Decides-leb n 49
 Decides-is_caveat (Spend n) = Decides-leb n 999_999_999
-Decides-is_caveat (Actions actions) =
-    Decides-like _ (nonempty_from (texts_of actions)) (nonempty_to (texts_of actions)) (Decides-ltb 0 (length (texts_of actions)))
+Decides-is_caveat (Actions actions) = Decides-some (action_texts actions)
 
 pub Decides-spells : (text : List ℕ) (caveat : Caveat) → Decides (spells text caveat) (Understood text caveat)
 Decides-spells text caveat =
@@ -95,6 +86,7 @@ Decides-permits (Facility names) ask = Decides-in_slot ask.slot _ _ (λ slot. De
 Decides-permits (Kind kind) ask = Decides-in_slot ask.slot _ _ (λ slot. Decides-is_kind ask.kind kind)
 Decides-permits (Hours from until) ask = Decides-in_slot ask.slot _ _ (λ slot. Decides-and _ _ (Decides-leb from slot.hour) (Decides-ltb slot.hour until))
 Decides-permits (Days first last) ask = Decides-in_slot ask.slot _ _ (λ slot. Decides-and _ _ (Decides-leb first slot.day) (Decides-leb slot.day last))
+Decides-permits (Weekdays set) ask = Decides-in_slot ask.slot _ _ (λ slot. ((λ e. e), (λ e. e)))
 Decides-permits (Until moment) ask = Decides-ltb ask.moment moment
 Decides-permits (Guests n) ask = Decides-leb ask.guests n
 Decides-permits (Spend n) ask = Decides-or _ _ (Decides-eqb ask.owed 0) (Decides-leb (ask.spent + ask.owed) n)

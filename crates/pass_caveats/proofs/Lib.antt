@@ -1,14 +1,8 @@
-pub mod DateTextLemmas
-pub mod DayLemmas
-pub mod DigitLemmas
-pub mod MomentLemmas
-pub mod NameLemmas
 pub mod PartLemmas
 pub mod NumberLemmas
-pub mod ActionLemmas
+pub mod ChoiceLemmas
 pub mod LineLemmas
 pub mod FaultLemmas
-pub mod CandidateLemmas
 pub mod DecisionLemmas
+pub mod CandidateLemmas
 pub mod CaveatOfLemmas
-pub mod TextOfLemmas

@@ -3,17 +3,18 @@ use Rattle.std.proofs.Common.{◌≡◌, ℕ, ◌<◌, ◌≤◌, List, [], ◌+
 use Rattle.std.specs.Prelude.{codes}
 use Rattle.std.proofs.lemmas.List.{take-append-drop}
 use Rattle.std.proofs.lemmas.Fmt.{decimal_injective}
-use Rattle.pass_caveats.specs.declared.caveat.Caveat.TheVariants.{Facility, Kind, Hours, Days, Until, Guests, Spend, Actions}
+use Rattle.pass_caveats.specs.declared.caveat.Caveat.TheVariants.{Facility, Kind, Hours, Days, Weekdays, Until, Guests, Spend, Actions}
 use Rattle.pass_caveats.specs.declared.caveat.Caveat.{Caveat}
-use Rattle.pass_caveats.specs.declared.kind.Kind.{Kind as AKind}
+use Rattle.club_values.specs.declared.kind.Kind.{Kind as AKind}
 use Rattle.pass_caveats.specs.declared.actions.Actions.{Actions as SomeActions}
-use Rattle.pass_caveats.specs.Reading.{Reads}
+use Rattle.pass_caveats.specs.declared.weekdays.Weekdays.{Weekdays as SomeWeekdays}
+use Rattle.club_values.specs.Reading.{Reads}
 use Rattle.pass_caveats.specs.Number.{SpellsNumber}
-use Rattle.pass_caveats.specs.Day.{SpellsDay, day_text}
-use Rattle.pass_caveats.specs.Moment.{SpellsMoment}
+use Rattle.club_values.specs.Day.{SpellsDay, day_text}
+use Rattle.club_values.specs.Moment.{SpellsMoment}
 use Rattle.pass_caveats.specs.Caveat.{Spells}
-use Rattle.pass_caveats.proofs.DayLemmas.{day_text-spells, spells-day_text, day_text_injective}
-use Rattle.pass_caveats.proofs.MomentLemmas.{moment_text-spells, spells-moment_text}
+use Rattle.club_values.proofs.DayLemmas.{day_text-spells, spells-day_text, day_text_injective}
+use Rattle.club_values.proofs.MomentLemmas.{moment_text-spells, spells-moment_text}
 
 -- a reader of one thing reads another where each is spelled just where the other is
 reads_as : {A : Type 0} (P Q : A → Type 0) (r : Option A) → Reads P r → ((x : A) → P x → Q x) → ((x : A) → Q x → P x) → Reads Q r
@@ -84,12 +85,13 @@ days_fall text rest front back last a b e front_is back_is dots s t lt x h =
     absurd (omega (arith, h.real.2))
 
 -- a text that is no line of any kind
-pub no_line : (text : List ℕ) → ((x : List (List ℕ)) → Spells text (Facility x) → ⊥) → ((x : AKind) → Spells text (Kind x) → ⊥) → ((x : ℕ × ℕ) → Spells text (Hours x.0 x.1) → ⊥) → ((x : ℕ × ℕ) → Spells text (Days x.0 x.1) → ⊥) → ((x : ℕ) → Spells text (Until x) → ⊥) → ((x : ℕ) → Spells text (Guests x) → ⊥) → ((x : ℕ) → Spells text (Spend x) → ⊥) → ((x : SomeActions) → Spells text (Actions x) → ⊥) → (caveat : Caveat) → Spells text caveat → ⊥
-no_line text f k h d u g s a (Facility names) = f names
-no_line text f k h d u g s a (Kind kind) = k kind
-no_line text f k h d u g s a (Hours from until) = h (from, until)
-no_line text f k h d u g s a (Days first last) = d (first, last)
-no_line text f k h d u g s a (Until moment) = u moment
-no_line text f k h d u g s a (Guests n) = g n
-no_line text f k h d u g s a (Spend n) = s n
-no_line text f k h d u g s a (Actions actions) = a actions
+pub no_line : (text : List ℕ) → ((x : List (List ℕ)) → Spells text (Facility x) → ⊥) → ((x : AKind) → Spells text (Kind x) → ⊥) → ((x : ℕ × ℕ) → Spells text (Hours x.0 x.1) → ⊥) → ((x : ℕ × ℕ) → Spells text (Days x.0 x.1) → ⊥) → ((x : SomeWeekdays) → Spells text (Weekdays x) → ⊥) → ((x : ℕ) → Spells text (Until x) → ⊥) → ((x : ℕ) → Spells text (Guests x) → ⊥) → ((x : ℕ) → Spells text (Spend x) → ⊥) → ((x : SomeActions) → Spells text (Actions x) → ⊥) → (caveat : Caveat) → Spells text caveat → ⊥
+no_line text f k h d w u g s a (Facility names) = f names
+no_line text f k h d w u g s a (Kind kind) = k kind
+no_line text f k h d w u g s a (Hours from until) = h (from, until)
+no_line text f k h d w u g s a (Days first last) = d (first, last)
+no_line text f k h d w u g s a (Weekdays set) = w set
+no_line text f k h d w u g s a (Until moment) = u moment
+no_line text f k h d w u g s a (Guests n) = g n
+no_line text f k h d w u g s a (Spend n) = s n
+no_line text f k h d w u g s a (Actions actions) = a actions

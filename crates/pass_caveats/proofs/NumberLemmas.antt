@@ -8,7 +8,7 @@ use Rattle.std.specs.Str.Parse.{digits_value, ParsesUnsigned}
 use Rattle.std.proofs.lemmas.List.Elements.{All-head, All-tail, All-cons}
 use Rattle.std.proofs.lemmas.Str.Parse.{IsNumeralModel, IsDigitsTest, numerals_by_value, digits_value_short, parse_gives}
 use Rattle.std.proofs.lemmas.Fmt.{decimal-digits_value, digits_decimal, decimal_nonempty, length-decimal-le, first_decimal, decimal_digit}
-use Rattle.pass_caveats.specs.Reading.{Reads}
+use Rattle.club_values.specs.Reading.{Reads}
 use Rattle.pass_caveats.specs.Number.{IsNumber, SpellsNumber}
 
 abbrev AreDigits : List ℕ → Type 0

@@ -9,7 +9,7 @@ use Rattle.std.specs.List.{HoldsAt, AllWithin}
 use Rattle.std.proofs.lemmas.Bool.Decides.{nat_tests}
 use Rattle.std.proofs.lemmas.List.Elements.{All-head, All-tail}
 use Rattle.std.proofs.lemmas.List.Splits.{slice_split_none, slice_split_at, length-slice_split, join_with_byte-slice_split}
-use Rattle.pass_caveats.specs.Name.{is_name_byte, IsName}
+use Rattle.club_values.specs.Name.{is_name_byte, IsName}
 use Rattle.pass_caveats.specs.Names.{AreNames}
 use Rattle.pass_caveats.specs.Parts.{parts_of, joined, is_next, after_next}
 use Rattle.std.specs.Str.{bytes_eq}
@@ -28,16 +28,25 @@ all_from_all false xs P h = ((λ e. cc), (λ c. absurd (h.2 [] (c h.0 [] h.1))))
 no_comma_byte : (byte : ℕ) → is_name_byte byte ≡ true → (byte == 44) ≡ false
 no_comma_byte byte h = grind (arith, nat_tests)
 
-no_comma : (name : List ℕ) → IsName name → All (λ byte. (byte == 44) ≡ false) name
+abbrev pub HasNoComma : List ℕ → Type 0
+HasNoComma text = All (λ byte. (byte == 44) ≡ false) text
+
+no_comma : (name : List ℕ) → IsName name → HasNoComma name
 no_comma name h = λ k d within. no_comma_byte _ (h.letters k d within)
 
--- names that are joined come apart again
-pub parts_of-joined : (names : List (List ℕ)) → 0 < length names → All IsName names → parts_of (joined names) ≡ names
+no_commas : (names : List (List ℕ)) → All IsName names → All HasNoComma names
+no_commas names h = λ k d within. no_comma _ (h k d within)
+
+-- texts without commas that are joined come apart again
+pub parts_of-joined : (parts : List (List ℕ)) → 0 < length parts → All HasNoComma parts → parts_of (joined parts) ≡ parts
 parts_of-joined [] some h = absurd (omega arith)
-parts_of-joined (x ∷ []) some h = slice_split_none (λ byte. byte == 44) x (no_comma x (All-head IsName x [] h))
+parts_of-joined (x ∷ []) some h = slice_split_none (λ byte. byte == 44) x (All-head HasNoComma x [] h)
 parts_of-joined (x ∷ y ∷ rest) some h =
-    slice_split_at (λ byte. byte == 44) x 44 (joined (y ∷ rest)) (no_comma x (All-head IsName x (y ∷ rest) h)) refl
-    ∙ ap (λ (parts : List (List ℕ)). x ∷ parts) (parts_of-joined (y ∷ rest) (omega arith) (All-tail IsName x (y ∷ rest) h))
+    slice_split_at (λ byte. byte == 44) x 44 (joined (y ∷ rest)) (All-head HasNoComma x (y ∷ rest) h) refl
+    ∙ ap (λ (parts : List (List ℕ)). x ∷ parts) (parts_of-joined (y ∷ rest) (omega arith) (All-tail HasNoComma x (y ∷ rest) h))
+
+pub names_again : (names : List (List ℕ)) → AreNames names → parts_of (joined names) ≡ names
+names_again names h = parts_of-joined names h.some (no_commas names h.named)
 
 pub joined-parts_of : (text : List ℕ) → joined (parts_of text) ≡ text
 joined-parts_of text = join_with_byte-slice_split 44 text
@@ -48,7 +57,7 @@ some_part text = omega (arith, length-slice_split (λ byte. byte == 44) text)
 
 -- a text that spells names has them as its parts
 pub names_are_parts : (text : List ℕ) (names : List (List ℕ)) → AreNames names × (text ≡ joined names) → AreNames (parts_of text)
-names_are_parts text names h = rw (h.1, parts_of-joined names h.0.some h.0.named) h.0
+names_are_parts text names h = rw (h.1, names_again names h.0) h.0
 
 -- cut at the first comma
 at_comma : (text : List ℕ) (i : ℕ) → i < length text → get_or text i 0 ≡ 44 → text ≡ take i text ++ 44 ∷ drop (i + 1) text

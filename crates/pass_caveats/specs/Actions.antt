@@ -1,9 +1,14 @@
 -- Sets of actions in a caveat.
-use Rattle.std.specs.Prelude.{ℕ, Bool, List, [], ◌∷◌, filter, map}
-use Rattle.pass_caveats.specs.declared.action.Action.{Action}
-use Rattle.pass_caveats.specs.declared.action.Action.TheVariants.{View, Book, Cancel, Account}
+use Rattle.std.specs.Prelude.{◌≡◌, ◌≢◌, ℕ, Bool, List, [], ◌∷◌, filter, map}
+use Rattle.club_values.specs.declared.action.Action.{Action}
+use Rattle.club_values.specs.declared.action.Action.TheVariants.{View, Book, Cancel, Account}
+use Rattle.club_values.specs.Action.{action_text}
+use Rattle.pass_caveats.specs.Parts.{joined}
 use Rattle.pass_caveats.specs.declared.actions.Actions.{Actions}
-use Rattle.pass_caveats.specs.Action.{action_text}
+
+-- in the order of a list (ours)
+abbrev pub all_actions : List Action
+all_actions = View ∷ Book ∷ Cancel ∷ Account ∷ []
 
 abbrev pub has_action : Actions → Action → Bool
 has_action actions View = actions.view
@@ -11,9 +16,10 @@ has_action actions Book = actions.book
 has_action actions Cancel = actions.cancel
 has_action actions Account = actions.account
 
--- the actions of the set, in the order of their list (ours)
-abbrev pub listed : Actions → List Action
-listed actions = filter (has_action actions) (View ∷ Book ∷ Cancel ∷ Account ∷ [])
+-- the texts of the set
+abbrev pub action_texts : Actions → List (List ℕ)
+action_texts actions = map action_text (filter (has_action actions) all_actions)
 
-abbrev pub texts_of : Actions → List (List ℕ)
-texts_of actions = map action_text (listed actions)
+-- the list of a set that isn't empty, with commas
+abbrev pub SpellsActions : List ℕ → Actions → Type 0
+SpellsActions text actions = (action_texts actions ≢ []) × (text ≡ joined (action_texts actions))

@@ -1,32 +1,44 @@
 -- The caveat that a text is, and whether it permits a request, as functions for whoever computes with them. What they mean is
 -- said by `Understood` and `Permits`; laws say that they agree.
-use Rattle.std.specs.Prelude.{ℕ, ◌+◌, ◌==◌, ◌&&◌, ◌||◌, Bool, true, false, List, [], ◌∷◌, length, drop, slice_index, nat_lt, nat_le, if◌then◌else◌, Option, Some, None, codes}
+use Rattle.std.specs.Prelude.{ℕ, ◌+◌, ◌==◌, ◌&&◌, ◌||◌, Bool, true, false, List, [], ◌∷◌, length, drop, slice_index, slice_index_or, map, nat_lt, nat_le, if◌then◌else◌, Option, Some, None}
 use Rattle.std.specs.List.{list_all, list_any}
 use Rattle.std.specs.Str.{bytes_eq}
 use Rattle.std.specs.Str.Parse.{digits_value}
 use Rattle.pass_caveats.specs.declared.caveat.Caveat.{Caveat}
-use Rattle.pass_caveats.specs.declared.caveat.Caveat.TheVariants.{Facility, Kind, Hours, Days, Until, Guests, Spend, Actions}
-use Rattle.pass_caveats.specs.declared.kind.Kind.{Kind as AKind}
-use Rattle.pass_caveats.specs.declared.kind.Kind.TheVariants.{Court, Boat, Room}
+use Rattle.pass_caveats.specs.declared.caveat.Caveat.TheVariants.{Facility, Kind, Hours, Days, Weekdays, Until, Guests, Spend, Actions}
+use Rattle.club_values.specs.declared.kind.Kind.{Kind as AKind}
+use Rattle.club_values.specs.declared.kind.Kind.TheVariants.{Court, Boat, Room}
 use Rattle.pass_caveats.specs.declared.actions.Actions.{Actions as SomeActions}
+use Rattle.pass_caveats.specs.declared.weekdays.Weekdays.{Weekdays as SomeWeekdays}
 use Rattle.std.specs.Int.{is_in_range}
-use Rattle.pass_caveats.specs.declared.slot.Slot.{Slot}
+use Rattle.club_values.specs.declared.slot.Slot.{Slot}
 use Rattle.pass_caveats.specs.declared.ask.Ask.{Ask}
 use Rattle.pass_caveats.specs.declared.fault.CaveatFault.{CaveatFault}
 use Rattle.pass_caveats.specs.declared.fault.CaveatFault.TheVariants.{NotUnderstood, Denied}
-use Rattle.pass_caveats.specs.TextOf.{two_at, day_of, moment_of, kind_of, is_name}
-use Rattle.pass_caveats.specs.Parts.{parts_of}
-use Rattle.pass_caveats.specs.Actions.{has_action, texts_of}
+use Rattle.club_values.specs.TextOf.{two_at, day_of, moment_of, kind_of, is_name}
+use Rattle.club_values.specs.Action.{action_text}
+use Rattle.club_values.specs.Weekday.{weekdays, weekday_of}
+use Rattle.pass_caveats.specs.Parts.{parts_of, words_found}
+use Rattle.pass_caveats.specs.Actions.{all_actions, has_action, action_texts}
+use Rattle.pass_caveats.specs.Weekdays.{weekday_text, has_weekday, weekday_texts}
 use Rattle.pass_caveats.specs.Caveat.{caveat_text}
 
-abbrev pub actions_of : List (List ℕ) → SomeActions
-actions_of parts =
-    record {
-      view = list_any (λ part. bytes_eq part (codes "view")) parts;
-      book = list_any (λ part. bytes_eq part (codes "book")) parts;
-      cancel = list_any (λ part. bytes_eq part (codes "cancel")) parts;
-      account = list_any (λ part. bytes_eq part (codes "account")) parts;
-    }
+-- the sets of what is found
+abbrev pub actions_from : List Bool → SomeActions
+actions_from found =
+    let at : ℕ → Bool = λ i. slice_index_or found i false in
+    record { view = at 0; book = at 1; cancel = at 2; account = at 3 }
+
+abbrev pub weekdays_from : List Bool → SomeWeekdays
+weekdays_from found =
+    let at : ℕ → Bool = λ i. slice_index_or found i false in
+    record { monday = at 0; tuesday = at 1; wednesday = at 2; thursday = at 3; friday = at 4; saturday = at 5; sunday = at 6 }
+
+abbrev pub actions_of : List ℕ → SomeActions
+actions_of text = actions_from (words_found (map action_text all_actions) (parts_of text))
+
+abbrev pub weekdays_of : List ℕ → SomeWeekdays
+weekdays_of text = weekdays_from (words_found (map weekday_text weekdays) (parts_of text))
 
 -- the one caveat that a text can be: its first letter tells which line
 unfoldable pub candidate : List ℕ → Caveat
@@ -36,10 +48,11 @@ candidate text =
     else (if first == 107 then Kind (kind_of (drop 7 text))
     else (if first == 104 then Hours (two_at text 8) (two_at text 11)
     else (if first == 100 then Days (day_of (drop 7 text)) (day_of (drop 19 text))
+    else (if first == 119 then Weekdays (weekdays_of (drop 10 text))
     else (if first == 117 then Until (moment_of (drop 8 text))
     else (if first == 103 then Guests (digits_value 10 (drop 10 text))
     else (if first == 115 then Spend (digits_value 10 (drop 9 text))
-    else Actions (actions_of (parts_of (drop 10 text)))))))))
+    else Actions (actions_of (drop 10 text)))))))))
 
 -- whether the values may stand in a line
 abbrev pub is_caveat : Caveat → Bool
@@ -47,10 +60,11 @@ is_caveat (Facility names) = nat_lt 0 (length names) && nat_le (length names) 8 
 is_caveat (Kind kind) = true
 is_caveat (Hours from until) = nat_lt from until && nat_le until 24
 is_caveat (Days first last) = is_in_range 10957 47481 first && is_in_range 10957 47481 last && nat_le first last
+is_caveat (Weekdays set) = nat_lt 0 (length (weekday_texts set))
 is_caveat (Until moment) = is_in_range 15_778_080 68_374_079 moment
 is_caveat (Guests n) = nat_le n 49
 is_caveat (Spend n) = nat_le n 999_999_999
-is_caveat (Actions actions) = nat_lt 0 (length (texts_of actions))
+is_caveat (Actions actions) = nat_lt 0 (length (action_texts actions))
 
 abbrev pub spells : List ℕ → Caveat → Bool
 spells text caveat = is_caveat caveat && bytes_eq text (caveat_text caveat) && nat_le (length text) 256
@@ -79,6 +93,7 @@ permits (Facility names) ask = in_slot ask.slot (λ slot. list_any (λ name. byt
 permits (Kind kind) ask = in_slot ask.slot (λ _. is_kind ask.kind kind)
 permits (Hours from until) ask = in_slot ask.slot (λ slot. nat_le from slot.hour && nat_lt slot.hour until)
 permits (Days first last) ask = in_slot ask.slot (λ slot. nat_le first slot.day && nat_le slot.day last)
+permits (Weekdays set) ask = in_slot ask.slot (λ slot. has_weekday set (weekday_of slot.day))
 permits (Until moment) ask = nat_lt ask.moment moment
 permits (Guests n) ask = nat_le ask.guests n
 permits (Spend n) ask = ask.owed == 0 || nat_le (ask.spent + ask.owed) n

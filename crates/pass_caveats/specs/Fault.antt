@@ -1,5 +1,6 @@
 -- Lists of caveats, as the texts that a pass carries.
-use Rattle.std.specs.Prelude.{◌≡◌, ℕ, ◌+◌, List, ◌∷◌, ◌++◌, length, All, Option, Some, None}
+use Rattle.std.specs.Prelude.{◌≡◌, ℕ, ◌+◌, List, ◌∷◌, ◌++◌, length, All, Option, Some, None, codes}
+use Rattle.std.specs.Fmt.{decimal}
 use Rattle.pass_caveats.specs.declared.caveat.Caveat.{Caveat}
 use Rattle.pass_caveats.specs.declared.ask.Ask.{Ask}
 use Rattle.pass_caveats.specs.declared.fault.CaveatFault.{CaveatFault}
@@ -32,8 +33,19 @@ pub record IsFirstAt (texts : List (List ℕ)) (ask : Ask) (n : ℕ) (Fault : Li
   pub before : Allowed front ask
   pub fault : Fault text
 
+-- what one text says to a request, where n is its number: none where it allows it, and else its fault
+abbrev pub IsFaultAt : List ℕ → ℕ → Ask → Option CaveatFault → Type 0
+IsFaultAt text n ask None = Allows text ask
+IsFaultAt text n ask (Some (NotUnderstood m)) = (m ≡ n) × IsUnknown text
+IsFaultAt text n ask (Some (Denied m)) = (m ≡ n) × Denies text ask
+
 -- none where the request is allowed, and else the first fault
 abbrev pub IsFirstFault : List (List ℕ) → Ask → Option CaveatFault → Type 0
 IsFirstFault texts ask None = Allowed texts ask
 IsFirstFault texts ask (Some (NotUnderstood n)) = IsFirstAt texts ask n IsUnknown
 IsFirstFault texts ask (Some (Denied n)) = IsFirstAt texts ask n (λ text. Denies text ask)
+
+-- what is told of a fault
+abbrev pub fault_text : CaveatFault → List ℕ
+fault_text (NotUnderstood n) = codes "caveat " ++ (decimal n ++ codes " not understood")
+fault_text (Denied n) = codes "caveat " ++ (decimal n ++ codes " denies")

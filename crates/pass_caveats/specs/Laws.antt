@@ -1,12 +1,11 @@
 -- Laws of the definitions.
-use Rattle.std.specs.Prelude.{◌≡◌, ◌↔◌, ℕ, IsTrue, List, ◌++◌, map, Option, Some, None}
+use Rattle.std.specs.Prelude.{◌≡◌, ◌↔◌, ℕ, ◌+◌, IsTrue, List, [], ◌∷◌, ◌++◌, length, map, Option, Some, None}
+use Rattle.std.specs.Option.{option_or}
 use Rattle.pass_caveats.specs.declared.caveat.Caveat.{Caveat}
 use Rattle.pass_caveats.specs.declared.ask.Ask.{Ask}
 use Rattle.pass_caveats.specs.declared.fault.CaveatFault.{CaveatFault}
-use Rattle.pass_caveats.specs.Day.{IsDay, SpellsDay, day_text}
-use Rattle.pass_caveats.specs.Moment.{IsMoment, SpellsMoment, moment_text}
 use Rattle.pass_caveats.specs.Caveat.{Understood, Permits}
-use Rattle.pass_caveats.specs.CaveatOf.{caveat_of, permits, first_fault_of}
+use Rattle.pass_caveats.specs.CaveatOf.{caveat_of, permits, first_fault_from, first_fault_of}
 use Rattle.pass_caveats.specs.Fault.{Allowed, IsFirstFault}
 
 -- more caveats never open more
@@ -23,6 +22,11 @@ abbrev pub FindsTheFirstFault : Type 0
 FindsTheFirstFault =
     (texts : List (List ℕ)) (ask : Ask) (fault : Option CaveatFault) → IsFirstFault texts ask fault ↔ (fault ≡ first_fault_of (map caveat_of texts) ask)
 
+-- with one more caveat the first fault is that of the caveats before it, and else that of the last one
+abbrev pub FindsTheFaultOfOneMore : Type 0
+FindsTheFaultOfOneMore =
+    (caveats : List (Option Caveat)) (caveat : Option Caveat) (ask : Ask) → first_fault_of (caveats ++ caveat ∷ []) ask ≡ option_or (first_fault_of caveats ask) (first_fault_from (length caveats + 1) (caveat ∷ []) ask)
+
 -- this function reads what is understood
 abbrev pub ReadsWhatIsUnderstood : Type 0
 ReadsWhatIsUnderstood = (text : List ℕ) (caveat : Caveat) → Understood text caveat ↔ (caveat_of text ≡ Some caveat)
@@ -34,18 +38,3 @@ TestsTheSet = (caveat : Caveat) (ask : Ask) → Permits caveat ask ↔ IsTrue (p
 -- a text is understood as one caveat at most
 abbrev pub IsUnderstoodOnce : Type 0
 IsUnderstoodOnce = (text : List ℕ) (a b : Caveat) → Understood text a → Understood text b → a ≡ b
-
--- a day's text spells the day, and no other text does
-abbrev pub IsTextOfDay : Type 0
-IsTextOfDay = (text : List ℕ) (n : ℕ) → SpellsDay text n ↔ (IsDay n × (text ≡ day_text n))
-
--- the same of moments
-abbrev pub IsTextOfMoment : Type 0
-IsTextOfMoment = (text : List ℕ) (n : ℕ) → SpellsMoment text n ↔ (IsMoment n × (text ≡ moment_text n))
-
--- no two days have one text, and no two moments
-abbrev pub TellsDays : Type 0
-TellsDays = (a b : ℕ) → IsDay a → IsDay b → day_text a ≡ day_text b → a ≡ b
-
-abbrev pub TellsMoments : Type 0
-TellsMoments = (a b : ℕ) → IsMoment a → IsMoment b → moment_text a ≡ moment_text b → a ≡ b

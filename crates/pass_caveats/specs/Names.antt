@@ -1,6 +1,6 @@
 -- Lists of names in a caveat.
 use Rattle.std.specs.Prelude.{ℕ, ◌<◌, ◌≤◌, List, length, All}
-use Rattle.pass_caveats.specs.Name.{IsName}
+use Rattle.club_values.specs.Name.{IsName}
 
 -- one to eight names (ours)
 pub record AreNames (names : List (List ℕ)) : Type 0 where

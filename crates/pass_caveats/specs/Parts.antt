@@ -25,3 +25,8 @@ is_next word (part ∷ parts) = bytes_eq part word
 abbrev pub after_next : List ℕ → List (List ℕ) → List (List ℕ)
 after_next word [] = []
 after_next word (part ∷ parts) = if bytes_eq part word then parts else part ∷ parts
+
+-- which of the words stand in the parts, where they stand in the order of their list
+abbrev pub words_found : List (List ℕ) → List (List ℕ) → List Bool
+words_found [] parts = []
+words_found (word ∷ words) parts = is_next word parts ∷ words_found words (after_next word parts)

@@ -1,9 +1,8 @@
-ghost use Rattle.std.specs.Prelude.{◌≡◌, ◌≢◌, []};
-ghost use Rattle.pass_caveats.specs.Reading.{Reads};
-ghost use Rattle.pass_caveats.specs.Parts.{joined};
+ghost use Rattle.std.specs.Prelude.{◌≡◌};
+ghost use Rattle.club_values.specs.Reading.{Reads};
 
-use crate::action::Action;
 use crate::parts::skip;
+use club_values::Action;
 
 /// A set of actions.
 #[derive(Clone, Copy, Debug, PartialEq, Eq)]
@@ -15,11 +14,11 @@ pub struct Actions {
 }
 
 impl Actions {
-    ghost use Rattle.pass_caveats.specs.Actions.{has_action, texts_of};
+    ghost use Rattle.pass_caveats.specs.Actions.{has_action, SpellsActions};
 
     /// The set of a list with commas: some of `view,book,cancel,account`, in this order; `None` for any other text.
     pub fn read(text: &[u8]) -> Option<Actions>
-        ensures { Reads (λ actions. (texts_of actions ≢ []) × (text.now ≡ joined (texts_of actions))) result }
+        ensures { Reads (SpellsActions text.now) result }
     {
         let (view, rest) = skip(Some(text), b"view");
         let (book, rest) = skip(rest, b"book");

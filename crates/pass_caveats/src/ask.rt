@@ -1,7 +1,4 @@
-use crate::action::Action;
-use crate::kind::Kind;
-use crate::moment::Moment;
-use crate::slot::Slot;
+use club_values::{Action, Kind, Moment, Slot};
 
 /// What a request asks, as caveats see it.
 #[derive(Clone, Copy, Debug, PartialEq, Eq)]

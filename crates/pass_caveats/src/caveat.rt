@@ -1,18 +1,17 @@
 ghost use Rattle.std.specs.Prelude.{◌≡◌, ◌⊎◌, ◌+◌, ◌≤◌, ◌↔◌, IsTrue};
-ghost use Rattle.pass_caveats.specs.Reading.{Reads};
+ghost use Rattle.club_values.specs.Reading.{Reads};
 ghost use Rattle.pass_caveats.specs.Caveat.{Spells, Understood, Permits};
 ghost use Rattle.pass_caveats.specs.CaveatOf.{caveat_of, permits};
 
 use crate::actions::Actions;
 use crate::ask::Ask;
-use crate::day::Day;
-use crate::kind::Kind;
 use crate::lines::{
     read_actions, read_days, read_facility, read_guests, read_hours, read_kind, read_spend,
-    read_until,
+    read_until, read_weekdays,
 };
-use crate::moment::Moment;
 use crate::names::Names;
+use crate::weekdays::Weekdays;
+use club_values::{Day, Kind, Moment};
 
 /// The most bytes of a caveat that is understood.
 pub const MAX_CAVEAT_LEN: usize = 256;
@@ -28,6 +27,8 @@ pub enum Caveat<'a> {
     Hours { from: u8, until: u8 },
     /// The slot's day lies from `first` to `last`, both included.
     Days { first: Day, last: Day },
+    /// The weekday of the slot's day is in the set.
+    Weekdays(Weekdays),
     /// The moment of the request is before this one.
     Until(Moment),
     /// No more guests than this, 0 to 49.
@@ -52,6 +53,9 @@ fn line_of(text: &[u8]) -> Option<Caveat<'_>>
     }
     if let Some((first, last)) = read_days(text) {
         return Some(Caveat::Days { first, last });
+    }
+    if let Some(weekdays) = read_weekdays(text) {
+        return Some(Caveat::Weekdays(weekdays));
     }
     if let Some(moment) = read_until(text) {
         return Some(Caveat::Until(moment));
@@ -97,6 +101,9 @@ fn is_in_set(caveat: &Caveat, ask: &Ask) -> bool
         Caveat::Days { first, last } => ask
             .slot
             .is_some_and(|slot| *first <= slot.day && slot.day <= *last),
+        Caveat::Weekdays(weekdays) => ask
+            .slot
+            .is_some_and(|slot| weekdays.contains(slot.day.weekday())),
         Caveat::Until(moment) => ask.moment < *moment,
         Caveat::Guests(guests) => ask.guests <= *guests,
         Caveat::Spend(points) => is_within(ask, u64::from(*points)),

@@ -1,10 +1,12 @@
-ghost use Rattle.std.specs.Prelude.{◌≡◌, map};
+ghost use Rattle.std.specs.Prelude.{◌≡◌, [], ◌∷◌, map};
 ghost use Rattle.std.specs.Vec.{vec_items};
-ghost use Rattle.pass_caveats.specs.Fault.{IsFirstFault};
-ghost use Rattle.pass_caveats.specs.CaveatOf.{caveat_of, first_fault_of};
+ghost use Rattle.pass_caveats.specs.Fault.{IsFaultAt, IsFirstFault};
+ghost use Rattle.pass_caveats.specs.CaveatOf.{caveat_of, first_fault_from, first_fault_of};
 
 use crate::ask::Ask;
 use crate::caveat::{allows, read};
+use std::error::Error;
+use std::fmt;
 
 /// Why a list of caveats refuses a request. The number of the caveat counts from 1.
 #[derive(Clone, Copy, Debug, PartialEq, Eq)]
@@ -15,15 +17,50 @@ pub enum CaveatFault {
     Denied(usize),
 }
 
+impl fmt::Display for CaveatFault {
+    ghost use Rattle.std.specs.Prelude.{Some};
+    ghost use Rattle.pass_caveats.specs.Fault.{fault_text};
+
+    ghost output = { λ fault. Some (fault_text fault) };
+
+    fn fmt<W: fmt::Write>(&self, f: &mut fmt::Formatter<W>) -> fmt::Result {
+        match self {
+            CaveatFault::NotUnderstood(number) => write!(f, "caveat {number} not understood"),
+            CaveatFault::Denied(number) => write!(f, "caveat {number} denies"),
+        }
+    }
+}
+
+impl Error for CaveatFault {}
+
+fn fault_of_text(text: &[u8], number: usize, ask: &Ask) -> Option<CaveatFault>
+    ensures { IsFaultAt text.now number ask.now result }
+{
+    let Some(caveat) = read(text) else {
+        return Some(CaveatFault::NotUnderstood(number));
+    };
+    if allows(&caveat, ask) {
+        None
+    } else {
+        Some(CaveatFault::Denied(number))
+    }
+}
+
+/// The fault of one caveat, whose number in its list is told; `None` where it allows the request. Whoever takes caveats one by one
+/// numbers them from 1: the first fault that is told is that of their list.
+pub fn fault_at(text: &[u8], number: usize, ask: &Ask) -> Option<CaveatFault>
+    ensures cases { IsFaultAt text.now number ask.now result }
+    ensures function { result ≡ first_fault_from number (caveat_of text.now ∷ []) ask.now }
+{
+    fault_of_text(text, number, ask)
+}
+
 fn fault_of(caveats: &[Vec<u8>], ask: &Ask) -> Option<CaveatFault>
     ensures { IsFirstFault (map vec_items caveats.now) ask.now result }
 {
     for (index, text) in caveats.iter().enumerate() {
-        let Some(caveat) = read(text) else {
-            return Some(CaveatFault::NotUnderstood(index + 1));
-        };
-        if !allows(&caveat, ask) {
-            return Some(CaveatFault::Denied(index + 1));
+        if let Some(fault) = fault_at(text, index + 1, ask) {
+            return Some(fault);
         }
     }
     None

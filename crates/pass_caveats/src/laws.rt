@@ -1,6 +1,6 @@
 //! Laws of the definitions, each the contract of a function that does nothing.
 
-ghost use Rattle.pass_caveats.specs.Laws.{Narrows, FaultsOnlyWhereNotAllowed, FindsTheFirstFault, ReadsWhatIsUnderstood, TestsTheSet, IsUnderstoodOnce, IsTextOfDay, IsTextOfMoment, TellsDays, TellsMoments};
+ghost use Rattle.pass_caveats.specs.Laws.{Narrows, FaultsOnlyWhereNotAllowed, FindsTheFirstFault, FindsTheFaultOfOneMore, ReadsWhatIsUnderstood, TestsTheSet, IsUnderstoodOnce};
 
 /// What a list of caveats allows with more caveats added, it allows without them.
 pub fn narrows()
@@ -17,6 +17,12 @@ pub fn finds_the_first_fault()
     ensures { FindsTheFirstFault }
 {}
 
+/// With one more caveat the first fault is that of the caveats before it where there is one, and else that of the last one, whose
+/// number is one more than there were before.
+pub fn finds_the_fault_of_one_more()
+    ensures { FindsTheFaultOfOneMore }
+{}
+
 /// `caveat_of` is the caveat that a text is understood as, and none where it isn't understood.
 pub fn reads_what_is_understood()
     ensures { ReadsWhatIsUnderstood }
@@ -30,24 +36,4 @@ pub fn tests_the_set()
 /// A text is understood as one caveat at most.
 pub fn is_understood_once()
     ensures { IsUnderstoodOnce }
-{}
-
-/// A day's text spells the day, and no other text does.
-pub fn is_text_of_day()
-    ensures { IsTextOfDay }
-{}
-
-/// A moment's text spells the moment, and no other text does.
-pub fn is_text_of_moment()
-    ensures { IsTextOfMoment }
-{}
-
-/// No two days have one text.
-pub fn tells_days()
-    ensures { TellsDays }
-{}
-
-/// No two moments have one text.
-pub fn tells_moments()
-    ensures { TellsMoments }
 {}

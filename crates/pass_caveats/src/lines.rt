@@ -1,16 +1,15 @@
 //! A reader for each kind of line that a caveat may be.
 
-ghost use Rattle.pass_caveats.specs.Reading.{Reads};
+ghost use Rattle.club_values.specs.Reading.{Reads};
 ghost use Rattle.pass_caveats.specs.Caveat.{Spells};
 ghost use Rattle.pass_caveats.specs.declared.caveat.Caveat.TheVariants as caveats;
 
 use crate::actions::Actions;
-use crate::day::Day;
-use crate::digits::read_two;
-use crate::kind::Kind;
-use crate::moment::Moment;
 use crate::names::Names;
 use crate::text::{after, number_of};
+use crate::weekdays::Weekdays;
+use club_values::digits::read_two;
+use club_values::{Day, Kind, Moment};
 
 /// The most guests that a caveat may name.
 const MAX_GUESTS: u32 = 49;
@@ -60,6 +59,12 @@ pub(crate) fn read_days(text: &[u8]) -> Option<(Day, Day)>
     } else {
         None
     }
+}
+
+pub(crate) fn read_weekdays(text: &[u8]) -> Option<Weekdays>
+    ensures { Reads (λ set. Spells text.now (caveats.Weekdays set)) result }
+{
+    Weekdays::read(after(text, b"weekday = ")?)
 }
 
 pub(crate) fn read_until(text: &[u8]) -> Option<Moment>

@@ -1,10 +1,10 @@
 ghost use Rattle.std.specs.Prelude.{◌≡◌, ◌↔◌, IsTrue, Contains};
-ghost use Rattle.pass_caveats.specs.Reading.{Reads};
+ghost use Rattle.club_values.specs.Reading.{Reads};
 ghost use Rattle.pass_caveats.specs.Names.{AreNames};
 ghost use Rattle.pass_caveats.specs.Parts.{joined};
 
-use crate::name::Name;
 use crate::parts::{are_all_names, count_of_parts, has_part};
+use club_values::Name;
 use std::marker::Model;
 
 /// The most names of a list in a caveat.

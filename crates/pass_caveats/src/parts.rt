@@ -1,9 +1,9 @@
 ghost use Rattle.std.specs.Prelude.{◌≡◌, ◌↔◌, ◌∷◌, IsTrue, All, Contains, length};
 ghost use Rattle.std.specs.Option.{option_copied};
-ghost use Rattle.pass_caveats.specs.Name.{IsName};
+ghost use Rattle.club_values.specs.Name.{IsName};
 ghost use Rattle.pass_caveats.specs.Parts.{parts_of, parts_left, is_next, after_next};
 
-use crate::name::Name;
+use club_values::Name;
 
 /// How many parts a text has between its commas.
 pub(crate) fn count_of_parts(text: &[u8]) -> usize
@@ -39,7 +39,8 @@ fn first_part(text: &[u8]) -> (&[u8], Option<&[u8]>)
 /// Whether the next part is the word, and what follows the word; where it isn't, all is left.
 pub(crate) fn skip<'a>(rest: Option<&'a [u8]>, word: &[u8]) -> (bool, Option<&'a [u8]>)
     ensures next { result.0 ≡ is_next word.now (parts_left (option_copied rest.entry)) }
-    ensures left { parts_left (option_copied result.1) ≡ after_next word.now (parts_left (option_copied rest.entry)) }
+    ensures left { parts_left (option_copied result.1)
+        ≡ after_next word.now (parts_left (option_copied rest.entry)) }
 {
     let Some(text) = rest else {
         return (false, None);

@@ -28,144 +28,27 @@ fn account() -> Option<Ask> {
     Some(ask)
 }
 
+/// The booking, with the slot at another hour.
+fn booking_at(hour: u8) -> Option<Ask> {
+    let mut ask = booking()?;
+    let mut slot = ask.slot?;
+    slot.hour = Hour::from_number(hour)?;
+    ask.slot = Some(slot);
+    Some(ask)
+}
+
+/// The booking, with the slot on another day.
+fn booking_on(day: u16) -> Option<Ask> {
+    let mut ask = booking()?;
+    let mut slot = ask.slot?;
+    slot.day = Day::from_number(day)?;
+    ask.slot = Some(slot);
+    Some(ask)
+}
+
 fn answer(text: &str, ask: &Ask) -> Option<bool> {
     let caveat = read(text.as_bytes())?;
     Some(allows(&caveat, ask))
-}
-
-#[test]
-fn names(rt: HostRuntime) {
-    let cases = [
-        ("a", true),
-        ("court-1", true),
-        ("0-", true),
-        ("abcdefghijklmnopqrstuvwx", true),
-        ("abcdefghijklmnopqrstuvwxy", false),
-        ("", false),
-        ("-a", false),
-        ("Court", false),
-        ("a b", false),
-    ];
-    for (text, want) in cases {
-        assert_eq!(rt; Name::is_name(text.as_bytes()), want, "{text}");
-        let name = Name::read(text.as_bytes());
-        assert_eq!(rt; name.is_some(), want, "{text}");
-        if let Some(name) = name {
-            assert_eq!(rt; name.as_str(), text);
-            assert_eq!(rt; name.as_bytes(), text.as_bytes());
-        }
-    }
-}
-
-fn day_number(text: &str) -> Option<u16> {
-    Some(Day::read(text.as_bytes())?.number())
-}
-
-/// Whether the day of a text has that text, and comes again from its number and from its date.
-fn comes_again(text: &str) -> Option<bool> {
-    let day = Day::read(text.as_bytes())?;
-    let text_again = day.text().as_slice() == text.as_bytes();
-    let number_again = Day::from_number(day.number()) == Some(day);
-    let date_again = Day::from_date(day.date()) == Some(day);
-    Some(text_again && number_again && date_again)
-}
-
-#[test]
-fn days(rt: HostRuntime) -> Result<(), Fail> {
-    let cases = [
-        ("2000-01-01", Some(10957)),
-        ("2000-02-29", Some(11016)),
-        ("2000-03-01", Some(11017)),
-        ("2024-02-29", Some(19782)),
-        ("2026-05-01", Some(20574)),
-        ("2026-12-31", Some(20818)),
-        ("2099-12-31", Some(47481)),
-        ("1999-12-31", None),
-        ("2100-01-01", None),
-        ("2026-02-29", None),
-        ("2026-04-31", None),
-        ("2026-5-01", None),
-        ("2026/05/01", None),
-        ("2026-05-011", None),
-    ];
-    for (text, want) in cases {
-        assert_eq!(rt; day_number(text), want, "{text}");
-        assert_eq!(rt; comes_again(text), want.map(|_| true), "{text}");
-    }
-    let last = Day::from_number(47_481).ok_or("a day")?;
-    assert_eq!(rt; last.year_month_day(), (2099, 12, 31));
-    assert_eq!(rt; Day::from_number(10_956), None);
-    assert_eq!(rt; Day::from_number(47_482), None);
-    Ok(())
-}
-
-#[test]
-fn moments(rt: HostRuntime) -> Result<(), Fail> {
-    let cases = [
-        ("2000-01-01T00:00", Some(15_778_080)),
-        ("2026-05-01T18:00", Some(29_627_640)),
-        ("2099-12-31T23:59", Some(68_374_079)),
-        ("2026-05-01T24:00", None),
-        ("2026-05-01T23:60", None),
-        ("2026-05-01 18:00", None),
-        ("2026-05-01T18:0", None),
-        ("2026-05-01", None),
-        ("2026-", None),
-    ];
-    for (text, want) in cases {
-        let moment = Moment::read(text.as_bytes());
-        assert_eq!(rt; moment.map(|moment| moment.number()), want, "{text}");
-        if let Some(moment) = moment {
-            assert_eq!(rt; moment.text().as_slice(), text.as_bytes());
-            assert_eq!(rt; Moment::from_number(moment.number()), Some(moment));
-            assert_eq!(rt;
-                Moment::new(moment.day(), moment.minute_of_day()),
-                Some(moment)
-            );
-        }
-    }
-    assert_eq!(rt; Moment::from_number(15_778_079), None);
-    assert_eq!(rt; Moment::from_number(68_374_080), None);
-    let day = Day::from_number(20_574).ok_or("a day")?;
-    assert_eq!(rt; Moment::new(day, 1440), None);
-    let slot = booking().ok_or("a request")?.slot.ok_or("a slot")?;
-    assert_eq!(rt; slot.start(), 29_627_640);
-    Ok(())
-}
-
-#[test]
-fn words(rt: HostRuntime) -> Result<(), Fail> {
-    let alloc = rt.alloc();
-    for text in ["court", "boat", "room"] {
-        let kind = Kind::read(text.as_bytes()).ok_or("a kind")?;
-        assert_eq!(rt; format!(in alloc; "{kind}")?.as_str(), text);
-    }
-    for text in ["view", "book", "cancel", "account"] {
-        let action = Action::read(text.as_bytes()).ok_or("an action")?;
-        assert_eq!(rt; format!(in alloc; "{action}")?.as_str(), text);
-    }
-    for (text, want) in [
-        ("00", Some(0)),
-        ("23", Some(23)),
-        ("24", None),
-        ("8", None),
-        ("0a", None),
-    ] {
-        assert_eq!(rt;
-            Hour::read(text.as_bytes()).map(|hour| hour.number()),
-            want,
-            "{text}"
-        );
-    }
-    assert_eq!(rt; Hour::from_number(24), None);
-    assert_eq!(rt; Kind::read(b"Court"), None);
-    assert_eq!(rt; Action::read(b"books"), None);
-    let slot = booking().ok_or("a request")?.slot.ok_or("a slot")?;
-    let text = format!(in alloc; "{} {} {}", slot.facility, slot.day, slot.hour)?;
-    assert_eq!(rt; text.as_str(), "court-1 2026-05-01 18");
-    let moment = Moment::read(b"2026-05-01T18:05").ok_or("a moment")?;
-    assert_eq!(rt; format!(in alloc; "{moment}")?.as_str(), "2026-05-01T18:05");
-    Ok(())
 }
 
 #[test]
@@ -194,6 +77,61 @@ fn bookings(rt: HostRuntime) -> Result<(), Fail> {
     ];
     for (text, want) in cases {
         assert_eq!(rt; answer(text, &ask), want, "{text}");
+    }
+    Ok(())
+}
+
+#[test]
+fn hours_and_moments(rt: HostRuntime) -> Result<(), Fail> {
+    for (text, hour, want) in [
+        ("hours = 18-20", 17, false),
+        ("hours = 18-20", 18, true),
+        ("hours = 18-20", 19, true),
+        ("hours = 18-20", 20, false),
+        ("hours = 00-24", 0, true),
+        ("hours = 00-24", 23, true),
+    ] {
+        let ask = booking_at(hour).ok_or("a request")?;
+        assert_eq!(rt; answer(text, &ask), Some(want), "{text} at {hour}");
+    }
+    let mut ask = booking().ok_or("a request")?;
+    ask.moment = Moment::read(b"2026-05-01T17:59").ok_or("a moment")?;
+    assert_eq!(rt; answer("until < 2026-05-01T18:00", &ask), Some(true));
+    ask.moment = Moment::read(b"2026-05-01T18:00").ok_or("a moment")?;
+    assert_eq!(rt; answer("until < 2026-05-01T18:00", &ask), Some(false));
+    Ok(())
+}
+
+#[test]
+fn days_and_weekdays(rt: HostRuntime) -> Result<(), Fail> {
+    for (text, day, want) in [
+        ("days = 2026-05-01..2026-05-01", 20_574, true),
+        ("days = 2026-05-01..2026-05-01", 20_575, false),
+        ("weekday = fri", 20_574, true),
+        ("weekday = fri", 20_575, false),
+        ("weekday = mon,tue,wed,thu,sat,sun", 20_574, false),
+        ("weekday = mon,tue,wed,thu,sat,sun", 20_575, true),
+        ("weekday = sun", 20_576, true),
+        ("weekday = mon", 20_577, true),
+        ("weekday = mon,tue,wed,thu,fri,sat,sun", 10_957, true),
+    ] {
+        let ask = booking_on(day).ok_or("a request")?;
+        assert_eq!(rt; answer(text, &ask), Some(want), "{text} on {day}");
+    }
+    let account = account().ok_or("a request")?;
+    let every_day = "weekday = mon,tue,wed,thu,fri,sat,sun";
+    assert_eq!(rt; answer(every_day, &account), Some(false));
+    for text in [
+        "weekday = tue,mon",
+        "weekday = mon,mon",
+        "weekday = Fri",
+        "weekday = ",
+        "weekday = fri,",
+        "weekday = fri, sat",
+        "weekday = friday",
+        "weekdays = fri",
+    ] {
+        assert!(rt; read(text.as_bytes()).is_none(), "{text}");
     }
     Ok(())
 }
@@ -306,5 +244,14 @@ fn first_faults(rt: HostRuntime) -> Result<(), Fail> {
     let pass = texts(alloc, &["facility = court-1", "spend <= 600"])?;
     assert_eq!(rt; first_fault(&pass, &ask), None);
     assert_eq!(rt; first_fault(&[], &ask), None);
+    let pass = texts(alloc, &["weekday = sat,sun", "weekday = fri"])?;
+    assert_eq!(rt; first_fault(&pass, &ask), Some(CaveatFault::Denied(1)));
+    let fault = fault_at(b"shoe = red", 2, &ask);
+    assert_eq!(rt; fault, Some(CaveatFault::NotUnderstood(2)));
+    assert_eq!(rt; fault_at(b"weekday = fri", 2, &ask), None);
+    let text = format!(in alloc; "{}", fault.ok_or("a fault")?)?;
+    assert_eq!(rt; text.as_str(), "caveat 2 not understood");
+    let text = format!(in alloc; "{}", CaveatFault::Denied(2))?;
+    assert_eq!(rt; text.as_str(), "caveat 2 denies");
     Ok(())
 }

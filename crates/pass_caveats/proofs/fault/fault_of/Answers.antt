@@ -1,28 +1,20 @@
 use Rattle.std.proofs.Common.{map, arith}
 use Rattle.std.specs.Vec.{vec_items}
 use Rattle.std.proofs.lemmas.List.{length-map, take_all}
-use Rattle.pass_caveats.proofs.FaultLemmas.{text_at, first_at, one_more}
+use Rattle.pass_caveats.proofs.FaultLemmas.{text_at, first_fault_at, one_more}
 use Rattle.pass_caveats.proofs.fault.fault_of.Goals as goal
 
-pub returns-in_default : goal.returns-in_default
-returns-in_default c =
+pub returns-in-Some : goal.returns-in-Some
+returns-in-Some c =
     let texts = map vec_items c.args.caveats.now in
     let here = text_at c.args.caveats.now c.loop-index.index _ _ (omega arith) c.index-caveats-index.is c.deref.ensures.value in
-    first_at texts c.args.ask.now c.loop-index.index _ _ (omega (arith, length-map c.args.caveats.now vec_items)) here c.loop-index.invariant c.in_default.ensures.understood
-
-pub returns-then-not-allows : goal.returns-then-not-allows
-returns-then-not-allows c =
-    let texts = map vec_items c.args.caveats.now in
-    let here = text_at c.args.caveats.now c.loop-index.index _ _ (omega arith) c.index-caveats-index.is c.deref.ensures.value in
-    first_at texts c.args.ask.now c.loop-index.index _ _ (omega (arith, length-map c.args.caveats.now vec_items)) here c.loop-index.invariant
-    (c.in-Some.caveat, c.in-Some.ensures.understood, λ permits. let allowed = c.allows.ensures.set.1 permits in let not = c.if-not-allows.true in cc)
+    first_fault_at texts c.args.ask.now c.loop-index.index _ _ (omega (arith, length-map c.args.caveats.now vec_items)) here c.loop-index.invariant c.in-Some.ensures.cases
 
 pub loop-index-preserved : goal.loop-index-preserved
 loop-index-preserved c =
     let texts = map vec_items c.args.caveats.now in
     let here = text_at c.args.caveats.now c.loop-index.index _ _ (omega arith) c.index-caveats-index.is c.deref.ensures.value in
-    one_more texts c.args.ask.now c.loop-index.index _ (omega (arith, length-map c.args.caveats.now vec_items)) here c.loop-index.invariant
-    (c.in-Some.caveat, c.in-Some.ensures.understood, c.allows.ensures.set.0 c.if-not-allows.false)
+    one_more texts c.args.ask.now c.loop-index.index _ (omega (arith, length-map c.args.caveats.now vec_items)) here c.loop-index.invariant c.in_default.ensures.cases
 
 pub returns : goal.returns
 returns c =

@@ -1,11 +1,18 @@
-use Rattle.std.proofs.Common.{sym, ◌∙◌}
-use Rattle.pass_caveats.proofs.PartLemmas.{skip_takes}
-use Rattle.pass_caveats.proofs.ActionLemmas.{read_to_end, nothing_left, not_read}
+use Rattle.std.proofs.Common.{[], ◌∷◌, sym, ◌∙◌, refl}
+use Rattle.club_values.specs.Action.{action_text}
+use Rattle.pass_caveats.specs.Actions.{all_actions, has_action}
+use Rattle.pass_caveats.proofs.CandidateLemmas.{action_words}
+use Rattle.pass_caveats.proofs.ChoiceLemmas.{reads_choice, no_choice, something_left, nothing_left}
 use Rattle.pass_caveats.proofs.actions.Actions.read.Goals as goal
 
 pub returns-then-is_some : goal.returns-then-is_some
 returns-then-is_some c =
-    not_read c.args.text.now c.skip-account.result.1 _ _ _ c.skip-view.ensures.left c.skip-book.ensures.left c.skip-cancel.ensures.left c.skip-account.ensures.left (sym c.is_some.ensures ∙ c.if-is_some.true)
+    let view = c.skip-view.ensures in
+    let book = c.skip-book.ensures in
+    let cancel = c.skip-cancel.ensures in
+    let account = c.skip-account.ensures in
+    let some = something_left c.skip-account.result.1 (sym c.is_some.ensures ∙ c.if-is_some.true) in
+    λ set h. no_choice action_text all_actions action_words (c.skip-view.result.0 ∷ c.skip-book.result.0 ∷ c.skip-cancel.result.0 ∷ c.skip-account.result.0 ∷ []) c.args.text.now _ some (_, view.next, view.left, (_, book.next, book.left, (_, cancel.next, cancel.left, (_, account.next, account.left, refl)))) (has_action set) h.0 h.1
 
 pub returns : goal.returns
 returns c =
@@ -14,4 +21,4 @@ returns c =
     let cancel = c.skip-cancel.ensures in
     let account = c.skip-account.ensures in
     let end = nothing_left c.skip-account.result.1 (sym c.is_some.ensures ∙ c.if-is_some.false) in
-    read_to_end c.args.text.now _ _ _ _ _ _ _ _ (skip_takes _ _ _ _ view.next view.left) (skip_takes _ _ _ _ book.next book.left) (skip_takes _ _ _ _ cancel.next cancel.left) (skip_takes _ _ _ _ account.next account.left) end
+    reads_choice (has_action _) action_text all_actions c.args.text.now (_, view.next, view.left, (_, book.next, book.left, (_, cancel.next, cancel.left, (_, account.next, account.left, end))))

@@ -1,0 +1,151 @@
+-- The date of a day by arithmetic is the calendar's.
+use Rattle.std.proofs.Common.{◌≡◌, ℕ, ◌+◌, ◌-◌, ◌*◌, ◌/◌, ◌%◌, ◌<◌, ◌≤◌, ◌≢◌, cond, Bool, true, false, nat_lt, refl, suc, ◌∙◌, ltb-true, ltb-false, sym, List, ◌++◌, drop, ap, arith, ◌^◌, ℤ, to_z, of_z, w8, w16, pos, ◌+ℤ◌}
+use Rattle.std.proofs.lemmas.Bool.Decides.{nat_tests}
+use Rattle.jiff_core.specs.Calendar.{IsCivilDate, days_from_civil, day_count}
+use Rattle.jiff_core.specs.Date.{epoch_day}
+use Rattle.jiff_core.specs.March.{march_days}
+use Rattle.jiff_core.proofs.SignedLemmas.{signed_arith, back_small}
+use Rattle.std.specs.Int.{Width}
+use mir.Val.{hbits}
+use Rattle.jiff_core.proofs.MarchLemmas.{day_count-late, day_count-early, month_and_day, day_in_month, day_in_early_month, leap_day}
+use Rattle.jiff_core.proofs.CalendarLemmas.{days_from_civil-day_count, days_in_month_bounds}
+use Rattle.club_values.specs.Day.{IsDay, IsDateOf, march_year, day_of_march_year, year_of, month_of, day_of_month, date_text, day_text, SpellsDay}
+use Rattle.jiff_core.specs.declared.civil.date.Date.{Date}
+use Rattle.jiff_core.proofs.DateLemmas.{epoch_day_injective}
+use Rattle.club_values.proofs.DateTextLemmas.{date_record}
+use Rattle.club_values.proofs.DigitLemmas.{two_digits_injective, four_digits_injective}
+
+-- a day lies in its year from March, at its place
+pub march_year_bounds : (n : ℕ) → IsDay n → (3 ≤ march_year n) × (march_year n ≤ 103) × (day_of_march_year n < 366) × (n ≡ 9556 + 365 * march_year n + march_year n / 4 + day_of_march_year n)
+march_year_bounds n h = (omega arith, omega arith, omega arith, omega arith)
+
+-- the days before a year from March
+march_days-1996 : (q : ℕ) → 3 ≤ q → q ≤ 103 → march_days (11996 + q) ≡ 4381449 + 365 * q + q / 4
+march_days-1996 q low high = omega arith
+
+-- where a year from March has 366 days, it ends in a leap year
+leap_day-march : (q r : ℕ) → 3 ≤ q → q ≤ 102 → r < 366 → (q % 4 ≢ 3 → r < 365) → r < 365 + leap_day (pos (1997 + q))
+leap_day-march q r low high leap common = grind (arith, nat_tests)
+
+days_from_civil-is : (y m d n : ℕ) → day_count (pos y) m d ≡ n + 4371953 → days_from_civil (pos y) m d ≡ pos n
+days_from_civil-is y m d n e = omega (arith, signed_arith, days_from_civil-day_count (pos y) m d)
+
+-- the date from March to December
+late_date : (q r n : ℕ) → 3 ≤ q → q ≤ 103 → r < 366 → n ≡ 9556 + 365 * q + q / 4 + r → (5 * r + 461) / 153 ≤ 12 → IsCivilDate (pos (1996 + q)) ((5 * r + 461) / 153) ((5 * r + 461) % 153 / 5 + 1) × (days_from_civil (pos (1996 + q)) ((5 * r + 461) / 153) ((5 * r + 461) % 153 / 5 + 1) ≡ pos n)
+late_date q r n low high small e late =
+    let year : pos (1996 + q) +ℤ pos 10000 ≡ pos (11996 + q) = omega (arith, signed_arith) in
+    let count = day_count-late (pos (1996 + q)) (11996 + q) ((5 * r + 461) / 153) ((5 * r + 461) % 153 / 5 + 1) year (omega arith) late (omega arith) in
+    let before = march_days-1996 q low high in
+    let place = month_and_day r small in (
+      ((omega (arith, signed_arith), omega (arith, signed_arith)), (omega arith, late), (omega arith, day_in_month (pos (1996 + q)) r late)),
+      days_from_civil-is (1996 + q) _ _ n (omega arith),
+    )
+
+-- the date in January or February
+early_date : (q r n : ℕ) → 3 ≤ q → q ≤ 102 → r < 365 + leap_day (pos (1997 + q)) → r < 366 → n ≡ 9556 + 365 * q + q / 4 + r → 12 < (5 * r + 461) / 153 → IsCivilDate (pos (1997 + q)) ((5 * r + 461) / 153 - 12) ((5 * r + 461) % 153 / 5 + 1) × (days_from_civil (pos (1997 + q)) ((5 * r + 461) / 153 - 12) ((5 * r + 461) % 153 / 5 + 1) ≡ pos n)
+early_date q r n low high fits small e early =
+    let year : pos (1997 + q) +ℤ pos 10000 ≡ pos (suc (11996 + q)) = omega (arith, signed_arith) in
+    let back : (5 * r + 461) / 153 - 12 + 12 ≡ (5 * r + 461) / 153 = omega arith in
+    let count = day_count-early (pos (1997 + q)) (11996 + q) ((5 * r + 461) / 153 - 12) ((5 * r + 461) % 153 / 5 + 1) year (omega arith) (omega arith) (omega arith) in
+    let before = march_days-1996 q low (omega arith) in
+    let place = month_and_day r small in (
+      ((omega (arith, signed_arith), omega (arith, signed_arith)), (omega arith, omega arith), (omega arith, day_in_early_month (pos (1997 + q)) r early fits)),
+      days_from_civil-is (1997 + q) _ _ n (rw back at count ∙ omega arith),
+    )
+
+dated : (q r n : ℕ) (b : Bool) → nat_lt 12 ((5 * r + 461) / 153) ≡ b → 3 ≤ q → q ≤ 103 → r < 366 → (q % 4 ≢ 3 → r < 365) → n ≤ 47481 → n ≡ 9556 + 365 * q + q / 4 + r → IsDateOf (1996 + q + cond b 1 0) (cond b ((5 * r + 461) / 153 - 12) ((5 * r + 461) / 153)) ((5 * r + 461) % 153 / 5 + 1) n
+dated q r n true test low high small common last e =
+    let early : 12 < (5 * r + 461) / 153 = ltb-true _ _ test in
+    let year : 1996 + q + 1 ≡ 1997 + q = omega arith in
+    let before : q ≤ 102 = omega arith in
+    rw year (early_date q r n low before (leap_day-march q r low before small common) small e early)
+dated q r n false test low high small common last e =
+    let late : (5 * r + 461) / 153 ≤ 12 = ltb-false _ _ test in
+    let year : 1996 + q + 0 ≡ 1996 + q = omega arith in
+    rw year (late_date q r n low high small e late)
+
+-- the date of a day is real, and has the day's number
+pub civil_date : (n : ℕ) → IsDay n → IsDateOf (year_of n) (month_of n) (day_of_month n) n
+civil_date n h =
+    let b = march_year_bounds n h in
+    dated (march_year n) (day_of_march_year n) n _ refl b.0 b.1 b.2 (λ common. omega arith) h.1 b.3
+
+-- a day has one date
+one_date : (n y m d y₂ m₂ d₂ : ℕ) → IsDateOf y m d n → IsDateOf y₂ m₂ d₂ n → (y ≡ y₂) × (m ≡ m₂) × (d ≡ d₂)
+unfolding date_record
+one_date n y m d y₂ m₂ d₂ a b =
+    let same = epoch_day_injective (date_record y m d a.0) (date_record y₂ m₂ d₂ b.0) (a.1 ∙ sym b.1) in
+    let year : pos y ≡ pos y₂ = same.0 in
+    (cc, same.1, same.2)
+
+pub date_of_day : (n : ℕ) (d : Date) → IsDay n → epoch_day d ≡ pos n → (d.year ≡ pos (year_of n)) × (d.month ≡ month_of n) × (d.day ≡ day_of_month n)
+unfolding date_record
+date_of_day n d h e =
+    let is = civil_date n h in
+    epoch_day_injective d (date_record (year_of n) (month_of n) (day_of_month n) is.0) (e ∙ sym is.1)
+
+year_bounds : (q r n : ℕ) (b : Bool) → nat_lt 12 ((5 * r + 461) / 153) ≡ b → 3 ≤ q → q ≤ 103 → r < 366 → IsDay n → n ≡ 9556 + 365 * q + q / 4 + r → (2000 ≤ 1996 + q + cond b 1 0) × (1996 + q + cond b 1 0 ≤ 2099)
+year_bounds q r n true test low high small h e =
+    let early : 12 < (5 * r + 461) / 153 = ltb-true _ _ test in
+    (omega arith, omega arith)
+year_bounds q r n false test low high small h e =
+    let late : (5 * r + 461) / 153 ≤ 12 = ltb-false _ _ test in
+    (omega arith, omega arith)
+
+pub date_bounds : (n : ℕ) → IsDay n → (2000 ≤ year_of n) × (year_of n ≤ 2099) × (month_of n ≤ 12) × (day_of_month n ≤ 31)
+date_bounds n h =
+    let b = march_year_bounds n h in
+    let years = year_bounds (march_year n) (day_of_march_year n) n _ refl b.0 b.1 b.2 h b.3 in
+    let is = (civil_date n h).0 in
+    let long = days_in_month_bounds (pos (year_of n)) (month_of n) in
+    (years.0, years.1, is.1.1, omega (arith, is.2.1))
+
+-- a number comes back from a signed type
+cast_back : (w : Width) (z : ℤ) (n : ℕ) → z ≡ pos n → n < 2 ^ hbits w → to_z w (of_z w z) ≡ pos n
+cast_back w z n e h = rw e (back_small w (pos n) h)
+
+-- the parts of a day's date, as the code gets them
+pub parts_of_day : (n : ℕ) (d : Date) (year month day : ℤ) → IsDay n → epoch_day d ≡ pos n → year ≡ d.year → month ≡ pos d.month → day ≡ pos d.day → (to_z w16 (of_z w16 year) ≡ pos (year_of n)) × (to_z w8 (of_z w8 month) ≡ pos (month_of n)) × (to_z w8 (of_z w8 day) ≡ pos (day_of_month n))
+parts_of_day n d year month day h e ey em ed =
+    let same = date_of_day n d h e in
+    let b = date_bounds n h in
+    (cast_back w16 year (year_of n) (ey ∙ same.0) (omega arith), cast_back w8 month (month_of n) (em ∙ ap pos same.1) (omega arith), cast_back w8 day (day_of_month n) (ed ∙ ap pos same.2) (omega arith))
+
+-- the text of a real date is that of its day
+pub date_text-day_text : (n y m d : ℕ) → IsDay n → IsDateOf y m d n → date_text y m d ≡ day_text n
+unfolding day_text
+date_text-day_text n y m d h is =
+    let same = one_date n y m d (year_of n) (month_of n) (day_of_month n) is (civil_date n h) in
+    rw (same.0, same.1, same.2)
+
+-- a text that spells a day is the day's text
+pub spells-day_text : (text : List ℕ) (n : ℕ) → SpellsDay text n → text ≡ day_text n
+spells-day_text text n s = s.spelled ∙ date_text-day_text n s.year s.month s.day s.within s.real
+
+pub day_text-spells : (n : ℕ) → IsDay n → SpellsDay (day_text n) n
+unfolding day_text
+day_text-spells n h =
+    record {
+      year = year_of n;
+      month = month_of n;
+      day = day_of_month n;
+      spelled = refl;
+      real = civil_date n h;
+      within = h;
+    }
+
+same_number : (y m d y₂ m₂ d₂ : ℕ) → y ≡ y₂ → m ≡ m₂ → d ≡ d₂ → days_from_civil (pos y) m d ≡ days_from_civil (pos y₂) m₂ d₂
+same_number y m d y₂ m₂ d₂ year month day = rw (year, month, day)
+
+from_pos : (a b : ℕ) → pos a ≡ pos b → a ≡ b
+from_pos a b e = cc
+
+-- no two days have one text, whatever follows
+pub day_text_injective : (a b : ℕ) (xs ys : List ℕ) → IsDay a → IsDay b → day_text a ++ xs ≡ day_text b ++ ys → a ≡ b
+unfolding day_text
+day_text_injective a b xs ys h k e =
+    let year = four_digits_injective (year_of a) (year_of b) _ _ e in
+    let month = two_digits_injective (month_of a) (month_of b) _ _ (ap (drop 5) e) in
+    let day = two_digits_injective (day_of_month a) (day_of_month b) xs ys (ap (drop 8) e) in
+    let number = sym (civil_date a h).1 ∙ (same_number _ _ _ _ _ _ year month day ∙ (civil_date b k).1) in
+    from_pos a b number

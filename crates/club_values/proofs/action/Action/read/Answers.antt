@@ -1,0 +1,8 @@
+use Rattle.std.proofs.Common.{◌≡◌}
+use Rattle.club_values.specs.declared.action.Action.{Action}
+use Rattle.club_values.specs.Action.{action_text}
+use Rattle.club_values.proofs.TextOfLemmas.{same_reading, reads_actions}
+use Rattle.club_values.proofs.action.Action.read.Goals as goal
+
+pub returns-clause-function : goal.returns-clause-function
+returns-clause-function c = same_reading (λ (action : Action). c.args.text.now ≡ action_text action) _ c.action_in.result (reads_actions c.args.text.now) c.action_in.ensures

@@ -1,0 +1,65 @@
+-- Days and their texts.
+use Rattle.std.specs.Prelude.{◌≡◌, ℕ, ◌+◌, ◌-◌, ◌*◌, ◌/◌, ◌%◌, ◌<◌, ◌≤◌, List, ◌∷◌, ◌++◌, nat_lt, if◌then◌else◌, pos}
+use Rattle.jiff_core.specs.Calendar.{IsCivilDate, days_from_civil}
+use Rattle.jiff_core.specs.declared.civil.date.Date.{Date}
+use Rattle.club_values.specs.Digits.{two_digits, four_digits}
+
+-- the days of the years 2000 to 2099, as days since 1970-01-01 (ours)
+abbrev pub IsDay : ℕ → Type 0
+IsDay n = (10957 ≤ n) × (n ≤ 47481)
+
+-- YYYY-MM-DD (RFC 3339, full-date)
+abbrev pub date_text : ℕ → ℕ → ℕ → List ℕ
+date_text year month day = four_digits year ++ 45 ∷ two_digits month ++ 45 ∷ two_digits day
+
+-- the date is real, and n is its number (proleptic Gregorian calendar, as jiff has it)
+abbrev pub IsDateOf : ℕ → ℕ → ℕ → ℕ → Type 0
+IsDateOf year month day n = IsCivilDate (pos year) month day × (days_from_civil (pos year) month day ≡ pos n)
+
+-- the text is that of a real date of these years, and n is the date's number (ours)
+pub record SpellsDay (text : List ℕ) (n : ℕ) : Type 0 where
+  pub year : ℕ
+  pub month : ℕ
+  pub day : ℕ
+  pub spelled : text ≡ date_text year month day
+  pub real : IsDateOf year month day n
+  pub within : IsDay n
+
+-- the digits of a text YYYY-MM-DD
+pub record AreDateParts (text : List ℕ) (year month day : ℕ) : Type 0 where
+  pub short_year : year < 10000
+  pub short_month : month < 100
+  pub short_day : day < 100
+  pub spelled : text ≡ date_text year month day
+
+-- the text of a date whose year has four digits
+pub record IsDateText (text : List ℕ) (date : Date) : Type 0 where
+  pub year : ℕ
+  pub same_year : date.year ≡ pos year
+  pub spelled : text ≡ date_text year date.month date.day
+
+-- The date of a day by arithmetic. Its years begin on 1 March, so that a leap day is the last of its year; day 9556 is 1996-03-01.
+-- the years since 1 March 1996
+abbrev pub march_year : ℕ → ℕ
+march_year n = (4 * (n - 9556) + 3) / 1461
+
+-- the days since 1 March
+abbrev pub day_of_march_year : ℕ → ℕ
+day_of_march_year n = n - 9556 - 1461 * march_year n / 4
+
+-- the month from 3 to 14, where 13 is January
+abbrev pub march_month : ℕ → ℕ
+march_month n = (5 * day_of_march_year n + 461) / 153
+
+abbrev pub year_of : ℕ → ℕ
+year_of n = 1996 + march_year n + (if nat_lt 12 (march_month n) then 1 else 0)
+
+abbrev pub month_of : ℕ → ℕ
+month_of n = if nat_lt 12 (march_month n) then march_month n - 12 else march_month n
+
+abbrev pub day_of_month : ℕ → ℕ
+day_of_month n = (5 * day_of_march_year n + 461) % 153 / 5 + 1
+
+-- the one text of a day
+unfoldable pub day_text : ℕ → List ℕ
+day_text n = date_text (year_of n) (month_of n) (day_of_month n)

@@ -1,0 +1,12 @@
+-- Hours of a day.
+use Rattle.std.specs.Prelude.{◌≡◌, ℕ, ◌<◌, List}
+use Rattle.club_values.specs.Digits.{two_digits}
+
+-- an hour begins a slot (ours)
+abbrev pub IsHour : ℕ → Type 0
+IsHour n = n < 24
+
+-- two digits, 00 to 23
+pub record SpellsHour (text : List ℕ) (n : ℕ) : Type 0 where
+  pub spelled : text ≡ two_digits n
+  pub within : IsHour n

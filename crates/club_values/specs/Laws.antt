@@ -1,0 +1,46 @@
+-- Laws of the definitions.
+use Rattle.std.specs.Prelude.{◌≡◌, ◌↔◌, ℕ, List, Some}
+use Rattle.club_values.specs.declared.kind.Kind.{Kind}
+use Rattle.club_values.specs.declared.action.Action.{Action}
+use Rattle.club_values.specs.Name.{IsName}
+use Rattle.club_values.specs.Kind.{kind_text}
+use Rattle.club_values.specs.Action.{action_text}
+use Rattle.club_values.specs.Day.{IsDay, SpellsDay, day_text}
+use Rattle.club_values.specs.Hour.{SpellsHour}
+use Rattle.club_values.specs.Moment.{IsMoment, SpellsMoment, moment_text}
+use Rattle.club_values.specs.TextOf.{name_of_text, kind_of_text, action_of_text, day_of_text, hour_of_text, moment_of_text}
+
+-- The functions of texts find just what the texts spell, whatever numbers stand in the list.
+-- a name is found exactly where the text is one, and it is the text
+abbrev pub ReadsNames : Type 0
+ReadsNames = (text name : List ℕ) → (name_of_text text ≡ Some name) ↔ (IsName text × (name ≡ text))
+
+abbrev pub ReadsKinds : Type 0
+ReadsKinds = (text : List ℕ) (kind : Kind) → (kind_of_text text ≡ Some kind) ↔ (text ≡ kind_text kind)
+
+abbrev pub ReadsActions : Type 0
+ReadsActions = (text : List ℕ) (action : Action) → (action_of_text text ≡ Some action) ↔ (text ≡ action_text action)
+
+abbrev pub ReadsDays : Type 0
+ReadsDays = (text : List ℕ) (n : ℕ) → (day_of_text text ≡ Some n) ↔ SpellsDay text n
+
+abbrev pub ReadsHours : Type 0
+ReadsHours = (text : List ℕ) (n : ℕ) → (hour_of_text text ≡ Some n) ↔ SpellsHour text n
+
+abbrev pub ReadsMoments : Type 0
+ReadsMoments = (text : List ℕ) (n : ℕ) → (moment_of_text text ≡ Some n) ↔ SpellsMoment text n
+
+-- a day's text spells the day, and no other text does
+abbrev pub IsTextOfDay : Type 0
+IsTextOfDay = (text : List ℕ) (n : ℕ) → SpellsDay text n ↔ (IsDay n × (text ≡ day_text n))
+
+-- the same of moments
+abbrev pub IsTextOfMoment : Type 0
+IsTextOfMoment = (text : List ℕ) (n : ℕ) → SpellsMoment text n ↔ (IsMoment n × (text ≡ moment_text n))
+
+-- no two days have one text, and no two moments
+abbrev pub TellsDays : Type 0
+TellsDays = (a b : ℕ) → IsDay a → IsDay b → day_text a ≡ day_text b → a ≡ b
+
+abbrev pub TellsMoments : Type 0
+TellsMoments = (a b : ℕ) → IsMoment a → IsMoment b → moment_text a ≡ moment_text b → a ≡ b

@@ -1,0 +1,13 @@
+pub mod Name
+pub mod NameInside
+pub mod Reading
+pub mod Digits
+pub mod Day
+pub mod Weekday
+pub mod Hour
+pub mod Moment
+pub mod Kind
+pub mod Action
+pub mod Slot
+pub mod TextOf
+pub mod Laws

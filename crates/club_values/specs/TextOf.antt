@@ -1,0 +1,71 @@
+-- The values that texts are, as functions for whoever computes with them. What they mean is said by `IsName`, `SpellsDay` and
+-- the like; the readers' contracts say both.
+use Rattle.std.specs.Prelude.{ℕ, ◌+◌, ◌-◌, ◌*◌, ◌/◌, ◌==◌, ◌&&◌, not, Bool, true, List, length, slice_index, nat_lt, nat_le, if◌then◌else◌, Option, Some, None}
+use Rattle.std.specs.List.{list_all}
+use Rattle.std.specs.Str.{bytes_eq}
+use Rattle.std.specs.Int.{is_in_range}
+use Rattle.club_values.specs.declared.kind.Kind.{Kind as AKind}
+use Rattle.club_values.specs.declared.kind.Kind.TheVariants.{Court, Boat, Room}
+use Rattle.club_values.specs.declared.action.Action.{Action}
+use Rattle.club_values.specs.declared.action.Action.TheVariants.{View, Book, Cancel, Account}
+use Rattle.club_values.specs.Name.{is_name_byte}
+use Rattle.club_values.specs.Digits.{two_digits}
+use Rattle.club_values.specs.Day.{day_text}
+use Rattle.club_values.specs.Moment.{moment_text}
+use Rattle.club_values.specs.Kind.{kind_text}
+use Rattle.club_values.specs.Action.{action_text}
+
+abbrev pub is_name : List ℕ → Bool
+is_name bytes =
+    nat_lt 0 (length bytes) && nat_le (length bytes) 24 && list_all is_name_byte bytes
+    && not (slice_index bytes 0 == 45)
+
+-- the number of the two digits at a place
+abbrev pub two_at : List ℕ → ℕ → ℕ
+two_at text i = 10 * (slice_index text i - 48) + (slice_index text (i + 1) - 48)
+
+-- the day number of a date, with years that begin on 1 March
+abbrev pub number_of_date : ℕ → ℕ → ℕ → ℕ
+number_of_date year month day =
+    let years = if nat_lt month 3 then year - 1997 else year - 1996 in
+    let march_month = if nat_lt month 3 then month + 12 else month in
+    9556 + 365 * years + years / 4 + (153 * march_month - 457) / 5 + (day - 1)
+
+-- the day, and the moment, of the digits at the front
+abbrev pub day_of : List ℕ → ℕ
+day_of text = number_of_date (100 * two_at text 0 + two_at text 2) (two_at text 5) (two_at text 8)
+
+abbrev pub moment_of : List ℕ → ℕ
+moment_of text = day_of text * 1440 + two_at text 11 * 60 + two_at text 14
+
+abbrev pub kind_of : List ℕ → AKind
+kind_of text = if slice_index text 0 == 99 then Court else (if slice_index text 0 == 98 then Boat else Room)
+
+abbrev pub action_of : List ℕ → Action
+action_of text =
+    if slice_index text 0 == 118 then View
+    else (if slice_index text 0 == 98 then Book
+    else (if slice_index text 0 == 99 then Cancel else Account))
+
+-- a value, where its text is the text
+abbrev pub where_spelled : {A : Type 0} → List ℕ → A → List ℕ → Bool → Option A
+where_spelled text value spelled fits = if fits && bytes_eq text spelled then Some value else None
+
+unfoldable pub name_of_text : List ℕ → Option (List ℕ)
+name_of_text text = if is_name text then Some text else None
+
+unfoldable pub day_of_text : List ℕ → Option ℕ
+day_of_text text = where_spelled text (day_of text) (day_text (day_of text)) (is_in_range 10957 47481 (day_of text))
+
+unfoldable pub moment_of_text : List ℕ → Option ℕ
+moment_of_text text =
+    where_spelled text (moment_of text) (moment_text (moment_of text)) (is_in_range 15_778_080 68_374_079 (moment_of text))
+
+unfoldable pub hour_of_text : List ℕ → Option ℕ
+hour_of_text text = where_spelled text (two_at text 0) (two_digits (two_at text 0)) (nat_lt (two_at text 0) 24)
+
+unfoldable pub kind_of_text : List ℕ → Option AKind
+kind_of_text text = where_spelled text (kind_of text) (kind_text (kind_of text)) true
+
+unfoldable pub action_of_text : List ℕ → Option Action
+action_of_text text = where_spelled text (action_of text) (action_text (action_of text)) true

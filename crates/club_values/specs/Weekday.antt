@@ -1,0 +1,12 @@
+-- Days of the week.
+use Rattle.std.specs.Prelude.{ℕ, ◌+◌, ◌%◌, List, [], ◌∷◌, slice_index_or}
+use Rattle.jiff_core.specs.declared.civil.weekday.Weekday.{Weekday}
+use Rattle.jiff_core.specs.declared.civil.weekday.Weekday.TheVariants.{Monday, Tuesday, Wednesday, Thursday, Friday, Saturday, Sunday}
+
+-- the week begins on Monday (ISO 8601)
+abbrev pub weekdays : List Weekday
+weekdays = Monday ∷ Tuesday ∷ Wednesday ∷ Thursday ∷ Friday ∷ Saturday ∷ Sunday ∷ []
+
+-- the weekday of a day: 1970-01-01 was a Thursday
+abbrev pub weekday_of : ℕ → Weekday
+weekday_of n = slice_index_or weekdays ((n + 3) % 7) Monday

@@ -1,0 +1,86 @@
+ghost use Rattle.std.specs.Prelude.{◌≡◌, ◌↔◌, IsSome, IfSome, Some};
+ghost use Rattle.club_values.specs.Reading.{Reads};
+ghost use Rattle.club_values.specs.Digits as digits;
+ghost use Rattle.club_values.specs.Hour.{IsHour, SpellsHour};
+ghost use Rattle.club_values.specs.TextOf.{hour_of_text};
+
+use crate::ascii::text_of;
+use crate::digits::{read_two, two_digits};
+use std::fmt;
+use std::marker::Model;
+
+/// The hours of a day.
+pub(crate) const HOURS_A_DAY: u8 = 24;
+
+/// An hour of a day, 0 to 23. Contracts see it as its number.
+#[derive(Clone, Copy, Debug, PartialEq, Eq, PartialOrd, Ord)]
+pub struct Hour {
+    number: u8,
+}
+
+impl Model for Hour {
+    ghost use Rattle.std.specs.Prelude.{ℕ};
+
+    ghost Value = { ℕ };
+
+    ghost use Rattle.club_values.specs.Hour.{IsHour};
+
+    ghost view = { λ hour. hour.number };
+
+    ghost invariant = { λ hour. IsHour hour.number };
+
+    ghost inverse = { λ n. record { number = n } };
+}
+
+fn hour_in(text: &[u8]) -> Option<Hour>
+    ensures { Reads (SpellsHour text.now) result }
+{
+    let [tens, ones] = *text else { return None };
+    Hour::from_number(read_two(tens, ones)?)
+}
+
+impl Hour {
+    /// The hour with this number; `None` from 24 on.
+    pub fn from_number(number: u8) -> Option<Hour>
+        ensures within { IsSome result ↔ IsHour number }
+        ensures value { IfSome result (λ hour. hour ≡ number) }
+    {
+        if number < HOURS_A_DAY {
+            Some(Hour { number })
+        } else {
+            None
+        }
+    }
+
+    /// The number of the hour.
+    pub fn number(self) -> u8
+        ensures value { result ≡ self }
+        ensures within { IsHour result }
+    {
+        self.number
+    }
+
+    /// The hour of a text of two digits, `00` to `23`; `None` for any other.
+    pub fn read(text: &[u8]) -> Option<Hour>
+        ensures spelled { Reads (SpellsHour text.now) result }
+        ensures function { result ≡ hour_of_text text.now }
+    {
+        hour_in(text)
+    }
+
+    /// The text of two digits.
+    pub fn text(self) -> [u8; 2]
+        ensures value { result ≡ digits.two_digits self }
+        ensures spelled { SpellsHour result self }
+    {
+        two_digits(self.number)
+    }
+}
+
+impl fmt::Display for Hour {
+    ghost output = { λ hour. Some (digits.two_digits hour) };
+
+    fn fmt<W: fmt::Write>(&self, f: &mut fmt::Formatter<W>) -> fmt::Result {
+        f.write_str(text_of(&self.text()))
+    }
+}

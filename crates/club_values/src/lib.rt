@@ -1,0 +1,26 @@
+//! The values of the club's texts: names, kinds, actions, days, hours, moments and slots, each with its one text. Nothing here
+//! takes memory.
+#![tactic(auto)]
+
+mod action;
+pub mod ascii;
+mod day;
+pub mod digits;
+mod hour;
+mod kind;
+pub mod laws;
+mod moment;
+mod name;
+mod slot;
+
+pub use action::Action;
+pub use day::Day;
+pub use hour::Hour;
+pub use jiff::civil::Weekday;
+pub use kind::Kind;
+pub use moment::{MINUTES_A_DAY, Moment};
+pub use name::{MAX_NAME_LEN, Name};
+pub use slot::Slot;
+
+#[cfg(test)]
+mod tests;

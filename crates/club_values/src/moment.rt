@@ -1,0 +1,154 @@
+ghost use Rattle.std.specs.Prelude.{◌≡◌, ◌+◌, ◌*◌, ◌/◌, ◌%◌, ◌<◌, ◌↔◌, IsSome, IfSome, Some};
+ghost use Rattle.club_values.specs.Reading.{Reads};
+ghost use Rattle.club_values.specs.Day.{IsDay};
+ghost use Rattle.club_values.specs.Moment.{IsMoment, SpellsTime, SpellsMoment, moment_text};
+ghost use Rattle.club_values.specs.TextOf.{moment_of_text};
+
+use crate::ascii::text_of;
+use crate::day::Day;
+use crate::digits::{read_two, two_digits};
+use crate::hour::HOURS_A_DAY;
+use std::fmt;
+use std::marker::Model;
+
+/// The minutes of a day.
+pub const MINUTES_A_DAY: u16 = 1440;
+
+/// The minutes of an hour.
+pub(crate) const MINUTES_AN_HOUR: u16 = 60;
+
+/// The number of the first moment, 2000-01-01T00:00.
+const FIRST_MOMENT: u32 = 15_778_080;
+
+/// The number of the last moment, 2099-12-31T23:59.
+const LAST_MOMENT: u32 = 68_374_079;
+
+/// A civil minute from 2000-01-01T00:00 to 2099-12-31T23:59. Contracts see it as its number, the minutes since
+/// 1970-01-01T00:00. Moments are ordered in time.
+#[derive(Clone, Copy, Debug, PartialEq, Eq, PartialOrd, Ord)]
+pub struct Moment {
+    number: u32,
+}
+
+impl Model for Moment {
+    ghost use Rattle.std.specs.Prelude.{ℕ};
+
+    ghost Value = { ℕ };
+
+    ghost use Rattle.club_values.specs.Moment.{IsMoment};
+
+    ghost view = { λ moment. moment.number };
+
+    ghost invariant = { λ moment. IsMoment moment.number };
+
+    ghost inverse = { λ n. record { number = n } };
+}
+
+/// The minute of the day of a text `THH:MM`.
+fn minute_of(text: &[u8]) -> Option<u16>
+    ensures { Reads (SpellsTime text.now) result }
+{
+    let [b'T', h1, h2, b':', m1, m2] = *text else {
+        return None;
+    };
+    let hour = read_two(h1, h2)?;
+    let minute = u16::from(read_two(m1, m2)?);
+    if hour < HOURS_A_DAY && minute < MINUTES_AN_HOUR {
+        Some(u16::from(hour) * MINUTES_AN_HOUR + minute)
+    } else {
+        None
+    }
+}
+
+fn moment_in(text: &[u8]) -> Option<Moment>
+    ensures { Reads (SpellsMoment text.now) result }
+{
+    if text.len() < 10 {
+        return None;
+    }
+    let (date, time) = text.split_at(10);
+    let day = Day::read(date)?;
+    let minute = minute_of(time)?;
+    Moment::new(day, minute)
+}
+
+impl Moment {
+    /// The moment with this number of minutes since 1970-01-01T00:00; `None` out of range.
+    pub fn from_number(number: u32) -> Option<Moment>
+        ensures within { IsSome result ↔ IsMoment number }
+        ensures value { IfSome result (λ moment. moment ≡ number) }
+    {
+        if number < FIRST_MOMENT || number > LAST_MOMENT {
+            return None;
+        }
+        Some(Moment { number })
+    }
+
+    /// The moment at a minute of a day; `None` from minute 1,440 on.
+    pub fn new(day: Day, minute: u16) -> Option<Moment>
+        ensures within { IsSome result ↔ (minute < 1440) }
+        ensures value { IfSome result (λ moment. moment ≡ day * 1440 + minute) }
+    {
+        if minute >= MINUTES_A_DAY {
+            return None;
+        }
+        Some(Moment {
+            number: u32::from(day.number()) * u32::from(MINUTES_A_DAY) + u32::from(minute),
+        })
+    }
+
+    /// The minutes since 1970-01-01T00:00.
+    pub fn number(self) -> u32
+        ensures value { result ≡ self }
+        ensures within { IsMoment result }
+    {
+        self.number
+    }
+
+    /// The day of the moment.
+    pub fn day(self) -> Day
+        ensures value { result ≡ self / 1440 }
+        ensures within { IsDay result }
+    {
+        let number = self.number / u32::from(MINUTES_A_DAY);
+        Day::from_number(number as u16).unwrap()
+    }
+
+    /// The minutes since the day began, 0 to 1,439.
+    pub fn minute_of_day(self) -> u16
+        ensures value { result ≡ self % 1440 }
+        ensures within { result < 1440 }
+    {
+        (self.number % u32::from(MINUTES_A_DAY)) as u16
+    }
+
+    /// The moment of a text `YYYY-MM-DDTHH:MM`; `None` where the text is no moment in range.
+    pub fn read(text: &[u8]) -> Option<Moment>
+        ensures spelled { Reads (SpellsMoment text.now) result }
+        ensures function { result ≡ moment_of_text text.now }
+    {
+        moment_in(text)
+    }
+
+    /// The text `YYYY-MM-DDTHH:MM`.
+    pub fn text(self) -> [u8; 16]
+        ensures value { result ≡ moment_text self }
+        ensures spelled { SpellsMoment result self }
+    {
+        let minute = self.minute_of_day();
+        let [h1, h2] = two_digits((minute / MINUTES_AN_HOUR) as u8);
+        let [m1, m2] = two_digits((minute % MINUTES_AN_HOUR) as u8);
+        let [y1, y2, y3, y4, dash1, o1, o2, dash2, d1, d2] = self.day().text();
+        [
+            y1, y2, y3, y4, dash1, o1, o2, dash2, d1, d2, b'T', h1, h2, b':', m1, m2,
+        ]
+    }
+}
+
+impl fmt::Display for Moment {
+    ghost output = { λ moment. Some (moment_text moment) };
+
+    fn fmt<W: fmt::Write>(&self, f: &mut fmt::Formatter<W>) -> fmt::Result {
+        f.write_str(text_of(&self.text()))
+    }
+}

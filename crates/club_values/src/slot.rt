@@ -1,0 +1,27 @@
+ghost use Rattle.std.specs.Prelude.{◌≡◌, ◌≤◌};
+
+use crate::day::Day;
+use crate::hour::Hour;
+use crate::moment::{MINUTES_A_DAY, MINUTES_AN_HOUR};
+use crate::name::Name;
+
+/// An hour of a facility on a day.
+#[derive(Clone, Copy, Debug, PartialEq, Eq)]
+pub struct Slot {
+    pub facility: Name,
+    pub day: Day,
+    pub hour: Hour,
+}
+
+impl Slot {
+    ghost use Rattle.club_values.specs.Slot.{start_of};
+
+    /// The minute at which the slot begins, counted from 1970-01-01T00:00.
+    pub fn start(&self) -> u32
+        ensures value { result ≡ start_of self.now }
+        ensures bound { result ≤ 68_374_020 }
+    {
+        u32::from(self.day.number()) * u32::from(MINUTES_A_DAY)
+            + u32::from(self.hour.number()) * u32::from(MINUTES_AN_HOUR)
+    }
+}

@@ -1,0 +1,184 @@
+-- Some words of a list, in its order: how the text of them is read, word after word.
+use Rattle.std.proofs.Common.{◌≡◌, ◌≢◌, ℕ, ◌<◌, Bool, true, false, cond, List, [], ◌∷◌, ◌++◌, length, map, Option, Some, None, refl, sym, ap, ◌∙◌, arith, Decides, Bor}
+use Rattle.std.specs.Prelude.{◌==◌, ◌&&◌, ◌||◌, not, filter, is_some, All}
+use Rattle.std.specs.Option.{option_copied}
+use Rattle.std.specs.List.{list_all}
+use Rattle.std.specs.Str.{bytes_eq}
+use Rattle.std.proofs.lemmas.Bool.Decides.{Decides-by_and}
+use Rattle.std.proofs.lemmas.List.{length-map, append-nil}
+use Rattle.std.proofs.lemmas.List.Elements.{All-head, All-tail, All-nil, All-cons}
+use Rattle.std.proofs.lemmas.Slice.Eq.{bytes_eq-Decides}
+use Rattle.pass_caveats.specs.Parts.{parts_of, joined, parts_left, is_next, after_next, words_found}
+use Rattle.pass_caveats.proofs.PartLemmas.{HasNoComma, parts_of-joined, joined-parts_of, some_part, skip_takes}
+
+-- the words whose flag is set
+abbrev chosen : List Bool → List (List ℕ) → List (List ℕ)
+chosen [] words = []
+chosen (flag ∷ flags) [] = []
+chosen (flag ∷ flags) (word ∷ words) = cond flag (word ∷ chosen flags words) (chosen flags words)
+
+with_item : {A : Type 0} (flag : Bool) (text : A → List ℕ) (x : A) (xs : List A) → map text (cond flag (x ∷ xs) xs) ≡ cond flag (text x ∷ map text xs) (map text xs)
+with_item true text x xs = refl
+with_item false text x xs = refl
+
+chosen_is : {A : Type 0} (test : A → Bool) (text : A → List ℕ) (xs : List A) → map text (filter test xs) ≡ chosen (map test xs) (map text xs)
+chosen_is test text [] = refl
+chosen_is test text (x ∷ xs) =
+    with_item (test x) text x (filter test xs)
+    ∙ ap (λ (texts : List (List ℕ)). cond (test x) (text x ∷ texts) texts) (chosen_is test text xs)
+
+-- words that differ, and have no comma
+abbrev is_among : List ℕ → List (List ℕ) → Bool
+is_among word [] = false
+is_among word (other ∷ others) = bytes_eq other word || is_among word others
+
+abbrev are_distinct : List (List ℕ) → Bool
+are_distinct [] = true
+are_distinct (word ∷ words) = not (is_among word words) && are_distinct words
+
+abbrev are_plain : List (List ℕ) → Bool
+are_plain words = list_all (list_all (λ byte. not (byte == 44))) words
+
+pub record AreWords {A : Type 0} (text : A → List ℕ) (xs : List A) : Type 0 where
+  pub distinct : are_distinct (map text xs) ≡ true
+  pub plain : are_plain (map text xs) ≡ true
+
+both : (a b : Bool) → (a && b) ≡ true → (a ≡ true) × (b ≡ true)
+both true b e = (refl, e)
+both false b e = absurd (cc)
+
+neither : (a b : Bool) → (a || b) ≡ false → (a ≡ false) × (b ≡ false)
+neither true b e = absurd (cc)
+neither false b e = (refl, e)
+
+denied : (a : Bool) → not a ≡ true → a ≡ false
+denied true e = absurd (cc)
+denied false e = refl
+
+refused : (a : Bool) → a ≡ false → not a ≡ true
+refused true e = absurd (cc)
+refused false e = refl
+
+-- a word that isn't among the words isn't the first of them
+next_by : (flag : Bool) (word other : List ℕ) (rest : List (List ℕ)) → bytes_eq other word ≡ false → is_next word rest ≡ false → is_next word (cond flag (other ∷ rest) rest) ≡ false
+next_by true word other rest differs none = differs
+next_by false word other rest differs none = none
+
+not_next : (word : List ℕ) (flags : List Bool) (words : List (List ℕ)) → is_among word words ≡ false → is_next word (chosen flags words) ≡ false
+not_next word [] words none = refl
+not_next word (flag ∷ flags) [] none = refl
+not_next word (flag ∷ flags) (other ∷ others) none =
+    let apart = neither (bytes_eq other word) (is_among word others) none in
+    next_by flag word other (chosen flags others) apart.0 (not_next word flags others apart.1)
+
+all_left : (word : List ℕ) (parts : List (List ℕ)) → is_next word parts ≡ false → after_next word parts ≡ parts
+all_left word [] e = refl
+all_left word (part ∷ parts) e = rw e refl
+
+-- what is left behind all words
+abbrev left_after : List (List ℕ) → List (List ℕ) → List (List ℕ)
+left_after [] parts = parts
+left_after (word ∷ words) parts = left_after words (after_next word parts)
+
+-- chosen words are found again, and nothing is left
+found_again : (flags : List Bool) (words : List (List ℕ)) → length flags ≡ length words → are_distinct words ≡ true → (words_found words (chosen flags words) ≡ flags) × (left_after words (chosen flags words) ≡ [])
+found_again [] [] same distinct = (refl, refl)
+found_again [] (word ∷ words) same distinct = absurd (omega arith)
+found_again (flag ∷ flags) [] same distinct = absurd (omega arith)
+found_again (true ∷ flags) (word ∷ words) same distinct =
+    let rest = found_again flags words (omega arith) (both (not (is_among word words)) (are_distinct words) distinct).1 in
+    let this : bytes_eq word word ≡ true = (bytes_eq-Decides word word).1 refl in
+    (rw this (ap (λ (found : List Bool). true ∷ found) rest.0), rw this rest.1)
+found_again (false ∷ flags) (word ∷ words) same distinct =
+    let apart = both (not (is_among word words)) (are_distinct words) distinct in
+    let rest = found_again flags words (omega arith) apart.1 in
+    let other = not_next word flags words (denied (is_among word words) apart.0) in
+    let left = all_left word (chosen flags words) other in
+    (rw (other, left) (ap (λ (found : List Bool). false ∷ found) rest.0), rw left rest.1)
+
+-- the steps of a reader: for each word its flag, and what is left behind it
+abbrev pub Steps : List Bool → List (List ℕ) → List (List ℕ) → List (List ℕ) → Type 0
+Steps [] [] parts last = parts ≡ last
+Steps [] (word ∷ words) parts last = ⊥
+Steps (flag ∷ flags) [] parts last = ⊥
+Steps (flag ∷ flags) (word ∷ words) parts last =
+    (next : List (List ℕ)) × (flag ≡ is_next word parts) × (next ≡ after_next word parts) × Steps flags words next last
+
+front_of : (flag : Bool) (word : List ℕ) (front rest : List (List ℕ)) → cond flag (word ∷ (front ++ rest)) (front ++ rest) ≡ cond flag (word ∷ front) front ++ rest
+front_of true word front rest = refl
+front_of false word front rest = refl
+
+steps_take : (flags : List Bool) (words parts last : List (List ℕ)) → Steps flags words parts last → parts ≡ chosen flags words ++ last
+steps_take [] [] parts last e = e
+steps_take [] (word ∷ words) parts last e = absurd e
+steps_take (flag ∷ flags) [] parts last e = absurd e
+steps_take (flag ∷ flags) (word ∷ words) parts last s =
+    skip_takes word parts s.0 flag s.1 s.2
+    ∙ (ap (λ (next : List (List ℕ)). cond flag (word ∷ next) next) (steps_take flags words s.0 last s.3) ∙ front_of flag word (chosen flags words) last)
+
+steps_leave : (flags : List Bool) (words parts last : List (List ℕ)) → Steps flags words parts last → last ≡ left_after words parts
+steps_leave [] [] parts last e = sym e
+steps_leave [] (word ∷ words) parts last e = absurd e
+steps_leave (flag ∷ flags) [] parts last e = absurd e
+steps_leave (flag ∷ flags) (word ∷ words) parts last s = rw s.2 at (steps_leave flags words s.0 last s.3)
+
+plain_words : (words : List (List ℕ)) → are_plain words ≡ true → All HasNoComma words
+plain_words words e =
+    let byte : (n : ℕ) → Decides (not (n == 44)) ((n == 44) ≡ false) = λ n. (denied (n == 44), refused (n == 44)) in
+    let word : (w : List ℕ) → Decides (list_all (λ n. not (n == 44)) w) (HasNoComma w) = λ w. Decides-by_and _ _ (list_all (λ n. not (n == 44))) byte refl (λ _ _. refl) w in
+    (Decides-by_and _ _ (list_all (list_all (λ n. not (n == 44)))) word refl (λ _ _. refl) words).0 e
+
+chosen_by : (flag : Bool) (word : List ℕ) (rest : List (List ℕ)) → HasNoComma word → All HasNoComma rest → All HasNoComma (cond flag (word ∷ rest) rest)
+chosen_by true word rest h k = All-cons HasNoComma word rest h k
+chosen_by false word rest h k = k
+
+chosen_plain : (flags : List Bool) (words : List (List ℕ)) → All HasNoComma words → All HasNoComma (chosen flags words)
+chosen_plain [] words h = All-nil HasNoComma
+chosen_plain (flag ∷ flags) [] h = All-nil HasNoComma
+chosen_plain (flag ∷ flags) (word ∷ words) h =
+    chosen_by flag word (chosen flags words) (All-head HasNoComma word words h) (chosen_plain flags words (All-tail HasNoComma word words h))
+
+some_of : (parts : List (List ℕ)) → parts ≢ [] → 0 < length parts
+some_of [] h = absurd (h refl)
+some_of (part ∷ parts) h = omega arith
+
+-- what is chosen is the list of the parts of its text
+parts_again : (flags : List Bool) (words : List (List ℕ)) → are_plain words ≡ true → chosen flags words ≢ [] → parts_of (joined (chosen flags words)) ≡ chosen flags words
+parts_again flags words plain some =
+    parts_of-joined (chosen flags words) (some_of (chosen flags words) some) (chosen_plain flags words (plain_words words plain))
+
+same_length : {A : Type 0} (test : A → Bool) (text : A → List ℕ) (xs : List A) → length (map test xs) ≡ length (map text xs)
+same_length test text xs = length-map xs test ∙ sym (length-map xs text)
+
+-- a text that was read to its end is that of the items
+pub reads_choice : {A : Type 0} (test : A → Bool) (text : A → List ℕ) (xs : List A) (t : List ℕ) → Steps (map test xs) (map text xs) (parts_of t) [] → (map text (filter test xs) ≢ []) × (t ≡ joined (map text (filter test xs)))
+reads_choice test text xs t steps =
+    let parts : parts_of t ≡ map text (filter test xs) =
+    steps_take (map test xs) (map text xs) (parts_of t) [] steps ∙ (append-nil (chosen (map test xs) (map text xs)) ∙ sym (chosen_is test text xs)) in
+    ((λ none. absurd (omega (arith, some_part t, ap (length {A = List ℕ}) (parts ∙ none)))), sym (joined-parts_of t) ∙ ap joined parts)
+
+-- a text of which something was left is that of no items
+pub no_choice : {A : Type 0} (text : A → List ℕ) (xs : List A) → AreWords text xs → (found : List Bool) (t : List ℕ) (last : List (List ℕ)) → last ≢ [] → Steps found (map text xs) (parts_of t) last → (test : A → Bool) → map text (filter test xs) ≢ [] → t ≡ joined (map text (filter test xs)) → ⊥
+no_choice text xs are found t last some steps test chooses e =
+    let items = chosen_is test text xs in
+    let is : t ≡ joined (chosen (map test xs) (map text xs)) = e ∙ ap joined items in
+    let parts : parts_of t ≡ chosen (map test xs) (map text xs) = ap parts_of is ∙ parts_again (map test xs) (map text xs) are.plain (λ none. chooses (items ∙ none)) in
+    some (steps_leave found (map text xs) (parts_of t) last steps
+    ∙ (ap (left_after (map text xs)) parts ∙ (found_again (map test xs) (map text xs) (same_length test text xs) are.distinct).1))
+
+-- the words that are found in a text are those of its items
+pub choice_again : {A : Type 0} (test : A → Bool) (text : A → List ℕ) (xs : List A) → AreWords text xs → map text (filter test xs) ≢ [] → words_found (map text xs) (parts_of (joined (map text (filter test xs)))) ≡ map test xs
+choice_again test text xs are chooses =
+    let items = chosen_is test text xs in
+    ap (λ (texts : List (List ℕ)). words_found (map text xs) (parts_of (joined texts))) items
+    ∙ (ap (words_found (map text xs)) (parts_again (map test xs) (map text xs) are.plain (λ none. chooses (items ∙ none)))
+    ∙ (found_again (map test xs) (map text xs) (same_length test text xs) are.distinct).0)
+
+-- the two ends of a reader
+pub something_left : (rest : Option (Bor (List ℕ))) → is_some rest ≡ true → parts_left (option_copied rest) ≢ []
+something_left (Some text) e none = absurd (omega (arith, some_part text.now, ap (length {A = List ℕ}) none))
+something_left None e none = cc
+
+pub nothing_left : (rest : Option (Bor (List ℕ))) → is_some rest ≡ false → parts_left (option_copied rest) ≡ []
+nothing_left (Some text) e = cc
+nothing_left None e = refl

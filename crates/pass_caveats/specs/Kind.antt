@@ -1,9 +1,0 @@
--- The kinds of facilities, and their texts (ours).
-use Rattle.std.specs.Prelude.{ℕ, List, codes}
-use Rattle.pass_caveats.specs.declared.kind.Kind.{Kind}
-use Rattle.pass_caveats.specs.declared.kind.Kind.TheVariants.{Court, Boat, Room}
-
-abbrev pub kind_text : Kind → List ℕ
-kind_text Court = codes "court"
-kind_text Boat = codes "boat"
-kind_text Room = codes "room"
