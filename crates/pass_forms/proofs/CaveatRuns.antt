@@ -3,7 +3,7 @@ use Rattle.std.proofs.Common.{◌≡◌, ℕ, zero, suc, ◌+◌, Bool, true, fa
 use Rattle.std.specs.List.{list_any}
 use Rattle.std.proofs.lemmas.List.{append-nil}
 use Rattle.pass_forms.specs.Caveats.{Counts, and_others, caveats_at, seen}
-use Rattle.pass_forms.specs.Pass.{WideCaveat, is_third_party, narrowed_caveat}
+use Rattle.pass_forms.specs.Pass.{WideCaveat, is_third_party, first_party_caveat}
 
 abbrev pub Reader : Type 0
 Reader = List ℕ → Option (WideCaveat × List ℕ)
@@ -83,23 +83,17 @@ one_left at count third_party rest fuel less whole told e is_told kept =
     subst (λ (t : List ℕ × Bool × List ℕ). Keeps (count + 1) (third_party || t.1) (caveats_at at less t.2) whole) s.2
     (keeps_one count third_party s.0.0 (caveats_at at less s.0.1) whole split)
 
--- ---- the identifiers
+-- ---- the identifiers of the caveats that are left
 
--- Where no caveat follows, those so far are all of them.
-pub none_named : (at : Reader) (front whole : List (List ℕ)) (rest : List ℕ) (fuel : ℕ) → option_map seen None ≡ option_map seen (at rest) → front ++ map narrowed_caveat (caveats_at at fuel rest).0 ≡ whole → front ≡ whole
-none_named at front whole rest fuel told kept =
-    sym (append-nil front) ∙ ap (λ (left : List WideCaveat × List ℕ). front ++ map narrowed_caveat left.0) (sym (none_follow at fuel rest (seen_none (at rest) told))) ∙ kept
-
-pub no_fuel_named : (at : Reader) (front whole : List (List ℕ)) (rest : List ℕ) (fuel : ℕ) → fuel ≡ 0 → front ++ map narrowed_caveat (caveats_at at fuel rest).0 ≡ whole → front ≡ whole
+pub none_counted : (at : Reader) (count : ℕ) (rest : List ℕ) → count ≡ 0 → map first_party_caveat (caveats_at at count rest).0 ≡ []
 unfolding caveats_at
-no_fuel_named at front whole rest fuel e kept =
-    sym (append-nil front) ∙ ap (λ (n : ℕ). front ++ map narrowed_caveat (caveats_at at n rest).0) (sym e) ∙ kept
+none_counted at count rest e = rw e refl
 
-pub one_named : (at : Reader) (front whole : List (List ℕ)) (rest : List ℕ) (fuel less : ℕ) (told : List ℕ × Bool × List ℕ) → fuel ≡ suc less → Some told ≡ option_map seen (at rest) → front ++ map narrowed_caveat (caveats_at at fuel rest).0 ≡ whole → (front ++ told.0 ∷ []) ++ map narrowed_caveat (caveats_at at less told.2).0 ≡ whole
-one_named at front whole rest fuel less told e is_told kept =
+pub none_found : (at : Reader) (count : ℕ) (rest : List ℕ) → option_map seen None ≡ option_map seen (at rest) → map first_party_caveat (caveats_at at count rest).0 ≡ []
+none_found at count rest told = rw (none_follow at count rest (seen_none (at rest) told)) refl
+
+pub one_found : (at : Reader) (count less : ℕ) (rest : List ℕ) (told : List ℕ × Bool × List ℕ) → count ≡ suc less → Some told ≡ option_map seen (at rest) → map first_party_caveat (caveats_at at count rest).0 ≡ told.0 ∷ map first_party_caveat (caveats_at at less told.2).0
+one_found at count less rest told e is_told =
     let s = seen_some (at rest) told is_told in
-    let split : caveats_at at fuel rest ≡ (s.0.0 ∷ (caveats_at at less s.0.1).0, (caveats_at at less s.0.1).1) = one_more at fuel less rest s.0 e s.1 in
-    let same : (front ++ narrowed_caveat s.0.0 ∷ []) ++ map narrowed_caveat (caveats_at at less s.0.1).0 ≡ whole =
-    append_assoc front (narrowed_caveat s.0.0 ∷ []) (map narrowed_caveat (caveats_at at less s.0.1).0)
-    ∙ ap (λ (left : List WideCaveat × List ℕ). front ++ map narrowed_caveat left.0) (sym split) ∙ kept in
-    subst (λ (t : List ℕ × Bool × List ℕ). (front ++ t.0 ∷ []) ++ map narrowed_caveat (caveats_at at less t.2).0 ≡ whole) s.2 same
+    let one : map first_party_caveat (caveats_at at count rest).0 ≡ first_party_caveat s.0.0 ∷ map first_party_caveat (caveats_at at less s.0.1).0 = rw (one_more at count less rest s.0 e s.1) refl in
+    subst (λ (t : List ℕ × Bool × List ℕ). map first_party_caveat (caveats_at at count rest).0 ≡ t.0 ∷ map first_party_caveat (caveats_at at less t.2).0) s.2 one

@@ -6,40 +6,41 @@ use Rattle.std.proofs.lemmas.List.{length-map}
 use Rattle.std.proofs.lemmas.Bool.{ltb-true, ltb-false, le-ltb, lt-ltb}
 use Rattle.pass_forms.specs.declared.fault.FormFault.{FormFault}
 use Rattle.pass_forms.specs.declared.fault.FormFault.TheVariants.{TooLong, Malformed, ThirdParty, TooMany, Memory}
-use Rattle.pass_forms.specs.Pass.{Plain, WideCaveat, WidePass, is_third_party, has_third_party, widened_caveat, widened, narrowed_caveat, narrowed}
-use Rattle.pass_forms.specs.Reading.{max_text_len, max_caveats, IsReading, UnlessMemory, judged_if_any, reading_of}
+use Rattle.pass_forms.specs.Pass.{Plain, WideCaveat, WidePass, is_third_party, has_third_party, widened_caveat, widened, first_party_caveat, first_party}
+use Rattle.pass_forms.proofs.Digits.{some_is}
+use Rattle.pass_forms.specs.Reading.{max_text_len, max_caveats, IsReading, judged_if_any, reading_of}
 
 -- ---- a wide pass with no third party's caveat is a pass
 
-first_party : (identifier : List ℕ) (verifier_id location : Option (List ℕ)) → (is_some verifier_id || is_some location) ≡ false → ◌≡◌ {A = WideCaveat} (widened_caveat identifier) (record { identifier = identifier; verifier_id = verifier_id; location = location })
-first_party identifier None None e = refl
-first_party identifier None (Some location) e = absurd cc
-first_party identifier (Some verifier_id) location e = absurd cc
+is_first_party : (identifier : List ℕ) (verifier_id location : Option (List ℕ)) → (is_some verifier_id || is_some location) ≡ false → ◌≡◌ {A = WideCaveat} (widened_caveat identifier) (record { identifier = identifier; verifier_id = verifier_id; location = location })
+is_first_party identifier None None e = refl
+is_first_party identifier None (Some location) e = absurd cc
+is_first_party identifier (Some verifier_id) location e = absurd cc
 
 neither : (a b : Bool) → (a || b) ≡ false → (a ≡ false) × (b ≡ false)
 neither true b e = absurd cc
 neither false b e = (refl, e)
 
-all_first_party : (caveats : List WideCaveat) → list_any is_third_party caveats ≡ false → map widened_caveat (map narrowed_caveat caveats) ≡ caveats
+all_first_party : (caveats : List WideCaveat) → list_any is_third_party caveats ≡ false → map widened_caveat (map first_party_caveat caveats) ≡ caveats
 all_first_party [] e = refl
 all_first_party (caveat ∷ caveats) e =
     let both = neither (is_third_party caveat) (list_any is_third_party caveats) e in
-    let one : widened_caveat (narrowed_caveat caveat) ≡ caveat = first_party caveat.identifier caveat.verifier_id caveat.location both.0 in
-    ap (λ (c : WideCaveat). c ∷ map widened_caveat (map narrowed_caveat caveats)) one ∙ ap (λ (cs : List WideCaveat). caveat ∷ cs) (all_first_party caveats both.1)
+    let one : widened_caveat (first_party_caveat caveat) ≡ caveat = is_first_party caveat.identifier caveat.verifier_id caveat.location both.0 in
+    ap (λ (c : WideCaveat). c ∷ map widened_caveat (map first_party_caveat caveats)) one ∙ ap (λ (cs : List WideCaveat). caveat ∷ cs) (all_first_party caveats both.1)
 
-widened-narrowed : (wide : WidePass) → has_third_party wide ≡ false → widened (narrowed wide) ≡ wide
-widened-narrowed wide e =
+widened-first_party : (wide : WidePass) → has_third_party wide ≡ false → widened (first_party wide) ≡ wide
+widened-first_party wide e =
     ap (λ (caveats : List WideCaveat).
     let w : WidePass = record { location = wide.location; identifier = wide.identifier; caveats = caveats; signature = wide.signature } in w) (all_first_party wide.caveats e)
 
-narrowed_caveats : (caveats : List (List ℕ)) → map narrowed_caveat (map widened_caveat caveats) ≡ caveats
-narrowed_caveats [] = refl
-narrowed_caveats (caveat ∷ caveats) = ap (λ (cs : List (List ℕ)). caveat ∷ cs) (narrowed_caveats caveats)
+first_party_caveats : (caveats : List (List ℕ)) → map first_party_caveat (map widened_caveat caveats) ≡ caveats
+first_party_caveats [] = refl
+first_party_caveats (caveat ∷ caveats) = ap (λ (cs : List (List ℕ)). caveat ∷ cs) (first_party_caveats caveats)
 
-narrowed-widened : (pass : Plain) → narrowed (widened pass) ≡ pass
-narrowed-widened pass =
+first_party-widened : (pass : Plain) → first_party (widened pass) ≡ pass
+first_party-widened pass =
     ap (λ (caveats : List (List ℕ)).
-    let p : Plain = record { location = pass.location; identifier = pass.identifier; caveats = caveats; signature = pass.signature } in p) (narrowed_caveats pass.caveats)
+    let p : Plain = record { location = pass.location; identifier = pass.identifier; caveats = caveats; signature = pass.signature } in p) (first_party_caveats pass.caveats)
 
 no_third_party : (caveats : List (List ℕ)) → list_any is_third_party (map widened_caveat caveats) ≡ false
 no_third_party [] = refl
@@ -52,11 +53,15 @@ pub record Computes (Spelled : WidePass → Type 0) (computed : Option WidePass)
   pub takes : (wide : WidePass) → computed ≡ Some wide → Spelled wide
   pub again : (wide : WidePass) → Spelled wide → computed ≡ Some wide
 
-judged_by : (len : ℕ) (Spelled : WidePass → Type 0) (wide : WidePass) (third many : Bool) → has_third_party wide ≡ third → ltb max_caveats (length wide.caveats) ≡ many → len ≤ max_text_len → Spelled wide → IsReading len Spelled (cond third (Err ThirdParty) (cond many (Err TooMany) (Ok (narrowed wide))))
+-- Nothing else is spelled.
+pub one_spelled : (Spelled : WidePass → Type 0) (computed : Option WidePass) (one other : WidePass) → Computes Spelled computed → Spelled one → Spelled other → one ≡ other
+one_spelled Spelled computed one other exact h k = some_is one other (sym (exact.again one h) ∙ exact.again other k)
+
+judged_by : (len : ℕ) (Spelled : WidePass → Type 0) (wide : WidePass) (third many : Bool) → has_third_party wide ≡ third → ltb max_caveats (length wide.caveats) ≡ many → len ≤ max_text_len → Spelled wide → IsReading len Spelled (cond third (Err ThirdParty) (cond many (Err TooMany) (Ok (first_party wide))))
 judged_by len Spelled wide true many et em within spelled = (within, wide, spelled, et)
 judged_by len Spelled wide false true et em within spelled = (within, wide, spelled, et, ltb-true _ _ em)
 judged_by len Spelled wide false false et em within spelled =
-    (within, subst Spelled (sym (widened-narrowed wide et)) spelled, omega (arith, ltb-false _ _ em, length-map wide.caveats narrowed_caveat))
+    (within, subst Spelled (sym (widened-first_party wide et)) spelled, omega (arith, ltb-false _ _ em, length-map wide.caveats first_party_caveat))
 
 pub judged_if_any_is : (len : ℕ) (Spelled : WidePass → Type 0) (computed : Option WidePass) → Computes Spelled computed → len ≤ max_text_len → IsReading len Spelled (judged_if_any computed)
 judged_if_any_is len Spelled None exact within = (within, λ wide spelled. let e = exact.again wide spelled in absurd cc)
@@ -83,7 +88,7 @@ judged_determined len Spelled computed (Err ThirdParty) exact within h = rw (exa
 judged_determined len Spelled computed (Err TooMany) exact within h = rw (exact.again h.1 h.2, h.3, lt-ltb _ _ h.4) refl
 judged_determined len Spelled computed (Ok pass) exact within h =
     let few : ltb max_caveats (length (map widened_caveat pass.caveats)) ≡ false = le-ltb _ _ (omega (arith, h.2, length-map pass.caveats widened_caveat)) in
-    rw (exact.again (widened pass) h.1, no_third_party pass.caveats, few) (ap (λ (p : Plain). Ok p) (narrowed-widened pass))
+    rw (exact.again (widened pass) h.1, no_third_party pass.caveats, few) (ap (λ (p : Plain). Ok p) (first_party-widened pass))
 judged_determined len Spelled computed (Err Memory) exact within h = absurd h
 
 -- Where an answer isn't too long, the text is within the limit.
@@ -103,12 +108,3 @@ reading_determined len Spelled computed answer exact h =
           rw (lt-ltb _ _ too_long) (sym long)
       | inr within ↦ rw (le-ltb _ _ within) (judged_determined len Spelled computed answer exact within h)
     ]
-
--- What holds of the computed answer holds of the reader's.
-pub unless_memory : (Holds : Result Plain FormFault → Type 0) (reading answer : Result Plain FormFault) → Holds reading → UnlessMemory (λ a. reading ≡ a) answer → UnlessMemory Holds answer
-unless_memory Holds reading (Ok pass) h e = subst Holds e h
-unless_memory Holds reading (Err TooLong) h e = subst Holds e h
-unless_memory Holds reading (Err Malformed) h e = subst Holds e h
-unless_memory Holds reading (Err ThirdParty) h e = subst Holds e h
-unless_memory Holds reading (Err TooMany) h e = subst Holds e h
-unless_memory Holds reading (Err Memory) h e = tt

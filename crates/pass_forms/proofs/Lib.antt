@@ -16,11 +16,13 @@ pub mod WholeV2
 pub mod V2Exact
 pub mod Judging
 pub mod V1Exact
+pub mod Collecting
 pub mod TextExact
 pub mod PutVarints
 pub mod PutCaveats
 pub mod PutTogether
 pub mod WrittenBytes
 pub mod WrittenTexts
+pub mod WrittenForm
 pub mod WrittenV1
 pub mod WrittenV2

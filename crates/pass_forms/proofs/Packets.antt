@@ -1,8 +1,8 @@
 -- A packet that is read is the packet that was written, and what was written is read, whatever follows.
-use Rattle.std.proofs.Common.{◌≡◌, ℕ, zero, suc, ◌+◌, ◌-◌, ◌^◌, ◌<◌, ◌≤◌, Bool, true, false, cond, leb, nat_eq, List, [], ◌∷◌, ◌++◌, length, take, drop, Some, None, refl, sym, ap, ◌∙◌, append_assoc, arith}
+use Rattle.std.proofs.Common.{◌≡◌, ℕ, zero, suc, ◌+◌, ◌-◌, ◌^◌, ◌<◌, ◌≤◌, Bool, true, false, cond, leb, nat_eq, List, [], ◌∷◌, ◌++◌, length, take, drop, Option, Some, None, refl, sym, ap, ◌∙◌, append_assoc, arith}
 use Rattle.std.specs.Cmp.Lexicographic.{pointwise}
 use Rattle.std.proofs.lemmas.Bool.{leb-true, le-leb}
-use Rattle.std.proofs.lemmas.List.{take_at, drop_at, take-append-drop, length-append, length-take, length-drop}
+use Rattle.std.proofs.lemmas.List.{take-take, take_at, drop_at, take-append-drop, length-append, length-take, length-drop}
 use Rattle.std.proofs.lemmas.Slice.Eq.{bytes_eq-Decides}
 use Rattle.pass_forms.specs.V1.{four_digits, packet_len, packet, FitsPacket}
 use Rattle.pass_forms.specs.Parts.{◌>>=◌, after_prefix, before_suffix}
@@ -12,12 +12,6 @@ use Rattle.pass_forms.proofs.Digits.{bind_some, some_is, len_takes, len_again}
 pub guard_some : {A : Type 0} (b : Bool) (x y : A) → cond b (Some x) None ≡ Some y → (b ≡ true) × (x ≡ y)
 guard_some true x y e = (refl, some_is x y e)
 guard_some false x y e = absurd cc
-
-take_take : (m n : ℕ) (xs : List ℕ) → m ≤ n → take m (take n xs) ≡ take m xs
-take_take zero n xs h = refl
-take_take (suc m) zero xs h = absurd (omega arith)
-take_take (suc m) (suc n) [] h = refl
-take_take (suc m) (suc n) (x ∷ xs) h = ap (λ (ys : List ℕ). x ∷ ys) (take_take m n xs (omega arith))
 
 pub after_prefix_takes : (prefix bytes rest : List ℕ) → after_prefix prefix bytes ≡ Some rest → bytes ≡ prefix ++ rest
 after_prefix_takes prefix bytes rest e =
@@ -53,7 +47,7 @@ framed bytes more key text n fits begins within body =
     let body_len : length (drop 4 whole) ≡ length key + (length text + 1) = ap length body ∙ omega (arith, length-append key (text ++ 10 ∷ []), length-append text (10 ∷ [])) in
     let long : 4 ≤ n = omega (arith, length-drop 4 whole) in
     let is_n : packet_len key text ≡ n = omega (arith, length-drop 4 whole) in
-    let digits : take 4 whole ≡ four_digits n = take_take 4 n bytes long ∙ ap (take 4) begins ∙ take_at (four_digits n) more 4 refl in
+    let digits : take 4 whole ≡ four_digits n = take-take 4 n bytes long ∙ ap (take 4) begins ∙ take_at (four_digits n) more 4 refl in
     let split : whole ≡ packet key text = sym (take-append-drop 4 whole) ∙ ap (λ (x : List ℕ). x ++ drop 4 whole) (digits ∙ ap four_digits (sym is_n)) ∙ ap (λ (x : List ℕ). four_digits (packet_len key text) ++ x) body in
     (sym (take-append-drop n bytes) ∙ ap (λ (x : List ℕ). x ++ drop n bytes) split, omega arith)
 
@@ -74,6 +68,19 @@ packet_takes key bytes text rest e =
     ∙ ap (λ (x : List ℕ). key ++ x) (before_suffix_takes (10 ∷ []) body.0 found.0 found.1 ∙ ap (λ (x : List ℕ). x ++ 10 ∷ []) is_found) in
     let parts = framed bytes digits.1 key text n digits.0 digits.2 (leb-true n (length bytes) within.0) is_body in
     (parts.0 ∙ ap (λ (x : List ℕ). packet key text ++ x) is_rest, parts.1)
+
+-- Where the key differs there is none.
+none_found : (key bytes : List ℕ) (found : Option (List ℕ × List ℕ)) → packet_at key bytes ≡ found → after_prefix key (drop 4 bytes) ≡ None → found ≡ None
+none_found key bytes None e differs = refl
+none_found key bytes (Some (text, rest)) e differs =
+    let parts = packet_takes key bytes text rest e in
+    let body = text ++ 10 ∷ [] in
+    let after : drop 4 bytes ≡ key ++ (body ++ rest) = ap (drop 4) parts.0 ∙ append_assoc key body rest in
+    let taken = ap (after_prefix key) after ∙ after_prefix_again key (body ++ rest) in
+    absurd (cc (differs, taken))
+
+pub key_differs : (key bytes : List ℕ) → after_prefix key (drop 4 bytes) ≡ None → packet_at key bytes ≡ None
+key_differs key bytes differs = none_found key bytes (packet_at key bytes) refl differs
 
 pub packet_again : (key text rest : List ℕ) → FitsPacket key text → packet_at key (packet key text ++ rest) ≡ Some (text, rest)
 unfolding packet_at

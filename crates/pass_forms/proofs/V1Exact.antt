@@ -1,19 +1,18 @@
 -- The reading of V1 is exact.
-use Rattle.std.proofs.Common.{◌≡◌, ℕ, List, length, Result, sym, ◌∙◌}
+use Rattle.std.proofs.Common.{◌≡◌, ℕ, List, length, Result}
 use Rattle.pass_forms.specs.declared.fault.FormFault.{FormFault}
 use Rattle.pass_forms.specs.Pass.{Plain, WidePass}
 use Rattle.pass_forms.specs.Reading.{IsReading}
 use Rattle.pass_forms.specs.V1.{SpellsV1}
 use Rattle.pass_forms.specs.V1Reading.{wide_at, reading_v1}
-use Rattle.pass_forms.proofs.Digits.{some_is}
 use Rattle.pass_forms.proofs.WholeV1.{wide_takes, wide_again}
-use Rattle.pass_forms.proofs.Judging.{Computes, reading_is, reading_determined}
+use Rattle.pass_forms.proofs.Judging.{Computes, one_spelled, reading_is, reading_determined}
 
 computes_v1 : (bytes : List ℕ) → Computes (SpellsV1 bytes) (wide_at bytes)
 computes_v1 bytes = record { takes = wide_takes bytes; again = wide_again bytes }
 
 pub one_v1 : (bytes : List ℕ) (one other : WidePass) → SpellsV1 bytes one → SpellsV1 bytes other → one ≡ other
-one_v1 bytes one other h k = some_is one other (sym (wide_again bytes one h) ∙ wide_again bytes other k)
+one_v1 bytes one other h k = one_spelled (SpellsV1 bytes) (wide_at bytes) one other (computes_v1 bytes) h k
 
 pub reading_v1_is : (bytes : List ℕ) → IsReading (length bytes) (SpellsV1 bytes) (reading_v1 bytes)
 unfolding reading_v1

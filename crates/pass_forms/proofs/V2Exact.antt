@@ -1,19 +1,18 @@
 -- The reading of V2 is exact.
-use Rattle.std.proofs.Common.{◌≡◌, ℕ, List, length, Result, sym, ◌∙◌}
+use Rattle.std.proofs.Common.{◌≡◌, ℕ, List, length, Result}
 use Rattle.pass_forms.specs.declared.fault.FormFault.{FormFault}
 use Rattle.pass_forms.specs.Pass.{Plain, WidePass}
 use Rattle.pass_forms.specs.Reading.{IsReading}
 use Rattle.pass_forms.specs.V2.{SpellsV2}
 use Rattle.pass_forms.specs.V2Reading.{wide_at, reading_v2}
-use Rattle.pass_forms.proofs.Digits.{some_is}
 use Rattle.pass_forms.proofs.WholeV2.{wide_takes, wide_again}
-use Rattle.pass_forms.proofs.Judging.{Computes, reading_is, reading_determined}
+use Rattle.pass_forms.proofs.Judging.{Computes, one_spelled, reading_is, reading_determined}
 
 computes_v2 : (bytes : List ℕ) → Computes (SpellsV2 bytes) (wide_at bytes)
 computes_v2 bytes = record { takes = wide_takes bytes; again = wide_again bytes }
 
 pub one_v2 : (bytes : List ℕ) (one other : WidePass) → SpellsV2 bytes one → SpellsV2 bytes other → one ≡ other
-one_v2 bytes one other h k = some_is one other (sym (wide_again bytes one h) ∙ wide_again bytes other k)
+one_v2 bytes one other h k = one_spelled (SpellsV2 bytes) (wide_at bytes) one other (computes_v2 bytes) h k
 
 pub reading_v2_is : (bytes : List ℕ) → IsReading (length bytes) (SpellsV2 bytes) (reading_v2 bytes)
 unfolding reading_v2

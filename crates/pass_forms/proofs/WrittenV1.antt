@@ -3,20 +3,17 @@ use Rattle.std.proofs.Common.{◌≡◌, ◌↔◌, ℕ, ◌+◌, ◌/◌, ◌<�
 use Rattle.std.specs.List.{flat_map, AllByRecursion}
 use Rattle.std.proofs.lemmas.Bool.Decides.{nat_tests}
 use Rattle.std.proofs.lemmas.List.{append-nil, length-append}
-use Rattle.base64.specs.GeneralPurpose.{IsBytes}
-use Rattle.pass_forms.specs.declared.fault.FormFault.{FormFault}
-use Rattle.pass_forms.specs.declared.fault.FormFault.TheVariants.{TooLong, Malformed, ThirdParty, TooMany, Memory}
 use Rattle.pass_forms.specs.declared.form.Form.TheVariants.{V1}
 use Rattle.pass_forms.specs.Envelope.{form_of, form_of_byte}
 use Rattle.pass_forms.specs.Pass.{Plain, widened, widened_caveat}
-use Rattle.pass_forms.specs.Putting.{HasRoom, RefusesBytes, WritesBytes, room_len}
+use Rattle.pass_forms.specs.Putting.{room_len}
 use Rattle.pass_forms.specs.V1.{Fits, FitsCaveat, FitsPacket, SpellsV1, caveat_key, caveat_packets, hex_digit, identifier_key, location_key, packet, packet_len, packets_of, signature_key}
-use Rattle.pass_forms.specs.Writing.{HasBytes, IsReadBack, IsRefused, IsV1Text, IsWritten, in_base64, v1_bytes, writing_v1}
+use Rattle.pass_forms.specs.Writing.{HasBytes, IsReadBack, IsV1Text, IsWritten, v1_bytes, writing_v1}
 use Rattle.pass_forms.proofs.Packets.{length-packet}
 use Rattle.pass_forms.specs.V1Reading.{reading_v1}
 use Rattle.pass_forms.proofs.V1Exact.{reading_v1_determined}
 use Rattle.pass_forms.proofs.WrittenBytes.{v1_is_bytes}
-use Rattle.pass_forms.proofs.WrittenTexts.{bytes_fit, text_fits, text_too_long, unwraps, written_by, written_parts}
+use Rattle.pass_forms.proofs.WrittenForm.{BytesForm, exact, reads_back}
 
 fits_packet : (key bytes : List ℕ) → length (packet key bytes) ≤ room_len → FitsPacket key bytes
 fits_packet key bytes h = omega (arith, length-packet key bytes)
@@ -49,56 +46,29 @@ pub spells_v1 : (pass : Plain) → length (v1_bytes pass) ≤ room_len → lengt
 unfolding v1_bytes
 spells_v1 pass short len = record { packets = refl; fits = fits_room pass short len }
 
-has_text_v1 : (pass : Plain) (text : List ℕ) → text ≡ in_base64 (v1_bytes pass) → HasRoom (v1_bytes pass) pass → IsWritten IsV1Text pass text
-has_text_v1 pass text encoded room = record {
-  is_text = record { encoded = encoded; spelled = spells_v1 pass room.fits room.signature };
-  short = rw encoded (text_fits (v1_bytes pass) room.fits);
-  few = room.few;
-}
-
-pub is_written_v1 : (pass : Plain) (text : List ℕ) → WritesBytes (v1_bytes pass) pass text → IsWritten IsV1Text pass text
-is_written_v1 pass text written = has_text_v1 pass text written.encoded written.room
-
-pub is_refused_v1 : (pass : Plain) (fault : FormFault) → RefusesBytes (v1_bytes pass) pass fault → IsRefused IsV1Text pass fault
-is_refused_v1 pass TooMany many = many
-is_refused_v1 pass TooLong long = (long.0, λ text is. rw is.encoded (text_too_long (v1_bytes pass) long.1))
-is_refused_v1 pass Memory room = (in_base64 (v1_bytes pass), has_text_v1 pass (in_base64 (v1_bytes pass)) refl room)
-is_refused_v1 pass Malformed never = never
-is_refused_v1 pass ThirdParty never = never
-
 hex_first : (k : ℕ) → k < 16 → form_of_byte (hex_digit k) ≡ Some V1
 hex_first k h = grind (arith, nat_tests)
 
-form_v1 : (pass : Plain) → FitsPacket location_key pass.location → form_of (v1_bytes pass) ≡ Some V1
+pub form_v1 : (pass : Plain) → FitsPacket location_key pass.location → form_of (v1_bytes pass) ≡ Some V1
 unfolding v1_bytes
 form_v1 pass fits = hex_first (packet_len location_key pass.location / 4096) (omega arith)
 
-pub reads_back_v1 : (pass : Plain) (text : List ℕ) → IsBytes (v1_bytes pass) → IsWritten IsV1Text pass text → IsReadBack reading_v1 V1 (v1_bytes pass) pass text
-reads_back_v1 pass text are written =
-    let spelled = written.is_text.spelled in
-    let encoded : text ≡ in_base64 (v1_bytes pass) = written.is_text.encoded in
-    let short : length (v1_bytes pass) ≤ room_len = bytes_fit (v1_bytes pass) (rw (← encoded) written.short) in
-    record {
-      told = rw encoded (unwraps V1 (v1_bytes pass) are short (form_v1 pass spelled.fits.location));
-      read = reading_v1_determined (v1_bytes pass) (Ok pass) (omega arith, spelled, written.few);
-    }
+abbrev pub v1_form : BytesForm
+v1_form = record {
+  bytes_of = v1_bytes;
+  Spells = SpellsV1;
+  form = V1;
+  reading = reading_v1;
+  spells = spells_v1;
+  tells = λ pass spelled. form_v1 pass spelled.fits.location;
+  determined = reading_v1_determined;
+}
 
 -- The law: bytes that are written of bytes are bytes.
 pub law_v1 : (pass : Plain) (text : List ℕ) → HasBytes pass → IsWritten IsV1Text pass text → IsReadBack reading_v1 V1 (v1_bytes pass) pass text
 law_v1 pass text are written =
-    reads_back_v1 pass text (v1_is_bytes pass written.is_text.spelled.fits are) written
+    reads_back v1_form pass text (v1_is_bytes pass written.is_text.spelled.fits are) written
 
 pub exact_v1 : (pass : Plain) (text : List ℕ) → length pass.signature ≡ 32 → (writing_v1 pass ≡ Ok text) ↔ IsWritten IsV1Text pass text
 unfolding writing_v1
-exact_v1 pass text len = (
-  λ e.
-      let parts = written_parts (v1_bytes pass) pass text e in
-      record {
-        is_text = record { encoded = parts.0; spelled = spells_v1 pass parts.2 len };
-        short = rw parts.0 (text_fits (v1_bytes pass) parts.2);
-        few = parts.1;
-      },
-  λ written.
-      let encoded : text ≡ in_base64 (v1_bytes pass) = written.is_text.encoded in
-      written_by (v1_bytes pass) pass text encoded written.few (bytes_fit (v1_bytes pass) (rw (← encoded) written.short)),
-)
+exact_v1 pass text len = exact v1_form pass text len

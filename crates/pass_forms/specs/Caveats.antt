@@ -2,9 +2,11 @@
 -- and answers it with the bytes after it.
 use Rattle.std.specs.Prelude.{◌≡◌, ℕ, Bool, zero, suc, List, [], ◌∷◌, length, map, Option, Some, None}
 use Rattle.std.specs.List.{list_any}
-use Rattle.pass_forms.specs.declared.layout.Fields.{Fields}
+use Rattle.pass_forms.specs.declared.layout.Caveats.{Caveats}
+use Rattle.pass_forms.specs.declared.layout.Walk.{Walk}
+use Rattle.pass_forms.specs.FieldSource.{PassField, fields_of, those_left}
 use Rattle.pass_forms.specs.Parts.{◌>>=◌}
-use Rattle.pass_forms.specs.Pass.{Plain, WideCaveat, WidePass, is_third_party, narrowed_caveat}
+use Rattle.pass_forms.specs.Pass.{WideCaveat, WidePass, has_third_party, is_third_party, first_party, first_party_caveat}
 
 -- A caveat, if there is one, and then the others.
 abbrev pub and_others : (List ℕ → List WideCaveat × List ℕ) → List ℕ → Option (WideCaveat × List ℕ) → List WideCaveat × List ℕ
@@ -39,11 +41,18 @@ whole_at header_at caveat_at footer_at bytes = do
     signature = signature;
   })
 
--- the pass that a reader's fields stand for, whose caveats are still bytes
-abbrev pub plain_of : (List ℕ → Option (WideCaveat × List ℕ)) → Fields → Plain
-plain_of caveat_at fields = record {
-  location = fields.location.now;
-  identifier = fields.identifier.now;
-  caveats = map narrowed_caveat (caveats_at caveat_at fields.caveat_count fields.caveats.now).0;
-  signature = fields.signature;
-}
+-- ---- the fields of a pass that was gone over
+
+-- what is learned of a wide pass by going over it: the fields of the pass that is left where verifier ids and locations of
+-- caveats are, the number of caveats, whether any is a third party's
+abbrev pub gone_over : WidePass → List PassField × ℕ × Bool
+gone_over wide = (fields_of (first_party wide), length wide.caveats, has_third_party wide)
+
+-- the caveats that are still bytes
+abbrev pub identifiers_in : (List ℕ → Option (WideCaveat × List ℕ)) → Caveats → List (List ℕ)
+identifiers_in caveat_at caveats = map first_party_caveat (caveats_at caveat_at caveats.count caveats.bytes.now).0
+
+-- the fields still to come
+unfoldable pub to_come : (List ℕ → Option (WideCaveat × List ℕ)) → Walk → List PassField
+to_come caveat_at walk =
+    those_left (λ bytes. bytes.now) walk.location walk.identifier (identifiers_in caveat_at walk.caveats) walk.signature

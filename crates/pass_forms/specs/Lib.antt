@@ -1,5 +1,6 @@
 pub mod Pass
 pub mod FormFault
+pub mod FieldSource
 pub mod Reading
 pub mod Parts
 pub mod Caveats

@@ -1,6 +1,6 @@
 -- What a pass is: a macaroon (NDSS 2014) of first-party caveats. A wide pass is what the formats can
 -- spell: its caveats may be third-party.
-use Rattle.std.specs.Prelude.{◌≡◌, ℕ, Bool, ◌||◌, List, Option, None, map, is_some}
+use Rattle.std.specs.Prelude.{◌≡◌, ◌↔◌, ℕ, Bool, true, ◌||◌, List, [], Option, None, map, is_some}
 use Rattle.std.specs.List.{list_any}
 use Rattle.std.specs.Str.{bytes_eq}
 use Rattle.pass_mac.specs.Chain.{chain, derived_key}
@@ -42,14 +42,14 @@ widened pass = record {
 }
 
 -- the pass that is left where verifier ids and locations of caveats are
-abbrev pub narrowed_caveat : WideCaveat → List ℕ
-narrowed_caveat caveat = caveat.identifier
+abbrev pub first_party_caveat : WideCaveat → List ℕ
+first_party_caveat caveat = caveat.identifier
 
-abbrev pub narrowed : WidePass → Plain
-narrowed wide = record {
+abbrev pub first_party : WidePass → Plain
+first_party wide = record {
   location = wide.location;
   identifier = wide.identifier;
-  caveats = map narrowed_caveat wide.caveats;
+  caveats = map first_party_caveat wide.caveats;
   signature = wide.signature;
 }
 
@@ -60,3 +60,16 @@ IsSigned root pass = pass.signature ≡ chain (derived_key root) pass.identifier
 -- the same as a test
 unfoldable pub is_signed : List ℕ → Plain → Bool
 is_signed root pass = bytes_eq (chain (derived_key root) pass.identifier pass.caveats) pass.signature
+
+-- It says exactly whether the pass is signed.
+abbrev pub TellsSigned : Type 0
+TellsSigned = (root : List ℕ) (pass : Plain) → IsSigned root pass ↔ (is_signed root pass ≡ true)
+
+-- a new pass under a root, with no caveats yet
+abbrev pub minted : List ℕ → List ℕ → List ℕ → Plain
+minted root location identifier = record {
+  location = location;
+  identifier = identifier;
+  caveats = [];
+  signature = chain (derived_key root) identifier [];
+}

@@ -2,7 +2,7 @@
 use Rattle.std.specs.Prelude.{◌≡◌, ◌↔◌, ℕ, Bool, ◌<◌, ◌≤◌, nat_lt, true, false, if◌then◌else◌, length, Option, Some, None, Result, Ok, Err}
 use Rattle.pass_forms.specs.declared.fault.FormFault.{FormFault}
 use Rattle.pass_forms.specs.declared.fault.FormFault.TheVariants.{TooLong, Malformed, ThirdParty, TooMany, Memory}
-use Rattle.pass_forms.specs.Pass.{Plain, WidePass, has_third_party, widened, narrowed}
+use Rattle.pass_forms.specs.Pass.{Plain, WidePass, has_third_party, widened, first_party}
 
 -- the longest text of a pass, in bytes
 abbrev pub max_text_len : ℕ
@@ -23,14 +23,14 @@ IsReading len Spelled (Err TooMany) =
     (len ≤ max_text_len) × (wide : WidePass) × Spelled wide × (has_third_party wide ≡ false) × (max_caveats < length wide.caveats)
 IsReading len Spelled (Ok pass) =
     (len ≤ max_text_len) × Spelled (widened pass) × (length pass.caveats ≤ max_caveats)
--- want of memory is no reading of a text
+-- out of memory is no reading of a text
 IsReading len Spelled (Err Memory) = ⊥
 
 -- The same, computed from the wide pass that a text spells, if any.
 abbrev pub judged : WidePass → Result Plain FormFault
 judged wide =
     if has_third_party wide then Err ThirdParty
-    else (if nat_lt max_caveats (length wide.caveats) then Err TooMany else Ok (narrowed wide))
+    else (if nat_lt max_caveats (length wide.caveats) then Err TooMany else Ok (first_party wide))
 
 abbrev pub judged_if_any : Option WidePass → Result Plain FormFault
 judged_if_any None = Err Malformed
@@ -41,7 +41,7 @@ reading_of len spelled = if nat_lt max_text_len len then Err TooLong else judged
 
 -- what a reader keeps of a wide pass: the pass, the number of its caveats, whether any is a third party's
 abbrev pub kept : WidePass → Plain × ℕ × Bool
-kept wide = (narrowed wide, length wide.caveats, has_third_party wide)
+kept wide = (first_party wide, length wide.caveats, has_third_party wide)
 
 -- This holds of what a reader answers, unless memory ran out.
 abbrev pub UnlessMemory : {A : Type 0} → (Result A FormFault → Type 0) → Result A FormFault → Type 0
@@ -51,6 +51,15 @@ UnlessMemory Holds (Err Malformed) = Holds (Err Malformed)
 UnlessMemory Holds (Err ThirdParty) = Holds (Err ThirdParty)
 UnlessMemory Holds (Err TooMany) = Holds (Err TooMany)
 UnlessMemory Holds (Ok read) = Holds (Ok read)
+
+-- This holds of what a reader answers. Memory runs out only for what would have been read.
+abbrev pub OrOutOfMemory : {A : Type 0} → (Result A FormFault → Type 0) → Result A FormFault → Type 0
+OrOutOfMemory {A} Holds (Err Memory) = (read : A) × Holds (Ok read)
+OrOutOfMemory Holds (Err TooLong) = Holds (Err TooLong)
+OrOutOfMemory Holds (Err Malformed) = Holds (Err Malformed)
+OrOutOfMemory Holds (Err ThirdParty) = Holds (Err ThirdParty)
+OrOutOfMemory Holds (Err TooMany) = Holds (Err TooMany)
+OrOutOfMemory Holds (Ok read) = Holds (Ok read)
 
 -- The computed answer is what a text stands for that spells the computed wide pass and no other, and nothing else is.
 abbrev pub AnswersExactly : Type 0

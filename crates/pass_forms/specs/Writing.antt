@@ -9,7 +9,7 @@ use Rattle.pass_forms.specs.declared.fault.FormFault.TheVariants.{TooLong, Malfo
 use Rattle.pass_forms.specs.declared.form.Form.{Form}
 use Rattle.pass_forms.specs.declared.form.Form.TheVariants.{V1, V2}
 use Rattle.pass_forms.specs.Envelope.{unwrapped}
-use Rattle.pass_forms.specs.Pass.{IsSigned, Plain, widened}
+use Rattle.pass_forms.specs.Pass.{IsSigned, Plain, WidePass, widened}
 use Rattle.pass_forms.specs.Reading.{max_caveats, max_text_len}
 use Rattle.pass_forms.specs.V1.{SpellsV1, packets_of}
 use Rattle.pass_forms.specs.V1Reading.{reading_v1}
@@ -33,14 +33,16 @@ told_location (byte ∷ bytes) = Some (byte ∷ bytes)
 unfoldable pub v2_bytes : Plain → List ℕ
 v2_bytes pass = sections (told_location pass.location) (widened pass)
 
--- The text is the writer's of this pass: base64 of bytes that spell it.
-pub record IsV1Text (pass : Plain) (text : List ℕ) : Type 0 where
-  pub encoded : text ≡ in_base64 (v1_bytes pass)
-  pub spelled : SpellsV1 (v1_bytes pass) (widened pass)
+-- The text is the writer's of this pass: base64 of the bytes of the pass, which spell it.
+pub record IsTextBy (bytes_of : Plain → List ℕ) (Spells : List ℕ → WidePass → Type 0) (pass : Plain) (text : List ℕ) : Type 0 where
+  pub encoded : text ≡ in_base64 (bytes_of pass)
+  pub spelled : Spells (bytes_of pass) (widened pass)
 
-pub record IsV2Text (pass : Plain) (text : List ℕ) : Type 0 where
-  pub encoded : text ≡ in_base64 (v2_bytes pass)
-  pub spelled : SpellsV2 (v2_bytes pass) (widened pass)
+abbrev pub IsV1Text : Plain → List ℕ → Type 0
+IsV1Text pass text = IsTextBy v1_bytes SpellsV1 pass text
+
+abbrev pub IsV2Text : Plain → List ℕ → Type 0
+IsV2Text pass text = IsTextBy v2_bytes SpellsV2 pass text
 
 -- A writer may write this: a text of the pass, within the limits of texts and of caveats (ours).
 pub record IsWritten (IsText : Plain → List ℕ → Type 0) (pass : Plain) (text : List ℕ) : Type 0 where
@@ -48,7 +50,7 @@ pub record IsWritten (IsText : Plain → List ℕ → Type 0) (pass : Plain) (te
   pub short : length text ≤ max_text_len
   pub few : length pass.caveats ≤ max_caveats
 
--- When a writer refuses (ours): too many caveats, else each text of the pass is too long. Memory is wanted only for a text
+-- When a writer refuses (ours): too many caveats, else each text of the pass is too long. Memory runs out only for a text
 -- that would be written. No other fault comes.
 abbrev pub IsRefused : (Plain → List ℕ → Type 0) → Plain → FormFault → Type 0
 IsRefused IsText pass TooMany = max_caveats < length pass.caveats
@@ -69,7 +71,7 @@ writing_v1 pass = writing_of (v1_bytes pass) pass
 unfoldable pub writing_v2 : Plain → Result (List ℕ) FormFault
 writing_v2 pass = writing_of (v2_bytes pass) pass
 
--- A writer that would answer so answers this fault: the same, or want of memory in place of a text.
+-- A writer that would answer so answers this fault: the same, or out of memory in place of a text.
 abbrev pub FailsAs : Result (List ℕ) FormFault → FormFault → Type 0
 FailsAs writing Memory = IsOk writing
 FailsAs writing TooLong = writing ≡ Err TooLong

@@ -2,6 +2,7 @@ ghost use Rattle.std.specs.Prelude.{◌≡◌, ◌≤◌, Option, length, take, 
 ghost use Rattle.std.specs.Option.{option_map, option_or};
 ghost use Rattle.base64.specs.Decode.{decoded_estimate};
 ghost use Rattle.base64.specs.GeneralPurpose.{decoded_of};
+ghost use Rattle.pass_forms.specs.Reading.{max_text_len};
 ghost use Rattle.pass_forms.specs.Envelope.{IsUnwrapped, form_of, from_base64, starts_with_brace, told, told_bytes, unwrapped};
 
 use crate::fault::FormFault;
@@ -46,7 +47,9 @@ impl Unwrapped {
 /// Those are written to the start of the room. What the room holds past them, or after a fault, is
 /// left open. It takes no memory.
 ///
-/// The fault is `TooLong` for a text of more than 8,192 bytes, else `Malformed`. No other comes.
+/// # Errors
+///
+/// `TooLong` for a text of more than 8,192 bytes, else `Malformed` where it wraps nothing. No other comes.
 #[tactic(auto, unfolding(crate::specs::Envelope::unwrapped))]
 pub fn unwrap_text(text: &[u8], room: &mut [u8; MAX_BYTES]) -> Result<Unwrapped, FormFault>
     ensures reading { IsUnwrapped text.now (told result text.now room.new) }
@@ -55,6 +58,8 @@ pub fn unwrap_text(text: &[u8], room: &mut [u8; MAX_BYTES]) -> Result<Unwrapped,
     ensures plain { IfOk result (λ unwrapping. unwrapping.plain ≡ starts_with_brace text.now) }
     ensures len { IfOk result (λ unwrapping.
         unwrapping.len ≡ length (told_bytes unwrapping text.now room.new)) }
+    ensures short { IfOk result (λ unwrapping.
+        length (told_bytes unwrapping text.now room.new) ≤ max_text_len) }
 {
     if text.len() > MAX_TEXT {
         return Err(FormFault::TooLong);
@@ -93,6 +98,10 @@ fn form_of(bytes: &[u8]) -> Option<Form>
 
 /// The bytes that a text is base64 of (RFC 4648), if it is base64 of any: in the URL-safe or the standard alphabet, unpadded
 /// or padded, with trailing bits that are zero. `from_base64_is_base64` among the laws ties this to the relation `IsBase64`.
+///
+/// # Errors
+///
+/// Memory was refused to the bytes.
 pub fn decode_base64(alloc: Global, text: &[u8]) -> Result<Option<Vec<u8>>, AllocError>
     ensures { IfOk result (λ found. option_map (λ bytes. bytes.items) found ≡ from_base64 text.now) }
 {

@@ -1,6 +1,7 @@
 //! Laws of the definitions, each the contract of a function that does nothing.
 
 ghost use Rattle.pass_forms.specs.Envelope.{FromBase64IsBase64, UnwrappedIsTheAnswer, WrapsBytes, WrapsOne};
+ghost use Rattle.pass_forms.specs.Pass.{TellsSigned};
 ghost use Rattle.pass_forms.specs.Reading.{AnswersExactly};
 ghost use Rattle.pass_forms.specs.Text.{ReadsTextsExactly};
 ghost use Rattle.pass_forms.specs.V1.{OnePassEachV1};
@@ -82,4 +83,9 @@ pub fn texts_read_back()
 /// A pass that is signed under a root stays signed under it with one more caveat.
 pub fn narrowed_stays_signed()
     ensures { NarrowedStaysSigned }
+{}
+
+/// A pass is signed under a root exactly where the function `is_signed` of both says so.
+pub fn tells_signed()
+    ensures { TellsSigned }
 {}

@@ -1,13 +1,12 @@
-//! What the readers of packets and of the binary form share: a pass is scanned first, which takes no memory and finds
-//! each fault, and copied then.
+//! What the readers of packets and of the binary form share: a pass is gone over whole, which finds each fault, and its fields
+//! are handed out then. Nothing here takes memory.
 
-ghost use Rattle.std.specs.Prelude.{◌≡◌, Option, option_map, length, map, IfOk};
-ghost use Rattle.pass_forms.specs.Caveats.{caveats_at, plain_of, whole_at, Counts};
-ghost use Rattle.pass_forms.specs.Pass.{narrowed_caveat};
-ghost use Rattle.pass_forms.specs.Reading.{kept, reading_of, UnlessMemory};
+ghost use Rattle.std.specs.Prelude.{◌≡◌, [], ◌∷◌, Option, option_map, length, IfNone, IfSome};
+ghost use Rattle.pass_forms.specs.Caveats.{caveats_at, gone_over, identifiers_in, to_come, whole_at, Counts};
+ghost use Rattle.pass_forms.specs.FieldSource.{opened, opened_by, told};
+ghost use Rattle.pass_forms.specs.Reading.{reading_of};
 
-use crate::{FormFault, MAX_CAVEATS, MAX_TEXT, Pass};
-use std::alloc::{AllocError, Global};
+use crate::{Field, FormFault, MAX_CAVEATS, MAX_TEXT};
 
 /// The header at the front of some bytes, and what follows it.
 #[derive(Drop)]
@@ -25,15 +24,27 @@ pub struct Caveat<'a> {
     pub rest: &'a [u8],
 }
 
-// The fields of a pass, with its caveats still as bytes.
+/// So many caveats at the front of some bytes.
 #[derive(Drop)]
-struct Fields<'a> {
-    location: &'a [u8],
-    identifier: &'a [u8],
-    caveats: &'a [u8],
-    caveat_count: usize,
+pub struct Caveats<'a> {
+    pub count: usize,
+    pub bytes: &'a [u8],
+}
+
+/// The fields of a pass that are still to come. Those that were handed out are gone.
+#[derive(Drop)]
+pub struct Walk<'a> {
+    pub location: Option<&'a [u8]>,
+    pub identifier: Option<&'a [u8]>,
+    pub caveats: Caveats<'a>,
+    pub signature: Option<[u8; 32]>,
+}
+
+// What was learned of bytes by going over them.
+#[derive(Drop)]
+struct GoneOver<'a> {
+    fields: Walk<'a>,
     third_party: bool,
-    signature: [u8; 32],
 }
 
 /// How a pass is laid out as bytes: a header, the caveats, and a footer that holds the signature.
@@ -68,98 +79,106 @@ pub trait Layout {
 
 // How many caveats follow one another, whether any is a third party's, and what follows them.
 #[derive(Drop)]
-struct Caveats<'a> {
+struct Skipped<'a> {
     count: usize,
     third_party: bool,
     rest: &'a [u8],
 }
 
 // Goes over the caveats at the front.
-fn skip_caveats<L: Layout>(bytes: &[u8]) -> Caveats<'_>
+fn skip_caveats<L: Layout>(bytes: &[u8]) -> Skipped<'_>
     ensures { Counts result.count result.third_party result.rest.now (caveats_at L.caveat_at (length bytes.now) bytes.now) }
 {
-    let mut caveats = Caveats {
+    let mut skipped = Skipped {
         count: 0,
         third_party: false,
         rest: bytes,
     };
     for _ in 0..bytes.len() {
-        let Some(found) = L::first_caveat(caveats.rest) else {
-            return caveats;
+        let Some(found) = L::first_caveat(skipped.rest) else {
+            return skipped;
         };
-        caveats.count += 1;
-        caveats.third_party |= found.third_party;
-        caveats.rest = found.rest;
+        skipped.count += 1;
+        skipped.third_party |= found.third_party;
+        skipped.rest = found.rest;
     }
-    caveats
+    skipped
 }
 
-// The fields of the pass that the bytes spell.
-#[tactic(auto, unfolding(crate::specs::Caveats::whole_at))]
-fn all_fields<L: Layout>(bytes: &[u8]) -> Option<Fields<'_>>
-    ensures { option_map (λ fields. (plain_of L.caveat_at fields, fields.caveat_count, fields.third_party)) result
-        ≡ option_map kept (whole_at L.header_at L.caveat_at L.footer_at bytes.now) }
+// Goes over a whole pass.
+#[tactic(auto, unfolding(crate::specs::Caveats::to_come, crate::specs::Caveats::whole_at))]
+fn go_over<L: Layout>(bytes: &[u8]) -> Option<GoneOver<'_>>
+    ensures { option_map (λ pass. (to_come L.caveat_at pass.fields, pass.fields.caveats.count, pass.third_party)) result
+        ≡ option_map gone_over (whole_at L.header_at L.caveat_at L.footer_at bytes.now) }
 {
     let header = L::first_header(bytes)?;
     let skipped = skip_caveats::<L>(header.rest);
     let signature = L::footer(skipped.rest)?;
-    Some(Fields {
-        location: header.location,
-        identifier: header.identifier,
-        caveats: header.rest,
-        caveat_count: skipped.count,
+    Some(GoneOver {
+        fields: Walk {
+            location: Some(header.location),
+            identifier: Some(header.identifier),
+            caveats: Caveats {
+                count: skipped.count,
+                bytes: header.rest,
+            },
+            signature: Some(signature),
+        },
         third_party: skipped.third_party,
-        signature,
     })
 }
 
-// The identifiers of so many caveats at the front, fewer where there aren't as many.
-fn identifiers<L: Layout>(
-    alloc: Global,
-    count: usize,
-    bytes: &[u8],
-) -> Result<Vec<Vec<u8>>, AllocError>
-    ensures { IfOk result (λ caveats. map (λ caveat. caveat.items) caveats.items
-        ≡ map narrowed_caveat (caveats_at L.caveat_at count bytes.now).0) }
-{
-    let mut caveats = Vec::with_capacity(alloc, count)?;
-    let mut rest = bytes;
-    for _ in 0..count {
-        let Some(found) = L::first_caveat(rest) else {
-            return Ok(caveats);
-        };
-        caveats.push(Vec::from_slice(alloc, found.identifier)?)?;
-        rest = found.rest;
-    }
-    Ok(caveats)
-}
-
-fn copied<L: Layout>(alloc: Global, fields: &Fields) -> Result<Pass, AllocError>
-    ensures { IfOk result (λ pass. pass ≡ plain_of L.caveat_at fields.now) }
-{
-    Ok(Pass::new(
-        Vec::from_slice(alloc, fields.location)?,
-        Vec::from_slice(alloc, fields.identifier)?,
-        identifiers::<L>(alloc, fields.caveat_count, fields.caveats)?,
-        fields.signature,
-    ))
-}
-
-/// The pass that the bytes spell in this layout, or the first fault that fits.
-pub fn read<L: Layout>(alloc: Global, bytes: &[u8]) -> Result<Pass, FormFault>
-    ensures { UnlessMemory (λ answer. reading_of (length bytes.now) (whole_at L.header_at L.caveat_at L.footer_at bytes.now) ≡ answer) result }
+/// The fields of the pass that the bytes spell in this layout, or the first fault that fits. All of the bytes are gone over
+/// before the first field is handed out.
+pub fn open<L: Layout>(bytes: &[u8]) -> Result<Walk<'_>, FormFault>
+    ensures { opened_by (to_come L.caveat_at) result
+        ≡ opened (reading_of (length bytes.now) (whole_at L.header_at L.caveat_at L.footer_at bytes.now)) }
 {
     if bytes.len() > MAX_TEXT {
         return Err(FormFault::TooLong);
     }
-    let Some(fields) = all_fields::<L>(bytes) else {
+    let Some(pass) = go_over::<L>(bytes) else {
         return Err(FormFault::Malformed);
     };
-    if fields.third_party {
+    if pass.third_party {
         return Err(FormFault::ThirdParty);
     }
-    if fields.caveat_count > MAX_CAVEATS {
+    if pass.fields.caveats.count > MAX_CAVEATS {
         return Err(FormFault::TooMany);
     }
-    Ok(copied::<L>(alloc, &fields)?)
+    Ok(pass.fields)
+}
+
+impl<'a> Caveats<'a> {
+    // The identifier of the first caveat, which is taken off.
+    fn next<L: Layout>(&mut self) -> Option<&'a [u8]>
+        ensures some { IfSome result (λ caveat. identifiers_in L.caveat_at self.old ≡ caveat.now ∷ identifiers_in L.caveat_at self.new) }
+        ensures none { IfNone result ((identifiers_in L.caveat_at self.old ≡ []) × (identifiers_in L.caveat_at self.new ≡ [])) }
+    {
+        self.count = self.count.checked_sub(1)?;
+        let first = L::first_caveat(self.bytes)?;
+        self.bytes = first.rest;
+        Some(first.identifier)
+    }
+}
+
+impl<'a> Walk<'a> {
+    /// Hands out the first of the fields still to come, or `None` where none is left.
+    #[tactic(auto, unfolding(crate::specs::Caveats::to_come))]
+    pub fn next<L: Layout>(&mut self) -> Option<Field<'a>>
+        ensures some { IfSome result (λ field. to_come L.caveat_at self.old ≡ told field ∷ to_come L.caveat_at self.new) }
+        ensures none { IfNone result ((to_come L.caveat_at self.old ≡ []) × (to_come L.caveat_at self.new ≡ [])) }
+    {
+        if let Some(location) = self.location.take() {
+            return Some(Field::Location(location));
+        }
+        if let Some(identifier) = self.identifier.take() {
+            return Some(Field::Identifier(identifier));
+        }
+        if let Some(caveat) = self.caveats.next::<L>() {
+            return Some(Field::Caveat(caveat));
+        }
+        let signature = self.signature.take()?;
+        Some(Field::Signature(signature))
+    }
 }

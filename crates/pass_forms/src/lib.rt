@@ -1,8 +1,10 @@
-//! Passes as bytes: macaroons in libmacaroons' packets (V1), and the envelope that carries each form as a text.
+//! Passes, which are macaroons of first-party caveats: as bytes in libmacaroons' packets (V1) and in its binary form (V2), read
+//! field by field or whole, written and narrowed; and the envelope that carries each form as a text.
 #![tactic(auto)]
 
 mod envelope;
 mod fault;
+mod field_source;
 mod form;
 pub mod laws;
 mod layout;
@@ -14,8 +16,9 @@ mod write;
 
 pub use envelope::{MAX_BYTES, MAX_TEXT, Unwrapped, decode_base64, unwrap_text};
 pub use fault::FormFault;
+pub use field_source::{Field, FieldSource};
 pub use form::Form;
 pub use pass::{MAX_CAVEATS, Pass, narrow};
-pub use v1::read_v1;
-pub use v2::read_v2;
+pub use v1::{V1Fields, read_v1};
+pub use v2::{V2Fields, read_v2};
 pub use write::{write_v1, write_v2};

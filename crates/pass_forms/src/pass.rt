@@ -5,9 +5,9 @@ ghost use Rattle.pass_forms.specs.Pass.{IsSigned};
 ghost use Rattle.pass_forms.specs.Reading.{max_caveats};
 ghost use Rattle.pass_forms.specs.Writing.{IsNarrowingFault, with_caveat};
 
-use crate::FormFault;
+use crate::{Field, FormFault};
 use pass_mac::{Chain, same};
-use std::alloc::Global;
+use std::alloc::{AllocError, Global};
 use std::marker::Model;
 
 /// The most caveats of a pass.
@@ -39,8 +39,9 @@ impl Model for Pass {
 }
 
 impl Pass {
-    ghost use Rattle.std.specs.Prelude.{◌≡◌, ◌↔◌, length, map, IsTrue};
-    ghost use Rattle.pass_forms.specs.Pass.{IsSigned, is_signed};
+    ghost use Rattle.std.specs.Prelude.{◌≡◌, ◌↔◌, length, map, IfOk, IsTrue, OnOk};
+    ghost use Rattle.pass_forms.specs.FieldSource.{no_fields, told, with_field};
+    ghost use Rattle.pass_forms.specs.Pass.{IsSigned, is_signed, minted};
 
     /// A pass of these parts; nothing is tested.
     pub fn new(
@@ -62,6 +63,51 @@ impl Pass {
             caveats,
             signature,
         }
+    }
+
+    /// A new pass of these two fields, with no caveats, signed under a root of any length.
+    ///
+    /// # Errors
+    ///
+    /// Memory was refused to a copy of a field.
+    pub fn mint(
+        alloc: Global,
+        root: &[u8],
+        location: &[u8],
+        identifier: &[u8],
+    ) -> Result<Pass, AllocError>
+        ensures ok { IfOk result (λ pass. pass ≡ minted root.now location.now identifier.now) }
+        ensures signed { IfOk result (IsSigned root.now) }
+    {
+        let signature = Chain::start(root, identifier).signature();
+        let location = Vec::from_slice(alloc, location)?;
+        let identifier = Vec::from_slice(alloc, identifier)?;
+        Ok(Pass::new(location, identifier, Vec::new(alloc), signature))
+    }
+
+    // A pass without fields, with room for so many caveats.
+    pub(crate) fn with_room(alloc: Global, caveat_count: usize) -> Result<Pass, AllocError>
+        ensures { IfOk result (λ pass. pass ≡ no_fields) }
+    {
+        Ok(Pass {
+            location: Vec::new(alloc),
+            identifier: Vec::new(alloc),
+            caveats: Vec::with_capacity(alloc, caveat_count)?,
+            signature: [0; 32],
+        })
+    }
+
+    // Copies a field to its place, a caveat behind the others.
+    pub(crate) fn set(&mut self, alloc: Global, field: Field) -> Result<(), AllocError>
+        ensures { OnOk result (self.new ≡ with_field self.old (told field.entry)) }
+    {
+        match field {
+            Field::Location(bytes) => self.location = Vec::from_slice(alloc, bytes)?,
+            Field::Identifier(bytes) => self.identifier = Vec::from_slice(alloc, bytes)?,
+            Field::Caveat(bytes) => self.caveats.push(Vec::from_slice(alloc, bytes)?)?,
+            Field::Signature(bytes) => self.signature = bytes,
+        }
+        Ok(())
     }
 
     /// A hint at where the pass is good. It isn't signed.
@@ -137,3 +183,6 @@ pub fn narrow(alloc: Global, pass: &mut Pass, caveat: &[u8]) -> Result<(), FormF
     pass.signature = chain.signature();
     Ok(())
 }
+
+#[cfg(test)]
+mod tests;

@@ -1,12 +1,14 @@
 ghost use Rattle.std.specs.Prelude.{◌≡◌, length, option_map, is_some};
-ghost use Rattle.pass_forms.specs.Reading.{IsReading, UnlessMemory};
+ghost use Rattle.pass_forms.specs.Reading.{IsReading, OrOutOfMemory};
 ghost use Rattle.pass_forms.specs.V1.{SpellsV1};
 ghost use Rattle.pass_forms.specs.V1Reading as reading;
 
-use crate::layout::{self, Caveat, Header, Layout};
+use crate::field_source::collect;
+use crate::layout::{self, Caveat, Header, Layout, Walk};
 use crate::parts::{after_prefix, before_suffix};
-use crate::{FormFault, Pass};
+use crate::{Field, FieldSource, FormFault, Pass};
 use std::alloc::Global;
+use std::marker::Model;
 
 pub const LOCATION: &[u8] = b"location ";
 
@@ -49,6 +51,10 @@ fn packet_len(bytes: &[u8]) -> Option<usize>
 fn first_packet<'a>(key: &[u8], bytes: &'a [u8]) -> Option<(&'a [u8], &'a [u8])>
     ensures { option_map (λ found. (found.0.now, found.1.now)) result ≡ reading.packet_at key.now bytes.now }
 {
+    // Most packets are of another key, which is seen before the length is read.
+    if bytes.len() >= 4 {
+        let _body = after_prefix(key, &bytes[4..])?;
+    }
     let len = packet_len(bytes)?;
     if len > bytes.len() {
         return None;
@@ -117,20 +123,73 @@ impl Layout for Packets {
     }
 }
 
+/// The fields of the pass that the packets of V1 spell. Contracts see them as the list of those still to come.
+#[derive(Drop)]
+pub struct V1Fields<'a> {
+    walk: Walk<'a>,
+}
+
+impl<'a> Model for V1Fields<'a> {
+    ghost use Rattle.std.specs.Prelude.{List};
+    ghost use Rattle.pass_forms.specs.FieldSource.{PassField};
+
+    ghost Value = { List PassField };
+
+    ghost use Rattle.pass_forms.specs.Caveats.{to_come};
+    ghost use Rattle.pass_forms.specs.V1Reading.{caveat_at};
+
+    ghost view = { λ fields. to_come caveat_at fields.walk };
+}
+
+impl<'a> V1Fields<'a> {
+    ghost use Rattle.std.specs.Prelude.{◌≡◌, length};
+    ghost use Rattle.pass_forms.specs.FieldSource.{IsOpening, opened};
+    ghost use Rattle.pass_forms.specs.Reading.{IsReading};
+    ghost use Rattle.pass_forms.specs.V1.{SpellsV1};
+    ghost use Rattle.pass_forms.specs.V1Reading.{reading_v1};
+
+    /// Checks the packets of V1, all of the bytes, before it hands out the first field. They are libmacaroons' packets, without
+    /// base64. It takes no memory: each field is a part of the bytes.
+    ///
+    /// # Errors
+    ///
+    /// The first that fits: `TooLong` for more than 8,192 bytes, `Malformed` where no pass is spelled, `ThirdParty` where a
+    /// caveat is a third party's, `TooMany` for more than 64 caveats.
+    #[tactic(auto, unfolding(crate::specs::V1Reading::reading_v1))]
+    pub fn open(bytes: &'a [u8]) -> Result<V1Fields<'a>, FormFault>
+        // By what the bytes spell.
+        ensures spelled { IsOpening (IsReading (length bytes.now) (SpellsV1 bytes.now)) result }
+        // The same, computed.
+        ensures computed { result ≡ opened (reading_v1 bytes.now) }
+    {
+        let walk = layout::open::<Packets>(bytes)?;
+        Ok(V1Fields { walk })
+    }
+}
+
+impl<'a> FieldSource<'a> for V1Fields<'a> {
+    ghost left = { λ fields. fields };
+
+    fn next(&mut self) -> Option<Field<'a>> {
+        self.walk.next::<Packets>()
+    }
+}
+
 /// The pass that the packets of V1 spell, all of the bytes. They are libmacaroons' packets, without base64.
 ///
 /// # Errors
 ///
 /// The first that fits: `TooLong` for more than 8,192 bytes, `Malformed` where no pass is spelled, `ThirdParty` where a
-/// caveat is a third party's, `TooMany` for more than 64 caveats. `Memory` comes only where memory was refused.
-#[tactic(auto, unfolding(crate::specs::V1Reading::reading_v1))]
+/// caveat is a third party's, `TooMany` for more than 64 caveats. `Memory` comes only for a pass that would have been read.
 pub fn read_v1(alloc: Global, bytes: &[u8]) -> Result<Pass, FormFault>
     // By what the bytes spell.
-    ensures spelled { UnlessMemory (IsReading (length bytes.now) (SpellsV1 bytes.now)) result }
+    ensures spelled { OrOutOfMemory (IsReading (length bytes.now) (SpellsV1 bytes.now)) result }
     // The same, computed.
-    ensures computed { UnlessMemory (λ answer. reading.reading_v1 bytes.now ≡ answer) result }
+    ensures computed { OrOutOfMemory (λ answer. reading.reading_v1 bytes.now ≡ answer) result }
 {
-    layout::read::<Packets>(alloc, bytes)
+    let mut fields = V1Fields::open(bytes)?;
+    let caveat_count = fields.walk.caveats.count;
+    Ok(collect(alloc, caveat_count, &mut fields)?)
 }
 
 #[cfg(test)]

@@ -1,12 +1,14 @@
 ghost use Rattle.std.specs.Prelude.{◌≡◌, ℕ, List, ◌<◌, ◌≤◌, Some, None, length, option_map, is_some, MatchOption};
-ghost use Rattle.pass_forms.specs.Reading.{IsReading, UnlessMemory};
+ghost use Rattle.pass_forms.specs.Reading.{IsReading, OrOutOfMemory};
 ghost use Rattle.pass_forms.specs.V2.{SpellsV2};
 ghost use Rattle.pass_forms.specs.V2Reading as reading;
 
-use crate::layout::{self, Caveat, Header, Layout};
+use crate::field_source::collect;
+use crate::layout::{self, Caveat, Header, Layout, Walk};
 use crate::parts::after_prefix;
-use crate::{FormFault, Pass};
+use crate::{Field, FieldSource, FormFault, Pass};
 use std::alloc::Global;
+use std::marker::Model;
 
 pub const VERSION: &[u8] = &[2];
 
@@ -100,7 +102,7 @@ impl Layout for Sections {
         let (identifier, rest) = first_field(IDENTIFIER, rest)?;
         let rest = after_prefix(END_OF_SECTION, rest)?;
         Some(Header {
-            location: location.unwrap_or(&[]),
+            location: location.unwrap_or(&bytes[..0]),
             identifier,
             rest,
         })
@@ -125,21 +127,74 @@ impl Layout for Sections {
     }
 }
 
+/// The fields of the pass that the bytes of V2 spell. Contracts see them as the list of those still to come.
+#[derive(Drop)]
+pub struct V2Fields<'a> {
+    walk: Walk<'a>,
+}
+
+impl<'a> Model for V2Fields<'a> {
+    ghost use Rattle.std.specs.Prelude.{List};
+    ghost use Rattle.pass_forms.specs.FieldSource.{PassField};
+
+    ghost Value = { List PassField };
+
+    ghost use Rattle.pass_forms.specs.Caveats.{to_come};
+    ghost use Rattle.pass_forms.specs.V2Reading.{caveat_at};
+
+    ghost view = { λ fields. to_come caveat_at fields.walk };
+}
+
+impl<'a> V2Fields<'a> {
+    ghost use Rattle.std.specs.Prelude.{◌≡◌, length};
+    ghost use Rattle.pass_forms.specs.FieldSource.{IsOpening, opened};
+    ghost use Rattle.pass_forms.specs.Reading.{IsReading};
+    ghost use Rattle.pass_forms.specs.V2.{SpellsV2};
+    ghost use Rattle.pass_forms.specs.V2Reading.{reading_v2};
+
+    /// Checks the bytes of V2, all of them, before it hands out the first field. They are libmacaroons' binary form, without
+    /// base64. Each number has its one shortest spelling (ours). It takes no memory: each field is a part of the bytes.
+    ///
+    /// # Errors
+    ///
+    /// The first that fits: `TooLong` for more than 8,192 bytes, `Malformed` where no pass is spelled, `ThirdParty` where a
+    /// caveat is a third party's, `TooMany` for more than 64 caveats.
+    #[tactic(auto, unfolding(crate::specs::V2Reading::reading_v2))]
+    pub fn open(bytes: &'a [u8]) -> Result<V2Fields<'a>, FormFault>
+        // By what the bytes spell.
+        ensures spelled { IsOpening (IsReading (length bytes.now) (SpellsV2 bytes.now)) result }
+        // The same, computed.
+        ensures computed { result ≡ opened (reading_v2 bytes.now) }
+    {
+        let walk = layout::open::<Sections>(bytes)?;
+        Ok(V2Fields { walk })
+    }
+}
+
+impl<'a> FieldSource<'a> for V2Fields<'a> {
+    ghost left = { λ fields. fields };
+
+    fn next(&mut self) -> Option<Field<'a>> {
+        self.walk.next::<Sections>()
+    }
+}
+
 /// The pass that the bytes of V2 spell, all of the bytes. They are libmacaroons' binary form, without base64. Each
 /// number has its one shortest spelling (ours).
 ///
 /// # Errors
 ///
 /// The first that fits: `TooLong` for more than 8,192 bytes, `Malformed` where no pass is spelled, `ThirdParty` where a
-/// caveat is a third party's, `TooMany` for more than 64 caveats. `Memory` comes only where memory was refused.
-#[tactic(auto, unfolding(crate::specs::V2Reading::reading_v2))]
+/// caveat is a third party's, `TooMany` for more than 64 caveats. `Memory` comes only for a pass that would have been read.
 pub fn read_v2(alloc: Global, bytes: &[u8]) -> Result<Pass, FormFault>
     // By what the bytes spell.
-    ensures spelled { UnlessMemory (IsReading (length bytes.now) (SpellsV2 bytes.now)) result }
+    ensures spelled { OrOutOfMemory (IsReading (length bytes.now) (SpellsV2 bytes.now)) result }
     // The same, computed.
-    ensures computed { UnlessMemory (λ answer. reading.reading_v2 bytes.now ≡ answer) result }
+    ensures computed { OrOutOfMemory (λ answer. reading.reading_v2 bytes.now ≡ answer) result }
 {
-    layout::read::<Sections>(alloc, bytes)
+    let mut fields = V2Fields::open(bytes)?;
+    let caveat_count = fields.walk.caveats.count;
+    Ok(collect(alloc, caveat_count, &mut fields)?)
 }
 
 #[cfg(test)]

@@ -5,13 +5,13 @@ use Rattle.std.specs.Option.{option_map, unwrap_or}
 use Rattle.std.proofs.lemmas.List.{length-map}
 use Rattle.serde_json.specs.Data.{Data}
 use Rattle.serde_json.specs.Find.{get}
-use Rattle.pass_forms.specs.Pass.{WideCaveat, is_third_party, narrowed_caveat}
+use Rattle.pass_forms.specs.Pass.{WideCaveat, is_third_party, first_party_caveat}
 use Rattle.pass_forms.specs.Reading.{kept}
 use Rattle.pass_json.specs.Json.{pass_names}
 use Rattle.pass_json.specs.JsonReading.{field_at, has_only, is_version, kept_caveats, listed, pass_of, required, signature_of}
 
 were_kept : (found : Option (List WideCaveat)) (identifiers : List (List ℕ)) (third_party : Bool) → option_map kept_caveats found ≡ Some (identifiers, third_party)
-    → (caveats : List WideCaveat) × (found ≡ Some caveats) × (map narrowed_caveat caveats ≡ identifiers) × (list_any is_third_party caveats ≡ third_party)
+    → (caveats : List WideCaveat) × (found ≡ Some caveats) × (map first_party_caveat caveats ≡ identifiers) × (list_any is_third_party caveats ≡ third_party)
 were_kept None identifiers third_party e = absurd cc
 were_kept (Some caveats) identifiers third_party e =
     let same : kept_caveats caveats ≡ (identifiers, third_party) = cc in
@@ -28,7 +28,7 @@ pub kept_pass : (value : Data) (location : Option (List ℕ)) (identifier : List
 unfolding pass_of
 kept_pass value location identifier identifiers third_party signature only version is_location is_identifier are_caveats is_signature =
     let caveats = were_kept (listed (get (codes "c") value)) identifiers third_party are_caveats in
-    let count : length caveats.0 ≡ length identifiers = sym (length-map caveats.0 narrowed_caveat) ∙ ap length caveats.2 in
+    let count : length caveats.0 ≡ length identifiers = sym (length-map caveats.0 first_party_caveat) ∙ ap length caveats.2 in
     rw (only, version, is_location, is_identifier, caveats.1, is_signature, caveats.2, caveats.3, count) refl
 
 -- a location that is left out is empty

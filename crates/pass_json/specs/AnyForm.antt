@@ -1,18 +1,20 @@
 -- A text in any of the three forms: what it stands for, and what is written.
-use Rattle.std.specs.Prelude.{◌≡◌, ◌↔◌, ℕ, List, Option, Result, Ok, length}
+use Rattle.std.specs.Prelude.{◌≡◌, ◌↔◌, ◌⊎◌, ◌≤◌, ℕ, List, Option, Result, Ok, Err, IsOk, length}
 use Rattle.base64.specs.GeneralPurpose.{IsBytes}
 use Rattle.pass_forms.specs.declared.fault.FormFault.{FormFault}
 use Rattle.pass_forms.specs.declared.form.Form.{Form}
 use Rattle.pass_forms.specs.declared.form.Form.TheVariants.{V1, V2, Json}
+use Rattle.pass_forms.specs.Envelope.{unwrapped}
 use Rattle.pass_forms.specs.Pass.{Plain, WidePass}
-use Rattle.pass_forms.specs.Text.{IsTextReading, text_reading}
+use Rattle.pass_forms.specs.Reading.{max_text_len}
+use Rattle.pass_forms.specs.Text.{IsTextReading, in_form, text_reading}
 use Rattle.pass_forms.specs.V1.{SpellsV1}
 use Rattle.pass_forms.specs.V1Reading as v1
 use Rattle.pass_forms.specs.V2.{SpellsV2}
 use Rattle.pass_forms.specs.V2Reading as v2
 use Rattle.pass_json.specs.Json.{SpellsJson}
 use Rattle.pass_forms.specs.Writing.{HasBytes, IsRefused, IsV1Text, IsV2Text, IsWritten, writing_v1, writing_v2}
-use Rattle.pass_json.specs.JsonReading.{wide_json}
+use Rattle.pass_json.specs.JsonReading.{reading_json, wide_json}
 use Rattle.pass_json.specs.JsonWriting.{IsJsonText, IsRefusedJson, writing_json}
 
 -- Bytes spell a wide pass in this form.
@@ -35,6 +37,26 @@ wide_in Json bytes = wide_json bytes
 
 unfoldable pub reading : List ℕ → Result (Form × Plain) FormFault
 reading text = text_reading wide_in text
+
+-- the reading of bytes in this form
+abbrev pub reading_in_form : Form → List ℕ → Result Plain FormFault
+reading_in_form V1 bytes = v1.reading_v1 bytes
+reading_in_form V2 bytes = v2.reading_v2 bytes
+reading_in_form Json bytes = reading_json bytes
+
+-- The reading of a text is that of the bytes that it wraps, which have no more than a text may have, in their form.
+abbrev pub ReadsWhatIsWrapped : Type 0
+ReadsWhatIsWrapped = (text : List ℕ) (form : Form) (bytes : List ℕ) → unwrapped text ≡ Ok (form, bytes)
+    → length bytes ≤ max_text_len → reading text ≡ in_form form (reading_in_form form bytes)
+
+-- A text that wraps nothing is refused with the same fault.
+abbrev pub RefusesWhatWrapsNothing : Type 0
+RefusesWhatWrapsNothing = (text : List ℕ) (fault : FormFault) → unwrapped text ≡ Err fault → reading text ≡ Err fault
+
+-- Where memory may run out in reading a text: in V1 and V2 for what would have been read alone, in JSON for any text within
+-- the limit.
+abbrev pub MayRunOut : List ℕ → Type 0
+MayRunOut text = IsOk (reading text) ⊎ ((bytes : List ℕ) × (unwrapped text ≡ Ok (Json, bytes)))
 
 -- The computed reading of a text is what it stands for, in every case, and nothing else is: a text has one reading, however
 -- it is spelled.

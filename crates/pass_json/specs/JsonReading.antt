@@ -9,7 +9,7 @@ use Rattle.pass_forms.specs.declared.fault.FormFault.{FormFault}
 use Rattle.pass_forms.specs.declared.fault.FormFault.TheVariants.{Malformed, Memory}
 use Rattle.pass_forms.specs.Envelope.{from_base64}
 use Rattle.pass_forms.specs.Parts.{◌>>=◌}
-use Rattle.pass_forms.specs.Pass.{Plain, WideCaveat, WidePass, is_third_party, narrowed_caveat}
+use Rattle.pass_forms.specs.Pass.{Plain, WideCaveat, WidePass, is_third_party, first_party_caveat}
 use Rattle.pass_forms.specs.Reading.{IsReading, reading_of}
 use Rattle.pass_json.specs.Json.{SpellsJson, caveat_names, pass_names}
 
@@ -105,10 +105,10 @@ reading_json bytes = reading_of (length bytes) (wide_json bytes)
 
 -- what the reader keeps of a caveat, and of all of them: identifiers, and whether one is a third party's
 abbrev pub kept_caveat : WideCaveat → List ℕ × Bool
-kept_caveat caveat = (narrowed_caveat caveat, is_third_party caveat)
+kept_caveat caveat = (first_party_caveat caveat, is_third_party caveat)
 
 abbrev pub kept_caveats : List WideCaveat → List (List ℕ) × Bool
-kept_caveats caveats = (map narrowed_caveat caveats, list_any is_third_party caveats)
+kept_caveats caveats = (map first_party_caveat caveats, list_any is_third_party caveats)
 
 -- What a part of the reader may refuse: what isn't well formed, and memory at any time.
 abbrev pub RefusesPart : {A : Type 0} → Option A → FormFault → Type 0

@@ -67,7 +67,7 @@ writing_json pass =
     if nat_lt max_caveats (length pass.caveats) then Err TooMany
     else (if nat_lt max_text_len (length (json_text pass)) then Err TooLong else Ok (json_text pass))
 
--- A writer that would answer so may answer this fault: the same, or want of memory in place of a text or of `TooLong`.
+-- A writer that would answer so may answer this fault: the same, or out of memory in place of a text or of `TooLong`.
 abbrev pub MayFailAs : Result (List ℕ) FormFault → FormFault → Type 0
 MayFailAs writing Memory = ¬ (writing ≡ Err TooMany)
 MayFailAs writing TooLong = writing ≡ Err TooLong

@@ -1,10 +1,12 @@
 //! Texts in any of the three forms.
 
-ghost use Rattle.std.specs.Prelude.{◌≡◌, length, IfErr, IfOk, MatchResult, Ok};
+ghost use Rattle.std.specs.Prelude.{◌≡◌, ◌⊎◌, Err, IfErr, IfOk, IsOk, MatchResult, Ok};
 ghost use Rattle.std.specs.String.{string_bytes};
+ghost use Rattle.pass_forms.specs.declared.fault.FormFault.TheVariants.{Memory};
+ghost use Rattle.pass_forms.specs.declared.form.Form.TheVariants.{Json};
 ghost use Rattle.pass_forms.specs.Writing.{IsWritten};
-ghost use Rattle.pass_forms.specs.Reading.{UnlessMemory, reading_of};
-ghost use Rattle.pass_json.specs.AnyForm.{IsAnyReading, IsRefusedIn, IsTextIn, reading, wide_in, writing};
+ghost use Rattle.pass_forms.specs.Reading.{UnlessMemory};
+ghost use Rattle.pass_json.specs.AnyForm.{IsAnyReading, IsRefusedIn, IsTextIn, MayRunOut, reading, reading_in_form, writing};
 ghost use Rattle.pass_json.specs.JsonWriting.{MayFailAs};
 
 use crate::laws::reads_any_form_exactly;
@@ -19,12 +21,14 @@ use std::alloc::Global;
 /// # Errors
 ///
 /// The first that fits: `TooLong` for more than 8,192 bytes, `Malformed` where no pass is spelled in any form, `ThirdParty`
-/// where a caveat is a third party's, `TooMany` for more than 64 caveats. `Memory` comes only where memory was refused.
+/// where a caveat is a third party's, `TooMany` for more than 64 caveats. `Memory` comes only where memory was refused, in V1 and
+/// V2 only for a pass that would have been read.
 pub fn read_any(alloc: Global, text: &[u8]) -> Result<(Form, Pass), FormFault>
     // By what the text spells, in whichever form.
     ensures spelled { UnlessMemory (IsAnyReading text.now) result }
     // The same, computed.
     ensures computed { UnlessMemory (λ answer. reading text.now ≡ answer) result }
+    ensures memory { result ≡ Err Memory → MayRunOut text.now }
 {
     reads_any_form_exactly();
     unwrapped(alloc, text)
@@ -33,7 +37,8 @@ pub fn read_any(alloc: Global, text: &[u8]) -> Result<(Form, Pass), FormFault>
 // The same, by taking the text out of its envelope.
 #[tactic(auto, unfolding(crate::specs::AnyForm::reading))]
 fn unwrapped(alloc: Global, text: &[u8]) -> Result<(Form, Pass), FormFault>
-    ensures { UnlessMemory (λ answer. reading text.now ≡ answer) result }
+    ensures answer { UnlessMemory (λ answer. reading text.now ≡ answer) result }
+    ensures memory { result ≡ Err Memory → MayRunOut text.now }
 {
     let mut room = [0; MAX_BYTES];
     let unwrapped = unwrap_text(text, &mut room)?;
@@ -42,9 +47,9 @@ fn unwrapped(alloc: Global, text: &[u8]) -> Result<(Form, Pass), FormFault>
 }
 
 // The pass that the bytes spell in this form.
-#[tactic(auto, unfolding(crate::specs::AnyForm::wide_in, crate::specs::JsonReading::reading_json, pass_forms::specs::V1Reading::reading_v1, pass_forms::specs::V2Reading::reading_v2))]
 fn in_form(alloc: Global, form: Form, bytes: &[u8]) -> Result<Pass, FormFault>
-    ensures { UnlessMemory (λ answer. reading_of (length bytes.now) (wide_in form bytes.now) ≡ answer) result }
+    ensures answer { UnlessMemory (λ answer. reading_in_form form bytes.now ≡ answer) result }
+    ensures memory { result ≡ Err Memory → IsOk (reading_in_form form bytes.now) ⊎ (form ≡ Json) }
 {
     match form {
         Form::V1 => read_v1(alloc, bytes),

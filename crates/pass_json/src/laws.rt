@@ -1,6 +1,6 @@
 //! Laws of the definitions, each the contract of a function that does nothing but cite those that it rests on.
 
-ghost use Rattle.pass_json.specs.AnyForm.{AnyFormReadsBack, OneTextEachForm, ReadsAnyFormExactly, WritesAnyFormExactly};
+ghost use Rattle.pass_json.specs.AnyForm.{AnyFormReadsBack, OneTextEachForm, ReadsAnyFormExactly, ReadsWhatIsWrapped, RefusesWhatWrapsNothing, WritesAnyFormExactly};
 ghost use Rattle.pass_json.specs.Json.{OnePassEachJson};
 ghost use Rattle.pass_json.specs.JsonReading.{ComputesJson, ReadsJsonExactly};
 ghost use Rattle.pass_json.specs.JsonWriting.{JsonReadsBack, WritesJsonExactly};
@@ -41,6 +41,16 @@ pub fn reads_any_form_exactly()
     computes_json();
     reads_texts_exactly();
 }
+
+/// The reading of a text is the reading of the bytes that it wraps, in their form.
+pub fn reads_what_is_wrapped()
+    ensures { ReadsWhatIsWrapped }
+{}
+
+/// A text that wraps nothing has the fault of its envelope.
+pub fn refuses_what_wraps_nothing()
+    ensures { RefusesWhatWrapsNothing }
+{}
 
 /// The text that is written of a pass in JSON is read back as that pass.
 pub fn json_reads_back()

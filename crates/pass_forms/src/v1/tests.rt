@@ -1,4 +1,4 @@
-use crate::{FormFault, read_v1};
+use crate::{Field, FieldSource, FormFault, V1Fields, read_v1};
 use std::alloc::{AllocError, Global};
 use std::test::Fail;
 
@@ -37,20 +37,44 @@ fn reads_the_known_pass(rt: HostRuntime) -> Result<(), Fail> {
     Ok(())
 }
 
+// Its fields come in their order, and then none, however often one is asked for.
+#[test]
+fn hands_out_the_known_pass(rt: HostRuntime) -> Result<(), Fail> {
+    let bytes = packets(rt.alloc(), CAVEAT)?;
+    let mut fields = V1Fields::open(&bytes)?;
+    assert!(rt; next(&mut fields) == Some(Field::Location(b"http://mybank/")));
+    assert!(rt; next(&mut fields) == Some(Field::Identifier(b"we used our secret key")));
+    assert!(rt; next(&mut fields) == Some(Field::Caveat(b"test = caveat")));
+    let signature =
+        b"\x19\x7b\xac\x7a\x04\x4a\xf3\x33\x32\x86\x5b\x92\x66\xe2\x6d\x49\x3b\xdd\x66\x8a\x66\x0e\x44\xd8\x8c\xe1\xa9\x98\xc2\x3d\xbd\x67";
+    assert!(rt; next(&mut fields) == Some(Field::Signature(*signature)));
+    assert!(rt; next(&mut fields) == None);
+    assert!(rt; next(&mut fields) == None);
+    Ok(())
+}
+
+// Without the contract, which the tests don't need.
+fn next<'a>(fields: &mut V1Fields<'a>) -> Option<Field<'a>> {
+    fields.next()
+}
+
+// Opening and reading answer this fault both.
+fn is_refused(alloc: Global, bytes: &[u8], fault: FormFault) -> bool {
+    matches!(V1Fields::open(bytes), Err(f) if f == fault)
+        && matches!(read_v1(alloc, bytes), Err(f) if f == fault)
+}
+
 #[test]
 fn refuses_the_known_pass_cut_short_or_grown(rt: HostRuntime) -> Result<(), Fail> {
     let mut bytes = packets(rt.alloc(), CAVEAT)?;
     for len in 0..bytes.len() {
         assert!(rt;
-            matches!(
-                read_v1(rt.alloc(), &bytes[..len]),
-                Err(FormFault::Malformed)
-            ),
+            is_refused(rt.alloc(), &bytes[..len], FormFault::Malformed),
             "at {len}"
         );
     }
     bytes.push(b'0')?;
-    assert!(rt; matches!(read_v1(rt.alloc(), &bytes), Err(FormFault::Malformed)));
+    assert!(rt; is_refused(rt.alloc(), &bytes, FormFault::Malformed));
     Ok(())
 }
 
@@ -69,14 +93,11 @@ fn tells_each_fault(rt: HostRuntime) -> Result<(), Fail> {
     ];
     for (caveats, fault) in rows {
         let bytes = packets(rt.alloc(), caveats)?;
-        assert!(rt;
-            matches!(read_v1(rt.alloc(), &bytes), Err(f) if f == fault),
-            "{caveats:?}"
-        );
+        assert!(rt; is_refused(rt.alloc(), &bytes, fault), "{caveats:?}");
     }
     let long = vec![in rt.alloc(); b'0'; 8193]?;
-    assert!(rt; matches!(read_v1(rt.alloc(), &long), Err(FormFault::TooLong)));
-    assert!(rt; matches!(read_v1(rt.alloc(), &long[1..]), Err(FormFault::Malformed)));
+    assert!(rt; is_refused(rt.alloc(), &long, FormFault::TooLong));
+    assert!(rt; is_refused(rt.alloc(), &long[1..], FormFault::Malformed));
     Ok(())
 }
 
@@ -103,13 +124,13 @@ fn counts_caveats(rt: HostRuntime) -> Result<(), Fail> {
 
     caveats.extend_from_slice(b"000acid x\n")?;
     let mut bytes = packets(rt.alloc(), &caveats)?;
-    assert!(rt; matches!(read_v1(rt.alloc(), &bytes), Err(FormFault::TooMany)));
+    assert!(rt; is_refused(rt.alloc(), &bytes, FormFault::TooMany));
     bytes.push(0)?;
-    assert!(rt; matches!(read_v1(rt.alloc(), &bytes), Err(FormFault::Malformed)));
+    assert!(rt; is_refused(rt.alloc(), &bytes, FormFault::Malformed));
 
     caveats.extend_from_slice(b"0009vid \n")?;
     let bytes = packets(rt.alloc(), &caveats)?;
-    assert!(rt; matches!(read_v1(rt.alloc(), &bytes), Err(FormFault::ThirdParty)));
+    assert!(rt; is_refused(rt.alloc(), &bytes, FormFault::ThirdParty));
     Ok(())
 }
 

@@ -1,4 +1,4 @@
-use crate::{FormFault, Pass, read_v2};
+use crate::{Field, FieldSource, FormFault, V2Fields, read_v2};
 use std::alloc::{AllocError, Global};
 use std::test::Fail;
 
@@ -31,8 +31,15 @@ fn with_identifier(alloc: Global, spelled: &[u8], len: usize) -> Result<Vec<u8>,
     signed(alloc, &front)
 }
 
-fn is_fault(read: Result<Pass, FormFault>, fault: FormFault) -> bool {
-    matches!(read, Err(f) if f == fault)
+// Without the contract, which the tests don't need.
+fn next<'a>(fields: &mut V2Fields<'a>) -> Option<Field<'a>> {
+    fields.next()
+}
+
+// Opening and reading answer this fault both.
+fn is_refused(alloc: Global, bytes: &[u8], fault: FormFault) -> bool {
+    matches!(V2Fields::open(bytes), Err(f) if f == fault)
+        && matches!(read_v2(alloc, bytes), Err(f) if f == fault)
 }
 
 #[test]
@@ -47,12 +54,38 @@ fn reads_the_known_pass(rt: HostRuntime) -> Result<(), Fail> {
     assert_eq!(rt; pass.signature().as_slice(), SIGNATURE);
     for len in 0..bytes.len() {
         assert!(rt;
-            is_fault(read_v2(rt.alloc(), &bytes[..len]), FormFault::Malformed),
+            is_refused(rt.alloc(), &bytes[..len], FormFault::Malformed),
             "at {len}"
         );
     }
     bytes.push(0)?;
-    assert!(rt; is_fault(read_v2(rt.alloc(), &bytes), FormFault::Malformed));
+    assert!(rt; is_refused(rt.alloc(), &bytes, FormFault::Malformed));
+    Ok(())
+}
+
+// Its fields come in their order, and then none. The caveats stand between the identifier and the signature.
+#[test]
+fn hands_out_the_known_pass(rt: HostRuntime) -> Result<(), Fail> {
+    let header = b"\x02\x01\x13http://example.org/\x02\x05keyid\x00";
+    let bytes = signed(rt.alloc(), header)?;
+    let mut fields = V2Fields::open(&bytes)?;
+    assert!(rt; next(&mut fields) == Some(Field::Location(b"http://example.org/")));
+    assert!(rt; next(&mut fields) == Some(Field::Identifier(b"keyid")));
+    assert!(rt;
+        matches!(next(&mut fields), Some(Field::Signature(bytes)) if bytes.as_slice() == SIGNATURE)
+    );
+    assert!(rt; next(&mut fields) == None);
+    assert!(rt; next(&mut fields) == None);
+    let bytes = with_caveats(rt.alloc(), b"\x02\x01x\x00\x02\x00\x00")?;
+    let mut fields = V2Fields::open(&bytes)?;
+    assert!(rt; next(&mut fields) == Some(Field::Location(b"")));
+    assert!(rt; next(&mut fields) == Some(Field::Identifier(b"keyid")));
+    assert!(rt; next(&mut fields) == Some(Field::Caveat(b"x")));
+    assert!(rt; next(&mut fields) == Some(Field::Caveat(b"")));
+    assert!(rt;
+        matches!(next(&mut fields), Some(Field::Signature(bytes)) if bytes.as_slice() == SIGNATURE)
+    );
+    assert!(rt; next(&mut fields) == None);
     Ok(())
 }
 
@@ -86,7 +119,7 @@ fn reads_lengths(rt: HostRuntime) -> Result<(), Fail> {
     for header in malformed {
         let bytes = signed(rt.alloc(), header)?;
         assert!(rt;
-            is_fault(read_v2(rt.alloc(), &bytes), FormFault::Malformed),
+            is_refused(rt.alloc(), &bytes, FormFault::Malformed),
             "{header:?}"
         );
     }
@@ -104,10 +137,10 @@ fn tells_each_fault(rt: HostRuntime) -> Result<(), Fail> {
     ];
     for (caveats, fault) in rows {
         let bytes = with_caveats(rt.alloc(), caveats)?;
-        assert!(rt; is_fault(read_v2(rt.alloc(), &bytes), fault), "{caveats:?}");
+        assert!(rt; is_refused(rt.alloc(), &bytes, fault), "{caveats:?}");
     }
     let long = vec![in rt.alloc(); 2; 8193]?;
-    assert!(rt; is_fault(read_v2(rt.alloc(), &long), FormFault::TooLong));
+    assert!(rt; is_refused(rt.alloc(), &long, FormFault::TooLong));
     Ok(())
 }
 
@@ -122,12 +155,12 @@ fn counts_caveats(rt: HostRuntime) -> Result<(), Fail> {
 
     caveats.extend_from_slice(b"\x02\x0bguests <= 1\x00")?;
     let mut bytes = with_caveats(rt.alloc(), &caveats)?;
-    assert!(rt; is_fault(read_v2(rt.alloc(), &bytes), FormFault::TooMany));
+    assert!(rt; is_refused(rt.alloc(), &bytes, FormFault::TooMany));
     bytes.push(0)?;
-    assert!(rt; is_fault(read_v2(rt.alloc(), &bytes), FormFault::Malformed));
+    assert!(rt; is_refused(rt.alloc(), &bytes, FormFault::Malformed));
 
     caveats.extend_from_slice(b"\x02\x01x\x04\x01y\x00")?;
     let bytes = with_caveats(rt.alloc(), &caveats)?;
-    assert!(rt; is_fault(read_v2(rt.alloc(), &bytes), FormFault::ThirdParty));
+    assert!(rt; is_refused(rt.alloc(), &bytes, FormFault::ThirdParty));
     Ok(())
 }

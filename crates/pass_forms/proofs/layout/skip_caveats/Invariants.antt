@@ -6,5 +6,5 @@ use Rattle.pass_forms.proofs.layout.skip_caveats.Given as goal
 
 abbrev pub invariant-loop : goal.invariant-loop
 invariant-loop g l =
-    Keeps l.caveats.count l.caveats.third_party (caveats_at g.L.Layout.caveat_at (length l.bytes - l.counter) l.caveats.rest.now) (caveats_at g.L.Layout.caveat_at (length l.bytes) l.bytes)
-    × (l.caveats.count ≤ l.counter)
+    Keeps l.skipped.count l.skipped.third_party (caveats_at g.L.Layout.caveat_at (length l.bytes - l.counter) l.skipped.rest.now) (caveats_at g.L.Layout.caveat_at (length l.bytes) l.bytes)
+    × (l.skipped.count ≤ l.counter)

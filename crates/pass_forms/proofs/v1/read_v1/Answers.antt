@@ -1,13 +1,17 @@
-use Rattle.std.proofs.Common.{length}
+use Rattle.std.proofs.Common.{◌≡◌, length, Ok, ap, ◌∙◌, subst, sym}
+use Rattle.pass_forms.specs.Pass.{Plain}
 use Rattle.pass_forms.specs.Reading.{IsReading}
 use Rattle.pass_forms.specs.V1.{SpellsV1}
 use Rattle.pass_forms.specs.V1Reading.{reading_v1}
-use Rattle.pass_forms.proofs.Judging.{unless_memory}
+use Rattle.pass_forms.proofs.Collecting.{was_read}
 use Rattle.pass_forms.proofs.V1Exact.{reading_v1_is}
 use Rattle.pass_forms.proofs.v1.read_v1.Goals as goal
 
+pub returns-clause-computed : goal.returns-clause-computed
+returns-clause-computed c =
+    was_read (reading_v1 c.args.bytes.now) _ c.in_ok-fields.ensures.computed ∙ ap (λ (pass : Plain). Ok pass) (sym c.in_ok-collect.ensures)
+
 pub returns-clause-spelled : goal.returns-clause-spelled
-unfolding reading_v1
 returns-clause-spelled c =
     let bytes = c.args.bytes.now in
-    unless_memory (IsReading (length bytes) (SpellsV1 bytes)) (reading_v1 bytes) c.read.result (reading_v1_is bytes) c.read.ensures
+    subst (IsReading (length bytes) (SpellsV1 bytes)) (returns-clause-computed c) (reading_v1_is bytes)

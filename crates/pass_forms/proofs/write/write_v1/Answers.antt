@@ -1,18 +1,19 @@
 use Rattle.std.proofs.lemmas.Result.{IfErr-weaker, IfOk-weaker, MatchResult-from_both}
 use Rattle.pass_forms.specs.Writing.{v1_bytes, writing_v1}
 use Rattle.pass_forms.proofs.WrittenTexts.{fails, writes}
-use Rattle.pass_forms.proofs.WrittenV1.{is_refused_v1, is_written_v1, reads_back_v1}
+use Rattle.pass_forms.proofs.WrittenForm.{is_refused, is_written, reads_back}
+use Rattle.pass_forms.proofs.WrittenV1.{v1_form}
 use Rattle.pass_forms.proofs.write.write_v1.Goals as goal
 
 pub returns-clause-ok : goal.returns-clause-ok
-returns-clause-ok c = IfOk-weaker c.write_in.result _ _ (λ text written. is_written_v1 c.args.pass.now _ written) c.write_in.ensures.ok
+returns-clause-ok c = IfOk-weaker c.write_in.result _ _ (λ text written. is_written v1_form c.args.pass.now _ written) c.write_in.ensures.ok
 
 pub returns-clause-err : goal.returns-clause-err
-returns-clause-err c = IfErr-weaker c.write_in.result _ _ (λ fault refused. is_refused_v1 c.args.pass.now fault refused) c.write_in.ensures.err
+returns-clause-err c = IfErr-weaker c.write_in.result _ _ (λ fault refused. is_refused v1_form c.args.pass.now fault refused) c.write_in.ensures.err
 
 pub returns-clause-read_back : goal.returns-clause-read_back
 returns-clause-read_back c =
-    IfOk-weaker c.write_in.result _ _ (λ text written. reads_back_v1 c.args.pass.now _ written.room.are_bytes (is_written_v1 c.args.pass.now _ written)) c.write_in.ensures.ok
+    IfOk-weaker c.write_in.result _ _ (λ text written. reads_back v1_form c.args.pass.now _ written.room.are_bytes (is_written v1_form c.args.pass.now _ written)) c.write_in.ensures.ok
 
 pub returns-clause-computed : goal.returns-clause-computed
 unfolding writing_v1

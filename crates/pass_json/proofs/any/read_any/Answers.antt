@@ -7,4 +7,4 @@ pub returns-clause-spelled : goal.returns-clause-spelled
 returns-clause-spelled c =
     let text = c.args.text.now in
     unless_memory (λ answer. reading text ≡ answer) (IsAnyReading text) c.unwrapped.result
-    (λ answer e. (c.reads_any_form_exactly.ensures text answer (λ i. omega (arith, c.type_inv.text i))).1 e) c.unwrapped.ensures
+    (λ answer e. (c.reads_any_form_exactly.ensures text answer (λ i. omega (arith, c.type_inv.text i))).1 e) c.unwrapped.ensures.answer

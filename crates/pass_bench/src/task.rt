@@ -1,0 +1,123 @@
+//! What is measured, each for one pass.
+
+use pass_forms::{
+    Field, FieldSource, Form, FormFault, MAX_BYTES, V1Fields, V2Fields, read_v1, read_v2,
+    unwrap_text,
+};
+use pass_json::read_any;
+use pass_mac::{Chain, same};
+use std::alloc::Global;
+
+pub const ROOT: &[u8] = b"this is our super secret key; only we should know it";
+
+pub const CAVEATS: [&[u8]; 3] = [
+    b"kind = court",
+    b"until < 2026-05-01T18:00",
+    b"spend <= 600",
+];
+
+/// What is done with a pass in V1 or V2.
+#[derive(Clone, Copy)]
+pub enum Task {
+    /// Its signature is computed.
+    Sign,
+    /// Its bytes are read to a `Pass`.
+    ReadWhole,
+    /// The fields of its bytes are read one after the other.
+    ReadFields,
+    /// Its text is read to a `Pass`, whose signature is compared.
+    VerifyWhole,
+    /// The signature is compared while the fields of its text are read.
+    VerifyFields,
+}
+
+impl Task {
+    /// Does it once, with a text and the bytes that the text wraps. Answers a byte of the result, so that nothing of it can
+    /// be left out.
+    pub fn once(
+        self,
+        alloc: Global,
+        form: Form,
+        text: &[u8],
+        bytes: &[u8],
+    ) -> Result<u8, FormFault> {
+        match self {
+            Task::Sign => Ok(sign()),
+            Task::ReadWhole => read_whole(alloc, form, bytes),
+            Task::ReadFields => with_fields(form, bytes, Step::Read),
+            Task::VerifyWhole => Ok(u8::from(read_any(alloc, text)?.1.is_signed(ROOT))),
+            Task::VerifyFields => verify_fields(text),
+        }
+    }
+}
+
+fn sign() -> u8 {
+    let mut chain = Chain::start(ROOT, b"key:amy-1");
+    for caveat in CAVEATS {
+        chain.add(caveat);
+    }
+    chain.signature()[0]
+}
+
+fn read_whole(alloc: Global, form: Form, bytes: &[u8]) -> Result<u8, FormFault> {
+    let pass = match form {
+        Form::V1 => read_v1(alloc, bytes)?,
+        _ => read_v2(alloc, bytes)?,
+    };
+    Ok(pass.signature()[0])
+}
+
+fn verify_fields(text: &[u8]) -> Result<u8, FormFault> {
+    let mut room = [0; MAX_BYTES];
+    let unwrapped = unwrap_text(text, &mut room)?;
+    with_fields(unwrapped.form, unwrapped.bytes(text, &room), Step::Verify)
+}
+
+// What is done with the fields.
+#[derive(Clone, Copy)]
+enum Step {
+    Read,
+    Verify,
+}
+
+fn with_fields(form: Form, bytes: &[u8], step: Step) -> Result<u8, FormFault> {
+    Ok(match form {
+        Form::V1 => walk(&mut V1Fields::open(bytes)?, step),
+        _ => walk(&mut V2Fields::open(bytes)?, step),
+    })
+}
+
+fn walk<'a, S: FieldSource<'a>>(fields: &mut S, step: Step) -> u8 {
+    match step {
+        Step::Read => fold(fields),
+        Step::Verify => u8::from(is_signed(fields)),
+    }
+}
+
+// The exclusive or of the first bytes of all fields.
+fn fold<'a, S: FieldSource<'a>>(fields: &mut S) -> u8 {
+    let mut folded = 0;
+    while let Some(field) = fields.next() {
+        folded ^= match field {
+            Field::Location(bytes) | Field::Identifier(bytes) | Field::Caveat(bytes) => {
+                bytes.first().copied().unwrap_or(0)
+            }
+            Field::Signature(bytes) => bytes[0],
+        };
+    }
+    folded
+}
+
+// Whether the signature is that of the identifier and the caveats before it.
+fn is_signed<'a, S: FieldSource<'a>>(fields: &mut S) -> bool {
+    let mut chain = Chain::start(ROOT, b"");
+    while let Some(field) = fields.next() {
+        match field {
+            Field::Location(_) => {}
+            Field::Identifier(identifier) => chain = Chain::start(ROOT, identifier),
+            Field::Caveat(caveat) => chain.add(caveat),
+            Field::Signature(signature) => return same(&chain.signature(), &signature),
+        }
+    }
+    false
+}
