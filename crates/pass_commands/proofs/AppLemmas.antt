@@ -3,21 +3,16 @@ use Rattle.std.proofs.Common.{◌≡◌, ◌∙◌, Bool, false, ◌||◌, ap, a
 use Rattle.clap.specs.Words.{AddsArg, AddsSubcommand, App, Rule, app_of, rule_of, with_rule, with_subcommand}
 use Rattle.clap.specs.declared.builder.arg.Arg.{Arg}
 use Rattle.clap.specs.declared.builder.command.Command.{Command}
-use Rattle.clap.specs.declared.builder.command.Command.TheViews.{out-Command}
+use Rattle.pass_commands.specs.Application.{IsMade}
 
--- what a parse reads of a command, none of whose options is global
-pub record IsLocal (app : App) (made : Command) : Type 0 where
-  pub app_is : app_of made ≡ app
-  pub local : (out-Command made).has_globals ≡ false
-
-pub arg_added : (old : Command) (a : Arg) (new : Command) (app : App) (rule : Rule) → IsLocal app old → rule_of a ≡ rule → a.global ≡ false
-    → AddsArg old a new → IsLocal (with_rule app rule) new
+pub arg_added : (old : Command) (a : Arg) (new : Command) (app : App) (rule : Rule) → IsMade app old → rule_of a ≡ rule → a.global ≡ false
+    → AddsArg old a new → IsMade (with_rule app rule) new
 arg_added old a new app rule before is local added = record {
   app_is = added.shape local ∙ ap₂ with_rule before.app_is is;
   local = added.globals ∙ ap₂ (λ (x y : Bool). x || y) before.local local;
 }
 
-pub subcommand_added : (old sub new : Command) (app below : App) → app_of old ≡ app → app_of sub ≡ below → (out-Command sub).has_globals ≡ false
+pub subcommand_added : (old sub new : Command) (app below : App) → app_of old ≡ app → IsMade below sub
     → AddsSubcommand old sub new → app_of new ≡ with_subcommand app below.top
-subcommand_added old sub new app below before is local added =
-    added.shape local ∙ ap₂ with_subcommand before (ap (λ (a : App). a.top) is)
+subcommand_added old sub new app below before made added =
+    added.shape made.local ∙ ap₂ with_subcommand before (ap (λ (a : App). a.top) made.app_is)

@@ -1,5 +1,6 @@
 pub mod RootLemmas
 pub mod InputLemmas
+pub mod OutputLemmas
 pub mod AppLemmas
 pub mod OptionLemmas
 pub mod NarrowLemmas
@@ -8,5 +9,7 @@ pub mod WordsLemmas
 pub mod NamedLemmas
 pub mod RunLemmas
 pub mod AnswerLaws
+pub mod MadeLemmas
 pub mod WordLaws
+pub mod CaveatWalk
 pub mod NarrowLaws

@@ -1,22 +1,43 @@
 -- What a command answers is what it performs.
-use Rattle.std.proofs.Common.{◌≡◌, ◌∙◌, ℕ, List, Option, Ok, Err, ap, ap₂, sym}
+use Rattle.std.proofs.Common.{◌≡◌, ◌∙◌, ℕ, List, Option, Ok, Err, refl, ap, ap₂, subst, sym}
 use Rattle.std.specs.Io.KnownBytes.{Appends}
+use Rattle.pass_commands.specs.Output.{AppendsFront}
 use Rattle.std.specs.Result.{result_map_both}
 use Rattle.pass_forms.specs.Reading.{UnlessMemory}
 use Rattle.pass_forms.specs.declared.fault.FormFault.{FormFault}
 use Rattle.pass_forms.specs.declared.fault.FormFault.TheVariants.{TooLong, Malformed, ThirdParty, TooMany, Memory}
-use Rattle.pass_commands.specs.Answer.{Told, answer_of, reads_input}
+use Rattle.pass_commands.specs.Answer.{ReadsBack, Told, answer_of, reads_input}
 use Rattle.pass_commands.specs.Fault.{of_form}
-use Rattle.pass_commands.specs.Run.{Performs, ReadsInput}
+use Rattle.pass_commands.specs.Run.{Begins, Performs, ReadsInput, Writes}
 use Rattle.pass_commands.specs.declared.answer.Outcome.{Outcome}
 use Rattle.pass_commands.specs.declared.command.Command.{Command}
 
 module _ (command : Command) (left left' held held' : Option (List ℕ)) (bytes : List ℕ) (reads : ReadsInput (reads_input command) left left' bytes) where
-  pub performed : (told : Told) (outcome : Outcome) (text : List ℕ) → answer_of command bytes ≡ Ok told → outcome ≡ told.0 → text ≡ told.1
-      → Appends held held' text → Performs command left left' held held' (Ok outcome)
-  performed told outcome text is outcome_is text_is appends =
-      let pair : told ≡ (outcome, text) = ap₂ (λ (o : Outcome) (t : List ℕ). let p : Told = (o, t) in p) (sym outcome_is) (sym text_is) in
-      (bytes, reads, text, ap (result_map_both (λ told. told) of_form) (is ∙ ap Ok pair), appends)
+  module _ (told : Told) (is : answer_of command bytes ≡ Ok told) (reads_back : ReadsBack command bytes told.1) where
+    written : (outcome : Outcome) (text front : List ℕ) → outcome ≡ told.0 → text ≡ told.1 → Appends held held' front
+        → Writes command left left' held held' (outcome, text) front
+    written outcome text front outcome_is text_is appends =
+        let pair : told ≡ (outcome, text) = ap₂ (λ (o : Outcome) (t : List ℕ). let p : Told = (o, t) in p) (sym outcome_is) (sym text_is) in
+        record {
+          bytes = bytes;
+          reads = reads;
+          answers = ap (result_map_both (λ told. told) of_form) (is ∙ ap Ok pair);
+          reads_back = subst (ReadsBack command bytes) (sym text_is) reads_back;
+          appends = appends;
+        }
+
+    pub performed : (outcome : Outcome) (text : List ℕ) → outcome ≡ told.0 → text ≡ told.1 → Appends held held' text
+        → Performs command left left' held held' (Ok outcome)
+    performed outcome text outcome_is text_is appends = (text, written outcome text text outcome_is text_is appends)
+
+    -- the writer failed
+    pub begun : (text : List ℕ) → text ≡ told.1 → AppendsFront held held' text → Begins command left left' held held'
+    begun text text_is appends = record {
+      told = (told.0, text);
+      front = appends.0;
+      begins = appends.1;
+      writes = written told.0 text appends.0 refl text_is appends.2;
+    }
 
   pub failed : (fault : FormFault) → UnlessMemory (λ answer. answer_of command bytes ≡ answer) (Err fault)
       → Performs command left left' held held' (Err (of_form fault))

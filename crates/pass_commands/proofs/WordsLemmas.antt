@@ -41,7 +41,7 @@ unfolding refusals
 nothing_refused a words same clear =
     subst (λ b. is_simple_and_free b ≡ true → fault_of b words ≡ []) same clear application_is_free
 
--- and its error has a kind among those that the words give, but for want of memory
+-- and its error has a kind among those that the words give, but for out of memory
 pub refused_by : (a : App) (words : List Text) (e : Error) (k : ErrorKind) → a ≡ application
     → (is_simple_and_free a ≡ true → HasKind (fault_of a words) e) → k ≡ kind_of e → (k ≡ kind.OutOfMemory → ⊥)
     → IsAmong (kind_of e) (refusals words)

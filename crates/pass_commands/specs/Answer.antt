@@ -1,11 +1,12 @@
 -- What each command answers (ours).
-use Rattle.std.specs.Prelude.{ℕ, ◌+◌, Bool, true, false, nat_lt, if◌then◌else◌, List, [], ◌++◌, length, codes, Result, Ok, Err}
+use Rattle.std.specs.Prelude.{◌≡◌, ℕ, ◌+◌, Bool, true, false, nat_lt, if◌then◌else◌, List, [], ◌++◌, length, codes, Result, Ok, Err}
 use Rattle.std.specs.Io.BufRead.{strip_last}
-use Rattle.pass_mac.specs.Chain.{chain, derived_key, extended}
+use Rattle.pass_mac.specs.Chain.{extended}
 use Rattle.pass_forms.specs.declared.fault.FormFault.{FormFault}
 use Rattle.pass_forms.specs.declared.fault.FormFault.TheVariants.{TooMany}
 use Rattle.pass_forms.specs.declared.form.Form.{Form}
-use Rattle.pass_forms.specs.Pass.{Plain, is_signed}
+use Rattle.pass_forms.specs.Pass.{IsSigned, Plain, is_signed}
+use Rattle.pass_forms.specs.Pass as passes
 use Rattle.pass_forms.specs.Reading.{max_caveats}
 use Rattle.pass_json.specs.AnyForm.{reading, writing}
 use Rattle.pass_commands.specs.Minting.{Minting}
@@ -53,12 +54,7 @@ narrowing caveats pass =
 
 -- a new pass under a root, with no caveats yet
 abbrev pub new_pass : Minting → Plain
-new_pass minting = record {
-  location = minting.location;
-  identifier = minting.identifier;
-  caveats = [];
-  signature = chain (derived_key minting.root) minting.identifier [];
-}
+new_pass minting = passes.minted minting.root minting.location minting.identifier
 
 -- whether a pass is signed, as `verify` tells it
 abbrev pub told : Bool → Told
@@ -99,6 +95,40 @@ answer_of Show bytes = shown_of bytes
 answer_of (Narrow caveats) bytes = narrowed_of caveats bytes
 answer_of (Convert form) bytes = converted_of form bytes
 answer_of (Verify root) bytes = verified_of root bytes
+
+-- ---- what a pass that was written is read as
+
+-- The text reads as the new pass in the form that was asked for, and that pass is signed under its root.
+pub record IsMinted (minting : Minting) (text : List ℕ) : Type 0 where
+  pub pass : Plain
+  pub made : narrowing minting.caveats (new_pass minting) ≡ Ok pass
+  pub reads : pass_in text ≡ Ok (minting.form, pass)
+  pub signed : IsSigned minting.root pass
+
+-- The text reads as the pass of the input with the caveats added, in its form; where that was signed, so is this.
+pub record IsNarrowed (caveats : List (List ℕ)) (bytes text : List ℕ) : Type 0 where
+  pub form : Form
+  pub before : Plain
+  pub after : Plain
+  pub read : pass_in bytes ≡ Ok (form, before)
+  pub made : narrowing caveats before ≡ Ok after
+  pub reads : pass_in text ≡ Ok (form, after)
+  pub signed : (root : List ℕ) → IsSigned root before → IsSigned root after
+
+-- The text reads as the pass of the input, in the form that was asked for.
+pub record IsConverted (form : Form) (bytes text : List ℕ) : Type 0 where
+  pub before : Form
+  pub pass : Plain
+  pub read : pass_in bytes ≡ Ok (before, pass)
+  pub reads : pass_in text ≡ Ok (form, pass)
+
+-- what the text of a command's answer reads as, where it is a pass
+abbrev pub ReadsBack : Command → List ℕ → List ℕ → Type 0
+ReadsBack (Mint minting) bytes text = IsMinted minting text
+ReadsBack Show bytes text = Unit {0}
+ReadsBack (Narrow caveats) bytes text = IsNarrowed caveats bytes text
+ReadsBack (Convert form) bytes text = IsConverted form bytes text
+ReadsBack (Verify root) bytes text = Unit {0}
 
 -- `mint` alone reads no input
 abbrev pub reads_input : Command → Bool

@@ -1,8 +1,10 @@
 -- The program's commands and options, as `clap` reads them (ours).
-use Rattle.std.specs.Prelude.{List, [], ◌∷◌, Option, Some, true, codes}
-use Rattle.clap.specs.Words.{App, Kinds, Row, Rule, Shape, Text, fault_of, new_app, new_rule}
+use Rattle.std.specs.Prelude.{◌≡◌, List, [], ◌∷◌, Option, Some, true, false, codes}
+use Rattle.clap.specs.Words.{App, Kinds, Row, Rule, Shape, Text, app_of, fault_of, new_app, new_rule}
 use Rattle.clap.specs.Words.{subcommand_of, with_rule, with_subcommand}
 use Rattle.clap.specs.Simple.{on_top}
+use Rattle.clap.specs.declared.builder.command.Command.{Command}
+use Rattle.clap.specs.declared.builder.command.Command.TheViews.{out-Command}
 use Rattle.clap.specs.declared.builder.action.ArgAction.TheVariants.{Append, SetTrue}
 
 -- `--NAME VALUE`
@@ -67,6 +69,11 @@ application =
     with_subcommand (with_subcommand (with_subcommand (with_subcommand (with_subcommand
     (on_top needs_subcommand (new_app (codes "passtool")))
     mint_command.top) show_command.top) narrow_command.top) convert_command.top) verify_command.top
+
+-- the command is of this application, and none of its options is global
+pub record IsMade (app : App) (made : Command) : Type 0 where
+  pub app_is : app_of made ≡ app
+  pub local : (out-Command made).has_globals ≡ false
 
 -- what clap has against the words, the program's name first; empty where it reads them
 unfoldable pub refusals : List Text → Kinds

@@ -1,8 +1,9 @@
 -- Laws of the definitions.
-use Rattle.std.specs.Prelude.{◌≡◌, ◌↔◌, ℕ, List, [], ◌∷◌, ◌++◌, is_some, Some, Ok, true, codes}
+use Rattle.std.specs.Prelude.{◌≡◌, ◌↔◌, ℕ, List, [], ◌∷◌, ◌++◌, Some, Ok, true, codes}
+use Rattle.std.specs.List.{list_all}
 use Rattle.clap.specs.Words.{Text}
-use Rattle.pass_caveats.specs.CaveatOf.{caveat_of}
 use Rattle.pass_forms.specs.declared.form.Form.{Form}
+use Rattle.pass_forms.specs.declared.form.Form.TheVariants.{V2}
 use Rattle.pass_forms.specs.Pass.{IsSigned, Plain}
 use Rattle.pass_commands.specs.Answer.{answer_of, narrowing, new_pass, pass_in}
 use Rattle.pass_commands.specs.Application.{refusals, subcommand}
@@ -10,7 +11,7 @@ use Rattle.pass_commands.specs.FormName.{form_name}
 use Rattle.pass_commands.specs.Minting.{Minting}
 use Rattle.pass_commands.specs.Root.{root_of}
 use Rattle.pass_commands.specs.Shown.{line}
-use Rattle.pass_commands.specs.Words.{FindsCommand, asked}
+use Rattle.pass_commands.specs.Words.{FindsCommand, asked, is_understood}
 use Rattle.pass_commands.specs.declared.answer.Outcome.TheVariants.{Done}
 use Rattle.pass_commands.specs.declared.command.Command.TheVariants.{Mint, Show, Narrow, Convert, Verify}
 
@@ -20,22 +21,28 @@ use Rattle.pass_commands.specs.declared.command.Command.TheVariants.{Mint, Show,
 abbrev pub WordsNameACommand : Type 0
 WordsNameACommand = (words : List Text) → refusals words ≡ [] → FindsCommand (subcommand words)
 
--- `mint`, of whatever name the program has, with all its options and a caveat of any text
+-- `mint`, of whatever name the program has, with all its options and any caveats, in their order
 abbrev pub MintTakesItsParts : Type 0
-MintTakesItsParts = (name hex root id location caveat : Text) (form : Form) → root_of hex ≡ Some root
+MintTakesItsParts = (name hex root id location : Text) (form : Form) (caveats : List Text) → root_of hex ≡ Some root
     → asked (name ∷ codes "mint" ∷ (codes "--root=" ++ hex) ∷ (codes "--id=" ++ id) ∷ (codes "--location=" ++ location)
-    ∷ (codes "--form=" ++ form_name form) ∷ codes "--" ∷ caveat ∷ [])
-    ≡ Some (Mint (record { root = root; identifier = id; location = location; form = form; caveats = caveat ∷ [] }))
+    ∷ (codes "--form=" ++ form_name form) ∷ codes "--" ∷ caveats)
+    ≡ Some (Mint (record { root = root; identifier = id; location = location; form = form; caveats = caveats }))
+
+-- What stands for the rest where `mint` has a root and an identifier alone: an empty location, V2, and no caveats.
+abbrev pub MintTakesDefaults : Type 0
+MintTakesDefaults = (name hex root id : Text) → root_of hex ≡ Some root
+    → asked (name ∷ codes "mint" ∷ (codes "--root=" ++ hex) ∷ (codes "--id=" ++ id) ∷ [])
+    ≡ Some (Mint (record { root = root; identifier = id; location = []; form = V2; caveats = [] }))
 
 -- `show`
 abbrev pub ShowTakesNothing : Type 0
 ShowTakesNothing = (name : Text) → asked (name ∷ codes "show" ∷ []) ≡ Some Show
 
--- `narrow -- CAVEAT`, where the caveat is understood, and `narrow --any -- CAVEAT`
-abbrev pub NarrowTakesACaveat : Type 0
-NarrowTakesACaveat = (name caveat : Text) →
-    (is_some (caveat_of caveat) ≡ true → asked (name ∷ codes "narrow" ∷ codes "--" ∷ caveat ∷ []) ≡ Some (Narrow (caveat ∷ [])))
-    × (asked (name ∷ codes "narrow" ∷ codes "--any" ∷ codes "--" ∷ caveat ∷ []) ≡ Some (Narrow (caveat ∷ [])))
+-- `narrow -- CAVEAT..`, where each caveat is understood, and `narrow --any -- CAVEAT..`: one caveat or more, in their order
+abbrev pub NarrowTakesItsCaveats : Type 0
+NarrowTakesItsCaveats = (name first : Text) (more : List Text) →
+    (list_all is_understood (first ∷ more) ≡ true → asked (name ∷ codes "narrow" ∷ codes "--" ∷ first ∷ more) ≡ Some (Narrow (first ∷ more)))
+    × (asked (name ∷ codes "narrow" ∷ codes "--any" ∷ codes "--" ∷ first ∷ more) ≡ Some (Narrow (first ∷ more)))
 
 -- `convert --form F`
 abbrev pub ConvertTakesItsForm : Type 0
@@ -54,7 +61,7 @@ abbrev pub VerifyTellsSigned : Type 0
 VerifyTellsSigned = (root bytes : List ℕ) (form : Form) (pass : Plain) → pass_in bytes ≡ Ok (form, pass)
     → (answer_of (Verify root) bytes ≡ Ok (Done, line (codes "signed"))) ↔ IsSigned root pass
 
--- What `mint` writes is signed under its root.
+-- The pass that `mint` makes is signed under its root.
 abbrev pub MintSigns : Type 0
 MintSigns = (minting : Minting) (pass : Plain) → narrowing minting.caveats (new_pass minting) ≡ Ok pass → IsSigned minting.root pass
 

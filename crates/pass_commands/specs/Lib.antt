@@ -3,6 +3,7 @@ pub mod Root
 pub mod Minting
 pub mod FormName
 pub mod Input
+pub mod Output
 pub mod Fault
 pub mod Shown
 pub mod Answer

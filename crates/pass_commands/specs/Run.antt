@@ -1,9 +1,10 @@
 -- What a run of the program does (ours).
 use Rattle.std.specs.Prelude.{◌≡◌, ◌⊎◌, ℕ, List, [], Option, Some, None, Result, Ok, Err, IsSome, Bool, false, true}
 use Rattle.std.specs.Result.{result_map_both}
-use Rattle.std.specs.Io.KnownBytes.{Appends}
+use Rattle.std.specs.Io.{StartsWith}
+use Rattle.std.specs.Io.KnownBytes.{Appends, Keeps}
 use Rattle.clap.specs.Words.{Text}
-use Rattle.pass_commands.specs.Answer.{Told, answer_of, reads_input}
+use Rattle.pass_commands.specs.Answer.{ReadsBack, Told, answer_of, reads_input}
 use Rattle.pass_commands.specs.Fault.{of_form}
 use Rattle.pass_commands.specs.Input.{Reads}
 use Rattle.pass_commands.specs.Words.{AsksHelp, IsFaultOf, asked}
@@ -22,13 +23,28 @@ abbrev pub ReadsInput : Bool → Option (List ℕ) → Option (List ℕ) → Lis
 ReadsInput true left left' bytes = Reads 8194 left left' bytes
 ReadsInput false left left' bytes = bytes ≡ []
 
--- A command reads its input and writes its answer to that and nothing else; memory, the reader and the writer may fail it.
+-- A command read its input, this is its answer to that, and these bytes were written.
+pub record Writes (command : Command) (left left' held held' : Option (List ℕ)) (told : Told) (written : List ℕ) : Type 0 where
+  pub bytes : List ℕ
+  pub reads : ReadsInput (reads_input command) left left' bytes
+  pub answers : IsAnswer command bytes (Ok told)
+  pub reads_back : ReadsBack command bytes told.1
+  pub appends : Appends held held' written
+
+-- A beginning of that answer was written, or all of it.
+pub record Begins (command : Command) (left left' held held' : Option (List ℕ)) : Type 0 where
+  pub told : Told
+  pub front : List ℕ
+  pub begins : StartsWith told.1 front
+  pub writes : Writes command left left' held held' told front
+
+-- A command reads its input and writes its answer to that and nothing else. Memory may fail it, and so may the reader and the
+-- writer: then nothing was written, or a beginning of the answer to the whole input.
 abbrev pub Performs : Command → Option (List ℕ) → Option (List ℕ) → Option (List ℕ)
     → Option (List ℕ) → Result Outcome Fault → Type 0
-Performs command left left' held held' (Ok outcome) = (bytes : List ℕ) × ReadsInput (reads_input command) left left' bytes
-    × (text : List ℕ) × IsAnswer command bytes (Ok (outcome, text)) × Appends held held' text
+Performs command left left' held held' (Ok outcome) = (text : List ℕ) × Writes command left left' held held' (outcome, text) text
 Performs command left left' held held' (Err Memory) = Unit {0}
-Performs command left left' held held' (Err InputOutput) = Unit {0}
+Performs command left left' held held' (Err InputOutput) = Keeps held held' ⊎ Begins command left left' held held'
 Performs command left left' held held' (Err fault) =
     (bytes : List ℕ) × ReadsInput (reads_input command) left left' bytes × IsAnswer command bytes (Err fault)
 

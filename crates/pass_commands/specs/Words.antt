@@ -66,9 +66,13 @@ mint_of rows = do
 abbrev pub takes_any : List Row → Bool
 takes_any rows = bytes_eq (value_in (codes "any") rows) (codes "true")
 
--- the place of the first text that is no caveat of the language
+-- the text is a caveat of the language
+abbrev pub is_understood : Text → Bool
+is_understood text = is_some (caveat_of text)
+
+-- the place of the first text that isn't
 abbrev pub first_unknown : List Text → Option ℕ
-first_unknown texts = position (λ text. not (is_some (caveat_of text))) texts
+first_unknown texts = position (λ text. not (is_understood text)) texts
 
 abbrev pub unless_unknown : Option ℕ → List Text → Result (List Text) Refusal
 unless_unknown None caveats = Ok caveats
@@ -126,7 +130,7 @@ asked words = if is_empty (refusals words) then result_ok (command_of words) els
 abbrev pub AsksHelp : List Text → Type 0
 AsksHelp words = IsAmong kind.DisplayHelp (refusals words)
 
--- A call answers what is asked for, or the fault that fits, or want of memory in place of either.
+-- A call answers what is asked for, or the fault that fits, or out of memory in place of either.
 abbrev pub AnswersAsked : {A : Type 0} → Result A Refusal → Result A Fault → Type 0
 AnswersAsked expected (Ok answer) = expected ≡ Ok answer
 AnswersAsked expected (Err (Words error)) = (expected ≡ Err bad_form) × (kind_of error ≡ kind.InvalidValue)

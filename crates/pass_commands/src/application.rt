@@ -1,8 +1,7 @@
 //! The commands and their options, with what help shows of them.
 
 ghost use Rattle.std.specs.Prelude.{◌≡◌, IfOk, false};
-ghost use Rattle.clap.specs.Words.{App, app_of, kind_of, rule_of};
-ghost use Rattle.clap.specs.declared.builder.command.Command.TheViews.{out-Command};
+ghost use Rattle.clap.specs.Words.{app_of, kind_of, rule_of};
 ghost use Rattle.pass_commands.specs.Application as spec;
 ghost use Rattle.pass_commands.specs.Fault.{IsOfWords};
 
@@ -10,6 +9,38 @@ use crate::answer::Fault;
 use clap::error::ErrorKind;
 use clap::{Arg, ArgAction, Command};
 use std::alloc::{AllocError, Global};
+
+const LOCATION_HELP: &str =
+    "A hint at who made the pass; not signed, not checked; empty where it is left out";
+
+const STATUSES: &str = "Exit status:
+  0  done
+  1  verify: not signed
+  2  the words
+  3  the pass: too long, malformed, with a third-party caveat, or with too many caveats
+  4  out of memory
+  5  a caveat that isn't understood
+  6  a bad root
+  7  input or output failed";
+
+const NARROW_HELP: &str = "Caveats that the desk understands, each with an example:
+  facility = NAME,..        facility = court-1,court-2
+  kind = KIND               kind = court (or boat, or room)
+  hours = HH-HH             hours = 18-20
+  days = DAY..DAY           days = 2026-05-01..2026-05-31
+  until < DAYTHH:MM         until < 2026-05-01T18:00
+  guests <= N               guests <= 2
+  spend <= N                spend <= 600
+  actions = ACTION,..       actions = view,book (of view,book,cancel,account, in this order)
+  weekday = DAY,..          weekday = sat,sun (of mon,tue,wed,thu,fri,sat,sun, in this order)
+
+Example:
+  passtool narrow \"guests <= 2\" \"until < 2026-05-01T18:00\" < pass";
+
+const VERIFY_HELP: &str = "Caveats are not tested; the desk does that.
+
+Example:
+  passtool verify --root 00ff < pass";
 
 /// The whole command line.
 pub fn make_application<'a>(alloc: Global) -> Result<Command<'a>, AllocError>
@@ -22,6 +53,7 @@ pub fn make_application<'a>(alloc: Global) -> Result<Command<'a>, AllocError>
     let verify = make_verify(alloc)?;
     Command::new(alloc, "passtool")
         .about("Passes on the command line")
+        .after_long_help(STATUSES)
         .subcommand_required(true)
         .subcommand(mint)?
         .subcommand(show)?
@@ -49,8 +81,7 @@ pub fn not_text(alloc: Global) -> Fault
 }
 
 fn make_mint<'a>(alloc: Global) -> Result<Command<'a>, AllocError>
-    ensures app { IfOk result (λ made. app_of made ≡ spec.mint_command) }
-    ensures local { IfOk result (λ made. (out-Command made).has_globals ≡ false) }
+    ensures { IfOk result (spec.IsMade spec.mint_command) }
 {
     Command::new(alloc, "mint")
         .about("Prints a new pass, signed under a root; reads no input")
@@ -58,15 +89,14 @@ fn make_mint<'a>(alloc: Global) -> Result<Command<'a>, AllocError>
             "Example:\n  passtool mint --root 00ff --id key:amy-1 --form v1 \"kind = court\"",
         )
         .arg(make_root(alloc))?
-        .arg(make_id(alloc))?
-        .arg(make_location(alloc))?
+        .arg(make_option(alloc, "id", "ID", "The identifier").required(true))?
+        .arg(make_option(alloc, "location", "LOCATION", LOCATION_HELP))?
         .arg(make_form(alloc).default_value("v2"))?
         .arg(make_caveats(alloc))
 }
 
 fn make_show<'a>(alloc: Global) -> Command<'a>
-    ensures app { app_of result ≡ spec.show_command }
-    ensures local { (out-Command result).has_globals ≡ false }
+    ensures { spec.IsMade spec.show_command result }
 {
     Command::new(alloc, "show")
         .about("Prints the fields of the pass on standard input, one a line")
@@ -74,21 +104,17 @@ fn make_show<'a>(alloc: Global) -> Command<'a>
 }
 
 fn make_narrow<'a>(alloc: Global) -> Result<Command<'a>, AllocError>
-    ensures app { IfOk result (λ made. app_of made ≡ spec.narrow_command) }
-    ensures local { IfOk result (λ made. (out-Command made).has_globals ≡ false) }
+    ensures { IfOk result (spec.IsMade spec.narrow_command) }
 {
     Command::new(alloc, "narrow")
         .about("Prints the pass on standard input with caveats added, in the form it came in")
-        .after_help(
-            "Example:\n  passtool narrow \"guests <= 2\" \"until < 2026-05-01T18:00\" < pass",
-        )
+        .after_help(NARROW_HELP)
         .arg(make_any(alloc))?
         .arg(make_caveats(alloc).required(true))
 }
 
 fn make_convert<'a>(alloc: Global) -> Result<Command<'a>, AllocError>
-    ensures app { IfOk result (λ made. app_of made ≡ spec.convert_command) }
-    ensures local { IfOk result (λ made. (out-Command made).has_globals ≡ false) }
+    ensures { IfOk result (spec.IsMade spec.convert_command) }
 {
     Command::new(alloc, "convert")
         .about("Prints the pass on standard input in a form")
@@ -97,12 +123,11 @@ fn make_convert<'a>(alloc: Global) -> Result<Command<'a>, AllocError>
 }
 
 fn make_verify<'a>(alloc: Global) -> Result<Command<'a>, AllocError>
-    ensures app { IfOk result (λ made. app_of made ≡ spec.verify_command) }
-    ensures local { IfOk result (λ made. (out-Command made).has_globals ≡ false) }
+    ensures { IfOk result (spec.IsMade spec.verify_command) }
 {
     Command::new(alloc, "verify")
         .about("Tells whether the pass on standard input is signed under a root")
-        .after_help("Example:\n  passtool verify --root 00ff < pass")
+        .after_help(VERIFY_HELP)
         .arg(make_root(alloc))
 }
 
@@ -110,42 +135,26 @@ fn make_root<'a>(alloc: Global) -> Arg<'a>
     ensures rule { rule_of result ≡ spec.root_option }
     ensures local { result.global ≡ false }
 {
-    Arg::new(alloc, "root")
-        .long("root")
-        .value_name("HEX")
-        .required(true)
-        .help("1 to 64 bytes in hexadecimal")
-}
-
-fn make_id<'a>(alloc: Global) -> Arg<'a>
-    ensures rule { rule_of result ≡ spec.id_option }
-    ensures local { result.global ≡ false }
-{
-    Arg::new(alloc, "id")
-        .long("id")
-        .value_name("TEXT")
-        .required(true)
-        .help("The identifier")
-}
-
-fn make_location<'a>(alloc: Global) -> Arg<'a>
-    ensures rule { rule_of result ≡ spec.location_option }
-    ensures local { result.global ≡ false }
-{
-    Arg::new(alloc, "location")
-        .long("location")
-        .value_name("TEXT")
-        .help("Where the pass is good; empty where it is left out")
+    let help = "1 to 64 bytes in hexadecimal; other users may see it in the list of processes";
+    make_option(alloc, "root", "ROOT", help).required(true)
 }
 
 fn make_form<'a>(alloc: Global) -> Arg<'a>
     ensures rule { rule_of result ≡ spec.form_option }
     ensures local { result.global ≡ false }
 {
-    Arg::new(alloc, "form")
-        .long("form")
-        .value_name("F")
-        .help("v1, v2 or json")
+    make_option(alloc, "form", "FORM", "v1, v2 or json")
+}
+
+// `--NAME VALUE`
+fn make_option<'a>(alloc: Global, name: &'a str, value: &'a str, help: &'a str) -> Arg<'a>
+    ensures rule { rule_of result ≡ spec.option_named name.entry.now }
+    ensures local { result.global ≡ false }
+{
+    Arg::new(alloc, name)
+        .long(name)
+        .value_name(value)
+        .help(help)
 }
 
 fn make_any<'a>(alloc: Global) -> Arg<'a>

@@ -169,7 +169,9 @@ impl<'a> Command<'a> {
     // The answer to the bytes that were read.
     #[tactic(auto, unfolding(crate::specs::Answer::answer_of))]
     fn answer(&self, alloc: Global, bytes: &[u8]) -> Result<Answer, FormFault>
-        ensures { UnlessMemory (λ answer. spec.answer_of self.now bytes.now ≡ answer) result }
+        ensures answer { UnlessMemory
+            (λ answer. spec.answer_of self.now bytes.now ≡ answer) result }
+        ensures reads_back { IfOk result (λ answer. spec.ReadsBack self.now bytes.now answer.1) }
     {
         match self {
             Command::Mint(mint) => mint.answer(alloc),

@@ -1,6 +1,6 @@
 //! `convert`: a pass in another form.
 
-ghost use Rattle.std.specs.Prelude.{◌≡◌};
+ghost use Rattle.std.specs.Prelude.{◌≡◌, IfOk};
 ghost use Rattle.pass_forms.specs.Reading.{UnlessMemory};
 ghost use Rattle.pass_commands.specs.Answer as spec;
 
@@ -12,7 +12,8 @@ use std::alloc::Global;
 
 /// The pass of the input in this form.
 pub fn convert(alloc: Global, form: Form, bytes: &[u8]) -> Result<Answer, FormFault>
-    ensures { UnlessMemory (λ answer. spec.converted_of form bytes.now ≡ answer) result }
+    ensures answer { UnlessMemory (λ answer. spec.converted_of form bytes.now ≡ answer) result }
+    ensures pass { IfOk result (λ answer. spec.IsConverted form bytes.now answer.1) }
 {
     let (_, pass) = read_pass(alloc, bytes)?;
     written(alloc, form, &pass)

@@ -1,15 +1,20 @@
 //! What holds of the definitions alone.
 
-ghost use Rattle.pass_commands.specs.Laws.{ConvertTakesItsForm, MintSigns, MintTakesItsParts, NarrowTakesACaveat, NarrowingKeepsSigned, ShowTakesNothing, VerifyTakesItsRoot, VerifyTellsSigned, WordsNameACommand};
+ghost use Rattle.pass_commands.specs.Laws.{ConvertTakesItsForm, MintSigns, MintTakesDefaults, MintTakesItsParts, NarrowTakesItsCaveats, NarrowingKeepsSigned, ShowTakesNothing, VerifyTakesItsRoot, VerifyTellsSigned, WordsNameACommand};
 
 /// Words that `clap` reads name a command of the program.
 pub fn words_name_a_command()
     ensures { WordsNameACommand }
 {}
 
-/// `mint` with all its options asks for the pass of their values.
+/// `mint` with all its options and any number of caveats asks for the pass of these, the caveats in their order.
 pub fn mint_takes_its_parts()
     ensures { MintTakesItsParts }
+{}
+
+/// `mint` with a root and an identifier alone asks for a pass in V2, with an empty location and no caveats.
+pub fn mint_takes_defaults()
+    ensures { MintTakesDefaults }
 {}
 
 /// `show` asks for itself.
@@ -17,9 +22,9 @@ pub fn show_takes_nothing()
     ensures { ShowTakesNothing }
 {}
 
-/// `narrow` asks for the caveat behind `--`, of any text where `--any` is given.
-pub fn narrow_takes_a_caveat()
-    ensures { NarrowTakesACaveat }
+/// `narrow` asks for the caveats behind `--`, in their order, of any texts where `--any` is given.
+pub fn narrow_takes_its_caveats()
+    ensures { NarrowTakesItsCaveats }
 {}
 
 /// `convert --form F` asks for the form F.
@@ -37,7 +42,7 @@ pub fn verify_tells_signed()
     ensures { VerifyTellsSigned }
 {}
 
-/// What `mint` writes is signed under its root.
+/// The pass that `mint` makes is signed under its root.
 pub fn mint_signs()
     ensures { MintSigns }
 {}

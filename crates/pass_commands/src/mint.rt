@@ -10,7 +10,6 @@ use crate::narrow::narrowed;
 use crate::output::written;
 use crate::root::Root;
 use pass_forms::{Form, FormFault, Pass};
-use pass_mac::Chain;
 use std::alloc::{AllocError, Global};
 use std::marker::Model;
 
@@ -66,7 +65,8 @@ impl<'a> Mint<'a> {
 
     /// Makes the pass and its text.
     pub fn answer(&self, alloc: Global) -> Result<Answer, FormFault>
-        ensures { UnlessMemory (λ answer. spec.minted self.now ≡ answer) result }
+        ensures answer { UnlessMemory (λ answer. spec.minted self.now ≡ answer) result }
+        ensures pass { IfOk result (λ answer. spec.IsMinted self.now answer.1) }
     {
         let pass = self.new_pass(alloc)?;
         let pass = narrowed(alloc, pass, self.caveats.as_slice())?;
@@ -77,9 +77,7 @@ impl<'a> Mint<'a> {
     fn new_pass(&self, alloc: Global) -> Result<Pass, AllocError>
         ensures { IfOk result (λ pass. pass ≡ spec.new_pass self.now) }
     {
-        let chain = Chain::start(self.root.as_slice(), self.identifier.as_bytes());
-        let location = Vec::from_slice(alloc, self.location.as_bytes())?;
-        let identifier = Vec::from_slice(alloc, self.identifier.as_bytes())?;
-        Ok(Pass::new(location, identifier, Vec::new(alloc), chain.signature()))
+        let (location, identifier) = (self.location.as_bytes(), self.identifier.as_bytes());
+        Pass::mint(alloc, self.root.as_slice(), location, identifier)
     }
 }

@@ -1,6 +1,6 @@
 //! `narrow`: a pass with more caveats.
 
-ghost use Rattle.std.specs.Prelude.{◌≡◌, ◌≤◌, length, map};
+ghost use Rattle.std.specs.Prelude.{◌≡◌, ◌≤◌, IfOk, length, map};
 ghost use Rattle.pass_forms.specs.Reading.{UnlessMemory, max_caveats};
 ghost use Rattle.pass_commands.specs.Answer as spec;
 
@@ -13,7 +13,9 @@ use std::alloc::Global;
 
 /// The pass of the input with the caveats added in their order, in the form it came in.
 pub fn narrow(alloc: Global, caveats: &Caveats<'_>, bytes: &[u8]) -> Result<Answer, FormFault>
-    ensures { UnlessMemory (λ answer. spec.narrowed_of caveats.now bytes.now ≡ answer) result }
+    ensures answer { UnlessMemory
+        (λ answer. spec.narrowed_of caveats.now bytes.now ≡ answer) result }
+    ensures pass { IfOk result (λ answer. spec.IsNarrowed caveats.now bytes.now answer.1) }
 {
     let (form, pass) = read_pass(alloc, bytes)?;
     let pass = narrowed(alloc, pass, caveats.as_slice())?;

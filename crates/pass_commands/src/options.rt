@@ -58,7 +58,7 @@ fn form_refusal(alloc: Global, name: &str) -> Result<clap::Error, AllocError>
     ensures { IfOk result (λ error. kind_of error ≡ kind.InvalidValue) }
 {
     let message = format!(in alloc;
-        "invalid value '{name}' for '--form <F>'\n  [possible values: v1, v2, json]"
+        "invalid value '{name}' for '--form <FORM>'\n  [possible values: v1, v2, json]"
     )?;
     refusal(alloc, ErrorKind::InvalidValue, message.as_str())
 }

@@ -73,44 +73,61 @@ fn no_input() -> Pieces<'static> {
     }
 }
 
-// Takes a byte a write, and fails once it has no room.
+// Takes a byte a write, and fails once it has no room; flushes, or fails to.
 #[derive(Drop)]
 struct Narrow {
+    taken: Vec<u8>,
     room: usize,
+    flushes: bool,
 }
 
 impl Write for Narrow {
     fn write(&mut self, buf: &[u8]) -> io::Result<usize> {
-        if self.room == 0 {
-            return Err(io::Error::from(ErrorKind::StorageFull));
+        match buf.first() {
+            None => Ok(0),
+            Some(_) if self.taken.len() >= self.room => {
+                Err(io::Error::from(ErrorKind::StorageFull))
+            }
+            Some(byte) => match self.taken.push(*byte) {
+                Ok(()) => Ok(1),
+                Err(_) => Err(io::Error::from(ErrorKind::OutOfMemory)),
+            },
         }
-        if buf.is_empty() {
-            return Ok(0);
-        }
-        self.room -= 1;
-        Ok(1)
     }
 
     fn flush(&mut self) -> io::Result<()> {
-        Ok(())
+        if self.flushes {
+            Ok(())
+        } else {
+            Err(io::Error::from(ErrorKind::BrokenPipe))
+        }
+    }
+}
+
+// The status of a run and its line on standard error, if any.
+fn ended_by<R: Read, W: Write>(
+    alloc: Global,
+    words: &[&str],
+    reader: &mut R,
+    writer: &mut W,
+) -> Result<(u8, String), Fail> {
+    match run(alloc, words, reader, writer) {
+        Ok(outcome) => Ok((outcome.status(), String::new(alloc))),
+        Err(fault) => Ok((fault.status(), fault.to_string(alloc)?)),
     }
 }
 
 // The status of a run, with what it wrote or its line on standard error.
 fn told_by<R: Read>(alloc: Global, words: &[&str], reader: &mut R) -> Result<(u8, String), Fail> {
     let mut written = Vec::new(alloc);
-    match run(alloc, words, reader, &mut written) {
-        Ok(outcome) => Ok((
-            outcome.status(),
-            String::from_utf8(written).ok().ok_or("text")?,
-        )),
-        Err(fault) => {
-            if !written.is_empty() {
-                return Err("written after a fault".into());
-            }
-            Ok((fault.status(), fault.to_string(alloc)?))
-        }
+    let (status, line) = ended_by(alloc, words, reader, &mut written)?;
+    if line.is_empty() {
+        return Ok((status, String::from_utf8(written).ok().ok_or("text")?));
     }
+    if !written.is_empty() {
+        return Err("written after a fault".into());
+    }
+    Ok((status, line))
 }
 
 // A run on this input that ends with this status and tells this text.

@@ -14,14 +14,15 @@ use std::io::{Read, Write};
 /// Runs the program on its words, of which the first is its name.
 ///
 /// The words are judged before the input is read: by `clap`, then a form, a root and caveats. The input is read to its end,
-/// but at most 8,194 bytes of it; `mint` reads none. After a fault nothing was written, but for a failing writer. Help is
-/// written as `clap` makes it.
+/// but at most 8,194 bytes of it; `mint` reads none. Then the whole answer is made, and written. Help is written as `clap`
+/// makes it.
 ///
 /// # Errors
 ///
 /// Of the words: `Words` where `clap` refuses them or a form is none, `BadRoot`, and `CaveatNotUnderstood` with the number of
-/// the caveat among those given. Of the pass: `TooLong`, `Malformed`, `ThirdParty` and `TooMany`. `InputOutput` where the
-/// reader or the writer failed. `Memory` comes only where memory was refused.
+/// the caveat among those given. Of the pass: `TooLong`, `Malformed`, `ThirdParty` and `TooMany`. `Memory` comes only where
+/// memory was refused. After these nothing was written. `InputOutput` where the reader or the writer failed: then nothing was
+/// written, or a beginning of the answer to the whole input, or of help.
 pub fn run<S: AsStr, R: Read, W: Write>(
     alloc: Global,
     words: &[S],
@@ -30,13 +31,14 @@ pub fn run<S: AsStr, R: Read, W: Write>(
 ) -> Result<Outcome, Fault>
     // The fault of the words, or what they ask for.
     ensures words { AnswersWords (map S.text words.now) result }
-    // Where they ask for a command: it read its input, and wrote its answer to that.
+    // Where they ask for a command: it read its input, and wrote its answer to that; where the reader or the writer failed,
+    // nothing or a beginning of the answer.
     ensures command { (command : CommandOf) → asked (map S.text words.now) ≡ Some command
         → Performs command (R.remaining reader.old) (R.remaining reader.new)
         (W.contents writer.old) (W.contents writer.new) result }
     // Where they ask for none, or one that reads no input, nothing was read.
     ensures unread { asks_input (asked (map S.text words.now)) ≡ false → reader.new ≡ reader.old }
-    // After a fault nothing was written, unless the writer failed.
+    // After any other fault nothing was written.
     ensures silent { IfErr result (λ fault. fault ≢ Fault.InputOutput
         → writer.new ≡ writer.old) }
 {

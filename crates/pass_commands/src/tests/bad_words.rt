@@ -1,6 +1,7 @@
 //! Words that are refused before the input is read, and help.
 
-use super::{ROOT, expect_refused, no_input, told_by};
+use super::{ROOT, expect, expect_refused, no_input, told_by};
+use crate::not_text;
 use std::test::Fail;
 
 #[test]
@@ -21,7 +22,7 @@ fn refuses_other_forms(rt: HostRuntime) -> Result<(), Fail> {
     let alloc = rt.alloc();
     for form in ["", "v3", "V1", "JSON", "v1 ", "binary"] {
         let line = format!(in alloc;
-            "error: invalid value '{form}' for '--form <F>'\n  [possible values: v1, v2, json]\n"
+            "error: invalid value '{form}' for '--form <FORM>'\n  [possible values: v1, v2, json]\n"
         )?;
         let words = ["passtool", "convert", "--form", form];
         expect_refused(&rt, alloc, words.as_slice(), 2, line.as_str())?;
@@ -65,6 +66,19 @@ fn refuses_what_clap_refuses(rt: HostRuntime) -> Result<(), Fail> {
     Ok(())
 }
 
+// The text that clap writes in Rust.
+#[test]
+fn tells_words_that_are_no_text(rt: HostRuntime) -> Result<(), Fail> {
+    let fault = not_text(rt.alloc());
+    let told = fault.to_string(rt.alloc())?;
+    assert_eq!(rt;
+        told.as_str(),
+        "error: invalid UTF-8 was detected in one or more arguments\n\nUsage: passtool <COMMAND>\n\nFor more information, try '--help'.\n"
+    );
+    assert_eq!(rt; fault.status(), 2);
+    Ok(())
+}
+
 #[test]
 fn shows_help(rt: HostRuntime) -> Result<(), Fail> {
     for words in [
@@ -86,4 +100,46 @@ fn shows_help(rt: HostRuntime) -> Result<(), Fail> {
         );
     }
     Ok(())
+}
+
+#[test]
+fn long_help_tells_the_statuses(rt: HostRuntime) -> Result<(), Fail> {
+    let words = ["passtool", "--help"];
+    let (_, told) = told_by(rt.alloc(), words.as_slice(), &mut no_input())?;
+    assert!(rt;
+        told.as_str().contains("\n  7  input or output failed\n"),
+        "{told}"
+    );
+    Ok(())
+}
+
+#[test]
+fn help_of_narrow_shows_the_caveats(rt: HostRuntime) -> Result<(), Fail> {
+    let words = ["passtool", "narrow", "-h"];
+    let (_, told) = told_by(rt.alloc(), words.as_slice(), &mut no_input())?;
+    let words = [
+        "passtool",
+        "narrow",
+        "facility = court-1,court-2",
+        "kind = court",
+        "hours = 18-20",
+        "days = 2026-05-01..2026-05-31",
+        "until < 2026-05-01T18:00",
+        "guests <= 2",
+        "spend <= 600",
+        "actions = view,book",
+    ];
+    let (_, caveats) = words.split_at(2);
+    for caveat in caveats {
+        assert!(rt; told.as_str().contains(*caveat), "{told}");
+    }
+    // Each is understood: what is refused is the text of the pass.
+    expect(
+        &rt,
+        rt.alloc(),
+        words.as_slice(),
+        b"!",
+        3,
+        "fault 2: malformed",
+    )
 }

@@ -11,9 +11,9 @@ unfolding application
 returns c =
     let top : app_of c.subcommand_required.result ≡ on_top needs_subcommand (new_app (codes "passtool")) =
     ap app_of_fields c.subcommand_required.ensures
-    ∙ ap (on_top needs_subcommand) (ap app_of_fields c.about.ensures ∙ c.new.ensures.app) in
-    let one = subcommand_added _ _ _ _ _ top c.in_ok-mint.ensures.app c.in_ok-mint.ensures.local c.in_ok-subcommand.ensures in
-    let two = subcommand_added _ _ _ _ _ one c.make_show-show.ensures.app c.make_show-show.ensures.local c.in_ok-subcommand-2.ensures in
-    let three = subcommand_added _ _ _ _ _ two c.in_ok-narrow.ensures.app c.in_ok-narrow.ensures.local c.in_ok-subcommand-3.ensures in
-    let four = subcommand_added _ _ _ _ _ three c.in_ok-convert.ensures.app c.in_ok-convert.ensures.local c.in_ok-subcommand-4.ensures in
-    IfOk-weaker c.subcommand-5.result _ _ (λ made added. subcommand_added _ _ _ _ _ four c.in_ok-verify.ensures.app c.in_ok-verify.ensures.local added) c.subcommand-5.ensures
+    ∙ ap (on_top needs_subcommand) (ap app_of_fields c.after_long_help.ensures ∙ (ap app_of_fields c.about.ensures ∙ c.new.ensures.app)) in
+    let one = subcommand_added _ _ _ _ _ top c.in_ok-mint.ensures c.in_ok-subcommand.ensures in
+    let two = subcommand_added _ _ _ _ _ one c.make_show-show.ensures c.in_ok-subcommand-2.ensures in
+    let three = subcommand_added _ _ _ _ _ two c.in_ok-narrow.ensures c.in_ok-subcommand-3.ensures in
+    let four = subcommand_added _ _ _ _ _ three c.in_ok-convert.ensures c.in_ok-subcommand-4.ensures in
+    IfOk-weaker c.subcommand-5.result _ _ (λ made added. subcommand_added _ _ _ _ _ four c.in_ok-verify.ensures added) c.subcommand-5.ensures
