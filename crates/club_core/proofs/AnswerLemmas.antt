@@ -3,20 +3,20 @@ use Rattle.std.proofs.Common.{ℕ, Bool, true, false, cond, List, [], ◌∷◌,
 use Rattle.std.specs.Prelude.{Result, ◌&&◌, ◌==◌}
 use Rattle.pass_caveats.specs.declared.fault.CaveatFault.{CaveatFault}
 use Rattle.pass_caveats.specs.declared.fault.CaveatFault.TheVariants.{NotUnderstood, Denied}
-use Rattle.pass_caveats.specs.declared.slot.Slot.{Slot}
-use Rattle.club_core.specs.declared.facility.Facility.{Facility}
-use Rattle.club_core.specs.declared.booking.Booking.{Booking}
+use Rattle.club_values.specs.declared.slot.Slot.{Slot}
+use Rattle.club_rows.specs.declared.facility.Facility.{Facility}
+use Rattle.club_rows.specs.declared.booking.Booking.{Booking}
 use Rattle.club_core.specs.declared.view.View.{View}
 use Rattle.club_core.specs.declared.verdict.Verdict.{Verdict}
 use Rattle.club_core.specs.declared.request.Request.{Request}
 use Rattle.club_core.specs.declared.request.Request.TheVariants as asked
 use Rattle.pass_caveats.specs.CaveatOf.{first_fault_of}
 use Rattle.club_core.specs.declared.refusal.Refusal.TheVariants.{NumberUsed}
-use Rattle.club_core.specs.Booking.{same_slot, refund_at}
+use Rattle.club_rows.specs.Booking.{same_slot, refund_at}
 use Rattle.club_core.specs.Lines.{Line, first_of}
-use Rattle.club_core.specs.Pass.{FormFault, Pass}
-use Rattle.club_core.specs.Basis.{Basis, view_of}
-use Rattle.club_core.specs.Verdict.{refused, booked, booked_before, cancelled, new_booking, book_lines, cancel_lines, new_verdict, rebook_verdict, recancel_verdict, shown_at, unknown_verdict, recorded_or, verdict_of}
+use Rattle.club_core.specs.declared.form_fault.FormFault.{FormFault}
+use Rattle.club_core.specs.Pass.{Pass, is_signed_under}
+use Rattle.club_core.specs.Verdict.{refused, booked, booked_before, cancelled, new_booking, book_lines, cancel_lines, new_verdict, repeat_booking_verdict, cancel_recorded_verdict, shown_at, unknown_verdict, recorded_or, verdict_of}
 use Rattle.club_core.specs.Answer.{answer_to, acceptance_lines, ask_of, after_caveats}
 use Rattle.club_core.specs.Laws.{KeepsWhereRefused}
 
@@ -40,12 +40,12 @@ keeps_new view slot number guests moment (Some facility) =
     (record { kept = λ r e. refl }, (record { kept = λ r e. refl }, (record { kept = λ r e. refl }, (record { kept = λ r e. refl }, (record { kept = λ r e. refl }, tt)))))
     (record { kept = λ r e. cc })
 
-keeps_rebook : (booking : Booking) (slot : Slot) (guests : ℕ) → KeepsWhereRefused (rebook_verdict booking slot guests)
-keeps_rebook booking slot guests =
+keeps_repeat : (booking : Booking) (slot : Slot) (guests : ℕ) → KeepsWhereRefused (repeat_booking_verdict booking slot guests)
+keeps_repeat booking slot guests =
     keep (same_slot booking.slot slot && booking.guests == guests) (booked_before booking) (refused NumberUsed) (record { kept = λ r e. refl }) (record { kept = λ r e. refl })
 
-keeps_recancel : (booking : Booking) (slot : Slot) (moment : ℕ) → KeepsWhereRefused (recancel_verdict booking slot moment)
-keeps_recancel booking slot moment =
+keeps_cancel : (booking : Booking) (slot : Slot) (moment : ℕ) → KeepsWhereRefused (cancel_recorded_verdict booking slot moment)
+keeps_cancel booking slot moment =
     keeps_first (cancel_lines booking slot moment) (cancelled booking (refund_at booking moment))
     (record { kept = λ r e. refl }, (record { kept = λ r e. refl }, (record { kept = λ r e. refl }, tt)))
     (record { kept = λ r e. cc })
@@ -65,9 +65,9 @@ keeps_recorded (Some booking) f other h k = h booking
 keeps_verdict : (view : View) (request : Request) (moment : ℕ) → KeepsWhereRefused (verdict_of view request moment)
 keeps_verdict view (asked.View slot) moment = keeps_shown view slot view.facility
 keeps_verdict view (asked.Book slot number guests) moment =
-    keeps_recorded view.booking (λ b. rebook_verdict b slot guests) (new_verdict view slot number guests moment view.facility) (λ b. keeps_rebook b slot guests) (keeps_new view slot number guests moment view.facility)
+    keeps_recorded view.booking (λ b. repeat_booking_verdict b slot guests) (new_verdict view slot number guests moment view.facility) (λ b. keeps_repeat b slot guests) (keeps_new view slot number guests moment view.facility)
 keeps_verdict view (asked.Cancel slot number) moment =
-    keeps_recorded view.booking (λ b. recancel_verdict b slot moment) (unknown_verdict view.facility) (λ b. keeps_recancel b slot moment) (keeps_unknown view.facility)
+    keeps_recorded view.booking (λ b. cancel_recorded_verdict b slot moment) (unknown_verdict view.facility) (λ b. keeps_cancel b slot moment) (keeps_unknown view.facility)
 keeps_verdict view asked.Account moment = record { kept = λ r e. refl }
 
 keeps_after_caveats : (fault : Option CaveatFault) (verdict : Verdict) → KeepsWhereRefused verdict → KeepsWhereRefused (after_caveats fault verdict)
@@ -75,12 +75,11 @@ keeps_after_caveats None verdict h = h
 keeps_after_caveats (Some (NotUnderstood n)) verdict h = record { kept = λ r e. refl }
 keeps_after_caveats (Some (Denied n)) verdict h = record { kept = λ r e. refl }
 
-pub keeps_answer : (pass : Result Pass FormFault) (request : Request) (moment : ℕ) (basis : Option Basis) → KeepsWhereRefused (answer_to pass request moment basis)
-keeps_answer (Err fault) request moment basis = record { kept = λ r e. refl }
+pub keeps_answer : (pass : Result Pass FormFault) (request : Request) (moment : ℕ) (view : Option View) → KeepsWhereRefused (answer_to pass request moment view)
+keeps_answer (Err fault) request moment view = record { kept = λ r e. refl }
 keeps_answer (Ok pass) request moment None = record { kept = λ r e. refl }
-keeps_answer (Ok pass) request moment (Some basis) =
-    let view = view_of basis request moment in
+keeps_answer (Ok pass) request moment (Some view) =
     let fault = first_fault_of pass.caveats (ask_of view request moment) in
-    keeps_first (acceptance_lines pass basis) (after_caveats fault (verdict_of view request moment))
+    keeps_first (acceptance_lines view.key (is_signed_under pass view.key moment)) (after_caveats fault (verdict_of view request moment))
     (record { kept = λ r e. refl }, (record { kept = λ r e. refl }, tt))
     (keeps_after_caveats fault (verdict_of view request moment) (keeps_verdict view request moment))

@@ -1,7 +1,5 @@
-pub mod RootLemmas
 pub mod ViewLemmas
 pub mod Ordered
 pub mod SheetOrder
 pub mod SheetText
-pub mod ColumnLemmas
 pub mod AnswerLemmas

@@ -9,7 +9,7 @@ use Rattle.std.proofs.lemmas.Bool.{cases_order}
 use Rattle.std.proofs.lemmas.List.Kept.{AllPairs-filter}
 use Rattle.std.proofs.lemmas.Map.Lookups.{exact_bytes}
 use Rattle.std.proofs.lemmas.List.Sorted.{Contains-permutation, IsPermutation-sym, IsPermutation-trans}
-use Rattle.club_core.specs.declared.booking.Booking.{Booking}
+use Rattle.club_rows.specs.declared.booking.Booking.{Booking}
 use Rattle.club_core.specs.Club.{Club, IsSound}
 use Rattle.club_core.specs.Sheet.{AreRowsOf, IsBefore, Precedes, is_on}
 use Rattle.club_core.proofs.Ordered.{Asymmetric, one_order, ordering}

@@ -7,10 +7,10 @@ use Rattle.std.proofs.lemmas.List.{append-nil}
 use Rattle.std.proofs.lemmas.List.Elements.{All-tail}
 use Rattle.std.specs.Fmt.{char_count, take_chars, padded, padded_integral, format_spec, styled_text, styled_decimal, decimal, is_char_start}
 use lib.Utf8.{encode}
-use Rattle.pass_caveats.specs.Digits.{two_digits}
-use Rattle.pass_caveats.specs.Name.{is_name_byte, IsName}
-use Rattle.club_core.specs.declared.booking.Booking.{Booking}
-use Rattle.club_core.specs.Booking.{persons_of}
+use Rattle.club_values.specs.Digits.{two_digits}
+use Rattle.club_values.specs.Name.{is_name_byte, IsName}
+use Rattle.club_rows.specs.declared.booking.Booking.{Booking}
+use Rattle.club_rows.specs.Booking.{persons_of}
 use Rattle.club_core.specs.Sheet.{left_in, right_in, row_text, totals_text}
 
 is_char_start-name : (b : ℕ) → is_name_byte b ≡ true → is_char_start b ≡ true

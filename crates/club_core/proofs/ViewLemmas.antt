@@ -4,34 +4,28 @@ use Rattle.std.specs.Prelude.{Result, ◌&&◌, ◌==◌, ◌||◌, filter, find
 use Rattle.std.specs.List.{list_any}
 use Rattle.std.specs.Str.{bytes_eq}
 use Rattle.std.proofs.lemmas.Slice.Eq.{bytes_eq-Decides}
-use Rattle.club_core.specs.declared.booking.Booking.{Booking}
-use Rattle.club_core.specs.declared.key.Key.{Key}
+use Rattle.club_rows.specs.declared.booking.Booking.{Booking}
+use Rattle.club_rows.specs.declared.key.Key.{Key}
+use Rattle.club_core.specs.declared.form_fault.FormFault.{FormFault}
 use Rattle.club_core.specs.declared.request.Request.{Request}
 use Rattle.club_core.specs.Answer.{answer_to}
-use Rattle.club_core.specs.Basis.{Basis, basis_under, key_of, view_of}
+use Rattle.club_core.specs.Basis.{Basis, basis_under, key_of, view_in, view_of}
 use Rattle.club_core.specs.Club.{Club, is_key_of, key_named}
 use Rattle.club_core.specs.Laws.{HasOwnBookings}
-use Rattle.club_core.specs.Pass.{FormFault, Pass}
-use Rattle.club_core.specs.Seen.{answer_by_view}
-use Rattle.club_core.specs.Store.{view_in}
+use Rattle.club_core.specs.Pass.{Pass}
 use Rattle.club_core.specs.Sums.{cost_of, is_under}
 
 -- ---- decisions
 
-by_basis : (pass : Pass) (request : Request) (moment : ℕ) (basis : Option Basis)
-    → answer_to (Ok pass) request moment basis ≡ answer_by_view (Ok pass) request moment (option_map (λ (b : Basis). view_of b request moment) basis)
-by_basis pass request moment None = refl
-by_basis pass request moment (Some basis) = refl
-
 by_name : (club : Club) (pass : Pass) (request : Request) (moment : ℕ) (name : Option (List ℕ))
-    → answer_to (Ok pass) request moment (option_and_then (basis_under club request) (option_and_then (λ (n : List ℕ). key_named n club) name))
-    ≡ answer_by_view (Ok pass) request moment (option_and_then (λ (n : List ℕ). view_in club n request moment) name)
+    → answer_to (Ok pass) request moment (option_map (λ (b : Basis). view_of b request moment) (option_and_then (basis_under club request) (option_and_then (λ (n : List ℕ). key_named n club) name)))
+    ≡ answer_to (Ok pass) request moment (option_and_then (λ (n : List ℕ). view_in club n request moment) name)
 by_name club pass request moment None = refl
-by_name club pass request moment (Some name) = by_basis pass request moment (option_and_then (basis_under club request) (key_named name club))
+by_name club pass request moment (Some name) = refl
 
 pub views_decide : (club : Club) (pass : Result Pass FormFault) (request : Request) (moment : ℕ)
-    → answer_to pass request moment (option_and_then (basis_under club request) (option_and_then (λ (n : List ℕ). key_named n club) (key_of pass)))
-    ≡ answer_by_view pass request moment (option_and_then (λ (n : List ℕ). view_in club n request moment) (key_of pass))
+    → answer_to pass request moment (option_map (λ (b : Basis). view_of b request moment) (option_and_then (basis_under club request) (option_and_then (λ (n : List ℕ). key_named n club) (key_of pass))))
+    ≡ answer_to pass request moment (option_and_then (λ (n : List ℕ). view_in club n request moment) (key_of pass))
 views_decide club (Err fault) request moment = refl
 views_decide club (Ok pass) request moment = by_name club pass request moment pass.key
 

@@ -1,9 +1,9 @@
 -- The club after a change (ours).
 use Rattle.std.specs.Prelude.{ℕ, ◌+◌, ◌==◌, ◌&&◌, ◌||◌, not, Bool, List, [], ◌∷◌, ◌++◌, map, if◌then◌else◌}
 use Rattle.std.specs.Str.{bytes_eq}
-use Rattle.club_core.specs.declared.member.Member.{Member}
-use Rattle.club_core.specs.declared.key.Key.{Key}
-use Rattle.club_core.specs.declared.booking.Booking.{Booking}
+use Rattle.club_rows.specs.declared.member.Member.{Member}
+use Rattle.club_rows.specs.declared.key.Key.{Key}
+use Rattle.club_rows.specs.declared.booking.Booking.{Booking}
 use Rattle.club_core.specs.declared.change.Change.{Change}
 use Rattle.club_core.specs.declared.change.Change.TheVariants.{InsertMember, AddCredit, InsertFacility, InsertKey, MarkRevoked, MarkClosed, InsertBooking, MarkCancelled}
 use Rattle.club_core.specs.Club.{Club}
@@ -17,7 +17,7 @@ credited name points member =
 abbrev pub revoked : List ℕ → Key → Key
 revoked name key = record key { revoked = key.revoked || bytes_eq key.name name }
 
--- whether a cancelling under this key and number marks the booking
+-- whether a cancellation under this key and number marks the booking
 abbrev pub is_marked : List ℕ → ℕ → Booking → Bool
 is_marked key number booking = is_under key booking && booking.number == number && not booking.cancelled
 

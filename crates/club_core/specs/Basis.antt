@@ -1,29 +1,37 @@
--- The rows that the answer to a request may depend on, and the sums over them (ours).
-use Rattle.std.specs.Prelude.{ℕ, Bool, false, List, Option, Some, None, Result, Ok, Err, option_map, option_and_then}
-use Rattle.pass_caveats.specs.declared.slot.Slot.{Slot}
-use Rattle.club_core.specs.declared.member.Member.{Member}
-use Rattle.club_core.specs.declared.facility.Facility.{Facility}
-use Rattle.club_core.specs.declared.key.Key.{Key}
-use Rattle.club_core.specs.declared.booking.Booking.{Booking}
-use Rattle.club_core.specs.declared.view.View.{View}
+-- The rows that the answer to a request may depend on, and the view of them that decides it (ours).
+use Rattle.std.specs.Prelude.{ℕ, false, List, Option, Some, None, Result, Ok, Err, option_map, option_and_then}
+use Rattle.club_values.specs.declared.slot.Slot.{Slot}
+use Rattle.club_rows.specs.declared.member.Member.{Member}
+use Rattle.club_rows.specs.declared.facility.Facility.{Facility}
+use Rattle.club_rows.specs.declared.key.Key.{Key}
+use Rattle.club_rows.specs.declared.booking.Booking.{Booking}
+use Rattle.club_core.specs.declared.form_fault.FormFault.{FormFault}
 use Rattle.club_core.specs.declared.request.Request.{Request}
+use Rattle.club_core.specs.declared.slot_use.SlotUse.{SlotUse}
+use Rattle.club_core.specs.declared.view.View.{View}
 use Rattle.club_core.specs.Club.{Club, member_named, facility_named, key_named, bookings_of, is_closed}
 use Rattle.club_core.specs.Request.{slot_of, number_of}
-use Rattle.club_core.specs.Pass.{FormFault, Pass, Words}
+use Rattle.club_core.specs.Pass.{Pass, Words}
 use Rattle.club_core.specs.Sums.{taken_in, spent_under, balance_of, count_to_come, booking_under}
 
--- the state of a slot: its facility if there is one, the persons who booked, and whether it is closed
+-- what is taken of a slot by these bookings, and whether the club closed it; nothing of no slot
+abbrev pub use_by : List Booking → Club → Option Slot → SlotUse
+use_by bookings club None = record { taken = 0; closed = false }
+use_by bookings club (Some slot) = record { taken = taken_in slot bookings; closed = is_closed slot club }
+
+-- by all bookings
+abbrev pub slot_use : Club → Slot → SlotUse
+slot_use club slot = use_by club.bookings club (Some slot)
+
+-- the state of a slot: its facility if there is one, and what is taken of it
 pub record SlotState : Type 0 where
   pub facility : Option Facility
-  pub taken : ℕ
-  pub closed : Bool
+  pub held : SlotUse
 
 abbrev pub state_of : Club → Option Slot → SlotState
-state_of club None = record { facility = None; taken = 0; closed = false }
-state_of club (Some slot) = record {
-  facility = facility_named slot.facility club;
-  taken = taken_in slot club.bookings;
-  closed = is_closed slot club;
+state_of club slot = record {
+  facility = option_and_then (λ (s : Slot). facility_named s.facility club) slot;
+  held = use_by club.bookings club slot;
 }
 
 -- the key's row, its member's row, the bookings of all keys of that member, and the state of the slot
@@ -63,7 +71,17 @@ view_of basis request moment = record {
   balance = balance_of basis.member basis.bookings;
   open_count = count_to_come moment basis.bookings;
   facility = basis.state.facility;
-  taken = basis.state.taken;
-  closed = basis.state.closed;
+  taken = basis.state.held.taken;
+  closed = basis.state.held.closed;
   booking = option_and_then (λ (number : ℕ). booking_under basis.key.name number basis.bookings) (number_of request);
 }
+
+-- what a key sees of a request at a moment; none where the club has no such key
+abbrev pub view_in : Club → List ℕ → Request → ℕ → Option View
+view_in club key request moment =
+    option_map (λ (basis : Basis). view_of basis request moment)
+    (option_and_then (basis_under club request) (key_named key club))
+
+-- the view of the key that the words name
+abbrev pub view_for : Club → Words → ℕ → Option View
+view_for club words moment = option_and_then (λ (name : List ℕ). view_in club name words.request moment) (key_of words.pass)

@@ -1,7 +1,7 @@
 -- Runs from the empty club that compute (ours).
 use Rattle.std.specs.Prelude.{◌≡◌, ℕ, true, List, [], ◌∷◌, Option, Some, Ok, replicate, codes}
-use Rattle.pass_caveats.specs.declared.kind.Kind.TheVariants.{Court}
-use Rattle.pass_caveats.specs.declared.slot.Slot.{Slot}
+use Rattle.club_values.specs.declared.kind.Kind.TheVariants.{Court}
+use Rattle.club_values.specs.declared.slot.Slot.{Slot}
 use Rattle.pass_caveats.specs.declared.caveat.Caveat.{Caveat}
 use Rattle.pass_caveats.specs.declared.caveat.Caveat.TheVariants.{Spend}
 use Rattle.club_core.specs.declared.command.Command.TheVariants.{AddMember, Credit, AddFacility, AddKey, CloseSlot}
@@ -11,7 +11,10 @@ use Rattle.club_core.specs.declared.reply.Reply.TheVariants.{Booked, Cancelled, 
 use Rattle.club_core.specs.declared.request.Request.{Request}
 use Rattle.club_core.specs.declared.request.Request.TheVariants as asked
 use Rattle.club_core.specs.Club.{Club, empty_club}
-use Rattle.club_core.specs.Run.{Event, Asked, Ordered, EventReply, Replied, Answered, Done, NotDone, replies_of, club_after}
+use Rattle.club_core.specs.declared.event.EventReply.{EventReply}
+use Rattle.club_core.specs.declared.event.EventReply.TheVariants.{Replied, Answered}
+use Rattle.club_core.specs.declared.event.OfficeAnswer.TheVariants.{Done, NotDone}
+use Rattle.club_core.specs.Run.{Event, Asked, Ordered, replies_of, club_after}
 
 abbrev pub root : List ℕ
 root = replicate 16 7
@@ -56,16 +59,16 @@ cancelled number refund = Replied (Cancelled (codes "amy-1") number refund)
 abbrev pub account : ℕ → ℕ → ℕ → EventReply
 account balance count spent = Replied (AccountShown (codes "amy") balance 5 count spent)
 
--- one member's list: a booking, the account, a cancelling
+-- one member's list: a booking, the account, a cancellation
 abbrev pub BooksAndCancels : Type 0
 BooksAndCancels =
     replies_of opened_club
     (ask (asked.Book (slot_at 18) 7 2) noon ∷ ask asked.Account noon ∷ ask (asked.Cancel (slot_at 18) 7) noon ∷ [])
     ≡ booked 7 600 1 ∷ account 9_400 1 600 ∷ cancelled 7 600 ∷ []
 
--- a repeat is told what was told first, also after a cancelling and when the slot has begun, and nothing is charged
-abbrev pub RepeatsAfterACancelling : Type 0
-RepeatsAfterACancelling =
+-- a repeat is told what was told first, also after a cancellation and when the slot has begun, and nothing is charged
+abbrev pub RepeatsAfterACancellation : Type 0
+RepeatsAfterACancellation =
     replies_of opened_club
     (ask (asked.Book (slot_at 18) 7 2) noon
     ∷ ask (asked.Cancel (slot_at 18) 7) noon

@@ -1,14 +1,13 @@
 -- Laws of the definitions.
-use Rattle.std.specs.Prelude.{◌≡◌, ℕ, List, Contains, Option, None}
-use Rattle.club_core.specs.declared.key.Key.{Key}
+use Rattle.std.specs.Prelude.{◌≡◌, ◌↔◌, ℕ, IsTrue, List, Contains, Option, None}
+use Rattle.club_rows.specs.declared.key.Key.{Key}
 use Rattle.club_core.specs.declared.refusal.Refusal.{Refusal}
 use Rattle.club_core.specs.declared.reply.Reply.TheVariants.{Refused}
 use Rattle.club_core.specs.declared.verdict.Verdict.{Verdict}
-use Rattle.club_core.specs.Answer.{answer_of}
-use Rattle.club_core.specs.Basis.{Basis, basis_of}
+use Rattle.club_core.specs.Answer.{answer_of, answer_to, verdict_in}
+use Rattle.club_core.specs.Basis.{Basis, view_for}
 use Rattle.club_core.specs.Club.{Club, IsSound, bookings_of}
-use Rattle.club_core.specs.Pass.{Words}
-use Rattle.club_core.specs.Seen.{answer_by_view, view_for}
+use Rattle.club_core.specs.Pass.{Pass, IsSignedUnder, is_signed_under, Words}
 use Rattle.club_core.specs.Sheet.{IsSheet}
 use Rattle.club_core.specs.Sums.{booking_under, spent_under}
 
@@ -26,7 +25,12 @@ OneSheet = (club : Club) (day : ℕ) (text other : List ℕ) → IsSheet club da
 -- who decides on the sums of a view answers as one who has the bookings
 abbrev pub ViewsDecide : Type 0
 ViewsDecide = (club : Club) (words : Words) (moment : ℕ) →
-    answer_of words moment (basis_of club words) ≡ answer_by_view words.pass words.request moment (view_for club words moment)
+    verdict_in club words moment ≡ answer_to words.pass words.request moment (view_for club words moment)
+
+-- the test of a signature tells what it is to tell
+abbrev pub TestsTheSignature : Type 0
+TestsTheSignature = (pass : Pass) (key : Key) (moment : ℕ) →
+    IsTrue (is_signed_under pass key moment) ↔ IsSignedUnder pass key moment
 
 -- what a key spent and booked stands among its member's bookings
 pub record HasOwnBookings (club : Club) (key : Key) : Type 0 where

@@ -1,8 +1,8 @@
 -- The parts of a request (ours).
 use Rattle.std.specs.Prelude.{ℕ, Option, Some, None}
-use Rattle.pass_caveats.specs.declared.action.Action.{Action}
-use Rattle.pass_caveats.specs.declared.action.Action.TheVariants as actions
-use Rattle.pass_caveats.specs.declared.slot.Slot.{Slot}
+use Rattle.club_values.specs.declared.action.Action.{Action}
+use Rattle.club_values.specs.declared.action.Action.TheVariants as actions
+use Rattle.club_values.specs.declared.slot.Slot.{Slot}
 use Rattle.club_core.specs.declared.request.Request.{Request}
 use Rattle.club_core.specs.declared.request.Request.TheVariants as asked
 

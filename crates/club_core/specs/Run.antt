@@ -1,15 +1,17 @@
 -- The club as a machine: its steps, and its runs over lists of events (ours).
 use Rattle.std.specs.Prelude.{ℕ, Bool, List, [], ◌∷◌, Option, Some, None, Result, Ok, Err, if◌then◌else◌}
 use Rattle.club_core.specs.declared.verdict.Verdict.{Verdict}
-use Rattle.club_core.specs.declared.reply.Reply.{Reply}
 use Rattle.club_core.specs.declared.change.Change.{Change}
 use Rattle.club_core.specs.declared.command.Command.{Command}
 use Rattle.club_core.specs.declared.command.Command.TheVariants.{AddMember, Credit, AddFacility, AddKey, RevokeKey, CloseSlot}
 use Rattle.club_core.specs.declared.command.OfficeFault.{OfficeFault}
+use Rattle.club_core.specs.declared.event.EventReply.{EventReply}
+use Rattle.club_core.specs.declared.event.EventReply.TheVariants.{Replied, Answered}
+use Rattle.club_core.specs.declared.event.OfficeAnswer.{OfficeAnswer}
+use Rattle.club_core.specs.declared.event.OfficeAnswer.TheVariants.{Done, NewKey, NotDone}
 use Rattle.club_core.specs.Pass.{Words}
 use Rattle.club_core.specs.Club.{Club}
-use Rattle.club_core.specs.Basis.{basis_of}
-use Rattle.club_core.specs.Answer.{answer_of}
+use Rattle.club_core.specs.Answer.{verdict_in}
 use Rattle.club_core.specs.After.{after}
 use Rattle.club_core.specs.Office.{office_verdict}
 
@@ -17,16 +19,6 @@ use Rattle.club_core.specs.Office.{office_verdict}
 pub data Event : Type 0 where
   Asked : (words : Words) (moment : ℕ) → Event
   Ordered : (command : Command) → Event
-
--- what the office is told; of a new key, its name and root, from which its signature follows
-pub data OfficeAnswer : Type 0 where
-  Done : OfficeAnswer
-  NewKey : (name root : List ℕ) → OfficeAnswer
-  NotDone : (fault : OfficeFault) → OfficeAnswer
-
-pub data EventReply : Type 0 where
-  Replied : (reply : Reply) → EventReply
-  Answered : (answer : OfficeAnswer) → EventReply
 
 -- the reply to an event, and the club that it leaves
 pub record Outcome : Type 0 where
@@ -37,24 +29,25 @@ abbrev pub after_change : Option Change → Club → Club
 after_change None club = club
 after_change (Some change) club = after change club
 
-abbrev pub accepted : Command → OfficeAnswer
-accepted (AddMember name quota) = Done
-accepted (Credit member points) = Done
-accepted (AddFacility name kind places price opens shuts) = Done
-accepted (AddKey name member root) = NewKey name root
-accepted (RevokeKey name) = Done
-accepted (CloseSlot slot) = Done
+-- what the office is told of an order that is done; of a new key, its name and root, from which its signature follows
+abbrev pub done_answer : Command → OfficeAnswer
+done_answer (AddMember name quota) = Done
+done_answer (Credit member points) = Done
+done_answer (AddFacility name kind places price opens shuts) = Done
+done_answer (AddKey name member root) = NewKey name root
+done_answer (RevokeKey name) = Done
+done_answer (CloseSlot slot) = Done
 
 -- a refused order keeps the club
 abbrev pub ordered : Club → Command → Result Change OfficeFault → Outcome
 ordered club command (Err fault) = record { reply = Answered (NotDone fault); club = club }
-ordered club command (Ok change) = record { reply = Answered (accepted command); club = after change club }
+ordered club command (Ok change) = record { reply = Answered (done_answer command); club = after change club }
 
 abbrev pub told_and_changed : Club → Verdict → Outcome
 told_and_changed club verdict = record { reply = Replied verdict.reply; club = after_change verdict.change club }
 
 abbrev pub step : Club → Event → Outcome
-step club (Asked words moment) = told_and_changed club (answer_of words moment (basis_of club words))
+step club (Asked words moment) = told_and_changed club (verdict_in club words moment)
 step club (Ordered command) = ordered club command (office_verdict club command)
 
 -- the replies to a list of events, in order, and the club that it leaves
@@ -66,7 +59,7 @@ abbrev pub club_after : Club → List Event → Club
 club_after club [] = club
 club_after club (event ∷ events) = club_after (step club event).club events
 
--- the events whose replies pass a test, as those that say no want of memory or storage
+-- the events whose replies pass a test, as those that don't say that memory or storage was refused
 abbrev pub events_where : {R : Type 0} → (R → Bool) → List Event → List R → List Event
 events_where counts (event ∷ events) (reply ∷ replies) =
     if counts reply then event ∷ events_where counts events replies else events_where counts events replies

@@ -4,10 +4,10 @@ use Rattle.std.specs.Ordering.{nat_cmp}
 use Rattle.std.specs.declared.cmp.Ordering.TheVariants.{Less}
 use Rattle.std.specs.Cmp.Lexicographic.{slice_cmp}
 use Rattle.std.specs.Fmt.{decimal}
-use Rattle.pass_caveats.specs.Digits.{two_digits}
-use Rattle.pass_caveats.specs.Day.{day_text}
-use Rattle.club_core.specs.declared.booking.Booking.{Booking}
-use Rattle.club_core.specs.Booking.{persons_of}
+use Rattle.club_values.specs.Digits.{two_digits}
+use Rattle.club_values.specs.Day.{day_text}
+use Rattle.club_rows.specs.declared.booking.Booking.{Booking}
+use Rattle.club_rows.specs.Booking.{persons_of}
 use Rattle.club_core.specs.Club.{Club}
 
 -- the bookings of the day that aren't cancelled

@@ -1,42 +1,34 @@
 -- What a member's replies depend on: the member's own rows and events, and what others hold of the slots asked for (ours).
 use Rattle.std.specs.Prelude.{ℕ, ◌+◌, not, Bool, true, false, List, [], ◌∷◌, ◌++◌, filter, Option, Some, None, Result, Ok, Err, option_map, if◌then◌else◌}
 use Rattle.std.specs.Str.{bytes_eq}
-use Rattle.pass_caveats.specs.declared.slot.Slot.{Slot}
-use Rattle.club_core.specs.declared.member.Member.{Member}
-use Rattle.club_core.specs.declared.booking.Booking.{Booking}
+use Rattle.club_values.specs.declared.slot.Slot.{Slot}
+use Rattle.club_rows.specs.declared.member.Member.{Member}
+use Rattle.club_rows.specs.declared.booking.Booking.{Booking}
 use Rattle.club_core.specs.declared.reply.Reply.{Reply}
 use Rattle.club_core.specs.declared.verdict.Verdict.{Verdict}
 use Rattle.club_core.specs.declared.change.Change.{Change}
 use Rattle.club_core.specs.declared.change.Change.TheVariants.{InsertMember, AddCredit, InsertFacility, InsertKey, MarkRevoked, MarkClosed, InsertBooking, MarkCancelled}
 use Rattle.club_core.specs.declared.command.OfficeFault.{OfficeFault}
+use Rattle.club_core.specs.declared.slot_use.SlotUse.{SlotUse}
 use Rattle.club_core.specs.Pass.{Words}
-use Rattle.club_core.specs.Club.{Club, keys_of, is_key_of, bookings_of, is_closed}
-use Rattle.club_core.specs.Sums.{taken_in}
-use Rattle.club_core.specs.Basis.{Basis, basis_of}
+use Rattle.club_core.specs.Club.{Club, keys_of, is_key_of, bookings_of}
+use Rattle.club_core.specs.Basis.{Basis, SlotState, basis_of, use_by}
 use Rattle.club_core.specs.Request.{slot_of}
 use Rattle.club_core.specs.Answer.{answer_of}
 use Rattle.club_core.specs.After.{after}
 use Rattle.club_core.specs.Office.{office_verdict}
 use Rattle.club_core.specs.Run.{Event, Asked, Ordered, step, after_change}
 
--- what others hold of a slot: their persons, and whether it is closed
-pub record Outside : Type 0 where
-  pub taken : ℕ
-  pub closed : Bool
-
 abbrev pub bookings_of_others : List ℕ → Club → List Booking
 bookings_of_others member club = filter (λ (booking : Booking). not (is_key_of member club booking.key)) club.bookings
 
-abbrev pub outside : List ℕ → Club → Option Slot → Outside
-outside member club None = record { taken = 0; closed = false }
-outside member club (Some slot) = record {
-  taken = taken_in slot (bookings_of_others member club);
-  closed = is_closed slot club;
-}
+-- what others hold of a slot: their persons, and whether it is closed
+abbrev pub outside : List ℕ → Club → Option Slot → SlotUse
+outside member club slot = use_by (bookings_of_others member club) club slot
 
 -- a request of the member's with what others hold of its slot, or a change that the member's part follows
 pub data OwnEvent : Type 0 where
-  OwnAsk : (words : Words) (moment : ℕ) (others : Outside) → OwnEvent
+  OwnAsk : (words : Words) (moment : ℕ) (others : SlotUse) → OwnEvent
   OwnChange : (change : Change) → OwnEvent
 
 -- whether an order's change is the member's own: the member, its credit and keys, and each new facility
@@ -80,16 +72,14 @@ part_of name club = record {
 }
 
 -- the basis in a club that holds the member's part alone, with what others hold of the slot
-abbrev pub with_others : Outside → Basis → Basis
+abbrev pub with_others : SlotUse → Basis → Basis
 with_others others basis = record basis {
-  state = record {
-    facility = basis.state.facility;
-    taken = basis.state.taken + others.taken;
-    closed = others.closed;
+  state = record basis.state {
+    held = record { taken = basis.state.held.taken + others.taken; closed = others.closed };
   };
 }
 
-abbrev pub solo_verdict : Club → Words → ℕ → Outside → Verdict
+abbrev pub solo_verdict : Club → Words → ℕ → SlotUse → Verdict
 solo_verdict part words moment others = answer_of words moment (option_map (with_others others) (basis_of part words))
 
 -- the replies to the member's requests in a club that holds nothing but the member's part

@@ -1,11 +1,11 @@
 -- What an accepted request is answered, by what it sees (ours). The first line that fits decides.
 use Rattle.std.specs.Prelude.{ℕ, ◌+◌, ◌-◌, ◌==◌, ◌&&◌, not, false, List, [], ◌∷◌, nat_lt, nat_le, if◌then◌else◌, Option, Some, None}
-use Rattle.pass_caveats.specs.declared.slot.Slot.{Slot}
-use Rattle.pass_caveats.specs.Slot.{start_of}
+use Rattle.club_values.specs.declared.slot.Slot.{Slot}
+use Rattle.club_values.specs.Slot.{start_of}
 use Rattle.club_core.specs.declared.view.View.{View}
 use Rattle.club_core.specs.declared.verdict.Verdict.{Verdict}
-use Rattle.club_core.specs.declared.facility.Facility.{Facility}
-use Rattle.club_core.specs.declared.booking.Booking.{Booking}
+use Rattle.club_rows.specs.declared.facility.Facility.{Facility}
+use Rattle.club_rows.specs.declared.booking.Booking.{Booking}
 use Rattle.club_core.specs.declared.refusal.Refusal.{Refusal}
 use Rattle.club_core.specs.declared.refusal.Refusal.TheVariants.{NumberUsed, NoSuchFacility, NoSuchBooking, NotBookable, SlotClosed, NoPlaces, QuotaReached, BalanceTooLow, SlotHasBegun}
 use Rattle.club_core.specs.declared.reply.Reply.{Reply}
@@ -14,8 +14,8 @@ use Rattle.club_core.specs.declared.change.Change.TheVariants.{InsertBooking, Ma
 use Rattle.club_core.specs.declared.request.Request.{Request}
 use Rattle.club_core.specs.declared.request.Request.TheVariants as asked
 use Rattle.club_core.specs.Lines.{Line, line, first_of}
-use Rattle.club_core.specs.Facility.{charge_of, is_bookable}
-use Rattle.club_core.specs.Booking.{same_slot, refund_at}
+use Rattle.club_rows.specs.Facility.{charge_of, is_bookable}
+use Rattle.club_rows.specs.Booking.{same_slot, refund_at}
 
 -- a reply that changes nothing
 abbrev pub told : Reply → Verdict
@@ -63,8 +63,8 @@ abbrev pub cancelled_before : Booking → Verdict
 cancelled_before booking = told (Cancelled booking.key booking.number booking.refund)
 
 -- a booking under a number that is on record
-abbrev pub rebook_verdict : Booking → Slot → ℕ → Verdict
-rebook_verdict booking slot guests =
+abbrev pub repeat_booking_verdict : Booking → Slot → ℕ → Verdict
+repeat_booking_verdict booking slot guests =
     if same_slot booking.slot slot && booking.guests == guests then booked_before booking else refused NumberUsed
 
 -- why a booking under a new number is refused
@@ -89,10 +89,10 @@ recorded_or (Some booking) recorded other = recorded booking
 
 abbrev pub book_verdict : View → Slot → ℕ → ℕ → ℕ → Verdict
 book_verdict view slot number guests moment =
-    recorded_or view.booking (λ booking. rebook_verdict booking slot guests)
+    recorded_or view.booking (λ booking. repeat_booking_verdict booking slot guests)
     (new_verdict view slot number guests moment view.facility)
 
--- what a cancelling of a number on record is told, where it changes nothing
+-- what a cancellation of a number on record is told, where it changes nothing
 abbrev pub cancel_lines : Booking → Slot → ℕ → List (Line Verdict)
 cancel_lines booking slot moment =
     line (not (same_slot booking.slot slot)) (refused NumberUsed)
@@ -100,19 +100,19 @@ cancel_lines booking slot moment =
     ∷ line (nat_le (start_of booking.slot) moment) (refused SlotHasBegun)
     ∷ []
 
--- a cancelling of a number that is on record
-abbrev pub recancel_verdict : Booking → Slot → ℕ → Verdict
-recancel_verdict booking slot moment =
+-- a cancellation of a number that is on record
+abbrev pub cancel_recorded_verdict : Booking → Slot → ℕ → Verdict
+cancel_recorded_verdict booking slot moment =
     first_of (cancel_lines booking slot moment) (cancelled booking (refund_at booking moment))
 
--- a cancelling of a number that isn't on record
+-- a cancellation of a number that isn't on record
 abbrev pub unknown_verdict : Option Facility → Verdict
 unknown_verdict None = refused NoSuchFacility
 unknown_verdict (Some facility) = refused NoSuchBooking
 
 abbrev pub cancel_verdict : View → Slot → ℕ → Verdict
 cancel_verdict view slot moment =
-    recorded_or view.booking (λ booking. recancel_verdict booking slot moment) (unknown_verdict view.facility)
+    recorded_or view.booking (λ booking. cancel_recorded_verdict booking slot moment) (unknown_verdict view.facility)
 
 abbrev pub shown_at : View → Slot → Option Facility → Verdict
 shown_at view slot None = refused NoSuchFacility

@@ -1,8 +1,4 @@
-use crate::booking::Booking;
-use crate::booking_number::BookingNumber;
-use crate::facility::Facility;
-use crate::key::Key;
-use crate::member::Member;
+use club_rows::{Booking, BookingNumber, Facility, Key, Member};
 use pass_caveats::{Name, Slot};
 
 /// A change of the club's rows.

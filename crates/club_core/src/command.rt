@@ -1,5 +1,11 @@
-use crate::root::Root;
+use crate::request::slot_within;
+use club_rows::Root;
 use pass_caveats::{Kind, Name, Slot};
+use std::error::Error;
+use std::fmt;
+
+/// The most points of one credit.
+pub const MAX_POINTS: u32 = 1_000_000;
 
 /// An order of the office.
 #[derive(Clone, Copy, Debug, PartialEq, Eq)]
@@ -34,8 +40,54 @@ pub enum Command {
 /// Why an order of the office is refused.
 #[derive(Clone, Copy, Debug, PartialEq, Eq)]
 pub enum OfficeFault {
+    /// The new name is taken, or the slot is closed already.
     Exists,
+    /// There is no member, key or facility of the name.
     Unknown,
+    /// A number is out of its limits, or an hour out of opening.
     OutOfRange,
+    /// Somebody booked the slot.
     SlotInUse,
+}
+
+impl fmt::Display for OfficeFault {
+    ghost use Rattle.std.specs.Prelude.{Some};
+    ghost use Rattle.club_core.specs.Faults.{office_fault_text};
+
+    ghost output = { λ fault. Some (office_fault_text fault) };
+
+    fn fmt<W: fmt::Write>(&self, f: &mut fmt::Formatter<W>) -> fmt::Result {
+        match self {
+            OfficeFault::Exists => write!(f, "exists"),
+            OfficeFault::Unknown => write!(f, "unknown"),
+            OfficeFault::OutOfRange => write!(f, "out of range"),
+            OfficeFault::SlotInUse => write!(f, "slot in use"),
+        }
+    }
+}
+
+impl Error for OfficeFault {}
+
+impl Command {
+    ghost use Rattle.club_core.specs.Events.{IsCommand};
+
+    /// Each name, slot and root of an order is within its limits.
+    pub fn within(&self)
+        ensures { IsCommand self.now }
+    {
+        match self {
+            Command::AddMember { name, .. }
+            | Command::Credit { member: name, .. }
+            | Command::AddFacility { name, .. }
+            | Command::RevokeKey { name } => {
+                let _name = name.as_bytes();
+            }
+            Command::AddKey { name, member, root } => {
+                let _name = name.as_bytes();
+                let _member = member.as_bytes();
+                let _root = root.as_bytes();
+            }
+            Command::CloseSlot(slot) => slot_within(slot),
+        }
+    }
 }

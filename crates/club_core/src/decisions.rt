@@ -1,19 +1,26 @@
-//! The four decisions, which come after the pass was accepted. Each is a list of lines, of which the first that fits decides.
+//! The four decisions, which come after the pass was accepted. Each is a list of lines, of which
+//! the first that fits decides.
 
 ghost use Rattle.std.specs.Prelude.{◌≡◌, Some};
-ghost use Rattle.club_core.specs.Facility as facilities;
-ghost use Rattle.club_core.specs.Verdict.{view_verdict, book_verdict, cancel_verdict, account_verdict, verdict_of, rebook_verdict, new_verdict, recancel_verdict};
+ghost use Rattle.club_rows.specs.Facility as facilities;
+ghost use Rattle.club_core.specs.Verdict.{
+  view_verdict,
+  book_verdict,
+  cancel_verdict,
+  account_verdict,
+  verdict_of,
+  repeat_booking_verdict,
+  new_verdict,
+  cancel_recorded_verdict,
+};
 
-use crate::booking::Booking;
-use crate::booking_number::BookingNumber;
 use crate::change::Change;
-use crate::facility::Facility;
-use crate::guests::Guests;
 use crate::refusal::Refusal;
 use crate::reply::Reply;
 use crate::request::Request;
 use crate::verdict::Verdict;
 use crate::view::View;
+use club_rows::{Booking, BookingNumber, Facility, Guests};
 use pass_caveats::{Moment, Slot};
 
 /// How far ahead a slot may begin, in minutes.
@@ -45,9 +52,10 @@ pub fn decide_view(view: &View, slot: &Slot) -> Verdict
     }
 }
 
-/// A booking under a number that is on record: the reply of then, where slot and guests are those of then.
-fn rebook(booking: &Booking, slot: &Slot, guests: Guests) -> Verdict
-    ensures { result ≡ rebook_verdict booking.now slot.now guests }
+/// A booking under a number that is on record: the reply of then, where slot and guests are those
+/// of then.
+fn repeat_booking(booking: &Booking, slot: &Slot, guests: Guests) -> Verdict
+    ensures { result ≡ repeat_booking_verdict booking.now slot.now guests }
 {
     if booking.slot != *slot || booking.guests != guests {
         return Verdict::refused(Refusal::NumberUsed);
@@ -77,7 +85,7 @@ fn book_at(
     if view.closed {
         return Verdict::refused(Refusal::SlotClosed);
     }
-    let taken = u64::from(view.taken) + u64::from(guests.persons());
+    let taken = view.taken.saturating_add(u64::from(guests.persons()));
     if taken > u64::from(facility.places) {
         return Verdict::refused(Refusal::NoPlaces);
     }
@@ -111,15 +119,15 @@ pub fn decide_book(
     ensures { result ≡ book_verdict view.now slot.now number guests moment }
 {
     match (&view.booking, &view.facility) {
-        (Some(booking), _) => rebook(booking, slot, guests),
+        (Some(booking), _) => repeat_booking(booking, slot, guests),
         (None, None) => Verdict::refused(Refusal::NoSuchFacility),
         (None, Some(facility)) => book_at(view, facility, slot, number, guests, moment),
     }
 }
 
-/// A cancelling of a booking that is on record.
-fn recancel(booking: &Booking, slot: &Slot, moment: Moment) -> Verdict
-    ensures { result ≡ recancel_verdict booking.now slot.now moment }
+/// A cancellation of a booking that is on record.
+fn cancel_recorded(booking: &Booking, slot: &Slot, moment: Moment) -> Verdict
+    ensures { result ≡ cancel_recorded_verdict booking.now slot.now moment }
 {
     if booking.slot != *slot {
         return Verdict::refused(Refusal::NumberUsed);
@@ -137,18 +145,19 @@ fn recancel(booking: &Booking, slot: &Slot, moment: Moment) -> Verdict
     Verdict::cancelled(booking, booking.refund_at(moment))
 }
 
-/// What is answered to a cancelling, and the refund that is written where it is served anew.
+/// What is answered to a cancellation, and the refund that is written where it is served anew.
 pub fn decide_cancel(view: &View, slot: &Slot, moment: Moment) -> Verdict
     ensures { result ≡ cancel_verdict view.now slot.now moment }
 {
     match (&view.booking, &view.facility) {
-        (Some(booking), _) => recancel(booking, slot, moment),
+        (Some(booking), _) => cancel_recorded(booking, slot, moment),
         (None, None) => Verdict::refused(Refusal::NoSuchFacility),
         (None, Some(_)) => Verdict::refused(Refusal::NoSuchBooking),
     }
 }
 
-/// What is answered where the account is to be shown: the member's sums, and what the key has spent.
+/// What is answered where the account is to be shown: the member's sums, and what the key has
+/// spent.
 pub fn decide_account(view: &View) -> Verdict
     ensures { result ≡ account_verdict view.now }
 {

@@ -1,16 +1,29 @@
 //! Laws of the definitions, each the contract of a function that does nothing.
 
-ghost use Rattle.club_core.specs.Laws.{RefusalsChangeNothing, ViewsDecide, OwnBookings, OneSheet, SomeSheet};
-ghost use Rattle.club_core.specs.Examples.{BooksAndCancels, RepeatsAfterACancelling, ClosesASlot, KeepsASpendLimit};
+ghost use Rattle.club_core.specs.Laws.{
+  RefusalsChangeNothing,
+  ViewsDecide,
+  TestsTheSignature,
+  OwnBookings,
+  OneSheet,
+  SomeSheet,
+};
+ghost use Rattle.club_core.specs.Examples.{
+  BooksAndCancels,
+  RepeatsAfterACancellation,
+  ClosesASlot,
+  KeepsASpendLimit,
+};
 
 /// A member books, sees the account, and cancels.
 pub fn books_and_cancels()
     ensures { BooksAndCancels }
 {}
 
-/// A booking that is asked for again is told as it was first told, also after it was cancelled, and nothing is charged.
-pub fn repeats_after_a_cancelling()
-    ensures { RepeatsAfterACancelling }
+/// A booking that is asked for again is told as it was first told, also after it was cancelled, and
+/// nothing is charged.
+pub fn repeats_after_a_cancellation()
+    ensures { RepeatsAfterACancellation }
 {}
 
 /// A slot is closed only while nobody has booked it, and nobody books it then.
@@ -31,6 +44,12 @@ pub fn refusals_change_nothing()
 /// Who has the sums of a view decides as one who has the bookings.
 pub fn views_decide()
     ensures { ViewsDecide }
+{}
+
+/// A pass passes the test of its signature exactly where it is signed under a root of the key that
+/// is good at the moment.
+pub fn tests_the_signature()
+    ensures { TestsTheSignature }
 {}
 
 /// What a key spent, and what it booked under a number, stands among the bookings of its member.

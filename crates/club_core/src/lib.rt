@@ -1,44 +1,54 @@
-//! The rules of the club: its rows, what a request sees of them, and what it is answered. Only the day sheet takes memory.
+//! The rules of the club: what a request and an order of the office see of its rows, and what each
+//! is answered. Only the day sheet takes memory.
 #![tactic(auto)]
 
-mod booking;
-mod booking_number;
+mod acceptance;
 mod change;
-mod columns;
 mod command;
 mod decisions;
-mod facility;
-mod guests;
-mod key;
+mod event;
+mod form_fault;
 pub mod laws;
-mod member;
+mod order_view;
+mod orders;
 mod refusal;
 mod reply;
 mod request;
-mod root;
 mod sheet;
+mod slot_use;
 mod store;
 mod verdict;
 mod view;
+mod words;
 
-pub use booking::{Booking, BookingColumns};
-pub use booking_number::BookingNumber;
+pub use acceptance::answer;
 pub use change::Change;
-pub use columns::slot_from_columns;
-pub use command::{Command, OfficeFault};
+pub use club_rows::{
+    Booking, BookingColumns, BookingNumber, Facility, FacilityColumns, Guests, Key, LAST_HOUR,
+    MAX_BOOKING_NUMBER, MAX_CHARGE, MAX_CREDITED, MAX_GUESTS, MAX_PLACES, MAX_PRICE, MAX_QUOTA,
+    MAX_ROOT_LEN, MIN_ROOT_LEN, Member, Root, slot_from_columns,
+};
+pub use command::{Command, MAX_POINTS, OfficeFault};
 pub use decisions::{decide, decide_account, decide_book, decide_cancel, decide_view};
-pub use facility::{Facility, FacilityColumns};
-pub use guests::Guests;
-pub use key::Key;
-pub use member::Member;
+pub use event::{Event, EventReply, OfficeAnswer};
+pub use form_fault::FormFault;
+pub use order_view::OrderView;
+pub use orders::decide_order;
 pub use refusal::{Methods, Refusal};
 pub use reply::Reply;
 pub use request::Request;
-pub use root::{MAX_ROOT_LEN, MIN_ROOT_LEN, Root};
 pub use sheet::sheet_text;
-pub use store::{ClubStore, SlotUse, StoreFault};
+pub use slot_use::SlotUse;
+pub use store::{ClubStore, StoreFault};
 pub use verdict::Verdict;
 pub use view::View;
+pub use words::{Pass, Words};
 
+#[cfg(test)]
+mod answer_tests;
+#[cfg(test)]
+mod fixture;
+#[cfg(test)]
+mod order_tests;
 #[cfg(test)]
 mod tests;

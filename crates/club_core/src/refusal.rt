@@ -9,8 +9,8 @@ pub enum Methods {
     PutAndDelete,
 }
 
-/// Why a request is refused. The order is the one in which the causes are tested, but for the caveats, which go by their
-/// positions, and `Unavailable`, which can come at any time.
+/// Why a request is refused. The order is the one in which the causes are tested, but for the
+/// caveats, which go by their positions, and `Unavailable`, which can come at any time.
 #[derive(Clone, Copy, Debug, PartialEq, Eq)]
 pub enum Refusal {
     BadRequest,

@@ -1,5 +1,5 @@
-use crate::booking_number::BookingNumber;
 use crate::refusal::Refusal;
+use club_rows::BookingNumber;
 use pass_caveats::{Kind, Name, Slot};
 
 /// What a request is answered.
@@ -11,7 +11,7 @@ pub enum Reply {
         price: u16,
         places: u8,
         /// The persons who booked.
-        taken: u32,
+        taken: u64,
         closed: bool,
     },
     Booked {

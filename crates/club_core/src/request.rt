@@ -1,7 +1,7 @@
 ghost use Rattle.std.specs.Prelude.{◌≡◌};
+ghost use Rattle.club_rows.specs.Rows.{IsSlot};
 
-use crate::booking_number::BookingNumber;
-use crate::guests::Guests;
+use club_rows::{BookingNumber, Guests};
 use pass_caveats::{Action, Slot};
 
 /// What is asked of the desk.
@@ -26,8 +26,41 @@ pub enum Request {
     Account,
 }
 
+/// A slot is within its limits.
+pub(crate) fn slot_within(slot: &Slot)
+    ensures { IsSlot slot.now }
+{
+    let _facility = slot.facility.as_bytes();
+    let _day = slot.day.number();
+    let _hour = slot.hour.number();
+}
+
 impl Request {
+    ghost use Rattle.club_core.specs.Events.{IsRequest};
     ghost use Rattle.club_core.specs.Request.{action_of, slot_of, number_of, guests_of};
+
+    /// The slot, number and guests of a request are within their limits.
+    pub fn within(&self)
+        ensures { IsRequest self.now }
+    {
+        match self {
+            Request::View { slot } => slot_within(slot),
+            Request::Book {
+                slot,
+                number,
+                guests,
+            } => {
+                slot_within(slot);
+                let _number = number.get();
+                let _guests = guests.get();
+            }
+            Request::Cancel { slot, number } => {
+                slot_within(slot);
+                let _number = number.get();
+            }
+            Request::Account => (),
+        }
+    }
 
     /// What kind of request it is.
     pub fn action(&self) -> Action

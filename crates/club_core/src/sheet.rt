@@ -2,17 +2,18 @@
 
 ghost use Rattle.std.specs.Prelude.{◌≡◌, ◌++◌, IfOk, OnOk, flat_map, sum_by};
 ghost use Rattle.std.specs.String.{string_bytes};
-ghost use Rattle.club_core.specs.declared.booking.Booking.{Booking as BookingRow};
-ghost use Rattle.club_core.specs.Booking.{persons_of};
+ghost use Rattle.club_rows.specs.declared.booking.Booking.{Booking as BookingRow};
+ghost use Rattle.club_rows.specs.Booking.{persons_of};
 ghost use Rattle.club_core.specs.Sheet as spec;
 
-use crate::booking::Booking;
+use club_rows::Booking;
 use pass_caveats::Day;
 use std::alloc::{AllocError, Global};
 
-/// The text of a day's sheet: a line with the day, a line for each row, and a line with the totals, or one that there are no
-/// bookings. The rows are the day's bookings that aren't cancelled, in the order of facility, hour, key and number; a row
-/// tells facility, hour, key, number, persons and points, in columns of 24, 5, 24, 9, 2 and 6 places.
+/// The text of a day's sheet: a line with the day, a line for each row, and a line with the totals,
+/// or one that there are no bookings. The rows are the day's bookings that aren't cancelled, in the
+/// order of facility, hour, key and number; a row tells facility, hour, key, number, persons and
+/// points, in columns of 24, 5, 24, 9, 2 and 6 places.
 ///
 /// # Errors
 ///

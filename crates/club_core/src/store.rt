@@ -1,11 +1,11 @@
-use crate::booking::Booking;
 use crate::change::Change;
-use crate::facility::Facility;
-use crate::key::Key;
-use crate::member::Member;
 use crate::request::Request;
+use crate::slot_use::SlotUse;
 use crate::view::View;
+use club_rows::{Booking, Facility, Key, Member};
 use pass_caveats::{Day, Moment, Name, Slot};
+use std::error::Error;
+use std::fmt;
 
 /// Why a store gives no answer, or makes no change.
 #[derive(Clone, Copy, Debug, PartialEq, Eq)]
@@ -16,23 +16,31 @@ pub enum StoreFault {
     Storage,
 }
 
-/// What is taken of a slot.
-#[derive(Clone, Copy, Debug, PartialEq, Eq)]
-pub struct SlotUse {
-    /// The persons who booked the slot.
-    pub taken: u32,
-    /// Whether the slot is closed.
-    pub closed: bool,
+impl fmt::Display for StoreFault {
+    ghost use Rattle.std.specs.Prelude.{Some};
+    ghost use Rattle.club_core.specs.Faults.{store_fault_text};
+
+    ghost output = { λ fault. Some (store_fault_text fault) };
+
+    fn fmt<W: fmt::Write>(&self, f: &mut fmt::Formatter<W>) -> fmt::Result {
+        match self {
+            StoreFault::Memory => write!(f, "out of memory"),
+            StoreFault::Storage => write!(f, "storage failed"),
+        }
+    }
 }
 
-/// A store of the rows of a club. What it tells and changes is promised while its disk is honest: while it returns what was
-/// written, and nobody else writes it.
+impl Error for StoreFault {}
+
+/// A store of the rows of a club. What it tells and changes is promised while its disk is honest:
+/// while it returns what was written, and nobody else writes it.
 pub trait ClubStore {
-    ghost use Rattle.std.specs.Prelude.{◌≡◌, ◌∷◌, [], List, MatchResult};
+    ghost use Rattle.std.specs.Prelude.{◌≡◌, ◌∷◌, [], All, List, MatchResult};
     ghost use Rattle.club_core.specs.After.{after};
     ghost use Rattle.club_core.specs.Club.{Club, IsSound, facility_named, key_named, member_named};
     ghost use Rattle.club_core.specs.Sheet.{AreRowsOf};
-    ghost use Rattle.club_core.specs.Store.{Fits, KeepsStanding, Tells, slot_use, view_in};
+    ghost use Rattle.club_core.specs.Basis.{slot_use, view_in};
+    ghost use Rattle.club_core.specs.Store.{Fits, KeepsStanding, Tells};
 
     // the club that stands, and the clubs of which a crash may leave one in its place
     ghost stands: { Self → Club → List Club → Type 0 };
@@ -44,25 +52,29 @@ pub trait ClubStore {
     fn key(&mut self, name: &Name) -> Result<Option<Key>, StoreFault>
         ensures honest { is_honest self.new → is_honest self.old }
         ensures kept { is_honest self.new → KeepsStanding stands self.old self.new }
-        ensures told { is_honest self.new → Tells stands self.old result (λ club key. key ≡ key_named name.now club) };
+        ensures told { is_honest self.new → Tells stands self.old result
+            (λ club key. key ≡ key_named name.now club) };
 
     /// The member of this name; `None` where there is none.
     fn member(&mut self, name: &Name) -> Result<Option<Member>, StoreFault>
         ensures honest { is_honest self.new → is_honest self.old }
         ensures kept { is_honest self.new → KeepsStanding stands self.old self.new }
-        ensures told { is_honest self.new → Tells stands self.old result (λ club member. member ≡ member_named name.now club) };
+        ensures told { is_honest self.new → Tells stands self.old result
+            (λ club member. member ≡ member_named name.now club) };
 
     /// The facility of this name; `None` where there is none.
     fn facility(&mut self, name: &Name) -> Result<Option<Facility>, StoreFault>
         ensures honest { is_honest self.new → is_honest self.old }
         ensures kept { is_honest self.new → KeepsStanding stands self.old self.new }
-        ensures told { is_honest self.new → Tells stands self.old result (λ club facility. facility ≡ facility_named name.now club) };
+        ensures told { is_honest self.new → Tells stands self.old result
+            (λ club facility. facility ≡ facility_named name.now club) };
 
     /// What is taken of a slot: nothing of one that nobody booked or closed.
     fn slot(&mut self, slot: &Slot) -> Result<SlotUse, StoreFault>
         ensures honest { is_honest self.new → is_honest self.old }
         ensures kept { is_honest self.new → KeepsStanding stands self.old self.new }
-        ensures told { is_honest self.new → Tells stands self.old result (λ club found. found ≡ slot_use club slot.now) };
+        ensures told { is_honest self.new → Tells stands self.old result
+            (λ club found. found ≡ slot_use club slot.now) };
 
     /// What a key sees of a request at a moment; `None` where the key is unknown.
     fn view(
@@ -73,20 +85,35 @@ pub trait ClubStore {
     ) -> Result<Option<View>, StoreFault>
         ensures honest { is_honest self.new → is_honest self.old }
         ensures kept { is_honest self.new → KeepsStanding stands self.old self.new }
-        ensures told { is_honest self.new → Tells stands self.old result (λ club view. view ≡ view_in club key.now request.now moment) };
+        ensures told { is_honest self.new → Tells stands self.old result
+            (λ club view. view ≡ view_in club key.now request.now moment) };
 
     /// The day's bookings that aren't cancelled, in the order of the day sheet.
     fn day(&mut self, day: Day) -> Result<Vec<Booking>, StoreFault>
         ensures honest { is_honest self.new → is_honest self.old }
         ensures kept { is_honest self.new → KeepsStanding stands self.old self.new }
-        ensures told { is_honest self.new → Tells stands self.old result (λ club rows. AreRowsOf club day rows.items) };
+        ensures told { is_honest self.new → Tells stands self.old result
+            (λ club rows. AreRowsOf club day rows.items) };
 
-    /// Makes a change that fits. Where it is refused the club stands as it was, and a crash may yet leave the changed one.
+    /// Makes a change that fits. Where it is refused the club stands as it was, and a crash may yet
+    /// leave the changed one.
     fn apply(&mut self, change: &Change) -> Result<(), StoreFault>
         ensures honest { is_honest self.new → is_honest self.old }
-        ensures changed { is_honest self.new → (club : Club) (others : List Club) → stands self.old club others → Fits change.now club →
-            MatchResult result (λ _. stands self.new (after change.now club) []) (λ _. stands self.new club (after change.now club ∷ others)) };
+        ensures changed { is_honest self.new → (club : Club) (others : List Club)
+            → stands self.old club others
+            → Fits change.now club
+            → MatchResult result
+            (λ _. stands self.new (after change.now club) [])
+            (λ _. stands self.new club (after change.now club ∷ others)) };
 
-    // what stands is sound
-    ghost sound: { (store : Self) (club : Club) (others : List Club) → stands store club others → IsSound club };
+    // what stands is sound, and so is each club that a crash may leave
+    ghost sound: { (store : Self) (club : Club) (others : List Club)
+        → stands store club others
+        → All IsSound (club ∷ others) };
+
+    // a crash may leave one club more: that is no less true
+    ghost widens: { (store : Self) (club other : Club) (others : List Club)
+        → stands store club others
+        → IsSound other
+        → stands store club (other ∷ others) };
 }

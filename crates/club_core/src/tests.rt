@@ -1,70 +1,8 @@
 use super::*;
+use crate::fixture::{NOON, START, booking, court, fresh, slot_at};
 use pass_caveats::{Action, Day, Hour, Kind, Moment, Name, Slot};
 use std::alloc::{AllocError, Global};
 use std::test::*;
-
-/// `court-1` on 2026-05-01, at 18 unless told.
-fn slot_at(hour: u8) -> Option<Slot> {
-    Some(Slot {
-        facility: Name::read(b"court-1")?,
-        day: Day::read(b"2026-05-01")?,
-        hour: Hour::from_number(hour)?,
-    })
-}
-
-fn key() -> Option<Key> {
-    Some(Key {
-        name: Name::read(b"amy-1")?,
-        member: Name::read(b"amy")?,
-        root: Root::new(&[7; 16])?,
-        revoked: false,
-    })
-}
-
-fn court() -> Option<Facility> {
-    Some(Facility {
-        name: Name::read(b"court-1")?,
-        kind: Kind::Court,
-        places: 4,
-        price: 200,
-        opens: 8,
-        shuts: 22,
-    })
-}
-
-/// What a key sees before its first booking, of a member with quota 5 and 10,000 points.
-fn fresh() -> Option<View> {
-    let key = key()?;
-    Some(View {
-        key,
-        spent: 0,
-        member: Member {
-            name: key.member,
-            credited: 10_000,
-            quota: 5,
-        },
-        balance: 10_000,
-        open_count: 0,
-        facility: court(),
-        taken: 0,
-        closed: false,
-        booking: None,
-    })
-}
-
-/// The key's booking 7, of `court-1` on 2026-05-01 at 18 with two guests.
-fn booking() -> Option<Booking> {
-    Some(Booking {
-        key: Name::read(b"amy-1")?,
-        number: BookingNumber::new(7)?,
-        slot: slot_at(18)?,
-        guests: Guests::new(2)?,
-        charge: 600,
-        left: 1,
-        cancelled: false,
-        refund: 0,
-    })
-}
 
 /// The charge and the places left, or the refusal, of booking 7 at 18.
 fn booked(view: &View, guests: u8, moment: u32) -> Option<Result<(u32, u8), Refusal>> {
@@ -72,29 +10,32 @@ fn booked(view: &View, guests: u8, moment: u32) -> Option<Result<(u32, u8), Refu
 }
 
 fn booked_at(view: &View, hour: u8, guests: u8, moment: u32) -> Option<Result<(u32, u8), Refusal>> {
-    let slot = slot_at(hour)?;
-    let number = BookingNumber::new(7)?;
+    let request = Request::Book {
+        slot: slot_at(hour)?,
+        number: BookingNumber::new(7)?,
+        guests: Guests::new(guests)?,
+    };
     let moment = Moment::from_number(moment)?;
-    match decide_book(view, &slot, number, Guests::new(guests)?, moment).reply {
+    match answer(Some(view), true, None, &request, moment).reply {
         Reply::Booked { charge, left, .. } => Some(Ok((charge, left))),
         Reply::Refused(refusal) => Some(Err(refusal)),
         _ => None,
     }
 }
 
-/// The refund, or the refusal, of a cancelling of booking 7 at an hour.
+/// The refund, or the refusal, of a cancellation of booking 7 at an hour.
 fn cancelled(view: &View, hour: u8, moment: u32) -> Option<Result<u32, Refusal>> {
-    match decide_cancel(view, &slot_at(hour)?, Moment::from_number(moment)?).reply {
+    let request = Request::Cancel {
+        slot: slot_at(hour)?,
+        number: BookingNumber::new(7)?,
+    };
+    let moment = Moment::from_number(moment)?;
+    match answer(Some(view), true, None, &request, moment).reply {
         Reply::Cancelled { refund, .. } => Some(Ok(refund)),
         Reply::Refused(refusal) => Some(Err(refusal)),
         _ => None,
     }
 }
-
-// 2026-04-20T12:00, and the minute at which the slot at 18 begins.
-const NOON: u32 = 29_611_440;
-
-const START: u32 = 29_627_640;
 
 #[test]
 fn bookings(rt: HostRuntime) -> Result<(), Fail> {
@@ -209,7 +150,7 @@ fn repeats(rt: HostRuntime) -> Result<(), Fail> {
 }
 
 #[test]
-fn cancellings(rt: HostRuntime) -> Result<(), Fail> {
+fn cancellations(rt: HostRuntime) -> Result<(), Fail> {
     let mut view = fresh().ok_or("a view")?;
     assert_eq!(rt;
         cancelled(&view, 18, NOON),
@@ -318,70 +259,6 @@ fn refusals(rt: HostRuntime) {
         assert_eq!(rt; refusal.text(), text);
     }
     assert_eq!(rt; Refusal::CaveatNotUnderstood(2).caveat(), Some(2));
-}
-
-#[test]
-fn limits(rt: HostRuntime) {
-    for (number, within) in [
-        (0, false),
-        (1, true),
-        (999_999_999, true),
-        (1_000_000_000, false),
-    ] {
-        assert_eq!(rt; BookingNumber::new(number).is_some(), within);
-    }
-    assert_eq!(rt; Guests::new(49).map(|guests| guests.persons()), Some(50));
-    assert_eq!(rt; Guests::new(50), None);
-    for (len, within) in [(15, false), (16, true), (64, true), (65, false)] {
-        let bytes = [9; 65];
-        assert_eq!(rt; Root::new(&bytes[..len]).is_some(), within, "{len}");
-    }
-}
-
-#[test]
-fn columns(rt: HostRuntime) {
-    assert!(rt; Member::from_columns(b"amy", 999_999_999, 99).is_some());
-    assert_eq!(rt; Member::from_columns(b"amy", 1_000_000_000, 99), None);
-    assert_eq!(rt; Member::from_columns(b"amy", -1, 5), None);
-    assert_eq!(rt; Member::from_columns(b"Amy", 0, 5), None);
-    assert_eq!(rt; Key::from_columns(b"amy-1", b"amy", &[7; 16], 0), key());
-    assert_eq!(rt; Key::from_columns(b"amy-1", b"amy", &[7; 16], 2), None);
-    assert_eq!(rt; slot_from_columns(b"court-1", 20_574, 18), slot_at(18));
-    assert_eq!(rt; slot_from_columns(b"court-1", 20_574, 24), None);
-    let mut court_columns = FacilityColumns {
-        name: b"court-1",
-        kind: b"court",
-        places: 4,
-        price: 200,
-        opens: 8,
-        shuts: 22,
-    };
-    assert_eq!(rt; Facility::from_columns(&court_columns), court());
-    court_columns.shuts = 8;
-    assert_eq!(rt; Facility::from_columns(&court_columns), None);
-}
-
-#[test]
-fn booking_columns(rt: HostRuntime) {
-    let mut columns = BookingColumns {
-        key: b"amy-1",
-        number: 7,
-        facility: b"court-1",
-        day: 20_574,
-        hour: 18,
-        guests: 2,
-        charge: 600,
-        left: 1,
-        cancelled: 0,
-        refund: 0,
-    };
-    assert_eq!(rt; Booking::from_columns(&columns), booking());
-    columns.refund = 1;
-    assert_eq!(rt; Booking::from_columns(&columns), None);
-    columns.cancelled = 1;
-    assert!(rt; Booking::from_columns(&columns).is_some());
-    columns.refund = 601;
-    assert_eq!(rt; Booking::from_columns(&columns), None);
 }
 
 /// The bookings of two keys at `court-1` on 2026-05-01 at 18, of two guests and of none.

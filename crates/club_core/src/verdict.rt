@@ -1,9 +1,9 @@
 ghost use Rattle.std.specs.Prelude.{◌≡◌};
 
-use crate::booking::Booking;
 use crate::change::Change;
 use crate::refusal::Refusal;
 use crate::reply::Reply;
+use club_rows::Booking;
 
 /// The reply to a request, and the change of the club that goes with it.
 #[derive(Clone, Copy, Debug, PartialEq, Eq)]
@@ -47,7 +47,7 @@ impl Verdict {
         }
     }
 
-    /// A cancelling with this refund, which is told and written.
+    /// A cancellation with this refund, which is told and written.
     pub(crate) fn cancelled(booking: &Booking, refund: u32) -> Verdict
         ensures { result ≡ verdicts.cancelled booking.now refund }
     {

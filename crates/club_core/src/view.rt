@@ -1,13 +1,11 @@
 ghost use Rattle.std.specs.Prelude.{◌≡◌, is_some};
 
-use crate::booking::Booking;
-use crate::facility::Facility;
-use crate::key::Key;
-use crate::member::Member;
 use crate::request::Request;
+use club_rows::{Booking, Facility, Key, Member};
 use pass_caveats::{Ask, Moment};
 
-/// What a decision looks at: the key and its member with their sums, and the state of the slot that is asked for.
+/// What a decision looks at: the key and its member with their sums, and the state of the slot that
+/// is asked for.
 #[derive(Clone, Copy, Debug, PartialEq, Eq)]
 pub struct View {
     pub key: Key,
@@ -21,7 +19,7 @@ pub struct View {
     /// The slot's facility; `None` where it is unknown, or there is no slot.
     pub facility: Option<Facility>,
     /// The persons who booked the slot.
-    pub taken: u32,
+    pub taken: u64,
     /// Whether the slot is closed.
     pub closed: bool,
     /// The key's booking with the number that is asked for.
@@ -31,7 +29,8 @@ pub struct View {
 impl View {
     ghost use Rattle.club_core.specs.Answer.{ask_of, owed_at};
 
-    /// What the request would charge: the charge of a booking under a new number at a known facility, and else 0.
+    /// What the request would charge: the charge of a booking under a new number at a known
+    /// facility, and else 0.
     fn owed(&self, request: &Request) -> u32
         ensures { result ≡ owed_at request.now (is_some self.now.booking) self.now.facility }
     {

@@ -3,15 +3,15 @@ use Rattle.std.proofs.Common.{◌≡◌, ℕ, ◌+◌, ◌≤◌, Bool, true, fa
 use Rattle.std.specs.Prelude.{Option, Some, None, Result, Ok, Err, sum_by, option_map, option_and_then, nat_lt, nat_le, ◌&&◌, ◌==◌, not}
 use Rattle.std.specs.Str.{bytes_eq}
 use Rattle.std.proofs.lemmas.Bool.{ltb-false}
-use Rattle.pass_caveats.specs.declared.slot.Slot.{Slot}
-use Rattle.pass_caveats.specs.Slot.{start_of}
+use Rattle.club_values.specs.declared.slot.Slot.{Slot}
+use Rattle.club_values.specs.Slot.{start_of}
 use Rattle.pass_caveats.specs.declared.fault.CaveatFault.{CaveatFault}
 use Rattle.pass_caveats.specs.declared.fault.CaveatFault.TheVariants.{NotUnderstood, Denied}
 use Rattle.pass_caveats.specs.CaveatOf.{first_fault_of}
-use Rattle.club_core.specs.declared.member.Member.{Member}
-use Rattle.club_core.specs.declared.facility.Facility.{Facility}
-use Rattle.club_core.specs.declared.key.Key.{Key}
-use Rattle.club_core.specs.declared.booking.Booking.{Booking}
+use Rattle.club_rows.specs.declared.member.Member.{Member}
+use Rattle.club_rows.specs.declared.facility.Facility.{Facility}
+use Rattle.club_rows.specs.declared.key.Key.{Key}
+use Rattle.club_rows.specs.declared.booking.Booking.{Booking}
 use Rattle.club_core.specs.declared.view.View.{View}
 use Rattle.club_core.specs.declared.reply.Reply.{Reply}
 use Rattle.club_core.specs.declared.reply.Reply.TheVariants.{Cancelled, Refused}
@@ -22,16 +22,18 @@ use Rattle.club_core.specs.declared.refusal.Refusal.TheVariants as refusals
 use Rattle.club_core.specs.declared.request.Request.{Request}
 use Rattle.club_core.specs.declared.request.Request.TheVariants as asked
 use Rattle.club_core.specs.Lines.{line, first_of}
-use Rattle.club_core.specs.Booking.{same_slot, refund_at}
-use Rattle.club_core.specs.Facility.{charge_of, is_bookable}
-use Rattle.club_core.specs.Pass.{FormFault, Pass, Words}
+use Rattle.club_rows.specs.Booking.{same_slot, refund_at}
+use Rattle.club_rows.specs.Facility.{charge_of, is_bookable}
+use Rattle.club_core.specs.declared.form_fault.FormFault.{FormFault}
+use Rattle.club_core.specs.Pass.{Pass, Words, is_signed_under}
 use Rattle.club_core.specs.Club.{Club, member_named, facility_named, key_named, is_key_of, bookings_of}
 use Rattle.club_core.specs.Sums.{taken_in, cost_of, is_under, spent_under, balance_of}
-use Rattle.club_core.specs.Verdict.{told, refused, booked, booked_before, cancelled, cancelled_before, new_booking, new_verdict, rebook_verdict, recancel_verdict, shown_at, unknown_verdict, recorded_or, verdict_of}
+use Rattle.club_core.specs.Verdict.{told, refused, booked, booked_before, cancelled, cancelled_before, new_booking, new_verdict, repeat_booking_verdict, cancel_recorded_verdict, shown_at, unknown_verdict, recorded_or, verdict_of}
 use Rattle.club_core.specs.Basis.{SlotState, Basis, state_of, view_of, basis_under, basis_of, key_of}
 use Rattle.club_core.specs.Request.{slot_of}
-use Rattle.club_core.specs.Solo.{Outside, with_others, solo_verdict}
-use Rattle.club_core.specs.Answer.{answer_under, answer_to, answer_of, ask_of, after_caveats}
+use Rattle.club_core.specs.declared.slot_use.SlotUse.{SlotUse}
+use Rattle.club_core.specs.Solo.{with_others, solo_verdict}
+use Rattle.club_core.specs.Answer.{answer_to, answer_of, ask_of, after_caveats}
 use Rattle.club_core.specs.After.{after}
 use Rattle.club_plain.specs.Widths.{FitsWidths}
 use Rattle.club_plain.proofs.SumLemmas.{total, total_is, total_le}
@@ -92,13 +94,13 @@ keeps_new club name key member view slot number guests moment (Some facility) h 
     let under : booking.key ≡ key.name = ap (λ (k : Key). k.name) same in
     keeps_change club _ (InsertBooking booking) (fits_booked club name key member facility booking h found owner place under refl room points))))))
 
-keeps_rebook : (club : Club) (booking : Booking) (slot : Slot) (guests : ℕ) → Keeps club (rebook_verdict booking slot guests)
-keeps_rebook club booking slot guests =
+keeps_repeat : (club : Club) (booking : Booking) (slot : Slot) (guests : ℕ) → Keeps club (repeat_booking_verdict booking slot guests)
+keeps_repeat club booking slot guests =
     keep club (same_slot booking.slot slot && booking.guests == guests) (booked_before booking) (refused refusals.NumberUsed) (keeps_told club _) (λ e. keeps_told club _)
 
--- a cancelling
-keeps_recancel : (club : Club) (booking : Booking) (slot : Slot) (moment : ℕ) → FitsWidths club → Keeps club (recancel_verdict booking slot moment)
-keeps_recancel club booking slot moment h =
+-- a cancellation
+keeps_cancel : (club : Club) (booking : Booking) (slot : Slot) (moment : ℕ) → FitsWidths club → Keeps club (cancel_recorded_verdict booking slot moment)
+keeps_cancel club booking slot moment h =
     let refund = refund_at booking moment in
     let begun = line (nat_le (start_of booking.slot) moment) (refused refusals.SlotHasBegun) in
     let again = line booking.cancelled (cancelled_before booking) in
@@ -125,7 +127,7 @@ basis_with club key member state = record { key = key; member = member; bookings
 
 abbrev IsState : Club → Request → SlotState → Type 0
 IsState club request state =
-    (slot : Slot) → slot_of request ≡ Some slot → (facility_named slot.facility club ≡ state.facility) × (taken_in slot club.bookings ≤ state.taken)
+    (slot : Slot) → slot_of request ≡ Some slot → (facility_named slot.facility club ≡ state.facility) × (taken_in slot club.bookings ≤ state.held.taken)
 
 keeps_decision : (club : Club) (name : List ℕ) (key : Key) (member : Member) (state : SlotState) (request : Request) (moment : ℕ) → FitsWidths club → key_named name club ≡ Some key → member_named key.member club ≡ Some member → IsState club request state → Keeps club (verdict_of (view_of (basis_with club key member state) request moment) request moment)
 keeps_decision club name key member state (asked.View slot) moment h found owner at =
@@ -133,11 +135,11 @@ keeps_decision club name key member state (asked.View slot) moment h found owner
     keeps_shown club view slot view.facility
 keeps_decision club name key member state (asked.Book slot number guests) moment h found owner at =
     let view = view_of (basis_with club key member state) (asked.Book slot number guests) moment in
-    keeps_recorded club view.booking (λ b. rebook_verdict b slot guests) (new_verdict view slot number guests moment view.facility) (λ b. keeps_rebook club b slot guests)
+    keeps_recorded club view.booking (λ b. repeat_booking_verdict b slot guests) (new_verdict view slot number guests moment view.facility) (λ b. keeps_repeat club b slot guests)
     (keeps_new club name key member view slot number guests moment view.facility h found owner (at slot refl).0 refl (at slot refl).1 refl)
 keeps_decision club name key member state (asked.Cancel slot number) moment h found owner at =
     let view = view_of (basis_with club key member state) (asked.Cancel slot number) moment in
-    keeps_recorded club view.booking (λ b. recancel_verdict b slot moment) (unknown_verdict view.facility) (λ b. keeps_recancel club b slot moment h) (keeps_unknown club view.facility)
+    keeps_recorded club view.booking (λ b. cancel_recorded_verdict b slot moment) (unknown_verdict view.facility) (λ b. keeps_cancel club b slot moment h) (keeps_unknown club view.facility)
 keeps_decision club name key member state asked.Account moment h found owner at = keeps_told club _
 
 keeps_after_caveats : (club : Club) (fault : Option CaveatFault) (verdict : Verdict) → Keeps club verdict → Keeps club (after_caveats fault verdict)
@@ -145,46 +147,53 @@ keeps_after_caveats club None verdict h = h
 keeps_after_caveats club (Some (NotUnderstood n)) verdict h = keeps_told club _
 keeps_after_caveats club (Some (Denied n)) verdict h = keeps_told club _
 
-keeps_accepted : (club : Club) (name : List ℕ) (pass : Pass) (request : Request) (moment : ℕ) (key : Key) (member : Member) (state : SlotState) → FitsWidths club → key_named name club ≡ Some key → member_named key.member club ≡ Some member → IsState club request state → Keeps club (answer_under pass request moment (basis_with club key member state))
+-- the answer by the view of a basis
+abbrev answer_text : Result Pass FormFault → Request → ℕ → Option Basis → Verdict
+answer_text text request moment basis = answer_to text request moment (option_map (λ (b : Basis). view_of b request moment) basis)
+
+abbrev answer_by : Pass → Request → ℕ → Option Basis → Verdict
+answer_by pass request moment basis = answer_text (Ok pass) request moment basis
+
+keeps_accepted : (club : Club) (name : List ℕ) (pass : Pass) (request : Request) (moment : ℕ) (key : Key) (member : Member) (state : SlotState) → FitsWidths club → key_named name club ≡ Some key → member_named key.member club ≡ Some member → IsState club request state → Keeps club (answer_by pass request moment (Some (basis_with club key member state)))
 keeps_accepted club name pass request moment key member state h found owner at =
     let view = view_of (basis_with club key member state) request moment in
-    keep club (not (pass.is_signed key.root)) (refused refusals.NotVerified) _ (keeps_told club _) (λ signed.
+    keep club (not (is_signed_under pass key moment)) (refused refusals.NotVerified) _ (keeps_told club _) (λ signed.
     keep club key.revoked (refused refusals.KeyRevoked) _ (keeps_told club _) (λ valid.
     keeps_after_caveats club (first_fault_of pass.caveats (ask_of view request moment)) (verdict_of view request moment) (keeps_decision club name key member state request moment h found owner at)))
 
 is_state : (club : Club) (request : Request) → IsState club request (state_of club (slot_of request))
 is_state club request = λ slot e.
-    let taken : taken_in slot club.bookings ≡ (state_of club (slot_of request)).taken = sym (ap (λ s. (state_of club s).taken) e) in
+    let taken : taken_in slot club.bookings ≡ (state_of club (slot_of request)).held.taken = sym (ap (λ s. (state_of club s).held.taken) e) in
     (sym (ap (λ s. (state_of club s).facility) e), omega arith)
 
 -- the answer by the basis, and by the basis with what others hold
-keeps_member : (club : Club) (name : List ℕ) (pass : Pass) (request : Request) (moment : ℕ) (key : Key) (member : Option Member) → FitsWidths club → key_named name club ≡ Some key → member_named key.member club ≡ member → Keeps club (answer_to (Ok pass) request moment (option_map (λ (m : Member). basis_with club key m (state_of club (slot_of request))) member))
+keeps_member : (club : Club) (name : List ℕ) (pass : Pass) (request : Request) (moment : ℕ) (key : Key) (member : Option Member) → FitsWidths club → key_named name club ≡ Some key → member_named key.member club ≡ member → Keeps club (answer_by pass request moment (option_map (λ (m : Member). basis_with club key m (state_of club (slot_of request))) member))
 keeps_member club name pass request moment key None h found owner = keeps_told club _
 keeps_member club name pass request moment key (Some member) h found owner =
     keeps_accepted club name pass request moment key member (state_of club (slot_of request)) h found owner (is_state club request)
 
-keeps_member_alone : (club : Club) (others : Outside) (name : List ℕ) (pass : Pass) (request : Request) (moment : ℕ) (key : Key) (member : Option Member) → FitsWidths club → key_named name club ≡ Some key → member_named key.member club ≡ member → Keeps club (answer_to (Ok pass) request moment (option_map (with_others others) (option_map (λ (m : Member). basis_with club key m (state_of club (slot_of request))) member)))
+keeps_member_alone : (club : Club) (others : SlotUse) (name : List ℕ) (pass : Pass) (request : Request) (moment : ℕ) (key : Key) (member : Option Member) → FitsWidths club → key_named name club ≡ Some key → member_named key.member club ≡ member → Keeps club (answer_by pass request moment (option_map (with_others others) (option_map (λ (m : Member). basis_with club key m (state_of club (slot_of request))) member)))
 keeps_member_alone club others name pass request moment key None h found owner = keeps_told club _
 keeps_member_alone club others name pass request moment key (Some member) h found owner =
     let state = state_of club (slot_of request) in
-    let seen : SlotState = record { facility = state.facility; taken = state.taken + others.taken; closed = others.closed } in
+    let seen : SlotState = record { facility = state.facility; held = record { taken = state.held.taken + others.taken; closed = others.closed } } in
     keeps_accepted club name pass request moment key member seen h found owner (λ slot e.
     let at = is_state club request slot e in
-    let more : taken_in slot club.bookings ≤ state.taken = at.1 in
+    let more : taken_in slot club.bookings ≤ state.held.taken = at.1 in
     (at.0, omega arith))
 
 abbrev key_in : Club → Option (List ℕ) → Option Key
 key_in club name = option_and_then (λ (n : List ℕ). key_named n club) name
 
-keeps_key : (club : Club) (name : List ℕ) (pass : Pass) (request : Request) (moment : ℕ) (key : Option Key) → FitsWidths club → key_named name club ≡ key → Keeps club (answer_to (Ok pass) request moment (option_and_then (basis_under club request) key))
+keeps_key : (club : Club) (name : List ℕ) (pass : Pass) (request : Request) (moment : ℕ) (key : Option Key) → FitsWidths club → key_named name club ≡ key → Keeps club (answer_by pass request moment (option_and_then (basis_under club request) key))
 keeps_key club name pass request moment None h found = keeps_told club _
 keeps_key club name pass request moment (Some key) h found = keeps_member club name pass request moment key (member_named key.member club) h found refl
 
-keeps_name : (club : Club) (name : Option (List ℕ)) (pass : Pass) (request : Request) (moment : ℕ) → FitsWidths club → Keeps club (answer_to (Ok pass) request moment (option_and_then (basis_under club request) (key_in club name)))
+keeps_name : (club : Club) (name : Option (List ℕ)) (pass : Pass) (request : Request) (moment : ℕ) → FitsWidths club → Keeps club (answer_by pass request moment (option_and_then (basis_under club request) (key_in club name)))
 keeps_name club None pass request moment h = keeps_told club _
 keeps_name club (Some name) pass request moment h = keeps_key club name pass request moment (key_named name club) h refl
 
-keeps_text : (club : Club) (text : Result Pass FormFault) (request : Request) (moment : ℕ) → FitsWidths club → Keeps club (answer_to text request moment (option_and_then (basis_under club request) (key_in club (key_of text))))
+keeps_text : (club : Club) (text : Result Pass FormFault) (request : Request) (moment : ℕ) → FitsWidths club → Keeps club (answer_text text request moment (option_and_then (basis_under club request) (key_in club (key_of text))))
 keeps_text club (Err fault) request moment h = keeps_told club _
 keeps_text club (Ok pass) request moment h = keeps_name club pass.key pass request moment h
 
@@ -192,18 +201,18 @@ keeps_text club (Ok pass) request moment h = keeps_name club pass.key pass reque
 pub keeps_answer : (club : Club) (words : Words) (moment : ℕ) → FitsWidths club → Keeps club (answer_of words moment (basis_of club words))
 keeps_answer club words moment h = keeps_text club words.pass words.request moment h
 
-keeps_key_alone : (club : Club) (others : Outside) (name : List ℕ) (pass : Pass) (request : Request) (moment : ℕ) (key : Option Key) → FitsWidths club → key_named name club ≡ key → Keeps club (answer_to (Ok pass) request moment (option_map (with_others others) (option_and_then (basis_under club request) key)))
+keeps_key_alone : (club : Club) (others : SlotUse) (name : List ℕ) (pass : Pass) (request : Request) (moment : ℕ) (key : Option Key) → FitsWidths club → key_named name club ≡ key → Keeps club (answer_by pass request moment (option_map (with_others others) (option_and_then (basis_under club request) key)))
 keeps_key_alone club others name pass request moment None h found = keeps_told club _
 keeps_key_alone club others name pass request moment (Some key) h found = keeps_member_alone club others name pass request moment key (member_named key.member club) h found refl
 
-keeps_name_alone : (club : Club) (others : Outside) (name : Option (List ℕ)) (pass : Pass) (request : Request) (moment : ℕ) → FitsWidths club → Keeps club (answer_to (Ok pass) request moment (option_map (with_others others) (option_and_then (basis_under club request) (key_in club name))))
+keeps_name_alone : (club : Club) (others : SlotUse) (name : Option (List ℕ)) (pass : Pass) (request : Request) (moment : ℕ) → FitsWidths club → Keeps club (answer_by pass request moment (option_map (with_others others) (option_and_then (basis_under club request) (key_in club name))))
 keeps_name_alone club others None pass request moment h = keeps_told club _
 keeps_name_alone club others (Some name) pass request moment h = keeps_key_alone club others name pass request moment (key_named name club) h refl
 
-keeps_text_alone : (club : Club) (others : Outside) (text : Result Pass FormFault) (request : Request) (moment : ℕ) → FitsWidths club → Keeps club (answer_to text request moment (option_map (with_others others) (option_and_then (basis_under club request) (key_in club (key_of text)))))
+keeps_text_alone : (club : Club) (others : SlotUse) (text : Result Pass FormFault) (request : Request) (moment : ℕ) → FitsWidths club → Keeps club (answer_text text request moment (option_map (with_others others) (option_and_then (basis_under club request) (key_in club (key_of text)))))
 keeps_text_alone club others (Err fault) request moment h = keeps_told club _
 keeps_text_alone club others (Ok pass) request moment h = keeps_name_alone club others pass.key pass request moment h
 
 -- the answer to a request in a club that holds a member's part alone
-pub keeps_solo : (club : Club) (words : Words) (moment : ℕ) (others : Outside) → FitsWidths club → Keeps club (solo_verdict club words moment others)
+pub keeps_solo : (club : Club) (words : Words) (moment : ℕ) (others : SlotUse) → FitsWidths club → Keeps club (solo_verdict club words moment others)
 keeps_solo club words moment others h = keeps_text_alone club others words.pass words.request moment h

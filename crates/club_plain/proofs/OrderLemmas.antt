@@ -2,10 +2,10 @@
 use Rattle.std.proofs.Common.{◌≡◌, ℕ, ◌+◌, ◌≤◌, Bool, true, false, cond, List, [], ◌∷◌, refl, arith, subst}
 use Rattle.std.specs.Prelude.{Option, Some, None, Result, Ok, Err, is_some, nat_lt, nat_le, ◌&&◌, ◌||◌, ◌==◌, not}
 use Rattle.std.proofs.lemmas.Bool.{ltb-false, leb-true}
-use Rattle.pass_caveats.specs.declared.slot.Slot.{Slot}
-use Rattle.club_core.specs.declared.member.Member.{Member}
-use Rattle.club_core.specs.declared.facility.Facility.{Facility}
-use Rattle.club_core.specs.declared.key.Key.{Key}
+use Rattle.club_values.specs.declared.slot.Slot.{Slot}
+use Rattle.club_rows.specs.declared.member.Member.{Member}
+use Rattle.club_rows.specs.declared.facility.Facility.{Facility}
+use Rattle.club_rows.specs.declared.key.Key.{Key}
 use Rattle.club_core.specs.declared.change.Change.{Change}
 use Rattle.club_core.specs.declared.change.Change.TheVariants.{InsertMember, AddCredit, InsertFacility, InsertKey, MarkRevoked, MarkClosed}
 use Rattle.club_core.specs.declared.command.Command.{Command}
@@ -13,9 +13,10 @@ use Rattle.club_core.specs.declared.command.Command.TheVariants as commands
 use Rattle.club_core.specs.declared.command.OfficeFault.{OfficeFault}
 use Rattle.club_core.specs.declared.command.OfficeFault.TheVariants.{Exists, Unknown, OutOfRange, SlotInUse}
 use Rattle.club_core.specs.Lines.{Line, line, first_of}
-use Rattle.club_core.specs.Sums.{taken_in}
-use Rattle.club_core.specs.Facility.{is_open_at}
-use Rattle.club_core.specs.Club.{Club, member_named, facility_named, key_named, is_closed}
+use Rattle.club_core.specs.declared.slot_use.SlotUse.{SlotUse}
+use Rattle.club_core.specs.Basis.{slot_use}
+use Rattle.club_rows.specs.Facility.{is_open_at}
+use Rattle.club_core.specs.Club.{Club, member_named, facility_named, key_named}
 use Rattle.club_core.specs.After.{after}
 use Rattle.club_core.specs.Office.{are_limits, credit_verdict, close_verdict, office_verdict}
 use Rattle.club_plain.specs.Widths.{FitsWidths}
@@ -64,15 +65,15 @@ fits_keys club keys h = record { credited = h.credited; named = h.named; places 
 fits_closed : (club : Club) (closed : List Slot) → FitsWidths club → FitsWidths (record club { closed = closed })
 fits_closed club closed h = record { credited = h.credited; named = h.named; places = h.places; taken = h.taken; spent = h.spent; kept = h.kept }
 
-keeps_close : (club : Club) (slot : Slot) (facility : Option Facility) → FitsWidths club → KeepsOk club (close_verdict club slot facility)
-keeps_close club slot None h = keeps_err club _
-keeps_close club slot (Some facility) h =
-    let used : Line (Result Change OfficeFault) = line (nat_lt 0 (taken_in slot club.bookings)) (Err SlotInUse) in
-    let closed : Line (Result Change OfficeFault) = line (is_closed slot club) (Err Exists) in
+keeps_close : (club : Club) (held : SlotUse) (slot : Slot) (facility : Option Facility) → FitsWidths club → KeepsOk club (close_verdict held slot facility)
+keeps_close club held slot None h = keeps_err club _
+keeps_close club held slot (Some facility) h =
+    let used : Line (Result Change OfficeFault) = line (nat_lt 0 held.taken) (Err SlotInUse) in
+    let closed : Line (Result Change OfficeFault) = line held.closed (Err Exists) in
     let change = MarkClosed slot in
     keep club (not (is_open_at facility slot.hour)) OutOfRange (first_of (closed ∷ used ∷ []) (Ok change)) (λ e.
-    keep club (is_closed slot club) Exists (first_of (used ∷ []) (Ok change)) (λ f.
-    keep club (nat_lt 0 (taken_in slot club.bookings)) SlotInUse (Ok change) (λ g. keeps_ok club change (fits_closed club (after change club).closed h))))
+    keep club held.closed Exists (first_of (used ∷ []) (Ok change)) (λ f.
+    keep club (nat_lt 0 held.taken) SlotInUse (Ok change) (λ g. keeps_ok club change (fits_closed club (after change club).closed h))))
 
 pub keeps_order : (club : Club) (command : Command) → FitsWidths club → KeepsOk club (office_verdict club command)
 keeps_order club (commands.AddMember name quota) h =
@@ -99,4 +100,4 @@ keeps_order club (commands.AddKey name member root) h =
 keeps_order club (commands.RevokeKey name) h =
     keep club (not (is_some (key_named name club))) Unknown (Ok (MarkRevoked name)) (λ e.
     keeps_ok club (MarkRevoked name) (fits_keys club (after (MarkRevoked name) club).keys h))
-keeps_order club (commands.CloseSlot slot) h = keeps_close club slot (facility_named slot.facility club) h
+keeps_order club (commands.CloseSlot slot) h = keeps_close club (slot_use club slot) slot (facility_named slot.facility club) h

@@ -2,10 +2,10 @@
 use Rattle.std.proofs.Common.{◌≡◌, ℕ, ◌≤◌, Bool, true, false, cond, List, [], ◌∷◌, get_or, zero, suc, refl, arith, ◌∙◌, sym, ap, subst}
 use Rattle.std.specs.Prelude.{Some, find, filter, All}
 use Rattle.std.specs.Str.{bytes_eq}
-use Rattle.club_core.specs.declared.member.Member.{Member}
-use Rattle.club_core.specs.declared.facility.Facility.{Facility}
-use Rattle.club_core.specs.declared.booking.Booking.{Booking}
-use Rattle.club_core.specs.Booking.{persons_of}
+use Rattle.club_rows.specs.declared.member.Member.{Member}
+use Rattle.club_rows.specs.declared.facility.Facility.{Facility}
+use Rattle.club_rows.specs.declared.booking.Booking.{Booking}
+use Rattle.club_rows.specs.Booking.{persons_of}
 use Rattle.club_core.specs.Club.{Club, is_key_of}
 use Rattle.club_core.specs.Sums.{is_in, taken_in, cost_of, is_under, spent_under}
 use Rattle.club_core.specs.Solo.{part_of}

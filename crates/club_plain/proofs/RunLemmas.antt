@@ -3,10 +3,11 @@ use Rattle.std.proofs.Common.{◌≡◌, ℕ, ◌+◌, ◌<◌, List, [], ◌∷
 use Rattle.std.specs.Prelude.{map}
 use Rattle.std.proofs.lemmas.List.{map_push, take_more}
 use Rattle.club_core.specs.Club.{Club}
-use Rattle.club_core.specs.Run.{Event, EventReply, Outcome, step, replies_of, club_after}
-use Rattle.club_plain.specs.declared.event.Event.{Event as EventParts}
-use Rattle.club_plain.specs.declared.event.EventReply.{EventReply as ReplyParts}
-use Rattle.club_plain.specs.Event.{event_of, reply_of, outcome_of}
+use Rattle.club_core.specs.declared.event.EventReply.{EventReply}
+use Rattle.club_core.specs.Run.{Event, Outcome, step, replies_of, club_after}
+use Rattle.club_core.specs.declared.event.Event.{Event as EventInCode}
+use Rattle.club_core.specs.Words.{event_of}
+use Rattle.club_plain.specs.Rows.{outcome}
 
 club_after_push : (club : Club) (events : List Event) (event : Event) → club_after club (events ++ event ∷ []) ≡ (step (club_after club events) event).club
 club_after_push club [] event = refl
@@ -17,29 +18,28 @@ replies_push club [] event = refl
 replies_push club (first ∷ events) event = ap (λ replies. (step club first).reply ∷ replies) (replies_push (step club first).club events event)
 
 -- the first events of a list have been told, and stand
-pub record Follows (start club : Club) (events : List EventParts) (before : List EventReply) (told : List ReplyParts) : Type 0 where
-  pub replies : map reply_of told ≡ before ++ replies_of start (map event_of events)
+pub record Follows (start club : Club) (events : List EventInCode) (before : List EventReply) (told : List EventReply) : Type 0 where
+  pub replies : told ≡ before ++ replies_of start (map event_of events)
   pub stands : club ≡ club_after start (map event_of events)
 
-more_events : (start club new : Club) (events : List EventParts) (event : EventParts) (before : List EventReply) (told : List ReplyParts) (reply : ReplyParts) → Follows start club events before told → outcome_of reply new ≡ step club (event_of event) → Follows start new (events ++ event ∷ []) before (told ++ reply ∷ [])
+more_events : (start club new : Club) (events : List EventInCode) (event : EventInCode) (before : List EventReply) (told : List EventReply) (reply : EventReply) → Follows start club events before told → outcome reply new ≡ step club (event_of event) → Follows start new (events ++ event ∷ []) before (told ++ reply ∷ [])
 more_events start club new events event before told reply h made =
     let pushed = map_push event_of events event in
-    let stepped : outcome_of reply new ≡ step (club_after start (map event_of events)) (event_of event) = made ∙ ap (λ c. step c (event_of event)) h.stands in
+    let stepped : outcome reply new ≡ step (club_after start (map event_of events)) (event_of event) = made ∙ ap (λ c. step c (event_of event)) h.stands in
     record {
       replies =
-          map_push reply_of told reply
-          ∙ (ap (λ r. map reply_of told ++ r ∷ []) (ap (λ (o : Outcome). o.reply) stepped)
+          ap (λ r. told ++ r ∷ []) (ap (λ (o : Outcome). o.reply) stepped)
           ∙ (ap (λ replies. replies ++ (step (club_after start (map event_of events)) (event_of event)).reply ∷ []) h.replies
           ∙ (append_assoc before (replies_of start (map event_of events)) ((step (club_after start (map event_of events)) (event_of event)).reply ∷ [])
-          ∙ ap (λ replies. before ++ replies) (sym (replies_push start (map event_of events) (event_of event)) ∙ ap (replies_of start) (sym pushed)))));
+          ∙ ap (λ replies. before ++ replies) (sym (replies_push start (map event_of events) (event_of event)) ∙ ap (replies_of start) (sym pushed))));
       stands = ap (λ (o : Outcome). o.club) stepped ∙ (sym (club_after_push start (map event_of events) (event_of event)) ∙ ap (club_after start) (sym pushed));
     }
 
-pub follows_more : (start club new : Club) (events : List EventParts) (i : ℕ) (event : EventParts) (before : List EventReply) (told after : List ReplyParts) (reply : ReplyParts) → i < length events → event ≡ get_or events i event → after ≡ told ++ reply ∷ [] → Follows start club (take i events) before told → outcome_of reply new ≡ step club (event_of event) → Follows start new (take (i + 1) events) before after
+pub follows_more : (start club new : Club) (events : List EventInCode) (i : ℕ) (event : EventInCode) (before : List EventReply) (told after : List EventReply) (reply : EventReply) → i < length events → event ≡ get_or events i event → after ≡ told ++ reply ∷ [] → Follows start club (take i events) before told → outcome reply new ≡ step club (event_of event) → Follows start new (take (i + 1) events) before after
 follows_more start club new events i event before told after reply h at pushed so_far made =
     let taken : take (i + 1) events ≡ take i events ++ event ∷ [] = take_more events i event h ∙ ap (λ e. take i events ++ e ∷ []) (sym at) in
     rw (taken, pushed) (more_events start club new (take i events) event before told reply so_far made)
 
-pub same_step : (club new new' : Club) (reply reply' : ReplyParts) (event event' : EventParts) → reply ≡ reply' → new ≡ new' → event ≡ event' → outcome_of reply' new' ≡ step club (event_of event') → outcome_of reply new ≡ step club (event_of event)
+pub same_step : (club new new' : Club) (reply reply' : EventReply) (event event' : EventInCode) → reply ≡ reply' → new ≡ new' → event ≡ event' → outcome reply' new' ≡ step club (event_of event') → outcome reply new ≡ step club (event_of event)
 same_step club new new' reply reply' event event' e f g h =
-    ap (λ r. outcome_of r new) e ∙ (ap (λ c. outcome_of reply' c) f ∙ (h ∙ ap (λ x. step club (event_of x)) (sym g)))
+    ap (λ r. outcome r new) e ∙ (ap (λ c. outcome reply' c) f ∙ (h ∙ ap (λ x. step club (event_of x)) (sym g)))

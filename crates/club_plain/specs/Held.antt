@@ -2,8 +2,8 @@
 use Rattle.std.specs.Prelude.{ℕ, not, Bool, List, filter}
 use Rattle.std.specs.List.{list_any}
 use Rattle.std.specs.Str.{bytes_eq}
-use Rattle.club_core.specs.declared.key.Key.{Key}
-use Rattle.club_core.specs.declared.booking.Booking.{Booking}
+use Rattle.club_rows.specs.declared.key.Key.{Key}
+use Rattle.club_rows.specs.declared.booking.Booking.{Booking}
 
 -- whether a key of this name is the member's
 abbrev pub is_held : List Key → List ℕ → List ℕ → Bool

@@ -1,5 +1,7 @@
--- The club that lists of rows hold (ours).
+-- The club that lists of rows hold, and how it stands after a reply (ours).
+use Rattle.club_core.specs.declared.event.EventReply.{EventReply}
 use Rattle.club_core.specs.Club.{Club as Rows}
+use Rattle.club_core.specs.Run.{Outcome}
 use Rattle.club_plain.specs.declared.club.Club.TheInside.{Inside}
 
 abbrev pub rows_of : Inside → Rows
@@ -10,3 +12,7 @@ rows_of club = record {
   bookings = club.bookings.items;
   closed = club.closed.items;
 }
+
+-- a reply, and the club that stands after it
+abbrev pub outcome : EventReply → Rows → Outcome
+outcome reply club = record { reply = reply; club = club }

@@ -10,7 +10,8 @@ impl Club {
     ghost use Rattle.club_plain.specs.Widths.{FitsWidths};
     ghost use Rattle.club_plain.specs.Growth.{is_growth};
 
-    /// Makes a change. Memory is wanted for a new row alone, and where it is refused, the club stays as it was.
+    /// Makes a change. Memory is wanted for a new row alone, and where it is refused, the club
+    /// stays as it was.
     pub(crate) fn apply(&mut self, change: Change) -> Result<(), AllocError>
         requires { FitsWidths (after change self.old) }
         ensures ok { OnOk result (self.new ≡ after change self.old) }

@@ -1,7 +1,7 @@
 //! Edits of rows, each of all rows that it fits.
 
 ghost use Rattle.std.specs.Prelude.{◌≡◌, ◌≤◌, map, All};
-ghost use Rattle.club_core.specs.declared.member.Member.{Member as MemberRow};
+ghost use Rattle.club_rows.specs.declared.member.Member.{Member as MemberRow};
 ghost use Rattle.club_core.specs.After as after;
 
 use club_core::{Booking, BookingNumber, Key, Member};
@@ -57,7 +57,8 @@ fn cancelled(booking: &Booking, key: &Name, number: BookingNumber, refund: u32) 
     booking
 }
 
-/// Marks the booking under the key and number cancelled with its refund. One that is cancelled already stays as it is.
+/// Marks the booking under the key and number cancelled with its refund. One that is cancelled
+/// already stays as it is.
 pub(crate) fn cancel(bookings: &mut [Booking], key: &Name, number: BookingNumber, refund: u32)
     ensures { bookings.new ≡ map (after.cancelled key.now number refund) bookings.old }
 {

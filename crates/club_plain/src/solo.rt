@@ -1,20 +1,19 @@
-//! The solo machine: a club that holds a member's part alone, and is told what others hold of each slot that is asked for.
+//! The solo machine: a club that holds a member's part alone, and is told what others hold of each
+//! slot that is asked for.
 
 ghost use Rattle.std.specs.Prelude.{◌≡◌, ◌≤◌, ◌<◌, ◌^◌, IfOk, IfSome, OnOk, OnErr, filter, option_map};
 ghost use Rattle.std.specs.Str.{bytes_eq};
-ghost use Rattle.club_core.specs.declared.member.Member.{Member as MemberRow};
-ghost use Rattle.club_core.specs.declared.key.Key.{Key as KeyRow};
+ghost use Rattle.club_rows.specs.declared.member.Member.{Member as MemberRow};
+ghost use Rattle.club_rows.specs.declared.key.Key.{Key as KeyRow};
 ghost use Rattle.club_core.specs.Sums as sums;
 ghost use Rattle.club_plain.specs.Growth.{Grows};
 ghost use Rattle.club_plain.specs.Held.{held_under, others_under};
-ghost use Rattle.club_plain.specs.Solo.{outside_of, with_outside};
-ghost use Rattle.club_plain.specs.Words.{words_of};
+ghost use Rattle.club_plain.specs.Solo.{with_outside};
+ghost use Rattle.club_core.specs.Words.{words_of};
 
-use crate::answer::answer_seen;
 use crate::club::{Club, copied};
-use crate::pass::Words;
 use crate::sums::{is_held, persons};
-use club_core::{Booking, Key, Member, Reply, Verdict, View};
+use club_core::{Booking, Key, Member, Reply, SlotUse, Verdict, View, Words};
 use pass_caveats::{Moment, Name, Slot};
 use std::alloc::{AllocError, Global};
 
@@ -65,21 +64,13 @@ fn taken_by_others(keys: &[Key], bookings: &[Booking], member: &Name, slot: &Slo
         .sum()
 }
 
-/// What others hold of a slot.
-#[derive(Clone, Copy, Debug, PartialEq, Eq)]
-pub struct Outside {
-    /// Their persons.
-    pub taken: u8,
-    /// Whether the slot is closed.
-    pub closed: bool,
-}
-
-fn with_outside(view: Option<View>, others: Outside) -> Option<View>
+/// A view with what others hold of its slot.
+fn with_outside(view: Option<View>, others: SlotUse) -> Option<View>
     requires { IfSome view (λ v. v.taken ≤ 50) }
     ensures { result ≡ option_map (with_outside others) view }
 {
     let mut view = view?;
-    view.taken += u32::from(others.taken);
+    view.taken += u64::from(others.taken);
     view.closed = others.closed;
     Some(view)
 }
@@ -108,18 +99,18 @@ impl Club {
     }
 
     /// What others than the member hold of the slot that is asked for.
-    pub fn outside(&self, member: &Name, slot: Option<Slot>) -> Outside
-        ensures { outside_of result ≡ solo.outside member.now self.now slot }
+    pub fn outside(&self, member: &Name, slot: Option<Slot>) -> SlotUse
+        ensures { result ≡ solo.outside member.now self.now slot }
     {
         match slot {
-            None => Outside {
+            None => SlotUse {
                 taken: 0,
                 closed: false,
             },
             Some(slot) => {
                 let taken = taken_by_others(&self.keys, &self.bookings, member, &slot);
-                Outside {
-                    taken: taken as u8,
+                SlotUse {
+                    taken,
                     closed: self.is_closed(&slot),
                 }
             }
@@ -127,35 +118,31 @@ impl Club {
     }
 
     /// The answer to a request on a member's part, with what others hold of its slot.
-    fn answer_alone(&self, words: &Words, moment: Moment, others: Outside) -> Verdict
-        ensures value { result ≡ solo.solo_verdict self.now (words_of words.now) moment (outside_of others) }
+    fn answer_alone(&self, words: &Words, moment: Moment, others: SlotUse) -> Verdict
+        ensures value { result ≡ solo.solo_verdict self.now (words_of words.now) moment others }
         ensures fits { FitsWidths self.now }
     {
         let _members = &self.members;
-        match &words.pass {
-            Err(fault) => Verdict::refused(fault.refusal()),
-            Ok(pass) => {
-                let view = self.view(pass.key, &words.request, moment);
-                answer_seen(pass, &words.request, moment, with_outside(view, others))
-            }
-        }
+        let view = with_outside(self.view_for(words, moment), others);
+        words.answer(view.as_ref(), moment)
     }
 
-    /// The reply to a request on a member's part, with what others hold of its slot. The part is then as the request leaves
-    /// it. Memory is wanted for a new booking alone, and where it is refused, the part stays as it was.
+    /// The reply to a request on a member's part, with what others hold of its slot. The part is
+    /// then as the request leaves it. Memory is wanted for a new booking alone, and where it is
+    /// refused, the part stays as it was.
     pub fn ask_alone(
         &mut self,
         words: &Words,
         moment: Moment,
-        others: Outside,
+        others: SlotUse,
     ) -> Result<Reply, AllocError>
         ensures reply { IfOk result (λ reply. reply
-            ≡ (solo.solo_verdict self.old (words_of words.now) moment (outside_of others)).reply) }
+            ≡ (solo.solo_verdict self.old (words_of words.now) moment others).reply) }
         ensures part { OnOk result (self.new
-            ≡ after_change (solo.solo_verdict self.old (words_of words.now) moment (outside_of others)).change self.old) }
+            ≡ after_change (solo.solo_verdict self.old (words_of words.now) moment others).change self.old) }
         ensures err { OnErr result (self.new ≡ self.old) }
         ensures growth { OnErr result (Grows self.old
-            (after_change (solo.solo_verdict self.old (words_of words.now) moment (outside_of others)).change self.old)) }
+            (after_change (solo.solo_verdict self.old (words_of words.now) moment others).change self.old)) }
     {
         let Verdict { reply, change } = self.answer_alone(words, moment, others);
         match change {

@@ -1,7 +1,7 @@
 //! Sums over bookings, each made anew from all of them.
 
 ghost use Rattle.std.specs.Prelude.{◌≡◌, ◌-◌, ◌<◌, ◌^◌, fold};
-ghost use Rattle.club_core.specs.Booking.{persons_of};
+ghost use Rattle.club_rows.specs.Booking.{persons_of};
 ghost use Rattle.club_core.specs.Sums as sums;
 ghost use Rattle.club_plain.specs.Held.{is_held, held_under};
 

@@ -1,7 +1,10 @@
 //! The worked lists of one member, with the replies that they are told.
 
 use super::*;
-use club_core::{BookingNumber, Command, Guests, OfficeFault, Refusal, Reply, Request, Root};
+use club_core::{
+    BookingNumber, Command, Event, EventReply, FormFault, Guests, OfficeAnswer, OfficeFault, Pass,
+    Refusal, Reply, Request, Root, SlotUse, Words,
+};
 use pass_caveats::{Day, Hour, Kind, Moment, Name, Slot};
 use std::alloc::Global;
 use std::test::*;
@@ -170,8 +173,8 @@ fn join(club: &mut Club, member: &[u8], key: &[u8], quota: u32, points: u32) -> 
     order(club, add_key(key, member)?)
 }
 
-/// Members `amy` and `bob`, each with quota 5 and 10,000 points; `court-1` with 4 places for 200 points and `room-1` with 1
-/// place for 601, both from 8 to 22.
+/// Members `amy` and `bob`, each with quota 5 and 10,000 points; `court-1` with 4 places for 200
+/// points and `room-1` with 1 place for 601, both from 8 to 22.
 fn opened(alloc: Global) -> Result<Club, Fail> {
     let mut club = Club::new(alloc);
     join(&mut club, b"amy", b"amy-1", 5, 10_000)?;
@@ -386,7 +389,7 @@ fn places_points_and_quota(rt: HostRuntime) -> Result<(), Fail> {
     Ok(())
 }
 
-fn shown(taken: u32) -> Result<Reply, Fail> {
+fn shown(taken: u64) -> Result<Reply, Fail> {
     Ok(Reply::SlotShown {
         slot: slot(b"court-1", 18)?,
         kind: Kind::Court,
@@ -434,7 +437,7 @@ fn closes_a_slot(rt: HostRuntime) -> Result<(), Fail> {
 }
 
 /// The reply to a request of amy's on her part, with what others hold of its slot.
-fn alone(alloc: Global, part: &mut Club, request: Request, others: Outside) -> Result<Reply, Fail> {
+fn alone(alloc: Global, part: &mut Club, request: Request, others: SlotUse) -> Result<Reply, Fail> {
     let pass = pass_of(alloc, b"amy-1", &[], root()?)?;
     Ok(part.ask_alone(&words(pass, request), at(NOON)?, others)?)
 }
@@ -503,5 +506,89 @@ fn refuses_what_is_no_pass(rt: HostRuntime) -> Result<(), Fail> {
     for (fault, refusal) in rows {
         assert_eq!(rt; no_pass(&mut club, fault)?, Reply::Refused(refusal));
     }
+    Ok(())
+}
+
+/// Amy books `court-1` alone in each hour of fifteen days, sees the account, and cancels.
+fn long_list(alloc: Global) -> Result<Vec<Event>, Fail> {
+    let mut events = Vec::new(alloc);
+    let mut booking = 0u32;
+    for day in 20_574..20_589 {
+        for hour in 8..22 {
+            booking = booking.saturating_add(1);
+            let slot = Slot {
+                facility: name(b"court-1")?,
+                day: Day::from_number(day).ok_or("a day")?,
+                hour: Hour::from_number(hour).ok_or("an hour")?,
+            };
+            let number = number(booking)?;
+            let guests = Guests::new(0).ok_or("guests")?;
+            let request = Request::Book {
+                slot,
+                number,
+                guests,
+            };
+            events.push(amy(alloc, request, NOON)?)?;
+            events.push(amy(alloc, Request::Account, NOON)?)?;
+            events.push(amy(alloc, Request::Cancel { slot, number }, NOON)?)?;
+        }
+    }
+    Ok(events)
+}
+
+fn long_replies(alloc: Global) -> Result<Vec<Reply>, Fail> {
+    let mut replies = Vec::new(alloc);
+    for booking in 1..211 {
+        replies.push(booked(b"amy-1", booking, 200, 3)?)?;
+        replies.push(account(9_800, 1, 200)?)?;
+        replies.push(cancelled(booking, 200)?)?;
+    }
+    Ok(replies)
+}
+
+/// Whether the events were requests, and these their replies.
+fn are_replies(replies: &[EventReply], want: &[Reply]) -> bool {
+    let pairs = replies.iter().zip(want.iter());
+    let mut alike = replies.len() == want.len();
+    for (reply, wanted) in pairs {
+        alike = alike && matches!(reply, EventReply::Replied(told) if told == wanted);
+    }
+    alike
+}
+
+#[test]
+fn answers_a_long_list(rt: HostRuntime) -> Result<(), Fail> {
+    let mut club = opened(rt.alloc())?;
+    let events = long_list(rt.alloc())?;
+    let want = long_replies(rt.alloc())?;
+    let replies = club.run(&events)?;
+    assert!(rt; are_replies(replies.as_slice(), want.as_slice()));
+    Ok(())
+}
+
+#[test]
+fn a_part_with_no_bookings(rt: HostRuntime) -> Result<(), Fail> {
+    let mut club = opened(rt.alloc())?;
+    plainly(rt.alloc(), &mut club, b"bob-1", book(18, 2, 0)?, NOON)?;
+    let mut part = club.part(&name(b"amy")?)?;
+    let none = club.outside(&name(b"amy")?, None);
+    let shown = alone(rt.alloc(), &mut part, Request::Account, none)?;
+    assert_eq!(rt; shown, account(10_000, 0, 0)?);
+    let stranger = plainly(rt.alloc(), &mut part, b"bob-1", Request::Account, NOON)?;
+    assert_eq!(rt; stranger, Reply::Refused(Refusal::NotVerified));
+    Ok(())
+}
+
+#[test]
+fn a_duplicate_goes_its_own_way(rt: HostRuntime) -> Result<(), Fail> {
+    let mut club = opened(rt.alloc())?;
+    plainly(rt.alloc(), &mut club, b"amy-1", book(18, 7, 2)?, NOON)?;
+    let mut other = club.duplicate()?;
+    let back = plainly(rt.alloc(), &mut other, b"amy-1", cancel(18, 7)?, NOON)?;
+    assert_eq!(rt; back, cancelled(7, 600)?);
+    let there = plainly(rt.alloc(), &mut other, b"amy-1", Request::Account, NOON)?;
+    assert_eq!(rt; there, account(10_000, 0, 0)?);
+    let here = plainly(rt.alloc(), &mut club, b"amy-1", Request::Account, NOON)?;
+    assert_eq!(rt; here, account(9_400, 1, 600)?);
     Ok(())
 }

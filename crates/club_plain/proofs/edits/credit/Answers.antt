@@ -1,5 +1,5 @@
 use Rattle.std.proofs.Common.{◌≤◌, arith}
-use Rattle.club_core.specs.declared.member.Member.{Member}
+use Rattle.club_rows.specs.declared.member.Member.{Member}
 use Rattle.club_core.specs.After as after
 use Rattle.club_plain.proofs.EditLemmas.{edited_more, holds_next}
 use Rattle.club_plain.proofs.edits.credit.Goals as goal

@@ -1,6 +1,6 @@
 use Rattle.std.proofs.Common.{◌∙◌, sym, ap}
 use Rattle.club_core.specs.declared.verdict.Verdict.{Verdict}
-use Rattle.club_plain.specs.Words.{words_of}
+use Rattle.club_core.specs.Words.{words_of}
 use Rattle.club_plain.proofs.KeptLemmas.{keeps_answer}
 use Rattle.club_plain.proofs.club.Club.ask.Goals as goal
 

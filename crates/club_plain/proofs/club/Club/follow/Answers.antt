@@ -1,13 +1,14 @@
 use Rattle.std.proofs.Common.{◌≡◌, arith}
 use Rattle.club_core.specs.Run as machine
-use Rattle.club_plain.specs.Event.{event_of, outcome_of}
+use Rattle.club_core.specs.Words.{event_of}
+use Rattle.club_plain.specs.Rows.{outcome}
 use Rattle.club_plain.proofs.RunLemmas.{follows_more, same_step}
 use Rattle.club_plain.proofs.club.Club.follow.Goals as goal
 use Rattle.club_plain.proofs.club.Club.follow.Goals.{in-Asked+in_ok-ask-in-Asked, in-Ordered+in_ok-office-in-Ordered}
 
 pub loop-event-preserved : goal.loop-event-preserved
 loop-event-preserved c =
-    let made : outcome_of c.match-event.reply c.match-event.self ≡ machine.step c.loop-event.self (event_of c.event-item.result) =
+    let made : outcome c.match-event.reply c.match-event.self ≡ machine.step c.loop-event.self (event_of c.event-item.result) =
     elim c.match-event.branch [
       | in-Asked+in_ok-ask-in-Asked w ↦ same_step _ _ _ _ _ _ _ w.reply-is w.self-is w.in-Asked.is w.in_ok-ask-in-Asked.ensures.outcome
       | in-Ordered+in_ok-office-in-Ordered w ↦ same_step _ _ _ _ _ _ _ w.reply-is w.self-is w.in-Ordered.is w.in_ok-office-in-Ordered.ensures.outcome

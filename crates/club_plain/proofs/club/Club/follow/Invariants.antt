@@ -1,9 +1,7 @@
 use Rattle.std.proofs.Common.{take}
-use Rattle.std.specs.Prelude.{map}
-use Rattle.club_plain.specs.Event.{reply_of}
 use Rattle.club_plain.proofs.RunLemmas.{Follows}
 use Rattle.club_plain.proofs.club.Club.follow.Given as goal
 
 abbrev pub invariant-loop-event : goal.invariant-loop-event
 invariant-loop-event l =
-    Follows l.initial.self l.self (take l.event-index l.events) (map reply_of l.initial.replies.items) l.replies.items
+    Follows l.initial.self l.self (take l.event-index l.events) l.initial.replies.items l.replies.items

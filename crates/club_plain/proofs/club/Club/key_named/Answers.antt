@@ -4,7 +4,7 @@ use Rattle.std.specs.Option.{option_copied}
 use Rattle.std.specs.List.{find}
 use Rattle.std.proofs.lemmas.Iterator.{YieldsList-from_slice}
 use Rattle.std.proofs.lemmas.Iterator.Search.{find_from_yields_List}
-use Rattle.club_core.specs.declared.key.Key.{Key}
+use Rattle.club_rows.specs.declared.key.Key.{Key}
 use Rattle.club_core.specs.Club.{Club as Rows, key_named}
 use Rattle.club_plain.proofs.club.Club.key_named.Goals as goal
 

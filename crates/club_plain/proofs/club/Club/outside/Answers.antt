@@ -1,10 +1,10 @@
 use Rattle.std.proofs.Common.{◌≡◌, ◌<◌, ◌≤◌, ◌^◌, ℕ, List, arith}
 use Rattle.std.specs.Prelude.{not}
-use Rattle.pass_caveats.specs.declared.slot.Slot.{Slot}
-use Rattle.club_core.specs.declared.key.Key.{Key}
-use Rattle.club_core.specs.Booking.{persons_of}
+use Rattle.club_values.specs.declared.slot.Slot.{Slot}
+use Rattle.club_rows.specs.declared.key.Key.{Key}
+use Rattle.club_rows.specs.Booking.{persons_of}
 use Rattle.club_core.specs.Sums.{is_in, taken_in}
-use Rattle.club_core.specs.declared.booking.Booking.{Booking}
+use Rattle.club_rows.specs.declared.booking.Booking.{Booking}
 use Rattle.club_plain.specs.Held.{is_held, others_under}
 use Rattle.club_plain.proofs.SumLemmas.{sum-filter_le}
 use Rattle.club_plain.proofs.club.Club.outside.Goals as goal
@@ -24,13 +24,3 @@ taken_by_others-taken-requires c =
     few_others keys bookings c.args.member.now c.in-Some.slot (c.self.invariant.taken c.in-Some.slot) in
     let small : taken_in c.in-Some.slot (others_under keys c.args.member.now bookings) < 2 ^ 32 = omega arith in
     rw (c.deref.ensures.value, c.deref-in-Some.ensures.value) small
-
-pub overflow_cast-result : goal.overflow_cast-result
-overflow_cast-result c =
-    let keys = c.self.inside.keys.items in
-    let bookings = c.self.inside.bookings.items in
-    let few : taken_in c.in-Some.slot (others_under keys c.args.member.now bookings) ≤ 50 =
-    few_others keys bookings c.args.member.now c.in-Some.slot (c.self.invariant.taken c.in-Some.slot) in
-    let result : c.taken_by_others-taken.result ≡ taken_in c.in-Some.slot (others_under keys c.args.member.now bookings) =
-    rw (← c.deref.ensures.value, ← c.deref-in-Some.ensures.value) c.taken_by_others-taken.ensures in
-    omega arith

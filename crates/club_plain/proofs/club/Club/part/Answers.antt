@@ -1,9 +1,9 @@
 use Rattle.std.proofs.Common.{◌∙◌, ap, List}
 use Rattle.std.specs.Prelude.{filter}
 use Rattle.std.specs.Str.{bytes_eq}
-use Rattle.club_core.specs.declared.member.Member.{Member}
-use Rattle.club_core.specs.declared.key.Key.{Key}
-use Rattle.club_core.specs.declared.booking.Booking.{Booking}
+use Rattle.club_rows.specs.declared.member.Member.{Member}
+use Rattle.club_rows.specs.declared.key.Key.{Key}
+use Rattle.club_rows.specs.declared.booking.Booking.{Booking}
 use Rattle.club_core.specs.Solo.{part_of}
 use Rattle.club_plain.specs.Held.{held_under}
 use Rattle.club_plain.specs.Rows.{rows_of}

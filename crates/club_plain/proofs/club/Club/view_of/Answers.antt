@@ -1,6 +1,6 @@
 use Rattle.std.proofs.Common.{◌<◌, ◌≤◌, ◌^◌, arith}
 use Rattle.club_core.specs.Sums.{cost_of, is_under, spent_under}
-use Rattle.club_core.specs.declared.booking.Booking.{Booking}
+use Rattle.club_rows.specs.declared.booking.Booking.{Booking}
 use Rattle.club_plain.specs.Held.{is_held, held_under}
 use Rattle.club_plain.proofs.SumLemmas.{sum-filter_le}
 use Rattle.club_plain.proofs.club.Club.view_of.Goals as goal

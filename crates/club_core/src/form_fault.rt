@@ -1,0 +1,32 @@
+ghost use Rattle.std.specs.Prelude.{◌≡◌};
+
+use crate::refusal::Refusal;
+
+/// Why a text is no pass.
+#[derive(Clone, Copy, Debug, PartialEq, Eq)]
+pub enum FormFault {
+    /// The text has too many bytes.
+    TooLong,
+    /// The text spells no pass.
+    Malformed,
+    /// A caveat is a third party's.
+    ThirdParty,
+    /// There are too many caveats.
+    TooMany,
+}
+
+impl FormFault {
+    ghost use Rattle.club_core.specs.Answer.{form_refusal};
+
+    /// How the fault is told.
+    pub fn refusal(self) -> Refusal
+        ensures { result ≡ form_refusal self }
+    {
+        match self {
+            FormFault::TooLong => Refusal::PassTooLong,
+            FormFault::Malformed => Refusal::PassMalformed,
+            FormFault::ThirdParty => Refusal::ThirdPartyCaveat,
+            FormFault::TooMany => Refusal::TooManyCaveats,
+        }
+    }
+}

@@ -1,0 +1,8 @@
+/// What is taken of a slot.
+#[derive(Clone, Copy, Debug, PartialEq, Eq)]
+pub struct SlotUse {
+    /// The persons who booked the slot.
+    pub taken: u32,
+    /// Whether the slot is closed.
+    pub closed: bool,
+}

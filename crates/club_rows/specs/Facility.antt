@@ -1,0 +1,17 @@
+-- What a facility charges, and when it can be booked (ours).
+use Rattle.std.specs.Prelude.{ℕ, ◌+◌, ◌*◌, ◌&&◌, Bool, nat_lt, nat_le}
+use Rattle.club_values.specs.declared.slot.Slot.{Slot}
+use Rattle.club_values.specs.Slot.{start_of}
+use Rattle.club_rows.specs.declared.facility.Facility.{Facility}
+
+-- the price for the member and each guest
+abbrev pub charge_of : Facility → ℕ → ℕ
+charge_of facility guests = facility.price * (guests + 1)
+
+abbrev pub is_open_at : Facility → ℕ → Bool
+is_open_at facility hour = nat_le facility.opens hour && nat_lt hour facility.shuts
+
+-- the hour is within opening, and the slot begins later than the moment, by 60 days at most
+abbrev pub is_bookable : Facility → Slot → ℕ → Bool
+is_bookable facility slot moment =
+    is_open_at facility slot.hour && nat_lt moment (start_of slot) && nat_le (start_of slot) (moment + 86_400)

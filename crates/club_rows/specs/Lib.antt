@@ -1,0 +1,6 @@
+pub mod Limits
+pub mod RootInside
+pub mod Rows
+pub mod Facility
+pub mod Booking
+pub mod Columns

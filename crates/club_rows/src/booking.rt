@@ -1,0 +1,92 @@
+ghost use Rattle.std.specs.Prelude.{◌≡◌};
+ghost use Rattle.club_values.specs.Reading.{Reads};
+
+use crate::booking_number::BookingNumber;
+use crate::columns::{booking_number_of, guests_of, number_within, paid_of, slot_from_columns};
+use crate::guests::Guests;
+use club_values::{Moment, Name, Slot};
+
+/// The most points that a booking is charged: 50 persons at the highest price.
+pub const MAX_CHARGE: u32 = 499_950;
+
+/// The most places that a booking leaves in its slot.
+const MAX_LEFT: u32 = 49;
+
+/// How long before a slot begins all points come back, in minutes: a day.
+const FULL_REFUND_MINUTES: u64 = 1_440;
+
+/// A booking of a slot. A booking that was cancelled keeps its row.
+#[derive(Clone, Copy, Debug, PartialEq, Eq)]
+pub struct Booking {
+    /// The name of the key that booked.
+    pub key: Name,
+    pub number: BookingNumber,
+    pub slot: Slot,
+    pub guests: Guests,
+    /// The points that were charged.
+    pub charge: u32,
+    /// The places that were left in the slot after the booking.
+    pub left: u8,
+    pub cancelled: bool,
+    /// The points that came back; 0 where the booking isn't cancelled.
+    pub refund: u32,
+}
+
+/// The values of a booking's columns.
+#[derive(Clone, Copy, Debug)]
+pub struct BookingColumns<'a> {
+    pub key: &'a [u8],
+    pub number: i64,
+    pub facility: &'a [u8],
+    pub day: i64,
+    pub hour: i64,
+    pub guests: i64,
+    pub charge: i64,
+    pub left: i64,
+    /// 0 or 1.
+    pub cancelled: i64,
+    pub refund: i64,
+}
+
+impl Booking {
+    ghost use Rattle.club_rows.specs.Booking.{refund_at};
+    ghost use Rattle.club_rows.specs.Columns.{IsBookingOf};
+
+    /// What a cancellation at this moment gives back, where the slot hasn't begun: all points a day
+    /// or more ahead, and else half of them, rounded down.
+    pub fn refund_at(&self, moment: Moment) -> u32
+        ensures { result ≡ refund_at self.now moment }
+    {
+        if u64::from(moment.number()) + FULL_REFUND_MINUTES <= u64::from(self.slot.start()) {
+            self.charge
+        } else {
+            self.charge / 2
+        }
+    }
+
+    /// The booking of these columns; `None` where a value is out of its limits.
+    pub fn from_columns(columns: &BookingColumns<'_>) -> Option<Booking>
+        ensures { Reads (IsBookingOf columns.now) result }
+    {
+        let key = Name::read(columns.key)?;
+        let number = booking_number_of(columns.number)?;
+        let slot = slot_from_columns(columns.facility, columns.day, columns.hour)?;
+        let guests = guests_of(columns.guests)?;
+        let left = number_within(columns.left, 0, MAX_LEFT)?;
+        let (charge, cancelled, refund) = paid_of(
+            columns.charge,
+            columns.cancelled,
+            columns.refund,
+        )?;
+        Some(Booking {
+            key,
+            number,
+            slot,
+            guests,
+            charge,
+            left: left as u8,
+            cancelled,
+            refund,
+        })
+    }
+}

@@ -1,0 +1,49 @@
+ghost use Rattle.std.specs.Prelude.{◌≡◌, ◌↔◌, IsSome, IfSome};
+ghost use Rattle.club_rows.specs.Limits.{IsBookingNumber};
+
+use std::marker::Model;
+
+/// The greatest number of a booking.
+pub const MAX_BOOKING_NUMBER: u32 = 999_999_999;
+
+/// The number of a booking among those of its key, 1 to 999,999,999. Contracts see it as its
+/// number.
+#[derive(Clone, Copy, Debug, PartialEq, Eq, PartialOrd, Ord)]
+pub struct BookingNumber {
+    number: u32,
+}
+
+impl Model for BookingNumber {
+    ghost use Rattle.std.specs.Prelude.{ℕ};
+
+    ghost Value = { ℕ };
+
+    ghost use Rattle.club_rows.specs.Limits.{IsBookingNumber};
+
+    ghost view = { λ booking. booking.number };
+
+    ghost invariant = { λ booking. IsBookingNumber booking.number };
+
+    ghost inverse = { λ n. record { number = n } };
+}
+
+impl BookingNumber {
+    /// The booking number of this value; `None` for 0, and above 999,999,999.
+    pub fn new(number: u32) -> Option<BookingNumber>
+        ensures within { IsSome result ↔ IsBookingNumber number }
+        ensures value { IfSome result (λ booking. booking ≡ number) }
+    {
+        if number < 1 || number > MAX_BOOKING_NUMBER {
+            return None;
+        }
+        Some(BookingNumber { number })
+    }
+
+    /// The number.
+    pub fn get(self) -> u32
+        ensures value { result ≡ self }
+        ensures within { IsBookingNumber result }
+    {
+        self.number
+    }
+}

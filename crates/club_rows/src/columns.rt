@@ -1,0 +1,73 @@
+//! Readers of the values of columns: whole numbers, texts and bytes, as a database hands them out.
+
+ghost use Rattle.std.specs.Prelude.{◌≡◌, ◌≤◌, pos};
+ghost use Rattle.club_values.specs.Reading.{Reads};
+ghost use Rattle.club_rows.specs.Columns.{IsTruth, IsSlotOf, IsPaid};
+ghost use Rattle.club_rows.specs.Limits.{IsBookingNumber, IsGuests};
+
+use crate::booking::MAX_CHARGE;
+use crate::booking_number::BookingNumber;
+use crate::guests::Guests;
+use club_values::{Day, Hour, Name, Slot};
+
+/// The number of a column, where it lies within the limits.
+pub(crate) fn number_within(value: i64, low: u32, high: u32) -> Option<u32>
+    ensures { Reads (λ n. (low ≤ n) × (n ≤ high) × (value ≡ pos n)) result }
+{
+    let number = u32::try_from(value).ok()?;
+    if number < low || number > high {
+        return None;
+    }
+    Some(number)
+}
+
+/// The truth value of a column: 0 or 1.
+pub(crate) fn truth_of(value: i64) -> Option<bool>
+    ensures { Reads (IsTruth value) result }
+{
+    match value {
+        0 => Some(false),
+        1 => Some(true),
+        _ => None,
+    }
+}
+
+pub(crate) fn booking_number_of(value: i64) -> Option<BookingNumber>
+    ensures { Reads (λ number. IsBookingNumber number × (value ≡ pos number)) result }
+{
+    BookingNumber::new(u32::try_from(value).ok()?)
+}
+
+pub(crate) fn guests_of(value: i64) -> Option<Guests>
+    ensures { Reads (λ guests. IsGuests guests × (value ≡ pos guests)) result }
+{
+    Guests::new(u8::try_from(value).ok()?)
+}
+
+/// The points that a booking was charged, whether it is cancelled, and the points that came back.
+pub(crate) fn paid_of(charge: i64, cancelled: i64, refund: i64) -> Option<(u32, bool, u32)>
+    ensures { Reads (λ paid. IsPaid charge cancelled refund paid.0 paid.1 paid.2) result }
+{
+    let charge = number_within(charge, 0, MAX_CHARGE)?;
+    if truth_of(cancelled)? {
+        let refund = number_within(refund, 0, charge)?;
+        Some((charge, true, refund))
+    } else {
+        let refund = number_within(refund, 0, 0)?;
+        Some((charge, false, refund))
+    }
+}
+
+/// The slot of the columns `facility`, `day` and `hour`; `None` where a value is out of its limits.
+pub fn slot_from_columns(facility: &[u8], day: i64, hour: i64) -> Option<Slot>
+    ensures { Reads (IsSlotOf facility.now day hour) result }
+{
+    let facility = Name::read(facility)?;
+    let day = Day::from_number(u16::try_from(day).ok()?)?;
+    let hour = Hour::from_number(u8::try_from(hour).ok()?)?;
+    Some(Slot {
+        facility,
+        day,
+        hour,
+    })
+}

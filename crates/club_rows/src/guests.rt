@@ -1,0 +1,56 @@
+ghost use Rattle.std.specs.Prelude.{◌≡◌, ◌+◌, ◌↔◌, IsSome, IfSome};
+ghost use Rattle.club_rows.specs.Limits.{IsGuests};
+
+use std::marker::Model;
+
+/// The most guests of a booking.
+pub const MAX_GUESTS: u8 = 49;
+
+/// How many guests a booking brings beside its member, 0 to 49. Contracts see it as its number.
+#[derive(Clone, Copy, Debug, PartialEq, Eq, PartialOrd, Ord)]
+pub struct Guests {
+    count: u8,
+}
+
+impl Model for Guests {
+    ghost use Rattle.std.specs.Prelude.{ℕ};
+
+    ghost Value = { ℕ };
+
+    ghost use Rattle.club_rows.specs.Limits.{IsGuests};
+
+    ghost view = { λ guests. guests.count };
+
+    ghost invariant = { λ guests. IsGuests guests.count };
+
+    ghost inverse = { λ n. record { count = n } };
+}
+
+impl Guests {
+    /// That many guests; `None` above 49.
+    pub fn new(count: u8) -> Option<Guests>
+        ensures within { IsSome result ↔ IsGuests count }
+        ensures value { IfSome result (λ guests. guests ≡ count) }
+    {
+        if count > MAX_GUESTS {
+            return None;
+        }
+        Some(Guests { count })
+    }
+
+    /// The number of guests.
+    pub fn get(self) -> u8
+        ensures value { result ≡ self }
+        ensures within { IsGuests result }
+    {
+        self.count
+    }
+
+    /// The number of persons: the guests and the member.
+    pub fn persons(self) -> u8
+        ensures value { result ≡ self + 1 }
+        ensures within { IsGuests self }
+    {
+        self.count + 1
+    }
+}

@@ -1,0 +1,24 @@
+//! The rows of the club with their limits, and readers of the columns that hold them. Nothing here
+//! takes memory.
+#![tactic(auto)]
+
+mod booking;
+mod booking_number;
+mod columns;
+mod facility;
+mod guests;
+mod key;
+mod member;
+mod root;
+
+pub use booking::{Booking, BookingColumns, MAX_CHARGE};
+pub use booking_number::{BookingNumber, MAX_BOOKING_NUMBER};
+pub use columns::slot_from_columns;
+pub use facility::{Facility, FacilityColumns, LAST_HOUR, MAX_PLACES, MAX_PRICE};
+pub use guests::{Guests, MAX_GUESTS};
+pub use key::Key;
+pub use member::{MAX_CREDITED, MAX_QUOTA, Member};
+pub use root::{MAX_ROOT_LEN, MIN_ROOT_LEN, Root};
+
+#[cfg(test)]
+mod tests;

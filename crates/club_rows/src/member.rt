@@ -1,0 +1,39 @@
+ghost use Rattle.club_values.specs.Reading.{Reads};
+
+use crate::columns::number_within;
+use club_values::Name;
+
+/// The most points that a member is ever credited.
+pub const MAX_CREDITED: u32 = 999_999_999;
+
+/// The most bookings that a member may have open.
+pub const MAX_QUOTA: u32 = 99;
+
+/// A member of the club.
+#[derive(Clone, Copy, Debug, PartialEq, Eq)]
+pub struct Member {
+    pub name: Name,
+    /// All points that the member was ever credited, 0 to 999,999,999.
+    pub credited: u32,
+    /// How many bookings the member may have open, 0 to 99.
+    pub quota: u8,
+}
+
+impl Member {
+    ghost use Rattle.club_rows.specs.Columns.{IsMemberOf};
+
+    /// The member of the columns `name`, `credited` and `quota`; `None` where a value is out of its
+    /// limits.
+    pub fn from_columns(name: &[u8], credited: i64, quota: i64) -> Option<Member>
+        ensures { Reads (IsMemberOf name.now credited quota) result }
+    {
+        let name = Name::read(name)?;
+        let credited = number_within(credited, 0, MAX_CREDITED)?;
+        let quota = number_within(quota, 0, MAX_QUOTA)?;
+        Some(Member {
+            name,
+            credited,
+            quota: quota as u8,
+        })
+    }
+}

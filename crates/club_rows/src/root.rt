@@ -1,0 +1,91 @@
+ghost use Rattle.std.specs.Prelude.{◌≡◌, ◌↔◌, IsTrue, IsSome, IfSome, nat_eq};
+ghost use Rattle.std.specs.Cmp.Lexicographic.{pointwise, nat_list_eq_equiv};
+ghost use Rattle.std.specs.Cmp.{partial_equiv_from_equiv};
+ghost use Rattle.club_rows.specs.Limits.{IsRoot};
+
+use std::fmt;
+use std::marker::Model;
+
+/// The fewest bytes of a root.
+pub const MIN_ROOT_LEN: usize = 16;
+
+/// The most bytes of a root.
+pub const MAX_ROOT_LEN: usize = 64;
+
+/// The secret of a key, 16 to 64 bytes, from which its passes are signed. Contracts see it as its
+/// bytes.
+#[derive(Clone, Copy)]
+pub struct Root {
+    bytes: [u8; MAX_ROOT_LEN],
+    len: u8,
+}
+
+impl Model for Root {
+    ghost use Rattle.std.specs.Prelude.{ℕ, List};
+
+    ghost Value = { List ℕ };
+
+    ghost use Rattle.club_rows.specs.RootInside.{bytes_of, inside_of, HoldsRoot, inside_of-bytes_of};
+
+    ghost view = { bytes_of };
+
+    ghost invariant = { HoldsRoot };
+
+    ghost inverse = { inside_of };
+
+    ghost inverse_ok = { inside_of-bytes_of };
+}
+
+impl Root {
+    /// The root of these bytes; `None` where they are fewer than 16 or more than 64.
+    pub fn new(bytes: &[u8]) -> Option<Root>
+        ensures within { IsSome result ↔ IsRoot bytes.now }
+        ensures value { IfSome result (λ root. root ≡ bytes.now) }
+    {
+        if bytes.len() < MIN_ROOT_LEN || bytes.len() > MAX_ROOT_LEN {
+            return None;
+        }
+        let mut room = [0; MAX_ROOT_LEN];
+        room[..bytes.len()].copy_from_slice(bytes);
+        Some(Root {
+            bytes: room,
+            len: bytes.len() as u8,
+        })
+    }
+
+    /// The bytes of the root.
+    pub fn as_bytes(&self) -> &[u8]
+        ensures value { result.now ≡ self.now }
+        ensures within { IsRoot result.now }
+    {
+        &self.bytes[..self.len as usize]
+    }
+}
+
+impl PartialEq for Root {
+    ghost eq = { pointwise nat_eq };
+
+    ghost laws = { partial_equiv_from_equiv nat_list_eq_equiv };
+
+    fn eq(&self, other: &Root) -> bool
+        ensures value { result ≡ pointwise nat_eq self.now other.now }
+        ensures same { IsTrue result ↔ (self.now ≡ other.now) }
+    {
+        self.as_bytes() == other.as_bytes()
+    }
+}
+
+impl Eq for Root {
+    ghost laws = { nat_list_eq_equiv };
+}
+
+/// Tells nothing of the bytes, which are secret.
+impl fmt::Debug for Root {
+    ghost use Rattle.std.specs.Prelude.{Some, codes};
+
+    ghost debug_output = { λ root. Some (codes "Root(..)") };
+
+    fn fmt<W: fmt::Write>(&self, f: &mut fmt::Formatter<W>) -> fmt::Result {
+        f.write_str("Root(..)")
+    }
+}
