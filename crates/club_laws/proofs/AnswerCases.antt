@@ -1,17 +1,17 @@
 -- The ways in which a request is answered, each with what it rests on.
-use Rattle.std.proofs.Common.{◌≡◌, ℕ, ◌+◌, ◌-◌, Bool, true, false, cond, List, [], ◌∷◌, Option, Some, None, Ok, Err, refl, sym, ap, ◌∙◌, subst}
-use Rattle.std.specs.Prelude.{Result, ◌&&◌, ◌==◌, not, nat_lt, nat_le, option_map, option_and_then}
+use Rattle.std.proofs.Common.{◌≡◌, ℕ, ◌+◌, ◌-◌, Bool, true, false, cond, List, [], ◌∷◌, Option, Some, None, Ok, Err, refl, sym, ◌∙◌, subst}
+use Rattle.std.specs.Prelude.{Result, ◌&&◌, ◌==◌, not, nat_lt, nat_le, option_map}
 use Rattle.std.specs.Str.{bytes_eq}
 use Rattle.std.proofs.lemmas.Bool.{and_parts, and_from, cond_both}
 use Rattle.pass_caveats.specs.declared.fault.CaveatFault.{CaveatFault}
 use Rattle.pass_caveats.specs.declared.fault.CaveatFault.TheVariants.{NotUnderstood, Denied}
-use Rattle.pass_caveats.specs.declared.slot.Slot.{Slot}
-use Rattle.pass_caveats.specs.Slot.{start_of}
+use Rattle.club_values.specs.declared.slot.Slot.{Slot}
+use Rattle.club_values.specs.Slot.{start_of}
 use Rattle.pass_caveats.specs.CaveatOf.{first_fault_of}
-use Rattle.club_core.specs.declared.member.Member.{Member}
-use Rattle.club_core.specs.declared.facility.Facility.{Facility}
-use Rattle.club_core.specs.declared.key.Key.{Key}
-use Rattle.club_core.specs.declared.booking.Booking.{Booking}
+use Rattle.club_rows.specs.declared.member.Member.{Member}
+use Rattle.club_rows.specs.declared.facility.Facility.{Facility}
+use Rattle.club_rows.specs.declared.key.Key.{Key}
+use Rattle.club_rows.specs.declared.booking.Booking.{Booking}
 use Rattle.club_core.specs.declared.view.View.{View}
 use Rattle.club_core.specs.declared.verdict.Verdict.{Verdict}
 use Rattle.club_core.specs.declared.refusal.Refusal.{Refusal}
@@ -20,16 +20,18 @@ use Rattle.club_core.specs.declared.reply.Reply.{Reply}
 use Rattle.club_core.specs.declared.reply.Reply.TheVariants.{SlotShown, Booked, Cancelled, AccountShown, Refused}
 use Rattle.club_core.specs.declared.request.Request.{Request}
 use Rattle.club_core.specs.declared.request.Request.TheVariants as asked
-use Rattle.club_core.specs.Booking.{same_slot, refund_at}
-use Rattle.club_core.specs.Facility.{charge_of}
+use Rattle.club_rows.specs.Booking.{same_slot, refund_at}
+use Rattle.club_rows.specs.Facility.{charge_of}
 use Rattle.club_core.specs.Lines.{Line, first_of}
-use Rattle.club_core.specs.Request.{slot_of}
-use Rattle.club_core.specs.Pass.{FormFault, Pass, Words}
-use Rattle.club_core.specs.Club.{Club, member_named, facility_named, key_named, is_key_of, bookings_of, is_closed}
+use Rattle.club_core.specs.declared.form_fault.FormFault.{FormFault}
+use Rattle.club_core.specs.declared.form_fault.FormFault.TheVariants.{TooLong, Malformed, ThirdParty, TooMany}
+use Rattle.club_core.specs.Pass.{Pass, Words, is_signed_under}
+use Rattle.club_core.specs.Club.{Club, facility_named, is_key_of, bookings_of, is_closed}
 use Rattle.club_core.specs.Sums.{taken_in, balance_of, is_under, booking_under}
-use Rattle.club_core.specs.Basis.{Basis, key_of, basis_of, basis_under, state_of, view_of}
+use Rattle.club_core.specs.Basis.{Basis, basis_of, view_of}
 use Rattle.club_core.specs.Verdict as verdicts
-use Rattle.club_core.specs.Answer.{answer_of, answer_to, answer_under, acceptance_lines, ask_of, after_caveats, form_refusal}
+use Rattle.club_core.specs.Answer.{answer_to, acceptance_lines, ask_of, after_caveats, form_refusal, verdict_in}
+use Rattle.club_laws.proofs.BasisRows.{Knows, basis_with, rests_on_name, known_rows}
 use Rattle.club_laws.proofs.FoundRows.{found_passes, found_is_there, find-filter, any_passes, any-filter, bytes_same, same_bytes}
 
 abbrev pub NoneFits : {A : Type 0} → List (Line A) → Type 0
@@ -48,19 +50,14 @@ first_of_cases P (l ∷ lines) last each none = go l.fits refl (first_of_cases P
     go true e rest = each.0
     go false e rest = rest (λ h. none (e, h))
 
--- a reply that tells of no booking
+-- a reply that tells of no booking, nor that memory or storage was refused
 abbrev pub IsSilent : Reply → Type 0
 IsSilent (Booked key number charge left) = ⊥
 IsSilent (Cancelled key number refund) = ⊥
+IsSilent (Refused refusals.Unavailable) = ⊥
 IsSilent reply = Unit {0}
 
--- the key that the words name, and its member
-pub record Knows (club : Club) (words : Words) (key : Key) (member : Member) : Type 0 where
-  pub named : key_of words.pass ≡ Some key.name
-  pub known : key_named key.name club ≡ Some key
-  pub owned : member_named key.member club ≡ Some member
-
-pub record Rebooks (club : Club) (key : Key) (slot : Slot) (number guests : ℕ) (booking : Booking) : Type 0 where
+pub record RepeatsBooking (club : Club) (key : Key) (slot : Slot) (number guests : ℕ) (booking : Booking) : Type 0 where
   pub found : booking_under key.name number club.bookings ≡ Some booking
   pub same : (same_slot booking.slot slot && booking.guests == guests) ≡ true
 
@@ -84,7 +81,7 @@ pub record Books (club : Club) (key : Key) (member : Member) (slot : Slot) (numb
   pub placed : nat_lt facility.places (taken_in slot club.bookings + guests + 1) ≡ false
   pub paid : nat_lt (balance_of member (bookings_of member.name club)) (charge_of facility guests) ≡ false
 
-pub record Recancels (club : Club) (key : Key) (slot : Slot) (number : ℕ) (booking : Booking) : Type 0 where
+pub record CancelsRecorded (club : Club) (key : Key) (slot : Slot) (number : ℕ) (booking : Booking) : Type 0 where
   pub found : booking_under key.name number club.bookings ≡ Some booking
   pub same : same_slot booking.slot slot ≡ true
   pub before : booking.cancelled ≡ true
@@ -97,9 +94,9 @@ pub record Cancels (club : Club) (key : Key) (slot : Slot) (number : ℕ) (booki
 -- what is to be shown for each way
 pub record Ways (P : Verdict → Type 0) (club : Club) (words : Words) (moment : ℕ) : Type 0 where
   pub silent : (reply : Reply) → IsSilent reply → P (verdicts.told reply)
-  pub rebooks : (key : Key) (member : Member) (slot : Slot) (number guests : ℕ) (booking : Booking) → Knows club words key member → words.request ≡ asked.Book slot number guests → Rebooks club key slot number guests booking → P (verdicts.booked_before booking)
+  pub repeats_booking : (key : Key) (member : Member) (slot : Slot) (number guests : ℕ) (booking : Booking) → Knows club words key member → words.request ≡ asked.Book slot number guests → RepeatsBooking club key slot number guests booking → P (verdicts.booked_before booking)
   pub books : (key : Key) (member : Member) (slot : Slot) (number guests : ℕ) (facility : Facility) → Knows club words key member → words.request ≡ asked.Book slot number guests → Books club key member slot number guests facility → P (verdicts.booked (written club key slot number guests facility))
-  pub recancels : (key : Key) (member : Member) (slot : Slot) (number : ℕ) (booking : Booking) → Knows club words key member → words.request ≡ asked.Cancel slot number → Recancels club key slot number booking → P (verdicts.cancelled_before booking)
+  pub cancels_recorded : (key : Key) (member : Member) (slot : Slot) (number : ℕ) (booking : Booking) → Knows club words key member → words.request ≡ asked.Cancel slot number → CancelsRecorded club key slot number booking → P (verdicts.cancelled_before booking)
   pub cancels : (key : Key) (member : Member) (slot : Slot) (number : ℕ) (booking : Booking) → Knows club words key member → words.request ≡ asked.Cancel slot number → Cancels club key slot number booking → P (verdicts.cancelled booking (refund_at booking moment))
 
 -- the key is one of its member's
@@ -122,62 +119,68 @@ own_booking club words key member number k =
 -- the view of a request of a known key
 abbrev view_at : Club → Request → ℕ → Key → Member → View
 view_at club request moment key member =
-    view_of (record { key = key; member = member; bookings = bookings_of member.name club; state = state_of club (slot_of request) }) request moment
+    view_of (basis_with club request key member) request moment
 
 module _ (P : Verdict → Type 0) (club : Club) (words : Words) (moment : ℕ) (w : Ways P club words moment) where
-  refused_cases : (refusal : Refusal) → P (verdicts.refused refusal)
-  refused_cases refusal = w.silent (Refused refusal) tt
+  refused_cases : (refusal : Refusal) → IsSilent (Refused refusal) → P (verdicts.refused refusal)
+  refused_cases refusal h = w.silent (Refused refusal) h
+
+  form_cases : (fault : FormFault) → P (verdicts.refused (form_refusal fault))
+  form_cases TooLong = refused_cases refusals.PassTooLong tt
+  form_cases Malformed = refused_cases refusals.PassMalformed tt
+  form_cases ThirdParty = refused_cases refusals.ThirdPartyCaveat tt
+  form_cases TooMany = refused_cases refusals.TooManyCaveats tt
 
   new_cases : (key : Key) (member : Member) → Knows club words key member → (slot : Slot) (number guests : ℕ) → words.request ≡ asked.Book slot number guests → booking_under key.name number club.bookings ≡ None → (o : Option Facility) → facility_named slot.facility club ≡ o → P (verdicts.new_verdict (view_at club (asked.Book slot number guests) moment key member) slot number guests moment o)
-  new_cases key member k slot number guests r new None at = refused_cases refusals.NoSuchFacility
+  new_cases key member k slot number guests r new None at = refused_cases refusals.NoSuchFacility tt
   new_cases key member k slot number guests r new (Some facility) at =
       let view = view_at club (asked.Book slot number guests) moment key member in
       first_of_cases P (verdicts.book_lines view slot guests moment facility) (verdicts.booked (written club key slot number guests facility))
-      (refused_cases refusals.NotBookable, (refused_cases refusals.SlotClosed, (refused_cases refusals.NoPlaces, (refused_cases refusals.QuotaReached, (refused_cases refusals.BalanceTooLow, tt)))))
+      (refused_cases refusals.NotBookable tt, (refused_cases refusals.SlotClosed tt, (refused_cases refusals.NoPlaces tt, (refused_cases refusals.QuotaReached tt, (refused_cases refusals.BalanceTooLow tt, tt)))))
       (λ none. w.books key member slot number guests facility k r (record { new = new; located = at; opened = none.1.0; placed = none.1.1.0; paid = none.1.1.1.1.0 }))
 
-  rebook_cases : (key : Key) (member : Member) → Knows club words key member → (slot : Slot) (number guests : ℕ) → words.request ≡ asked.Book slot number guests → (booking : Booking) → booking_under key.name number club.bookings ≡ Some booking → P (verdicts.rebook_verdict booking slot guests)
-  rebook_cases key member k slot number guests r booking found =
+  repeat_booking_cases : (key : Key) (member : Member) → Knows club words key member → (slot : Slot) (number guests : ℕ) → words.request ≡ asked.Book slot number guests → (booking : Booking) → booking_under key.name number club.bookings ≡ Some booking → P (verdicts.repeat_booking_verdict booking slot guests)
+  repeat_booking_cases key member k slot number guests r booking found =
       cond_both (same_slot booking.slot slot && booking.guests == guests) (verdicts.booked_before booking) (verdicts.refused refusals.NumberUsed) P
-      (λ same. w.rebooks key member slot number guests booking k r (record { found = found; same = same }))
-      (λ other. refused_cases refusals.NumberUsed)
+      (λ same. w.repeats_booking key member slot number guests booking k r (record { found = found; same = same }))
+      (λ other. refused_cases refusals.NumberUsed tt)
 
-  recancel_cases : (key : Key) (member : Member) → Knows club words key member → (slot : Slot) (number : ℕ) → words.request ≡ asked.Cancel slot number → (booking : Booking) → booking_under key.name number club.bookings ≡ Some booking → P (verdicts.recancel_verdict booking slot moment)
-  recancel_cases key member k slot number r booking found = go (same_slot booking.slot slot) refl booking.cancelled refl
+  cancel_recorded_cases : (key : Key) (member : Member) → Knows club words key member → (slot : Slot) (number : ℕ) → words.request ≡ asked.Cancel slot number → (booking : Booking) → booking_under key.name number club.bookings ≡ Some booking → P (verdicts.cancel_recorded_verdict booking slot moment)
+  cancel_recorded_cases key member k slot number r booking found = go (same_slot booking.slot slot) refl booking.cancelled refl
     where
       go : (b : Bool) → same_slot booking.slot slot ≡ b → (c : Bool) → booking.cancelled ≡ c → P (cond (not b) (verdicts.refused refusals.NumberUsed) (cond c (verdicts.cancelled_before booking) (cond (nat_le (start_of booking.slot) moment) (verdicts.refused refusals.SlotHasBegun) (verdicts.cancelled booking (refund_at booking moment)))))
-      go false e c h = refused_cases refusals.NumberUsed
-      go true e true h = w.recancels key member slot number booking k r (record { found = found; same = e; before = h })
+      go false e c h = refused_cases refusals.NumberUsed tt
+      go true e true h = w.cancels_recorded key member slot number booking k r (record { found = found; same = e; before = h })
       go true e false h =
           cond_both (nat_le (start_of booking.slot) moment) (verdicts.refused refusals.SlotHasBegun) (verdicts.cancelled booking (refund_at booking moment)) P
-          (λ late. refused_cases refusals.SlotHasBegun)
+          (λ late. refused_cases refusals.SlotHasBegun tt)
           (λ early. w.cancels key member slot number booking k r (record { found = found; same = e; stood = h }))
 
   -- what is on record under the number
-  book_cases : (key : Key) (member : Member) → Knows club words key member → (slot : Slot) (number guests : ℕ) → words.request ≡ asked.Book slot number guests → (o : Option Booking) → booking_under key.name number club.bookings ≡ o → P (verdicts.recorded_or o (λ booking. verdicts.rebook_verdict booking slot guests) (verdicts.new_verdict (view_at club (asked.Book slot number guests) moment key member) slot number guests moment (facility_named slot.facility club)))
+  book_cases : (key : Key) (member : Member) → Knows club words key member → (slot : Slot) (number guests : ℕ) → words.request ≡ asked.Book slot number guests → (o : Option Booking) → booking_under key.name number club.bookings ≡ o → P (verdicts.recorded_or o (λ booking. verdicts.repeat_booking_verdict booking slot guests) (verdicts.new_verdict (view_at club (asked.Book slot number guests) moment key member) slot number guests moment (facility_named slot.facility club)))
   book_cases key member k slot number guests r None new = new_cases key member k slot number guests r new (facility_named slot.facility club) refl
-  book_cases key member k slot number guests r (Some booking) found = rebook_cases key member k slot number guests r booking found
+  book_cases key member k slot number guests r (Some booking) found = repeat_booking_cases key member k slot number guests r booking found
 
-  cancel_cases : (key : Key) (member : Member) → Knows club words key member → (slot : Slot) (number : ℕ) → words.request ≡ asked.Cancel slot number → (o : Option Booking) → booking_under key.name number club.bookings ≡ o → P (verdicts.recorded_or o (λ booking. verdicts.recancel_verdict booking slot moment) (verdicts.unknown_verdict (facility_named slot.facility club)))
+  cancel_cases : (key : Key) (member : Member) → Knows club words key member → (slot : Slot) (number : ℕ) → words.request ≡ asked.Cancel slot number → (o : Option Booking) → booking_under key.name number club.bookings ≡ o → P (verdicts.recorded_or o (λ booking. verdicts.cancel_recorded_verdict booking slot moment) (verdicts.unknown_verdict (facility_named slot.facility club)))
   cancel_cases key member k slot number r None new = go (facility_named slot.facility club)
     where
       go : (o : Option Facility) → P (verdicts.unknown_verdict o)
-      go None = refused_cases refusals.NoSuchFacility
-      go (Some facility) = refused_cases refusals.NoSuchBooking
-  cancel_cases key member k slot number r (Some booking) found = recancel_cases key member k slot number r booking found
+      go None = refused_cases refusals.NoSuchFacility tt
+      go (Some facility) = refused_cases refusals.NoSuchBooking tt
+  cancel_cases key member k slot number r (Some booking) found = cancel_recorded_cases key member k slot number r booking found
 
   verdict_cases : (key : Key) (member : Member) → Knows club words key member → (request : Request) → words.request ≡ request → P (verdicts.verdict_of (view_at club request moment key member) request moment)
   verdict_cases key member k (asked.View slot) r = go (facility_named slot.facility club)
     where
       go : (o : Option Facility) → P (verdicts.shown_at (view_at club (asked.View slot) moment key member) slot o)
-      go None = refused_cases refusals.NoSuchFacility
+      go None = refused_cases refusals.NoSuchFacility tt
       go (Some facility) = w.silent (SlotShown slot facility.kind facility.price facility.places (taken_in slot club.bookings) (is_closed slot club)) tt
   verdict_cases key member k (asked.Book slot number guests) r =
-      let Q : Option Booking → Type 0 = λ o. P (verdicts.recorded_or o (λ booking. verdicts.rebook_verdict booking slot guests) (verdicts.new_verdict (view_at club (asked.Book slot number guests) moment key member) slot number guests moment (facility_named slot.facility club))) in
+      let Q : Option Booking → Type 0 = λ o. P (verdicts.recorded_or o (λ booking. verdicts.repeat_booking_verdict booking slot guests) (verdicts.new_verdict (view_at club (asked.Book slot number guests) moment key member) slot number guests moment (facility_named slot.facility club))) in
       subst Q (sym (own_booking club words key member number k))
       (book_cases key member k slot number guests r (booking_under key.name number club.bookings) refl)
   verdict_cases key member k (asked.Cancel slot number) r =
-      let Q : Option Booking → Type 0 = λ o. P (verdicts.recorded_or o (λ booking. verdicts.recancel_verdict booking slot moment) (verdicts.unknown_verdict (facility_named slot.facility club))) in
+      let Q : Option Booking → Type 0 = λ o. P (verdicts.recorded_or o (λ booking. verdicts.cancel_recorded_verdict booking slot moment) (verdicts.unknown_verdict (facility_named slot.facility club))) in
       subst Q (sym (own_booking club words key member number k))
       (cancel_cases key member k slot number r (booking_under key.name number club.bookings) refl)
   verdict_cases key member k asked.Account r =
@@ -186,36 +189,24 @@ module _ (P : Verdict → Type 0) (club : Club) (words : Words) (moment : ℕ) (
 
   caveat_cases : (fault : Option CaveatFault) (verdict : Verdict) → P verdict → P (after_caveats fault verdict)
   caveat_cases None verdict h = h
-  caveat_cases (Some (NotUnderstood n)) verdict h = refused_cases (refusals.CaveatNotUnderstood n)
-  caveat_cases (Some (Denied n)) verdict h = refused_cases (refusals.CaveatDenies n)
+  caveat_cases (Some (NotUnderstood n)) verdict h = refused_cases (refusals.CaveatNotUnderstood n) tt
+  caveat_cases (Some (Denied n)) verdict h = refused_cases (refusals.CaveatDenies n) tt
 
-  known_cases : (pass : Pass) (key : Key) (member : Member) → Knows club words key member → P (answer_under pass words.request moment (record { key = key; member = member; bookings = bookings_of member.name club; state = state_of club (slot_of words.request) }))
+  known_cases : (pass : Pass) (key : Key) (member : Member) → Knows club words key member → P (answer_to (Ok pass) words.request moment (Some (view_at club words.request moment key member)))
   known_cases pass key member k =
-      let basis : Basis = record { key = key; member = member; bookings = bookings_of member.name club; state = state_of club (slot_of words.request) } in
       let view = view_at club words.request moment key member in
       let fault = first_fault_of pass.caveats (ask_of view words.request moment) in
       let verdict = verdicts.verdict_of view words.request moment in
-      first_of_cases P (acceptance_lines pass basis) (after_caveats fault verdict)
-      (refused_cases refusals.NotVerified, (refused_cases refusals.KeyRevoked, tt))
+      first_of_cases P (acceptance_lines key (is_signed_under pass key moment)) (after_caveats fault verdict)
+      (refused_cases refusals.NotVerified tt, (refused_cases refusals.KeyRevoked tt, tt))
       (λ none. caveat_cases fault verdict (verdict_cases key member k words.request refl))
 
-  member_cases : (pass : Pass) (key : Key) → key_of words.pass ≡ Some key.name → key_named key.name club ≡ Some key → (o : Option Member) → member_named key.member club ≡ o → P (answer_to (Ok pass) words.request moment (option_map (λ (member : Member). record { key = key; member = member; bookings = bookings_of member.name club; state = state_of club (slot_of words.request) }) o))
-  member_cases pass key n at None e = refused_cases refusals.NotVerified
-  member_cases pass key n at (Some member) e = known_cases pass key member (record { named = n; known = at; owned = e })
+  text_cases : (pass : Result Pass FormFault) (basis : Option Basis) → basis_of club words ≡ basis → P (answer_to pass words.request moment (option_map (λ (b : Basis). view_of b words.request moment) basis))
+  text_cases (Err fault) basis e = form_cases fault
+  text_cases (Ok pass) None e = refused_cases refusals.NotVerified tt
+  text_cases (Ok pass) (Some basis) e =
+      subst (λ (b : Basis). P (answer_to (Ok pass) words.request moment (Some (view_of b words.request moment)))) (sym (rests_on_name club words basis e).whole)
+      (known_cases pass basis.key basis.member (known_rows club words basis e))
 
-  key_cases : (pass : Pass) (name : List ℕ) → key_of words.pass ≡ Some name → (o : Option Key) → key_named name club ≡ o → P (answer_to (Ok pass) words.request moment (option_and_then (basis_under club words.request) o))
-  key_cases pass name n None e = refused_cases refusals.NotVerified
-  key_cases pass name n (Some key) e =
-      let same : key.name ≡ name = bytes_same key.name name (found_passes (λ (other : Key). bytes_eq other.name name) club.keys key e) in
-      member_cases pass key (n ∙ ap (λ (x : List ℕ). Some x) (sym same)) (ap (λ (x : List ℕ). key_named x club) same ∙ e) (member_named key.member club) refl
-
-  name_cases : (pass : Pass) (o : Option (List ℕ)) → key_of words.pass ≡ o → P (answer_to (Ok pass) words.request moment (option_and_then (basis_under club words.request) (option_and_then (λ (name : List ℕ). key_named name club) o)))
-  name_cases pass None e = refused_cases refusals.NotVerified
-  name_cases pass (Some name) e = key_cases pass name e (key_named name club) refl
-
-  pass_cases : (pass : Result Pass FormFault) → words.pass ≡ pass → P (answer_to pass words.request moment (option_and_then (basis_under club words.request) (option_and_then (λ (name : List ℕ). key_named name club) (key_of pass))))
-  pass_cases (Err fault) e = refused_cases (form_refusal fault)
-  pass_cases (Ok pass) e = name_cases pass pass.key (ap key_of e)
-
-  pub answer_cases : P (answer_of words moment (basis_of club words))
-  answer_cases = pass_cases words.pass refl
+  pub answer_cases : P (verdict_in club words moment)
+  answer_cases = text_cases words.pass (basis_of club words) refl

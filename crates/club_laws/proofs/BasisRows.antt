@@ -1,18 +1,24 @@
 -- What a basis is made of.
-use Rattle.std.proofs.Common.{◌≡◌, ℕ, List, Option, Some, None, Result, Ok, option_map, option_and_then, bytes_eq, refl, sym, ap, ◌∙◌, subst}
+use Rattle.std.proofs.Common.{◌≡◌, ℕ, List, Option, Some, None, option_map, option_and_then, bytes_eq, refl, sym, ap, ◌∙◌, subst}
 use Rattle.std.proofs.lemmas.Option.{same_Some}
-use Rattle.club_core.specs.declared.key.Key.{Key}
-use Rattle.club_core.specs.declared.member.Member.{Member}
+use Rattle.club_rows.specs.declared.key.Key.{Key}
+use Rattle.club_rows.specs.declared.member.Member.{Member}
 use Rattle.club_core.specs.declared.request.Request.{Request}
 use Rattle.club_core.specs.Request.{slot_of}
-use Rattle.club_core.specs.Pass.{FormFault, Pass, Words}
+use Rattle.club_core.specs.Pass.{Words}
 use Rattle.club_core.specs.Club.{Club, key_named, member_named, bookings_of}
 use Rattle.club_core.specs.Basis.{Basis, basis_of, basis_under, state_of, key_of}
-use Rattle.club_laws.proofs.Finding.{find_passes, same_bytes}
+use Rattle.club_laws.proofs.FoundRows.{found_passes, bytes_same}
 
 abbrev pub basis_with : Club → Request → Key → Member → Basis
 basis_with club request key member =
     record { key = key; member = member; bookings = bookings_of member.name club; state = state_of club (slot_of request) }
+
+-- the key that the words name, and its member
+pub record Knows (club : Club) (words : Words) (key : Key) (member : Member) : Type 0 where
+  pub named : key_of words.pass ≡ Some key.name
+  pub known : key_named key.name club ≡ Some key
+  pub owned : member_named key.member club ≡ Some member
 
 -- the rows that a basis rests on
 pub record RestsOn (club : Club) (request : Request) (name : Option (List ℕ)) (basis : Basis) : Type 0 where
@@ -33,7 +39,7 @@ with_key : (club : Club) (request : Request) (name : List ℕ) (key : Option Key
 with_key club request name None basis f e = absurd (cc)
 with_key club request name (Some key) basis f e =
     let parts = with_member club request key (member_named key.member club) basis e in
-    let same : key.name ≡ name = same_bytes key.name name (find_passes (λ (k : Key). bytes_eq k.name name) club.keys key f) in
+    let same : key.name ≡ name = bytes_same key.name name (found_passes (λ (k : Key). bytes_eq k.name name) club.keys key f) in
     let at : name ≡ basis.key.name = sym same ∙ ap (λ (k : Key). k.name) parts.0 in
     record {
       named = ap Some at;
@@ -49,6 +55,7 @@ with_name club request (Some name) basis e = with_key club request name (key_nam
 pub rests_on_name : (club : Club) (words : Words) (basis : Basis) → basis_of club words ≡ Some basis → RestsOn club words.request (key_of words.pass) basis
 rests_on_name club words basis e = with_name club words.request (key_of words.pass) basis e
 
-pub rests_on : (club : Club) (words : Words) (pass : Pass) (basis : Basis) → words.pass ≡ Ok pass → basis_of club words ≡ Some basis → RestsOn club words.request pass.key basis
-rests_on club words pass basis f e =
-    subst (λ (p : Result Pass FormFault). RestsOn club words.request (key_of p) basis) f (rests_on_name club words basis e)
+pub known_rows : (club : Club) (words : Words) (basis : Basis) → basis_of club words ≡ Some basis → Knows club words basis.key basis.member
+known_rows club words basis e =
+    let rests = rests_on_name club words basis e in
+    record { named = rests.named; known = rests.row; owned = rests.member }

@@ -1,32 +1,38 @@
--- The change that an answer makes is under the key that the pass names, and no answer is want of memory or storage.
-use Rattle.std.proofs.Common.{◌≡◌, ℕ, List, Option, Some, None, Result, sym, ap}
+-- The change that an answer makes is under the key that the pass names.
+use Rattle.std.proofs.Common.{◌≡◌, ℕ, List, Option, Some, None, sym, ◌∙◌, subst}
+use Rattle.std.proofs.lemmas.Option.{same_Some}
 use Rattle.club_core.specs.declared.change.Change.{Change}
 use Rattle.club_core.specs.declared.change.Change.TheVariants.{InsertBooking, MarkCancelled}
 use Rattle.club_core.specs.declared.verdict.Verdict.{Verdict}
-use Rattle.club_core.specs.declared.request.Request.{Request}
-use Rattle.club_core.specs.Pass.{FormFault, Pass}
-use Rattle.club_core.specs.Basis.{Basis}
-use Rattle.club_core.specs.Answer.{answer_to}
-use Rattle.club_laws.proofs.AnswerShapes.{HoldsOfShapes, answer_holds}
+use Rattle.club_core.specs.Answer.{answer_of, verdict_in}
+use Rattle.club_core.specs.Basis.{Basis, basis_of, key_of}
+use Rattle.club_core.specs.Club.{Club}
+use Rattle.club_core.specs.Pass.{Words}
+use Rattle.club_laws.proofs.AnswerCases.{answer_cases}
+use Rattle.club_laws.proofs.BasisRows.{known_rows}
+use Rattle.club_laws.proofs.FoundRows.{found_passes}
+use Rattle.club_laws.proofs.NamedRows.{is_numbered, numbered}
 
--- a booking or a cancelling under this key, or none
+-- a booking or a cancellation under this key, or none
 abbrev pub IsUnder : List ℕ → Option Change → Type 0
 IsUnder key None = Unit {0}
 IsUnder key (Some (InsertBooking booking)) = booking.key ≡ key
 IsUnder key (Some (MarkCancelled name number refund)) = name ≡ key
 IsUnder key (Some change) = ⊥
 
-pub record ChangesUnder (key : List ℕ) (verdict : Verdict) : Type 0 where
-  pub under : IsUnder key verdict.change
+changes_under : (club : Club) (words : Words) (moment : ℕ) (key : List ℕ) → key_of words.pass ≡ Some key → IsUnder key (verdict_in club words moment).change
+changes_under club words moment key n =
+    answer_cases (λ (v : Verdict). IsUnder key v.change) club words moment (record {
+      silent = λ reply h. tt;
+      repeats_booking = λ row member slot number guests booking k e b. tt;
+      books = λ row member slot number guests facility k e b. same_Some row.name key (sym k.named ∙ n);
+      cancels_recorded = λ row member slot number booking k e b. tt;
+      cancels = λ row member slot number booking k e c.
+          (numbered row.name number booking (found_passes (is_numbered row.name number) club.bookings booking c.found)).0
+          ∙ same_Some row.name key (sym k.named ∙ n);
+    })
 
-shapes_under : (key : List ℕ) → HoldsOfShapes (ChangesUnder key) key
-shapes_under key = record {
-  of_told = λ reply e. record { under = tt };
-  of_booked = λ booking e. record { under = e };
-  of_cancelled = λ booking refund e. record { under = e };
-}
-
-pub answer_changes_under : (pass : Result Pass FormFault) (request : Request) (moment : ℕ) (basis : Basis) → ChangesUnder basis.key.name (answer_to pass request moment (Some basis))
-answer_changes_under pass request moment basis =
-    answer_holds (ChangesUnder basis.key.name) basis.key.name (shapes_under basis.key.name) pass request moment (Some basis)
-    (λ b e. let s : basis ≡ b = cc in ap (λ (x : Basis). x.key.name) (sym s))
+pub answer_changes_under : (club : Club) (words : Words) (moment : ℕ) (basis : Basis) → basis_of club words ≡ Some basis → IsUnder basis.key.name (answer_of words moment (Some basis)).change
+answer_changes_under club words moment basis e =
+    subst (λ (b : Option Basis). IsUnder basis.key.name (answer_of words moment b).change) e
+    (changes_under club words moment basis.key.name (known_rows club words basis e).named)

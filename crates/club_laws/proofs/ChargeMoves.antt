@@ -3,21 +3,23 @@ use Rattle.std.proofs.Common.{◌≡◌, ℕ, Bool, true, false, List, [], ◌�
 use Rattle.std.specs.Prelude.{◌||◌, filter, find, sum_by}
 use Rattle.std.specs.List.{list_any}
 use Rattle.std.proofs.lemmas.List.Folds.{list_any-append, list_any_none}
-use Rattle.club_core.specs.declared.booking.Booking.{Booking}
+use Rattle.club_rows.specs.declared.booking.Booking.{Booking}
 use Rattle.club_core.specs.declared.verdict.Verdict.{Verdict}
 use Rattle.club_core.specs.declared.reply.Reply.{Reply}
 use Rattle.club_core.specs.declared.reply.Reply.TheVariants.{SlotShown, Booked, Cancelled, AccountShown, Refused}
 use Rattle.club_core.specs.Pass.{Words}
-use Rattle.club_core.specs.Booking.{refund_at}
+use Rattle.club_rows.specs.Booking.{refund_at}
 use Rattle.club_core.specs.Club.{Club}
-use Rattle.club_core.specs.Basis.{basis_of}
-use Rattle.club_core.specs.Answer.{answer_of}
+use Rattle.club_core.specs.Answer.{verdict_in}
 use Rattle.club_core.specs.After.{cancelled}
-use Rattle.club_core.specs.Run.{EventReply, Replied, after_change}
+use Rattle.club_core.specs.declared.event.EventReply.{EventReply}
+use Rattle.club_core.specs.declared.event.EventReply.TheVariants.{Replied}
+use Rattle.club_core.specs.Run.{after_change}
 use Rattle.club_laws.specs.Points.{charge_told}
 use Rattle.club_laws.proofs.FoundRows.{found_is_there, none_found, any_passes, any-map}
 use Rattle.club_laws.proofs.NamedRows.{is_numbered, self_numbered, numbered_back}
-use Rattle.club_laws.proofs.RowSums.{filter-map, sum-map}
+use Rattle.club_laws.proofs.Filtering.{filter-map}
+use Rattle.club_laws.proofs.RowSums.{sum-map}
 use Rattle.club_laws.proofs.SoundBookings.{sum_one_more}
 use Rattle.club_laws.proofs.AnswerCases.{IsSilent, written, answer_cases}
 use Rattle.club_laws.proofs.FirstEntries.{Seen, Moves, Stays, Repeats, Adds}
@@ -70,12 +72,12 @@ charge_cancelled p bookings key number refund reply e =
     ∙ sum-map (cancelled key number refund) (λ (b : Booking). b.charge) (filter (λ (b : Booking). p b.key) bookings))
     (λ k n. any-map (cancelled key number refund) (is_numbered k n) bookings)
 
-pub charge_moves : (p : List ℕ → Bool) (club : Club) (words : Words) (moment : ℕ) → MovesCharge p club.bookings (after_change (answer_of words moment (basis_of club words)).change club).bookings (Replied (answer_of words moment (basis_of club words)).reply)
+pub charge_moves : (p : List ℕ → Bool) (club : Club) (words : Words) (moment : ℕ) → MovesCharge p club.bookings (after_change (verdict_in club words moment).change club).bookings (Replied (verdict_in club words moment).reply)
 charge_moves p club words moment =
     answer_cases (λ (v : Verdict). MovesCharge p club.bookings (after_change v.change club).bookings (Replied v.reply)) club words moment (record {
       silent = λ reply h. charges_stay p club.bookings (Replied reply) (charge_untold reply h);
-      rebooks = λ key member slot number guests booking k e b. charge_again p club.bookings key.name number booking b.found;
+      repeats_booking = λ key member slot number guests booking k e b. charge_again p club.bookings key.name number booking b.found;
       books = λ key member slot number guests facility k e b. charge_new p club.bookings (written club key slot number guests facility) b.new;
-      recancels = λ key member slot number booking k e b. charges_stay p club.bookings (Replied (Cancelled booking.key booking.number booking.refund)) refl;
+      cancels_recorded = λ key member slot number booking k e b. charges_stay p club.bookings (Replied (Cancelled booking.key booking.number booking.refund)) refl;
       cancels = λ key member slot number booking k e c. charge_cancelled p club.bookings booking.key booking.number (refund_at booking moment) (Replied (Cancelled booking.key booking.number (refund_at booking moment))) refl;
     })

@@ -1,55 +1,89 @@
--- Failed events are left out of a run, one by one.
-use Rattle.std.proofs.Common.{◌≡◌, inl, inr, Bool, true, false, cond, List, [], ◌∷◌, ◌++◌, map, filter, All, refl, ap, ◌∙◌, subst}
-use Rattle.std.proofs.lemmas.List.Elements.{All-head, All-tail}
+-- Failed events are left out of a run, one by one; runs are cut and joined.
+use Rattle.std.proofs.Common.{◌≡◌, inl, inr, Bool, true, false, cond, List, [], ◌∷◌, ◌++◌, length, map, All, Result, Ok, Err, refl, ap, ◌∙◌, subst, arith}
+use Rattle.std.proofs.lemmas.List.Elements.{All-nil, All-cons, All-head, All-tail}
+use Rattle.club_core.specs.declared.change.Change.{Change}
+use Rattle.club_core.specs.declared.command.OfficeFault.{OfficeFault}
 use Rattle.club_core.specs.Club.{Club}
-use Rattle.club_core.specs.Run.{Event, EventReply, step, replies_of, club_after, events_where}
-use Rattle.club_laws.specs.Failed.{IsStep, IsRun, IsRunOfAnswered}
+use Rattle.club_core.specs.Office.{office_verdict}
+use Rattle.club_core.specs.declared.event.OfficeAnswer.{OfficeAnswer}
+use Rattle.club_core.specs.declared.event.OfficeAnswer.TheVariants.{NotDone}
+use Rattle.club_core.specs.Run.{Event, Asked, Ordered, done_answer, ordered, step, replies_of, club_after}
+use Rattle.club_core.specs.Events.{IsEvent}
+use Rattle.club_laws.specs.Failed.{Told, Telling, told_of, has_failed, IsStep, IsRun, IsRunOfAnswered, AreRuns, answered_events, answers}
+use Rattle.club_laws.proofs.MachineAnswers.{answers_requests}
 
-module _ {R : Type 0} (shown : EventReply → R) (counts : R → Bool) where
-  -- what is left of a run, with one event and its reply before it
-  abbrev IsLeft : Club → Club → List Event → List R → Type 0
-  IsLeft club last events told = (told ≡ map shown (replies_of club events)) × (last ≡ club_after club events)
+module _ {O : Type 0} (telling : Telling O) where
+  -- what is left of a run
+  abbrev IsLeft : Club → Club → List Event → List (Told O) → Type 0
+  IsLeft club last events told = (told ≡ map (told_of telling) (replies_of club events)) × (last ≡ club_after club events)
 
-  one_answered : (club next last : Club) (event : Event) (reply : R) (events : List Event) (told : List R) (b : Bool) → b ≡ true → reply ≡ shown (step club event).reply → next ≡ (step club event).club → IsLeft next last events told → IsLeft club last (cond b (event ∷ events) events) (cond b (reply ∷ told) told)
-  one_answered club next last event reply events told true e f g h =
-      let there = subst (λ (c : Club). IsLeft c last events told) g h in
-      (ap (λ (r : R). r ∷ told) f ∙ ap (λ (rs : List R). shown (step club event).reply ∷ rs) there.0, there.1)
-  one_answered club next last event reply events told false e f g h = absurd (cc)
+  -- with one event and what it was told before it
+  one_answered : (club next last : Club) (event : Event) (told : Told O) (events : List Event) (replies : List (Told O)) (failed : Bool) → failed ≡ false → told ≡ told_of telling (step club event).reply → next ≡ (step club event).club → IsLeft next last events replies → IsLeft club last (cond failed events (event ∷ events)) (cond failed replies (told ∷ replies))
+  one_answered club next last event told events replies true e f g h = absurd (cc)
+  one_answered club next last event told events replies false e f g h =
+      let there = subst (λ (c : Club). IsLeft c last events replies) g h in
+      (ap (λ (r : Told O). r ∷ replies) f ∙ ap (λ (rs : List (Told O)). told_of telling (step club event).reply ∷ rs) there.0, there.1)
 
-  one_failed : (club next last : Club) (event : Event) (reply : R) (events : List Event) (told : List R) (b : Bool) → b ≡ false → next ≡ club → IsLeft next last events told → IsLeft club last (cond b (event ∷ events) events) (cond b (reply ∷ told) told)
-  one_failed club next last event reply events told true e g h = absurd (cc)
-  one_failed club next last event reply events told false e g h = subst (λ (c : Club). IsLeft c last events told) g h
+  one_failed : (club next last : Club) (event : Event) (told : Told O) (events : List Event) (replies : List (Told O)) (failed : Bool) → failed ≡ true → next ≡ club → IsLeft next last events replies → IsLeft club last (cond failed events (event ∷ events)) (cond failed replies (told ∷ replies))
+  one_failed club next last event told events replies true e g h = subst (λ (c : Club). IsLeft c last events replies) g h
+  one_failed club next last event told events replies false e g h = absurd (cc)
 
-  one_left : (club next last : Club) (event : Event) (reply : R) (events : List Event) (told : List R) → IsStep shown counts club event reply next → IsLeft next last events told → IsLeft club last (cond (counts reply) (event ∷ events) events) (cond (counts reply) (reply ∷ told) told)
-  one_left club next last event reply events told (inl answered) h =
-      one_answered club next last event reply events told (counts reply) answered.counted answered.told answered.stepped h
-  one_left club next last event reply events told (inr failed) h =
-      one_failed club next last event reply events told (counts reply) failed.failed failed.kept h
+  one_left : (club next last : Club) (event : Event) (told : Told O) (events : List Event) (replies : List (Told O)) → IsStep telling club event told next → IsLeft next last events replies → IsLeft club last (cond (has_failed telling event told) events (event ∷ events)) (cond (has_failed telling event told) replies (told ∷ replies))
+  one_left club next last event told events replies (inl a) h =
+      one_answered club next last event told events replies (has_failed telling event told) a.answered a.reply a.stepped h
+  one_left club next last event told events replies (inr f) h =
+      one_failed club next last event told events replies (has_failed telling event told) f.failed f.kept h
 
-  all_left : (club last : Club) (events : List Event) (replies : List R) → IsRun shown counts club events replies last → IsLeft club last (events_where counts events replies) (filter counts replies)
+  all_left : (club last : Club) (events : List Event) (replies : List (Told O)) → IsRun telling club events replies last → IsLeft club last (answered_events telling events replies) (answers telling events replies)
   all_left club last [] [] h = (refl, h)
-  all_left club last [] (reply ∷ replies) h = absurd h
+  all_left club last [] (told ∷ replies) h = absurd h
   all_left club last (event ∷ events) [] h = absurd h
-  all_left club last (event ∷ events) (reply ∷ replies) h =
-      one_left club h.0 last event reply (events_where counts events replies) (filter counts replies) h.1 (all_left h.0 last events replies h.2)
+  all_left club last (event ∷ events) (told ∷ replies) h =
+      one_left club h.0 last event told (answered_events telling events replies) (answers telling events replies) h.1 (all_left h.0 last events replies h.2)
 
   -- a run is the run of the answered events alone
-  pub run_of_answered : (club last : Club) (events : List Event) (replies : List R) → IsRun shown counts club events replies last → IsRunOfAnswered shown counts club events replies last
+  pub run_of_answered : (club last : Club) (events : List Event) (replies : List (Told O)) → IsRun telling club events replies last → IsRunOfAnswered telling club events replies last
   run_of_answered club last events replies h =
       let left = all_left club last events replies h in
       record { told = left.0; left = left.1 }
 
-  -- a run goes on by one event at its end
-  pub one_more_event : (club now next : Club) (events : List Event) (replies : List R) (event : Event) (reply : R) → IsRun shown counts club events replies now → IsStep shown counts now event reply next → IsRun shown counts club (events ++ event ∷ []) (replies ++ reply ∷ []) next
-  one_more_event club now next [] [] event reply h s = (next, subst (λ (c : Club). IsStep shown counts c event reply next) h s, refl)
-  one_more_event club now next [] (r ∷ rs) event reply h s = absurd h
-  one_more_event club now next (e ∷ es) [] event reply h s = absurd h
-  one_more_event club now next (e ∷ es) (r ∷ rs) event reply h s = (h.0, h.1, one_more_event h.0 now next es rs event reply h.2 s)
+  one_fewer : (event : Event) (events : List Event) (failed : Bool) → IsEvent event → All IsEvent events → All IsEvent (cond failed events (event ∷ events))
+  one_fewer event events true h k = k
+  one_fewer event events false h k = All-cons IsEvent event events h k
 
-  -- without failures
-  pub run_without_failures : (club : Club) (events : List Event) → All (λ (reply : EventReply). counts (shown reply) ≡ true) (replies_of club events) → IsRun shown counts club events (map shown (replies_of club events)) (club_after club events)
-  run_without_failures club [] h = refl
-  run_without_failures club (event ∷ events) h =
+  pub events_left : (events : List Event) (replies : List (Told O)) → All IsEvent events → All IsEvent (answered_events telling events replies)
+  events_left [] replies h = All-nil IsEvent
+  events_left (event ∷ events) [] h = All-nil IsEvent
+  events_left (event ∷ events) (told ∷ replies) h =
+      one_fewer event (answered_events telling events replies) (has_failed telling event told) (All-head IsEvent event events h)
+      (events_left events replies (All-tail IsEvent event events h))
+
+  -- a run is cut at a place, and joined again
+  pub cut : (club last : Club) (front rest : List Event) (before since : List (Told O)) → length before ≡ length front → IsRun telling club (front ++ rest) (before ++ since) last → AreRuns telling club last front rest before since
+  cut club last [] rest [] since e h = record { now = club; first = refl; second = h }
+  cut club last [] rest (told ∷ before) since e h = absurd (omega arith)
+  cut club last (event ∷ front) rest [] since e h = absurd (omega arith)
+  cut club last (event ∷ front) rest (told ∷ before) since e h =
+      let parts = cut h.0 last front rest before since (omega arith) h.2 in
+      record { now = parts.now; first = (h.0, h.1, parts.first); second = parts.second }
+
+  pub join : (club now last : Club) (front rest : List Event) (before since : List (Told O)) → IsRun telling club front before now → IsRun telling now rest since last → IsRun telling club (front ++ rest) (before ++ since) last
+  join club now last [] rest [] since h k = subst (λ (c : Club). IsRun telling c rest since last) h k
+  join club now last [] rest (told ∷ before) since h k = absurd h
+  join club now last (event ∷ front) rest [] since h k = absurd h
+  join club now last (event ∷ front) rest (told ∷ before) since h k = (h.0, h.1, join h.0 now last front rest before since h.2 k)
+
+  -- the machine's own run
+  not_failed : ((answer : OfficeAnswer) → telling.is_fault (telling.shown answer) ≡ false) → (club : Club) (event : Event) → has_failed telling event (told_of telling (step club event).reply) ≡ false
+  not_failed faultless club (Asked words moment) = answers_requests club words moment
+  not_failed faultless club (Ordered command) = go (office_verdict club command)
+    where
+      go : (verdict : Result Change OfficeFault) → has_failed telling (Ordered command) (told_of telling (ordered club command verdict).reply) ≡ false
+      go (Err fault) = faultless (NotDone fault)
+      go (Ok change) = faultless (done_answer command)
+
+  pub run_without_failures : (club : Club) (events : List Event) → ((answer : OfficeAnswer) → telling.is_fault (telling.shown answer) ≡ false) → IsRun telling club events (map (told_of telling) (replies_of club events)) (club_after club events)
+  run_without_failures club [] faultless = refl
+  run_without_failures club (event ∷ events) faultless =
       let outcome = step club event in
-      let rest = replies_of outcome.club events in
-      (outcome.club, inl (record { counted = All-head (λ (reply : EventReply). counts (shown reply) ≡ true) outcome.reply rest h; told = refl; stepped = refl }), run_without_failures outcome.club events (All-tail (λ (reply : EventReply). counts (shown reply) ≡ true) outcome.reply rest h))
+      (outcome.club, inl (record { answered = not_failed faultless club event; reply = refl; stepped = refl }), run_without_failures outcome.club events faultless)

@@ -7,6 +7,7 @@ use Rattle.std.proofs.lemmas.List.Sums.{sum_by-cons}
 use Rattle.std.proofs.lemmas.Bool.{and_parts, eqb-true}
 use Rattle.club_laws.specs.Points.{Entry, is_entry_of, firsts}
 use Rattle.club_laws.proofs.FoundRows.{bytes_same}
+use Rattle.club_laws.proofs.Filtering.{filter-filter}
 
 -- which keys and numbers are on record
 abbrev pub Seen : Type 0
@@ -26,15 +27,6 @@ points_of entry = entry.points
 -- the points of the first entries that aren't on record
 abbrev pub unseen_total : (List ℕ → Bool) → Seen → List Entry → ℕ
 unseen_total p seen entries = sum_by points_of (filter (counts p seen) (firsts entries))
-
-pub filter-filter : {X : Type 0} (p q : X → Bool) (xs : List X) → filter p (filter q xs) ≡ filter (λ x. q x && p x) xs
-filter-filter p q [] = refl
-filter-filter {X} p q (x ∷ xs) = go (p x) (q x) refl (filter-filter p q xs)
-  where
-    go : (b c : Bool) → p x ≡ b → filter p (filter q xs) ≡ filter (λ y. q y && p y) xs → filter p (cond c (x ∷ filter q xs) (filter q xs)) ≡ cond (c && b) (x ∷ filter (λ y. q y && p y) xs) (filter (λ y. q y && p y) xs)
-    go true true e rest = rw e (ap (λ (ys : List X). x ∷ ys) rest)
-    go false true e rest = rw e rest
-    go b false e rest = rest
 
 -- the entries of a key and number are alike to whoever sees the key and number alone
 alike : (seen : Seen) (entry other : Entry) → is_entry_of entry.key entry.number other ≡ true → seen other.key other.number ≡ seen entry.key entry.number

@@ -3,42 +3,30 @@ use Rattle.std.proofs.Common.{◌≡◌, ℕ, ◌+◌, ◌-◌, ◌*◌, ◌/◌
 use Rattle.std.specs.Prelude.{◌==◌, not, nat_le, sum_by}
 use Rattle.std.specs.Str.{bytes_eq}
 use Rattle.std.proofs.lemmas.Bool.{both_ways, and_parts, and_from, eq-eqb, ltb-false}
-use Rattle.std.proofs.lemmas.List.Folds.{Any-from_list_any}
 use Rattle.std.proofs.lemmas.Nat.{mul-le}
-use Rattle.pass_caveats.specs.declared.slot.Slot.{Slot}
-use Rattle.pass_caveats.specs.Slot.{start_of}
-use Rattle.club_core.specs.declared.member.Member.{Member}
-use Rattle.club_core.specs.declared.facility.Facility.{Facility}
-use Rattle.club_core.specs.declared.key.Key.{Key}
-use Rattle.club_core.specs.declared.booking.Booking.{Booking}
+use Rattle.club_values.specs.declared.slot.Slot.{Slot}
+use Rattle.club_values.specs.Slot.{start_of}
+use Rattle.club_rows.specs.declared.member.Member.{Member}
+use Rattle.club_rows.specs.declared.facility.Facility.{Facility}
+use Rattle.club_rows.specs.declared.key.Key.{Key}
+use Rattle.club_rows.specs.declared.booking.Booking.{Booking}
 use Rattle.club_core.specs.declared.verdict.Verdict.{Verdict}
 use Rattle.club_core.specs.declared.request.Request.TheVariants as asked
-use Rattle.club_core.specs.Rows.{IsFacility, IsKey, IsBooking}
-use Rattle.club_core.specs.Booking.{same_slot, refund_at}
-use Rattle.club_core.specs.Facility.{charge_of}
+use Rattle.club_rows.specs.Rows.{IsFacility, IsKey, IsBooking}
+use Rattle.club_rows.specs.Booking.{same_slot, refund_at}
+use Rattle.club_rows.specs.Facility.{charge_of}
 use Rattle.club_core.specs.Pass.{Words}
 use Rattle.club_core.specs.Club.{Club, IsSound, is_key_of, bookings_of}
 use Rattle.club_core.specs.Sums.{cost_of, taken_in, is_under, balance_of}
-use Rattle.club_core.specs.Basis.{basis_of}
 use Rattle.club_core.specs.After.{is_marked}
-use Rattle.club_core.specs.Answer.{answer_of}
-use Rattle.club_laws.specs.Events.{IsRequest}
-use Rattle.club_laws.proofs.FoundRows.{at_found, found_is_there, found_passes, none_found, Contains-map, All-each, bytes_same, same_bytes}
+use Rattle.club_core.specs.Answer.{verdict_in}
+use Rattle.club_core.specs.Events.{IsRequest}
+use Rattle.club_laws.proofs.FoundRows.{at_found, found_is_there, found_passes, none_found, Contains-map, All-each, same_bytes}
 use Rattle.club_laws.proofs.NamedRows.{named_there, only_named, slots_same, is_numbered, numbered, only_numbered}
-use Rattle.club_laws.proofs.KeyOwners.{is_own, is_key_of-any}
-use Rattle.club_laws.proofs.AnswerCases.{Knows, Books, Cancels, written, answer_cases}
-use Rattle.club_laws.proofs.FittingChanges.{FitsIfAny, FitsBooking, FitsCancelling}
-
--- whoever's key it is, is the member that its row names
-pub owner : (club : Club) → IsSound club → (words : Words) (key : Key) (member : Member) → Knows club words key member → (name : List ℕ) → is_key_of name club key.name ≡ true → name ≡ key.member
-owner club s words key member k name e =
-    let any = Any-from_list_any (is_own name key.name) club.keys (sym (is_key_of-any name club key.name) ∙ e) in
-    let other = get_or club.keys any.0 any.1 in
-    let is : any.1 ≡ key =
-    subst (λ (x : Key). bytes_eq x.name key.name ≡ true → x ≡ key) any.3
-    (only_named (λ (x : Key). x.name) key.name club.keys key s.unique.keys k.known any.0 any.1 any.2)
-    (and_parts (bytes_eq any.1.member name) (bytes_eq any.1.name key.name) any.4).1 in
-    sym (bytes_same any.1.member name (and_parts (bytes_eq any.1.member name) (bytes_eq any.1.name key.name) any.4).0) ∙ ap (λ (x : Key). x.member) is
+use Rattle.club_laws.proofs.KeyOwners.{owner}
+use Rattle.club_laws.proofs.BasisRows.{Knows}
+use Rattle.club_laws.proofs.AnswerCases.{Books, Cancels, written, answer_cases}
+use Rattle.club_laws.proofs.FittingChanges.{FitsIfAny, FitsBooking, FitsCancellation}
 
 module _ (club : Club) (s : IsSound club) (words : Words) (key : Key) (member : Member) (k : Knows club words key member) where
   row_of_booking : (slot : Slot) (number guests : ℕ) (facility : Facility) → IsRequest (asked.Book slot number guests) → Books club key member slot number guests facility → IsBooking (written club key slot number guests facility)
@@ -61,7 +49,7 @@ module _ (club : Club) (s : IsSound club) (words : Words) (key : Key) (member : 
 
   paid_for : (slot : Slot) (number guests : ℕ) (facility : Facility) → Books club key member slot number guests facility → (other : Member) → (bytes_eq other.name key.member ≡ true → other ≡ member) → is_key_of other.name club key.name ≡ true → sum_by cost_of (bookings_of other.name club) + (charge_of facility guests - 0) ≤ other.credited
   paid_for slot number guests facility b other is e =
-      let own : other.name ≡ key.member = owner club s words key member k other.name e in
+      let own : other.name ≡ key.member = owner club s.unique.keys key k.known other.name e in
       let same : other ≡ member = is (subst (λ (n : List ℕ). bytes_eq other.name n ≡ true) own (same_bytes other.name)) in
       let enough = ltb-false (balance_of member (bookings_of member.name club)) (charge_of facility guests) b.paid in
       let covered : sum_by cost_of (bookings_of member.name club) ≤ member.credited =
@@ -99,8 +87,8 @@ module _ (club : Club) (s : IsSound club) (words : Words) (key : Key) (member : 
       go true = omega arith
       go false = omega arith
 
-  fits_cancelling : (slot : Slot) (number moment : ℕ) (booking : Booking) → Cancels club key slot number booking → FitsCancelling club booking.key booking.number (refund_at booking moment)
-  fits_cancelling slot number moment booking c =
+  fits_cancellation : (slot : Slot) (number moment : ℕ) (booking : Booking) → Cancels club key slot number booking → FitsCancellation club booking.key booking.number (refund_at booking moment)
+  fits_cancellation slot number moment booking c =
       let it = numbered key.name number booking (found_passes (is_numbered key.name number) club.bookings booking c.found) in
       record {
         covered =
@@ -112,12 +100,12 @@ module _ (club : Club) (s : IsSound club) (words : Words) (key : Key) (member : 
             (only_numbered key.name number club.bookings booking s.unique.bookings c.found);
       }
 
-pub fits_answer : (club : Club) (words : Words) (moment : ℕ) → IsSound club → IsRequest words.request → FitsIfAny club (answer_of words moment (basis_of club words)).change
+pub fits_answer : (club : Club) (words : Words) (moment : ℕ) → IsSound club → IsRequest words.request → FitsIfAny club (verdict_in club words moment).change
 fits_answer club words moment s r =
     answer_cases (λ (v : Verdict). FitsIfAny club v.change) club words moment (record {
       silent = λ reply h. tt;
-      rebooks = λ key member slot number guests booking k e b. tt;
+      repeats_booking = λ key member slot number guests booking k e b. tt;
       books = λ key member slot number guests facility k e b. fits_booking club s words key member k slot number guests facility (subst IsRequest e r) b;
-      recancels = λ key member slot number booking k e b. tt;
-      cancels = λ key member slot number booking k e c. fits_cancelling club s words key member k slot number moment booking c;
+      cancels_recorded = λ key member slot number booking k e b. tt;
+      cancels = λ key member slot number booking k e c. fits_cancellation club s words key member k slot number moment booking c;
     })

@@ -2,15 +2,15 @@
 use Rattle.std.proofs.Common.{◌≡◌, ◌≢◌, ℕ, ◌+◌, ◌≤◌, true, List, map}
 use Rattle.std.specs.Prelude.{All, Contains, sum_by, Option, Some, None}
 use Rattle.std.specs.Str.{bytes_eq}
-use Rattle.pass_caveats.specs.declared.slot.Slot.{Slot}
-use Rattle.club_core.specs.declared.member.Member.{Member}
-use Rattle.club_core.specs.declared.facility.Facility.{Facility}
-use Rattle.club_core.specs.declared.key.Key.{Key}
-use Rattle.club_core.specs.declared.booking.Booking.{Booking}
+use Rattle.club_values.specs.declared.slot.Slot.{Slot}
+use Rattle.club_rows.specs.declared.member.Member.{Member}
+use Rattle.club_rows.specs.declared.facility.Facility.{Facility}
+use Rattle.club_rows.specs.declared.key.Key.{Key}
+use Rattle.club_rows.specs.declared.booking.Booking.{Booking}
 use Rattle.club_core.specs.declared.change.Change.{Change}
 use Rattle.club_core.specs.declared.change.Change.TheVariants.{InsertMember, AddCredit, InsertFacility, InsertKey, MarkRevoked, MarkClosed, InsertBooking, MarkCancelled}
-use Rattle.club_core.specs.Rows.{IsMember, IsFacility, IsKey, IsSlot, IsBooking}
-use Rattle.club_core.specs.Booking.{persons_of}
+use Rattle.club_rows.specs.Rows.{IsMember, IsFacility, IsKey, IsSlot, IsBooking}
+use Rattle.club_rows.specs.Booking.{persons_of}
 use Rattle.club_core.specs.Sums.{cost_of, is_in, taken_in}
 use Rattle.club_core.specs.After.{is_marked}
 use Rattle.club_core.specs.Club.{Club, is_key_of, bookings_of}
@@ -44,7 +44,7 @@ pub record FitsBooking (club : Club) (booking : Booking) : Type 0 where
   pub paid : All (λ (member : Member). is_key_of member.name club booking.key ≡ true → sum_by cost_of (bookings_of member.name club) + cost_of booking ≤ member.credited) club.members
   pub placed : All (λ (facility : Facility). (slot : Slot) → slot.facility ≡ facility.name → is_in slot booking ≡ true → taken_in slot club.bookings + persons_of booking ≤ facility.places) club.facilities
 
-pub record FitsCancelling (club : Club) (key : List ℕ) (number refund : ℕ) : Type 0 where
+pub record FitsCancellation (club : Club) (key : List ℕ) (number refund : ℕ) : Type 0 where
   pub covered : All (λ (booking : Booking). is_marked key number booking ≡ true → refund ≤ booking.charge) club.bookings
 
 abbrev pub Fits : Club → Change → Type 0
@@ -55,7 +55,7 @@ Fits club (InsertKey key) = FitsKey club key
 Fits club (MarkRevoked name) = Unit {0}
 Fits club (MarkClosed slot) = FitsClosed club slot
 Fits club (InsertBooking booking) = FitsBooking club booking
-Fits club (MarkCancelled key number refund) = FitsCancelling club key number refund
+Fits club (MarkCancelled key number refund) = FitsCancellation club key number refund
 
 abbrev pub FitsIfAny : Club → Option Change → Type 0
 FitsIfAny club None = Unit {0}

@@ -1,24 +1,28 @@
 -- The member's part follows each event of the club by the member's own entry for it.
 use Rattle.std.proofs.Common.{◌≡◌, ◌≢◌, ℕ, Bool, true, false, cond, List, [], ◌∷◌, Option, Some, None, bytes_eq, refl, sym, ap, ◌∙◌, subst}
-use Rattle.std.proofs.lemmas.Bool.{false_from_ne_true}
+use Rattle.std.proofs.lemmas.Bool.{both_ways, false_from_ne_true}
 use Rattle.club_core.specs.declared.verdict.Verdict.{Verdict}
 use Rattle.club_core.specs.declared.change.Change.{Change}
-use Rattle.club_core.specs.declared.change.Change.TheVariants.{InsertMember, AddCredit, InsertFacility, InsertKey, MarkRevoked, MarkClosed, InsertBooking, MarkCancelled}
+use Rattle.club_core.specs.declared.change.Change.TheVariants.{InsertBooking, MarkCancelled}
 use Rattle.club_core.specs.Pass.{Words}
 use Rattle.club_core.specs.Request.{slot_of}
 use Rattle.club_core.specs.Club.{Club, is_key_of}
 use Rattle.club_core.specs.Basis.{Basis, basis_of}
 use Rattle.club_core.specs.Answer.{answer_of}
 use Rattle.club_core.specs.After.{after}
-use Rattle.club_core.specs.Run.{EventReply, Replied, after_change}
+use Rattle.club_core.specs.declared.event.EventReply.{EventReply}
+use Rattle.club_core.specs.declared.event.EventReply.TheVariants.{Replied}
+use Rattle.club_core.specs.Run.{after_change}
 use Rattle.club_core.specs.Solo.{OwnEvent, OwnAsk, OwnChange, outside, own_ask, part_of, solo_verdict}
-use Rattle.club_laws.proofs.Finding.{find_passes, same_bytes}
+use Rattle.club_laws.proofs.FoundRows.{found_passes, bytes_same, same_bytes_of}
 use Rattle.club_laws.proofs.ChangedParts.{HasKnownKeys, is_named, part_changed}
-use Rattle.club_laws.proofs.KnownKeys.{IsKeyed, owner}
-use Rattle.club_laws.proofs.BasisRows.{rests_on_name}
+use Rattle.club_laws.proofs.KnownKeys.{IsKeyed}
+use Rattle.club_laws.proofs.KeyOwners.{owner}
+use Rattle.club_laws.proofs.AnswerCases.{is_own_key}
+use Rattle.club_laws.proofs.BasisRows.{rests_on_name, known_rows}
 use Rattle.club_laws.proofs.ServedPasses.{refused_blind}
 use Rattle.club_laws.proofs.ChangesUnderKeys.{IsUnder, answer_changes_under}
-use Rattle.club_laws.proofs.OwnBasis.{own_basis, own_key}
+use Rattle.club_laws.proofs.OwnBasis.{own_basis}
 
 -- what the member's own entry for an event makes of the part, and what it replies
 abbrev pub Follows : Club → List OwnEvent → EventReply → Club → Type 0
@@ -39,12 +43,7 @@ under_own name club key (Some (InsertBooking booking)) b known under e =
 under_own name club key (Some (MarkCancelled other number refund)) b known under e =
     part_changed name club (MarkCancelled other number refund) known tt
     ∙ ap (λ (t : Bool). cond t (after (MarkCancelled other number refund) (part_of name club)) (part_of name club)) (ap (is_key_of name club) under ∙ e)
-under_own name club key (Some (InsertMember member)) b known under e = absurd under
-under_own name club key (Some (AddCredit member points)) b known under e = absurd under
-under_own name club key (Some (InsertFacility facility)) b known under e = absurd under
-under_own name club key (Some (InsertKey new)) b known under e = absurd under
-under_own name club key (Some (MarkRevoked other)) b known under e = absurd under
-under_own name club key (Some (MarkClosed slot)) b known under e = absurd under
+under_own name club key (Some change) b known under e = absurd under
 
 -- a request of the member's
 own_follows : (club : Club) (words : Words) (moment : ℕ) (basis : Basis) → IsKeyed club → basis_of club words ≡ Some basis → Follows (part_of basis.member.name club) (OwnAsk words moment (outside basis.member.name club (slot_of words.request)) ∷ []) (Replied (answer_of words moment (Some basis)).reply) (part_of basis.member.name (after_change (answer_of words moment (Some basis)).change club))
@@ -54,9 +53,9 @@ own_follows club words moment basis keyed e =
     ap (λ (b : Option Basis). answer_of words moment b) (sym (own_basis club words basis e))
     in
     let change = (answer_of words moment (Some basis)).change in
-    let under = (answer_changes_under words.pass words.request moment basis).under in (
+    let under = answer_changes_under club words moment basis e in (
       ap (λ (v : Verdict). Replied v.reply) same,
-      under_own own club basis.key.name change true keyed.known under (own_key club words basis e)
+      under_own own club basis.key.name change true keyed.known under (is_own_key club words basis.key basis.member (known_rows club words basis e))
           ∙ ap (λ (v : Verdict). after_change v.change (part_of own club)) same,
     )
 
@@ -64,23 +63,20 @@ own_follows club words moment basis keyed e =
 not_own_key : (name : List ℕ) (club : Club) (words : Words) (basis : Basis) → IsKeyed club → basis_of club words ≡ Some basis → bytes_eq basis.member.name name ≡ false → is_key_of name club basis.key.name ≡ false
 not_own_key name club words basis keyed e other =
     let rests = rests_on_name club words basis e in
-    let member_name : basis.member.name ≡ basis.key.member =
-    same_bytes basis.member.name basis.key.member (find_passes (is_named basis.key.member) club.members basis.member rests.member)
-    in
     let differs : is_key_of name club basis.key.name ≢ true =
     λ any.
-    let owned : bytes_eq basis.key.member name ≡ true = owner basis.key.name name basis.key club.keys keyed.unique rests.row any in
-    let named : bytes_eq basis.member.name name ≡ true = subst (λ (n : List ℕ). bytes_eq n name ≡ true) (sym member_name) owned in
-    absurd (cc)
+    let member_name = bytes_same basis.member.name basis.key.member (found_passes (is_named basis.key.member) club.members basis.member rests.member) in
+    both_ways (bytes_eq basis.member.name name) other
+    (same_bytes_of basis.member.name name (member_name ∙ sym (owner club keyed.unique basis.key rests.row name any)))
     in
     false_from_ne_true (is_key_of name club basis.key.name) differs
 
 asked_follows : (name : List ℕ) (club : Club) (words : Words) (moment : ℕ) (basis : Basis) (b : Bool) → IsKeyed club → basis_of club words ≡ Some basis → bytes_eq basis.member.name name ≡ b → Follows (part_of name club) (cond b (OwnAsk words moment (outside name club (slot_of words.request)) ∷ []) []) (Replied (answer_of words moment (Some basis)).reply) (part_of name (after_change (answer_of words moment (Some basis)).change club))
 asked_follows name club words moment basis true keyed e own =
     let family : List ℕ → Type 0 = λ n. Follows (part_of n club) (OwnAsk words moment (outside n club (slot_of words.request)) ∷ []) (Replied (answer_of words moment (Some basis)).reply) (part_of n (after_change (answer_of words moment (Some basis)).change club)) in
-    subst family (same_bytes basis.member.name name own) (own_follows club words moment basis keyed e)
+    subst family (bytes_same basis.member.name name own) (own_follows club words moment basis keyed e)
 asked_follows name club words moment basis false keyed e own =
-    let under = (answer_changes_under words.pass words.request moment basis).under in
+    let under = answer_changes_under club words moment basis e in
     under_own name club basis.key.name (answer_of words moment (Some basis)).change false keyed.known under (not_own_key name club words basis keyed e own)
 
 pub ask_follows : (name : List ℕ) (club : Club) (words : Words) (moment : ℕ) (basis : Option Basis) → IsKeyed club → basis_of club words ≡ basis → Follows (part_of name club) (own_ask name club words moment basis) (Replied (answer_of words moment basis).reply) (part_of name (after_change (answer_of words moment basis).change club))

@@ -1,9 +1,9 @@
 -- Each step: the member's part follows, and key names stay unique and known.
-use Rattle.std.proofs.Common.{◌≡◌, ℕ, Bool, true, false, cond, List, [], ◌∷◌, Option, Some, None, Result, Ok, Err, refl, sym, ap, ◌∙◌, subst}
-use Rattle.std.specs.List.{list_any}
+use Rattle.std.proofs.Common.{◌≡◌, ℕ, Bool, true, false, cond, List, [], ◌∷◌, Option, Some, None, Result, Ok, Err, refl, sym, ap, ◌∙◌, subst, map, Contains}
+use Rattle.club_rows.specs.declared.key.Key.{Key}
 use Rattle.club_core.specs.declared.verdict.Verdict.{Verdict}
 use Rattle.club_core.specs.declared.change.Change.{Change}
-use Rattle.club_core.specs.declared.change.Change.TheVariants.{InsertMember, AddCredit, InsertFacility, InsertKey, MarkRevoked, MarkClosed, InsertBooking, MarkCancelled}
+use Rattle.club_core.specs.declared.change.Change.TheVariants.{InsertBooking, MarkCancelled}
 use Rattle.club_core.specs.declared.command.Command.{Command}
 use Rattle.club_core.specs.declared.command.OfficeFault.{OfficeFault}
 use Rattle.club_core.specs.Pass.{Words}
@@ -12,14 +12,15 @@ use Rattle.club_core.specs.Basis.{Basis, basis_of}
 use Rattle.club_core.specs.Answer.{answer_of}
 use Rattle.club_core.specs.After.{after}
 use Rattle.club_core.specs.Office.{office_verdict}
-use Rattle.club_core.specs.Run.{Event, Asked, Ordered, EventReply, step, after_change, ordered}
+use Rattle.club_core.specs.declared.event.EventReply.{EventReply}
+use Rattle.club_core.specs.Run.{Event, Asked, Ordered, step, after_change, ordered}
 use Rattle.club_core.specs.Solo.{OwnChange, is_own, own_change, own_part, part_of}
-use Rattle.club_laws.proofs.ChangedParts.{has_name, part_changed}
+use Rattle.club_laws.proofs.ChangedParts.{part_changed}
 use Rattle.club_laws.proofs.KnownKeys.{IsKeyed, keyed_after}
-use Rattle.club_laws.proofs.BasisRows.{rests_on_name}
+use Rattle.club_laws.proofs.BasisRows.{known_rows}
 use Rattle.club_laws.proofs.ServedPasses.{refused_blind}
 use Rattle.club_laws.proofs.ChangesUnderKeys.{IsUnder, answer_changes_under}
-use Rattle.club_laws.proofs.OwnBasis.{any_found}
+use Rattle.club_laws.proofs.NamedRows.{named_there}
 use Rattle.club_laws.proofs.FollowedAsks.{Follows, ask_follows}
 use Rattle.club_laws.proofs.OfficialChanges.{IsOfficial, official, own_of_part, official_fresh, official_known}
 
@@ -40,25 +41,20 @@ follows name club (Asked words moment) keyed = ask_follows name club words momen
 follows name club (Ordered command) keyed = order_follows name club command (office_verdict club command) keyed (official club command)
 
 -- key names stay unique and known
-keyed_under : (club : Club) (key : List ℕ) (change : Option Change) → list_any (has_name key) club.keys ≡ true → IsUnder key change → IsKeyed club → IsKeyed (after_change change club)
+keyed_under : (club : Club) (key : List ℕ) (change : Option Change) → Contains (map (λ (k : Key). k.name) club.keys) key → IsUnder key change → IsKeyed club → IsKeyed (after_change change club)
 keyed_under club key None known under keyed = keyed
 keyed_under club key (Some (InsertBooking booking)) known under keyed =
-    keyed_after club (InsertBooking booking) tt (subst (λ (n : List ℕ). list_any (has_name n) club.keys ≡ true) (sym under) known) keyed
+    keyed_after club (InsertBooking booking) tt (subst (λ (n : List ℕ). Contains (map (λ (k : Key). k.name) club.keys) n) (sym under) known) keyed
 keyed_under club key (Some (MarkCancelled other number refund)) known under keyed = keyed_after club (MarkCancelled other number refund) tt tt keyed
-keyed_under club key (Some (InsertMember member)) known under keyed = absurd under
-keyed_under club key (Some (AddCredit member points)) known under keyed = absurd under
-keyed_under club key (Some (InsertFacility facility)) known under keyed = absurd under
-keyed_under club key (Some (InsertKey new)) known under keyed = absurd under
-keyed_under club key (Some (MarkRevoked other)) known under keyed = absurd under
-keyed_under club key (Some (MarkClosed slot)) known under keyed = absurd under
+keyed_under club key (Some change) known under keyed = absurd under
 
 keyed_asked : (club : Club) (words : Words) (moment : ℕ) (basis : Option Basis) → basis_of club words ≡ basis → IsKeyed club → IsKeyed (after_change (answer_of words moment basis).change club)
 keyed_asked club words moment None e keyed =
     subst (λ (v : Verdict). IsKeyed (after_change v.change club)) (sym (refused_blind words.pass words.request moment)) keyed
 keyed_asked club words moment (Some basis) e keyed =
     keyed_under club basis.key.name (answer_of words moment (Some basis)).change
-    (any_found (has_name basis.key.name) club.keys basis.key (rests_on_name club words basis e).row)
-    (answer_changes_under words.pass words.request moment basis).under keyed
+    (named_there (λ (k : Key). k.name) basis.key.name club.keys basis.key (known_rows club words basis e).known)
+    (answer_changes_under club words moment basis e) keyed
 
 keyed_ordered : (club : Club) (command : Command) (verdict : Result Change OfficeFault) → IsOfficial club verdict → IsKeyed club → IsKeyed (ordered club command verdict).club
 keyed_ordered club command (Err fault) h keyed = keyed

@@ -89,6 +89,17 @@ find-filter p q (y ∷ ys) h = go (p y) (q y) refl refl (find-filter p q ys h)
     go false true e k rest = rw e rest
     go false false e k rest = rest
 
+-- and so it does where the one that it finds passes the other test
+pub find_filtered : {X : Type 0} (p q : X → Bool) (xs : List X) (x : X) → find p xs ≡ Some x → q x ≡ true → find p (filter q xs) ≡ Some x
+find_filtered p q [] x e h = absurd (cc)
+find_filtered {X} p q (y ∷ ys) x e h = go (p y) (q y) refl refl (λ k. find_filtered p q ys x k h) e
+  where
+    go : (b c : Bool) → p y ≡ b → q y ≡ c → (find p ys ≡ Some x → find p (filter q ys) ≡ Some x) → cond b (Some y) (find p ys) ≡ Some x → find p (cond c (y ∷ filter q ys) (filter q ys)) ≡ Some x
+    go true true f g rest k = rw f k
+    go true false f g rest k = let same : y ≡ x = cc in absurd (both_ways (q y) g (ap q same ∙ h))
+    go false true f g rest k = rw f (rest k)
+    go false false f g rest k = rest k
+
 pub any_passes : {X : Type 0} (p : X → Bool) (xs : List X) (x : X) → Contains xs x → p x ≡ true → list_any p xs ≡ true
 any_passes p xs x h e = list_any_at p xs h.0 x h.1 (rw h.2 e)
 
@@ -105,6 +116,9 @@ bytes_same xs ys = (bytes_eq-Decides xs ys).0
 
 pub same_bytes : (xs : List ℕ) → bytes_eq xs xs ≡ true
 same_bytes xs = (bytes_eq-Decides xs xs).1 refl
+
+pub same_bytes_of : (xs ys : List ℕ) → xs ≡ ys → bytes_eq xs ys ≡ true
+same_bytes_of xs ys = (bytes_eq-Decides xs ys).1
 
 pub other_bytes : (xs ys : List ℕ) → (xs ≡ ys → ⊥) → bytes_eq xs ys ≡ false
 other_bytes xs ys h = false_from_ne_true (bytes_eq xs ys) (λ e. h (bytes_same xs ys e))

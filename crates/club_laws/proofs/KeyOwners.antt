@@ -1,17 +1,18 @@
 -- Whose a key is, as keys are added and revoked.
-use Rattle.std.proofs.Common.{◌≡◌, ◌≢◌, ℕ, Bool, true, false, List, [], ◌∷◌, ◌++◌, get_or, map, refl, sym, ap, ◌∙◌}
-use Rattle.std.specs.Prelude.{All, Contains, ◌&&◌, ◌||◌}
+use Rattle.std.proofs.Common.{◌≡◌, ◌≢◌, ℕ, Bool, true, false, List, [], ◌∷◌, ◌++◌, get_or, map, Some, refl, sym, ap, ◌∙◌, subst}
+use Rattle.std.specs.Prelude.{All, AllPairs, Contains, ◌&&◌, ◌||◌}
 use Rattle.std.specs.Str.{bytes_eq}
 use Rattle.std.specs.List.{list_any}
 use Rattle.std.proofs.lemmas.List.Elements.{All-map, All-contains}
-use Rattle.std.proofs.lemmas.List.Folds.{list_any-append}
-use Rattle.std.proofs.lemmas.Bool.{and_right}
-use Rattle.club_core.specs.declared.key.Key.{Key}
-use Rattle.club_core.specs.declared.booking.Booking.{Booking}
-use Rattle.club_core.specs.Club.{Club, is_key_of, bookings_of}
+use Rattle.std.proofs.lemmas.List.Folds.{list_any-append, Any-from_list_any}
+use Rattle.std.proofs.lemmas.Bool.{and_parts, and_right}
+use Rattle.club_rows.specs.declared.key.Key.{Key}
+use Rattle.club_rows.specs.declared.booking.Booking.{Booking}
+use Rattle.club_core.specs.Club.{Club, key_named, is_key_of, bookings_of}
 use Rattle.club_core.specs.After.{revoked}
-use Rattle.club_laws.proofs.FoundRows.{any-filter, any-map, other_bytes}
-use Rattle.club_laws.proofs.RowSums.{filter_same}
+use Rattle.club_laws.proofs.FoundRows.{any-filter, any-map, bytes_same, other_bytes}
+use Rattle.club_laws.proofs.NamedRows.{only_named}
+use Rattle.club_laws.proofs.Filtering.{filter_same}
 
 -- whether the key has this name and this member
 abbrev pub is_own : List ℕ → List ℕ → Key → Bool
@@ -56,3 +57,14 @@ pub bookings_of-revoked : (member : List ℕ) (club : Club) (key : List ℕ) →
 bookings_of-revoked member club key =
     filter_same (λ (booking : Booking). is_key_of member (record club { keys = map (revoked key) club.keys }) booking.key) (λ (booking : Booking). is_key_of member club booking.key) club.bookings
     (λ k d short. is_key_of-revoked member club key (get_or club.bookings k d).key)
+
+-- where names are unique, whoever's key it is, is the member that its row names
+pub owner : (club : Club) → AllPairs (λ (a : Key) (b : Key). a.name ≢ b.name) club.keys → (key : Key) → key_named key.name club ≡ Some key → (name : List ℕ) → is_key_of name club key.name ≡ true → name ≡ key.member
+owner club unique key known name e =
+    let any = Any-from_list_any (is_own name key.name) club.keys (sym (is_key_of-any name club key.name) ∙ e) in
+    let parts = and_parts (bytes_eq any.1.member name) (bytes_eq any.1.name key.name) any.4 in
+    let is : any.1 ≡ key =
+    subst (λ (x : Key). bytes_eq x.name key.name ≡ true → x ≡ key) any.3
+    (only_named (λ (x : Key). x.name) key.name club.keys key unique known any.0 any.1 any.2) parts.1
+    in
+    sym (bytes_same any.1.member name parts.0) ∙ ap (λ (x : Key). x.member) is

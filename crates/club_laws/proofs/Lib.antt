@@ -1,3 +1,4 @@
+pub mod KeptByRuns
 pub mod FoundRows
 pub mod AnswerCases
 pub mod RowSums
@@ -17,13 +18,12 @@ pub mod RefundMoves
 pub mod OrderCases
 pub mod MemberAccounts
 pub mod PointRuns
-pub mod Finding
 pub mod Filtering
 pub mod BasisRows
 pub mod ServedPasses
+pub mod RevokedKeys
 pub mod ChangedParts
 pub mod KnownKeys
-pub mod AnswerShapes
 pub mod ChangesUnderKeys
 pub mod MachineAnswers
 pub mod OwnBasis
@@ -32,3 +32,4 @@ pub mod OfficialChanges
 pub mod FollowedSteps
 pub mod FailedEvents
 pub mod SoloRuns
+pub mod RunsAsTold

@@ -5,17 +5,16 @@ use Rattle.std.specs.Str.{bytes_eq}
 use Rattle.std.specs.List.{list_any}
 use Rattle.std.specs.Option.{option_or}
 use Rattle.std.proofs.lemmas.List.Folds.{list_any-append, find-append}
-use Rattle.club_core.specs.declared.member.Member.{Member}
-use Rattle.club_core.specs.declared.key.Key.{Key}
+use Rattle.club_rows.specs.declared.member.Member.{Member}
+use Rattle.club_rows.specs.declared.key.Key.{Key}
 use Rattle.club_core.specs.declared.verdict.Verdict.{Verdict}
 use Rattle.club_core.specs.declared.change.Change.{Change}
 use Rattle.club_core.specs.declared.command.Command.{Command}
-use Rattle.club_core.specs.declared.command.Command.TheVariants.{AddMember, Credit, AddFacility, AddKey, RevokeKey, CloseSlot}
+use Rattle.club_core.specs.declared.command.Command.TheVariants.{AddMember, Credit, AddKey, RevokeKey}
 use Rattle.club_core.specs.declared.command.OfficeFault.{OfficeFault}
 use Rattle.club_core.specs.Pass.{Words}
 use Rattle.club_core.specs.Club.{Club, member_named, is_key_of}
-use Rattle.club_core.specs.Basis.{basis_of}
-use Rattle.club_core.specs.Answer.{answer_of}
+use Rattle.club_core.specs.Answer.{verdict_in}
 use Rattle.club_core.specs.After.{credited}
 use Rattle.club_core.specs.Office.{office_verdict}
 use Rattle.club_core.specs.Run.{Event, Asked, Ordered, step, after_change, ordered, replies_of, club_after}
@@ -31,13 +30,13 @@ pub record KeepsPeople (club new : Club) : Type 0 where
   pub keys : new.keys ≡ club.keys
   pub members : new.members ≡ club.members
 
-answer_keeps : (club : Club) (words : Words) (moment : ℕ) → KeepsPeople club (after_change (answer_of words moment (basis_of club words)).change club)
+answer_keeps : (club : Club) (words : Words) (moment : ℕ) → KeepsPeople club (after_change (verdict_in club words moment).change club)
 answer_keeps club words moment =
     answer_cases (λ (v : Verdict). KeepsPeople club (after_change v.change club)) club words moment (record {
       silent = λ reply h. record { keys = refl; members = refl };
-      rebooks = λ key member slot number guests booking k e b. record { keys = refl; members = refl };
+      repeats_booking = λ key member slot number guests booking k e b. record { keys = refl; members = refl };
       books = λ key member slot number guests facility k e b. record { keys = refl; members = refl };
-      recancels = λ key member slot number booking k e b. record { keys = refl; members = refl };
+      cancels_recorded = λ key member slot number booking k e b. record { keys = refl; members = refl };
       cancels = λ key member slot number booking k e c. record { keys = refl; members = refl };
     })
 
@@ -55,9 +54,6 @@ module _ (member : List ℕ) where
       is_key_of member (ordered club command verdict).club key ≡ (is_key_of member club key || is_among (key_given member (Ordered command) (ordered club command verdict).reply) key)
 
   gives_key : (club : Club) (key : List ℕ) (command : Command) → GivesKey club key command (office_verdict club command)
-  gives_key club key (AddMember name quota) = order_cases (GivesKey club key (AddMember name quota)) club (λ fault. or_nothing (is_key_of member club key)) (AddMember name quota) (λ k. or_nothing (is_key_of member club key))
-  gives_key club key (Credit name points) = order_cases (GivesKey club key (Credit name points)) club (λ fault. or_nothing (is_key_of member club key)) (Credit name points) (λ k. or_nothing (is_key_of member club key))
-  gives_key club key (AddFacility name kind places price opens shuts) = order_cases (GivesKey club key (AddFacility name kind places price opens shuts)) club (λ fault. or_nothing (is_key_of member club key)) (AddFacility name kind places price opens shuts) (λ k. or_nothing (is_key_of member club key))
   gives_key club key (AddKey name owner root) =
       order_cases (GivesKey club key (AddKey name owner root)) club (λ fault. or_nothing (is_key_of member club key)) (AddKey name owner root)
       (λ k. is_key_of-added member club (record { name = name; member = owner; root = root; revoked = false }) key ∙ ap (λ b. is_key_of member club key || b) (go (bytes_eq owner member)))
@@ -66,7 +62,7 @@ module _ (member : List ℕ) where
       go true = or_nothing (bytes_eq name key)
       go false = refl
   gives_key club key (RevokeKey name) = order_cases (GivesKey club key (RevokeKey name)) club (λ fault. or_nothing (is_key_of member club key)) (RevokeKey name) (λ k. is_key_of-revoked member club name key ∙ or_nothing (is_key_of member club key))
-  gives_key club key (CloseSlot slot) = order_cases (GivesKey club key (CloseSlot slot)) club (λ fault. or_nothing (is_key_of member club key)) (CloseSlot slot) (λ k. or_nothing (is_key_of member club key))
+  gives_key club key command = order_cases (GivesKey club key command) club (λ fault. or_nothing (is_key_of member club key)) command (λ k. or_nothing (is_key_of member club key))
 
   keys_of_step : (club : Club) (key : List ℕ) (event : Event) → is_key_of member (step club event).club key ≡ (is_key_of member club key || is_among (key_given member event (step club event).reply) key)
   keys_of_step club key (Asked words moment) =
@@ -138,11 +134,8 @@ module _ (name : List ℕ) where
       go None false = refl
   credits club (Credit other points) =
       order_cases (Credits club (Credit other points)) club (λ fault. as_before club) (Credit other points)
-      (λ k. credit_grown name other points club.members (λ e. subst (λ (n : List ℕ). is_some (find (λ (m : Member). bytes_eq m.name n) club.members) ≡ true) (bytes_same other name e) k))
-  credits club (AddFacility other kind places price opens shuts) = order_cases (Credits club (AddFacility other kind places price opens shuts)) club (λ fault. as_before club) (AddFacility other kind places price opens shuts) (λ k. as_before club)
-  credits club (AddKey other owner root) = order_cases (Credits club (AddKey other owner root)) club (λ fault. as_before club) (AddKey other owner root) (λ k. as_before club)
-  credits club (RevokeKey other) = order_cases (Credits club (RevokeKey other)) club (λ fault. as_before club) (RevokeKey other) (λ k. as_before club)
-  credits club (CloseSlot slot) = order_cases (Credits club (CloseSlot slot)) club (λ fault. as_before club) (CloseSlot slot) (λ k. as_before club)
+      (λ k. credit_grown name other points club.members (λ e. subst (λ (n : List ℕ). is_some (find (λ (m : Member). bytes_eq m.name n) club.members) ≡ true) (bytes_same other name e) (ap (λ (o : Option Member). is_some o) k.1)))
+  credits club command = order_cases (Credits club command) club (λ fault. as_before club) command (λ k. as_before club)
 
   credit_of_step : (club : Club) (event : Event) → credit_of (member_named name (step club event).club) ≡ credit_of (member_named name club) + credit_accepted name event (step club event).reply
   credit_of_step club (Asked words moment) =

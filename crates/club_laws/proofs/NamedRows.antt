@@ -1,25 +1,30 @@
 -- Rows found by their names, and slots told apart.
-use Rattle.std.proofs.Common.{◌≡◌, ◌≢◌, ℕ, Bool, true, false, List, [], ◌∷◌, map, Option, Some, None, refl, sym, ◌∙◌, subst}
+use Rattle.std.proofs.Common.{◌≡◌, ◌≢◌, ℕ, Bool, true, false, List, [], ◌∷◌, ◌++◌, map, Option, Some, None, refl, sym, ◌∙◌, subst}
 use Rattle.std.specs.Prelude.{All, AllPairs, Contains, ◌&&◌, ◌==◌, find, is_some}
 use Rattle.std.specs.Str.{bytes_eq}
 use Rattle.std.specs.List.{list_any}
-use Rattle.std.proofs.lemmas.List.Elements.{All-nil, All-cons}
+use Rattle.std.proofs.lemmas.List.Elements.{All-nil, All-cons, Contains-append_left}
+use Rattle.std.proofs.lemmas.List.{map-append}
 use Rattle.std.proofs.lemmas.Bool.{both_ways, or_parts, and_parts, and_from, eqb-true, eq-eqb}
-use Rattle.pass_caveats.specs.declared.slot.Slot.{Slot}
-use Rattle.club_core.specs.declared.booking.Booking.{Booking}
-use Rattle.club_core.specs.Booking.{same_slot}
+use Rattle.club_values.specs.declared.slot.Slot.{Slot}
+use Rattle.club_rows.specs.declared.booking.Booking.{Booking}
+use Rattle.club_rows.specs.Booking.{same_slot}
 use Rattle.club_core.specs.Sums.{is_under}
 use Rattle.club_laws.proofs.FoundRows.{found_passes, found_is_there, Contains-map, none_found, only_found, All-each, bytes_same, same_bytes}
 
-none_there : {X : Type 0} (o : Option X) → is_some o ≡ false → o ≡ None
+pub none_there : {X : Type 0} (o : Option X) → is_some o ≡ false → o ≡ None
 none_there None e = refl
 none_there (Some x) e = absurd (cc)
 
+pub some_there : {X : Type 0} (o : Option X) → is_some o ≡ true → (x : X) × (o ≡ Some x)
+some_there None e = absurd (cc)
+some_there (Some x) e = (x, refl)
+
 -- nobody has this name
-pub none_named : {X : Type 0} (name : X → List ℕ) (n : List ℕ) (xs : List X) → is_some (find (λ x. bytes_eq (name x) n) xs) ≡ false → All (λ x. name x ≢ n) xs
+pub none_named : {X : Type 0} (name : X → List ℕ) (n : List ℕ) (xs : List X) → find (λ x. bytes_eq (name x) n) xs ≡ None → All (λ x. name x ≢ n) xs
 none_named name n xs e =
     All-each (λ x. bytes_eq (name x) n ≡ false) (λ x. name x ≢ n) xs (λ x f h. both_ways (bytes_eq (name x) n) f (subst (λ (m : List ℕ). bytes_eq (name x) m ≡ true) h (same_bytes (name x))))
-    (none_found (λ x. bytes_eq (name x) n) xs (none_there (find (λ x. bytes_eq (name x) n) xs) e))
+    (none_found (λ x. bytes_eq (name x) n) xs e)
 
 pub named : {X : Type 0} (name : X → List ℕ) (n : List ℕ) (xs : List X) (x : X) → find (λ y. bytes_eq (name y) n) xs ≡ Some x → name x ≡ n
 named name n xs x e = bytes_same (name x) n (found_passes (λ y. bytes_eq (name y) n) xs x e)
@@ -29,12 +34,14 @@ named_there name n xs x e =
     subst (λ (m : List ℕ). Contains (map name xs) m) (named name n xs x e)
     (Contains-map name xs x (found_is_there (λ y. bytes_eq (name y) n) xs x e))
 
-pub some_named : {X : Type 0} (name : X → List ℕ) (n : List ℕ) (xs : List X) → is_some (find (λ x. bytes_eq (name x) n) xs) ≡ true → Contains (map name xs) n
-some_named {X} name n xs e = go (find (λ x. bytes_eq (name x) n) xs) refl e
-  where
-    go : (o : Option X) → find (λ x. bytes_eq (name x) n) xs ≡ o → is_some o ≡ true → Contains (map name xs) n
-    go None h k = absurd (cc)
-    go (Some x) h k = named_there name n xs x h
+-- a name is still among them when there is one more row
+pub still_there : {X : Type 0} (name : X → List ℕ) (rows : List X) (row : X) (n : List ℕ) → Contains (map name rows) n → Contains (map name (rows ++ row ∷ [])) n
+still_there name rows row n h = rw (map-append name rows (row ∷ [])) (Contains-append_left (map name rows) (name row ∷ []) n h)
+
+-- names that are referred to stay among those of the rows
+pub still_all : {X Y : Type 0} (name : X → List ℕ) (rows new : List X) (refers : Y → List ℕ) (ys : List Y) → ((n : List ℕ) → Contains (map name rows) n → Contains (map name new) n) → All (λ y. Contains (map name rows) (refers y)) ys → All (λ y. Contains (map name new) (refers y)) ys
+still_all name rows new refers ys still h =
+    All-each (λ y. Contains (map name rows) (refers y)) (λ y. Contains (map name new) (refers y)) ys (λ y. still (refers y)) h
 
 -- where names are unique, the one found is the only one of its name
 pub only_named : {X : Type 0} (name : X → List ℕ) (n : List ℕ) (xs : List X) (x : X) → AllPairs (λ a b. name a ≢ name b) xs → find (λ y. bytes_eq (name y) n) xs ≡ Some x → All (λ y. bytes_eq (name y) n ≡ true → y ≡ x) xs

@@ -1,32 +1,31 @@
--- What the bookings of a club hold of a booking or a cancelling that was served, and that it stays there.
-use Rattle.std.proofs.Common.{◌≡◌, ℕ, Bool, true, false, cond, List, [], ◌∷◌, ◌++◌, map, Option, Some, None, Ok, Err, refl, sym, ap, ◌∙◌, subst}
-use Rattle.std.specs.Prelude.{Result, ◌&&◌, ◌==◌, not}
+-- What the bookings of a club hold of a booking or a cancellation that was served, and that it stays there.
+use Rattle.std.proofs.Common.{◌≡◌, ℕ, Bool, true, false, cond, List, [], ◌∷◌, ◌++◌, map, Some, None, refl, sym, ap, ◌∙◌, subst}
+use Rattle.std.specs.Prelude.{◌&&◌, ◌==◌, not}
 use Rattle.std.specs.Str.{bytes_eq}
 use Rattle.std.proofs.lemmas.Bool.{and_from, and_right, or_left, or_right, not_from_true, not_from_false, eq-eqb}
-use Rattle.pass_caveats.specs.declared.slot.Slot.{Slot}
-use Rattle.club_core.specs.declared.key.Key.{Key}
-use Rattle.club_core.specs.declared.booking.Booking.{Booking}
+use Rattle.club_values.specs.declared.slot.Slot.{Slot}
+use Rattle.club_rows.specs.declared.key.Key.{Key}
+use Rattle.club_rows.specs.declared.booking.Booking.{Booking}
 use Rattle.club_core.specs.declared.verdict.Verdict.{Verdict}
 use Rattle.club_core.specs.declared.change.Change.{Change}
-use Rattle.club_core.specs.declared.change.Change.TheVariants.{InsertMember, AddCredit, InsertFacility, InsertKey, MarkRevoked, MarkClosed, InsertBooking, MarkCancelled}
-use Rattle.club_core.specs.declared.command.OfficeFault.{OfficeFault}
+use Rattle.club_core.specs.declared.change.Change.TheVariants.{InsertBooking, MarkCancelled}
 use Rattle.club_core.specs.declared.reply.Reply.{Reply}
 use Rattle.club_core.specs.declared.reply.Reply.TheVariants.{SlotShown, Booked, Cancelled, AccountShown, Refused}
 use Rattle.club_core.specs.declared.request.Request.{Request}
 use Rattle.club_core.specs.declared.request.Request.TheVariants as asked
-use Rattle.club_core.specs.Booking.{same_slot, refund_at}
+use Rattle.club_rows.specs.Booking.{same_slot, refund_at}
 use Rattle.club_core.specs.Sums.{booking_under}
 use Rattle.club_core.specs.Pass.{Words}
 use Rattle.club_core.specs.Club.{Club}
-use Rattle.club_core.specs.Basis.{key_of, basis_of}
-use Rattle.club_core.specs.Answer.{answer_of}
+use Rattle.club_core.specs.Basis.{key_of}
+use Rattle.club_core.specs.Answer.{verdict_in}
 use Rattle.club_core.specs.After.{after, cancelled, is_marked}
-use Rattle.club_core.specs.Office.{office_verdict}
-use Rattle.club_core.specs.Run.{Event, Asked, Ordered, step, after_change, ordered, club_after}
+use Rattle.club_core.specs.Run.{Event, after_change, club_after}
 use Rattle.club_laws.specs.Repeats.{IsBookedOrCancelled}
 use Rattle.club_laws.proofs.FoundRows.{found_before, found_last, found_edited, same_bytes}
 use Rattle.club_laws.proofs.NamedRows.{is_numbered, same_slots, self_numbered}
 use Rattle.club_laws.proofs.AnswerCases.{IsSilent, Cancels, written, answer_cases}
+use Rattle.club_laws.proofs.KeptByRuns.{kept_by_run}
 
 pub record HasBooked (bookings : List Booking) (key : List ℕ) (slot : Slot) (number guests : ℕ) (reply : Reply) : Type 0 where
   pub booking : Booking
@@ -57,7 +56,7 @@ stays_behind bookings new key (asked.Cancel slot number) reply h =
     record { booking = h.booking; found = found_before (is_numbered key number) bookings (new ∷ []) h.booking h.found; same = h.same; before = h.before; told = h.told }
 stays_behind bookings new key asked.Account reply h = h
 
--- nor does a cancelling, which leaves alone what was cancelled
+-- nor does a cancellation, which leaves alone what was cancelled
 stays_marked : (bookings : List Booking) (name : List ℕ) (n refund : ℕ) (key : List ℕ) (request : Request) (reply : Reply) → OnRecord bookings key request reply → OnRecord (map (cancelled name n refund) bookings) key request reply
 stays_marked bookings name n refund key (asked.View slot) reply h = h
 stays_marked bookings name n refund key (asked.Book slot number guests) reply h =
@@ -79,30 +78,13 @@ stays_marked bookings name n refund key (asked.Cancel slot number) reply h =
 stays_marked bookings name n refund key asked.Account reply h = h
 
 stays_after : (club : Club) (change : Change) (key : List ℕ) (request : Request) (reply : Reply) → OnRecord club.bookings key request reply → OnRecord (after change club).bookings key request reply
-stays_after club (InsertMember member) key request reply h = h
-stays_after club (AddCredit name points) key request reply h = h
-stays_after club (InsertFacility facility) key request reply h = h
-stays_after club (InsertKey other) key request reply h = h
-stays_after club (MarkRevoked name) key request reply h = h
-stays_after club (MarkClosed slot) key request reply h = h
 stays_after club (InsertBooking booking) key request reply h = stays_behind club.bookings booking key request reply h
 stays_after club (MarkCancelled name number refund) key request reply h = stays_marked club.bookings name number refund key request reply h
-
-stays_step : (club : Club) (event : Event) (key : List ℕ) (request : Request) (reply : Reply) → OnRecord club.bookings key request reply → OnRecord (step club event).club.bookings key request reply
-stays_step club (Asked words moment) key request reply h = go (answer_of words moment (basis_of club words)).change
-  where
-    go : (change : Option Change) → OnRecord (after_change change club).bookings key request reply
-    go None = h
-    go (Some change) = stays_after club change key request reply h
-stays_step club (Ordered command) key request reply h = go (office_verdict club command)
-  where
-    go : (verdict : Result Change OfficeFault) → OnRecord (ordered club command verdict).club.bookings key request reply
-    go (Err fault) = h
-    go (Ok change) = stays_after club change key request reply h
+stays_after club change key request reply h = h
 
 pub stays_on_record : (club : Club) (events : List Event) (key : List ℕ) (request : Request) (reply : Reply) → OnRecord club.bookings key request reply → OnRecord (club_after club events).bookings key request reply
-stays_on_record club [] key request reply h = h
-stays_on_record club (event ∷ events) key request reply h = stays_on_record (step club event).club events key request reply (stays_step club event key request reply h)
+stays_on_record club events key request reply =
+    kept_by_run (λ (c : Club). OnRecord c.bookings key request reply) (λ c change. stays_after c change key request reply) club events
 
 -- what was served is on record, under the key that the words name
 pub record IsRecorded (bookings : List Booking) (words : Words) (reply : Reply) : Type 0 where
@@ -146,17 +128,17 @@ module _ (club : Club) (words : Words) (moment : ℕ) where
         told = ap (λ (b : Bool). Cancelled booking.key booking.number (cond b refund booking.refund)) (sym marked);
       }
 
-  pub recorded_when_served : IsBookedOrCancelled (answer_of words moment (basis_of club words)).reply → IsRecorded (after_change (answer_of words moment (basis_of club words)).change club).bookings words (answer_of words moment (basis_of club words)).reply
+  pub recorded_when_served : IsBookedOrCancelled (verdict_in club words moment).reply → IsRecorded (after_change (verdict_in club words moment).change club).bookings words (verdict_in club words moment).reply
   recorded_when_served =
       answer_cases (λ (v : Verdict). IsBookedOrCancelled v.reply → IsRecorded (after_change v.change club).bookings words v.reply) club words moment (record {
         silent = λ reply h k. served_or_silent reply h k;
-        rebooks = λ key member slot number guests booking k e b s.
+        repeats_booking = λ key member slot number guests booking k e b s.
             as_booked key.name slot number guests club.bookings (Booked booking.key booking.number booking.charge booking.left) k.named e (record { booking = booking; found = b.found; same = b.same; told = refl });
         books = λ key member slot number guests facility k e b s.
             let new : Booking = written club key slot number guests facility in
             as_booked key.name slot number guests (club.bookings ++ new ∷ []) (Booked new.key new.number new.charge new.left) k.named e
             (new_on_record key slot number guests new.charge new.left new refl b.new);
-        recancels = λ key member slot number booking k e b s.
+        cancels_recorded = λ key member slot number booking k e b s.
             as_cancelled key.name slot number club.bookings (Cancelled booking.key booking.number booking.refund) k.named e (record { booking = booking; found = b.found; same = b.same; before = b.before; told = refl });
         cancels = λ key member slot number booking k e c s.
             as_cancelled key.name slot number (map (cancelled booking.key booking.number (refund_at booking moment)) club.bookings) (Cancelled booking.key booking.number (refund_at booking moment)) k.named e

@@ -1,29 +1,30 @@
 -- A request of the member's is answered by the member's part and what others hold.
-use Rattle.std.proofs.Common.{◌≡◌, ℕ, ◌+◌, Bool, true, false, ◌||◌, cond, List, [], ◌∷◌, filter, find, Option, Some, None, option_map, option_and_then, refl, sym, ap, ◌∙◌}
-use Rattle.std.specs.List.{list_any}
-use Rattle.pass_caveats.specs.declared.slot.Slot.{Slot}
-use Rattle.club_core.specs.declared.member.Member.{Member}
-use Rattle.club_core.specs.declared.facility.Facility.{Facility}
-use Rattle.club_core.specs.declared.key.Key.{Key}
-use Rattle.club_core.specs.declared.booking.Booking.{Booking}
+use Rattle.std.proofs.Common.{◌≡◌, ℕ, ◌+◌, Bool, List, filter, Option, Some, None, option_map, option_and_then, refl, sym, ap, ◌∙◌}
+use Rattle.club_values.specs.declared.slot.Slot.{Slot}
+use Rattle.club_rows.specs.declared.member.Member.{Member}
+use Rattle.club_rows.specs.declared.facility.Facility.{Facility}
+use Rattle.club_rows.specs.declared.key.Key.{Key}
+use Rattle.club_rows.specs.declared.booking.Booking.{Booking}
 use Rattle.club_core.specs.declared.request.Request.{Request}
-use Rattle.club_core.specs.Booking.{persons_of}
+use Rattle.club_rows.specs.Booking.{persons_of}
 use Rattle.club_core.specs.Sums.{is_in}
 use Rattle.club_core.specs.Request.{slot_of}
 use Rattle.club_core.specs.Pass.{Words}
 use Rattle.club_core.specs.Club.{Club, key_named, member_named, facility_named, keys_of, is_key_of, bookings_of, is_closed}
 use Rattle.club_core.specs.Basis.{Basis, SlotState, basis_of, basis_under, state_of, key_of}
-use Rattle.club_core.specs.Solo.{Outside, outside, part_of, with_others}
-use Rattle.club_laws.proofs.Finding.{find_passes, find_filtered, same_bytes, bytes_eq_same}
-use Rattle.club_laws.proofs.Filtering.{filter_twice, sum_in_parts}
+use Rattle.club_core.specs.declared.slot_use.SlotUse.{SlotUse}
+use Rattle.club_core.specs.Solo.{outside, part_of, with_others}
+use Rattle.club_laws.proofs.FoundRows.{found_passes, find_filtered, bytes_same, same_bytes_of}
+use Rattle.club_laws.proofs.Filtering.{filter_twice}
+use Rattle.club_laws.proofs.RowSums.{sum_in_parts}
 use Rattle.club_laws.proofs.ChangedParts.{is_named, is_owned, has_name, is_under_one}
 use Rattle.club_laws.proofs.BasisRows.{basis_with, RestsOn, rests_on_name}
 
 abbrev state_with : Option Facility → ℕ → Bool → SlotState
-state_with facility taken closed = record { facility = facility; taken = taken; closed = closed }
+state_with facility taken closed = record { facility = facility; held = record { taken = taken; closed = closed } }
 
-abbrev with_outside : Outside → SlotState → SlotState
-with_outside others state = state_with state.facility (state.taken + others.taken) others.closed
+abbrev with_outside : SlotUse → SlotState → SlotState
+with_outside others state = state_with state.facility (state.held.taken + others.taken) others.closed
 
 abbrev basis_of_rows : Key → Member → List Booking → SlotState → Basis
 basis_of_rows key member bookings state = record { key = key; member = member; bookings = bookings; state = state }
@@ -53,13 +54,13 @@ rests_in_part club request name basis rests =
     let own = basis.member.name in
     let part = part_of own club in
     let member_name : own ≡ basis.key.member =
-    same_bytes own basis.key.member (find_passes (is_named basis.key.member) club.members basis.member rests.member)
+    bytes_same own basis.key.member (found_passes (is_named basis.key.member) club.members basis.member rests.member)
     in
     let key_in : key_named basis.key.name part ≡ Some basis.key =
-    find_filtered (has_name basis.key.name) (is_owned own) club.keys basis.key rests.row (bytes_eq_same basis.key.member own (sym member_name))
+    find_filtered (has_name basis.key.name) (is_owned own) club.keys basis.key rests.row (same_bytes_of basis.key.member own (sym member_name))
     in
     let member_in : member_named basis.key.member part ≡ Some basis.member =
-    find_filtered (is_named basis.key.member) (is_named own) club.members basis.member rests.member (bytes_eq_same own own refl)
+    find_filtered (is_named basis.key.member) (is_named own) club.members basis.member rests.member (same_bytes_of own own refl)
     in
     ap (λ (n : Option (List ℕ)). option_and_then (basis_under part request) (option_and_then (λ (m : List ℕ). key_named m part) n)) rests.named
     ∙ (ap (λ (key : Option Key). option_and_then (basis_under part request) key) key_in
@@ -72,22 +73,3 @@ own_basis club words basis e =
     let others = outside basis.member.name club (slot_of words.request) in
     ap (λ (b : Option Basis). option_map (with_others others) b) (rests_in_part club words.request (key_of words.pass) basis rests)
     ∙ ap Some (own_basis_with club words.request basis.key basis.member ∙ sym rests.whole)
-
--- the key of a request of the member's is one of the member's keys
-any_found_at : (b : Bool) (first : Key) (rest : Option Key) (any : Bool) (key : Key) → cond b (Some first) rest ≡ Some key → (rest ≡ Some key → any ≡ true) → (b || any) ≡ true
-any_found_at true first rest any key e h = refl
-any_found_at false first rest any key e h = h e
-
-pub any_found : (test : Key → Bool) (keys : List Key) (key : Key) → find test keys ≡ Some key → list_any test keys ≡ true
-any_found test [] key e = absurd (cc)
-any_found test (first ∷ keys) key e = any_found_at (test first) first (find test keys) (list_any test keys) key e (any_found test keys key)
-
-pub own_key : (club : Club) (words : Words) (basis : Basis) → basis_of club words ≡ Some basis → is_key_of basis.member.name club basis.key.name ≡ true
-own_key club words basis e =
-    let rests = rests_on_name club words basis e in
-    let own = basis.member.name in
-    let member_name : own ≡ basis.key.member =
-    same_bytes own basis.key.member (find_passes (is_named basis.key.member) club.members basis.member rests.member)
-    in
-    any_found (has_name basis.key.name) (filter (is_owned own) club.keys) basis.key
-    (find_filtered (has_name basis.key.name) (is_owned own) club.keys basis.key rests.row (bytes_eq_same basis.key.member own (sym member_name)))

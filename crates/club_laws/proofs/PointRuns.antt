@@ -1,23 +1,23 @@
 -- Charges, refunds and places over a run from the empty club.
 use Rattle.std.proofs.Common.{◌≡◌, ℕ, ◌+◌, ◌≤◌, Bool, true, false, List, [], ◌∷◌, Option, Some, None, Ok, refl, sym, ap, ◌∙◌, arith}
-use Rattle.std.specs.Prelude.{Result, All, ◌&&◌, not, is_some, filter, sum_by, MatchOption}
+use Rattle.std.specs.Prelude.{Result, All, ◌&&◌, not, filter, sum_by, MatchOption}
 use Rattle.std.specs.Str.{bytes_eq}
 use Rattle.std.proofs.lemmas.List.Elements.{All-head, All-tail, All-filter, filter_agree}
 use Rattle.std.proofs.lemmas.List.Sums.{sum_by-cons}
-use Rattle.pass_caveats.specs.declared.slot.Slot.{Slot}
-use Rattle.club_core.specs.declared.member.Member.{Member}
-use Rattle.club_core.specs.declared.facility.Facility.{Facility}
-use Rattle.club_core.specs.declared.booking.Booking.{Booking}
+use Rattle.club_values.specs.declared.slot.Slot.{Slot}
+use Rattle.club_rows.specs.declared.member.Member.{Member}
+use Rattle.club_rows.specs.declared.facility.Facility.{Facility}
+use Rattle.club_rows.specs.declared.booking.Booking.{Booking}
 use Rattle.club_core.specs.declared.change.Change.{Change}
 use Rattle.club_core.specs.declared.command.Command.{Command}
-use Rattle.club_core.specs.declared.command.Command.TheVariants.{AddMember, Credit, AddFacility, AddKey, RevokeKey, CloseSlot}
+use Rattle.club_core.specs.declared.command.Command.TheVariants.{RevokeKey}
 use Rattle.club_core.specs.declared.command.OfficeFault.{OfficeFault}
-use Rattle.club_core.specs.Rows.{IsBooking}
+use Rattle.club_rows.specs.Rows.{IsBooking}
 use Rattle.club_core.specs.Club.{Club, empty_club, member_named, facility_named, is_key_of, bookings_of, IsSound}
 use Rattle.club_core.specs.Sums.{cost_of, taken_in}
 use Rattle.club_core.specs.Office.{office_verdict}
 use Rattle.club_core.specs.Run.{Event, Asked, Ordered, step, ordered, replies_of, club_after}
-use Rattle.club_laws.specs.Events.{IsEvent}
+use Rattle.club_core.specs.Events.{IsEvent}
 use Rattle.club_laws.specs.Points.{Entry, charge_told, charges_told, refund_told, refunds_told, keys_given, credits_accepted, total_under, firsts}
 use Rattle.club_laws.specs.Conservation.{IsConserved}
 use Rattle.club_laws.proofs.FoundRows.{at_found}
@@ -40,12 +40,8 @@ order_keeps : (club : Club) (command : Command) → KeepsPoints club command (of
 order_keeps club command = order_cases (KeepsPoints club command) club (λ fault. record { bookings = refl; no_charge = refl; no_refund = refl }) command (λ k. done command)
   where
     done : (c : Command) → KeepsPoints club c (Ok (change_of c))
-    done (AddMember name quota) = record { bookings = refl; no_charge = refl; no_refund = refl }
-    done (Credit name points) = record { bookings = refl; no_charge = refl; no_refund = refl }
-    done (AddFacility name kind places price opens shuts) = record { bookings = refl; no_charge = refl; no_refund = refl }
-    done (AddKey name member root) = record { bookings = refl; no_charge = refl; no_refund = refl }
     done (RevokeKey name) = record { bookings = refl; no_charge = refl; no_refund = refl }
-    done (CloseSlot slot) = record { bookings = refl; no_charge = refl; no_refund = refl }
+    done c = record { bookings = refl; no_charge = refl; no_refund = refl }
 
 module _ (p : List ℕ → Bool) where
   step_charges : (club : Club) (event : Event) → MovesCharge p club.bookings (step club event).club.bookings (step club event).reply
@@ -137,7 +133,7 @@ has_room events slot h = go (facility_named slot.facility club) refl
     go : (o : Option Facility) → facility_named slot.facility (club_after empty_club events) ≡ o → MatchOption o (taken_in slot (club_after empty_club events).bookings ≡ 0) (λ (facility : Facility). taken_in slot (club_after empty_club events).bookings ≤ facility.places)
     go None e =
         nobody_in (club_after empty_club events) slot (sound_run empty_club events sound_empty h).references
-        (none_named (λ (f : Facility). f.name) slot.facility (club_after empty_club events).facilities (ap (λ (o : Option Facility). is_some o) e))
+        (none_named (λ (f : Facility). f.name) slot.facility (club_after empty_club events).facilities e)
     go (Some facility) e =
         at_found (λ (f : Facility). (at : Slot) → at.facility ≡ f.name → taken_in at (club_after empty_club events).bookings ≤ f.places) (λ (f : Facility). bytes_eq f.name slot.facility) (club_after empty_club events).facilities facility
         (sound_run empty_club events sound_empty h).places e slot (sym (named (λ (f : Facility). f.name) slot.facility (club_after empty_club events).facilities facility e))

@@ -6,18 +6,19 @@ use Rattle.std.specs.List.{list_any}
 use Rattle.std.proofs.lemmas.List.Folds.{list_any-append, list_any_none, Any-from_list_any}
 use Rattle.std.proofs.lemmas.List.Sums.{sum_by-cons}
 use Rattle.std.proofs.lemmas.Bool.{both_ways, and_parts, and_from, and_left, and_right, false_from_ne_true, not_from_false}
-use Rattle.club_core.specs.declared.booking.Booking.{Booking}
+use Rattle.club_rows.specs.declared.booking.Booking.{Booking}
 use Rattle.club_core.specs.declared.verdict.Verdict.{Verdict}
 use Rattle.club_core.specs.declared.reply.Reply.{Reply}
 use Rattle.club_core.specs.declared.reply.Reply.TheVariants.{SlotShown, Booked, Cancelled, AccountShown, Refused}
-use Rattle.club_core.specs.Rows.{IsBooking}
+use Rattle.club_rows.specs.Rows.{IsBooking}
 use Rattle.club_core.specs.Pass.{Words}
-use Rattle.club_core.specs.Booking.{refund_at}
+use Rattle.club_rows.specs.Booking.{refund_at}
 use Rattle.club_core.specs.Club.{Club, IsSound}
-use Rattle.club_core.specs.Basis.{basis_of}
-use Rattle.club_core.specs.Answer.{answer_of}
+use Rattle.club_core.specs.Answer.{verdict_in}
 use Rattle.club_core.specs.After.{cancelled, is_marked}
-use Rattle.club_core.specs.Run.{EventReply, Replied, after_change}
+use Rattle.club_core.specs.declared.event.EventReply.{EventReply}
+use Rattle.club_core.specs.declared.event.EventReply.TheVariants.{Replied}
+use Rattle.club_core.specs.Run.{after_change}
 use Rattle.club_laws.specs.Points.{refund_told}
 use Rattle.club_laws.proofs.FoundRows.{found_is_there, found_passes, at_found, any_passes, any-map, AllPairs-head, AllPairs-tail, All-each}
 use Rattle.club_laws.proofs.NamedRows.{is_numbered, numbered, only_numbered, self_numbered, numbered_back, tests_same}
@@ -74,7 +75,7 @@ refund_again p bookings key number booking e before =
 abbrev AreUnique : List Booking → Type 0
 AreUnique bookings = AllPairs (λ (a : Booking) (b : Booking). ¬ ((a.key ≡ b.key) × (a.number ≡ b.number))) bookings
 
--- a cancelling marks one booking: no other has its key and number
+-- a cancellation marks one booking: no other has its key and number
 module _ (p : List ℕ → Bool) (key : List ℕ) (number refund : ℕ) where
   abbrev back_before : Booking → ℕ
   back_before b = cond (p b.key) b.refund 0
@@ -178,15 +179,15 @@ refund_new p bookings name n refund booking unique found stood none =
     ∙ (any_or (is_numbered key number) (λ (b : Booking). b.cancelled) (is_marked booking.key booking.number) bookings
     ∙ ap (λ b. has_cancelled bookings key number || b) (marked_alone bookings booking unique name n found stood key number)))
 
-pub refund_moves : (p : List ℕ → Bool) (club : Club) (words : Words) (moment : ℕ) → IsSound club → MovesRefund p club.bookings (after_change (answer_of words moment (basis_of club words)).change club).bookings (Replied (answer_of words moment (basis_of club words)).reply)
+pub refund_moves : (p : List ℕ → Bool) (club : Club) (words : Words) (moment : ℕ) → IsSound club → MovesRefund p club.bookings (after_change (verdict_in club words moment).change club).bookings (Replied (verdict_in club words moment).reply)
 refund_moves p club words moment s =
     answer_cases (λ (v : Verdict). MovesRefund p club.bookings (after_change v.change club).bookings (Replied v.reply)) club words moment (record {
       silent = λ reply h. refunds_stay p club.bookings (Replied reply) (refund_untold reply h);
-      rebooks = λ key member slot number guests booking k e b. refunds_stay p club.bookings (Replied (Booked booking.key booking.number booking.charge booking.left)) refl;
+      repeats_booking = λ key member slot number guests booking k e b. refunds_stay p club.bookings (Replied (Booked booking.key booking.number booking.charge booking.left)) refl;
       books = λ key member slot number guests facility k e b.
           let new : Booking = written club key slot number guests facility in
           refund_booked p club.bookings new (Replied (Booked new.key new.number new.charge new.left)) refl refl refl;
-      recancels = λ key member slot number booking k e b. refund_again p club.bookings key.name number booking b.found b.before;
+      cancels_recorded = λ key member slot number booking k e b. refund_again p club.bookings key.name number booking b.found b.before;
       cancels = λ key member slot number booking k e c.
           let row = at_found IsBooking (is_numbered key.name number) club.bookings booking s.rows.bookings c.found in
           refund_new p club.bookings key.name number (refund_at booking moment) booking s.unique.bookings c.found c.stood (row.kept c.stood);

@@ -1,58 +1,33 @@
 -- What is on record is answered by the record.
-use Rattle.std.proofs.Common.{◌≡◌, ℕ, true, cond, List, [], ◌∷◌, ◌++◌, Option, Some, None, Ok, refl, sym, ap, ◌∙◌, subst}
+use Rattle.std.proofs.Common.{◌≡◌, ℕ, true, cond, List, ◌∷◌, ◌++◌, Option, Some, None, Ok, refl, sym, ap, ◌∙◌, subst}
 use Rattle.std.specs.Prelude.{Result, ◌&&◌, ◌==◌, not, nat_le, option_map, option_and_then}
-use Rattle.std.specs.Str.{bytes_eq}
 use Rattle.std.proofs.lemmas.Bool.{cond-true, cond-false, not_from_true}
-use Rattle.pass_caveats.specs.declared.fault.CaveatFault.{CaveatFault}
-use Rattle.pass_caveats.specs.Slot.{start_of}
-use Rattle.pass_caveats.specs.CaveatOf.{first_fault_of}
-use Rattle.club_core.specs.declared.member.Member.{Member}
-use Rattle.club_core.specs.declared.key.Key.{Key}
-use Rattle.club_core.specs.declared.booking.Booking.{Booking}
+use Rattle.club_values.specs.Slot.{start_of}
+use Rattle.club_rows.specs.declared.booking.Booking.{Booking}
 use Rattle.club_core.specs.declared.view.View.{View}
 use Rattle.club_core.specs.declared.verdict.Verdict.{Verdict}
 use Rattle.club_core.specs.declared.refusal.Refusal.TheVariants as refusals
 use Rattle.club_core.specs.declared.reply.Reply.{Reply}
 use Rattle.club_core.specs.declared.request.Request.{Request}
 use Rattle.club_core.specs.declared.request.Request.TheVariants as asked
-use Rattle.club_core.specs.Booking.{same_slot, refund_at}
+use Rattle.club_rows.specs.Booking.{same_slot, refund_at}
 use Rattle.club_core.specs.Sums.{booking_under}
-use Rattle.club_core.specs.Request.{slot_of, number_of}
-use Rattle.club_core.specs.Pass.{FormFault, Pass, Words}
-use Rattle.club_core.specs.Club.{Club, member_named, key_named, bookings_of}
-use Rattle.club_core.specs.Basis.{Basis, key_of, basis_of, basis_under, state_of, view_of}
+use Rattle.club_core.specs.Request.{number_of}
+use Rattle.club_core.specs.declared.form_fault.FormFault.{FormFault}
+use Rattle.club_core.specs.Pass.{Pass, Words}
+use Rattle.club_core.specs.Club.{Club}
+use Rattle.club_core.specs.Basis.{Basis, key_of, basis_of, view_of}
 use Rattle.club_core.specs.Verdict as verdicts
-use Rattle.club_core.specs.Answer.{answer_of, answer_to, ask_of, after_caveats}
-use Rattle.club_core.specs.Run.{Event, Asked, EventReply, Replied, Outcome, step, told_and_changed, replies_of, club_after}
-use Rattle.club_laws.specs.Repeats.{IsAccepted, IsBookedOrCancelled, WasServed, MayBeLeftOut}
-use Rattle.club_laws.proofs.FoundRows.{found_passes, bytes_same}
-use Rattle.club_laws.proofs.AnswerCases.{Knows, own_booking}
+use Rattle.club_core.specs.Answer.{answer_to, verdict_in}
+use Rattle.club_core.specs.declared.event.EventReply.TheVariants.{Replied}
+use Rattle.club_core.specs.Run.{Event, Asked, Outcome, step, told_and_changed, replies_of, club_after}
+use Rattle.club_core.specs.Acceptance.{IsAcceptedIn}
+use Rattle.club_laws.specs.Repeats.{IsBookedOrCancelled, WasServed, MayBeLeftOut}
+use Rattle.club_laws.proofs.AnswerCases.{own_booking}
+use Rattle.club_laws.proofs.BasisRows.{rests_on_name, known_rows}
+use Rattle.club_laws.proofs.ServedPasses.{accepted_under}
+use Rattle.club_laws.proofs.KeptByRuns.{club_after-append, replies_of-append}
 use Rattle.club_laws.proofs.OnRecord.{OnRecord, IsRecorded, recorded_when_served, stays_on_record}
-
--- what a basis is made of
-pub record IsBasis (club : Club) (words : Words) (basis : Basis) : Type 0 where
-  pub knows : Knows club words basis.key basis.member
-  pub bookings : basis.bookings ≡ bookings_of basis.member.name club
-
-basis_at : (club : Club) (words : Words) (key : Key) → key_of words.pass ≡ Some key.name → key_named key.name club ≡ Some key → (o : Option Member) → member_named key.member club ≡ o → (basis : Basis) → option_map (λ (member : Member). record { key = key; member = member; bookings = bookings_of member.name club; state = state_of club (slot_of words.request) }) o ≡ Some basis → IsBasis club words basis
-basis_at club words key n at None e basis is = absurd (cc)
-basis_at club words key n at (Some member) e basis is =
-    let made : Basis = record { key = key; member = member; bookings = bookings_of member.name club; state = state_of club (slot_of words.request) } in
-    let same : made ≡ basis = cc in
-    subst (λ (b : Basis). IsBasis club words b) same (record { knows = record { named = n; known = at; owned = e }; bookings = refl })
-
-basis_by_key : (club : Club) (words : Words) (name : List ℕ) → key_of words.pass ≡ Some name → (o : Option Key) → key_named name club ≡ o → (basis : Basis) → option_and_then (basis_under club words.request) o ≡ Some basis → IsBasis club words basis
-basis_by_key club words name n None e basis is = absurd (cc)
-basis_by_key club words name n (Some key) e basis is =
-    let same : key.name ≡ name = bytes_same key.name name (found_passes (λ (other : Key). bytes_eq other.name name) club.keys key e) in
-    basis_at club words key (n ∙ ap (λ (x : List ℕ). Some x) (sym same)) (ap (λ (x : List ℕ). key_named x club) same ∙ e) (member_named key.member club) refl basis is
-
-basis_by_name : (club : Club) (words : Words) (o : Option (List ℕ)) → key_of words.pass ≡ o → (basis : Basis) → option_and_then (basis_under club words.request) (option_and_then (λ (name : List ℕ). key_named name club) o) ≡ Some basis → IsBasis club words basis
-basis_by_name club words None e basis is = absurd (cc)
-basis_by_name club words (Some name) e basis is = basis_by_key club words name e (key_named name club) refl basis is
-
-pub basis_known : (club : Club) (words : Words) (basis : Basis) → basis_of club words ≡ Some basis → IsBasis club words basis
-basis_known club words basis is = basis_by_name club words (key_of words.pass) refl basis is
 
 same_lookups : {A : Type 0} (f g : ℕ → Option A) → ((n : ℕ) → f n ≡ g n) → (o : Option ℕ) → option_and_then f o ≡ option_and_then g o
 same_lookups f g h None = refl
@@ -61,12 +36,12 @@ same_lookups f g h (Some n) = h n
 -- the view of an accepted request holds the booking that the club has under the key and the number
 pub seen_booking : (club : Club) (words : Words) (moment : ℕ) (basis : Basis) (key : List ℕ) → basis_of club words ≡ Some basis → key_of words.pass ≡ Some key → (view_of basis words.request moment).booking ≡ option_and_then (λ (number : ℕ). booking_under key number club.bookings) (number_of words.request)
 seen_booking club words moment basis key is named =
-    let b = basis_known club words basis is in
-    let same : basis.key.name ≡ key = let e : Some basis.key.name ≡ Some key = sym b.knows.named ∙ named in cc in
+    let rests = rests_on_name club words basis is in
+    let same : basis.key.name ≡ key = let e : Some basis.key.name ≡ Some key = sym rests.named ∙ named in cc in
     same_lookups (λ (number : ℕ). booking_under basis.key.name number basis.bookings) (λ (number : ℕ). booking_under key number club.bookings)
     (λ number.
-    ap (λ (bookings : List Booking). booking_under basis.key.name number bookings) b.bookings
-    ∙ (own_booking club words basis.key basis.member number b.knows ∙ ap (λ (name : List ℕ). booking_under name number club.bookings) same))
+    ap (λ (b : Basis). booking_under basis.key.name number b.bookings) rests.whole
+    ∙ (own_booking club words basis.key basis.member number (known_rows club words basis is) ∙ ap (λ (name : List ℕ). booking_under name number club.bookings) same))
     (number_of words.request)
 
 recorded-some : (o : Option Booking) (booking : Booking) (f : Booking → Verdict) (other : Verdict) → o ≡ Some booking → verdicts.recorded_or o f other ≡ f booking
@@ -75,53 +50,40 @@ recorded-some o booking f other e = ap (λ (x : Option Booking). verdicts.record
 decides_by_record : (bookings : List Booking) (key : List ℕ) (request : Request) (reply : Reply) (view : View) (moment : ℕ) → OnRecord bookings key request reply → view.booking ≡ option_and_then (λ (number : ℕ). booking_under key number bookings) (number_of request) → verdicts.verdict_of view request moment ≡ verdicts.told reply
 decides_by_record bookings key (asked.View slot) reply view moment h e = absurd h
 decides_by_record bookings key (asked.Book slot number guests) reply view moment h e =
-    recorded-some view.booking h.booking (λ booking. verdicts.rebook_verdict booking slot guests) (verdicts.new_verdict view slot number guests moment view.facility) (e ∙ h.found)
+    recorded-some view.booking h.booking (λ booking. verdicts.repeat_booking_verdict booking slot guests) (verdicts.new_verdict view slot number guests moment view.facility) (e ∙ h.found)
     ∙ (cond-true (same_slot h.booking.slot slot && h.booking.guests == guests) (verdicts.booked_before h.booking) (verdicts.refused refusals.NumberUsed) h.same
     ∙ ap verdicts.told (sym h.told))
 decides_by_record bookings key (asked.Cancel slot number) reply view moment h e =
-    recorded-some view.booking h.booking (λ booking. verdicts.recancel_verdict booking slot moment) (verdicts.unknown_verdict view.facility) (e ∙ h.found)
-    ∙ (recancelled h.booking h.same h.before ∙ ap verdicts.told (sym h.told))
+    recorded-some view.booking h.booking (λ booking. verdicts.cancel_recorded_verdict booking slot moment) (verdicts.unknown_verdict view.facility) (e ∙ h.found)
+    ∙ (told_recorded h.booking h.same h.before ∙ ap verdicts.told (sym h.told))
   where
-    recancelled : (booking : Booking) → same_slot booking.slot slot ≡ true → booking.cancelled ≡ true → verdicts.recancel_verdict booking slot moment ≡ verdicts.cancelled_before booking
-    recancelled booking same before =
+    told_recorded : (booking : Booking) → same_slot booking.slot slot ≡ true → booking.cancelled ≡ true → verdicts.cancel_recorded_verdict booking slot moment ≡ verdicts.cancelled_before booking
+    told_recorded booking same before =
         let late : Verdict = cond (nat_le (start_of booking.slot) moment) (verdicts.refused refusals.SlotHasBegun) (verdicts.cancelled booking (refund_at booking moment)) in
         cond-false (not (same_slot booking.slot slot)) (verdicts.refused refusals.NumberUsed) (cond booking.cancelled (verdicts.cancelled_before booking) late) (not_from_true (same_slot booking.slot slot) same)
         ∙ cond-true booking.cancelled (verdicts.cancelled_before booking) late before
 decides_by_record bookings key asked.Account reply view moment h e = absurd h
 
 -- an accepted request is answered by the decision
-pub accepted_answer : (club : Club) (words : Words) (moment : ℕ) (a : IsAccepted club words moment) → answer_of words moment (basis_of club words) ≡ verdicts.verdict_of (view_of a.basis words.request moment) words.request moment
+accepted_answer : (club : Club) (words : Words) (moment : ℕ) (a : IsAcceptedIn club words moment) → verdict_in club words moment ≡ verdicts.verdict_of (view_of a.basis words.request moment) words.request moment
 accepted_answer club words moment a =
-    let view = view_of a.basis words.request moment in
-    let verdict = verdicts.verdict_of view words.request moment in
-    let fault = first_fault_of a.pass.caveats (ask_of view words.request moment) in
-    ap (λ (pass : Result Pass FormFault). answer_to pass words.request moment (basis_of club words)) a.formed
-    ∙ (ap (λ (basis : Option Basis). answer_to (Ok a.pass) words.request moment basis) a.known
-    ∙ (cond-false (not (a.pass.is_signed a.basis.key.root)) (verdicts.refused refusals.NotVerified) (cond a.basis.key.revoked (verdicts.refused refusals.KeyRevoked) (after_caveats fault verdict)) (not_from_true (a.pass.is_signed a.basis.key.root) a.signed)
-    ∙ (cond-false a.basis.key.revoked (verdicts.refused refusals.KeyRevoked) (after_caveats fault verdict) a.valid
-    ∙ ap (λ (o : Option CaveatFault). after_caveats o verdict) a.allowed)))
+    let seen : Option Basis → Option View = λ basis. option_map (λ (b : Basis). view_of b words.request moment) basis in
+    ap (λ (pass : Result Pass FormFault). answer_to pass words.request moment (seen (basis_of club words))) a.read
+    ∙ (ap (λ (basis : Option Basis). answer_to (Ok a.pass) words.request moment (seen basis)) a.known
+    ∙ accepted_under a.pass words.request moment (view_of a.basis words.request moment) a.accepted)
 
-pub told_by_record : (club : Club) (words : Words) (moment : ℕ) (reply : Reply) → IsRecorded club.bookings words reply → IsAccepted club words moment → step club (Asked words moment) ≡ record { reply = Replied reply; club = club }
+told_by_record : (club : Club) (words : Words) (moment : ℕ) (reply : Reply) → IsRecorded club.bookings words reply → IsAcceptedIn club words moment → step club (Asked words moment) ≡ record { reply = Replied reply; club = club }
 told_by_record club words moment reply r a =
     ap (told_and_changed club)
     (accepted_answer club words moment a
     ∙ decides_by_record club.bookings r.key words.request reply (view_of a.basis words.request moment) moment r.on_record (seen_booking club words moment a.basis r.key a.known r.named))
-
--- runs over two lists, one after the other
-pub club_after-append : (club : Club) (front rest : List Event) → club_after club (front ++ rest) ≡ club_after (club_after club front) rest
-club_after-append club [] rest = refl
-club_after-append club (event ∷ front) rest = club_after-append (step club event).club front rest
-
-pub replies_of-append : (club : Club) (front rest : List Event) → replies_of club (front ++ rest) ≡ replies_of club front ++ replies_of (club_after club front) rest
-replies_of-append club [] rest = refl
-replies_of-append club (event ∷ front) rest = ap (λ (replies : List EventReply). (step club event).reply ∷ replies) (replies_of-append (step club event).club front rest)
 
 -- what was served within a history is on record after it
 pub recorded_since : (club : Club) (history : List Event) (words : Words) (reply : Reply) → WasServed club history words reply → IsRecorded (club_after club history).bookings words reply
 recorded_since club history words reply w =
     let start = club_after club w.front in
     let then = (step start (Asked w.first w.moment)).club in
-    let verdict = answer_of w.first w.moment (basis_of start w.first) in
+    let verdict = verdict_in start w.first w.moment in
     let told : verdict.reply ≡ reply = let e : Replied verdict.reply ≡ Replied reply = w.told in cc in
     let first : IsRecorded then.bookings w.first verdict.reply = recorded_when_served start w.first w.moment (subst IsBookedOrCancelled (sym told) w.served) in
     let later = stays_on_record then w.rest first.key w.first.request verdict.reply first.on_record in
@@ -135,10 +97,10 @@ recorded_since club history words reply w =
           (subst (λ (r : Reply). OnRecord (club_after then w.rest).bookings first.key w.first.request r) told later));
     }
 
-pub tells_the_same : (club : Club) (history : List Event) (words : Words) (moment : ℕ) (reply : Reply) → WasServed club history words reply → IsAccepted (club_after club history) words moment → step (club_after club history) (Asked words moment) ≡ record { reply = Replied reply; club = club_after club history }
+pub tells_the_same : (club : Club) (history : List Event) (words : Words) (moment : ℕ) (reply : Reply) → WasServed club history words reply → IsAcceptedIn (club_after club history) words moment → step (club_after club history) (Asked words moment) ≡ record { reply = Replied reply; club = club_after club history }
 tells_the_same club history words moment reply w a = told_by_record (club_after club history) words moment reply (recorded_since club history words reply w) a
 
-pub left_out : (club : Club) (history : List Event) (words : Words) (moment : ℕ) (reply : Reply) (rest : List Event) → WasServed club history words reply → IsAccepted (club_after club history) words moment → MayBeLeftOut club history (Asked words moment) rest (Replied reply)
+pub left_out : (club : Club) (history : List Event) (words : Words) (moment : ℕ) (reply : Reply) (rest : List Event) → WasServed club history words reply → IsAcceptedIn (club_after club history) words moment → MayBeLeftOut club history (Asked words moment) rest (Replied reply)
 left_out club history words moment reply rest w a =
     let end = club_after club history in
     let again = tells_the_same club history words moment reply w a in

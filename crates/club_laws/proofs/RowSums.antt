@@ -1,27 +1,10 @@
 -- Sums over the elements that a test keeps.
 use Rattle.std.proofs.Common.{◌≡◌, ℕ, ◌+◌, ◌≤◌, Bool, true, false, cond, List, [], ◌∷◌, map, refl, sym, ap, ◌∙◌, arith}
-use Rattle.std.specs.Prelude.{All, filter, sum_by}
+use Rattle.std.specs.Prelude.{All, filter, not, sum_by}
 use Rattle.std.proofs.lemmas.List.Elements.{All-head, All-tail}
+use Rattle.std.proofs.lemmas.List.Filters.{sum_by-filter_both}
 use Rattle.std.proofs.lemmas.List.Sums.{sum_by-cons}
-
-pub filter_same : {X : Type 0} (p q : X → Bool) (xs : List X) → All (λ x. p x ≡ q x) xs → filter p xs ≡ filter q xs
-filter_same p q [] h = refl
-filter_same p q (x ∷ xs) h = go (p x) (q x) (All-head (λ y. p y ≡ q y) x xs h) (filter_same p q xs (All-tail (λ y. p y ≡ q y) x xs h))
-  where
-    go : (b c : Bool) → b ≡ c → filter p xs ≡ filter q xs → cond b (x ∷ filter p xs) (filter p xs) ≡ cond c (x ∷ filter q xs) (filter q xs)
-    go b c e rest = cc
-
-pub filter_none : {X : Type 0} (p : X → Bool) (xs : List X) → All (λ x. p x ≡ false) xs → filter p xs ≡ []
-filter_none p [] h = refl
-filter_none p (x ∷ xs) h = rw (All-head (λ y. p y ≡ false) x xs h) (filter_none p xs (All-tail (λ y. p y ≡ false) x xs h))
-
-pub filter-map : {X Y : Type 0} (f : X → Y) (p : Y → Bool) (xs : List X) → filter p (map f xs) ≡ map f (filter (λ x. p (f x)) xs)
-filter-map f p [] = refl
-filter-map {X} {Y} f p (x ∷ xs) = go (p (f x)) (filter-map f p xs)
-  where
-    go : (b : Bool) → filter p (map f xs) ≡ map f (filter (λ y. p (f y)) xs) → cond b (f x ∷ filter p (map f xs)) (filter p (map f xs)) ≡ map f (cond b (x ∷ filter (λ y. p (f y)) xs) (filter (λ y. p (f y)) xs))
-    go true e = ap (λ (ys : List Y). f x ∷ ys) e
-    go false e = e
+use Rattle.club_laws.proofs.Filtering.{filters_swap}
 
 pub sum-filter : {X : Type 0} (f : X → ℕ) (p : X → Bool) (xs : List X) → sum_by f (filter p xs) ≡ sum_by (λ x. cond (p x) (f x) 0) xs
 sum-filter f p [] = refl
@@ -51,3 +34,12 @@ sum_less f g (x ∷ xs) h =
     let rest = sum_less f g xs (All-tail (λ y. f y ≤ g y) x xs h) in
     let here = All-head (λ y. f y ≤ g y) x xs h in
     rw (sum_by-cons f x xs, sum_by-cons g x xs) (omega arith)
+
+-- a sum in two parts
+pub sum_in_parts : {X : Type 0} (f : X → ℕ) (q p : X → Bool) (xs : List X) → sum_by f (filter q xs) ≡ sum_by f (filter q (filter p xs)) + sum_by f (filter q (filter (λ x. not (p x)) xs))
+sum_in_parts {X} f q p xs =
+    let other = λ (x : X). not (p x) in
+    let parts = sum_by-filter_both p other (λ _. refl) f (filter q xs) in
+    let first = ap (sum_by f) (filters_swap p q xs) in
+    let second = ap (sum_by f) (filters_swap other q xs) in
+    omega arith

@@ -1,13 +1,15 @@
 -- The solo law, by an induction over the two runs.
-use Rattle.std.proofs.Common.{◌≡◌, ℕ, Bool, true, false, cond, List, [], ◌∷◌, ◌++◌, map, filter, refl, sym, ap, ◌∙◌}
-use Rattle.club_core.specs.declared.reply.Reply.{Reply}
+use Rattle.std.proofs.Common.{◌≡◌, ℕ, Bool, true, false, cond, List, [], ◌∷◌, ◌++◌, map, refl, sym, ap, ◌∙◌}
+use Rattle.std.proofs.lemmas.Simd.{map-map}
 use Rattle.club_core.specs.Club.{Club}
-use Rattle.club_core.specs.Run.{Event, EventReply, Replied, step, replies_of, club_after, events_where}
+use Rattle.club_core.specs.declared.event.EventReply.{EventReply}
+use Rattle.club_core.specs.declared.event.EventReply.TheVariants.{Replied}
+use Rattle.club_core.specs.Run.{Event, step, replies_of, club_after}
 use Rattle.club_core.specs.Solo.{OwnEvent, OwnAsk, OwnChange, own_part, own_events, part_of, solo_verdict, solo_replies}
 use Rattle.club_laws.specs.SoloLaw.{is_ask, replies_to, solo_part}
 use Rattle.club_laws.proofs.KnownKeys.{IsKeyed}
 use Rattle.club_laws.proofs.FollowedAsks.{Follows}
-use Rattle.club_laws.specs.Failed.{IsRun}
+use Rattle.club_laws.specs.Failed.{Told, ToMember, Telling, told_of, IsRun, answered_events, answers}
 use Rattle.club_laws.proofs.FailedEvents.{run_of_answered}
 use Rattle.club_laws.proofs.FollowedSteps.{follows, keyed_step}
 
@@ -41,17 +43,20 @@ replies_mapped f name club (event ∷ events) (reply ∷ replies) =
     mapped_here f (is_ask (own_part name club event)) reply (replies_to name next events replies) (replies_to name next events (map f replies))
     (replies_mapped f name next events replies)
 
-map_twice : {A B C : Type 0} (f : A → B) (g : B → C) (xs : List A) → map g (map f xs) ≡ map (λ (x : A). g (f x)) xs
-map_twice f g [] = refl
-map_twice f g (x ∷ xs) = ap (λ (ys : List _). g (f x) ∷ ys) (map_twice f g xs)
+pub solo_as_told : {O : Type 0} (telling : Telling O) (name : List ℕ) (club last : Club) (events : List Event) (replies : List (Told O)) → IsKeyed club → IsRun telling club events replies last → replies_to name club (answered_events telling events replies) (answers telling events replies) ≡ map ToMember (solo_replies (part_of name club) (own_events name club (answered_events telling events replies)))
+solo_as_told {O} telling name club last events replies keyed run =
+    let answered = answered_events telling events replies in
+    ap (λ (told : List (Told O)). replies_to name club answered told) (run_of_answered telling club last events replies run).told
+    ∙ (replies_mapped (told_of telling) name club answered (replies_of club answered)
+    ∙ (ap (λ (told : List EventReply). map (told_of telling) told) (solo name club answered keyed)
+    ∙ map-map (told_of telling) Replied (solo_replies (part_of name club) (own_events name club answered))))
 
-pub solo_as_told : {R : Type 0} (shown : EventReply → R) (counts : R → Bool) (name : List ℕ) (club last : Club) (events : List Event) (replies : List R) → IsKeyed club → IsRun shown counts club events replies last → replies_to name club (events_where counts events replies) (filter counts replies) ≡ map (λ (reply : Reply). shown (Replied reply)) (solo_replies (part_of name club) (own_events name club (events_where counts events replies)))
-solo_as_told {R} shown counts name club last events replies keyed run =
-    let answered = events_where counts events replies in
-    ap (λ (told : List R). replies_to name club answered told) (run_of_answered shown counts club last events replies run).told
-    ∙ (replies_mapped shown name club answered (replies_of club answered)
-    ∙ (ap (λ (told : List EventReply). map shown told) (solo name club answered keyed)
-    ∙ map_twice Replied shown (solo_replies (part_of name club) (own_events name club answered))))
+pub solo_of_two_as_told : {O : Type 0} (telling : Telling O) (name : List ℕ) (a b last end : Club) (events others : List Event) (replies told : List (Told O)) → IsKeyed a → IsKeyed b → IsRun telling a events replies last → IsRun telling b others told end → part_of name a ≡ part_of name b → own_events name a (answered_events telling events replies) ≡ own_events name b (answered_events telling others told) → replies_to name a (answered_events telling events replies) (answers telling events replies) ≡ replies_to name b (answered_events telling others told) (answers telling others told)
+solo_of_two_as_told telling name a b last end events others replies told keyed_a keyed_b run_a run_b parts own =
+    solo_as_told telling name a last events replies keyed_a run_a
+    ∙ (ap (λ (part : Club). map ToMember (solo_replies part (own_events name a (answered_events telling events replies)))) parts
+    ∙ (ap (λ (list : List OwnEvent). map ToMember (solo_replies (part_of name b) list)) own
+    ∙ sym (solo_as_told telling name b end others told keyed_b run_b)))
 
 -- the same of the part
 one_more_part : (own : List OwnEvent) (part next : Club) (reply : EventReply) (rest : List OwnEvent) → Follows part own reply next → solo_part part (own ++ rest) ≡ solo_part next rest

@@ -1,23 +1,23 @@
--- A club stays sound under fitting bookings and cancellings.
+-- A club stays sound under fitting bookings and cancellations.
 use Rattle.std.proofs.Common.{◌≡◌, ℕ, ◌+◌, ◌-◌, ◌≤◌, Bool, true, false, cond, List, [], ◌∷◌, ◌++◌, get_or, map, refl, sym, ap, ◌∙◌, subst, arith}
 use Rattle.std.specs.Prelude.{Contains, ◌&&◌, ◌||◌, not, filter, sum_by}
 use Rattle.std.proofs.lemmas.List.Elements.{All-push, All-map, filter-append}
 use Rattle.std.proofs.lemmas.List.Quantifiers.{all_pairs_push}
 use Rattle.std.proofs.lemmas.List.Sums.{sum_by-append}
 use Rattle.std.proofs.lemmas.Bool.{and_parts, or_parts, not-true}
-use Rattle.pass_caveats.specs.declared.slot.Slot.{Slot}
-use Rattle.club_core.specs.declared.member.Member.{Member}
-use Rattle.club_core.specs.declared.facility.Facility.{Facility}
-use Rattle.club_core.specs.declared.key.Key.{Key}
-use Rattle.club_core.specs.declared.booking.Booking.{Booking}
-use Rattle.club_core.specs.Rows.{IsBooking}
-use Rattle.club_core.specs.Booking.{persons_of, same_slot}
+use Rattle.club_values.specs.declared.slot.Slot.{Slot}
+use Rattle.club_rows.specs.declared.member.Member.{Member}
+use Rattle.club_rows.specs.declared.facility.Facility.{Facility}
+use Rattle.club_rows.specs.declared.key.Key.{Key}
+use Rattle.club_rows.specs.declared.booking.Booking.{Booking}
+use Rattle.club_rows.specs.Rows.{IsBooking}
+use Rattle.club_rows.specs.Booking.{persons_of, same_slot}
 use Rattle.club_core.specs.Sums.{cost_of, is_in, taken_in}
 use Rattle.club_core.specs.After.{is_marked, cancelled}
 use Rattle.club_core.specs.Club.{Club, is_key_of, bookings_of, IsSound}
 use Rattle.club_laws.proofs.FoundRows.{AllPairs-map}
 use Rattle.club_laws.proofs.RowSums.{sum-filter, sum-map, sum_less}
-use Rattle.club_laws.proofs.FittingChanges.{FitsBooking, FitsCancelling}
+use Rattle.club_laws.proofs.FittingChanges.{FitsBooking, FitsCancellation}
 
 -- the sum over what a test keeps, with one more element
 pub sum_one_more : {X : Type 0} (f : X → ℕ) (p : X → Bool) (xs : List X) (x : X) → sum_by f (filter p (xs ++ x ∷ [])) ≡ sum_by f (filter p xs) + cond (p x) (f x) 0
@@ -33,37 +33,25 @@ covered true sum more most h k = h refl
 covered false sum more most h k = omega arith
 
 pub sound_booking : (club : Club) (booking : Booking) → IsSound club → FitsBooking club booking → IsSound (record club { bookings = club.bookings ++ booking ∷ [] })
-sound_booking club booking s f = record {
-  rows = record {
-    bookings = All-push IsBooking club.bookings booking s.rows.bookings f.row;
-    members = s.rows.members;
-    facilities = s.rows.facilities;
-    keys = s.rows.keys;
-    closed = s.rows.closed;
-  };
-  unique = record {
-    bookings = all_pairs_push (λ (a : Booking) (b : Booking). ¬ ((a.key ≡ b.key) × (a.number ≡ b.number))) club.bookings booking s.unique.bookings f.fresh;
-    members = s.unique.members;
-    facilities = s.unique.facilities;
-    keys = s.unique.keys;
-    closed = s.unique.closed;
-  };
-  references = record {
-    keys = s.references.keys;
-    closed = s.references.closed;
-    bookings = All-push (λ (b : Booking). Contains (map (λ (k : Key). k.name) club.keys) b.key) club.bookings booking s.references.bookings f.known;
-    booked = All-push (λ (b : Booking). Contains (map (λ (g : Facility). g.name) club.facilities) b.slot.facility) club.bookings booking s.references.booked f.located;
-  };
-  balances = λ k d short.
-      let member = get_or club.members k d in
-      let own : Booking → Bool = λ (b : Booking). is_key_of member.name club b.key in
-      subst (λ n. n ≤ member.credited) (sym (sum_one_more cost_of own club.bookings booking))
-      (covered (own booking) (sum_by cost_of (bookings_of member.name club)) (cost_of booking) member.credited (f.paid k d short) (s.balances k d short));
-  places = λ k d short slot at.
-      let facility = get_or club.facilities k d in
-      subst (λ n. n ≤ facility.places) (sym (sum_one_more persons_of (is_in slot) club.bookings booking))
-      (covered (is_in slot booking) (taken_in slot club.bookings) (persons_of booking) facility.places (f.placed k d short slot at) (s.places k d short slot at));
-}
+sound_booking club booking s f =
+    let limits = All-push IsBooking club.bookings booking s.rows.bookings f.row in
+    let names = all_pairs_push (λ (a : Booking) (b : Booking). ¬ ((a.key ≡ b.key) × (a.number ≡ b.number))) club.bookings booking s.unique.bookings f.fresh in
+    let known = All-push (λ (b : Booking). Contains (map (λ (k : Key). k.name) club.keys) b.key) club.bookings booking s.references.bookings f.known in
+    let located = All-push (λ (b : Booking). Contains (map (λ (g : Facility). g.name) club.facilities) b.slot.facility) club.bookings booking s.references.booked f.located in
+    record {
+      rows = record { members = s.rows.members; facilities = s.rows.facilities; keys = s.rows.keys; bookings = limits; closed = s.rows.closed };
+      unique = record { members = s.unique.members; facilities = s.unique.facilities; keys = s.unique.keys; bookings = names; closed = s.unique.closed };
+      references = record { keys = s.references.keys; bookings = known; booked = located; closed = s.references.closed };
+      balances = λ k d short.
+          let member = get_or club.members k d in
+          let own : Booking → Bool = λ (b : Booking). is_key_of member.name club b.key in
+          subst (λ n. n ≤ member.credited) (sym (sum_one_more cost_of own club.bookings booking))
+          (covered (own booking) (sum_by cost_of (bookings_of member.name club)) (cost_of booking) member.credited (f.paid k d short) (s.balances k d short));
+      places = λ k d short slot at.
+          let facility = get_or club.facilities k d in
+          subst (λ n. n ≤ facility.places) (sym (sum_one_more persons_of (is_in slot) club.bookings booking))
+          (covered (is_in slot booking) (taken_in slot club.bookings) (persons_of booking) facility.places (f.placed k d short slot at) (s.places k d short slot at));
+    }
 
 -- a row that was marked, or stayed as it was
 module _ (key : List ℕ) (number refund : ℕ) (booking : Booking) (row : IsBooking booking) (small : is_marked key number booking ≡ true → refund ≤ booking.charge) where
@@ -101,31 +89,19 @@ takes_no_more key number refund slot booking = go booking.cancelled (is_marked k
     go false true false = omega arith
     go false false d = omega arith
 
-pub sound_cancelling : (club : Club) (key : List ℕ) (number refund : ℕ) → IsSound club → FitsCancelling club key number refund → IsSound (record club { bookings = map (cancelled key number refund) club.bookings })
-sound_cancelling club key number refund s f = record {
-  rows = record {
-    bookings = All-map IsBooking (cancelled key number refund) club.bookings (λ k d short. cancelled_row key number refund (get_or club.bookings k d) (s.rows.bookings k d short) (f.covered k d short));
-    members = s.rows.members;
-    facilities = s.rows.facilities;
-    keys = s.rows.keys;
-    closed = s.rows.closed;
-  };
-  unique = record {
-    bookings = AllPairs-map (cancelled key number refund) (λ (a : Booking) (b : Booking). ¬ ((a.key ≡ b.key) × (a.number ≡ b.number))) (λ (a : Booking) (b : Booking). ¬ ((a.key ≡ b.key) × (a.number ≡ b.number))) (λ a b h. h) club.bookings s.unique.bookings;
-    members = s.unique.members;
-    facilities = s.unique.facilities;
-    keys = s.unique.keys;
-    closed = s.unique.closed;
-  };
-  references = record {
-    keys = s.references.keys;
-    closed = s.references.closed;
-    bookings = All-map (λ (b : Booking). Contains (map (λ (k : Key). k.name) club.keys) b.key) (cancelled key number refund) club.bookings s.references.bookings;
-    booked = All-map (λ (b : Booking). Contains (map (λ (g : Facility). g.name) club.facilities) b.slot.facility) (cancelled key number refund) club.bookings s.references.booked;
-  };
-  balances = λ k d short. balance (get_or club.members k d) (s.balances k d short);
-  places = λ k d short slot at. place (get_or club.facilities k d) slot (s.places k d short slot at);
-}
+pub sound_cancellation : (club : Club) (key : List ℕ) (number refund : ℕ) → IsSound club → FitsCancellation club key number refund → IsSound (record club { bookings = map (cancelled key number refund) club.bookings })
+sound_cancellation club key number refund s f =
+    let limits = All-map IsBooking (cancelled key number refund) club.bookings (λ k d short. cancelled_row key number refund (get_or club.bookings k d) (s.rows.bookings k d short) (f.covered k d short)) in
+    let names = AllPairs-map (cancelled key number refund) (λ (a : Booking) (b : Booking). ¬ ((a.key ≡ b.key) × (a.number ≡ b.number))) (λ (a : Booking) (b : Booking). ¬ ((a.key ≡ b.key) × (a.number ≡ b.number))) (λ a b h. h) club.bookings s.unique.bookings in
+    let known = All-map (λ (b : Booking). Contains (map (λ (k : Key). k.name) club.keys) b.key) (cancelled key number refund) club.bookings s.references.bookings in
+    let located = All-map (λ (b : Booking). Contains (map (λ (g : Facility). g.name) club.facilities) b.slot.facility) (cancelled key number refund) club.bookings s.references.booked in
+    record {
+      rows = record { members = s.rows.members; facilities = s.rows.facilities; keys = s.rows.keys; bookings = limits; closed = s.rows.closed };
+      unique = record { members = s.unique.members; facilities = s.unique.facilities; keys = s.unique.keys; bookings = names; closed = s.unique.closed };
+      references = record { keys = s.references.keys; bookings = known; booked = located; closed = s.references.closed };
+      balances = λ k d short. balance (get_or club.members k d) (s.balances k d short);
+      places = λ k d short slot at. place (get_or club.facilities k d) slot (s.places k d short slot at);
+    }
   where
     balance : (member : Member) → sum_by cost_of (bookings_of member.name club) ≤ member.credited → sum_by cost_of (bookings_of member.name (record club { bookings = map (cancelled key number refund) club.bookings })) ≤ member.credited
     balance member h =

@@ -3,28 +3,25 @@ use Rattle.std.proofs.Common.{◌≡◌, ◌≢◌, ℕ, ◌+◌, ◌≤◌, Boo
 use Rattle.std.specs.Prelude.{All, Contains, ◌&&◌, ◌==◌, not, sum_by}
 use Rattle.std.specs.Str.{bytes_eq}
 use Rattle.std.specs.List.{list_any}
-use Rattle.std.proofs.lemmas.List.Elements.{All-push, All-map, All-contains, Contains-append_left}
+use Rattle.std.proofs.lemmas.List.Elements.{All-push, All-map, All-contains}
 use Rattle.std.proofs.lemmas.List.Quantifiers.{all_pairs_push}
-use Rattle.std.proofs.lemmas.List.{map-append}
+use Rattle.std.proofs.lemmas.Simd.{map-map}
 use Rattle.std.proofs.lemmas.Bool.{and_left, and_right}
-use Rattle.pass_caveats.specs.declared.slot.Slot.{Slot}
-use Rattle.club_core.specs.declared.member.Member.{Member}
-use Rattle.club_core.specs.declared.facility.Facility.{Facility}
-use Rattle.club_core.specs.declared.key.Key.{Key}
-use Rattle.club_core.specs.declared.booking.Booking.{Booking}
-use Rattle.club_core.specs.Rows.{IsMember, IsFacility, IsKey, IsSlot}
-use Rattle.club_core.specs.Booking.{persons_of, same_slot}
+use Rattle.club_values.specs.declared.slot.Slot.{Slot}
+use Rattle.club_rows.specs.declared.member.Member.{Member}
+use Rattle.club_rows.specs.declared.facility.Facility.{Facility}
+use Rattle.club_rows.specs.declared.key.Key.{Key}
+use Rattle.club_rows.specs.declared.booking.Booking.{Booking}
+use Rattle.club_rows.specs.Rows.{IsMember, IsFacility, IsKey, IsSlot}
+use Rattle.club_rows.specs.Booking.{persons_of, same_slot}
 use Rattle.club_core.specs.Sums.{cost_of, is_in, taken_in}
 use Rattle.club_core.specs.After.{credited, revoked}
 use Rattle.club_core.specs.Club.{Club, keys_of, is_key_of, bookings_of, IsSound, HasReferences}
 use Rattle.club_laws.proofs.FoundRows.{AllPairs-map, other_bytes}
-use Rattle.club_laws.proofs.RowSums.{filter_none}
+use Rattle.club_laws.proofs.Filtering.{filter_none}
+use Rattle.club_laws.proofs.NamedRows.{still_there, still_all}
 use Rattle.club_laws.proofs.KeyOwners.{bookings_of-added, bookings_of-revoked}
 use Rattle.club_laws.proofs.FittingChanges.{FitsMember, FitsCredit, FitsFacility, FitsKey, FitsClosed}
-
--- a name is still among them when there is one more row
-still_there : {X : Type 0} (name : X → List ℕ) (rows : List X) (row : X) (n : List ℕ) → Contains (map name rows) n → Contains (map name (rows ++ row ∷ [])) n
-still_there {X} name rows row n h = rw (map-append name rows (row ∷ [])) (Contains-append_left (map name rows) (name row ∷ []) n h)
 
 balance_kept : (club new : Club) (member : Member) → bookings_of member.name new ≡ bookings_of member.name club → sum_by cost_of (bookings_of member.name club) ≤ member.credited → sum_by cost_of (bookings_of member.name new) ≤ member.credited
 balance_kept club new member e h = subst (λ (bookings : List Booking). sum_by cost_of bookings ≤ member.credited) (sym e) h
@@ -42,30 +39,17 @@ nothing_booked club member refs fresh =
     subst (λ (bookings : List Booking). sum_by cost_of bookings ≤ member.credited) (sym none) (omega arith)
 
 pub sound_member : (club : Club) (member : Member) → IsSound club → FitsMember club member → IsSound (record club { members = club.members ++ member ∷ [] })
-sound_member club member s f = record {
-  rows = record {
-    members = All-push IsMember club.members member s.rows.members f.row;
-    facilities = s.rows.facilities;
-    keys = s.rows.keys;
-    bookings = s.rows.bookings;
-    closed = s.rows.closed;
-  };
-  unique = record {
-    members = all_pairs_push (λ (a : Member) (b : Member). a.name ≢ b.name) club.members member s.unique.members f.fresh;
-    facilities = s.unique.facilities;
-    keys = s.unique.keys;
-    bookings = s.unique.bookings;
-    closed = s.unique.closed;
-  };
-  references = record {
-    keys = λ k d short. still_there (λ (m : Member). m.name) club.members member _ (s.references.keys k d short);
-    bookings = s.references.bookings;
-    booked = s.references.booked;
-    closed = s.references.closed;
-  };
-  balances = All-push (λ (m : Member). sum_by cost_of (bookings_of m.name club) ≤ m.credited) club.members member s.balances (nothing_booked club member s.references f.fresh);
-  places = s.places;
-}
+sound_member club member s f =
+    let limits = All-push IsMember club.members member s.rows.members f.row in
+    let names = all_pairs_push (λ (a : Member) (b : Member). a.name ≢ b.name) club.members member s.unique.members f.fresh in
+    let known = still_all (λ (m : Member). m.name) club.members (club.members ++ member ∷ []) (λ (k : Key). k.member) club.keys (still_there (λ (m : Member). m.name) club.members member) s.references.keys in
+    record {
+      rows = record { members = limits; facilities = s.rows.facilities; keys = s.rows.keys; bookings = s.rows.bookings; closed = s.rows.closed };
+      unique = record { members = names; facilities = s.unique.facilities; keys = s.unique.keys; bookings = s.unique.bookings; closed = s.unique.closed };
+      references = record { keys = known; bookings = s.references.bookings; booked = s.references.booked; closed = s.references.closed };
+      balances = All-push (λ (m : Member). sum_by cost_of (bookings_of m.name club) ≤ m.credited) club.members member s.balances (nothing_booked club member s.references f.fresh);
+      places = s.places;
+    }
 
 credited_row : (name : List ℕ) (points : ℕ) (member : Member) → (bytes_eq member.name name ≡ true → member.credited + points ≤ 999_999_999) → IsMember member → IsMember (credited name points member)
 credited_row name points member small row = record { name = row.name; credited = go (bytes_eq member.name name) small; quota = row.quota }
@@ -78,37 +62,20 @@ credited_more : (b : Bool) (credit points cost : ℕ) → cost ≤ credit → co
 credited_more true credit points cost h = omega arith
 credited_more false credit points cost h = h
 
-names_credited : (name : List ℕ) (points : ℕ) (members : List Member) → map (λ (m : Member). m.name) (map (credited name points) members) ≡ map (λ (m : Member). m.name) members
-names_credited name points [] = refl
-names_credited name points (m ∷ members) = ap (λ (names : List (List ℕ)). m.name ∷ names) (names_credited name points members)
-
 pub sound_credit : (club : Club) (name : List ℕ) (points : ℕ) → IsSound club → FitsCredit club name points → IsSound (record club { members = map (credited name points) club.members })
-sound_credit club name points s f = record {
-  rows = record {
-    members = All-map IsMember (credited name points) club.members (λ k d short. credited_row name points _ (f.small k d short) (s.rows.members k d short));
-    facilities = s.rows.facilities;
-    keys = s.rows.keys;
-    bookings = s.rows.bookings;
-    closed = s.rows.closed;
-  };
-  unique = record {
-    members = AllPairs-map (credited name points) (λ (a : Member) (b : Member). a.name ≢ b.name) (λ (a : Member) (b : Member). a.name ≢ b.name) (λ a b h. h) club.members s.unique.members;
-    facilities = s.unique.facilities;
-    keys = s.unique.keys;
-    bookings = s.unique.bookings;
-    closed = s.unique.closed;
-  };
-  references = record {
-    keys = λ k d short. rw (names_credited name points club.members) (s.references.keys k d short);
-    bookings = s.references.bookings;
-    booked = s.references.booked;
-    closed = s.references.closed;
-  };
-  balances =
-      All-map (λ (m : Member). sum_by cost_of (bookings_of m.name club) ≤ m.credited) (credited name points) club.members
-      (λ k d short. credited_more (bytes_eq _ name) _ points _ (s.balances k d short));
-  places = s.places;
-}
+sound_credit club name points s f =
+    let limits = All-map IsMember (credited name points) club.members (λ k d short. credited_row name points _ (f.small k d short) (s.rows.members k d short)) in
+    let names = AllPairs-map (credited name points) (λ (a : Member) (b : Member). a.name ≢ b.name) (λ (a : Member) (b : Member). a.name ≢ b.name) (λ a b h. h) club.members s.unique.members in
+    let known = still_all (λ (m : Member). m.name) club.members (map (credited name points) club.members) (λ (k : Key). k.member) club.keys (λ n h. rw (map-map (λ (m : Member). m.name) (credited name points) club.members) h) s.references.keys in
+    record {
+      rows = record { members = limits; facilities = s.rows.facilities; keys = s.rows.keys; bookings = s.rows.bookings; closed = s.rows.closed };
+      unique = record { members = names; facilities = s.unique.facilities; keys = s.unique.keys; bookings = s.unique.bookings; closed = s.unique.closed };
+      references = record { keys = known; bookings = s.references.bookings; booked = s.references.booked; closed = s.references.closed };
+      balances =
+          All-map (λ (m : Member). sum_by cost_of (bookings_of m.name club) ≤ m.credited) (credited name points) club.members
+          (λ k d short. credited_more (bytes_eq _ name) _ points _ (s.balances k d short));
+      places = s.places;
+    }
 
 -- nobody is in a slot of a facility that isn't there
 pub nobody_in : (club : Club) (slot : Slot) → HasReferences club → All (λ (other : Facility). other.name ≢ slot.facility) club.facilities → taken_in slot club.bookings ≡ 0
@@ -129,109 +96,64 @@ new_is_empty club facility slot refs fresh at =
     omega arith
 
 pub sound_facility : (club : Club) (facility : Facility) → IsSound club → FitsFacility club facility → IsSound (record club { facilities = club.facilities ++ facility ∷ [] })
-sound_facility club facility s f = record {
-  rows = record {
-    facilities = All-push IsFacility club.facilities facility s.rows.facilities f.row;
-    members = s.rows.members;
-    keys = s.rows.keys;
-    bookings = s.rows.bookings;
-    closed = s.rows.closed;
-  };
-  unique = record {
-    facilities = all_pairs_push (λ (a : Facility) (b : Facility). a.name ≢ b.name) club.facilities facility s.unique.facilities f.fresh;
-    members = s.unique.members;
-    keys = s.unique.keys;
-    bookings = s.unique.bookings;
-    closed = s.unique.closed;
-  };
-  references = record {
-    keys = s.references.keys;
-    bookings = s.references.bookings;
-    booked = λ k d short. still_there (λ (other : Facility). other.name) club.facilities facility _ (s.references.booked k d short);
-    closed = λ k d short. still_there (λ (other : Facility). other.name) club.facilities facility _ (s.references.closed k d short);
-  };
-  balances = s.balances;
-  places = All-push (λ (other : Facility). (slot : Slot) → slot.facility ≡ other.name → taken_in slot club.bookings ≤ other.places) club.facilities facility s.places (λ slot at. new_is_empty club facility slot s.references f.fresh at);
-}
+sound_facility club facility s f =
+    let limits = All-push IsFacility club.facilities facility s.rows.facilities f.row in
+    let names = all_pairs_push (λ (a : Facility) (b : Facility). a.name ≢ b.name) club.facilities facility s.unique.facilities f.fresh in
+    let more = club.facilities ++ facility ∷ [] in
+    let still = still_there (λ (other : Facility). other.name) club.facilities facility in
+    let booked = still_all (λ (other : Facility). other.name) club.facilities more (λ (b : Booking). b.slot.facility) club.bookings still s.references.booked in
+    let closed = still_all (λ (other : Facility). other.name) club.facilities more (λ (slot : Slot). slot.facility) club.closed still s.references.closed in
+    record {
+      rows = record { members = s.rows.members; facilities = limits; keys = s.rows.keys; bookings = s.rows.bookings; closed = s.rows.closed };
+      unique = record { members = s.unique.members; facilities = names; keys = s.unique.keys; bookings = s.unique.bookings; closed = s.unique.closed };
+      references = record { keys = s.references.keys; bookings = s.references.bookings; booked = booked; closed = closed };
+      balances = s.balances;
+      places = All-push (λ (other : Facility). (slot : Slot) → slot.facility ≡ other.name → taken_in slot club.bookings ≤ other.places) club.facilities facility s.places (λ slot at. new_is_empty club facility slot s.references f.fresh at);
+    }
 
 pub sound_key : (club : Club) (key : Key) → IsSound club → FitsKey club key → IsSound (record club { keys = club.keys ++ key ∷ [] })
-sound_key club key s f = record {
-  rows = record {
-    keys = All-push IsKey club.keys key s.rows.keys f.row;
-    members = s.rows.members;
-    facilities = s.rows.facilities;
-    bookings = s.rows.bookings;
-    closed = s.rows.closed;
-  };
-  unique = record {
-    keys = all_pairs_push (λ (a : Key) (b : Key). a.name ≢ b.name) club.keys key s.unique.keys f.fresh;
-    members = s.unique.members;
-    facilities = s.unique.facilities;
-    bookings = s.unique.bookings;
-    closed = s.unique.closed;
-  };
-  references = record {
-    keys = All-push (λ (k : Key). Contains (map (λ (m : Member). m.name) club.members) k.member) club.keys key s.references.keys f.owned;
-    bookings = λ k d short. still_there (λ (other : Key). other.name) club.keys key _ (s.references.bookings k d short);
-    booked = s.references.booked;
-    closed = s.references.closed;
-  };
-  balances = λ k d short. balance_kept club (record club { keys = club.keys ++ key ∷ [] }) (get_or club.members k d) (bookings_of-added (get_or club.members k d).name club key f.fresh s.references.bookings) (s.balances k d short);
-  places = s.places;
-}
-
-names_revoked : (name : List ℕ) (keys : List Key) → map (λ (k : Key). k.name) (map (revoked name) keys) ≡ map (λ (k : Key). k.name) keys
-names_revoked name [] = refl
-names_revoked name (k ∷ keys) = ap (λ (names : List (List ℕ)). k.name ∷ names) (names_revoked name keys)
+sound_key club key s f =
+    let limits = All-push IsKey club.keys key s.rows.keys f.row in
+    let names = all_pairs_push (λ (a : Key) (b : Key). a.name ≢ b.name) club.keys key s.unique.keys f.fresh in
+    record {
+      rows = record { members = s.rows.members; facilities = s.rows.facilities; keys = limits; bookings = s.rows.bookings; closed = s.rows.closed };
+      unique = record { members = s.unique.members; facilities = s.unique.facilities; keys = names; bookings = s.unique.bookings; closed = s.unique.closed };
+      references = record {
+        keys = All-push (λ (k : Key). Contains (map (λ (m : Member). m.name) club.members) k.member) club.keys key s.references.keys f.owned;
+        bookings = λ k d short. still_there (λ (other : Key). other.name) club.keys key _ (s.references.bookings k d short);
+        booked = s.references.booked;
+        closed = s.references.closed;
+      };
+      balances = λ k d short. balance_kept club (record club { keys = club.keys ++ key ∷ [] }) (get_or club.members k d) (bookings_of-added (get_or club.members k d).name club key f.fresh s.references.bookings) (s.balances k d short);
+      places = s.places;
+    }
 
 pub sound_revoked : (club : Club) (name : List ℕ) → IsSound club → IsSound (record club { keys = map (revoked name) club.keys })
-sound_revoked club name s = record {
-  rows = record {
-    keys = All-map IsKey (revoked name) club.keys (λ k d short. let row = s.rows.keys k d short in record { name = row.name; member = row.member; root = row.root });
-    members = s.rows.members;
-    facilities = s.rows.facilities;
-    bookings = s.rows.bookings;
-    closed = s.rows.closed;
-  };
-  unique = record {
-    keys = AllPairs-map (revoked name) (λ (a : Key) (b : Key). a.name ≢ b.name) (λ (a : Key) (b : Key). a.name ≢ b.name) (λ a b h. h) club.keys s.unique.keys;
-    members = s.unique.members;
-    facilities = s.unique.facilities;
-    bookings = s.unique.bookings;
-    closed = s.unique.closed;
-  };
-  references = record {
-    keys = All-map (λ (k : Key). Contains (map (λ (m : Member). m.name) club.members) k.member) (revoked name) club.keys s.references.keys;
-    bookings = λ k d short. rw (names_revoked name club.keys) (s.references.bookings k d short);
-    booked = s.references.booked;
-    closed = s.references.closed;
-  };
-  balances = λ k d short. balance_kept club (record club { keys = map (revoked name) club.keys }) (get_or club.members k d) (bookings_of-revoked (get_or club.members k d).name club name) (s.balances k d short);
-  places = s.places;
-}
+sound_revoked club name s =
+    let limits = All-map IsKey (revoked name) club.keys (λ k d short. let row = s.rows.keys k d short in record { name = row.name; member = row.member; root = row.root }) in
+    let names = AllPairs-map (revoked name) (λ (a : Key) (b : Key). a.name ≢ b.name) (λ (a : Key) (b : Key). a.name ≢ b.name) (λ a b h. h) club.keys s.unique.keys in
+    record {
+      rows = record { members = s.rows.members; facilities = s.rows.facilities; keys = limits; bookings = s.rows.bookings; closed = s.rows.closed };
+      unique = record { members = s.unique.members; facilities = s.unique.facilities; keys = names; bookings = s.unique.bookings; closed = s.unique.closed };
+      references = record {
+        keys = All-map (λ (k : Key). Contains (map (λ (m : Member). m.name) club.members) k.member) (revoked name) club.keys s.references.keys;
+        bookings = λ k d short. rw (map-map (λ (k : Key). k.name) (revoked name) club.keys) (s.references.bookings k d short);
+        booked = s.references.booked;
+        closed = s.references.closed;
+      };
+      balances = λ k d short. balance_kept club (record club { keys = map (revoked name) club.keys }) (get_or club.members k d) (bookings_of-revoked (get_or club.members k d).name club name) (s.balances k d short);
+      places = s.places;
+    }
 
 pub sound_closed : (club : Club) (slot : Slot) → IsSound club → FitsClosed club slot → IsSound (record club { closed = club.closed ++ slot ∷ [] })
-sound_closed club slot s f = record {
-  rows = record {
-    closed = All-push IsSlot club.closed slot s.rows.closed f.row;
-    members = s.rows.members;
-    facilities = s.rows.facilities;
-    keys = s.rows.keys;
-    bookings = s.rows.bookings;
-  };
-  unique = record {
-    closed = all_pairs_push (λ (a : Slot) (b : Slot). a ≢ b) club.closed slot s.unique.closed f.fresh;
-    members = s.unique.members;
-    facilities = s.unique.facilities;
-    keys = s.unique.keys;
-    bookings = s.unique.bookings;
-  };
-  references = record {
-    keys = s.references.keys;
-    bookings = s.references.bookings;
-    booked = s.references.booked;
-    closed = All-push (λ (other : Slot). Contains (map (λ (g : Facility). g.name) club.facilities) other.facility) club.closed slot s.references.closed f.located;
-  };
-  balances = s.balances;
-  places = s.places;
-}
+sound_closed club slot s f =
+    let limits = All-push IsSlot club.closed slot s.rows.closed f.row in
+    let names = all_pairs_push (λ (a : Slot) (b : Slot). a ≢ b) club.closed slot s.unique.closed f.fresh in
+    let known = All-push (λ (other : Slot). Contains (map (λ (g : Facility). g.name) club.facilities) other.facility) club.closed slot s.references.closed f.located in
+    record {
+      rows = record { members = s.rows.members; facilities = s.rows.facilities; keys = s.rows.keys; bookings = s.rows.bookings; closed = limits };
+      unique = record { members = s.unique.members; facilities = s.unique.facilities; keys = s.unique.keys; bookings = s.unique.bookings; closed = names };
+      references = record { keys = s.references.keys; bookings = s.references.bookings; booked = s.references.booked; closed = known };
+      balances = s.balances;
+      places = s.places;
+    }

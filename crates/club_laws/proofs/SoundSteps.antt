@@ -7,17 +7,16 @@ use Rattle.club_core.specs.declared.change.Change.TheVariants.{InsertMember, Add
 use Rattle.club_core.specs.declared.command.Command.{Command}
 use Rattle.club_core.specs.declared.command.OfficeFault.{OfficeFault}
 use Rattle.club_core.specs.Club.{Club, IsSound}
-use Rattle.club_core.specs.Basis.{basis_of}
-use Rattle.club_core.specs.Answer.{answer_of}
+use Rattle.club_core.specs.Answer.{verdict_in}
 use Rattle.club_core.specs.After.{after}
 use Rattle.club_core.specs.Office.{office_verdict}
 use Rattle.club_core.specs.Run.{Event, Asked, Ordered, step, after_change, ordered, club_after}
-use Rattle.club_laws.specs.Events.{IsEvent}
+use Rattle.club_core.specs.Events.{IsEvent}
 use Rattle.club_laws.proofs.FittingChanges.{Fits, FitsIfAny}
 use Rattle.club_laws.proofs.FittingOffice.{FitsIfOk, fits_order}
 use Rattle.club_laws.proofs.FittingAnswers.{fits_answer}
 use Rattle.club_laws.proofs.SoundOffice.{sound_member, sound_credit, sound_facility, sound_key, sound_revoked, sound_closed}
-use Rattle.club_laws.proofs.SoundBookings.{sound_booking, sound_cancelling}
+use Rattle.club_laws.proofs.SoundBookings.{sound_booking, sound_cancellation}
 
 pub sound_after : (club : Club) (change : Change) → IsSound club → Fits club change → IsSound (after change club)
 sound_after club (InsertMember member) s f = sound_member club member s f
@@ -27,7 +26,7 @@ sound_after club (InsertKey key) s f = sound_key club key s f
 sound_after club (MarkRevoked name) s f = sound_revoked club name s
 sound_after club (MarkClosed slot) s f = sound_closed club slot s f
 sound_after club (InsertBooking booking) s f = sound_booking club booking s f
-sound_after club (MarkCancelled key number refund) s f = sound_cancelling club key number refund s f
+sound_after club (MarkCancelled key number refund) s f = sound_cancellation club key number refund s f
 
 sound_after_any : (club : Club) (change : Option Change) → IsSound club → FitsIfAny club change → IsSound (after_change change club)
 sound_after_any club None s f = s
@@ -38,7 +37,7 @@ sound_ordered club command (Err fault) s f = s
 sound_ordered club command (Ok change) s f = sound_after club change s f
 
 pub sound_step : (club : Club) (event : Event) → IsSound club → IsEvent event → IsSound (step club event).club
-sound_step club (Asked words moment) s e = sound_after_any club (answer_of words moment (basis_of club words)).change s (fits_answer club words moment s e)
+sound_step club (Asked words moment) s e = sound_after_any club (verdict_in club words moment).change s (fits_answer club words moment s e)
 sound_step club (Ordered command) s e = sound_ordered club command (office_verdict club command) s (fits_order club command s e)
 
 pub sound_run : (club : Club) (events : List Event) → IsSound club → All IsEvent events → IsSound (club_after club events)

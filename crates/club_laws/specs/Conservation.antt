@@ -1,12 +1,13 @@
 -- Points are neither made nor lost, and no slot is overbooked (ours).
 use Rattle.std.specs.Prelude.{◌≡◌, ℕ, ◌+◌, ◌≤◌, List, All, sum_by, Some, MatchOption}
-use Rattle.pass_caveats.specs.declared.slot.Slot.{Slot}
-use Rattle.club_core.specs.declared.member.Member.{Member}
-use Rattle.club_core.specs.declared.facility.Facility.{Facility}
+use Rattle.club_values.specs.declared.slot.Slot.{Slot}
+use Rattle.club_rows.specs.declared.member.Member.{Member}
+use Rattle.club_rows.specs.declared.facility.Facility.{Facility}
 use Rattle.club_core.specs.Club.{Club, empty_club, member_named, facility_named, bookings_of}
 use Rattle.club_core.specs.Sums.{cost_of, balance_of, taken_in}
-use Rattle.club_core.specs.Run.{Event, EventReply, replies_of, club_after}
-use Rattle.club_laws.specs.Events.{IsEvent}
+use Rattle.club_core.specs.declared.event.EventReply.{EventReply}
+use Rattle.club_core.specs.Run.{Event, replies_of, club_after}
+use Rattle.club_core.specs.Events.{IsEvent}
 use Rattle.club_laws.specs.Points.{keys_given, credits_accepted, charges_told, refunds_told, total_under}
 
 -- what the member has and what its keys were first charged for each number make what it was credited and what its keys
@@ -24,8 +25,9 @@ ConservesPoints =
     → IsConserved (club_after empty_club events) events (replies_of empty_club events) member
 
 -- the persons who booked a slot have places in it; nobody booked a slot of no facility
-abbrev pub NeverOverbooks : Type 0
-NeverOverbooks =
-    (events : List Event) (slot : Slot) → All IsEvent events
-    → let club = club_after empty_club events in
+abbrev pub HasPlaces : Slot → Club → Type 0
+HasPlaces slot club =
     MatchOption (facility_named slot.facility club) (taken_in slot club.bookings ≡ 0) (λ (facility : Facility). taken_in slot club.bookings ≤ facility.places)
+
+abbrev pub NeverOverbooks : Type 0
+NeverOverbooks = (events : List Event) (slot : Slot) → All IsEvent events → HasPlaces slot (club_after empty_club events)

@@ -6,15 +6,17 @@ use Rattle.club_core.specs.declared.request.Request.TheVariants as asked
 use Rattle.club_core.specs.Pass.{Words}
 use Rattle.club_core.specs.Club.{empty_club}
 use Rattle.club_core.specs.Examples.{opening, opened_club, slot_at, noon, late, ask}
-use Rattle.club_core.specs.Run.{Event, EventReply, replies_of, club_after}
+use Rattle.club_core.specs.declared.event.EventReply.{EventReply}
+use Rattle.club_core.specs.Run.{Event, replies_of, club_after}
 use Rattle.club_laws.specs.Points.{keys_given, credits_accepted, charges_told, refunds_told, total_under}
-use Rattle.club_laws.specs.Repeats.{WasServed, IsAccepted}
+use Rattle.club_core.specs.Acceptance.{IsAcceptedIn}
+use Rattle.club_laws.specs.Repeats.{WasServed}
 
 -- twelve hours before the slot at 18 begins
 abbrev pub at_six : ℕ
 at_six = 29_626_920
 
--- one member's list: two bookings, one of them again, its cancelling, and both of these again
+-- one member's list: two bookings, one of them again, its cancellation, and both of these again
 abbrev pub some_events : List Event
 some_events =
     opening
@@ -36,7 +38,7 @@ pub record AreFigures (events : List Event) (replies : List EventReply) (charged
 abbrev pub CountsEachOnce : Type 0
 CountsEachOnce = AreFigures some_events (replies_of empty_club some_events) 800 10_000 300
 
--- a booking, then its cancelling
+-- a booking, then its cancellation
 abbrev pub comes_and_goes : List Event
 comes_and_goes = ask (asked.Book (slot_at 18) 7 2) noon ∷ ask (asked.Cancel (slot_at 18) 7) noon ∷ []
 
@@ -50,7 +52,7 @@ words_again = record {
 -- it is a repeat, which is accepted even when the slot has begun
 pub record IsAcceptedRepeat (words : Words) (moment : ℕ) : Type 0 where
   pub served : WasServed opened_club comes_and_goes words (Booked (codes "amy-1") 7 600 1)
-  pub accepted : IsAccepted (club_after opened_club comes_and_goes) words moment
+  pub accepted : IsAcceptedIn (club_after opened_club comes_and_goes) words moment
 
 abbrev pub AcceptsARepeat : Type 0
 AcceptsARepeat = IsAcceptedRepeat words_again late

@@ -1,31 +1,37 @@
--- A run with a failed booking, which computes (ours).
-use Rattle.std.specs.Prelude.{◌≡◌, Bool, true, false, List, [], ◌∷◌, ◌++◌, filter, codes}
-use Rattle.club_core.specs.declared.refusal.Refusal.TheVariants as refusals
-use Rattle.club_core.specs.declared.reply.Reply.TheVariants.{Refused}
+-- A run with a failed credit and a failed booking, which computes (ours).
+use Rattle.std.specs.Prelude.{◌≡◌, List, [], ◌∷◌, ◌++◌, Option, Some, None, is_none, map, codes}
+use Rattle.club_core.specs.declared.command.Command.TheVariants.{Credit}
+use Rattle.club_core.specs.declared.refusal.Refusal.TheVariants.{Unavailable}
+use Rattle.club_core.specs.declared.reply.Reply.TheVariants.{AccountShown, Refused}
 use Rattle.club_core.specs.declared.request.Request.TheVariants as asked
 use Rattle.club_core.specs.Club.{empty_club}
-use Rattle.club_core.specs.Run.{Event, EventReply, Replied, Answered, Done, NewKey, replies_of, events_where}
-use Rattle.club_core.specs.Examples.{opening, root, slot_at, noon, ask, account}
+use Rattle.club_core.specs.Examples.{opening, root, slot_at, noon, ask}
+use Rattle.club_core.specs.declared.event.OfficeAnswer.{OfficeAnswer}
+use Rattle.club_core.specs.declared.event.OfficeAnswer.TheVariants.{Done, NewKey}
+use Rattle.club_core.specs.Run.{Event, Ordered, replies_of}
+use Rattle.club_laws.specs.Failed.{Told, ToMember, ToOffice, Telling, told_of, answered_events, answers}
 
--- any reply but that memory or storage was refused
-abbrev pub is_answer : EventReply → Bool
-is_answer (Replied (Refused refusals.Unavailable)) = false
-is_answer reply = true
+-- a desk that tells the office its answer, or nothing where memory or storage was refused
+abbrev pub telling : Telling (Option OfficeAnswer)
+telling = record { shown = λ answer. Some answer; is_fault = λ told. is_none told }
 
--- amy joins, books, which fails, and looks at her account
+-- amy joins; she is credited again, and books, which both fail; then she looks at her account
 abbrev pub events : List Event
-events = opening ++ ask (asked.Book (slot_at 18) 7 2) noon ∷ ask asked.Account noon ∷ []
+events = opening ++ Ordered (Credit (codes "amy") 5) ∷ ask (asked.Book (slot_at 18) 7 2) noon ∷ ask asked.Account noon ∷ []
 
-abbrev pub replies : List EventReply
+abbrev pub replies : List (Told (Option OfficeAnswer))
 replies =
-    Answered Done
-    ∷ Answered Done
-    ∷ Answered Done
-    ∷ Answered (NewKey (codes "amy-1") root)
-    ∷ Replied (Refused refusals.Unavailable)
-    ∷ account 10_000 0 0
+    ToOffice (Some Done)
+    ∷ ToOffice (Some Done)
+    ∷ ToOffice (Some Done)
+    ∷ ToOffice (Some (NewKey (codes "amy-1") root))
+    ∷ ToOffice None
+    ∷ ToMember (Refused Unavailable)
+    ∷ ToMember (AccountShown (codes "amy") 10_000 5 0 0)
     ∷ []
 
--- the other replies are those to the list without the booking
-abbrev pub LeavesOutAFailedBooking : Type 0
-LeavesOutAFailedBooking = filter is_answer replies ≡ replies_of empty_club (events_where is_answer events replies)
+-- the others are told what they are told without these two
+abbrev pub LeavesOutFailedEvents : Type 0
+LeavesOutFailedEvents =
+    answers telling events replies
+    ≡ map (told_of telling) (replies_of empty_club (answered_events telling events replies))

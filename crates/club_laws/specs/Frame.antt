@@ -1,6 +1,6 @@
 -- What a change and an event leave alone of a member's part (ours).
 use Rattle.std.specs.Prelude.{◌≡◌, ℕ, ◌+◌, Bool, List, [], if◌then◌else◌, Some}
-use Rattle.pass_caveats.specs.declared.slot.Slot.{Slot}
+use Rattle.club_values.specs.declared.slot.Slot.{Slot}
 use Rattle.club_core.specs.declared.change.Change.{Change}
 use Rattle.club_core.specs.declared.change.Change.TheVariants.{InsertBooking, MarkCancelled}
 use Rattle.club_core.specs.Club.{Club, IsSound, is_key_of}
@@ -9,7 +9,7 @@ use Rattle.club_core.specs.After.{after}
 use Rattle.club_core.specs.Run.{Event, step}
 use Rattle.club_core.specs.Solo.{outside, is_own, own_part, part_of}
 
--- whether a change is made in the member's part: the member's own changes, and the bookings and cancellings under its keys
+-- whether a change is made in the member's part: the member's own changes, and the bookings and cancellations under its keys
 abbrev pub is_of_part : List ℕ → Club → Change → Bool
 is_of_part name club (InsertBooking booking) = is_key_of name club booking.key
 is_of_part name club (MarkCancelled key number refund) = is_key_of name club key

@@ -1,4 +1,3 @@
-pub mod Events
 pub mod SoundRuns
 pub mod DeskLaw
 pub mod Points
@@ -10,3 +9,7 @@ pub mod Failed
 pub mod FailedExample
 pub mod SoloLaw
 pub mod SoloExamples
+pub mod AsTold
+pub mod AccountExample
+pub mod Outside
+pub mod Revoked

@@ -4,7 +4,10 @@ use Rattle.std.specs.Str.{bytes_eq}
 use Rattle.std.specs.List.{list_any}
 use Rattle.club_core.specs.declared.reply.Reply.TheVariants.{Booked, Cancelled}
 use Rattle.club_core.specs.declared.command.Command.TheVariants.{Credit, AddKey}
-use Rattle.club_core.specs.Run.{Event, Ordered, EventReply, Replied, Answered, Done, NewKey}
+use Rattle.club_core.specs.declared.event.EventReply.{EventReply}
+use Rattle.club_core.specs.declared.event.EventReply.TheVariants.{Replied, Answered}
+use Rattle.club_core.specs.declared.event.OfficeAnswer.TheVariants.{Done, NewKey}
+use Rattle.club_core.specs.Run.{Event, Ordered}
 
 -- points that a reply tells, with the key and the number of the booking
 pub record Entry : Type 0 where
@@ -28,7 +31,7 @@ charge_told reply = []
 abbrev pub charges_told : List EventReply → List Entry
 charges_told replies = flat_map charge_told replies
 
--- the refund that a served cancelling tells
+-- the refund that a served cancellation tells
 abbrev pub refund_told : EventReply → List Entry
 refund_told (Replied (Cancelled key number refund)) = record { key = key; number = number; points = refund } ∷ []
 refund_told reply = []

@@ -1,31 +1,22 @@
--- A served booking or cancelling takes place once (ours).
-use Rattle.std.specs.Prelude.{◌≡◌, ℕ, true, false, List, ◌∷◌, ◌++◌, Some, None, Ok}
-use Rattle.pass_caveats.specs.CaveatOf.{first_fault_of}
+-- A served booking or cancellation takes place once (ours).
+use Rattle.std.specs.Prelude.{◌≡◌, ℕ, List, ◌∷◌, ◌++◌}
 use Rattle.club_core.specs.declared.reply.Reply.{Reply}
 use Rattle.club_core.specs.declared.reply.Reply.TheVariants.{Booked, Cancelled}
-use Rattle.club_core.specs.Pass.{Pass, Words}
+use Rattle.club_core.specs.Pass.{Words}
 use Rattle.club_core.specs.Club.{Club}
-use Rattle.club_core.specs.Basis.{Basis, key_of, basis_of, view_of}
-use Rattle.club_core.specs.Answer.{ask_of}
-use Rattle.club_core.specs.Run.{Event, Asked, EventReply, Replied, step, replies_of, club_after}
+use Rattle.club_core.specs.Basis.{key_of}
+use Rattle.club_core.specs.Acceptance.{IsAcceptedIn}
+use Rattle.club_core.specs.declared.event.EventReply.{EventReply}
+use Rattle.club_core.specs.declared.event.EventReply.TheVariants.{Replied}
+use Rattle.club_core.specs.Run.{Event, Asked, step, replies_of, club_after}
 
--- the pass is well formed, names a key, is signed under its root, the key isn't revoked, and no caveat is at fault
-pub record IsAccepted (club : Club) (words : Words) (moment : ℕ) : Type 0 where
-  pub pass : Pass
-  pub basis : Basis
-  pub formed : words.pass ≡ Ok pass
-  pub known : basis_of club words ≡ Some basis
-  pub signed : pass.is_signed basis.key.root ≡ true
-  pub valid : basis.key.revoked ≡ false
-  pub allowed : first_fault_of pass.caveats (ask_of (view_of basis words.request moment) words.request moment) ≡ None
-
--- a reply to a booking or a cancelling that was served
+-- a reply to a booking or a cancellation that was served
 abbrev pub IsBookedOrCancelled : Reply → Type 0
 IsBookedOrCancelled (Booked key number charge left) = Unit {0}
 IsBookedOrCancelled (Cancelled key number refund) = Unit {0}
 IsBookedOrCancelled reply = ⊥
 
--- the same booking or cancelling was served with this reply within the history, under a pass of the same key
+-- the same booking or cancellation was served with this reply within the history, under a pass of the same key
 pub record WasServed (club : Club) (history : List Event) (words : Words) (reply : Reply) : Type 0 where
   pub front : List Event
   pub first : Words
@@ -42,7 +33,7 @@ abbrev pub RepeatsTellTheSame : Type 0
 RepeatsTellTheSame =
     (club : Club) (history : List Event) (words : Words) (moment : ℕ) (reply : Reply)
     → WasServed club history words reply
-    → IsAccepted (club_after club history) words moment
+    → IsAcceptedIn (club_after club history) words moment
     → step (club_after club history) (Asked words moment) ≡ record { reply = Replied reply; club = club_after club history }
 
 -- without the event, all other replies are the same, and so is the club
@@ -55,5 +46,5 @@ abbrev pub RepeatsMayBeLeftOut : Type 0
 RepeatsMayBeLeftOut =
     (club : Club) (history : List Event) (words : Words) (moment : ℕ) (reply : Reply) (rest : List Event)
     → WasServed club history words reply
-    → IsAccepted (club_after club history) words moment
+    → IsAcceptedIn (club_after club history) words moment
     → MayBeLeftOut club history (Asked words moment) rest (Replied reply)

@@ -1,10 +1,11 @@
 -- Runs from the empty club that compute: one member's requests, alone and among those of another (ours).
 use Rattle.std.specs.Prelude.{◌≡◌, true, List, [], ◌∷◌, ◌++◌, Some, Ok, codes}
-use Rattle.club_core.specs.declared.command.Command.TheVariants.{AddMember, Credit, AddKey, RevokeKey}
+use Rattle.club_core.specs.declared.command.Command.TheVariants.{AddMember, Credit, AddKey, RevokeKey, CloseSlot}
 use Rattle.club_core.specs.declared.request.Request.{Request}
 use Rattle.club_core.specs.declared.request.Request.TheVariants as asked
 use Rattle.club_core.specs.Club.{empty_club}
-use Rattle.club_core.specs.Run.{Event, Asked, Ordered, EventReply, replies_of}
+use Rattle.club_core.specs.declared.event.EventReply.{EventReply}
+use Rattle.club_core.specs.Run.{Event, Asked, Ordered, replies_of}
 use Rattle.club_core.specs.Examples.{opening, root, slot_at, noon, ask, booked, account, cancelled}
 use Rattle.club_laws.specs.SoloLaw.{replies_to}
 
@@ -20,23 +21,23 @@ abbrev pub bob_joins : List Event
 bob_joins = Ordered (AddMember (codes "bob") 5) ∷ Ordered (Credit (codes "bob") 10_000) ∷ Ordered (AddKey (codes "bob-1") (codes "bob") root) ∷ []
 
 -- amy books three places of four, looks at her account, and cancels
-abbrev pub AnswersAmyAlone : Type 0
-AnswersAmyAlone =
-    told_to_amy
-    (opening
-    ++ ask (asked.Book (slot_at 18) 7 2) noon
-    ∷ ask asked.Account noon
-    ∷ ask (asked.Cancel (slot_at 18) 7) noon
-    ∷ [])
-    ≡ booked 7 600 1 ∷ account 9_400 1 600 ∷ cancelled 7 600 ∷ []
+abbrev pub amy_alone : List Event
+amy_alone =
+    opening ++ ask (asked.Book (slot_at 18) 7 2) noon ∷ ask asked.Account noon ∷ ask (asked.Cancel (slot_at 18) 7) noon ∷ []
 
--- she is told the same where bob books other slots, under her number too, cancels, is credited, gets a key, and has one revoked
-abbrev pub AnswersAmyAmongOthers : Type 0
-AnswersAmyAmongOthers =
-    told_to_amy
-    (opening
+abbrev pub AnswersAmyAlone : Type 0
+AnswersAmyAlone = told_to_amy amy_alone ≡ booked 7 600 1 ∷ account 9_400 1 600 ∷ cancelled 7 600 ∷ []
+
+-- the same where bob books other slots and hers, under her number too, leaves hers, is credited, gets a key, and has one revoked,
+-- and the office closes another slot
+abbrev pub amy_among_others : List Event
+amy_among_others =
+    opening
     ++ bob_joins
     ++ ask_of_bob (asked.Book (slot_at 17) 7 3)
+    ∷ ask_of_bob (asked.Book (slot_at 18) 9 1)
+    ∷ ask_of_bob (asked.Cancel (slot_at 18) 9)
+    ∷ Ordered (CloseSlot (slot_at 8))
     ∷ ask (asked.Book (slot_at 18) 7 2) noon
     ∷ ask_of_bob (asked.Book (slot_at 19) 8 0)
     ∷ ask_of_bob (asked.Cancel (slot_at 17) 7)
@@ -46,8 +47,11 @@ AnswersAmyAmongOthers =
     ∷ Ordered (RevokeKey (codes "bob-1"))
     ∷ ask_of_bob asked.Account
     ∷ ask (asked.Cancel (slot_at 18) 7) noon
-    ∷ [])
-    ≡ booked 7 600 1 ∷ account 9_400 1 600 ∷ cancelled 7 600 ∷ []
+    ∷ []
+
+-- she is told the same
+abbrev pub AnswersAmyAmongOthers : Type 0
+AnswersAmyAmongOthers = told_to_amy amy_among_others ≡ told_to_amy amy_alone
 
 -- where bob has a place in her slot, one place fewer is left, and all else is the same
 abbrev pub TellsAmyOfATakenPlace : Type 0

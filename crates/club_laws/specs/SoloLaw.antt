@@ -1,11 +1,10 @@
 -- A member's replies in a run are those of a machine that holds the member's part alone (ours).
-use Rattle.std.specs.Prelude.{◌≡◌, ℕ, Bool, true, false, List, [], ◌∷◌, map, filter, if◌then◌else◌}
-use Rattle.club_core.specs.declared.reply.Reply.{Reply}
+use Rattle.std.specs.Prelude.{◌≡◌, ℕ, Bool, true, false, List, [], ◌∷◌, map, if◌then◌else◌}
 use Rattle.club_core.specs.Club.{Club, IsSound}
 use Rattle.club_core.specs.After.{after}
-use Rattle.club_core.specs.Run.{Event, EventReply, Replied, step, after_change, replies_of, club_after, events_where}
+use Rattle.club_core.specs.declared.event.EventReply.TheVariants.{Replied}
+use Rattle.club_core.specs.Run.{Event, step, after_change, replies_of, club_after}
 use Rattle.club_core.specs.Solo.{OwnEvent, OwnAsk, OwnChange, own_part, own_events, part_of, solo_verdict, solo_replies}
-use Rattle.club_laws.specs.Failed.{IsRun}
 
 -- whether an event's entry among the member's own is a request
 abbrev pub is_ask : List OwnEvent → Bool
@@ -36,16 +35,6 @@ SoloLawOfTwo =
     → part_of name a ≡ part_of name b
     → own_events name a events ≡ own_events name b others
     → replies_to name a events (replies_of a events) ≡ replies_to name b others (replies_of b others)
-
--- the same in a run of which some events failed, in the replies as they are told (`shown`), without those that failed
-abbrev pub SoloLawAsTold : Type 0 → Type 0
-SoloLawAsTold R =
-    (shown : EventReply → R) (counts : R → Bool) (name : List ℕ) (club last : Club) (events : List Event) (replies : List R)
-    → IsSound club
-    → IsRun shown counts club events replies last
-    → replies_to name club (events_where counts events replies) (filter counts replies)
-    ≡ map (λ (reply : Reply). shown (Replied reply))
-    (solo_replies (part_of name club) (own_events name club (events_where counts events replies)))
 
 -- the part that the member's own events leave
 abbrev pub solo_part : Club → List OwnEvent → Club

@@ -2,7 +2,7 @@
 use Rattle.std.specs.Prelude.{List, All}
 use Rattle.club_core.specs.Club.{Club, empty_club, IsSound}
 use Rattle.club_core.specs.Run.{Event, step, club_after}
-use Rattle.club_laws.specs.Events.{IsEvent}
+use Rattle.club_core.specs.Events.{IsEvent}
 
 -- the club that a run begins with
 abbrev pub EmptyIsSound : Type 0

@@ -1,21 +1,31 @@
-//! Runs in which some events failed, for want of memory or storage.
+//! Runs in which some events failed, because memory or storage was refused. `O` is what a desk tells the office.
 
-ghost use Rattle.club_laws.specs.Failed.{GoesOn, LeavesOutFailed, NeverUnavailable, RunsWithoutFailures};
-ghost use Rattle.club_laws.specs.FailedExample.{LeavesOutAFailedBooking};
+ghost use Rattle.club_laws.specs.Failed.{CutsRuns, JoinsRuns, LeavesEvents, LeavesOutFailed, NeverUnavailable, RunsWithoutFailures};
+ghost use Rattle.club_laws.specs.FailedExample.{LeavesOutFailedEvents};
 
-/// A run in which some events failed is the run of the list without them. `R` is how replies are told.
-pub fn leaves_out_failed<R>()
-    ensures { LeavesOutFailed R }
+/// A run in which some events failed is the run of the list without them.
+pub fn leaves_out_failed<O>()
+    ensures { LeavesOutFailed O }
 {}
 
-/// A run goes on by one more event, which is answered or fails. `R` is how replies are told.
-pub fn goes_on<R>()
-    ensures { GoesOn R }
+/// Where all events are within their limits, those that are left are.
+pub fn leaves_events<O>()
+    ensures { LeavesEvents O }
 {}
 
-/// Where no reply of the machine's own run is told as a failure, it is a run. `R` is how replies are told.
-pub fn runs_without_failures<R>()
-    ensures { RunsWithoutFailures R }
+/// A run is cut at a place into two, of which the second begins with the club that the first leaves.
+pub fn cuts_runs<O>()
+    ensures { CutsRuns O }
+{}
+
+/// Two such runs are one.
+pub fn joins_runs<O>()
+    ensures { JoinsRuns O }
+{}
+
+/// Where no answer to the office is told as a fault, the machine's own run is a run without failures.
+pub fn runs_without_failures<O>()
+    ensures { RunsWithoutFailures O }
 {}
 
 /// The machine never answers that memory or storage was refused.
@@ -23,7 +33,7 @@ pub fn never_unavailable()
     ensures { NeverUnavailable }
 {}
 
-/// A booking that failed books nothing: the replies after it are those to the list without it.
-pub fn leaves_out_a_failed_booking()
-    ensures { LeavesOutAFailedBooking }
+/// A credit and a booking that failed do nothing: the replies to the others are those to the list without them.
+pub fn leaves_out_failed_events()
+    ensures { LeavesOutFailedEvents }
 {}

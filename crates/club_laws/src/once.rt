@@ -1,9 +1,9 @@
-//! A served booking or cancelling takes place once.
+//! A served booking or cancellation takes place once.
 
 ghost use Rattle.club_laws.specs.Repeats.{RepeatsTellTheSame, RepeatsMayBeLeftOut};
 ghost use Rattle.club_laws.specs.ExampleRuns.{AcceptsARepeat};
 
-/// A repeat of a served booking or cancelling is told what was told first, and changes nothing.
+/// A repeat of a served booking or cancellation is told what was told first, and changes nothing.
 pub fn repeats_tell_the_same()
     ensures { RepeatsTellTheSame }
 {}

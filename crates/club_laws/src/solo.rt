@@ -1,7 +1,7 @@
 //! A member's replies in a run are those of a machine that holds the member's part alone.
 
 ghost use Rattle.club_laws.specs.SoloExamples.{AnswersAmyAlone, AnswersAmyAmongOthers, TellsAmyOfATakenPlace};
-ghost use Rattle.club_laws.specs.SoloLaw.{EndsWithThePart, SoloLaw, SoloLawAsTold, SoloLawOfTwo};
+ghost use Rattle.club_laws.specs.SoloLaw.{EndsWithThePart, SoloLaw, SoloLawOfTwo};
 
 /// The replies to a member's requests are those that the member's part and own events give.
 pub fn solo_law()
@@ -11,11 +11,6 @@ pub fn solo_law()
 /// Two clubs with one part of a member, and two lists with the same events of the member's own, give it the same replies.
 pub fn solo_law_of_two()
     ensures { SoloLawOfTwo }
-{}
-
-/// The solo law where some events failed, in the replies as they are told. `R` is how replies are told.
-pub fn solo_law_as_told<R>()
-    ensures { SoloLawAsTold R }
 {}
 
 /// The member's own events leave the member's part at the end of the run.

@@ -1,8 +1,8 @@
-use Rattle.club_core.specs.declared.booking.Booking.{Booking}
+use Rattle.club_rows.specs.declared.booking.Booking.{Booking}
 use Rattle.club_core.specs.Club.{is_key_of}
-use Rattle.club_core.specs.Booking.{persons_of}
+use Rattle.club_rows.specs.Booking.{persons_of}
 use Rattle.club_core.specs.Sums.{is_in}
-use Rattle.club_laws.proofs.Filtering.{sum_in_parts}
+use Rattle.club_laws.proofs.RowSums.{sum_in_parts}
 use Rattle.club_laws.proofs.frame.taken_is_own_and_others.Goals as goal
 
 pub returns : goal.returns

@@ -1,6 +1,6 @@
 use Rattle.std.proofs.Common.{[], ◌∷◌, Some, Ok, refl}
 use Rattle.std.specs.Prelude.{true, false, codes}
-use Rattle.pass_caveats.specs.declared.kind.Kind.TheVariants.{Court}
+use Rattle.club_values.specs.declared.kind.Kind.TheVariants.{Court}
 use Rattle.pass_caveats.specs.declared.caveat.Caveat.TheVariants.{Spend}
 use Rattle.pass_caveats.specs.CaveatOf.{permits}
 use Rattle.club_core.specs.declared.request.Request.TheVariants as asked
@@ -32,14 +32,11 @@ returns c = record {
       bookings = record { key = codes "amy-1"; number = 7; slot = slot_at 18; guests = 2; charge = 600; left = 1; cancelled = true; refund = 600 } ∷ [];
       state = record {
         facility = Some (record { name = codes "court-1"; kind = Court; places = 4; price = 200; opens = 8; shuts = 22 });
-        taken = 0;
-        closed = false;
+        held = record { taken = 0; closed = false };
       };
     };
-    formed = refl;
+    read = refl;
     known = refl;
-    signed = refl;
-    valid = refl;
-    allowed = refl;
+    accepted = record { signed = refl; stands = refl; faultless = refl };
   };
 }

@@ -1,6 +1,6 @@
 use Rattle.std.proofs.Common.{List, map, sym, ap, ◌∙◌}
 use Rattle.club_core.specs.Club.{Club}
-use Rattle.club_core.specs.Run.{Replied}
+use Rattle.club_core.specs.declared.event.EventReply.TheVariants.{Replied}
 use Rattle.club_core.specs.Solo.{OwnEvent, own_events, part_of, solo_replies}
 use Rattle.club_laws.proofs.KnownKeys.{keyed_from_sound}
 use Rattle.club_laws.proofs.SoloRuns.{solo}

@@ -1,0 +1,36 @@
+-- What every change keeps, every run keeps; and runs over two lists, one after the other.
+use Rattle.std.proofs.Common.{List, [], ◌∷◌, ◌++◌, Option, Some, None, Ok, Err, refl, ap, ◌≡◌}
+use Rattle.std.specs.Prelude.{Result}
+use Rattle.club_core.specs.declared.change.Change.{Change}
+use Rattle.club_core.specs.declared.command.OfficeFault.{OfficeFault}
+use Rattle.club_core.specs.Club.{Club}
+use Rattle.club_core.specs.Answer.{verdict_in}
+use Rattle.club_core.specs.After.{after}
+use Rattle.club_core.specs.Office.{office_verdict}
+use Rattle.club_core.specs.declared.event.EventReply.{EventReply}
+use Rattle.club_core.specs.Run.{Event, Asked, Ordered, step, after_change, ordered, replies_of, club_after}
+
+module _ (P : Club → Type 0) (kept : (club : Club) (change : Change) → P club → P (after change club)) where
+  kept_by_change : (club : Club) (change : Option Change) → P club → P (after_change change club)
+  kept_by_change club None h = h
+  kept_by_change club (Some change) h = kept club change h
+
+  pub kept_by_step : (club : Club) (event : Event) → P club → P (step club event).club
+  kept_by_step club (Asked words moment) h = kept_by_change club (verdict_in club words moment).change h
+  kept_by_step club (Ordered command) h = go (office_verdict club command)
+    where
+      go : (verdict : Result Change OfficeFault) → P (ordered club command verdict).club
+      go (Err fault) = h
+      go (Ok change) = kept club change h
+
+  pub kept_by_run : (club : Club) (events : List Event) → P club → P (club_after club events)
+  kept_by_run club [] h = h
+  kept_by_run club (event ∷ events) h = kept_by_run (step club event).club events (kept_by_step club event h)
+
+pub club_after-append : (club : Club) (front rest : List Event) → club_after club (front ++ rest) ≡ club_after (club_after club front) rest
+club_after-append club [] rest = refl
+club_after-append club (event ∷ front) rest = club_after-append (step club event).club front rest
+
+pub replies_of-append : (club : Club) (front rest : List Event) → replies_of club (front ++ rest) ≡ replies_of club front ++ replies_of (club_after club front) rest
+replies_of-append club [] rest = refl
+replies_of-append club (event ∷ front) rest = ap (λ (replies : List EventReply). (step club event).reply ∷ replies) (replies_of-append (step club event).club front rest)

@@ -1,0 +1,74 @@
+-- A key that was revoked stays revoked.
+use Rattle.std.proofs.Common.{◌≡◌, ℕ, true, List, [], ◌∷◌, Some, refl, sym, ap, ◌∙◌, subst}
+use Rattle.std.specs.Prelude.{Result}
+use Rattle.club_core.specs.declared.command.OfficeFault.{OfficeFault}
+use Rattle.std.specs.Str.{bytes_eq}
+use Rattle.std.proofs.lemmas.Bool.{both_ways, or_left, or_right}
+use Rattle.std.proofs.lemmas.Option.{same_Some}
+use Rattle.pass_caveats.specs.Laws.{TestsTheSet}
+use Rattle.club_core.specs.Laws.{TestsTheSignature}
+use Rattle.club_rows.specs.declared.key.Key.{Key}
+use Rattle.club_core.specs.declared.change.Change.{Change}
+use Rattle.club_core.specs.declared.change.Change.TheVariants.{InsertKey, MarkRevoked}
+use Rattle.club_core.specs.declared.command.Command.TheVariants.{RevokeKey}
+use Rattle.club_core.specs.Pass.{Words}
+use Rattle.club_core.specs.Basis.{key_of, basis_of}
+use Rattle.club_core.specs.Club.{Club, key_named}
+use Rattle.club_core.specs.After.{after, revoked}
+use Rattle.club_core.specs.declared.event.EventReply.TheVariants.{Answered}
+use Rattle.club_core.specs.declared.event.OfficeAnswer.TheVariants.{Done}
+use Rattle.club_core.specs.Run.{Event, Ordered, step, ordered, club_after}
+use Rattle.club_core.specs.Acceptance.{IsServed}
+use Rattle.club_core.specs.Answer.{verdict_in}
+use Rattle.club_laws.specs.Revoked.{WasRevoked}
+use Rattle.club_laws.proofs.FoundRows.{found_before, found_edited, found_passes}
+use Rattle.club_laws.proofs.OrderCases.{order_cases}
+use Rattle.club_laws.proofs.KeptByRuns.{kept_by_run, club_after-append}
+use Rattle.club_laws.proofs.ServedPasses.{served_entitled}
+
+record IsRevoked (name : List ℕ) (club : Club) : Type 0 where
+  key : Key
+  row : key_named name club ≡ Some key
+  revoked : key.revoked ≡ true
+
+stays_revoked : (name : List ℕ) (club : Club) (change : Change) → IsRevoked name club → IsRevoked name (after change club)
+stays_revoked name club (InsertKey new) h =
+    record { key = h.key; row = found_before (λ (k : Key). bytes_eq k.name name) club.keys (new ∷ []) h.key h.row; revoked = h.revoked }
+stays_revoked name club (MarkRevoked other) h =
+    record {
+      key = revoked other h.key;
+      row = found_edited (revoked other) (λ (k : Key). bytes_eq k.name name) (λ k. refl) club.keys h.key h.row;
+      revoked = or_left h.key.revoked (bytes_eq h.key.name other) h.revoked;
+    }
+stays_revoked name club change h = record { key = h.key; row = h.row; revoked = h.revoked }
+
+-- the office revokes known keys alone
+now_revoked : (club : Club) (name : List ℕ) → (step club (Ordered (RevokeKey name))).reply ≡ Answered Done → IsRevoked name (step club (Ordered (RevokeKey name))).club
+now_revoked club name =
+    let order = RevokeKey name in
+    order_cases (λ (v : Result Change OfficeFault). (ordered club order v).reply ≡ Answered Done → IsRevoked name (ordered club order v).club) club (λ fault told. absurd (cc)) order
+    (λ r told. record {
+      key = revoked name r.0;
+      row = found_edited (revoked name) (λ (k : Key). bytes_eq k.name name) (λ k. refl) club.keys r.0 r.1;
+      revoked = or_right r.0.revoked (bytes_eq r.0.name name) (found_passes (λ (k : Key). bytes_eq k.name name) club.keys r.0 r.1);
+    })
+
+-- so it is revoked ever after
+revoked_since : (club : Club) (history : List Event) (name : List ℕ) → WasRevoked club history name → IsRevoked name (club_after club history)
+revoked_since club history name was =
+    let start = club_after club was.front in
+    let then = (step start (Ordered (RevokeKey name))).club in
+    let end : club_after club history ≡ club_after then was.rest =
+    ap (club_after club) was.place ∙ club_after-append club was.front (Ordered (RevokeKey name) ∷ was.rest)
+    in
+    subst (IsRevoked name) (sym end) (kept_by_run (IsRevoked name) (stays_revoked name) then was.rest (now_revoked start name was.told))
+
+-- and what is served is served under a key that stands
+pub serves_nothing : TestsTheSet → TestsTheSignature → (club : Club) (history : List Event) (name : List ℕ) (words : Words) (moment : ℕ) → WasRevoked club history name → key_of words.pass ≡ Some name → ¬ IsServed (verdict_in (club_after club history) words moment).reply
+serves_nothing set signature club history name words moment was named served =
+    let end = club_after club history in
+    let entitled = served_entitled set signature words moment end words.pass (basis_of end words) refl refl served in
+    let same : name ≡ entitled.basis.key.name = same_Some name entitled.basis.key.name (sym named ∙ (ap key_of entitled.read ∙ entitled.named)) in
+    let since = subst (λ (n : List ℕ). IsRevoked n end) same (revoked_since club history name was) in
+    let found : since.key ≡ entitled.basis.key = same_Some since.key entitled.basis.key (sym since.row ∙ entitled.row) in
+    both_ways entitled.basis.key.revoked entitled.stands (ap (λ (k : Key). k.revoked) (sym found) ∙ since.revoked)

@@ -1,0 +1,40 @@
+-- An account, which computes (ours): what is open is counted over all keys of the member, and without what has begun.
+use Rattle.std.specs.Prelude.{◌≡◌, true, List, [], ◌∷◌, Some, Ok, codes}
+use Rattle.club_core.specs.declared.command.Command.TheVariants.{AddKey}
+use Rattle.club_core.specs.declared.reply.Reply.TheVariants.{Booked, Cancelled}
+use Rattle.club_core.specs.declared.request.Request.{Request}
+use Rattle.club_core.specs.declared.request.Request.TheVariants as asked
+use Rattle.club_core.specs.Examples.{opened_club, root, slot_at, noon, late, ask, booked, account}
+use Rattle.club_core.specs.declared.event.EventReply.TheVariants.{Replied, Answered}
+use Rattle.club_core.specs.declared.event.OfficeAnswer.TheVariants.{NewKey}
+use Rattle.club_core.specs.Run.{Event, Asked, Ordered, replies_of}
+
+-- a request of amy's other key, at noon
+abbrev pub ask_of_other_key : Request → Event
+ask_of_other_key request =
+    Asked (record { pass = Ok (record { key = Some (codes "amy-2"); caveats = []; is_signed = λ _. true }); request = request }) noon
+
+-- two bookings under each key, of which one has begun when the account is shown, and one was cancelled
+abbrev pub some_bookings : List Event
+some_bookings =
+    Ordered (AddKey (codes "amy-2") (codes "amy") root)
+    ∷ ask (asked.Book (slot_at 18) 7 0) noon
+    ∷ ask (asked.Book (slot_at 19) 8 0) noon
+    ∷ ask_of_other_key (asked.Book (slot_at 20) 7 0)
+    ∷ ask_of_other_key (asked.Book (slot_at 21) 8 0)
+    ∷ ask_of_other_key (asked.Cancel (slot_at 21) 8)
+    ∷ ask asked.Account late
+    ∷ []
+
+-- two are open
+abbrev pub CountsOverAllKeys : Type 0
+CountsOverAllKeys =
+    replies_of opened_club some_bookings
+    ≡ Answered (NewKey (codes "amy-2") root)
+    ∷ booked 7 200 3
+    ∷ booked 8 200 3
+    ∷ Replied (Booked (codes "amy-2") 7 200 3)
+    ∷ Replied (Booked (codes "amy-2") 8 200 3)
+    ∷ Replied (Cancelled (codes "amy-2") 8 200)
+    ∷ account 9_400 2 400
+    ∷ []

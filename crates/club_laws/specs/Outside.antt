@@ -1,0 +1,33 @@
+-- What the solo machine is told of others (ours): of the slot that is asked for, the persons and whether it is closed.
+use Rattle.std.specs.Prelude.{◌≡◌, ℕ, List, Option, Some, None, codes}
+use Rattle.club_values.specs.declared.slot.Slot.{Slot}
+use Rattle.club_core.specs.Club.{Club, empty_club, is_closed}
+use Rattle.club_core.specs.Sums.{taken_in}
+use Rattle.club_core.specs.Basis.{Basis, basis_of}
+use Rattle.club_core.specs.Pass.{Words}
+use Rattle.club_core.specs.Request.{slot_of}
+use Rattle.club_core.specs.Run.{Asked}
+use Rattle.club_core.specs.Solo.{bookings_of_others, own_part, own_events}
+use Rattle.club_laws.specs.SoloExamples.{amy_alone, amy_among_others}
+
+-- others have as many persons in the slot in both clubs, and it is closed in both or in none
+abbrev pub HoldAlike : List ℕ → Club → Club → Option Slot → Type 0
+HoldAlike name a b None = Unit {0}
+HoldAlike name a b (Some slot) =
+    (taken_in slot (bookings_of_others name a) ≡ taken_in slot (bookings_of_others name b))
+    × (is_closed slot a ≡ is_closed slot b)
+
+-- what the solo machine is told of a request of the member's is the same wherever others hold alike of its slot, whatever else
+-- the clubs hold
+abbrev pub TellsTheSlotAlone : Type 0
+TellsTheSlotAlone =
+    (name : List ℕ) (a b : Club) (words : Words) (moment : ℕ) (in_a in_b : Basis)
+    → basis_of a words ≡ Some in_a
+    → basis_of b words ≡ Some in_b
+    → in_a.member.name ≡ in_b.member.name
+    → HoldAlike name a b (slot_of words.request)
+    → own_part name a (Asked words moment) ≡ own_part name b (Asked words moment)
+
+-- a member's own events are the same among others who hold nothing of its slots when it asks, and without them
+abbrev pub TellsNothingOfOthers : Type 0
+TellsNothingOfOthers = own_events (codes "amy") empty_club amy_among_others ≡ own_events (codes "amy") empty_club amy_alone
