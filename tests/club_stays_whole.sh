@@ -42,15 +42,15 @@ while IFS= read -r change; do
     sqlite3 model "PRAGMA foreign_keys = ON; $change"
     rows model >>states
 done <<'CHANGES'
-INSERT INTO members VALUES ('amy', 0, 5)
+INSERT INTO members VALUES ('amy', 0, 5, 0)
 UPDATE members SET credited = credited + 10000
 INSERT INTO facilities VALUES ('court-1', 'court', 4, 200, 8, 22)
 INSERT INTO facilities VALUES ('room-1', 'room', 1, 601, 8, 22)
 INSERT INTO keys VALUES ('amy-1', 'amy', x'30313233343536373839616263646566', 0)
-INSERT INTO slots VALUES ('court-1', 20574, 9, 1)
-INSERT INTO bookings VALUES ('amy-1', 7, 'court-1', 20574, 18, 2, 600, 1, 0, 0)
-INSERT INTO bookings VALUES ('amy-1', 8, 'room-1', 20574, 18, 0, 601, 0, 0, 0)
-UPDATE bookings SET cancelled = 1, refund = 300 WHERE number = 8
+INSERT INTO slots VALUES ('court-1', 20574, 9, 1, 0)
+INSERT INTO bookings VALUES ('amy-1', 7, 'court-1', 20574, 18, 2, 600, 1, 0, 0); UPDATE members SET used = used + 600; INSERT INTO slots VALUES ('court-1', 20574, 18, 0, 3)
+INSERT INTO bookings VALUES ('amy-1', 8, 'room-1', 20574, 18, 0, 601, 0, 0, 0); UPDATE members SET used = used + 601; INSERT INTO slots VALUES ('room-1', 20574, 18, 0, 1)
+UPDATE bookings SET cancelled = 1, refund = 300 WHERE number = 8; UPDATE members SET used = used - 300; UPDATE slots SET taken = taken - 1 WHERE facility = 'room-1'
 CHANGES
 
 # fail WHAT
@@ -108,7 +108,7 @@ refuse_memory() {
         [ -e told ] || break
         number=$((number + step))
     done
-    echo "store_walk${1:+ $*}: $count of the runs to allocation $number ended for out of memory"
+    echo "store_walk${1:+ $*}: $count of the runs to allocation $number ended for want of memory"
 }
 
 refuse_storage() {

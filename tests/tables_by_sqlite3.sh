@@ -50,11 +50,13 @@ same 'what sqlite3 finds' "$(sql copied "PRAGMA integrity_check; PRAGMA foreign_
     SELECT * FROM slots; SELECT * FROM bookings")" <<'ROWS'
 ok
 1
-amy|10000|5
+amy|10000|5|901
 court-1|court|4|200|8|22
 room-1|room|1|601|8|22
 amy-1|amy|30313233343536373839616263646566|0
-court-1|20574|9|1
+court-1|20574|9|1|0
+court-1|20574|18|0|3
+room-1|20574|18|0|0
 amy-1|7|court-1|20574|18|2|600|1|0|0
 amy-1|8|room-1|20574|18|0|601|0|1|300
 ROWS
@@ -63,11 +65,17 @@ same 'the sums of an auditor' "$(sql club "
     SELECT total(charge - refund) FROM bookings WHERE pass_key = 'amy-1';
     SELECT credited - (SELECT total(charge - refund) FROM bookings JOIN keys ON name = pass_key WHERE member = 'amy')
         FROM members WHERE name = 'amy';
-    $taken 'court-1'; $taken 'room-1'; SELECT date(20574 * 86400, 'unixepoch')")" <<'ROWS'
+    $taken 'court-1'; $taken 'room-1';
+    SELECT count(*) FROM members WHERE used <> (SELECT total(charge - refund) FROM bookings JOIN keys ON keys.name = pass_key
+        WHERE member = members.name);
+    SELECT count(*) FROM slots s WHERE taken <> (SELECT total(guests + 1) FROM bookings b WHERE cancelled = 0
+        AND b.facility = s.facility AND b.day = s.day AND b.hour = s.hour); SELECT date(20574 * 86400, 'unixepoch')")" <<'ROWS'
 901.0
 9099.0
 3.0
 0.0
+0
+0
 2026-05-01
 ROWS
 
@@ -100,10 +108,12 @@ keys|revoked|INTEGER|0
 members|name|TEXT|1
 members|credited|INTEGER|0
 members|quota|INTEGER|0
+members|used|INTEGER|0
 slots|facility|TEXT|1
 slots|day|INTEGER|2
 slots|hour|INTEGER|3
 slots|closed|INTEGER|0
+slots|taken|INTEGER|0
 0
 ROWS
 same 'the references' "$(sql club "SELECT t.name, f.\"from\", f.\"table\", f.\"to\" FROM pragma_table_list t,
@@ -131,6 +141,7 @@ while read -r table column least most; do
 done <<'LIMITS'
 members credited 0 999999999
 members quota 0 99
+members used 0 999999999
 facilities places 1 50
 facilities price 0 9999
 facilities opens 0 23
@@ -152,8 +163,8 @@ LIMITS
 # What sqlite3 writes within the limits, store_walk reads, beside the log that it left.
 cp club written
 "$walk" show written >/dev/null
-sql written "UPDATE members SET credited = credited + 5, quota = 99; UPDATE keys SET revoked = 1; DELETE FROM slots;
-    INSERT INTO slots VALUES ('room-1', 20574, 18, 1), ('court-1', 20574, 9, 0);
+sql written "UPDATE members SET credited = credited + 5, quota = 99, used = used + 200; UPDATE keys SET revoked = 1; DELETE FROM slots;
+    INSERT INTO slots VALUES ('room-1', 20574, 18, 1, 0), ('court-1', 20574, 9, 0, 0), ('court-1', 20574, 18, 0, 4);
     INSERT INTO bookings VALUES ('amy-1', 9, 'court-1', 20574, 18, 0, 200, 0, 0, 0)"
 same 'what sqlite3 wrote' "$("$walk" show written)" <<'ROWS'
 member amy: credited 10005 quota 99
@@ -255,11 +266,17 @@ DROP TABLE keys
 DROP TABLE slots
 DROP TABLE bookings
 ALTER TABLE members RENAME COLUMN quota TO most
+ALTER TABLE members RENAME COLUMN used TO spent
 ALTER TABLE facilities RENAME COLUMN price TO points
 ALTER TABLE keys RENAME COLUMN root TO secret
 ALTER TABLE slots RENAME COLUMN closed TO shut
+ALTER TABLE slots RENAME COLUMN taken TO persons
 ALTER TABLE bookings RENAME COLUMN remains TO remaining
 UPDATE members SET credited = 1000000000
+UPDATE members SET used = 1000000000
+UPDATE members SET used = -1
+UPDATE slots SET taken = 51
+UPDATE slots SET taken = -1
 UPDATE members SET credited = -1
 UPDATE members SET quota = 100
 UPDATE members SET name = 'Amy'
@@ -276,9 +293,9 @@ UPDATE keys SET root = x'00112233445566778899aabbccddee'
 UPDATE keys SET root = zeroblob(65)
 UPDATE keys SET revoked = 2
 UPDATE slots SET closed = 2
-UPDATE slots SET facility = 'court-2'
+UPDATE slots SET facility = 'court-2' WHERE hour = 9
 UPDATE slots SET day = 10956
-UPDATE slots SET hour = 24
+UPDATE slots SET hour = 24 WHERE hour = 9
 UPDATE bookings SET pass_key = 'amy-2'
 UPDATE bookings SET facility = 'room-2'
 UPDATE bookings SET number = 0 WHERE number = 7
@@ -291,7 +308,7 @@ UPDATE bookings SET cancelled = 2
 UPDATE bookings SET refund = -1
 UPDATE bookings SET refund = 602 WHERE number = 8
 UPDATE bookings SET refund = 1 WHERE number = 7
-UPDATE facilities SET name = 'Court-1' WHERE name = 'court-1'; UPDATE bookings SET facility = 'Court-1' WHERE number = 7; UPDATE slots SET facility = 'Court-1'
+UPDATE facilities SET name = 'Court-1' WHERE name = 'court-1'; UPDATE bookings SET facility = 'Court-1' WHERE number = 7; UPDATE slots SET facility = 'Court-1' WHERE facility = 'court-1'
 TEXTS
 
 # A path where no file can lie, and a file that sqlite3 has locked.

@@ -1,6 +1,6 @@
 -- Rows that are asked for by slot, by key and number, and by key.
-use Rattle.std.proofs.Common.{◌≡◌, ◌≢◌, ℕ, pos, ℤ, Bool, true, false, not, ◌&&◌, ◌==◌, List, [], ◌∷◌, map, codes, refl, sym, ap, ◌∙◌}
-use Rattle.std.specs.Prelude.{filter, find, IsPermutation}
+use Rattle.std.proofs.Common.{◌≡◌, ◌≢◌, ℕ, pos, ℤ, Bool, true, false, not, ◌&&◌, ◌==◌, Option, Some, None, inl, inr, List, [], ◌∷◌, map, codes, refl, sym, ap, ◌∙◌}
+use Rattle.std.specs.Prelude.{filter, option_map, unwrap_or, IsPermutation}
 use Rattle.std.specs.Option.{option_to_list}
 use Rattle.std.specs.Cmp.{unsigned_Decides}
 use Rattle.std.proofs.lemmas.Slice.Eq.{bytes_eq-Decides}
@@ -19,23 +19,26 @@ use Rattle.sqlite.specs.Listing.{understood, reads_listing}
 use Rattle.sqlite.specs.State.{HasCleanDisk}
 use Rattle.sqlite.specs.Held.{Held, state}
 use Rattle.sqlite.proofs.Callers.{IsPlain, command_of}
-use Rattle.pass_caveats.specs.declared.slot.Slot.{Slot}
-use Rattle.club_core.specs.Columns.{truth}
-use Rattle.club_core.specs.declared.booking.Booking.{Booking}
-use Rattle.club_core.specs.Booking.{same_slot}
+use Rattle.club_values.specs.declared.slot.Slot.{Slot}
+use Rattle.club_rows.specs.Columns.{truth}
+use Rattle.club_rows.specs.declared.booking.Booking.{Booking}
+use Rattle.club_rows.specs.Booking.{same_slot}
 use Rattle.club_core.specs.Sums.{is_in, is_under, booking_under}
 use Rattle.club_core.specs.Club.{Club}
-use Rattle.club_store.specs.declared.texts.TheConstants.{SLOT, BOOKING, GUESTS, COSTS_UNDER_KEY}
+use Rattle.club_store.specs.declared.texts.TheConstants.{SLOT, BOOKING, COSTS_UNDER_KEY}
 use Rattle.club_store.specs.Schema.{club_schema}
-use Rattle.club_store.specs.Columns.{whole, closed_values, closed_flag, booking_values, guests_values, cost_values}
+use Rattle.club_store.specs.Columns.{whole, slot_values, use_values, booking_values, cost_values}
+use Rattle.club_store.specs.Stored.{SlotRow, unused, row_of}
+use Rattle.club_store.specs.Use.{ShowsUse}
+use Rattle.club_core.specs.Basis.{slot_use}
 use Rattle.club_store.specs.Tables.{Stands, slots_tree, bookings_tree}
 use Rattle.club_store.specs.Statements.{select, is_given}
 use Rattle.club_store.specs.Transaction.{Asked}
 use Rattle.club_store.proofs.SelectLemmas.{selected, text_equal, whole_equal, apart_from_pairs, one_passes}
-use Rattle.club_store.proofs.StandLemmas.{asked_tables, asked_reads}
+use Rattle.club_store.proofs.StandLemmas.{asked_tables, asked_reads, bookings_held}
 use Rattle.club_store.proofs.KeyLemmas.{and_true, first_told}
 
-slot_is : command_of (understood club_schema SLOT.now) ≡ Select (record { lets = []; body = select (inner slots_tree end) (is_given 1 0 ∷ is_given 2 1 ∷ is_given 3 2 ∷ []) (col 1 4 ∷ []) }) (codes "closed" ∷ [])
+slot_is : command_of (understood club_schema SLOT.now) ≡ Select (record { lets = []; body = select (inner slots_tree end) (is_given 1 0 ∷ is_given 2 1 ∷ is_given 3 2 ∷ []) (col 1 4 ∷ col 1 5 ∷ []) }) (codes "closed" ∷ codes "taken" ∷ [])
 unfolding understood everything
 slot_is = refl
 
@@ -56,7 +59,7 @@ three_tests a a' b b' c c' p q r = three a b c ∙ cc
     three true false c = refl
     three false b c = refl
 
-same_slots : (a b : Slot) → same_slot a b ≡ true → a ≡ b
+pub same_slots : (a b : Slot) → same_slot a b ≡ true → a ≡ b
 same_slots a b h =
     let one = and_parts _ _ h in
     let two = and_parts _ _ one.0 in
@@ -64,18 +67,25 @@ same_slots a b h =
     ∙ ap (λ d. let s : Slot = record b { day = d; hour = a.hour } in s) ((unsigned_Decides a.day b.day).0 two.1)
     ∙ ap (λ h. let s : Slot = record b { hour = h } in s) ((unsigned_Decides a.hour b.hour).0 one.1)
 
-pub closed_told : {S : Type 0} (g : Ghosts S) (old : Held S) (slot : Slot) (rows : List Row) → HasCleanDisk (state g old)
+-- what is told of a slot by the row that was found, or by none
+shows_by : (club : Club) (slot : Slot) (found : Option SlotRow) (rows : List Row) → rows ≡ map (λ (row : SlotRow). use_values row.held) (option_to_list found)
+    → unwrap_or (option_map (λ (row : SlotRow). row.held) found) unused ≡ slot_use club slot → ShowsUse club slot rows
+shows_by club slot (Some row) rows is same = inl (is ∙ ap (λ held. use_values held ∷ []) same)
+shows_by club slot None rows is same = inr (is, sym same)
+
+pub slot_told : {S : Type 0} (g : Ghosts S) (old : Held S) (slot : Slot) (rows : List Row) → HasCleanDisk (state g old)
     → Asked g SLOT.now (Text slot.facility ∷ whole slot.day ∷ whole slot.hour ∷ []) old rows
-    → (club : Club) (others : List Club) → Stands (state g old) club others → rows ≡ map closed_flag (option_to_list (find (λ other. same_slot other slot) club.closed))
-closed_told g old slot rows clean asked club others stands =
+    → (club : Club) (others : List Club) → Stands (state g old) club others → ShowsUse club slot rows
+slot_told g old slot rows clean asked club others stands =
     let tables = asked_tables g SLOT.now _ old rows asked clean club others stands in
-    let reads = asked_reads g SLOT.now _ old rows asked tables.schema _ slot_is slot_plain slot_unlisted in
-    let p : Slot → Bool = λ other. same_slot other slot in
-    let R : Slot → Slot → Type 0 = λ a b. a ≢ b in
-    let tests = λ (id : ℤ) (s : Slot). three_tests _ _ _ _ _ _ (text_equal s.facility slot.facility) (whole_equal s.day slot.day) (whole_equal s.hour slot.hour) in
-    let same = selected closed_values _ (is_given 1 0 ∷ is_given 2 1 ∷ is_given 3 2 ∷ []) (col 1 4 ∷ []) p closed_flag tests (λ id s. refl) slots_tree (codes "closed" ∷ []) (state g old).now club.closed rows tables.closed reads in
-    let low = one_passes R p club.closed (λ x y a b apart. apart (same_slots x slot a ∙ sym (same_slots y slot b))) (apart_from_pairs R club.closed tables.sound.unique.closed) in
-    first_told closed_flag p club.closed rows low same
+    let reads = asked_reads g SLOT.now _ old rows asked tables.lies.schema _ slot_is slot_plain slot_unlisted in
+    let p : SlotRow → Bool = λ row. same_slot row.slot slot in
+    let show : SlotRow → Row = λ row. use_values row.held in
+    let R : SlotRow → SlotRow → Type 0 = λ a b. a.slot ≢ b.slot in
+    let tests = λ (id : ℤ) (row : SlotRow). three_tests _ _ _ _ _ _ (text_equal row.slot.facility slot.facility) (whole_equal row.slot.day slot.day) (whole_equal row.slot.hour slot.hour) in
+    let same = selected slot_values _ (is_given 1 0 ∷ is_given 2 1 ∷ is_given 3 2 ∷ []) (col 1 4 ∷ col 1 5 ∷ []) p show tests (λ id row. refl) slots_tree (codes "closed" ∷ codes "taken" ∷ []) (state g old).now tables.rows.slots rows tables.lies.slots reads in
+    let low = one_passes R p tables.rows.slots (λ x y a b apart. apart (same_slots x.slot slot a ∙ sym (same_slots y.slot slot b))) (apart_from_pairs R tables.rows.slots tables.stored.once) in
+    shows_by club slot (row_of slot tables.rows.slots) rows (first_told show p tables.rows.slots rows low same) (tables.stored.slots slot)
 
 two_tests : (a a' b b' : Bool) → a ≡ a' → b ≡ b' → (a && (b && true)) ≡ (a' && b')
 two_tests a a' b b' p q = let e = and_true b in cc
@@ -97,13 +107,13 @@ pub booking_told : {S : Type 0} (g : Ghosts S) (old : Held S) (key : List ℕ) (
     → (club : Club) (others : List Club) → Stands (state g old) club others → rows ≡ map booking_values (option_to_list (booking_under key number club.bookings))
 booking_told g old key number rows clean asked club others stands =
     let tables = asked_tables g BOOKING.now _ old rows asked clean club others stands in
-    let reads = asked_reads g BOOKING.now _ old rows asked tables.schema _ booking_is booking_plain booking_unlisted in
+    let reads = asked_reads g BOOKING.now _ old rows asked tables.lies.schema _ booking_is booking_plain booking_unlisted in
     let p : Booking → Bool = λ booking. is_under key booking && booking.number == number in
     let R : Booking → Booking → Type 0 = λ a b. ¬ ((a.key ≡ b.key) × (a.number ≡ b.number)) in
     let tests = λ (id : ℤ) (b : Booking).
     two_tests _ _ _ _ (text_equal b.key key) (whole_equal b.number number) in
     let same = selected booking_values _ (is_given 1 0 ∷ is_given 2 1 ∷ []) (map (col 1) (1 ∷ 2 ∷ 3 ∷ 4 ∷ 5 ∷ 6 ∷ 7 ∷ 8 ∷ 9 ∷ 10 ∷ [])) p booking_values tests (λ id b. refl) bookings_tree
-    (map codes ("pass_key" ∷ "number" ∷ "facility" ∷ "day" ∷ "hour" ∷ "guests" ∷ "charge" ∷ "remains" ∷ "cancelled" ∷ "refund" ∷ [])) (state g old).now club.bookings rows tables.bookings reads in
+    (map codes ("pass_key" ∷ "number" ∷ "facility" ∷ "day" ∷ "hour" ∷ "guests" ∷ "charge" ∷ "remains" ∷ "cancelled" ∷ "refund" ∷ [])) (state g old).now club.bookings rows (bookings_held _ club tables) reads in
     let low = one_passes R p club.bookings (λ x y a b apart.
     let m = and_parts _ _ a in
     let n = and_parts _ _ b in
@@ -114,43 +124,9 @@ booking_told g old key number rows clean asked club others stands =
 abbrev pub stands_still : Term
 stands_still = op2 (Compare Eq Binary) (col 1 9) (lit (Int (pos 0)))
 
-guests_is : command_of (understood club_schema GUESTS.now) ≡ Select (record { lets = []; body = select (inner bookings_tree end) (is_given 3 0 ∷ is_given 4 1 ∷ is_given 5 2 ∷ stands_still ∷ []) (col 1 6 ∷ []) }) (codes "guests" ∷ [])
-unfolding understood everything
-guests_is = refl
-
-guests_plain : IsPlain (understood club_schema GUESTS.now)
-unfolding understood everything
-guests_plain = (refl, refl)
-
-guests_unlisted : reads_listing club_schema GUESTS.now ≡ false
-unfolding everything
-guests_unlisted = refl
-
 pub no_truth : (b : Bool) → (truth b == 0) ≡ not b
 no_truth true = refl
 no_truth false = refl
-
-four_tests : (a a' b b' c c' d d' : Bool) → a ≡ a' → b ≡ b' → c ≡ c' → d ≡ d' → (a && (b && (c && (d && true)))) ≡ (d' && (a' && b' && c'))
-four_tests a a' b b' c c' d d' p q r s = four a b c d ∙ cc
-  where
-    four : (a b c d : Bool) → (a && (b && (c && (d && true)))) ≡ (d && (a && b && c))
-    four true true true true = refl
-    four true true true false = refl
-    four true true false true = refl
-    four true true false false = refl
-    four true false c true = refl
-    four true false c false = refl
-    four false b c true = refl
-    four false b c false = refl
-
-pub guests_told : {S : Type 0} (g : Ghosts S) (old : Held S) (slot : Slot) (rows : List Row) → HasCleanDisk (state g old)
-    → Asked g GUESTS.now (Text slot.facility ∷ whole slot.day ∷ whole slot.hour ∷ []) old rows
-    → (club : Club) (others : List Club) → Stands (state g old) club others → IsPermutation (map guests_values (filter (is_in slot) club.bookings)) rows
-guests_told g old slot rows clean asked club others stands =
-    let tables = asked_tables g GUESTS.now _ old rows asked clean club others stands in
-    let reads = asked_reads g GUESTS.now _ old rows asked tables.schema _ guests_is guests_plain guests_unlisted in
-    let tests = λ (id : ℤ) (b : Booking). four_tests _ _ _ _ _ _ _ _ (text_equal b.slot.facility slot.facility) (whole_equal b.slot.day slot.day) (whole_equal b.slot.hour slot.hour) (whole_equal (truth b.cancelled) 0 ∙ no_truth b.cancelled) in
-    selected booking_values _ (is_given 3 0 ∷ is_given 4 1 ∷ is_given 5 2 ∷ stands_still ∷ []) (col 1 6 ∷ []) (is_in slot) guests_values tests (λ id b. refl) bookings_tree (codes "guests" ∷ []) (state g old).now club.bookings rows tables.bookings reads
 
 costs_is : command_of (understood club_schema COSTS_UNDER_KEY.now) ≡ Select (record { lets = []; body = select (inner bookings_tree end) (is_given 1 0 ∷ []) (col 1 7 ∷ col 1 10 ∷ []) }) (map codes ("charge" ∷ "refund" ∷ []))
 unfolding understood everything
@@ -168,5 +144,5 @@ pub costs_told : {S : Type 0} (g : Ghosts S) (old : Held S) (key : List ℕ) (ro
     → (club : Club) (others : List Club) → Stands (state g old) club others → IsPermutation (map cost_values (filter (is_under key) club.bookings)) rows
 costs_told g old key rows clean asked club others stands =
     let tables = asked_tables g COSTS_UNDER_KEY.now _ old rows asked clean club others stands in
-    let reads = asked_reads g COSTS_UNDER_KEY.now _ old rows asked tables.schema _ costs_is costs_plain costs_unlisted in
-    selected booking_values _ (is_given 1 0 ∷ []) (col 1 7 ∷ col 1 10 ∷ []) (is_under key) cost_values (λ id b. and_true _ ∙ text_equal b.key key) (λ id b. refl) bookings_tree (map codes ("charge" ∷ "refund" ∷ [])) (state g old).now club.bookings rows tables.bookings reads
+    let reads = asked_reads g COSTS_UNDER_KEY.now _ old rows asked tables.lies.schema _ costs_is costs_plain costs_unlisted in
+    selected booking_values _ (is_given 1 0 ∷ []) (col 1 7 ∷ col 1 10 ∷ []) (is_under key) cost_values (λ id b. and_true _ ∙ text_equal b.key key) (λ id b. refl) bookings_tree (map codes ("charge" ∷ "refund" ∷ [])) (state g old).now club.bookings rows (bookings_held _ club tables) reads

@@ -5,16 +5,16 @@ use Rattle.std.specs.List.{AllByRecursion}
 use Rattle.std.proofs.lemmas.List.{take_more}
 use Rattle.std.proofs.lemmas.List.Elements.{All-from_recursion}
 use Rattle.sqlite.specs.Order.{Row}
-use Rattle.club_core.specs.Columns.{truth}
-use Rattle.club_core.specs.declared.booking.Booking.{Booking}
+use Rattle.club_rows.specs.Columns.{truth}
+use Rattle.club_rows.specs.declared.booking.Booking.{Booking}
 use Rattle.club_core.specs.Club.{Club}
-use Rattle.club_core.specs.Rows.{IsBooking}
+use Rattle.club_rows.specs.Rows.{IsBooking}
 use Rattle.club_core.specs.Sheet.{AreRowsOf}
 use Rattle.club_store.specs.Columns.{booking_values, HasValues}
 use Rattle.club_store.specs.Sheet.{ShowsDay, AreBookings}
 use Rattle.club_store.proofs.RowLemmas.{zip_more}
 
-truths : (a b : Bool) → truth a ≡ truth b → a ≡ b
+pub truths : (a b : Bool) → truth a ≡ truth b → a ≡ b
 truths true true h = refl
 truths true false h = absurd (omega arith)
 truths false true h = absurd (omega arith)

@@ -1,5 +1,5 @@
 -- What the statement that cancels a booking makes of the tables.
-use Rattle.std.proofs.Common.{◌≡◌, ℕ, ◌≤◌, pos, ℤ, Bool, true, false, not, ◌&&◌, ◌||◌, ◌==◌, cond, List, [], ◌∷◌, length, map, refl, sym, ap, subst, ◌∙◌, arith}
+use Rattle.std.proofs.Common.{◌≡◌, ℕ, ◌≤◌, pos, ℤ, Ok, Bool, true, false, not, ◌&&◌, ◌||◌, ◌==◌, cond, List, [], ◌∷◌, length, map, refl, sym, ap, subst, ◌∙◌, arith}
 use Rattle.std.specs.Prelude.{filter, AllPairs}
 use Rattle.std.specs.Cmp.{unsigned_Decides}
 use Rattle.std.proofs.lemmas.Slice.Eq.{bytes_eq-Decides}
@@ -11,27 +11,23 @@ use Rattle.sqlite_value.specs.declared.keys.Collation.TheVariants.{Binary}
 use Rattle.sqlite_sql.specs.declared.ops.BinaryOp.TheVariants.{Compare}
 use Rattle.sqlite_sql.specs.declared.ops.CompareOp.TheVariants.{Eq}
 use Rattle.sqlite.specs.Order.{Row}
-use Rattle.sqlite.specs.Store.{Ghosts}
 use Rattle.sqlite.specs.Table.{Table}
 use Rattle.sqlite.specs.Term.{Term, lit, col, op2}
 use Rattle.sqlite.specs.Query.{inner, end}
 use Rattle.sqlite.specs.Command.TheVariants.{Update}
-use Rattle.sqlite.specs.Effect.{Database}
 use Rattle.sqlite.specs.Listing.{understood}
-use Rattle.sqlite.specs.Held.{Held, state}
+use Rattle.sqlite.specs.State.{State, Executes}
 use Rattle.sqlite.proofs.Callers.{IsPlain, command_of}
-use Rattle.club_core.specs.Columns.{truth}
-use Rattle.club_core.specs.declared.booking.Booking.{Booking}
-use Rattle.club_core.specs.declared.change.Change.TheVariants.{MarkCancelled}
-use Rattle.club_core.specs.Club.{Club}
-use Rattle.club_core.specs.Store.{Fits}
-use Rattle.club_core.specs.After.{after, cancelled, is_marked}
+use Rattle.club_rows.specs.Columns.{truth}
+use Rattle.club_rows.specs.declared.booking.Booking.{Booking}
+use Rattle.club_core.specs.After.{cancelled, is_marked}
 use Rattle.club_store.specs.declared.texts.TheConstants.{CANCEL_BOOKING}
 use Rattle.club_store.specs.Schema.{bookings_table, club_schema}
-use Rattle.club_store.specs.Columns.{whole, flag, version_values, member_values, facility_values, key_values, closed_values, booking_values}
+use Rattle.club_store.specs.Columns.{whole, flag, booking_values}
 use Rattle.club_store.specs.Statements.{select, is_given}
-use Rattle.club_store.specs.Tables.{Tables, Holds, bookings_tree}
-use Rattle.club_store.specs.Transaction.{Ran, begun}
+use Rattle.club_store.specs.Stored.{Rows}
+use Rattle.club_store.specs.Tables.{Lies, Holds, bookings_tree}
+use Rattle.club_store.proofs.LiesLemmas.{on_bookings}
 use Rattle.club_store.proofs.InsertLemmas.{cast_int}
 use Rattle.club_store.proofs.SelectLemmas.{text_equal, whole_equal, apart_from_pairs, one_passes}
 use Rattle.club_store.proofs.UpdateLemmas.{updates}
@@ -63,7 +59,7 @@ no_truth : (b : Bool) → (truth b == 0) ≡ not b
 no_truth true = refl
 no_truth false = refl
 
-three : (a b c : Bool) → (a && (b && (c && true))) ≡ (a && b && c)
+pub three : (a b c : Bool) → (a && (b && (c && true))) ≡ (a && b && c)
 three true true true = refl
 three true true false = refl
 three true false c = refl
@@ -82,13 +78,13 @@ one_marked key number bookings unique =
     apart ((bytes_eq-Decides x.key key).0 p.0 ∙ sym ((bytes_eq-Decides y.key key).0 q.0), (unsigned_Decides x.number number).0 p.1 ∙ sym ((unsigned_Decides y.number number).0 q.1)))
     (apart_from_pairs R bookings unique)
 
-pub booking_cancelled : {S : Type 0} (g : Ghosts S) (old : Held S) (db : Database) (key : List ℕ) (number refund : ℕ) (club : Club) → Tables (state g old).now club → Fits (MarkCancelled key number refund) club
-    → Ran g CANCEL_BOOKING.now (Text key ∷ whole number ∷ whole refund ∷ []) old db → Tables db (after (MarkCancelled key number refund) club)
-booking_cancelled g old db key number refund club tables fits ran =
+pub booking_cancelled : (old new : State) (rows : Rows) → Lies old.now rows → AllPairs (λ (a : Booking) (b : Booking). ¬ ((a.key ≡ b.key) × (a.number ≡ b.number))) rows.bookings → (key : List ℕ) (number refund count : ℕ)
+    → Executes CANCEL_BOOKING.now (Text key ∷ whole number ∷ whole refund ∷ []) old new (Ok count) → Lies new.now (record rows { bookings = map (cancelled key number refund) rows.bookings })
+booking_cancelled old new rows lies unique key number refund count ran =
     let params = Text key ∷ whole number ∷ whole refund ∷ [] in
     let p : Booking → Bool = is_marked key number in
     let change = cancelled key number refund in
-    let put = updates (state g (begun old)) (state g ran.mid) tables.schema CANCEL_BOOKING.now cancel_plain 5 booking_table (select (inner bookings_tree end) cancel_tests cancel_terms) params refl cancel_is ran.count ran.executed in
+    let put = updates old new lies.schema CANCEL_BOOKING.now cancel_plain 5 booking_table (select (inner bookings_tree end) cancel_tests cancel_terms) params refl cancel_is count ran in
     let as_marked : Booking → Bool → Booking = λ booking b. record booking { cancelled = booking.cancelled || b; refund = cond b refund booking.refund } in
     let same : (booking : Booking) → p booking ≡ false → change booking ≡ booking = λ booking fails.
     ap (as_marked booking) fails ∙ ap (λ b. let k : Booking = record booking { cancelled = b } in k) (or_false booking.cancelled) in
@@ -99,21 +95,10 @@ booking_cancelled g old db key number refund club tables fits ran =
     let stands_is = whole_equal (truth booking.cancelled) 0 ∙ no_truth booking.cancelled in
     three_tests _ _ _ _ _ _ key_is number_is stands_is in
     let bookings = replaced booking_values p change same params cancel_tests cancel_terms tested booking_table
-    (record { schema = club_schema; trees = (state g old).now.trees }) club.bookings put.0 (λ _. Unit {0}) (nothing_more club.bookings)
+    (record { schema = club_schema; trees = old.now.trees }) rows.bookings put.0 (λ _. Unit {0}) (nothing_more rows.bookings)
     (λ id booking _ passes.
     ap (λ v. shown id booking v (whole refund)) (sym (ap (λ b. flag (booking.cancelled || b)) passes ∙ ap flag (or_true booking.cancelled)))
     ∙ ap (λ w. shown id booking (flag (change booking).cancelled) w) (sym (ap (λ b. whole (cond b refund booking.refund)) passes)))
     (λ id booking. rw (cast_int id, cast_int (pos booking.number), cast_int (pos booking.slot.day), cast_int (pos booking.slot.hour), cast_int (pos booking.guests), cast_int (pos booking.charge), cast_int (pos booking.left), cast_int (pos (truth booking.cancelled)), cast_int (pos booking.refund)))
-    tables.bookings (one_marked key number club.bookings tables.sound.unique.bookings) put.1 in
-    let held : Tables (state g ran.mid).now (after (MarkCancelled key number refund) club) = record {
-      schema = put.2;
-      version = subst (λ rows. Holds version_values rows (1 ∷ [])) (sym (put.4.0 (λ e. omega arith))) tables.version;
-      members = subst (λ rows. Holds member_values rows club.members) (sym (put.4.1.0 (λ e. omega arith))) tables.members;
-      facilities = subst (λ rows. Holds facility_values rows club.facilities) (sym (put.4.1.1.0 (λ e. omega arith))) tables.facilities;
-      keys = subst (λ rows. Holds key_values rows club.keys) (sym (put.4.1.1.1.0 (λ e. omega arith))) tables.keys;
-      closed = subst (λ rows. Holds closed_values rows club.closed) (sym (put.4.1.1.1.1.0 (λ e. omega arith))) tables.closed;
-      bookings = subst (λ rows. Holds booking_values rows (map change club.bookings)) (sym put.3) bookings;
-      sound = fits;
-      database = put.5;
-    } in
-    subst (λ (d : Database). Tables d (after (MarkCancelled key number refund) club)) (sym ran.is) held
+    lies.bookings (one_marked key number rows.bookings unique) put.1 in
+    on_bookings old.now new.now rows lies put.2 put.5 put.4 (map change rows.bookings) (subst (λ rs. Holds booking_values rs (map change rows.bookings)) (sym put.3) bookings)

@@ -35,7 +35,7 @@ database_once one other p q same =
     λ i. record { schema = schemas i; trees = same i }
 
 pub is_database : (db : Database) (club : Club) → HoldsClub db club → IsDatabase db
-is_database db club (inl tables) = tables.database
+is_database db club (inl tables) = tables.lies.database
 is_database db club (inr blank) = blank.2
 
 -- what a crash left is a database

@@ -22,8 +22,8 @@ use Rattle.sqlite.specs.Listing.{understood, reads_listing}
 use Rattle.sqlite.specs.State.{HasCleanDisk}
 use Rattle.sqlite.specs.Held.{Held, state}
 use Rattle.sqlite.proofs.Callers.{IsPlain, command_of}
-use Rattle.club_core.specs.Columns.{truth}
-use Rattle.club_core.specs.declared.booking.Booking.{Booking}
+use Rattle.club_rows.specs.Columns.{truth}
+use Rattle.club_rows.specs.declared.booking.Booking.{Booking}
 use Rattle.club_core.specs.Club.{Club}
 use Rattle.club_core.specs.Sheet.{is_on, Precedes}
 use Rattle.club_store.specs.declared.texts.TheConstants.{DAY}
@@ -34,7 +34,7 @@ use Rattle.club_store.specs.Tables.{Stands, bookings_tree}
 use Rattle.club_store.specs.Statements.{select, in_order, is_given}
 use Rattle.club_store.specs.Transaction.{Asked}
 use Rattle.club_store.proofs.SelectLemmas.{whole_equal, apart_from_pairs}
-use Rattle.club_store.proofs.StandLemmas.{asked_tables, asked_reads}
+use Rattle.club_store.proofs.StandLemmas.{asked_tables, asked_reads, bookings_held}
 use Rattle.club_store.proofs.BookingLemmas.{stands_still, no_truth}
 use Rattle.club_store.proofs.OrderLemmas.{selected_in_order, none_less, apart-permutation, pairs_from_apart}
 
@@ -145,10 +145,10 @@ pub day_told : {S : Type 0} (g : Ghosts S) (old : Held S) (day : ℕ) (rows : Li
     → (club : Club) (others : List Club) → Stands (state g old) club others → ShowsDay club day rows
 day_told g old day rows clean asked club others stands =
     let tables = asked_tables g DAY.now _ old rows asked clean club others stands in
-    let reads = asked_reads g DAY.now _ old rows asked tables.schema _ day_is day_plain day_unlisted in
+    let reads = asked_reads g DAY.now _ old rows asked tables.lies.schema _ day_is day_plain day_unlisted in
     let tests = λ (id : ℤ) (b : Booking). two_turned _ _ _ _ (whole_equal b.slot.day day) (whole_equal (truth b.cancelled) 0 ∙ no_truth b.cancelled) in
     let told = selected_in_order booking_values (whole day ∷ []) day_tests booking_terms (map (λ term. (term, ascending Binary)) sheet_terms) (is_on day) booking_values sheet_key
-    tests (λ id b. refl) (λ id b. refl) bookings_tree booking_names (state g old).now club.bookings rows tables.bookings reads in
+    tests (λ id b. refl) (λ id b. refl) bookings_tree booking_names (state g old).now club.bookings rows (bookings_held _ club tables) reads in
     let bookings = told.ordered in
     let same_cmp : (λ (a b : Booking). key_cmp 0 (map (λ _. ascending Binary) sheet_terms) (sheet_key a) (sheet_key b)) ≡ sheet_cmp = λ i a b. by_values a b i in
     let none_before = none_less sheet_cmp sheet_total bookings (subst (λ cmp. IsSorted cmp bookings) same_cmp told.sorted) in

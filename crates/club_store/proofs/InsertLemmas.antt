@@ -12,8 +12,11 @@ use Rattle.sqlite.specs.Schema.{Schema}
 use Rattle.sqlite.specs.Table.{Table}
 use Rattle.sqlite.specs.Kind.TheVariants.{Integer}
 use Rattle.sqlite.specs.Source.TheVariants.{Values}
-use Rattle.sqlite.specs.Command.TheVariants.{Insert, CreateTable}
+use Rattle.sqlite.specs.Command.TheVariants.{Insert, CreateTable, CreateIndex}
 use Rattle.sqlite.specs.Compile.{table_defined_by}
+use Rattle.sqlite_resolve.specs.Compile.{index_defined_by}
+use Rattle.sqlite_schema.specs.declared.schema.Index.{Index}
+use Rattle.sqlite_catalog.specs.Change.{indexed}
 use Rattle.sqlite.specs.Change.{created, next_tree, is_used, KeepsRows}
 use Rattle.sqlite.specs.Cast.{cast, cast_row}
 use Rattle.sqlite.specs.Rowids.TheVariants.{Chosen, Above}
@@ -72,6 +75,21 @@ module _ (old new : State) (schema : Schema) (has : old.now.schema ≡ schema) (
         ap (λ (d : Database). d.schema) now ∙ after,
         ap (λ (d : Database). d.trees (next_tree schema)) now ∙ subst (λ s. first.0.trees (next_tree s) ≡ []) has made.empty,
         subst (λ (d : Database). KeepsRows schema.tables old.now.trees d.trees) (sym now) (subst (λ (s : Schema). KeepsRows s.tables old.now.trees first.0.trees) has made.others),
+      )
+
+  -- CREATE INDEX keeps the rows
+  pub indexes : (at : ℕ) (table : Table) (index : Index) → slice_get schema.tables at ≡ Some table → command_of (understood schema text) ≡ CreateIndex at → statement_of text (understood schema text) ≡ text
+      → index_defined_by table text ≡ Ok index → (count : ℕ) → Executes text [] old new (Ok count) → (new.now.schema ≡ indexed schema table index) × KeepsRows schema.tables old.now.trees new.now.trees
+  indexes at table index listed is whole defined count h =
+      let w = subst (λ t. Writes old new None (CreateIndex at) t [] count) whole (runs_as text [] old new schema has (CreateIndex at) is plain count h) in
+      let does = subst (λ s. Does old.step_limit (mode_of old) [] (record old.now { schema = s }) text None (CreateIndex at) (Ok (w.tally, new.now))) has w.changed in
+      let made = went (rw listed at does) in
+      let it = made.1 in
+      let both : Ok it.index ≡ Ok index = sym it.defined ∙ defined in
+      let same : it.index ≡ index = cc in
+      let now : new.now ≡ made.0 = ap (λ (p : Tally × Database). p.1) (same_value made.2) in (
+        ap (λ (d : Database). d.schema) now ∙ it.is ∙ ap (indexed schema table) same,
+        subst (λ (d : Database). KeepsRows schema.tables old.now.trees d.trees) (sym now) it.rows,
       )
 
   -- INSERT puts a row at the next rowid, and keeps the other tables

@@ -1,6 +1,6 @@
 -- Rows that are asked for by name.
-use Rattle.std.proofs.Common.{◌≡◌, ℕ, ◌≤◌, List, [], ◌∷◌, length, map, codes, false, Bool, true, ◌&&◌, ◌≢◌, slice_get, refl, sym, ap, ◌∙◌, arith}
-use Rattle.std.specs.Prelude.{filter, find, AllPairs, IsPermutation}
+use Rattle.std.proofs.Common.{◌≡◌, ℕ, ◌≤◌, List, [], ◌∷◌, length, map, codes, Some, cond, subst, false, Bool, true, ◌&&◌, ◌≢◌, slice_get, refl, sym, ap, ◌∙◌, arith}
+use Rattle.std.specs.Prelude.{filter, find, option_map, AllPairs, IsPermutation}
 use Rattle.std.proofs.lemmas.List.{length-map}
 use Rattle.std.specs.Option.{option_to_list}
 use Rattle.std.specs.Str.{bytes_eq}
@@ -16,18 +16,32 @@ use Rattle.sqlite.specs.Listing.{understood, reads_listing}
 use Rattle.sqlite.specs.State.{HasCleanDisk}
 use Rattle.sqlite.specs.Held.{Held, state}
 use Rattle.sqlite.proofs.Callers.{IsPlain, command_of}
-use Rattle.club_core.specs.declared.key.Key.{Key}
-use Rattle.club_core.specs.declared.member.Member.{Member}
-use Rattle.club_core.specs.declared.facility.Facility.{Facility}
+use Rattle.club_rows.specs.declared.key.Key.{Key}
+use Rattle.club_rows.specs.declared.member.Member.{Member}
+use Rattle.club_rows.specs.declared.facility.Facility.{Facility}
 use Rattle.club_core.specs.Club.{Club, key_named, member_named, facility_named}
+use Rattle.club_store.specs.declared.row.MemberRow.{MemberRow}
 use Rattle.club_store.specs.declared.texts.TheConstants.{KEY, MEMBER, FACILITY}
 use Rattle.club_store.specs.Schema.{club_schema}
 use Rattle.club_store.specs.Columns.{key_values, member_values, facility_values}
-use Rattle.club_store.specs.Tables.{Stands, keys_tree, members_tree, facilities_tree}
+use Rattle.club_store.specs.Stored.{member_row}
+use Rattle.club_store.specs.Tables.{Stands, Holds, keys_tree, members_tree, facilities_tree}
 use Rattle.club_store.specs.Statements.{select, is_given}
 use Rattle.club_store.specs.Transaction.{Asked}
 use Rattle.club_store.proofs.SelectLemmas.{selected, text_equal, find_first, apart_from_pairs, one_passes, short_permutation}
-use Rattle.club_store.proofs.StandLemmas.{asked_tables, asked_reads}
+use Rattle.club_store.proofs.StandLemmas.{asked_tables, asked_reads, keys_held}
+
+pub filter_mapped : {X Y : Type 0} (p : Y → Bool) (f : X → Y) (xs : List X) → filter p (map f xs) ≡ map f (filter (λ x. p (f x)) xs)
+filter_mapped p f [] = refl
+filter_mapped {X} {Y} p f (x ∷ xs) =
+    let more = filter_mapped p f xs in
+    elim (p (f x)) as (λ b. cond b (f x ∷ filter p (map f xs)) (filter p (map f xs)) ≡ map f (cond b (x ∷ filter (λ y. p (f y)) xs) (filter (λ y. p (f y)) xs)))
+    [ true ↦ ap (λ ys. f x ∷ ys) more | false ↦ more ]
+
+pub find_mapped : {X Y : Type 0} (p : Y → Bool) (f : X → Y) (xs : List X) → find p (map f xs) ≡ option_map f (find (λ x. p (f x)) xs)
+find_mapped p f [] = refl
+find_mapped p f (x ∷ xs) = elim (p (f x)) as (λ b. cond b (Some (f x)) (find p (map f xs)) ≡ option_map f (cond b (Some x) (find (λ y. p (f y)) xs)))
+    [ true ↦ refl | false ↦ find_mapped p f xs ]
 
 key_is : command_of (understood club_schema KEY.now) ≡ Select (record { lets = []; body = select (inner keys_tree end) (is_given 1 0 ∷ []) (map (col 1) (1 ∷ 2 ∷ 3 ∷ 4 ∷ [])) }) (map codes ("name" ∷ "member" ∷ "root" ∷ "revoked" ∷ []))
 unfolding understood everything
@@ -69,13 +83,13 @@ pub key_told : {S : Type 0} (g : Ghosts S) (old : Held S) (name : List ℕ) (row
     → (club : Club) (others : List Club) → Stands (state g old) club others → rows ≡ map key_values (option_to_list (key_named name club))
 key_told g old name rows clean asked club others stands =
     let tables = asked_tables g KEY.now _ old rows asked clean club others stands in
-    let reads = asked_reads g KEY.now _ old rows asked tables.schema _ key_is key_plain key_unlisted in
+    let reads = asked_reads g KEY.now _ old rows asked tables.lies.schema _ key_is key_plain key_unlisted in
     let p : Key → Bool = λ key. bytes_eq key.name name in
     let same = selected key_values (Text name ∷ []) (is_given 1 0 ∷ []) _ p key_values (λ id key. and_true _ ∙ text_equal key.name name) (λ id key. refl) keys_tree
-    (map codes ("name" ∷ "member" ∷ "root" ∷ "revoked" ∷ [])) (state g old).now club.keys rows tables.keys reads in
+    (map codes ("name" ∷ "member" ∷ "root" ∷ "revoked" ∷ [])) (state g old).now club.keys rows (keys_held _ club tables) reads in
     first_told key_values p club.keys rows (one_named (λ (key : Key). key.name) name club.keys tables.sound.unique.keys) same
 
-member_is : command_of (understood club_schema MEMBER.now) ≡ Select (record { lets = []; body = select (inner members_tree end) (is_given 1 0 ∷ []) (map (col 1) (1 ∷ 2 ∷ 3 ∷ [])) }) (map codes ("name" ∷ "credited" ∷ "quota" ∷ []))
+member_is : command_of (understood club_schema MEMBER.now) ≡ Select (record { lets = []; body = select (inner members_tree end) (is_given 1 0 ∷ []) (map (col 1) (1 ∷ 2 ∷ 3 ∷ 4 ∷ [])) }) (map codes ("name" ∷ "credited" ∷ "quota" ∷ "used" ∷ []))
 unfolding understood everything
 member_is = refl
 
@@ -88,14 +102,18 @@ unfolding everything
 member_unlisted = refl
 
 pub member_told : {S : Type 0} (g : Ghosts S) (old : Held S) (name : List ℕ) (rows : List Row) → HasCleanDisk (state g old) → Asked g MEMBER.now (Text name ∷ []) old rows
-    → (club : Club) (others : List Club) → Stands (state g old) club others → rows ≡ map member_values (option_to_list (member_named name club))
+    → (club : Club) (others : List Club) → Stands (state g old) club others → rows ≡ map member_values (option_to_list (option_map (member_row club) (member_named name club)))
 member_told g old name rows clean asked club others stands =
     let tables = asked_tables g MEMBER.now _ old rows asked clean club others stands in
-    let reads = asked_reads g MEMBER.now _ old rows asked tables.schema _ member_is member_plain member_unlisted in
-    let p : Member → Bool = λ member. bytes_eq member.name name in
-    let same = selected member_values (Text name ∷ []) (is_given 1 0 ∷ []) _ p member_values (λ id member. and_true _ ∙ text_equal member.name name) (λ id member. refl) members_tree
-    (map codes ("name" ∷ "credited" ∷ "quota" ∷ [])) (state g old).now club.members rows tables.members reads in
-    first_told member_values p club.members rows (one_named (λ (member : Member). member.name) name club.members tables.sound.unique.members) same
+    let reads = asked_reads g MEMBER.now _ old rows asked tables.lies.schema _ member_is member_plain member_unlisted in
+    let p : MemberRow → Bool = λ row. bytes_eq row.member.name name in
+    let held = subst (Holds member_values _) tables.stored.members tables.lies.members in
+    let same = selected member_values (Text name ∷ []) (is_given 1 0 ∷ []) _ p member_values (λ id row. and_true _ ∙ text_equal row.member.name name) (λ id row. refl) members_tree
+    (map codes ("name" ∷ "credited" ∷ "quota" ∷ "used" ∷ [])) (state g old).now (map (member_row club) club.members) rows held reads in
+    let low = one_named (λ (member : Member). member.name) name club.members tables.sound.unique.members in
+    let fewer = filter_mapped p (member_row club) club.members in
+    first_told member_values p (map (member_row club) club.members) rows (rw fewer (omega (arith, low, length-map (filter (λ (m : Member). bytes_eq m.name name) club.members) (member_row club)))) same
+    ∙ ap (λ o. map member_values (option_to_list o)) (find_mapped p (member_row club) club.members)
 
 facility_is : command_of (understood club_schema FACILITY.now) ≡ Select (record { lets = []; body = select (inner facilities_tree end) (is_given 1 0 ∷ []) (map (col 1) (1 ∷ 2 ∷ 3 ∷ 4 ∷ 5 ∷ 6 ∷ [])) })
     (map codes ("name" ∷ "kind" ∷ "places" ∷ "price" ∷ "opens" ∷ "shuts" ∷ []))
@@ -114,8 +132,8 @@ pub facility_told : {S : Type 0} (g : Ghosts S) (old : Held S) (name : List ℕ)
     → (club : Club) (others : List Club) → Stands (state g old) club others → rows ≡ map facility_values (option_to_list (facility_named name club))
 facility_told g old name rows clean asked club others stands =
     let tables = asked_tables g FACILITY.now _ old rows asked clean club others stands in
-    let reads = asked_reads g FACILITY.now _ old rows asked tables.schema _ facility_is facility_plain facility_unlisted in
+    let reads = asked_reads g FACILITY.now _ old rows asked tables.lies.schema _ facility_is facility_plain facility_unlisted in
     let p : Facility → Bool = λ facility. bytes_eq facility.name name in
     let same = selected facility_values (Text name ∷ []) (is_given 1 0 ∷ []) _ p facility_values (λ id facility. and_true _ ∙ text_equal facility.name name) (λ id facility. refl) facilities_tree
-    (map codes ("name" ∷ "kind" ∷ "places" ∷ "price" ∷ "opens" ∷ "shuts" ∷ [])) (state g old).now club.facilities rows tables.facilities reads in
+    (map codes ("name" ∷ "kind" ∷ "places" ∷ "price" ∷ "opens" ∷ "shuts" ∷ [])) (state g old).now club.facilities rows (subst (Holds facility_values _) tables.stored.facilities tables.lies.facilities) reads in
     first_told facility_values p club.facilities rows (one_named (λ (facility : Facility). facility.name) name club.facilities tables.sound.unique.facilities) same

@@ -8,15 +8,19 @@ pub mod KeyLemmas
 pub mod MakesLemmas
 pub mod MakingLemmas
 pub mod OpenLemmas
+pub mod LiesLemmas
 pub mod AddLemmas
 pub mod WriteLemmas
 pub mod UpdateLemmas
 pub mod ReplaceLemmas
 pub mod ChangeLemmas
 pub mod CancelLemmas
+pub mod SlotRows
+pub mod SlotTold
 pub mod UpsertLemmas
+pub mod StoredLemmas
+pub mod MadeLemmas
 pub mod BookingLemmas
-pub mod SlotLemmas
 pub mod OrderLemmas
 pub mod DayLemmas
 pub mod BookingRows
@@ -29,3 +33,4 @@ pub mod JoinLemmas
 pub mod MemberLemmas
 pub mod SumLemmas
 pub mod ViewLemmas
+pub mod SoundLemmas

@@ -13,16 +13,17 @@ use Rattle.sqlite.specs.State.{ExecutesIn}
 use Rattle.sqlite.specs.Held.{Held, state}
 use Rattle.sqlite.proofs.Callers.{IsPlain, command_of}
 use Rattle.club_core.specs.Club.{IsSound, empty_club}
-use Rattle.club_store.specs.declared.texts.TheConstants.{MAKE_DESK, MAKE_MEMBERS, MAKE_FACILITIES, MAKE_KEYS, MAKE_SLOTS, MAKE_BOOKINGS, ADD_VERSION}
-use Rattle.club_store.specs.Schema.{no_schema, desk_table, members_table, facilities_table, keys_table, slots_table, bookings_table, club_schema}
+use Rattle.club_store.specs.declared.texts.TheConstants.{MAKE_DESK, MAKE_MEMBERS, MAKE_FACILITIES, MAKE_KEYS, MAKE_SLOTS, MAKE_BOOKINGS, MAKE_KEYS_BY_MEMBER, ADD_VERSION}
+use Rattle.club_store.specs.Schema.{no_schema, desk_table, members_table, facilities_table, keys_table, slots_table, bookings_table, six_tables, keys_by_member, club_schema}
 use Rattle.club_store.specs.Columns.{whole, version_values}
-use Rattle.club_store.specs.Opening.{table_texts, HasNoDesk}
-use Rattle.club_store.specs.Tables.{Tables, Holds}
-use Rattle.club_store.specs.Transaction.{RanAll, begun}
+use Rattle.club_store.specs.Opening.{table_batch, HasNoDesk}
+use Rattle.club_store.specs.Stored.{Rows, IsStoredAs}
+use Rattle.club_store.specs.Tables.{Tables, Lies, Holds}
+use Rattle.club_store.specs.Transaction.{Ran, begun}
 use Rattle.club_store.proofs.DeskLemmas.{desk_made}
-use Rattle.club_store.proofs.InsertLemmas.{creates, inserts, cast_null, cast_int}
+use Rattle.club_store.proofs.InsertLemmas.{creates, indexes, inserts, cast_null, cast_int}
 use Rattle.club_store.proofs.RowLemmas.{holds_more, holds_none}
-use Rattle.club_store.proofs.MakesLemmas.{schema_1, schema_2, schema_3, schema_4, schema_5, makes_desk, makes_members, makes_facilities, makes_keys, makes_slots, makes_bookings, makes_again}
+use Rattle.club_store.proofs.MakesLemmas.{schema_1, schema_2, schema_3, schema_4, schema_5, makes_desk, makes_members, makes_facilities, makes_keys, makes_slots, makes_bookings, keys_made, makes_keys_by_member, makes_again}
 
 abbrev version_terms : List Term
 version_terms = lit Null ∷ lit (Int (pos 1)) ∷ []
@@ -50,7 +51,13 @@ empty_is_sound = record {
   places = λ k d low. absurd (omega arith);
 }
 
-module _ {S : Type 0} (g : Ghosts S) (old : Held S) (db : Database) (ran : RanAll g table_texts old db) where
+abbrev no_rows : Rows
+no_rows = record { members = []; facilities = []; keys = []; slots = []; bookings = [] }
+
+empty_is_stored : IsStoredAs empty_club no_rows
+empty_is_stored = record { members = refl; facilities = refl; keys = refl; bookings = refl; slots = λ slot. refl; once = λ i j d less low. absurd (omega arith) }
+
+module _ {S : Type 0} (g : Ghosts S) (old : Held S) (db : Database) (ran : Ran g table_batch old db) where
   -- over no tables it makes those of the empty club
   pub made_tables : (state g old).now.schema ≡ no_schema → Tables db empty_club
   made_tables has =
@@ -61,33 +68,35 @@ module _ {S : Type 0} (g : Ghosts S) (old : Held S) (db : Database) (ran : RanAl
       let t5 = t4.3 in
       let t6 = t5.3 in
       let t7 = t6.3 in
+      let t8 = t7.3 in
       let c1 = creates (state g (begun old)) (state g t1.0) no_schema has MAKE_DESK.now makes_desk.plain desk_table makes_desk.is makes_desk.whole makes_desk.defined makes_desk.uncounted t1.1 t1.2 in
       let c2 = creates (state g t1.0) (state g t2.0) schema_1 c1.1 MAKE_MEMBERS.now makes_members.plain members_table makes_members.is makes_members.whole makes_members.defined makes_members.uncounted t2.1 t2.2 in
       let c3 = creates (state g t2.0) (state g t3.0) schema_2 c2.1 MAKE_FACILITIES.now makes_facilities.plain facilities_table makes_facilities.is makes_facilities.whole makes_facilities.defined makes_facilities.uncounted t3.1 t3.2 in
       let c4 = creates (state g t3.0) (state g t4.0) schema_3 c3.1 MAKE_KEYS.now makes_keys.plain keys_table makes_keys.is makes_keys.whole makes_keys.defined makes_keys.uncounted t4.1 t4.2 in
       let c5 = creates (state g t4.0) (state g t5.0) schema_4 c4.1 MAKE_SLOTS.now makes_slots.plain slots_table makes_slots.is makes_slots.whole makes_slots.defined makes_slots.uncounted t5.1 t5.2 in
       let c6 = creates (state g t5.0) (state g t6.0) schema_5 c5.1 MAKE_BOOKINGS.now makes_bookings.plain bookings_table makes_bookings.is makes_bookings.whole makes_bookings.defined makes_bookings.uncounted t6.1 t6.2 in
-      let c7 = inserts (state g t6.0) (state g t7.0) club_schema c6.1 ADD_VERSION.now version_plain 0 desk_table version_terms 2 [] (whole 1 ∷ []) refl version_is refl refl refl (rw (cast_null, cast_int (pos 1))) (λ row. refl) t7.1 t7.2 in
-      let desk : (state g t6.0).now.trees 0 ≡ [] = c6.3.0 ∙ c5.3.0 ∙ c4.3.0 ∙ c3.3.0 ∙ c2.3.0 ∙ c1.2 in
-      let members : (state g t6.0).now.trees 1 ≡ [] = c6.3.1.0 ∙ c5.3.1.0 ∙ c4.3.1.0 ∙ c3.3.1.0 ∙ c2.2 in
-      let facilities : (state g t6.0).now.trees 3 ≡ [] = c6.3.1.1.0 ∙ c5.3.1.1.0 ∙ c4.3.1.1.0 ∙ c3.2 in
-      let keys : (state g t6.0).now.trees 5 ≡ [] = c6.3.1.1.1.0 ∙ c5.3.1.1.1.0 ∙ c4.2 in
-      let slots : (state g t6.0).now.trees 7 ≡ [] = c6.3.1.1.1.1.0 ∙ c5.2 in
-      let bookings : (state g t6.0).now.trees 9 ≡ [] = c6.2 in
-      let others = c7.2 in
-      let is : db ≡ (state g t7.0).now = ran.is ∙ ap (λ h. (state g h).now) t7.3 in
-      let before : Holds version_values ((state g t6.0).now.trees 0) [] = holds_none version_values _ desk in
-      let held : Tables (state g t7.0).now empty_club = record {
-        schema = c7.0;
-        version = subst (λ rows. Holds version_values rows (1 ∷ [])) (sym c7.1) (holds_more version_values _ [] 1 before);
+      let c7 = indexes (state g t6.0) (state g t7.0) six_tables c6.1 MAKE_KEYS_BY_MEMBER.now makes_keys_by_member.plain 3 keys_made keys_by_member makes_keys_by_member.listed makes_keys_by_member.is makes_keys_by_member.whole makes_keys_by_member.defined t7.1 t7.2 in
+      let c8 = inserts (state g t7.0) (state g t8.0) club_schema c7.0 ADD_VERSION.now version_plain 0 desk_table version_terms 2 [] (whole 1 ∷ []) refl version_is refl refl refl (rw (cast_null, cast_int (pos 1))) (λ row. refl) t8.1 t8.2 in
+      let desk : (state g t7.0).now.trees 0 ≡ [] = c7.1.0 ∙ c6.3.0 ∙ c5.3.0 ∙ c4.3.0 ∙ c3.3.0 ∙ c2.3.0 ∙ c1.2 in
+      let members : (state g t7.0).now.trees 1 ≡ [] = c7.1.1.0 ∙ c6.3.1.0 ∙ c5.3.1.0 ∙ c4.3.1.0 ∙ c3.3.1.0 ∙ c2.2 in
+      let facilities : (state g t7.0).now.trees 3 ≡ [] = c7.1.1.1.0 ∙ c6.3.1.1.0 ∙ c5.3.1.1.0 ∙ c4.3.1.1.0 ∙ c3.2 in
+      let keys : (state g t7.0).now.trees 5 ≡ [] = c7.1.1.1.1.0 ∙ c6.3.1.1.1.0 ∙ c5.3.1.1.1.0 ∙ c4.2 in
+      let slots : (state g t7.0).now.trees 7 ≡ [] = c7.1.1.1.1.1.0 ∙ c6.3.1.1.1.1.0 ∙ c5.2 in
+      let bookings : (state g t7.0).now.trees 9 ≡ [] = c7.1.1.1.1.1.1.0 ∙ c6.2 in
+      let others = c8.2 in
+      let is : db ≡ (state g t8.0).now = ran.is ∙ ap (λ h. (state g h).now) t8.3 in
+      let before : Holds version_values ((state g t7.0).now.trees 0) [] = holds_none version_values _ desk in
+      let lies : Lies (state g t8.0).now no_rows = record {
+        schema = c8.0;
+        version = subst (λ rows. Holds version_values rows (1 ∷ [])) (sym c8.1) (holds_more version_values _ [] 1 before);
         members = holds_none _ _ (others.1.0 (λ e. omega arith) ∙ members);
         facilities = holds_none _ _ (others.1.1.0 (λ e. omega arith) ∙ facilities);
         keys = holds_none _ _ (others.1.1.1.0 (λ e. omega arith) ∙ keys);
-        closed = holds_none _ _ (others.1.1.1.1.0 (λ e. omega arith) ∙ slots);
+        slots = holds_none _ _ (others.1.1.1.1.0 (λ e. omega arith) ∙ slots);
         bookings = holds_none _ _ (others.1.1.1.1.1.0 (λ e. omega arith) ∙ bookings);
-        sound = empty_is_sound;
-        database = c7.3;
+        database = c8.3;
       } in
+      let held : Tables (state g t8.0).now empty_club = record { rows = no_rows; lies = lies; stored = empty_is_stored; sound = empty_is_sound } in
       subst (λ (d : Database). Tables d empty_club) (sym is) held
 
   -- it does not run over the club's tables

@@ -28,22 +28,22 @@ use Rattle.sqlite.specs.Listing.{understood, reads_listing}
 use Rattle.sqlite.specs.State.{HasCleanDisk}
 use Rattle.sqlite.specs.Held.{Held, state}
 use Rattle.sqlite.proofs.Callers.{IsPlain, command_of}
-use Rattle.pass_caveats.specs.Slot.{start_of}
-use Rattle.club_core.specs.Columns.{truth}
-use Rattle.club_core.specs.declared.key.Key.{Key}
-use Rattle.club_core.specs.declared.booking.Booking.{Booking}
-use Rattle.club_core.specs.Rows.{IsBooking}
+use Rattle.club_values.specs.Slot.{start_of}
+use Rattle.club_rows.specs.Columns.{truth}
+use Rattle.club_rows.specs.declared.key.Key.{Key}
+use Rattle.club_rows.specs.declared.booking.Booking.{Booking}
+use Rattle.club_rows.specs.Rows.{IsBooking}
 use Rattle.club_core.specs.Sums.{is_to_come, count_to_come}
 use Rattle.club_core.specs.Club.{Club, is_key_of, bookings_of}
-use Rattle.club_store.specs.declared.texts.TheConstants.{OPEN, COSTS_OF_MEMBER}
+use Rattle.club_store.specs.declared.texts.TheConstants.{OPEN}
 use Rattle.club_store.specs.Schema.{club_schema}
-use Rattle.club_store.specs.Columns.{whole, key_values, booking_values, cost_values}
+use Rattle.club_store.specs.Columns.{whole, key_values, booking_values}
 use Rattle.club_store.specs.Tables.{Stands, keys_tree, bookings_tree}
 use Rattle.club_store.specs.Statements.{select, is_given}
 use Rattle.club_store.specs.Transaction.{Asked}
 use Rattle.club_store.proofs.SelectLemmas.{apart_from_pairs, told, text_equal, whole_equal}
 use Rattle.club_store.proofs.JoinLemmas.{filter_filter, map_flat_map, IsElsewhere, pairs_of, selected_both}
-use Rattle.club_store.proofs.StandLemmas.{asked_tables, asked_reads}
+use Rattle.club_store.proofs.StandLemmas.{asked_tables, asked_reads, keys_held, bookings_held}
 use Rattle.club_store.proofs.KeyLemmas.{and_true}
 use Rattle.club_store.proofs.BookingLemmas.{no_truth}
 
@@ -56,19 +56,6 @@ stands_still = op2 (Compare Eq Binary) (col 2 9) (lit (Int (pos 0)))
 
 abbrev begins_later : Term
 begins_later = op2 (Compare Gt Binary) (op2 (Arith Add) (op2 (Arith Mul) (col 2 4) (lit (Int (pos 1440)))) (op2 (Arith Mul) (col 2 5) (lit (Int (pos 60))))) (col 0 1)
-
-costs_is : command_of (understood club_schema COSTS_OF_MEMBER.now)
-    ≡ Select (record { lets = []; body = select (inner keys_tree (inner bookings_tree end)) (under_it ∷ is_given 2 0 ∷ []) (col 2 7 ∷ col 2 10 ∷ []) }) (map codes ("charge" ∷ "refund" ∷ []))
-unfolding understood everything
-costs_is = refl
-
-costs_plain : IsPlain (understood club_schema COSTS_OF_MEMBER.now)
-unfolding understood everything
-costs_plain = (refl, refl)
-
-costs_unlisted : reads_listing club_schema COSTS_OF_MEMBER.now ≡ false
-unfolding everything
-costs_unlisted = refl
 
 open_is : command_of (understood club_schema OPEN.now)
     ≡ Select (record { lets = []; body = select (inner keys_tree (inner bookings_tree end)) (under_it ∷ is_given 2 0 ∷ stands_still ∷ begins_later ∷ []) (col 2 2 ∷ []) }) (codes "number" ∷ [])
@@ -98,7 +85,7 @@ product : (m n : ℕ) → m * n < 2 ^ 63 → binary (Arith Mul) (Int (pos m)) (I
 unfolding binary
 product m n low = rw (lt-ltb (m * n) (2 ^ 63) low) refl
 
-total : (m n : ℕ) → m + n < 2 ^ 63 → binary (Arith Add) (Int (pos m)) (Int (pos n)) ≡ Int (pos (m + n))
+pub total : (m n : ℕ) → m + n < 2 ^ 63 → binary (Arith Add) (Int (pos m)) (Int (pos n)) ≡ Int (pos (m + n))
 unfolding binary
 total m n low = rw (lt-ltb (m + n) (2 ^ 63) low) refl
 
@@ -132,7 +119,7 @@ any_of : (names : Key → Bool) (o : Bool) (key : Key) (keys : List Key) → lis
 any_of names true key keys = refl
 any_of names false key keys = refl
 
-any_owned : (names owns : Key → Bool) (b : Bool) (keys : List Key) → list_any (λ key. names key && (owns key && b)) keys ≡ (list_any names (filter owns keys) && b)
+pub any_owned : (names owns : Key → Bool) (b : Bool) (keys : List Key) → list_any (λ key. names key && (owns key && b)) keys ≡ (list_any names (filter owns keys) && b)
 any_owned names owns b [] = refl
 any_owned names owns b (key ∷ keys) =
     ap (λ rest. (names key && (owns key && b)) || rest) (any_owned names owns b keys) ∙ with_one (names key) (owns key) b (list_any names (filter owns keys))
@@ -171,18 +158,6 @@ all_pass : {X : Type 0} (xs : List X) → filter (λ x. true) xs ≡ xs
 all_pass [] = refl
 all_pass (x ∷ xs) = ap (λ ys. x ∷ ys) (all_pass xs)
 
-pub costs_of_told : {S : Type 0} (g : Ghosts S) (old : Held S) (member : List ℕ) (rows : List Row) → HasCleanDisk (state g old) → Asked g COSTS_OF_MEMBER.now (Text member ∷ []) old rows
-    → (club : Club) (others : List Club) → Stands (state g old) club others → IsPermutation (map cost_values (bookings_of member club)) rows
-costs_of_told g old member rows clean asked club others stands =
-    let tables = asked_tables g COSTS_OF_MEMBER.now _ old rows asked clean club others stands in
-    let reads = asked_reads g COSTS_OF_MEMBER.now _ old rows asked tables.schema _ costs_is costs_plain costs_unlisted in
-    let tests = λ (i j : ℤ) (k : Key) (b : Booking). let e = text_equal k.name b.key in let f = text_equal k.member member in
-    let h : (is_true (binary (Compare Eq Binary) (Text k.name) (Text b.key)) && (is_true (binary (Compare Eq Binary) (Text k.member) (Text member)) && true)) ≡ is_owned member (λ b. true) k b = cc in h in
-    let both = selected_both key_values booking_values (Text member ∷ []) (under_it ∷ is_given 2 0 ∷ []) (col 2 7 ∷ col 2 10 ∷ []) (is_owned member (λ b. true)) cost_values tests (λ i j k b. refl)
-    keys_tree bookings_tree (map codes ("charge" ∷ "refund" ∷ [])) (state g old).now club.keys club.bookings rows tables.keys tables.bookings reads in
-    subst (λ bookings. IsPermutation (map cost_values bookings) rows) (all_pass (bookings_of member club))
-    (owned_shown member (λ b. true) cost_values club rows tables.sound.unique.keys both)
-
 -- whether a booking is still to come, as the statement asks it
 abbrev comes : ℕ → Booking → Bool
 comes moment b = not b.cancelled && is_true (binary (Compare Gt Binary) (start_value b) (whole moment))
@@ -198,7 +173,7 @@ pub open_told : {S : Type 0} (g : Ghosts S) (old : Held S) (member : List ℕ) (
     → (club : Club) (others : List Club) → Stands (state g old) club others → length rows ≡ count_to_come moment (bookings_of member club)
 open_told g old member moment rows clean asked club others stands =
     let tables = asked_tables g OPEN.now _ old rows asked clean club others stands in
-    let reads = asked_reads g OPEN.now _ old rows asked tables.schema _ open_is open_plain open_unlisted in
+    let reads = asked_reads g OPEN.now _ old rows asked tables.lies.schema _ open_is open_plain open_unlisted in
     let number : Booking → Row = λ b. whole b.number ∷ [] in
     let tests = λ (i j : ℤ) (k : Key) (b : Booking).
     let e = text_equal k.name b.key in
@@ -209,7 +184,7 @@ open_told g old member moment rows clean asked club others stands =
     && (is_true (binary (Compare Eq Binary) (whole (truth b.cancelled)) (whole 0)) && (is_true (binary (Compare Gt Binary) (start_value b) (whole moment)) && true))))
     ≡ is_owned member (comes moment) k b = cc in h in
     let both = selected_both key_values booking_values (Text member ∷ whole moment ∷ []) (under_it ∷ is_given 2 0 ∷ stands_still ∷ begins_later ∷ []) (col 2 2 ∷ []) (is_owned member (comes moment)) number tests (λ i j k b. refl)
-    keys_tree bookings_tree (codes "number" ∷ []) (state g old).now club.keys club.bookings rows tables.keys tables.bookings reads in
+    keys_tree bookings_tree (codes "number" ∷ []) (state g old).now club.keys club.bookings rows (keys_held _ club tables) (bookings_held _ club tables) reads in
     let own = bookings_of member club in
     let same = owned_shown member (comes moment) number club rows tables.sound.unique.keys both in
     length_permutation (map number (filter (comes moment) own)) rows same ∙ length-map (filter (comes moment) own) number

@@ -23,8 +23,8 @@ use Rattle.club_core.specs.Store.{KeepsStanding}
 use Rattle.club_store.specs.Schema.{club_schema, no_schema}
 use Rattle.club_store.specs.Tables.{Tables, HoldsClub, Stands, IsFound, desk_tree}
 use Rattle.club_store.specs.Told.{found_in}
-use Rattle.club_store.specs.Opening.{table_texts}
-use Rattle.club_store.specs.Transaction.{Asked, RanAll, IsKept}
+use Rattle.club_store.specs.Opening.{table_batch}
+use Rattle.club_store.specs.Transaction.{Asked, Ran, IsKept}
 use Rattle.club_store.proofs.SelectLemmas.{selected, short_permutation}
 use Rattle.club_store.proofs.StandLemmas.{asked_open, asked_tables, asked_reads}
 use Rattle.club_store.proofs.MakingLemmas.{made_tables, makes_no_more}
@@ -43,21 +43,21 @@ settles now club others held opens same settled = record {
 
 module _ {S : Type 0} (g : Ghosts S) (old new : Held S) where
   -- what the batch leaves holds the club that was found
-  holds_found : (db : Database) → RanAll g table_texts old db → HasCleanDisk (state g old) → (club : Club) (others : List Club) → IsFound (state g old) club others → Tables db club
+  holds_found : (db : Database) → Ran g table_batch old db → HasCleanDisk (state g old) → (club : Club) (others : List Club) → IsFound (state g old) club others → Tables db club
   holds_found db ran clean club others found =
       let is_open = ran.opened (omega arith) in
       let now = found.settled clean is_open in
       elim (found.held clean is_open) [
-        | inl tables ↦ absurd (makes_no_more g old db ran (ap (λ (d : Database). d.schema) now ∙ tables.schema))
+        | inl tables ↦ absurd (makes_no_more g old db ran (ap (λ (d : Database). d.schema) now ∙ tables.lies.schema))
         | inr blank ↦ subst (Tables db) (sym blank.1) (made_tables g old db ran (ap (λ (d : Database). d.schema) now ∙ blank.0))
       ]
 
-  pub made_stands : HasCleanDisk (state g old) → IsTrue (state g new).is_open → RanAll g table_texts old (state g new).committed → (state g new).now ≡ (state g new).committed → IsSettled (state g new)
+  pub made_stands : HasCleanDisk (state g old) → IsTrue (state g new).is_open → Ran g table_batch old (state g new).committed → (state g new).now ≡ (state g new).committed → IsSettled (state g new)
       → (club : Club) (others : List Club) → IsFound (state g old) club others → Stands (state g new) club others
   made_stands clean is_open ran same settled club others found =
       settles (state g new) club others (λ _ _. holds_found (state g new).committed ran clean club others found) (λ _. is_open) same settled
 
-  pub refused_found : IsKept (state g old) (state g new) → Survives (state g old) (state g new) (λ trees. (db : Database) × RanAll g table_texts old db × (trees ≡ db.trees)) → KeepsStanding (found_in g) old new
+  pub refused_found : IsKept (state g old) (state g new) → Survives (state g old) (state g new) (λ trees. (db : Database) × Ran g table_batch old db × (trees ≡ db.trees)) → KeepsStanding (found_in g) old new
   refused_found kept survives club others found =
       let earlier = λ (clean : HasCleanDisk (state g new)). let e : HasCleanDisk (state g old) = omega (arith, survives.clean) in e in
       record {
@@ -97,8 +97,8 @@ version_told g old rows clean asked club others found =
       | inl tables ↦
           let stands : Stands (state g old) club others = record { held = λ _ _. tables; settled = found.settled; left = found.left } in
           let here = asked_tables g VERSION.now [] old rows asked clean club others stands in
-          let reads = asked_reads g VERSION.now [] old rows asked here.schema _ version_is version_plain version_unlisted in
-          let same = selected version_values [] [] (col 1 1 ∷ []) (λ _. true) version_values (λ id n. refl) (λ id n. refl) desk_tree (codes "version" ∷ []) (state g old).now (1 ∷ []) rows here.version reads in
+          let reads = asked_reads g VERSION.now [] old rows asked here.lies.schema _ version_is version_plain version_unlisted in
+          let same = selected version_values [] [] (col 1 1 ∷ []) (λ _. true) version_values (λ id n. refl) (λ id n. refl) desk_tree (codes "version" ∷ []) (state g old).now (1 ∷ []) rows here.lies.version reads in
           (stands, short_permutation (version_values 1 ∷ []) rows (omega arith) same)
       | inr blank ↦
           let none : is_ok (understood (state g old).now.schema VERSION.now) ≡ false = ap (λ (d : Database). is_ok (understood d.schema VERSION.now)) now ∙ ap (λ s. is_ok (understood s VERSION.now)) blank.0 ∙ no_version in

@@ -7,7 +7,9 @@ use Rattle.sqlite.specs.Effect.{Database}
 use Rattle.sqlite.specs.State.{State, HasCleanDisk}
 use Rattle.club_store.specs.Transaction.{IsKept}
 use Rattle.club_store.specs.Opening.{IsAtRest, IsUnderstood}
-use Rattle.club_store.proofs.TurnLemmas.{text_at}
+
+abbrev pub text_at : Bor (List ℕ) → List ℕ
+text_at text = text.now
 
 pub kept_at_rest : (s : State) → IsAtRest s → IsKept s s
 kept_at_rest s rest clean is_open = (is_open, rest is_open, refl)

@@ -37,7 +37,7 @@ IsTable-filter : (q : Row → Bool) (rows : List Row) → IsTable rows → IsTab
 IsTable-filter q [] h = tt
 IsTable-filter q (r ∷ rows) h = elim (q r) as (λ b. IsTable (cond b (r ∷ filter q rows) (filter q rows))) [ true ↦ (all_filter (Above r) q rows h.0, IsTable-filter q rows h.1) | false ↦ IsTable-filter q rows h.1 ]
 
-flipped : (v w : Value) → value_cmp v w ≡ Less → value_cmp w v ≡ Greater
+pub flipped : (v w : Value) → value_cmp v w ≡ Less → value_cmp w v ≡ Greater
 flipped v w h = value_cmp_total.antisymm w v ∙ ap ordering_reverse h
 
 -- rows above a rowid don't have it, and a row with it comes before them
@@ -94,8 +94,12 @@ module _ {X : Type 0} (values : X → Row) (p : X → Bool) (change : X → X) (
       subst (λ ys. AllZip R ys (change x ∷ map change xs)) (sym put)
       (subst (λ y. R r y) (sym there.0) same.0, swapped rows xs id one table.1 same.1 there.1)
 
-  module _ (params : Row) (tests project : List Term) (tested : (id : ℤ) (x : X) → list_all (holds (params ∷ (Int id ∷ values x) ∷ [])) tests ≡ p x) where
-    none_left : (rows : List Row) (xs : List X) → AllZip (λ row x. IsRowOf (values x) row) rows xs → filter p xs ≡ [] → filter (test params tests project) rows ≡ []
+  module _ (params : Row) (tests project : List Term) where
+    -- the row is the element's, and passes where it does
+    abbrev pub IsHit : Row → X → Type 0
+    IsHit row x = IsRowOf (values x) row × (test params tests project row ≡ p x)
+
+    none_left : (rows : List Row) (xs : List X) → AllZip IsHit rows xs → filter p xs ≡ [] → filter (test params tests project) rows ≡ []
     none_left [] xs h none = refl
     none_left (r ∷ rows) [] h none = absurd h
     none_left (r ∷ rows) (x ∷ xs) h none = go (p x) refl none (none_left rows xs h.1)
@@ -103,7 +107,7 @@ module _ {X : Type 0} (values : X → Row) (p : X → Bool) (change : X → X) (
         go : (b : Bool) → p x ≡ b → cond b (x ∷ filter p xs) (filter p xs) ≡ [] → (filter p xs ≡ [] → filter (test params tests project) rows ≡ []) → filter (test params tests project) (r ∷ rows) ≡ []
         go true is some more = absurd cc
         go false is none more =
-            let fails : test params tests project r ≡ false = ap (test params tests project) h.0.1 ∙ tested h.0.0 x ∙ is in
+            let fails : test params tests project r ≡ false = h.0.1 ∙ is in
             ap (λ b. cond b (r ∷ filter (test params tests project) rows) (filter (test params tests project) rows)) fails ∙ more none
 
     nothing_passes : (xs : List X) → length (filter p xs) ≤ 0 → filter p xs ≡ []
@@ -113,21 +117,21 @@ module _ {X : Type 0} (values : X → Row) (p : X → Bool) (change : X → X) (
     Found rows xs = ((filter (test params tests project) rows ≡ []) × (map change xs ≡ xs))
         ⊎ ((id : ℤ) × (one : X) × (p one ≡ true) × (filter (test params tests project) rows ≡ (Int id ∷ values one) ∷ []) × IsOne rows xs id one)
 
-    find_one : (rows : List Row) (xs : List X) → AllZip (λ row x. IsRowOf (values x) row) rows xs → length (filter p xs) ≤ 1 → Found rows xs
+    find_one : (rows : List Row) (xs : List X) → AllZip IsHit rows xs → length (filter p xs) ≤ 1 → Found rows xs
     find_one [] [] h low = inl (refl, refl)
     find_one [] (x ∷ xs) h low = absurd h
     find_one (r ∷ rows) [] h low = absurd h
     find_one (r ∷ rows) (x ∷ xs) h low = go (p x) refl low (find_one rows xs h.1)
       where
         passes : test params tests project r ≡ p x
-        passes = ap (test params tests project) h.0.1 ∙ tested h.0.0 x
+        passes = h.0.1
 
         go : (b : Bool) → p x ≡ b → length (cond b (x ∷ filter p xs) (filter p xs)) ≤ 1 → (length (filter p xs) ≤ 1 → Found rows xs) → Found (r ∷ rows) (x ∷ xs)
         go true is low more =
             let none : filter p xs ≡ [] = nothing_passes xs (omega arith) in
             let no_rows : filter (test params tests project) rows ≡ [] = none_left rows xs h.1 none in
-            let row : r ≡ Int h.0.0 ∷ values x = h.0.1 in
-            inr (h.0.0, x, is, ap (λ b. cond b (r ∷ filter (test params tests project) rows) (filter (test params tests project) rows)) (passes ∙ is) ∙ cc (no_rows, row), inl (row, refl, none_change xs none))
+            let row : r ≡ Int h.0.0.0 ∷ values x = h.0.0.1 in
+            inr (h.0.0.0, x, is, ap (λ b. cond b (r ∷ filter (test params tests project) rows) (filter (test params tests project) rows)) (passes ∙ is) ∙ cc (no_rows, row), inl (row, refl, none_change xs none))
         go false is low more =
             let skip = ap (λ b. cond b (r ∷ filter (test params tests project) rows) (filter (test params tests project) rows)) (passes ∙ is) in
             let stays : change x ≡ x = kept x is in
@@ -143,16 +147,23 @@ module _ {X : Type 0} (values : X → Row) (p : X → Bool) (change : X → X) (
     one_has Q (r ∷ rows) (x ∷ xs) id one all (inl here) = subst Q here.1 all.0
     one_has Q (r ∷ rows) (x ∷ xs) id one all (inr there) = one_has Q rows xs id one all.1 there.1
 
+    both : (rows : List Row) (xs : List X) → AllZip (λ row x. IsRowOf (values x) row) rows xs → AllZip (λ row x. test params tests project row ≡ p x) rows xs → AllZip IsHit rows xs
+    both [] [] same hits = tt
+    both [] (x ∷ xs) same hits = absurd same
+    both (r ∷ rows) [] same hits = absurd same
+    both (r ∷ rows) (x ∷ xs) same hits = ((same.0, hits.0), both rows xs same.1 hits.1)
+
     -- an UPDATE that sets what `change` says leaves the changed list
-    pub replaced : (table : Table) (db : Database) (xs : List X) (rows : List Row) (Q : X → Type 0) → AllByRecursion Q xs
+    pub replaced_where : (table : Table) (db : Database) (xs : List X) (rows : List Row) (Q : X → Type 0) → AllByRecursion Q xs
         → ((id : ℤ) (x : X) → Q x → p x ≡ true → eval_all project (params ∷ (Int id ∷ values x) ∷ []) ≡ Int id ∷ Int id ∷ values (change x))
         → ((id : ℤ) (x : X) → cast_row table (Int id ∷ values x) ≡ Int id ∷ values x)
+        → AllZip (λ row x. test params tests project row ≡ p x) (db.trees table.tree) xs
         → Holds values (db.trees table.tree) xs → length (filter p xs) ≤ 1 → Answers db (record { lets = []; body = select (inner table.tree end) tests project }) params rows
         → Holds values (edited db.trees (edit_of db.trees table (ids_of rows) Given 1 rows)) (map change xs)
-    replaced table db xs rows Q all sets casts held low answers =
+    replaced_where table db xs rows Q all sets casts hits held low answers =
         let before = db.trees table.tree in
         let same = answered params tests project table.tree db rows answers in
-        elim (find_one before xs held.same low) [
+        elim (find_one before xs (both before xs held.same hits) low) [
           | inl none ↦
               let no_rows : rows ≡ [] = short_permutation [] rows (omega arith) (subst (λ ys. IsPermutation (map (shows params tests project) ys) rows) none.0 same) in
               subst (λ ys. Holds values (edited db.trees (edit_of db.trees table (ids_of ys) Given 1 ys)) (map change xs)) (sym no_rows) (subst (Holds values before) (sym none.1) held)
@@ -170,3 +181,18 @@ module _ {X : Type 0} (values : X → Row) (p : X → Bool) (change : X → X) (
               subst (λ ys. Holds values (edited db.trees (edit_of db.trees table (ids_of ys) Given 1 ys)) (map change xs)) (sym one_row)
               (subst (λ row. Holds values (put_row row (without_rowid id before)) (map change xs)) (sym (casts id (change one))) put)
         ]
+
+    -- the same, where the tests see the columns alone
+    pub replaced : ((id : ℤ) (x : X) → list_all (holds (params ∷ (Int id ∷ values x) ∷ [])) tests ≡ p x) → (table : Table) (db : Database) (xs : List X) (rows : List Row) (Q : X → Type 0) → AllByRecursion Q xs
+        → ((id : ℤ) (x : X) → Q x → p x ≡ true → eval_all project (params ∷ (Int id ∷ values x) ∷ []) ≡ Int id ∷ Int id ∷ values (change x))
+        → ((id : ℤ) (x : X) → cast_row table (Int id ∷ values x) ≡ Int id ∷ values x)
+        → Holds values (db.trees table.tree) xs → length (filter p xs) ≤ 1 → Answers db (record { lets = []; body = select (inner table.tree end) tests project }) params rows
+        → Holds values (edited db.trees (edit_of db.trees table (ids_of rows) Given 1 rows)) (map change xs)
+    replaced tested table db xs rows Q all sets casts held low answers =
+        replaced_where table db xs rows Q all sets casts (each (db.trees table.tree) xs held.same) held low answers
+      where
+        each : (before : List Row) (elements : List X) → AllZip (λ row x. IsRowOf (values x) row) before elements → AllZip (λ row x. test params tests project row ≡ p x) before elements
+        each [] [] same = tt
+        each [] (x ∷ elements) same = absurd same
+        each (r ∷ before) [] same = absurd same
+        each (r ∷ before) (x ∷ elements) same = (ap (test params tests project) same.0.1 ∙ tested same.0.0 x, each before elements same.1)

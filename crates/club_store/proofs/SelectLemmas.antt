@@ -128,11 +128,11 @@ apart_from_pairs R [] h = tt
 apart_from_pairs R (x ∷ xs) h =
     (from_indexes (R x) xs (λ j d low. h 0 (suc j) d (omega arith) (omega arith)), apart_from_pairs R xs (λ i j d less low. h (suc i) (suc j) d (omega arith) (omega arith)))
 
-none_pass : {X : Type 0} (p : X → Bool) (xs : List X) → AllByRecursion (λ x. p x ≡ false) xs → filter p xs ≡ []
+pub none_pass : {X : Type 0} (p : X → Bool) (xs : List X) → AllByRecursion (λ x. p x ≡ false) xs → filter p xs ≡ []
 none_pass p [] h = refl
 none_pass p (x ∷ xs) h = rw (h.0, none_pass p xs h.1)
 
-fail_beside : {X : Type 0} (R : X → X → Type 0) (p : X → Bool) → ((x y : X) → p x ≡ true → p y ≡ true → ¬ R x y) → (x : X) → p x ≡ true → (xs : List X) → AllByRecursion (R x) xs → AllByRecursion (λ y. p y ≡ false) xs
+pub fail_beside : {X : Type 0} (R : X → X → Type 0) (p : X → Bool) → ((x y : X) → p x ≡ true → p y ≡ true → ¬ R x y) → (x : X) → p x ≡ true → (xs : List X) → AllByRecursion (R x) xs → AllByRecursion (λ y. p y ≡ false) xs
 fail_beside R p same x passes [] h = tt
 fail_beside R p same x passes (y ∷ xs) h = (go (p y) refl, fail_beside R p same x passes xs h.1)
   where

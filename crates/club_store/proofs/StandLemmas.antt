@@ -14,7 +14,8 @@ use Rattle.sqlite.proofs.Callers.{IsPlain, command_of, reads_as}
 use Rattle.club_core.specs.Club.{Club}
 use Rattle.club_core.specs.Store.{KeepsStanding}
 use Rattle.club_store.specs.Schema.{club_schema}
-use Rattle.club_store.specs.Tables.{Tables, HoldsClub, Rests, Stands}
+use Rattle.club_store.specs.Columns.{key_values, booking_values}
+use Rattle.club_store.specs.Tables.{Tables, Holds, HoldsClub, Rests, Stands, keys_tree, bookings_tree}
 use Rattle.club_store.specs.Told.{stands_in, found_in}
 use Rattle.club_store.specs.Transaction.{Asked, IsKept, begun}
 
@@ -63,6 +64,10 @@ pub on_err : {A E : Type 0} {P Q : Type 0} (r : Result A E) → OnErr r P → (P
 on_err (Ok x) p f = tt
 on_err (Err e) p f = f p
 
+pub any_err : {A E : Type 0} {P : Type 0} (r : Result A E) → P → OnErr r P
+any_err (Ok x) p = tt
+any_err (Err e) p = p
+
 pub keeps_found : {S : Type 0} (g : Ghosts S) (old new : Held S) → IsKept (state g old) (state g new) → Survives (state g old) (state g new) (λ _. ⊥) → KeepsStanding (found_in g) old new
 keeps_found g old new kept quiet club others found = rests_on HoldsClub (state g old) (state g new) kept quiet club others found
 
@@ -71,3 +76,10 @@ survives_same s = record { clean = omega arith; shield = λ h. h; counts = omega
 
 pub survives_none : (a b c : State) → Survives a b (λ _. ⊥) → Survives b c (λ _. ⊥) → Survives a c (λ _. ⊥)
 survives_none a b c p q = survives_then a b c (λ _. ⊥) (λ _. ⊥) (λ _. ⊥) (λ _ db none. none) (λ _ db none. none) p q
+
+-- the tables hold the club's own keys and bookings
+pub keys_held : (db : Database) (club : Club) → (tables : Tables db club) → Holds key_values (db.trees keys_tree) club.keys
+keys_held db club tables = subst (Holds key_values (db.trees keys_tree)) tables.stored.keys tables.lies.keys
+
+pub bookings_held : (db : Database) (club : Club) → (tables : Tables db club) → Holds booking_values (db.trees bookings_tree) club.bookings
+bookings_held db club tables = subst (Holds booking_values (db.trees bookings_tree)) tables.stored.bookings tables.lies.bookings

@@ -4,15 +4,12 @@ use Rattle.std.specs.Prelude.{sum_by, IsPermutation}
 use Rattle.std.proofs.lemmas.List.Sums.{sum_by-cons}
 use Rattle.std.proofs.lemmas.List.Sorted.{sum_by-IsPermutation}
 use Rattle.sqlite_value.specs.Order.{Row}
-use Rattle.club_core.specs.declared.booking.Booking.{Booking}
+use Rattle.club_rows.specs.declared.booking.Booking.{Booking}
 use Rattle.club_core.specs.Sums.{cost_of}
-use Rattle.club_store.specs.Columns.{cost_values, cost_in, persons_in, IsCostIn, IsGuestsIn}
+use Rattle.club_store.specs.Columns.{cost_values, cost_in, IsCostIn}
 
 pub cost_in_is : (row : Row) (cost : ℕ) → IsCostIn row cost → cost_in row ≡ cost
 cost_in_is row cost h = let low : h.charge - h.refund ≡ cost = omega arith in rw (h.charged, h.refunded) low
-
-pub persons_in_is : (row : Row) (guests : ℕ) → IsGuestsIn row guests → persons_in row ≡ guests + 1
-persons_in_is row guests h = rw h.1 refl
 
 -- the costs of the rows are those of the bookings
 pub costs_are : (bookings : List Booking) (rows : List Row) → IsPermutation (map cost_values bookings) rows → sum_by cost_in rows ≡ sum_by cost_of bookings

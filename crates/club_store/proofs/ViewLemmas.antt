@@ -1,20 +1,22 @@
 -- What the parts of a view make together.
 use Rattle.std.proofs.Common.{◌≡◌, ℕ, suc, Bool, true, false, cond, List, [], ◌∷◌, Option, Some, None, refl, sym, ap, subst, ◌∙◌, arith}
-use Rattle.std.specs.Prelude.{find, Contains, option_and_then}
+use Rattle.std.specs.Prelude.{find, Contains, option_map, option_and_then}
 use Rattle.std.specs.Str.{bytes_eq}
 use Rattle.std.proofs.lemmas.Slice.Eq.{bytes_eq-Decides}
-use Rattle.club_core.specs.declared.key.Key.{Key}
-use Rattle.club_core.specs.declared.member.Member.{Member}
+use Rattle.club_rows.specs.declared.key.Key.{Key}
+use Rattle.club_rows.specs.declared.member.Member.{Member}
 use Rattle.club_core.specs.declared.request.Request.{Request}
 use Rattle.club_core.specs.Club.{Club, bookings_of, key_named, member_named}
 use Rattle.club_core.specs.Laws.{OwnBookings, HasOwnBookings}
 use Rattle.club_core.specs.Request.{number_of}
-use Rattle.club_core.specs.Store.{view_in}
+use Rattle.club_core.specs.Basis.{view_in}
 use Rattle.club_core.specs.Sums.{booking_under, spent_under}
+use Rattle.club_store.specs.declared.row.MemberRow.{MemberRow}
 use Rattle.club_store.specs.Figures.{seen}
+use Rattle.club_store.specs.Stored.{member_row}
 
 -- what is found is an element, and passes
-found : {X : Type 0} (p : X → Bool) (xs : List X) (x : X) → find p xs ≡ Some x → Contains xs x × (p x ≡ true)
+pub found : {X : Type 0} (p : X → Bool) (xs : List X) (x : X) → find p xs ≡ Some x → Contains xs x × (p x ≡ true)
 found p [] x h = absurd (cc)
 found {X} p (y ∷ xs) x h = go (p y) refl (λ e. found p xs x e) h
   where
@@ -39,3 +41,11 @@ seen_is law club name key member request moment named owned =
     let booked = subst (λ (m : List ℕ). option_and_then (λ (n : ℕ). booking_under key.name n (bookings_of m club)) (number_of request) ≡ option_and_then (λ (n : ℕ). booking_under key.name n club.bookings) (number_of request)) same
     (at_number club key own (number_of request)) in
     rw (named, owned) (cc)
+
+-- a member's row that was found is that of the member
+pub of_row : (club : Club) (found : Option Member) (row : MemberRow) → Some row ≡ option_map (member_row club) found → (found ≡ Some row.member) × (row ≡ member_row club row.member)
+of_row club None row h = absurd cc
+of_row club (Some m) row h =
+    let e : row ≡ member_row club m = cc in
+    let same : m ≡ row.member = ap (λ (r : MemberRow). r.member) (sym e) in
+    (ap Some same, e ∙ ap (member_row club) same)

@@ -1,16 +1,17 @@
 -- The values of a row's columns (ours). Whole numbers and truth values are integers, names and kinds texts, roots bytes.
-use Rattle.std.specs.Prelude.{◌≡◌, ℕ, ◌+◌, ◌-◌, ◌≤◌, ℤ, pos, Bool, List, [], ◌∷◌, Option, Some, None, ⊤}
+use Rattle.std.specs.Prelude.{◌≡◌, ℕ, ◌+◌, ◌-◌, ◌≤◌, ℤ, pos, Bool, List, [], ◌∷◌, ◌++◌, Option, Some, None, ⊤}
 use Rattle.sqlite_value.specs.declared.value.Value.{Value}
 use Rattle.sqlite_value.specs.declared.value.Value.TheVariants.{Int, Text, Blob}
 use Rattle.sqlite_value.specs.Order.{Row, column}
-use Rattle.pass_caveats.specs.Kind.{kind_text}
-use Rattle.pass_caveats.specs.declared.slot.Slot.{Slot}
-use Rattle.club_core.specs.Columns.{truth}
-use Rattle.club_core.specs.Limits.{IsGuests}
-use Rattle.club_core.specs.declared.member.Member.{Member}
-use Rattle.club_core.specs.declared.facility.Facility.{Facility}
-use Rattle.club_core.specs.declared.key.Key.{Key}
-use Rattle.club_core.specs.declared.booking.Booking.{Booking}
+use Rattle.club_values.specs.Kind.{kind_text}
+use Rattle.club_values.specs.declared.slot.Slot.{Slot}
+use Rattle.club_rows.specs.Columns.{truth}
+use Rattle.club_rows.specs.declared.facility.Facility.{Facility}
+use Rattle.club_rows.specs.declared.key.Key.{Key}
+use Rattle.club_rows.specs.declared.booking.Booking.{Booking}
+use Rattle.club_core.specs.declared.slot_use.SlotUse.{SlotUse}
+use Rattle.club_store.specs.declared.row.MemberRow.{MemberRow}
+use Rattle.club_store.specs.Stored.{SlotRow}
 
 abbrev pub whole : ℕ → Value
 whole n = Int (pos n)
@@ -21,8 +22,9 @@ flag b = whole (truth b)
 abbrev pub version_values : ℕ → Row
 version_values version = whole version ∷ []
 
-abbrev pub member_values : Member → Row
-member_values member = Text member.name ∷ whole member.credited ∷ whole member.quota ∷ []
+abbrev pub member_values : MemberRow → Row
+member_values row =
+    Text row.member.name ∷ whole row.member.credited ∷ whole row.member.quota ∷ whole row.used ∷ []
 
 abbrev pub facility_values : Facility → Row
 facility_values facility =
@@ -32,9 +34,15 @@ facility_values facility =
 abbrev pub key_values : Key → Row
 key_values key = Text key.name ∷ Text key.member ∷ Blob key.root ∷ flag key.revoked ∷ []
 
--- the row of a slot that is closed
-abbrev pub closed_values : Slot → Row
-closed_values slot = Text slot.facility ∷ whole slot.day ∷ whole slot.hour ∷ whole 1 ∷ []
+-- the columns that name a slot, and those that tell what is taken of it
+abbrev pub name_values : Slot → Row
+name_values slot = Text slot.facility ∷ whole slot.day ∷ whole slot.hour ∷ []
+
+abbrev pub use_values : SlotUse → Row
+use_values held = flag held.closed ∷ whole held.taken ∷ []
+
+abbrev pub slot_values : SlotRow → Row
+slot_values row = name_values row.slot ++ use_values row.held
 
 abbrev pub booking_values : Booking → Row
 booking_values booking =
@@ -66,26 +74,13 @@ abbrev pub whole_in : Value → ℕ
 whole_in (Int (pos n)) = n
 whole_in _ = 0
 
--- what is asked of a closed slot, of the bookings of a slot, and of those of a key
-abbrev pub closed_flag : Slot → Row
-closed_flag slot = whole 1 ∷ []
-
-abbrev pub guests_values : Booking → Row
-guests_values booking = whole booking.guests ∷ []
-
+-- what is asked of the bookings of a key
 abbrev pub cost_values : Booking → Row
 cost_values booking = whole booking.charge ∷ whole booking.refund ∷ []
 
--- the persons of a row of guests, and the cost of a row of charge and refund
-abbrev pub persons_in : Row → ℕ
-persons_in row = whole_in (column row 0) + 1
-
+-- the cost of a row of charge and refund
 abbrev pub cost_in : Row → ℕ
 cost_in row = whole_in (column row 0) - whole_in (column row 1)
-
--- the guests of a row of guests, within their limit
-abbrev pub IsGuestsIn : Row → ℕ → Type 0
-IsGuestsIn row guests = IsGuests guests × (column row 0 ≡ whole guests)
 
 -- the cost of a row of charge and refund: the charge within its limit, and the refund at most the charge
 pub record IsCostIn (row : Row) (cost : ℕ) : Type 0 where
@@ -96,10 +91,6 @@ pub record IsCostIn (row : Row) (cost : ℕ) : Type 0 where
   pub largest : charge ≤ 499_950
   pub at_most : refund ≤ charge
   pub left : cost + refund ≡ charge
-
--- the row is one of guests, or of charge and refund, within the limits of a booking
-abbrev pub IsGuestsRow : Row → Type 0
-IsGuestsRow row = (guests : ℕ) × IsGuestsIn row guests
 
 abbrev pub IsCostRow : Row → Type 0
 IsCostRow row = (cost : ℕ) × IsCostIn row cost

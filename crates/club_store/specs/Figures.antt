@@ -1,33 +1,32 @@
 -- The parts of a view, by the rows of the club (ours).
 use Rattle.std.specs.Prelude.{ℕ, List, Option, option_and_then, IfSome}
-use Rattle.pass_caveats.specs.declared.slot.Slot.{Slot}
-use Rattle.club_core.specs.declared.booking.Booking.{Booking}
-use Rattle.club_core.specs.declared.key.Key.{Key}
-use Rattle.club_core.specs.declared.member.Member.{Member}
+use Rattle.club_values.specs.declared.slot.Slot.{Slot}
+use Rattle.club_rows.specs.declared.booking.Booking.{Booking}
+use Rattle.club_rows.specs.declared.key.Key.{Key}
+use Rattle.club_rows.specs.declared.member.Member.{Member}
 use Rattle.club_core.specs.declared.request.Request.{Request}
 use Rattle.club_core.specs.declared.view.View.{View}
 use Rattle.club_core.specs.Basis.{state_of}
 use Rattle.club_core.specs.Club.{Club, bookings_of}
 use Rattle.club_core.specs.Request.{slot_of, number_of}
-use Rattle.club_core.specs.Rows.{IsMember, IsFacility, IsKey, IsBooking}
+use Rattle.club_rows.specs.Rows.{IsMember, IsFacility, IsKey, IsBooking}
 use Rattle.club_core.specs.Sums.{spent_under, balance_of, count_to_come, booking_under}
 use Rattle.club_store.specs.declared.figures.Account.{Account}
 use Rattle.club_store.specs.declared.figures.SlotState.{SlotState}
 
--- what a key spent, and what its member has left and open at a moment
-abbrev pub account_of : Club → List ℕ → Member → ℕ → Account
+-- what a key spent, and what its member has open at a moment
+abbrev pub account_of : Club → List ℕ → List ℕ → ℕ → Account
 account_of club key member moment = record {
   spent = spent_under key club.bookings;
-  balance = balance_of member (bookings_of member.name club);
-  open_count = count_to_come moment (bookings_of member.name club);
+  open_count = count_to_come moment (bookings_of member club);
 }
 
 -- the state of a slot, where there is one
 abbrev pub slot_state : Club → Option Slot → SlotState
 slot_state club slot = record {
   facility = (state_of club slot).facility;
-  taken = (state_of club slot).taken;
-  closed = (state_of club slot).closed;
+  taken = (state_of club slot).held.taken;
+  closed = (state_of club slot).held.closed;
 }
 
 -- the booking of the key with a number, where there is one
@@ -38,10 +37,10 @@ booked_under club key number = option_and_then (λ (n : ℕ). booking_under key 
 abbrev pub seen : Club → Key → Member → Request → ℕ → View
 seen club key member request moment = record {
   key = key;
-  spent = (account_of club key.name member moment).spent;
+  spent = (account_of club key.name member.name moment).spent;
   member = member;
-  balance = (account_of club key.name member moment).balance;
-  open_count = (account_of club key.name member moment).open_count;
+  balance = balance_of member (bookings_of member.name club);
+  open_count = (account_of club key.name member.name moment).open_count;
   facility = (slot_state club (slot_of request)).facility;
   taken = (slot_state club (slot_of request)).taken;
   closed = (slot_state club (slot_of request)).closed;

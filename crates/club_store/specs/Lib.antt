@@ -1,5 +1,6 @@
 pub mod Schema
 pub mod Columns
+pub mod Stored
 pub mod Tables
 pub mod Told
 pub mod Transaction
@@ -7,4 +8,6 @@ pub mod Statements
 pub mod Crash
 pub mod Opening
 pub mod Sheet
+pub mod Use
 pub mod Figures
+pub mod Widened

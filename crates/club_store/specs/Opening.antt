@@ -1,5 +1,5 @@
 -- What an opening finds, what it takes for the tables of a club, and what it makes (ours).
-use Rattle.std.specs.Prelude.{◌≡◌, ◌⊎◌, ℕ, List, [], ◌∷◌, All, Ok, IsTrue, is_ok, false, codes}
+use Rattle.std.specs.Prelude.{◌≡◌, ◌⊎◌, ℕ, List, [], ◌∷◌, map, All, Ok, IsTrue, is_ok, false, codes}
 use Rattle.sqlite_disk.specs.declared.Disk as disk
 use Rattle.sqlite.specs.declared.FileStore.{FileStore}
 use Rattle.sqlite.specs.Recovery.{Image}
@@ -15,18 +15,24 @@ use Rattle.sqlite.specs.Files.{over_files, file_state, IsOpened}
 use Rattle.sqlite.specs.Start.{FindsIn}
 use Rattle.sqlite_resolve.specs.declared.compiled.Compiled.{Compiled}
 use Rattle.club_core.specs.Club.{Club, empty_club}
-use Rattle.club_store.specs.declared.texts.TheConstants.{VERSION, KEY, MEMBER, FACILITY, SLOT, BOOKING, MAKE_DESK, MAKE_MEMBERS, MAKE_FACILITIES, MAKE_KEYS, MAKE_SLOTS, MAKE_BOOKINGS, ADD_VERSION}
+use Rattle.club_store.specs.declared.texts.TheConstants.{VERSION, KEY, MEMBER, FACILITY, SLOT, BOOKING, MAKE_DESK, MAKE_MEMBERS, MAKE_FACILITIES, MAKE_KEYS, MAKE_SLOTS, MAKE_BOOKINGS, MAKE_KEYS_BY_MEMBER, ADD_VERSION}
 use Rattle.club_store.specs.Columns.{HasValues, version_values}
 use Rattle.club_store.specs.Tables.{Stands, IsFound}
 use Rattle.club_store.specs.Crash.{HoldsOneOf, OneStands}
-use Rattle.club_store.specs.Transaction.{RanAll}
+use Rattle.club_store.specs.Transaction.{Words, Ran}
 
 -- the statements that give a row by its key, and the batch that makes the tables
 abbrev pub texts_by_key : List (List ℕ)
 texts_by_key = KEY.now ∷ MEMBER.now ∷ FACILITY.now ∷ SLOT.now ∷ BOOKING.now ∷ []
 
 abbrev pub table_texts : List (List ℕ)
-table_texts = MAKE_DESK.now ∷ MAKE_MEMBERS.now ∷ MAKE_FACILITIES.now ∷ MAKE_KEYS.now ∷ MAKE_SLOTS.now ∷ MAKE_BOOKINGS.now ∷ ADD_VERSION.now ∷ []
+table_texts =
+    MAKE_DESK.now ∷ MAKE_MEMBERS.now ∷ MAKE_FACILITIES.now ∷ MAKE_KEYS.now ∷ MAKE_SLOTS.now ∷ MAKE_BOOKINGS.now
+    ∷ MAKE_KEYS_BY_MEMBER.now ∷ ADD_VERSION.now ∷ []
+
+-- the batch: its texts, without parameters
+abbrev pub table_batch : List Words
+table_batch = map (λ (text : List ℕ). (text, [])) table_texts
 
 -- the text is a statement over these tables
 abbrev pub IsUnderstood : Schema → List ℕ → Type 0
@@ -60,7 +66,7 @@ pub record MadeAll {S : Type 0} (g : Ghosts S) (old new : Held S) : Type 0 where
   pub from : Held S
   pub same : (state g from).now ≡ (state g old).committed
   pub unversioned : HasNoDesk (state g old).committed.schema
-  pub ran : RanAll g table_texts from (state g new).committed
+  pub ran : Ran g table_batch from (state g new).committed
 
 -- what an opening takes: tables of version 1 that were there, or those that the whole batch made where there was no version
 abbrev pub IsAccepted : {S : Type 0} → Ghosts S → Held S → Held S → Type 0

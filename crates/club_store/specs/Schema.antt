@@ -13,7 +13,9 @@ use Rattle.sqlite_schema.specs.declared.schema.Kind.TheVariants.{Integer, Text, 
 use Rattle.sqlite_schema.specs.declared.schema.Reference.{Reference}
 use Rattle.sqlite_schema.specs.declared.schema.Table.{Table}
 use Rattle.sqlite_schema.specs.declared.schema.Schema.{Schema}
+use Rattle.sqlite_schema.specs.declared.schema.Index.{Index}
 use Rattle.sqlite.specs.Change.{created}
+use Rattle.sqlite_catalog.specs.Change.{indexed}
 
 abbrev pub column_of : Kind → List ℕ → Column
 column_of kind name =
@@ -64,8 +66,9 @@ desk_table = table_of (codes "desk") (number (codes "version") ∷ []) [] [] []
 
 abbrev pub members_table : Table
 members_table =
-    table_of (codes "members") (text (codes "name") ∷ number (codes "credited") ∷ number (codes "quota") ∷ []) ((1 ∷ []) ∷ [])
-    (within 2 0 999_999_999 ∷ within 3 0 99 ∷ []) []
+    table_of (codes "members")
+    (text (codes "name") ∷ number (codes "credited") ∷ number (codes "quota") ∷ number (codes "used") ∷ []) ((1 ∷ []) ∷ [])
+    (within 2 0 999_999_999 ∷ within 3 0 99 ∷ within 4 0 999_999_999 ∷ []) []
 
 abbrev pub facilities_table : Table
 facilities_table =
@@ -86,7 +89,7 @@ slot_columns = text (codes "facility") ∷ number (codes "day") ∷ number (code
 
 abbrev pub slots_table : Table
 slots_table =
-    table_of (codes "slots") (slot_columns ++ number (codes "closed") ∷ []) ((1 ∷ 2 ∷ 3 ∷ []) ∷ [])
+    table_of (codes "slots") (slot_columns ++ number (codes "closed") ∷ number (codes "taken") ∷ []) ((1 ∷ 2 ∷ 3 ∷ []) ∷ [])
     (within 2 10_957 47_481 ∷ within 3 0 23 ∷ within 4 0 1 ∷ []) (refers_to (codes "facilities") 1 ∷ [])
 
 abbrev pub bookings_table : Table
@@ -102,8 +105,22 @@ bookings_table =
 abbrev pub no_schema : Schema
 no_schema = record { tables = []; indexes = []; views = [] }
 
+-- the keys in the order of their members
+abbrev pub keys_by_member : Index
+keys_by_member = record {
+  name = codes "keys_by_member";
+  tree = 0;
+  table = 5;
+  columns = 2 ∷ [];
+  order = plain;
+  is_unique = false;
+}
+
 -- the tables, made in this order: each takes the next trees, for itself and for its key
-abbrev pub club_schema : Schema
-club_schema =
+abbrev pub six_tables : Schema
+six_tables =
     created (created (created (created (created (created no_schema desk_table) members_table) facilities_table) keys_table) slots_table)
     bookings_table
+
+abbrev pub club_schema : Schema
+club_schema = indexed six_tables (record keys_table { tree = 5 }) keys_by_member

@@ -8,7 +8,8 @@ use Rattle.sqlite.specs.Effect.{Database, IsDatabase}
 use Rattle.sqlite.specs.State.{State, HasCleanDisk}
 use Rattle.club_core.specs.Club.{Club, IsSound, empty_club}
 use Rattle.club_store.specs.Schema.{no_schema, club_schema}
-use Rattle.club_store.specs.Columns.{version_values, member_values, facility_values, key_values, closed_values, booking_values}
+use Rattle.club_store.specs.Columns.{version_values, member_values, facility_values, key_values, slot_values, booking_values}
+use Rattle.club_store.specs.Stored.{Rows, IsStoredAs}
 
 -- the trees of the tables
 abbrev pub desk_tree : ℕ
@@ -38,18 +39,24 @@ pub record Holds {X : Type 0} (values : X → Row) (rows : List Row) (xs : List 
   pub rising : IsTable rows
   pub same : AllZip (λ row x. IsRowOf (values x) row) rows xs
 
--- the tables of version 1 hold the rows of the club and no others
-pub record Tables (db : Database) (club : Club) : Type 0 where
+-- the tables of version 1 hold these rows and no others
+pub record Lies (db : Database) (rows : Rows) : Type 0 where
   pub schema : db.schema ≡ club_schema
   pub version : Holds version_values (db.trees desk_tree) (1 ∷ [])
-  pub members : Holds member_values (db.trees members_tree) club.members
-  pub facilities : Holds facility_values (db.trees facilities_tree) club.facilities
-  pub keys : Holds key_values (db.trees keys_tree) club.keys
-  pub closed : Holds closed_values (db.trees slots_tree) club.closed
-  pub bookings : Holds booking_values (db.trees bookings_tree) club.bookings
-  pub sound : IsSound club
+  pub members : Holds member_values (db.trees members_tree) rows.members
+  pub facilities : Holds facility_values (db.trees facilities_tree) rows.facilities
+  pub keys : Holds key_values (db.trees keys_tree) rows.keys
+  pub slots : Holds slot_values (db.trees slots_tree) rows.slots
+  pub bookings : Holds booking_values (db.trees bookings_tree) rows.bookings
   -- the trees list this schema, and obey it
   pub database : IsDatabase db
+
+-- the tables hold the rows of the club, which is sound, and no others
+pub record Tables (db : Database) (club : Club) : Type 0 where
+  pub rows : Rows
+  pub lies : Lies db rows
+  pub stored : IsStoredAs club rows
+  pub sound : IsSound club
 
 -- a database without tables stands for the empty club
 abbrev pub IsBlank : Database → Club → Type 0

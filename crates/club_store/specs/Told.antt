@@ -1,19 +1,22 @@
 -- What a connection stands for, and what it tells (ours).
-use Rattle.std.specs.Prelude.{List, [], ◌∷◌, Result, MatchResult}
+use Rattle.std.specs.Prelude.{◌≡◌, ℕ, false, List, [], ◌∷◌, All, Some, IfSome, IsTrue, Result, MatchResult}
 use Rattle.sqlite.specs.Store.{Ghosts}
 use Rattle.sqlite.specs.Held.{Held, state}
 use Rattle.club_core.specs.declared.change.Change.{Change}
 use Rattle.club_core.specs.After.{after}
 use Rattle.club_core.specs.Store.{Fits}
-use Rattle.club_core.specs.Club.{Club, IsSound}
+use Rattle.club_core.specs.Club.{Club, IsSound, key_named}
+use Rattle.club_rows.specs.declared.key.Key.{Key}
+use Rattle.club_rows.specs.declared.booking.Booking.{Booking}
+use Rattle.club_core.specs.Sums.{booking_under}
 use Rattle.club_store.specs.Tables.{Stands, IsFound}
 
 abbrev pub stands_in : {S : Type 0} → Ghosts S → Held S → Club → List Club → Type 0
 stands_in g held = Stands (state g held)
 
--- a sound club that stands
+-- a club that stands, where it and each other that a crash may leave are sound
 abbrev pub sound_in : {S : Type 0} → Ghosts S → Held S → Club → List Club → Type 0
-sound_in g held club others = IsSound club × Stands (state g held) club others
+sound_in g held club others = All IsSound (club ∷ others) × Stands (state g held) club others
 
 abbrev pub found_in : {S : Type 0} → Ghosts S → Held S → Club → List Club → Type 0
 found_in g held = IsFound (state g held)
@@ -23,3 +26,21 @@ abbrev pub Changes : {S E : Type 0} → (S → Club → List Club → Type 0) �
 Changes IsStanding change old new result =
     (club : Club) (others : List Club) → IsStanding old club others → Fits change club
     → MatchResult result (λ _. IsStanding new (after change club) []) (λ _. IsStanding new club (after change club ∷ others))
+
+-- the same of clubs of which this holds
+abbrev pub ChangesWhere : {S E : Type 0} → (Club → Type 0) → (S → Club → List Club → Type 0) → Change → S → S → Result (Unit {0}) E → Type 0
+ChangesWhere IsIt IsStanding change old new result =
+    (club : Club) (others : List Club) → IsIt club → IsStanding old club others → Fits change club
+    → MatchResult result (λ _. IsStanding new (after change club) []) (λ _. IsStanding new club (after change club ∷ others))
+
+-- the key of this name is the member's
+abbrev pub IsOwnedBy : List ℕ → List ℕ → Club → Type 0
+IsOwnedBy member key club = (row : Key) × (key_named key club ≡ Some row) × (row.member ≡ member)
+
+-- the booking is one of the club's, and isn't cancelled
+abbrev pub IsToCancel : Booking → Club → Type 0
+IsToCancel booking club = (booking_under booking.key booking.number club.bookings ≡ Some booking) × (booking.cancelled ≡ false)
+
+-- the key has no booking of this number that isn't cancelled
+abbrev pub HasNoneToCancel : List ℕ → ℕ → Club → Type 0
+HasNoneToCancel key number club = IfSome (booking_under key number club.bookings) (λ (booking : Booking). IsTrue booking.cancelled)

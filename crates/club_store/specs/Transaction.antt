@@ -8,8 +8,11 @@ use Rattle.sqlite.specs.Held.{Held, state}
 use Rattle.sqlite.specs.declared.error.Error.{Error}
 use Rattle.sqlite.specs.declared.error.Error.TheVariants.{SqliteFailure}
 use Rattle.sqlite.specs.declared.error.ErrorCode.TheVariants.{OutOfMemory}
+use Rattle.sqlite.specs.Values.{bound}
 use Rattle.club_core.specs.declared.store.StoreFault.{StoreFault}
 use Rattle.club_core.specs.declared.store.StoreFault.TheVariants.{Memory, Storage}
+use Rattle.club_store.specs.declared.texts.TheConstants.{ADD_USED, ADD_TAKEN}
+use Rattle.club_store.specs.declared.transaction.Statement.{Statement}
 
 -- want of memory is Memory, and each other error Storage
 abbrev pub fault_by : Error → StoreFault
@@ -25,27 +28,30 @@ pub record Asked {S : Type 0} (g : Ghosts S) (sql : List ℕ) (params : Row) (ol
   pub mid : Held S
   pub shown : Shown sql params (state g (begun old)) (state g mid) rows
 
--- the text was run, and leaves this database
-pub record Ran {S : Type 0} (g : Ghosts S) (sql : List ℕ) (params : Row) (old : Held S) (db : Database) : Type 0 where
-  pub mid : Held S
-  pub count : ℕ
-  pub opened : IsTrue (state g old).is_open
-  pub executed : Executes sql params (state g (begun old)) (state g mid) (Ok count)
-  pub is : db ≡ (state g mid).now
-
 -- nothing was committed, and nothing is on its way
 abbrev pub IsKept : State → State → Type 0
 IsKept old new = HasCleanDisk new → IsTrue new.is_open → IsTrue old.is_open × (new.now ≡ old.committed) × (new.committed ≡ old.committed)
 
--- these texts were run in turn, within a transaction
-abbrev pub RanInTurn : {S : Type 0} → Ghosts S → List (List ℕ) → Held S → Held S → Type 0
-RanInTurn g [] old new = new ≡ old
-RanInTurn {S} g (sql ∷ more) old new =
-    (mid : Held S) × (count : ℕ) × Executes sql [] (state g old) (state g mid) (Ok count) × RanInTurn g more mid new
+-- a text, and the values of its parameters
+abbrev pub Words : Type 0
+Words = List ℕ × Row
 
--- these texts were run in turn, in a transaction of their own, and leave this database
-pub record RanAll {S : Type 0} (g : Ghosts S) (texts : List (List ℕ)) (old : Held S) (db : Database) : Type 0 where
+abbrev pub words_of : Statement → Words
+words_of statement = (statement.text.now, bound statement.params.now)
+
+-- these statements were run in turn, within a transaction
+abbrev pub RanInTurn : {S : Type 0} → Ghosts S → List Words → Held S → Held S → Type 0
+RanInTurn g [] old new = new ≡ old
+RanInTurn {S} g (words ∷ more) old new =
+    (mid : Held S) × (count : ℕ) × Executes words.0 words.1 (state g old) (state g mid) (Ok count) × RanInTurn g more mid new
+
+-- these statements were run in turn, in a transaction of their own, and leave this database
+pub record Ran {S : Type 0} (g : Ghosts S) (all : List Words) (old : Held S) (db : Database) : Type 0 where
   pub last : Held S
-  pub opened : 0 < length texts → IsTrue (state g old).is_open
-  pub turns : RanInTurn g texts (begun old) last
+  pub opened : 0 < length all → IsTrue (state g old).is_open
+  pub turns : RanInTurn g all (begun old) last
   pub is : db ≡ (state g last).now
+
+-- a statement on a booking, and the additions to the totals of its member and its slot
+abbrev pub with_totals : List ℕ → Row → Row → Row → List Words
+with_totals text booking used taken = (text, booking) ∷ (ADD_USED.now, used) ∷ (ADD_TAKEN.now, taken) ∷ []

@@ -11,6 +11,7 @@ impl<S: Alter> ClubStore for Store<S> {
     ghost use Rattle.sqlite.specs.State.{HasCleanDisk};
     ghost use Rattle.sqlite.specs.Held.{state};
     ghost use Rattle.club_store.specs.Told.{sound_in};
+    ghost use Rattle.club_store.specs.Widened.{sound_widened};
 
     ghost stands = { sound_in S.Store };
 
@@ -50,4 +51,6 @@ impl<S: Alter> ClubStore for Store<S> {
     }
 
     ghost sound = { λ store club others stands. stands.0 };
+
+    ghost widens = { λ store club other others. sound_widened _ club other others };
 }

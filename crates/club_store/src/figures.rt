@@ -4,24 +4,22 @@ ghost use Rattle.std.specs.Prelude.{◌≡◌, false, IfOk, IfSome};
 ghost use Rattle.sqlite.specs.State.{HasCleanDisk, Survives};
 ghost use Rattle.sqlite.specs.Held.{state};
 ghost use Rattle.club_core.specs.Store.{KeepsStanding, Tells};
-ghost use Rattle.club_core.specs.Rows.{IsBooking};
+ghost use Rattle.club_rows.specs.Rows.{IsBooking};
 ghost use Rattle.club_core.specs.Sums.{booking_under};
 ghost use Rattle.club_store.specs.Told.{stands_in};
 ghost use Rattle.club_store.specs.Figures.{account_of, booked_under};
 
 use crate::row::booking_in;
 use crate::{reads, sum};
-use club_core::{Booking, BookingNumber, Facility, Member, StoreFault};
+use club_core::{Booking, BookingNumber, Facility, StoreFault};
 use pass_caveats::{Moment, Name};
 use sqlite::{Alter, Connection};
 
-/// What a key spent, and what its member has.
+/// What a key spent, and what its member has open.
 #[derive(Clone, Copy)]
 pub(crate) struct Account {
     /// The points that the key has spent.
     pub(crate) spent: u64,
-    /// The points that the member has.
-    pub(crate) balance: u32,
     /// The member's bookings of slots that begin later than the moment.
     pub(crate) open_count: u64,
 }
@@ -37,11 +35,11 @@ pub(crate) struct SlotState {
     pub(crate) closed: bool,
 }
 
-/// The account of a member at a moment, as one of its keys sees it.
+/// The account of a key at a moment: its own bookings' costs, and its member's bookings to come.
 pub(crate) fn account_at<S: Alter>(
     conn: &mut Connection<S>,
     key: &Name,
-    member: &Member,
+    member: &Name,
     moment: Moment,
 ) -> Result<Account, StoreFault>
     requires { conn.old.in_transaction ≡ false }
@@ -52,18 +50,15 @@ pub(crate) fn account_at<S: Alter>(
 {
     let under_key = reads::costs_under(conn, key)?;
     let spent = sum::costs(&under_key)?;
-    let of_member = reads::costs_of(conn, &member.name)?;
-    let paid = sum::costs(&of_member)?;
-    let open = reads::open_bookings(conn, &member.name, moment)?;
+    let open = reads::open_bookings(conn, member, moment)?;
     Ok(Account {
         spent,
-        balance: u64::from(member.credited).saturating_sub(paid) as u32,
         open_count: open.len() as u64,
     })
 }
 
 /// The booking of a key with a number.
-fn booking<S: Alter>(
+pub(crate) fn booking<S: Alter>(
     conn: &mut Connection<S>,
     key: &Name,
     number: BookingNumber,

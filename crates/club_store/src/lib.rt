@@ -5,6 +5,7 @@ mod club;
 mod figures;
 pub mod laws;
 mod open;
+mod params;
 mod reads;
 mod row;
 mod store;

@@ -8,11 +8,11 @@ ghost use Rattle.club_core.specs.Store.{KeepsStanding};
 ghost use Rattle.club_store.specs.Told.{stands_in, found_in};
 ghost use Rattle.club_store.specs.Columns.{version_values, HasValues};
 ghost use Rattle.club_store.specs.Tables.{IsFound, Stands};
-ghost use Rattle.club_store.specs.Transaction.{IsKept, RanAll};
-ghost use Rattle.club_store.specs.Opening.{IsAccepted, IsAtRest, IsUnderstood, table_texts};
+ghost use Rattle.club_store.specs.Transaction.{IsKept, Ran};
+ghost use Rattle.club_store.specs.Opening.{IsAccepted, IsAtRest, IsUnderstood, table_batch};
 
 use crate::row::integer_at;
-use crate::transaction::{prepare, run_all};
+use crate::transaction::{Statement, prepare, run};
 use crate::{reads, texts};
 use club_core::StoreFault;
 use sqlite::{Alter, Connection, Row};
@@ -23,10 +23,47 @@ fn make_tables<S: Alter>(conn: &mut Connection<S>) -> Result<(), StoreFault>
     ensures idle { conn.new.in_transaction ≡ false }
     ensures honest { HasCleanDisk (state S.Store conn.new) → HasCleanDisk (state S.Store conn.old) }
     ensures made { HasCleanDisk (state S.Store conn.new) → OnOk result ((club : Club) (others : _) → IsFound (state S.Store conn.old) club others → Stands (state S.Store conn.new) club others) }
-    ensures ran { HasCleanDisk (state S.Store conn.new) → OnOk result (RanAll S.Store table_texts conn.old (state S.Store conn.new).committed) }
+    ensures ran { HasCleanDisk (state S.Store conn.new) → OnOk result (Ran S.Store table_batch conn.old (state S.Store conn.new).committed) }
     ensures refused { HasCleanDisk (state S.Store conn.new) → OnErr result (KeepsStanding (found_in S.Store) conn.old conn.new) }
+    ensures untouched { OnErr result (IsKept (state S.Store conn.old) (state S.Store conn.new)) }
 {
-    run_all(conn, &texts::TABLES)
+    run(
+        conn,
+        &[
+            Statement {
+                text: texts::MAKE_DESK,
+                params: &[],
+            },
+            Statement {
+                text: texts::MAKE_MEMBERS,
+                params: &[],
+            },
+            Statement {
+                text: texts::MAKE_FACILITIES,
+                params: &[],
+            },
+            Statement {
+                text: texts::MAKE_KEYS,
+                params: &[],
+            },
+            Statement {
+                text: texts::MAKE_SLOTS,
+                params: &[],
+            },
+            Statement {
+                text: texts::MAKE_BOOKINGS,
+                params: &[],
+            },
+            Statement {
+                text: texts::MAKE_KEYS_BY_MEMBER,
+                params: &[],
+            },
+            Statement {
+                text: texts::ADD_VERSION,
+                params: &[],
+            },
+        ],
+    )
 }
 
 fn is_version_1(rows: &[Row]) -> bool
@@ -63,6 +100,7 @@ pub(crate) fn open_tables<S: Alter>(conn: &mut Connection<S>) -> Result<(), Stor
     ensures opened { HasCleanDisk (state S.Store conn.new) → OnOk result ((club : Club) (others : _) → IsFound (state S.Store conn.old) club others → Stands (state S.Store conn.new) club others) }
     ensures accepted { HasCleanDisk (state S.Store conn.new) → OnOk result (IsTrue (state S.Store conn.new).is_open → IsAtRest (state S.Store conn.old) → IsAccepted S.Store conn.old conn.new) }
     ensures refused { HasCleanDisk (state S.Store conn.new) → OnErr result (KeepsStanding (found_in S.Store) conn.old conn.new) }
+    ensures untouched { OnErr result (IsKept (state S.Store conn.old) (state S.Store conn.new)) }
 {
     match reads::version(conn) {
         Ok(rows) if is_version_1(&rows) => prepare_all(conn, &texts::ROWS_BY_KEY),

@@ -1,6 +1,6 @@
 //! The statements that read, each in a function of its own. They change nothing.
 
-ghost use Rattle.std.specs.Prelude.{◌≡◌, false, [], ◌∷◌, length, map, filter, find, IsPermutation, IfOk};
+ghost use Rattle.std.specs.Prelude.{◌≡◌, false, [], ◌∷◌, length, map, filter, option_map, IsPermutation, IfOk};
 ghost use Rattle.std.specs.Option.{option_to_list};
 ghost use Rattle.sqlite.specs.State.{HasCleanDisk, Survives};
 ghost use Rattle.sqlite.specs.Held.{state};
@@ -11,10 +11,11 @@ ghost use Rattle.club_store.specs.Tables.{IsFound, Stands};
 ghost use Rattle.club_store.specs.Transaction.{IsKept};
 ghost use Rattle.club_store.specs.Opening.{IsAnswered};
 ghost use Rattle.club_store.specs.declared.texts.TheConstants.{VERSION};
-ghost use Rattle.club_core.specs.Booking.{same_slot};
-ghost use Rattle.club_core.specs.Sums.{is_in, is_under, booking_under, count_to_come};
+ghost use Rattle.club_core.specs.Sums.{is_under, booking_under, count_to_come};
 ghost use Rattle.club_store.specs.Sheet.{ShowsDay};
-ghost use Rattle.club_store.specs.Columns.{version_values, key_values, member_values, facility_values, closed_flag, booking_values, guests_values, cost_values};
+ghost use Rattle.club_store.specs.Stored.{member_row};
+ghost use Rattle.club_store.specs.Use.{ShowsUse};
+ghost use Rattle.club_store.specs.Columns.{version_values, key_values, member_values, facility_values, booking_values, cost_values};
 
 use crate::texts;
 use crate::transaction::ask;
@@ -34,14 +35,14 @@ pub(crate) fn key<S: Alter>(conn: &mut Connection<S>, name: &Name) -> Result<Vec
     ask(conn, texts::KEY, &[ValueRef::Text(name.as_bytes())])
 }
 
-/// The row of a member.
+/// The row of a member, with what the member's bookings have cost.
 pub(crate) fn member<S: Alter>(
     conn: &mut Connection<S>,
     name: &Name,
 ) -> Result<Vec<Row>, StoreFault>
     requires { conn.old.in_transaction ≡ false }
     ensures idle { conn.new.in_transaction ≡ false }
-    ensures told { HasCleanDisk (state S.Store conn.new) → Tells (stands_in S.Store) conn.old result (λ club rows. rows.items ≡ map member_values (option_to_list (member_named name.now club))) }
+    ensures told { HasCleanDisk (state S.Store conn.new) → Tells (stands_in S.Store) conn.old result (λ club rows. rows.items ≡ map member_values (option_to_list (option_map (member_row club) (member_named name.now club)))) }
     ensures kept { HasCleanDisk (state S.Store conn.new) → KeepsStanding (stands_in S.Store) conn.old conn.new }
     ensures survives { Survives (state S.Store conn.old) (state S.Store conn.new) (λ _. ⊥) }
 {
@@ -75,14 +76,11 @@ pub(crate) fn version<S: Alter>(conn: &mut Connection<S>) -> Result<Vec<Row>, St
     ask(conn, texts::VERSION, &[])
 }
 
-/// The row of a slot, where it is marked closed.
-pub(crate) fn closed<S: Alter>(
-    conn: &mut Connection<S>,
-    slot: &Slot,
-) -> Result<Vec<Row>, StoreFault>
+/// Whether a slot is closed, and the persons who booked it, where the slot has a row.
+pub(crate) fn slot<S: Alter>(conn: &mut Connection<S>, slot: &Slot) -> Result<Vec<Row>, StoreFault>
     requires { conn.old.in_transaction ≡ false }
     ensures idle { conn.new.in_transaction ≡ false }
-    ensures told { HasCleanDisk (state S.Store conn.new) → Tells (stands_in S.Store) conn.old result (λ club rows. rows.items ≡ map closed_flag (option_to_list (find (λ other. same_slot other slot.now) club.closed))) }
+    ensures told { HasCleanDisk (state S.Store conn.new) → Tells (stands_in S.Store) conn.old result (λ club rows. ShowsUse club slot.now rows.items) }
     ensures kept { HasCleanDisk (state S.Store conn.new) → KeepsStanding (stands_in S.Store) conn.old conn.new }
     ensures survives { Survives (state S.Store conn.old) (state S.Store conn.new) (λ _. ⊥) }
 {
@@ -110,28 +108,6 @@ pub(crate) fn booking<S: Alter>(
     ensures survives { Survives (state S.Store conn.old) (state S.Store conn.new) (λ _. ⊥) }
 {
     ask(conn, texts::BOOKING, params![key.as_str(), number.get()])
-}
-
-/// The guests of a slot's bookings that aren't cancelled, in any order.
-pub(crate) fn guests<S: Alter>(
-    conn: &mut Connection<S>,
-    slot: &Slot,
-) -> Result<Vec<Row>, StoreFault>
-    requires { conn.old.in_transaction ≡ false }
-    ensures idle { conn.new.in_transaction ≡ false }
-    ensures told { HasCleanDisk (state S.Store conn.new) → Tells (stands_in S.Store) conn.old result (λ club rows. IsPermutation (map guests_values (filter (is_in slot.now) club.bookings)) rows.items) }
-    ensures kept { HasCleanDisk (state S.Store conn.new) → KeepsStanding (stands_in S.Store) conn.old conn.new }
-    ensures survives { Survives (state S.Store conn.old) (state S.Store conn.new) (λ _. ⊥) }
-{
-    ask(
-        conn,
-        texts::GUESTS,
-        params![
-            slot.facility.as_str(),
-            u32::from(slot.day.number()),
-            u32::from(slot.hour.number())
-        ],
-    )
 }
 
 /// What the bookings of a key were charged, and what came back, in any order.
@@ -172,18 +148,4 @@ pub(crate) fn open_bookings<S: Alter>(
     ensures survives { Survives (state S.Store conn.old) (state S.Store conn.new) (λ _. ⊥) }
 {
     ask(conn, texts::OPEN, params![member.as_str(), moment.number()])
-}
-
-/// What the bookings of all keys of a member were charged, and what came back, in any order.
-pub(crate) fn costs_of<S: Alter>(
-    conn: &mut Connection<S>,
-    member: &Name,
-) -> Result<Vec<Row>, StoreFault>
-    requires { conn.old.in_transaction ≡ false }
-    ensures idle { conn.new.in_transaction ≡ false }
-    ensures told { HasCleanDisk (state S.Store conn.new) → Tells (stands_in S.Store) conn.old result (λ club rows. IsPermutation (map cost_values (bookings_of member.now club)) rows.items) }
-    ensures kept { HasCleanDisk (state S.Store conn.new) → KeepsStanding (stands_in S.Store) conn.old conn.new }
-    ensures survives { Survives (state S.Store conn.old) (state S.Store conn.new) (λ _. ⊥) }
-{
-    ask(conn, texts::COSTS_OF_MEMBER, params![member.as_str()])
 }

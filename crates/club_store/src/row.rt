@@ -1,17 +1,34 @@
 //! Rows of the tables as rows of the club: none where a value is of another kind, or out of its limits.
 
-ghost use Rattle.std.specs.Prelude.{◌≡◌, false, true, [], ◌∷◌, List, Err, IfOk, option_map};
+ghost use Rattle.std.specs.Prelude.{◌≡◌, ◌≤◌, false, true, [], ◌∷◌, List, Err, IfOk, option_map};
 ghost use Rattle.sqlite_value.specs.Order.{column};
-ghost use Rattle.pass_caveats.specs.Reading.{Reads};
-ghost use Rattle.club_core.specs.Rows.{IsMember, IsFacility, IsKey, IsBooking};
-ghost use Rattle.club_core.specs.declared.booking.Booking.{Booking as BookingRow};
+ghost use Rattle.club_values.specs.Reading.{Reads};
+ghost use Rattle.club_rows.specs.Rows.{IsFacility, IsKey, IsBooking};
+ghost use Rattle.club_rows.specs.declared.booking.Booking.{Booking as BookingRow};
 ghost use Rattle.club_store.specs.Sheet.{AreBookings};
-ghost use Rattle.club_store.specs.Columns.{whole, HasValues, text_in, bytes_in, integer_in, member_values, facility_values, key_values, booking_values};
+ghost use Rattle.club_store.specs.Stored.{IsMemberRow};
+ghost use Rattle.club_store.specs.Columns.{whole, HasValues, text_in, bytes_in, integer_in, member_values, use_values, facility_values, key_values, booking_values};
 
-use club_core::{Booking, BookingColumns, Facility, FacilityColumns, Key, Member, StoreFault};
+use club_core::{
+    Booking, BookingColumns, Facility, FacilityColumns, Key, Member, SlotUse, StoreFault,
+};
 use sqlite::Row;
 use sqlite::types::ValueRef;
 use std::alloc::Global;
+
+/// The most points that a member's bookings cost: no more than were credited.
+const MOST_USED: u32 = 999_999_999;
+
+/// The most persons of a slot: no facility has more places.
+const MOST_TAKEN: u32 = 50;
+
+/// A member, and what the member's bookings have cost.
+#[derive(Clone, Copy)]
+pub(crate) struct MemberRow {
+    pub(crate) member: Member,
+    /// Charges less refunds, 0 to 999,999,999.
+    pub(crate) used: u32,
+}
 
 fn text_at(row: &Row, at: usize) -> Option<&[u8]>
     ensures { option_map (λ text. text.now) result ≡ text_in (column row.now at) }
@@ -40,26 +57,48 @@ pub(crate) fn integer_at(row: &Row, at: usize) -> Option<i64>
     }
 }
 
-/// Whether a slot is closed, by its row: open where there is none.
-pub(crate) fn is_closed(rows: &[Row]) -> Option<bool>
-    ensures none { rows.now ≡ [] → result ≡ Some false }
-    ensures marked { rows.now ≡ (whole 1 ∷ []) ∷ [] → result ≡ Some true }
+/// The whole number of a column, 0 to a limit.
+pub(crate) fn number_within(row: &Row, at: usize, high: u32) -> Option<u32>
+    ensures { Reads (λ n. (n ≤ high) × (column row.now at ≡ whole n)) result }
+{
+    let number = u32::try_from(integer_at(row, at)?).ok()?;
+    if number <= high { Some(number) } else { None }
+}
+
+/// What is taken of a slot, by the columns `closed` and `taken`: at most so many persons as a facility has places.
+fn slot_use_in(row: &Row) -> Option<SlotUse>
+    ensures { Reads (λ found. (found.taken ≤ 50) × HasValues row.now (use_values found)) result }
+{
+    let closed = match number_within(row, 0, 1)? {
+        0 => false,
+        _ => true,
+    };
+    let taken = number_within(row, 1, MOST_TAKEN)?;
+    Some(SlotUse { taken, closed })
+}
+
+/// What is taken of a slot, by its rows: nothing where there is none.
+pub(crate) fn slot_use_of(rows: &[Row]) -> Option<SlotUse>
+    ensures none { rows.now ≡ [] → result ≡ Some (record { taken = 0; closed = false }) }
+    ensures one { (row : _) → rows.now ≡ row ∷ [] → Reads (λ found. (found.taken ≤ 50) × HasValues row (use_values found)) result }
 {
     match rows {
-        [] => Some(false),
-        [row] => match integer_at(row, 0)? {
-            0 => Some(false),
-            1 => Some(true),
-            _ => None,
-        },
+        [] => Some(SlotUse {
+            taken: 0,
+            closed: false,
+        }),
+        [row] => slot_use_in(row),
         _ => None,
     }
 }
 
-pub(crate) fn member_in(row: &Row) -> Option<Member>
-    ensures { Reads (λ member. IsMember member × HasValues row.now (member_values member)) result }
+/// A member's row, of the columns `name`, `credited`, `quota` and `used`.
+pub(crate) fn member_in(row: &Row) -> Option<MemberRow>
+    ensures { Reads (λ found. IsMemberRow found × HasValues row.now (member_values found)) result }
 {
-    Member::from_columns(text_at(row, 0)?, integer_at(row, 1)?, integer_at(row, 2)?)
+    let member = Member::from_columns(text_at(row, 0)?, integer_at(row, 1)?, integer_at(row, 2)?)?;
+    let used = number_within(row, 3, MOST_USED)?;
+    Some(MemberRow { member, used })
 }
 
 pub(crate) fn key_in(row: &Row) -> Option<Key>

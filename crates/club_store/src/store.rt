@@ -1,11 +1,13 @@
-ghost use Rattle.std.specs.Prelude.{◌≡◌, List, [], ◌∷◌, All, IsTrue, IfOk, IfErr, IfSome, MatchResult, IsErrAnd, codes, Err};
+ghost use Rattle.std.specs.Prelude.{◌≡◌, false, List, [], ◌∷◌, All, IsTrue, IfOk, IfErr, IfSome, option_map, MatchResult, IsErrAnd, codes, Err};
 ghost use Rattle.sqlite.specs.State.{HasCleanDisk, Survives};
 ghost use Rattle.sqlite.specs.Held.{state};
 ghost use Rattle.club_core.specs.Club.{Club, empty_club, key_named, member_named, facility_named};
 ghost use Rattle.club_core.specs.Sheet.{AreRowsOf};
-ghost use Rattle.club_core.specs.Store.{KeepsStanding, Tells, slot_use, view_in};
-ghost use Rattle.club_core.specs.Rows.{IsMember, IsFacility, IsKey, IsBooking};
-ghost use Rattle.club_core.specs.declared.change.Change.TheVariants.{InsertMember, AddCredit, InsertFacility, InsertKey, MarkRevoked, MarkClosed};
+ghost use Rattle.club_core.specs.Sums.{booking_under};
+ghost use Rattle.club_core.specs.Basis.{slot_use, view_in};
+ghost use Rattle.club_core.specs.Store.{KeepsStanding, Tells};
+ghost use Rattle.club_rows.specs.Rows.{IsMember, IsFacility, IsKey, IsBooking};
+ghost use Rattle.club_core.specs.declared.change.Change.TheVariants.{InsertMember, AddCredit, InsertFacility, InsertKey, MarkRevoked, MarkClosed, InsertBooking, MarkCancelled};
 ghost use Rattle.sqlite.specs.Steps.{over_memory, IsFresh, IsEmpty};
 ghost use Rattle.sqlite.specs.View.{IsClean};
 ghost use Rattle.sqlite.specs.Files.{file_state};
@@ -13,16 +15,20 @@ ghost use Rattle.sqlite.specs.WalFiles.{image_at};
 ghost use Rattle.club_store.specs.Crash.{LeavesOneOf, IsOpenedOn, OneStands};
 ghost use Rattle.club_store.specs.Opening.{OpensFrom, IsAccepted};
 ghost use Rattle.club_store.specs.Tables.{Stands, IsFound};
-ghost use Rattle.club_store.specs.Told.{stands_in, found_in, Changes};
+ghost use Rattle.club_store.specs.Told.{stands_in, found_in, Changes, ChangesWhere, IsToCancel, HasNoneToCancel};
+ghost use Rattle.club_store.specs.Stored.{IsMemberRow, member_row};
+ghost use Rattle.club_store.specs.Transaction.{IsKept};
 ghost use Rattle.club_store.specs.Figures.{slot_state, seen, HasLimits};
 
-use crate::figures::{SlotState, account_at, booked};
+use crate::figures::{SlotState, account_at, booked, booking};
 use crate::open::open_tables;
-use crate::row::{bookings_in, facility_in, is_closed, key_in, member_in};
+use crate::row::{MemberRow, bookings_in, facility_in, key_in, member_in, slot_use_of};
 use crate::transaction::fault_of;
-use crate::{reads, sum, writes};
+use crate::{reads, writes};
 use club_core::laws::own_bookings_suffice;
-use club_core::{Booking, Change, Facility, Key, Member, Request, SlotUse, StoreFault, View};
+use club_core::{
+    Booking, BookingNumber, Change, Facility, Key, Member, Request, SlotUse, StoreFault, View,
+};
 use pass_caveats::{Day, Moment, Name, Slot};
 use sqlite::{Alter, Connection, FileFrom, FileStore, MemStore, Start};
 use std::alloc::Global;
@@ -100,6 +106,7 @@ impl<S: Alter + Drop> Store<S> {
         ensures accepted { IfOk result (λ store. HasCleanDisk (state S.Store store) → IsTrue (state S.Store store).is_open → IsAccepted S.Store connection store) }
         ensures busy { IsTrue connection.in_transaction → IsErrAnd result (λ e. (e.0 ≡ StoreFault.Storage) × (e.1 ≡ connection)) }
         ensures refused { IfErr result (λ e. HasCleanDisk (state S.Store e.1) → KeepsStanding (found_in S.Store) connection e.1) }
+        ensures untouched { connection.in_transaction ≡ false → IfErr result (λ e. IsKept (state S.Store connection) (state S.Store e.1)) }
         ensures again { IfOk result (λ store. HasCleanDisk (state S.Store store) → (clubs : List Club) → IsOpenedOn (state S.Store connection) clubs → OneStands (state S.Store store) clubs) }
         ensures empty { IfOk result (λ store. HasCleanDisk (state S.Store store) → IsEmpty (state S.Store connection) → Stands (state S.Store store) empty_club []) }
     {
@@ -160,11 +167,24 @@ impl<S: Alter> Store<S> {
         ensures kept { HasCleanDisk (state S.Store self.new) → KeepsStanding (stands_in S.Store) self.old self.new }
         ensures survives { Survives (state S.Store self.old) (state S.Store self.new) (λ _. ⊥) }
     {
+        match self.member_row(name)? {
+            Some(row) => Ok(Some(row.member)),
+            None => Ok(None),
+        }
+    }
+
+    /// The row of the member of this name; `None` where there is none.
+    fn member_row(&mut self, name: &Name) -> Result<Option<MemberRow>, StoreFault>
+        ensures told { HasCleanDisk (state S.Store self.new) → Tells (stands_in S.Store) self.old result (λ club row. row ≡ option_map (member_row club) (member_named name.now club)) }
+        ensures limits { IfOk result (λ row. IfSome row IsMemberRow) }
+        ensures kept { HasCleanDisk (state S.Store self.new) → KeepsStanding (stands_in S.Store) self.old self.new }
+        ensures survives { Survives (state S.Store self.old) (state S.Store self.new) (λ _. ⊥) }
+    {
         let rows = reads::member(&mut self.connection, name)?;
         match rows.first() {
             None => Ok(None),
             Some(row) => match member_in(row) {
-                Some(member) => Ok(Some(member)),
+                Some(row) => Ok(Some(row)),
                 None => Err(StoreFault::Storage),
             },
         }
@@ -193,13 +213,11 @@ impl<S: Alter> Store<S> {
         ensures kept { HasCleanDisk (state S.Store self.new) → KeepsStanding (stands_in S.Store) self.old self.new }
         ensures survives { Survives (state S.Store self.old) (state S.Store self.new) (λ _. ⊥) }
     {
-        let closed = reads::closed(&mut self.connection, slot)?;
-        let Some(closed) = is_closed(&closed) else {
-            return Err(StoreFault::Storage);
-        };
-        let guests = reads::guests(&mut self.connection, slot)?;
-        let taken = sum::persons(&guests)?;
-        Ok(SlotUse { taken, closed })
+        let rows = reads::slot(&mut self.connection, slot)?;
+        match slot_use_of(&rows) {
+            Some(found) => Ok(found),
+            None => Err(StoreFault::Storage),
+        }
     }
 
     /// The day's bookings that aren't cancelled, in the order of the day sheet: by facility, hour, key and number.
@@ -240,26 +258,27 @@ impl<S: Alter> Store<S> {
     fn seen(
         &mut self,
         key: Key,
-        member: Member,
+        row: MemberRow,
         request: &Request,
         moment: Moment,
     ) -> Result<View, StoreFault>
-        ensures told { HasCleanDisk (state S.Store self.new) → Tells (stands_in S.Store) self.old result (λ club view. view ≡ seen club key member request.now moment) }
-        ensures limits { IsKey key → IsMember member → IfOk result HasLimits }
+        ensures told { HasCleanDisk (state S.Store self.new) → Tells (stands_in S.Store) self.old result (λ club view. row ≡ member_row club row.member → view ≡ seen club key row.member request.now moment) }
+        ensures limits { IsKey key → IsMember row.member → IfOk result HasLimits }
         ensures kept { HasCleanDisk (state S.Store self.new) → KeepsStanding (stands_in S.Store) self.old self.new }
         ensures survives { Survives (state S.Store self.old) (state S.Store self.new) (λ _. ⊥) }
     {
-        let account = account_at(&mut self.connection, &key.name, &member, moment)?;
+        let MemberRow { member, used } = row;
+        let account = account_at(&mut self.connection, &key.name, &member.name, moment)?;
         let booking = booked(&mut self.connection, &key.name, request.number())?;
         let slot = self.slot_state(request.slot())?;
         Ok(View {
             key,
             spent: account.spent,
             member,
-            balance: account.balance,
+            balance: member.credited.saturating_sub(used),
             open_count: account.open_count,
             facility: slot.facility,
-            taken: slot.taken,
+            taken: u64::from(slot.taken),
             closed: slot.closed,
             booking,
         })
@@ -282,7 +301,7 @@ impl<S: Alter> Store<S> {
         let Some(key) = self.key(key)? else {
             return Ok(None);
         };
-        let Some(member) = self.member(&key.member)? else {
+        let Some(member) = self.member_row(&key.member)? else {
             return Ok(None);
         };
         let view = self.seen(key, member, request, moment)?;
@@ -294,20 +313,98 @@ impl<S: Alter> Store<S> {
         ensures honest { HasCleanDisk (state S.Store self.new) → HasCleanDisk (state S.Store self.old) }
         ensures changed { HasCleanDisk (state S.Store self.new) → Changes (stands_in S.Store) change.now self.old self.new result }
     {
-        let conn = &mut self.connection;
         match change {
-            Change::InsertMember(member) => writes::insert_member(conn, member),
-            Change::AddCredit { member, points } => writes::add_credit(conn, member, *points),
-            Change::InsertFacility(facility) => writes::insert_facility(conn, facility),
-            Change::InsertKey(key) => writes::insert_key(conn, key),
-            Change::MarkRevoked { key } => writes::revoke_key(conn, key),
-            Change::MarkClosed(slot) => writes::close_slot(conn, slot),
-            Change::InsertBooking(booking) => writes::insert_booking(conn, booking),
+            Change::InsertMember(member) => self.insert_member(member),
+            Change::AddCredit { member, points } => self.add_credit(member, *points),
+            Change::InsertFacility(facility) => self.insert_facility(facility),
+            Change::InsertKey(key) => self.insert_key(key),
+            Change::MarkRevoked { key } => self.revoke_key(key),
+            Change::MarkClosed(slot) => self.close_slot(slot),
+            Change::InsertBooking(booking) => self.insert_booking(booking),
             Change::MarkCancelled {
                 key,
                 number,
                 refund,
-            } => writes::cancel_booking(conn, key, *number, *refund),
+            } => self.cancel_booking(key, *number, *refund),
+        }
+    }
+
+    /// Inserts a booking with what it costs its member and takes of its slot, in one transaction. A refusal is as that of `apply`.
+    fn insert_booking(&mut self, booking: &Booking) -> Result<(), StoreFault>
+        ensures honest { HasCleanDisk (state S.Store self.new) → HasCleanDisk (state S.Store self.old) }
+        ensures changed { HasCleanDisk (state S.Store self.new) → Changes (stands_in S.Store) (InsertBooking booking.now) self.old self.new result }
+    {
+        let found = match self.key(&booking.key) {
+            Ok(found) => found,
+            Err(fault) => return Err(fault),
+        };
+        match found {
+            Some(key) => writes::insert_booking(&mut self.connection, booking, &key.member),
+            None => Err(StoreFault::Storage),
+        }
+    }
+
+    /// Marks a booking cancelled with its refund, gives the refund back to its member and its places to its slot, in one
+    /// transaction. Where none is to be marked, nothing is changed. A refusal is as that of `apply`.
+    fn cancel_booking(
+        &mut self,
+        key: &Name,
+        number: BookingNumber,
+        refund: u32,
+    ) -> Result<(), StoreFault>
+        ensures honest { HasCleanDisk (state S.Store self.new) → HasCleanDisk (state S.Store self.old) }
+        ensures changed { HasCleanDisk (state S.Store self.new) → Changes (stands_in S.Store) (MarkCancelled key.now number refund) self.old self.new result }
+    {
+        let found = match self.booking_under(key, number) {
+            Ok(found) => found,
+            Err(fault) => return Err(fault),
+        };
+        match found {
+            Some(booking) if !booking.cancelled => self.give_back(&booking, refund),
+            _ => self.mark_cancelled(key, number, refund),
+        }
+    }
+
+    /// The booking of a key with a number.
+    fn booking_under(
+        &mut self,
+        key: &Name,
+        number: BookingNumber,
+    ) -> Result<Option<Booking>, StoreFault>
+        ensures told { HasCleanDisk (state S.Store self.new) → Tells (stands_in S.Store) self.old result (λ club found. found ≡ booking_under key.now number club.bookings) }
+        ensures kept { HasCleanDisk (state S.Store self.new) → KeepsStanding (stands_in S.Store) self.old self.new }
+        ensures survives { Survives (state S.Store self.old) (state S.Store self.new) (λ _. ⊥) }
+    {
+        booking(&mut self.connection, key, number)
+    }
+
+    /// Marks a booking cancelled where none is to be marked: nothing is changed.
+    fn mark_cancelled(
+        &mut self,
+        key: &Name,
+        number: BookingNumber,
+        refund: u32,
+    ) -> Result<(), StoreFault>
+        ensures honest { HasCleanDisk (state S.Store self.new) → HasCleanDisk (state S.Store self.old) }
+        ensures changed { HasCleanDisk (state S.Store self.new) → ChangesWhere (HasNoneToCancel key.now number) (stands_in S.Store) (MarkCancelled key.now number refund) self.old self.new result }
+    {
+        writes::mark_cancelled(&mut self.connection, key, number, refund)
+    }
+
+    /// Cancels a booking that isn't cancelled, as `cancel_booking`.
+    fn give_back(&mut self, booking: &Booking, refund: u32) -> Result<(), StoreFault>
+        ensures honest { HasCleanDisk (state S.Store self.new) → HasCleanDisk (state S.Store self.old) }
+        ensures changed { HasCleanDisk (state S.Store self.new) → ChangesWhere (IsToCancel booking.now) (stands_in S.Store) (MarkCancelled booking.now.key booking.now.number refund) self.old self.new result }
+    {
+        let found = match self.key(&booking.key) {
+            Ok(found) => found,
+            Err(fault) => return Err(fault),
+        };
+        match found {
+            Some(key) => {
+                writes::cancel_booking(&mut self.connection, booking, &key.member, refund)
+            }
+            None => Err(StoreFault::Storage),
         }
     }
 

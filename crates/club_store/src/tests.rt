@@ -297,7 +297,7 @@ fn view_of(store: &mut Store<MemStore>, request: &Request) -> Result<Option<View
 fn figures(
     store: &mut Store<MemStore>,
     request: &Request,
-) -> Result<(u64, u32, u64, u32, bool), Fail> {
+) -> Result<(u64, u32, u64, u64, bool), Fail> {
     let view = view_of(store, request)?.ok_or("view")?;
     Ok((
         view.spent,

@@ -1,10 +1,10 @@
-//! One statement in a transaction of its own: either all that it does is committed, or nothing.
+//! Statements in a transaction of their own: either all that they do is committed, or nothing.
 
 ghost use Rattle.std.specs.Prelude.{◌≡◌, false, map, IfOk, OnOk, OnErr, IsTrue};
 ghost use Rattle.sqlite.specs.Values.{bound};
 ghost use Rattle.sqlite.specs.State.{HasCleanDisk, Survives};
 ghost use Rattle.sqlite.specs.Held.{state};
-ghost use Rattle.club_store.specs.Transaction.{Asked, Ran, RanAll, IsKept, fault_by};
+ghost use Rattle.club_store.specs.Transaction.{Asked, Ran, IsKept, fault_by, words_of};
 ghost use Rattle.club_store.specs.Opening.{IsUnderstood};
 
 use club_core::StoreFault;
@@ -59,40 +59,27 @@ pub(crate) fn prepare<S: Alter>(conn: &mut Connection<S>, sql: &str) -> Result<(
     Ok(())
 }
 
-/// Runs a statement that writes, and commits what it wrote.
+/// A statement that writes, and its parameters.
+#[derive(Clone, Copy)]
+pub(crate) struct Statement<'a> {
+    pub(crate) text: &'a str,
+    pub(crate) params: &'a [ValueRef<'a>],
+}
+
+/// Runs statements in turn, in one transaction, and commits what they wrote.
 pub(crate) fn run<S: Alter>(
     conn: &mut Connection<S>,
-    sql: &str,
-    params: &[ValueRef<'_>],
+    statements: &[Statement<'_>],
 ) -> Result<(), StoreFault>
     requires { conn.old.in_transaction ≡ false }
     ensures idle { conn.new.in_transaction ≡ false }
-    ensures ran { HasCleanDisk (state S.Store conn.new) → OnOk result (IsTrue (state S.Store conn.new).is_open × Ran S.Store sql.now (bound params.now) conn.old (state S.Store conn.new).committed × ((state S.Store conn.new).now ≡ (state S.Store conn.new).committed)) }
+    ensures ran { HasCleanDisk (state S.Store conn.new) → OnOk result (IsTrue (state S.Store conn.new).is_open × Ran S.Store (map words_of statements.now) conn.old (state S.Store conn.new).committed × ((state S.Store conn.new).now ≡ (state S.Store conn.new).committed)) }
     ensures kept { OnErr result (IsKept (state S.Store conn.old) (state S.Store conn.new)) }
-    ensures survives { Survives (state S.Store conn.old) (state S.Store conn.new) (λ trees. (db : _) × Ran S.Store sql.now (bound params.now) conn.old db × (trees ≡ db.trees)) }
+    ensures survives { Survives (state S.Store conn.old) (state S.Store conn.new) (λ trees. (db : _) × Ran S.Store (map words_of statements.now) conn.old db × (trees ≡ db.trees)) }
 {
     let mut tx = conn.transaction();
-    match tx.execute(sql, params) {
-        Ok(_) => {}
-        Err(error) => return Err(fault_of(error)),
-    }
-    match tx.commit() {
-        Ok(()) => Ok(()),
-        Err(error) => Err(fault_of(error)),
-    }
-}
-
-/// Runs statements without parameters in turn, in one transaction.
-pub(crate) fn run_all<S: Alter>(conn: &mut Connection<S>, texts: &[&str]) -> Result<(), StoreFault>
-    requires { conn.old.in_transaction ≡ false }
-    ensures idle { conn.new.in_transaction ≡ false }
-    ensures ran { HasCleanDisk (state S.Store conn.new) → OnOk result (IsTrue (state S.Store conn.new).is_open × RanAll S.Store (map (λ text. text.now) texts.now) conn.old (state S.Store conn.new).committed × ((state S.Store conn.new).now ≡ (state S.Store conn.new).committed)) }
-    ensures kept { OnErr result (IsKept (state S.Store conn.old) (state S.Store conn.new)) }
-    ensures survives { Survives (state S.Store conn.old) (state S.Store conn.new) (λ trees. (db : _) × RanAll S.Store (map (λ text. text.now) texts.now) conn.old db × (trees ≡ db.trees)) }
-{
-    let mut tx = conn.transaction();
-    for text in texts {
-        match tx.execute(text, &[]) {
+    for statement in statements {
+        match tx.execute(statement.text, statement.params) {
             Ok(_) => {}
             Err(error) => return Err(fault_of(error)),
         }

@@ -1,26 +1,21 @@
-//! The statements that write, each in a function of its own and in a transaction of its own.
+//! The changes, each in a transaction of its own.
 
-ghost use Rattle.std.specs.Prelude.{◌≡◌, false};
-ghost use Rattle.sqlite.specs.State.{HasCleanDisk};
+ghost use Rattle.std.specs.Prelude.{◌≡◌, false, OnOk, OnErr, IsTrue};
+ghost use Rattle.sqlite.specs.State.{HasCleanDisk, Survives};
+ghost use Rattle.sqlite.specs.Values.{bound};
+ghost use Rattle.club_store.specs.Transaction.{Ran, IsKept, with_totals};
 ghost use Rattle.sqlite.specs.Held.{state};
-ghost use Rattle.club_core.specs.Columns.{truth};
 ghost use Rattle.club_core.specs.declared.change.Change.TheVariants.{InsertMember, InsertFacility, InsertKey, InsertBooking, AddCredit, MarkRevoked, MarkClosed, MarkCancelled};
-ghost use Rattle.club_store.specs.Told.{stands_in, Changes};
+ghost use Rattle.club_store.specs.Told.{stands_in, Changes, ChangesWhere, IsOwnedBy, IsToCancel, HasNoneToCancel};
 
-use crate::texts;
-use crate::transaction::run;
+use crate::transaction::{Statement, run};
+use crate::{params, texts};
 use club_core::{Booking, BookingNumber, Facility, Key, Member, StoreFault};
 use pass_caveats::{Name, Slot};
-use sqlite::{Alter, Connection, params};
+use sqlite::types::ValueRef;
+use sqlite::{Alter, Connection};
 
-/// A truth value as a number.
-fn number_of(value: bool) -> u32
-    ensures { result ≡ truth value }
-{
-    if value { 1 } else { 0 }
-}
-
-/// Inserts a member.
+/// Inserts a member, whose bookings have cost nothing.
 pub(crate) fn insert_member<S: Alter>(
     conn: &mut Connection<S>,
     member: &Member,
@@ -30,14 +25,13 @@ pub(crate) fn insert_member<S: Alter>(
     ensures honest { HasCleanDisk (state S.Store conn.new) → HasCleanDisk (state S.Store conn.old) }
     ensures changed { HasCleanDisk (state S.Store conn.new) → Changes (stands_in S.Store) (InsertMember member.now) conn.old conn.new result }
 {
+    let values = params::of_member(member);
     run(
         conn,
-        texts::ADD_MEMBER,
-        params![
-            member.name.as_str(),
-            member.credited,
-            u32::from(member.quota)
-        ],
+        &[Statement {
+            text: texts::ADD_MEMBER,
+            params: &values,
+        }],
     )
 }
 
@@ -51,17 +45,13 @@ pub(crate) fn insert_facility<S: Alter>(
     ensures honest { HasCleanDisk (state S.Store conn.new) → HasCleanDisk (state S.Store conn.old) }
     ensures changed { HasCleanDisk (state S.Store conn.new) → Changes (stands_in S.Store) (InsertFacility facility.now) conn.old conn.new result }
 {
+    let values = params::of_facility(facility);
     run(
         conn,
-        texts::ADD_FACILITY,
-        params![
-            facility.name.as_str(),
-            facility.kind.text(),
-            u32::from(facility.places),
-            u32::from(facility.price),
-            u32::from(facility.opens),
-            u32::from(facility.shuts)
-        ],
+        &[Statement {
+            text: texts::ADD_FACILITY,
+            params: &values,
+        }],
     )
 }
 
@@ -72,43 +62,13 @@ pub(crate) fn insert_key<S: Alter>(conn: &mut Connection<S>, key: &Key) -> Resul
     ensures honest { HasCleanDisk (state S.Store conn.new) → HasCleanDisk (state S.Store conn.old) }
     ensures changed { HasCleanDisk (state S.Store conn.new) → Changes (stands_in S.Store) (InsertKey key.now) conn.old conn.new result }
 {
+    let values = params::of_key(key);
     run(
         conn,
-        texts::ADD_KEY,
-        params![
-            key.name.as_str(),
-            key.member.as_str(),
-            key.root.as_bytes(),
-            number_of(key.revoked)
-        ],
-    )
-}
-
-/// Inserts a booking.
-pub(crate) fn insert_booking<S: Alter>(
-    conn: &mut Connection<S>,
-    booking: &Booking,
-) -> Result<(), StoreFault>
-    requires { conn.old.in_transaction ≡ false }
-    ensures idle { conn.new.in_transaction ≡ false }
-    ensures honest { HasCleanDisk (state S.Store conn.new) → HasCleanDisk (state S.Store conn.old) }
-    ensures changed { HasCleanDisk (state S.Store conn.new) → Changes (stands_in S.Store) (InsertBooking booking.now) conn.old conn.new result }
-{
-    run(
-        conn,
-        texts::ADD_BOOKING,
-        params![
-            booking.key.as_str(),
-            booking.number.get(),
-            booking.slot.facility.as_str(),
-            u32::from(booking.slot.day.number()),
-            u32::from(booking.slot.hour.number()),
-            u32::from(booking.guests.get()),
-            booking.charge,
-            u32::from(booking.left),
-            number_of(booking.cancelled),
-            booking.refund
-        ],
+        &[Statement {
+            text: texts::ADD_KEY,
+            params: &values,
+        }],
     )
 }
 
@@ -123,7 +83,14 @@ pub(crate) fn add_credit<S: Alter>(
     ensures honest { HasCleanDisk (state S.Store conn.new) → HasCleanDisk (state S.Store conn.old) }
     ensures changed { HasCleanDisk (state S.Store conn.new) → Changes (stands_in S.Store) (AddCredit member.now points) conn.old conn.new result }
 {
-    run(conn, texts::ADD_CREDIT, params![member.as_str(), points])
+    let values = params::of_credit(member, points);
+    run(
+        conn,
+        &[Statement {
+            text: texts::ADD_CREDIT,
+            params: &values,
+        }],
+    )
 }
 
 /// Marks a key revoked.
@@ -133,25 +100,13 @@ pub(crate) fn revoke_key<S: Alter>(conn: &mut Connection<S>, key: &Name) -> Resu
     ensures honest { HasCleanDisk (state S.Store conn.new) → HasCleanDisk (state S.Store conn.old) }
     ensures changed { HasCleanDisk (state S.Store conn.new) → Changes (stands_in S.Store) (MarkRevoked key.now) conn.old conn.new result }
 {
-    run(conn, texts::REVOKE_KEY, params![key.as_str()])
-}
-
-/// Marks a booking cancelled with its refund, unless it is cancelled already.
-pub(crate) fn cancel_booking<S: Alter>(
-    conn: &mut Connection<S>,
-    key: &Name,
-    number: BookingNumber,
-    refund: u32,
-) -> Result<(), StoreFault>
-    requires { conn.old.in_transaction ≡ false }
-    ensures idle { conn.new.in_transaction ≡ false }
-    ensures honest { HasCleanDisk (state S.Store conn.new) → HasCleanDisk (state S.Store conn.old) }
-    ensures changed { HasCleanDisk (state S.Store conn.new) → Changes (stands_in S.Store) (MarkCancelled key.now number refund) conn.old conn.new result }
-{
+    let values = [ValueRef::Text(key.as_bytes())];
     run(
         conn,
-        texts::CANCEL_BOOKING,
-        params![key.as_str(), number.get(), refund],
+        &[Statement {
+            text: texts::REVOKE_KEY,
+            params: &values,
+        }],
     )
 }
 
@@ -162,13 +117,103 @@ pub(crate) fn close_slot<S: Alter>(conn: &mut Connection<S>, slot: &Slot) -> Res
     ensures honest { HasCleanDisk (state S.Store conn.new) → HasCleanDisk (state S.Store conn.old) }
     ensures changed { HasCleanDisk (state S.Store conn.new) → Changes (stands_in S.Store) (MarkClosed slot.now) conn.old conn.new result }
 {
+    let values = params::of_slot(slot);
     run(
         conn,
-        texts::CLOSE_SLOT,
-        params![
-            slot.facility.as_str(),
-            u32::from(slot.day.number()),
-            u32::from(slot.hour.number())
+        &[Statement {
+            text: texts::CLOSE_SLOT,
+            params: &values,
+        }],
+    )
+}
+
+/// Runs a statement on a booking, adds to what its member's bookings have cost, and adds to the persons of its slot.
+fn run_with_totals<S: Alter>(
+    conn: &mut Connection<S>,
+    text: &str,
+    booking: &[ValueRef<'_>],
+    used: &[ValueRef<'_>],
+    taken: &[ValueRef<'_>],
+) -> Result<(), StoreFault>
+    requires { conn.old.in_transaction ≡ false }
+    ensures idle { conn.new.in_transaction ≡ false }
+    ensures ran { HasCleanDisk (state S.Store conn.new) → OnOk result (IsTrue (state S.Store conn.new).is_open × Ran S.Store (with_totals text.now (bound booking.now) (bound used.now) (bound taken.now)) conn.old (state S.Store conn.new).committed × ((state S.Store conn.new).now ≡ (state S.Store conn.new).committed)) }
+    ensures kept { OnErr result (IsKept (state S.Store conn.old) (state S.Store conn.new)) }
+    ensures survives { Survives (state S.Store conn.old) (state S.Store conn.new) (λ trees. (db : _) × Ran S.Store (with_totals text.now (bound booking.now) (bound used.now) (bound taken.now)) conn.old db × (trees ≡ db.trees)) }
+{
+    run(
+        conn,
+        &[
+            Statement {
+                text,
+                params: booking,
+            },
+            Statement {
+                text: texts::ADD_USED,
+                params: used,
+            },
+            Statement {
+                text: texts::ADD_TAKEN,
+                params: taken,
+            },
         ],
+    )
+}
+
+/// Inserts a booking under a key of the member, adds what it costs to what the member's have cost, and its persons to those of
+/// its slot.
+pub(crate) fn insert_booking<S: Alter>(
+    conn: &mut Connection<S>,
+    booking: &Booking,
+    member: &Name,
+) -> Result<(), StoreFault>
+    requires { conn.old.in_transaction ≡ false }
+    ensures idle { conn.new.in_transaction ≡ false }
+    ensures honest { HasCleanDisk (state S.Store conn.new) → HasCleanDisk (state S.Store conn.old) }
+    ensures changed { HasCleanDisk (state S.Store conn.new) → ChangesWhere (IsOwnedBy member.now booking.now.key) (stands_in S.Store) (InsertBooking booking.now) conn.old conn.new result }
+{
+    let row = params::of_booking(booking);
+    let used = params::of_cost(member, booking);
+    let taken = params::of_places(booking);
+    run_with_totals(conn, texts::ADD_BOOKING, &row, &used, &taken)
+}
+
+/// Marks a booking cancelled with its refund, gives that back to the member, and its places to its slot.
+pub(crate) fn cancel_booking<S: Alter>(
+    conn: &mut Connection<S>,
+    booking: &Booking,
+    member: &Name,
+    refund: u32,
+) -> Result<(), StoreFault>
+    requires { conn.old.in_transaction ≡ false }
+    ensures idle { conn.new.in_transaction ≡ false }
+    ensures honest { HasCleanDisk (state S.Store conn.new) → HasCleanDisk (state S.Store conn.old) }
+    ensures changed { HasCleanDisk (state S.Store conn.new) → ChangesWhere (λ club. IsToCancel booking.now club × IsOwnedBy member.now booking.now.key club) (stands_in S.Store) (MarkCancelled booking.now.key booking.now.number refund) conn.old conn.new result }
+{
+    let mark = params::of_refund(&booking.key, booking.number, refund);
+    let used = params::of_return(member, refund);
+    let taken = params::of_freed(booking);
+    run_with_totals(conn, texts::CANCEL_BOOKING, &mark, &used, &taken)
+}
+
+/// Marks a booking cancelled where none is to be marked: nothing is changed.
+pub(crate) fn mark_cancelled<S: Alter>(
+    conn: &mut Connection<S>,
+    key: &Name,
+    number: BookingNumber,
+    refund: u32,
+) -> Result<(), StoreFault>
+    requires { conn.old.in_transaction ≡ false }
+    ensures idle { conn.new.in_transaction ≡ false }
+    ensures honest { HasCleanDisk (state S.Store conn.new) → HasCleanDisk (state S.Store conn.old) }
+    ensures changed { HasCleanDisk (state S.Store conn.new) → ChangesWhere (HasNoneToCancel key.now number) (stands_in S.Store) (MarkCancelled key.now number refund) conn.old conn.new result }
+{
+    let values = params::of_refund(key, number, refund);
+    run(
+        conn,
+        &[Statement {
+            text: texts::CANCEL_BOOKING,
+            params: &values,
+        }],
     )
 }

@@ -1,7 +1,7 @@
-//! A club whose one member books a slot after the other.
+//! A club whose members book a slot after the other, in turn.
 
 use club_core::{
-    Booking, BookingNumber, Change, Facility, FacilityColumns, Guests, Key, Member, Request,
+    Booking, BookingNumber, Change, Facility, FacilityColumns, Guests, Key, Member, Request, Root,
     StoreFault, slot_from_columns,
 };
 use club_store::Store;
@@ -9,7 +9,8 @@ use pass_caveats::{Moment, Name, Slot};
 use sqlite::Alter;
 use std::ops::Range;
 
-const KEY: &[u8] = b"amy-1";
+/// How many members there are, each with one key.
+const KEYS: u32 = 1_000;
 
 const COURT: &[u8] = b"court-1";
 
@@ -20,11 +21,15 @@ const FIRST_HOUR: u32 = 8;
 
 const HOURS_A_DAY: u32 = 14;
 
-/// Makes the member, the court and the key in empty tables.
+/// Makes the court, the members and their keys in empty tables.
 pub(crate) fn fill<S: Alter>(store: &mut Store<S>) -> Result<(), StoreFault> {
-    let changes = changes().ok_or(StoreFault::Storage)?;
-    for change in &changes {
-        store.apply(change)?;
+    let court = court().ok_or(StoreFault::Storage)?;
+    store.insert_facility(&court)?;
+    for index in 0..KEYS {
+        let member = member(index).ok_or(StoreFault::Storage)?;
+        store.insert_member(&member)?;
+        let key = key(index).ok_or(StoreFault::Storage)?;
+        store.insert_key(&key)?;
     }
     Ok(())
 }
@@ -65,29 +70,50 @@ fn view<S: Alter>(store: &mut Store<S>, booking: &Booking) -> Result<(), StoreFa
     }
 }
 
-fn changes() -> Option<[Change; 3]> {
-    let member = Member::from_columns(b"amy", 999_999_999, 99)?;
-    let court = Facility::from_columns(&FacilityColumns {
+fn court() -> Option<Facility> {
+    Facility::from_columns(&FacilityColumns {
         name: COURT,
         kind: b"court",
         places: 4,
         price: 1,
         opens: 8,
         shuts: 22,
-    })?;
-    let key = Key::from_columns(KEY, b"amy", b"0123456789abcdef", 0)?;
-    Some([
-        Change::InsertMember(member),
-        Change::InsertFacility(court),
-        Change::InsertKey(key),
+    })
+}
+
+fn member(index: u32) -> Option<Member> {
+    Some(Member {
+        name: name(b'm', index)?,
+        credited: 999_999_999,
+        quota: 99,
+    })
+}
+
+fn key(index: u32) -> Option<Key> {
+    Some(Key {
+        name: name(b'k', index)?,
+        member: name(b'm', index)?,
+        root: Root::new(b"0123456789abcdef")?,
+        revoked: false,
+    })
+}
+
+// The name of a letter and three digits of a number.
+fn name(letter: u8, number: u32) -> Option<Name> {
+    let digit = |value: u32| b'0' + (value % 10) as u8;
+    Name::read(&[
+        letter,
+        digit(number / 100),
+        digit(number / 10),
+        digit(number),
     ])
 }
 
-// The booking of the slot of this index, counted from 0, under the number after it.
+// The booking of the slot of this index, counted from 0. The keys take turns, and each counts its own bookings.
 fn booking(index: u32) -> Option<Booking> {
     Some(Booking {
-        key: Name::read(KEY)?,
-        number: BookingNumber::new(index.checked_add(1)?)?,
+        key: name(b'k', index % KEYS)?,
+        number: BookingNumber::new(index / KEYS + 1)?,
         slot: slot(index)?,
         guests: Guests::new(1)?,
         charge: 2,

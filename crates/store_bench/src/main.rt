@@ -14,7 +14,7 @@ use std::rt::Clock;
 use std::time::{Duration, Instant};
 
 /// How many bookings are in the table before the time is taken.
-const ROWS: [u32; 2] = [100, 10_000];
+const ROWS: [u32; 3] = [100, 10_000, 100_000];
 
 fn main(rt: HostRuntime) -> Result<()> {
     let mut words = env::args(&rt)?.skip(1);

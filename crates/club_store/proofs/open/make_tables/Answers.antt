@@ -8,10 +8,10 @@ use Rattle.club_store.proofs.open.make_tables.Goals as goal
 pub returns-clause-made : goal.returns-clause-made
 returns-clause-made g c clean =
     let old = c.args.conn.now in
-    let new = c.run_all.new.conn in
-    let earlier : HasCleanDisk (state g.S.Store old) = omega (arith, c.run_all.ensures.survives.clean) in
-    on_ok c.run_all.result (c.run_all.ensures.ran clean) (λ ran. made_stands g.S.Store old new earlier ran.0 ran.1 ran.2 (λ is_open trees may. g.met.S.Store.settled new.store trees is_open may))
+    let new = c.run.new.conn in
+    let earlier : HasCleanDisk (state g.S.Store old) = omega (arith, c.run.ensures.survives.clean) in
+    on_ok c.run.result (c.run.ensures.ran clean) (λ ran. made_stands g.S.Store old new earlier ran.0 ran.1 ran.2 (λ is_open trees may. g.met.S.Store.settled new.store trees is_open may))
 
 pub returns-clause-refused : goal.returns-clause-refused
 returns-clause-refused g c clean =
-    on_err c.run_all.result c.run_all.ensures.kept (λ kept. refused_found g.S.Store c.args.conn.now c.run_all.new.conn kept c.run_all.ensures.survives)
+    on_err c.run.result c.run.ensures.kept (λ kept. refused_found g.S.Store c.args.conn.now c.run.new.conn kept c.run.ensures.survives)

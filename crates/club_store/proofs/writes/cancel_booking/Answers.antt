@@ -1,16 +1,21 @@
-use Rattle.std.proofs.Common.{[], ◌∷◌}
-use Rattle.sqlite_value.specs.declared.value.Value.TheVariants.{Text}
+use Rattle.std.proofs.Common.{[], ◌∷◌, ◌++◌, pos, neg_ℤ, arith}
+use Rattle.sqlite_value.specs.declared.value.Value.TheVariants.{Int, Text}
+use Rattle.club_rows.specs.Booking.{persons_of}
 use Rattle.club_store.specs.declared.texts.TheConstants.{CANCEL_BOOKING}
-use Rattle.club_store.specs.Columns.{whole}
-use Rattle.club_store.proofs.CancelLemmas.{booking_cancelled}
+use Rattle.club_store.specs.Columns.{whole, name_values}
+use Rattle.club_store.specs.Transaction.{with_totals}
+use Rattle.club_store.proofs.MadeLemmas.{cancel_made}
 use Rattle.club_store.proofs.WriteLemmas.{wrote}
 use Rattle.club_store.proofs.writes.cancel_booking.Goals as goal
 
 pub returns-clause-changed : goal.returns-clause-changed
-returns-clause-changed g c clean club others stands fits =
+returns-clause-changed g c clean club others both stands fits =
     let old = c.args.conn.now in
-    wrote g.S.Store CANCEL_BOOKING.now (Text c.args.key.now ∷ whole c.args.number ∷ whole c.args.refund ∷ []) old c.run.new.conn
-    (rw (c.params-to_sql.ensures, c.params-to_sql-2.ensures, c.params-to_sql-3.ensures, c.as_str.ensures.value, c.get.ensures.value) at c.run.ensures.survives) clean club _ others stands
-    (λ db tables ran. booking_cancelled g.S.Store old db c.args.key.now c.args.number c.args.refund club tables fits ran) c.run.result
-    (rw (c.params-to_sql.ensures, c.params-to_sql-2.ensures, c.params-to_sql-3.ensures, c.as_str.ensures.value, c.get.ensures.value) at (c.run.ensures.ran clean)) c.run.ensures.kept
-    (λ is_open trees may. g.met.S.Store.settled c.run.new.conn.store trees is_open may)
+    let booking = c.args.booking.now in
+    let member = c.args.member.now in
+    let call = c.run_with_totals in
+    wrote g.S.Store (with_totals CANCEL_BOOKING.now (Text booking.key ∷ whole booking.number ∷ whole c.args.refund ∷ []) (Text member ∷ Int (neg_ℤ (pos c.args.refund)) ∷ []) (name_values booking.slot ++ Int (neg_ℤ (pos (persons_of booking))) ∷ [])) (omega arith) old call.new.conn
+    (rw (c.of_refund-mark.ensures, c.of_return-used.ensures, c.of_freed-taken.ensures) at call.ensures.survives) clean club _ others stands
+    (λ db tables ran. cancel_made g.S.Store old db club tables booking member c.args.refund both.0 both.1 fits ran) call.result
+    (rw (c.of_refund-mark.ensures, c.of_return-used.ensures, c.of_freed-taken.ensures) at (call.ensures.ran clean)) call.ensures.kept
+    (λ is_open trees may. g.met.S.Store.settled call.new.conn.store trees is_open may)

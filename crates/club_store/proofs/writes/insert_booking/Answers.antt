@@ -1,15 +1,22 @@
+use Rattle.std.proofs.Common.{[], ◌∷◌, ◌++◌, pos, arith}
+use Rattle.sqlite_value.specs.declared.value.Value.TheVariants.{Int, Text}
+use Rattle.club_core.specs.Sums.{cost_of}
 use Rattle.club_store.specs.declared.texts.TheConstants.{ADD_BOOKING}
-use Rattle.club_store.specs.Columns.{booking_values}
-use Rattle.club_store.proofs.AddLemmas.{booking_inserted}
+use Rattle.club_store.specs.Columns.{booking_values, name_values}
+use Rattle.club_store.specs.Stored.{persons_taken}
+use Rattle.club_store.specs.Transaction.{with_totals}
+use Rattle.club_store.proofs.MadeLemmas.{booking_made}
 use Rattle.club_store.proofs.WriteLemmas.{wrote}
 use Rattle.club_store.proofs.writes.insert_booking.Goals as goal
 
 pub returns-clause-changed : goal.returns-clause-changed
-returns-clause-changed g c clean club others stands fits =
+returns-clause-changed g c clean club others owned stands fits =
     let old = c.args.conn.now in
     let booking = c.args.booking.now in
-    wrote g.S.Store ADD_BOOKING.now (booking_values booking) old c.run.new.conn
-    (rw (c.params-to_sql.ensures, c.params-to_sql-2.ensures, c.params-to_sql-3.ensures, c.params-to_sql-4.ensures, c.params-to_sql-5.ensures, c.params-to_sql-6.ensures, c.params-to_sql-7.ensures, c.params-to_sql-8.ensures, c.params-to_sql-9.ensures, c.params-to_sql-10.ensures, c.as_str.ensures.value, c.get.ensures.value, c.as_str-2.ensures.value, c.from.ensures, c.number.ensures.value, c.from-2.ensures, c.number-2.ensures.value, c.from-3.ensures, c.get-2.ensures.value, c.from-4.ensures, c.number_of.ensures) at c.run.ensures.survives) clean club _ others stands
-    (λ db tables ran. booking_inserted g.S.Store old db booking club tables fits ran) c.run.result
-    (rw (c.params-to_sql.ensures, c.params-to_sql-2.ensures, c.params-to_sql-3.ensures, c.params-to_sql-4.ensures, c.params-to_sql-5.ensures, c.params-to_sql-6.ensures, c.params-to_sql-7.ensures, c.params-to_sql-8.ensures, c.params-to_sql-9.ensures, c.params-to_sql-10.ensures, c.as_str.ensures.value, c.get.ensures.value, c.as_str-2.ensures.value, c.from.ensures, c.number.ensures.value, c.from-2.ensures, c.number-2.ensures.value, c.from-3.ensures, c.get-2.ensures.value, c.from-4.ensures, c.number_of.ensures) at (c.run.ensures.ran clean)) c.run.ensures.kept
-    (λ is_open trees may. g.met.S.Store.settled c.run.new.conn.store trees is_open may)
+    let member = c.args.member.now in
+    let call = c.run_with_totals in
+    wrote g.S.Store (with_totals ADD_BOOKING.now (booking_values booking) (Text member ∷ Int (pos (cost_of booking)) ∷ []) (name_values booking.slot ++ Int (pos (persons_taken booking)) ∷ [])) (omega arith) old call.new.conn
+    (rw (c.of_booking-row.ensures, c.of_cost-used.ensures, c.of_places-taken.ensures) at call.ensures.survives) clean club _ others stands
+    (λ db tables ran. booking_made g.S.Store old db club tables booking member owned fits ran) call.result
+    (rw (c.of_booking-row.ensures, c.of_cost-used.ensures, c.of_places-taken.ensures) at (call.ensures.ran clean)) call.ensures.kept
+    (λ is_open trees may. g.met.S.Store.settled call.new.conn.store trees is_open may)
