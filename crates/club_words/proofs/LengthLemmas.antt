@@ -1,0 +1,56 @@
+-- No head asks for more than 256 bytes.
+use Rattle.std.proofs.Common.{◌≡◌, ℕ, ◌+◌, ◌-◌, ◌<◌, ◌≤◌, ◌&&◌, ◌||◌, refl, Bool, true, false, cond, eqb, leb, ltb, List, [], ◌∷◌, ◌++◌, length, Option, Some, None, arith, rules, tests, length-append, codes}
+use Rattle.std.specs.Char.{is_ascii_digit}
+use Rattle.std.specs.List.{list_all}
+use Rattle.std.specs.Str.{bytes_eq}
+use Rattle.std.specs.Str.Parse.{digits_value}
+use Rattle.httparse.specs.declared.spans.HeaderSpan.{HeaderSpan}
+use Rattle.club_words.specs.declared.front.Head.{Head}
+use Rattle.club_words.specs.Fields.{values_of}
+use Rattle.club_words.specs.Length.{length_in, told_length, where_allowed, unless_coded, asked_length}
+use Rattle.club_words.specs.Frame.{fields_of}
+use Rattle.club_words.specs.Front.{IsHeadAt}
+
+some_of : (test : Bool) (a n : ℕ) → cond test (Some a) None ≡ Some n → (test ≡ true) × (a ≡ n)
+some_of true a n e = (refl, cc)
+some_of false a n e = absurd cc
+
+both_true : (a b : Bool) → (a && b) ≡ true → b ≡ true
+both_true true b e = e
+both_true false b e = absurd cc
+
+few_digits : (value : List ℕ) (n : ℕ) → length_in value ≡ Some n → n ≤ 256
+few_digits value n e =
+    let is = some_of (ltb 0 (length value) && leb (length value) 4 && list_all is_ascii_digit value && leb (digits_value 10 value) 256) (digits_value 10 value) n e in
+    let small : leb (digits_value 10 value) 256 ≡ true = both_true (ltb 0 (length value) && leb (length value) 4 && list_all is_ascii_digit value) (leb (digits_value 10 value) 256) is.0 in
+    let le : digits_value 10 value ≤ 256 = search (rules, tests) in
+    omega (arith, is.1)
+
+few_told : (values : List (List ℕ)) (n : ℕ) → told_length values ≡ Some n → n ≤ 256
+few_told [] n e = let zero : 0 ≡ n = cc in omega arith
+few_told (value ∷ []) n e = few_digits value n e
+few_told (value ∷ other ∷ more) n e = absurd cc
+
+few_allowed : (method : List ℕ) (told : Option ℕ) (n : ℕ) → ((m : ℕ) → told ≡ Some m → m ≤ 256) → where_allowed method told ≡ Some n → n ≤ 256
+few_allowed method None n few e = absurd cc
+few_allowed method (Some m) n few e =
+    let is = some_of (eqb m 0 || bytes_eq method (codes "PUT")) m n e in
+    omega (arith, is.1, few m refl)
+
+few_asked : (codings : List (List ℕ)) (told : Option ℕ) (n : ℕ) → ((m : ℕ) → told ≡ Some m → m ≤ 256) → unless_coded codings told ≡ Some n → n ≤ 256
+few_asked [] told n few e = few n e
+few_asked (coding ∷ more) told n few e = absurd cc
+
+pub asked_few : (method : List ℕ) (fields : List (List ℕ × List ℕ)) (n : ℕ) → asked_length method fields ≡ Some n → n ≤ 256
+asked_few method fields n e =
+    few_asked (values_of (codes "transfer-encoding") fields) (where_allowed method (told_length (values_of (codes "content-length") fields))) n
+    (λ m h. few_allowed method (told_length (values_of (codes "content-length") fields)) m (few_told (values_of (codes "content-length") fields)) h) e
+
+-- a request has at most 16,640 bytes
+pub room_for : (bytes : List ℕ) (fields : List HeaderSpan) (found : Head) → IsHeadAt bytes fields found → 0 < found.body_len - length found.rest.now
+    → length bytes + (found.body_len - length found.rest.now) ≤ 16640
+room_for bytes fields found at some =
+    let few = asked_few at.head.method (fields_of at.head) found.body_len at.asks.asked in
+    let short = at.cut.short in
+    let len : length bytes ≡ length found.piece.now + length found.rest.now = rw at.parts (length-append found.piece.now found.rest.now) in
+    omega arith

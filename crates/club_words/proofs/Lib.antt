@@ -1,0 +1,11 @@
+mod Pieces
+mod FieldValues
+mod DigitLemmas
+mod Segments
+mod Places
+mod FrontLemmas
+mod FrameLemmas
+mod ReadingLemmas
+mod WholeLemmas
+mod BodyLemmas
+mod LengthLemmas

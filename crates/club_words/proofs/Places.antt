@@ -1,0 +1,15 @@
+-- Paths with more parts than a place has.
+use Rattle.std.proofs.Common.{◌≡◌, List, ◌∷◌, ℕ, Bor, Option, Some, None, true, refl}
+use Rattle.std.specs.Option.{is_some}
+use Rattle.club_values.specs.declared.slot.Slot.{Slot}
+use Rattle.club_words.specs.Parts.{segments, parts_of}
+use Rattle.club_words.specs.Path.{at_slot, account_at}
+use Rattle.club_words.proofs.Segments.{first_part}
+
+pub past_number : (slot : Slot) (word number : List ℕ) (rest : Option (Bor (List ℕ))) → is_some rest ≡ true → at_slot slot (word ∷ number ∷ parts_of rest) ≡ None
+past_number slot word number None e = cc
+past_number slot word number (Some path) e = let first = first_part path.now in rw first.2 refl
+
+pub past_account : (word : List ℕ) (rest : Option (Bor (List ℕ))) → is_some rest ≡ true → account_at word (parts_of rest) ≡ None
+past_account word None e = cc
+past_account word (Some path) e = let first = first_part path.now in rw first.2 refl

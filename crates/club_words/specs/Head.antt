@@ -1,0 +1,19 @@
+-- The head of a request, cut out of bytes.
+use Rattle.std.specs.Prelude.{◌≡◌, ℕ, ◌<◌, ◌≤◌, true, false, List, [], length, take, nat_eq, codes}
+use Rattle.std.specs.List.{ends_with}
+use Rattle.httparse.specs.Grammar.{RequestHead, ReadsRequest}
+
+-- the end of a line and an empty line
+abbrev pub empty_line : List ℕ
+empty_line = codes "\r\n\r\n"
+
+-- the shortest beginning that ends with an empty line, of at most 16,384 bytes (ours)
+pub record IsPiece (piece : List ℕ) : Type 0 where
+  pub ends : ends_with nat_eq piece empty_line ≡ true
+  pub shortest : (n : ℕ) → n < length piece → ends_with nat_eq (take n piece) empty_line ≡ false
+  pub short : length piece ≤ 16384
+
+-- the piece is, whole, the head of a request (RFC 9112, as httparse reads it) with at most 32 fields (ours)
+pub record IsHeadOf (piece : List ℕ) (head : RequestHead) : Type 0 where
+  pub reads : ReadsRequest piece head []
+  pub few : length head.fields ≤ 32

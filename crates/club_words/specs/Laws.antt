@@ -1,0 +1,14 @@
+-- Laws of the readings.
+use Rattle.std.specs.Prelude.{◌≡◌, ℕ, List, ◌++◌, Result}
+use Rattle.club_core.specs.declared.refusal.Refusal.{Refusal}
+use Rattle.club_words.specs.Frame.{IsWhole}
+use Rattle.club_words.specs.Words.{Said, IsReading}
+
+-- bytes have at most one reading
+abbrev pub OneReading : Type 0
+OneReading = (bytes : List ℕ) (a b : Result Said Refusal) → IsReading bytes a → IsReading bytes b → a ≡ b
+
+-- a whole request keeps its reading, whatever follows
+abbrev pub WholeKeepsItsReading : Type 0
+WholeKeepsItsReading =
+    (bytes more : List ℕ) (answer : Result Said Refusal) → IsWhole bytes → IsReading bytes answer → IsReading (bytes ++ more) answer

@@ -1,0 +1,12 @@
+pub mod Head
+pub mod Fields
+pub mod Length
+pub mod Frame
+pub mod Front
+pub mod Body
+pub mod Pass
+pub mod Refused
+pub mod Parts
+pub mod Path
+pub mod Words
+pub mod Laws

@@ -1,0 +1,13 @@
+//! Laws of the readings, each the contract of a function that does nothing.
+
+ghost use Rattle.club_words.specs.Laws.{OneReading, WholeKeepsItsReading};
+
+/// Bytes have at most one reading.
+pub fn one_reading()
+    ensures { OneReading }
+{}
+
+/// A whole request keeps its reading, whatever follows.
+pub fn whole_keeps_its_reading()
+    ensures { WholeKeepsItsReading }
+{}

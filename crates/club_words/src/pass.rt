@@ -1,0 +1,37 @@
+//! The pass of a request.
+
+ghost use Rattle.std.specs.Prelude.{◌≡◌, length, map, All, option_map};
+ghost use Rattle.httparse.specs.Spans.{IsHeaderWithin, header_bytes};
+ghost use Rattle.club_words.specs.Pass as spec;
+
+use crate::fields::{Values, values_of};
+use httparse::spans::HeaderSpan;
+
+/// `Bearer` and one space.
+const SCHEME_LEN: usize = 7;
+
+/// The text of the pass that a field's value holds.
+fn bearer_text(value: &[u8]) -> Option<&[u8]>
+    ensures { option_map (λ text. text.now) result ≡ spec.bearer_text value.now }
+{
+    if value.len() < SCHEME_LEN {
+        return None;
+    }
+    let (scheme, text) = value.split_at(SCHEME_LEN);
+    if scheme.eq_ignore_ascii_case(b"bearer ") {
+        Some(text)
+    } else {
+        None
+    }
+}
+
+/// The text of the pass, where exactly one field has one.
+pub(crate) fn pass_of<'a>(head: &'a [u8], fields: &[HeaderSpan]) -> Option<&'a [u8]>
+    requires { All (IsHeaderWithin (length head.now)) fields.now }
+    ensures { option_map (λ text. text.now) result ≡ spec.pass_of (map (header_bytes head.now) fields.now) }
+{
+    match values_of(head, fields, b"authorization") {
+        Values::One(value) => bearer_text(value),
+        _ => None,
+    }
+}
