@@ -108,7 +108,7 @@ refuse_memory() {
         [ -e told ] || break
         number=$((number + step))
     done
-    echo "store_walk${1:+ $*}: $count of the runs to allocation $number ended for want of memory"
+    echo "store_walk${1:+ $*}: $count of the runs to allocation $number ended for out of memory"
 }
 
 refuse_storage() {
