@@ -110,13 +110,19 @@ fn fold<'a, S: FieldSource<'a>>(fields: &mut S) -> u8 {
 
 // Whether the signature is that of the identifier and the caveats before it.
 fn is_signed<'a, S: FieldSource<'a>>(fields: &mut S) -> bool {
-    let mut chain = Chain::start(ROOT, b"");
+    let mut chain: Option<Chain> = None;
     while let Some(field) = fields.next() {
         match field {
             Field::Location(_) => {}
-            Field::Identifier(identifier) => chain = Chain::start(ROOT, identifier),
-            Field::Caveat(caveat) => chain.add(caveat),
-            Field::Signature(signature) => return same(&chain.signature(), &signature),
+            Field::Identifier(identifier) => chain = Some(Chain::start(ROOT, identifier)),
+            Field::Caveat(caveat) => {
+                if let Some(begun) = &mut chain {
+                    begun.add(caveat);
+                }
+            }
+            Field::Signature(signature) => {
+                return chain.is_some_and(|signed| same(&signed.signature(), &signature));
+            }
         }
     }
     false

@@ -1,5 +1,5 @@
 -- Words that clap reads name one of the program's commands.
-use Rattle.std.proofs.Common.{◌≡◌, ◌⊎◌, ◌∙◌, inl, inr, ℕ, Bool, true, false, List, [], ◌∷◌, Option, Some, None, is_some, refl, sym, ap, codes, cond, find, fold, not, option_map, ◌&&◌, ◌||◌, ◌++◌}
+use Rattle.std.proofs.Common.{◌≡◌, ◌⊎◌, ◌∙◌, inl, inr, ℕ, Bool, true, false, List, [], ◌∷◌, Option, Some, None, is_some, refl, sym, ap, codes, cond, find, fold, not, option_map, IsSomeAnd, ◌&&◌, ◌||◌, ◌++◌}
 use Rattle.std.specs.Str.{bytes_eq}
 use Rattle.std.proofs.lemmas.Slice.Eq.{bytes_eq-Decides}
 use Rattle.clap.specs.Words.{App, Kinds, Row, Rule, Shape, Text, built}
@@ -15,8 +15,8 @@ use Rattle.std.specs.List.{list_any, slice_index_or}
 use Rattle.clap.specs.declared.error.kind.ErrorKind.TheVariants.{DisplayHelp, InvalidSubcommand}
 use Rattle.clap.specs.Faults.{built_fault, defaults_fault, entered_fault, settle_fault, check_fault, other_fault, turn_fault, walk_fault, word_fault}
 use Rattle.pass_commands.specs.Application.{application, refusals, subcommand}
-use Rattle.pass_commands.specs.Laws.{WordsNameACommand}
-use Rattle.pass_commands.specs.Words.{IsCommandName}
+use Rattle.pass_commands.specs.Laws.{HasCommands, IsNameAmong, WordsEnterACommand, WordsNameACommand}
+use Rattle.pass_commands.specs.Words.{FindsCommand, IsCommandName}
 
 -- of two lists of kinds in turn, both are empty where the whole is
 or_else_nil : (a b : Kinds) → or_else a b ≡ [] → (a ≡ []) × (b ≡ [])
@@ -160,7 +160,7 @@ found_among name help (x ∷ xs) named bare other = go (answers_to name (label_o
     go true e = refl
     go false e = e
 
--- ---- the application
+-- ---- the commands of an application
 
 IsOneOf : Shape → List Shape → Type 0
 IsOneOf s [] = ⊥
@@ -181,60 +181,57 @@ some_of : {A B : Type 0} (f : A → B) (o : Option A) → is_some (option_map f 
 some_of f None e = cc
 some_of f (Some x) e = refl
 
+name_of_one : (s : Shape) (commands : List Shape) → IsOneOf s commands → IsNameAmong commands s.name
+unfolding IsOneOf
+name_of_one s [] one = absurd one
+name_of_one s (x ∷ xs) (inl same) = inl (ap (λ (x : Shape). x.name) same)
+name_of_one s (x ∷ xs) (inr other) = inr (name_of_one s xs other)
+
+-- what a stop that isn't at `help` enters is a command
+built_names : (app : App) (commands : List Shape) (help : Shape) → HasCommands app commands help
+    → (stop : Option (Text × List Text)) → StopsNotAtHelp stop → is_some (entered (built app) stop) ≡ true
+    → (s : Shape) × (rows : List Row) × (entered (built app) stop ≡ Some (s.name, rows)) × IsNameAmong commands s.name
+built_names app commands help has None other met = cc
+built_names app commands help has (Some p) other met =
+    let among = ap (find (λ s. answers_to p.0 (label_of s))) has.all ∙ found_among p.0 help commands has.named has.bare other in
+    let found = found_one (λ s. answers_to p.0 (label_of s)) commands (ap is_some (sym among) ∙ some_of (λ s. rows_at s p.1) _ met) in
+    (found.0, (rows_at found.0 p.1).1, ap (option_map (λ s. rows_at s p.1)) (among ∙ found.1), name_of_one found.0 commands found.2)
+
+pub words_enter_a_command : WordsEnterACommand
+words_enter_a_command app commands help has words clear =
+    let met = enters_command (built app) (argument_words app words) has.helps has.needs clear in
+    let named = built_names app commands help has _ met.1 met.0 in
+    rw named.2 named.3
+
+-- ---- the program's own
+
 abbrev sub_at : ℕ → Shape
 sub_at i = slice_index_or (built application).subs i help_shape
 
 abbrev commands : List Shape
 commands = sub_at 0 ∷ sub_at 1 ∷ sub_at 2 ∷ sub_at 3 ∷ sub_at 4 ∷ []
 
-subs_built : (built application).subs ≡ commands ++ sub_at 5 ∷ []
+has_commands : HasCommands application commands (sub_at 5)
 unfolding application
-subs_built = refl
+has_commands = record { helps = refl; needs = refl; all = refl; named = refl; bare = refl }
 
 names_built : ((sub_at 0).name ≡ codes "mint") × ((sub_at 1).name ≡ codes "show") × ((sub_at 2).name ≡ codes "narrow")
     × ((sub_at 3).name ≡ codes "convert") × ((sub_at 4).name ≡ codes "verify")
 unfolding application
 names_built = (refl, refl, refl, refl, refl)
 
-help_built : ((sub_at 5).name ≡ codes "help") × ((sub_at 5).aliases ≡ [])
-unfolding application
-help_built = (refl, refl)
+name_of_command : (name : Text) → IsNameAmong commands name → IsCommandName name
+name_of_command name (inl e) = inl (e ∙ names_built.0)
+name_of_command name (inr (inl e)) = inr (inl (e ∙ names_built.1))
+name_of_command name (inr (inr (inl e))) = inr (inr (inl (e ∙ names_built.2)))
+name_of_command name (inr (inr (inr (inl e)))) = inr (inr (inr (inl (e ∙ names_built.3))))
+name_of_command name (inr (inr (inr (inr (inl e))))) = inr (inr (inr (inr (e ∙ names_built.4))))
+name_of_command name (inr (inr (inr (inr (inr none))))) = absurd none
 
-top_built : ((built application).top.disable_help_subcommand ≡ false) × ((built application).top.subcommand_required ≡ true)
-unfolding application
-top_built = (refl, refl)
-
-name_of_one : (s : Shape) → IsOneOf s commands → IsCommandName s.name
-unfolding IsOneOf
-name_of_one s one = elim one [
-  | inl e ↦ inl (ap (λ (x : Shape). x.name) e ∙ names_built.0)
-  | inr one ↦ elim one [
-    | inl e ↦ inr (inl (ap (λ (x : Shape). x.name) e ∙ names_built.1))
-    | inr one ↦ elim one [
-      | inl e ↦ inr (inr (inl (ap (λ (x : Shape). x.name) e ∙ names_built.2)))
-      | inr one ↦ elim one [
-        | inl e ↦ inr (inr (inr (inl (ap (λ (x : Shape). x.name) e ∙ names_built.3))))
-        | inr one ↦ elim one [
-          | inl e ↦ inr (inr (inr (inr (ap (λ (x : Shape). x.name) e ∙ names_built.4))))
-          | inr none ↦ absurd none
-        ]
-      ]
-    ]
-  ]
-]
-
--- what a stop that isn't at `help` enters is a command
-built_names : (stop : Option (Text × List Text)) → StopsNotAtHelp stop → is_some (entered (built application) stop) ≡ true
-    → (s : Shape) × (rows : List Row) × (entered (built application) stop ≡ Some (s.name, rows)) × IsCommandName s.name
-built_names None other met = cc
-built_names (Some p) other met =
-    let among = ap (find (λ s. answers_to p.0 (label_of s))) subs_built ∙ found_among p.0 (sub_at 5) commands help_built.0 help_built.1 other in
-    let found = found_one (λ s. answers_to p.0 (label_of s)) commands (ap is_some (sym among) ∙ some_of (λ s. rows_at s p.1) _ met) in
-    (found.0, (rows_at found.0 p.1).1, ap (option_map (λ s. rows_at s p.1)) (among ∙ found.1), name_of_one found.0 found.2)
+found_command : (found : Option (Text × List Row)) → IsSomeAnd found (λ named. IsNameAmong commands named.0) → FindsCommand found
+found_command None h = absurd h
+found_command (Some p) h = name_of_command p.0 h
 
 pub words_name_a_command : WordsNameACommand
 unfolding refusals subcommand
-words_name_a_command words clear =
-    let met = enters_command (built application) (argument_words application words) top_built.0 top_built.1 clear in
-    let named = built_names _ met.1 met.0 in
-    rw named.2 named.3
+words_name_a_command words clear = found_command _ (words_enter_a_command application commands (sub_at 5) has_commands words clear)

@@ -1,7 +1,7 @@
 -- Laws of the definitions.
-use Rattle.std.specs.Prelude.{◌≡◌, ◌↔◌, ℕ, List, [], ◌∷◌, ◌++◌, Some, Ok, true, codes}
+use Rattle.std.specs.Prelude.{◌≡◌, ◌↔◌, ◌⊎◌, ℕ, List, [], ◌∷◌, ◌++◌, Some, Ok, true, false, codes, IsSomeAnd}
 use Rattle.std.specs.List.{list_all}
-use Rattle.clap.specs.Words.{Text}
+use Rattle.clap.specs.Words.{App, Shape, Text, built, fault_of, subcommand_of}
 use Rattle.pass_forms.specs.declared.form.Form.{Form}
 use Rattle.pass_forms.specs.declared.form.Form.TheVariants.{V2}
 use Rattle.pass_forms.specs.Pass.{IsSigned, Plain}
@@ -16,6 +16,24 @@ use Rattle.pass_commands.specs.declared.answer.Outcome.TheVariants.{Done}
 use Rattle.pass_commands.specs.declared.command.Command.TheVariants.{Mint, Show, Narrow, Convert, Verify}
 
 -- ---- words
+
+-- The commands of an application as clap builds it, of which one must be named; clap's own `help` comes behind them.
+pub record HasCommands (app : App) (commands : List Shape) (help : Shape) : Type 0 where
+  pub helps : (built app).top.disable_help_subcommand ≡ false
+  pub needs : (built app).top.subcommand_required ≡ true
+  pub all : (built app).subs ≡ commands ++ help ∷ []
+  pub named : help.name ≡ codes "help"
+  pub bare : help.aliases ≡ []
+
+-- the name of one of them
+abbrev pub IsNameAmong : List Shape → Text → Type 0
+IsNameAmong [] name = ⊥
+IsNameAmong (command ∷ commands) name = (name ≡ command.name) ⊎ IsNameAmong commands name
+
+-- Words that clap reads of any such application enter one of its commands, which isn't `help`.
+abbrev pub WordsEnterACommand : Type 0
+WordsEnterACommand = (app : App) (commands : List Shape) (help : Shape) → HasCommands app commands help → (words : List Text)
+    → fault_of app words ≡ [] → IsSomeAnd (subcommand_of app words) (λ found. IsNameAmong commands found.0)
 
 -- Words that clap reads name a command.
 abbrev pub WordsNameACommand : Type 0

@@ -6,7 +6,7 @@ mod application;
 mod caveats;
 mod command;
 mod convert;
-mod form_name;
+mod form_names;
 mod input;
 pub mod laws;
 mod mint;
@@ -22,4 +22,8 @@ mod verify;
 
 pub use answer::{Fault, Outcome};
 pub use application::not_text;
+pub use form_names::{form_name, form_named};
+pub use options::value_of;
+pub use output::write_text;
+pub use root::Root;
 pub use tool::run;

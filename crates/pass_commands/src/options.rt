@@ -9,7 +9,7 @@ ghost use Rattle.pass_commands.specs.Words.{AnswersAsked, caveats_in, form_in, r
 use crate::answer::Fault;
 use crate::application::refusal;
 use crate::caveats::Caveats;
-use crate::form_name::form_named;
+use crate::form_names::form_named;
 use crate::root::Root;
 use clap::ArgMatches;
 use clap::error::ErrorKind;

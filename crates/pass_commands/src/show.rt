@@ -7,7 +7,7 @@ ghost use Rattle.pass_commands.specs.Answer.{shown_of};
 ghost use Rattle.pass_commands.specs.Shown as spec;
 
 use crate::answer::{Answer, Outcome};
-use crate::form_name::form_name;
+use crate::form_names::form_name;
 use crate::input::read_pass;
 use pass_forms::{Form, FormFault, Pass};
 use std::alloc::{AllocError, Global};

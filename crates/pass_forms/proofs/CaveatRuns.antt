@@ -1,7 +1,6 @@
 -- Going over caveats one by one, in whichever layout: what was found so far and what is left are the whole.
-use Rattle.std.proofs.Common.{◌≡◌, ℕ, zero, suc, ◌+◌, Bool, true, false, ◌||◌, List, [], ◌∷◌, ◌++◌, length, map, Option, Some, None, option_map, refl, sym, ap, ◌∙◌, append_assoc, subst, arith}
+use Rattle.std.proofs.Common.{◌≡◌, ℕ, zero, suc, ◌+◌, Bool, true, false, ◌||◌, List, [], ◌∷◌, length, map, Option, Some, None, option_map, refl, sym, ◌∙◌, subst, arith}
 use Rattle.std.specs.List.{list_any}
-use Rattle.std.proofs.lemmas.List.{append-nil}
 use Rattle.pass_forms.specs.Caveats.{Counts, and_others, caveats_at, seen}
 use Rattle.pass_forms.specs.Pass.{WideCaveat, is_third_party, first_party_caveat}
 

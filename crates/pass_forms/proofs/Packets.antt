@@ -1,8 +1,9 @@
 -- A packet that is read is the packet that was written, and what was written is read, whatever follows.
-use Rattle.std.proofs.Common.{◌≡◌, ℕ, zero, suc, ◌+◌, ◌-◌, ◌^◌, ◌<◌, ◌≤◌, Bool, true, false, cond, leb, nat_eq, List, [], ◌∷◌, ◌++◌, length, take, drop, Option, Some, None, refl, sym, ap, ◌∙◌, append_assoc, arith}
+use Rattle.std.proofs.Common.{◌≡◌, ℕ, ◌+◌, ◌-◌, ◌^◌, ◌<◌, ◌≤◌, Bool, true, false, cond, leb, nat_eq, List, [], ◌∷◌, ◌++◌, length, take, drop, Option, Some, None, refl, sym, ap, ◌∙◌, append_assoc, arith}
 use Rattle.std.specs.Cmp.Lexicographic.{pointwise}
 use Rattle.std.proofs.lemmas.Bool.{leb-true, le-leb}
-use Rattle.std.proofs.lemmas.List.{take-take, take_at, drop_at, take-append-drop, length-append, length-take, length-drop}
+use Rattle.std.proofs.Math.Seq.{take-append-add}
+use Rattle.std.proofs.lemmas.List.{drop-take, take-take, take_at, drop_at, take-append-drop, length-append, length-take, length-drop}
 use Rattle.std.proofs.lemmas.Slice.Eq.{bytes_eq-Decides}
 use Rattle.pass_forms.specs.V1.{four_digits, packet_len, packet, FitsPacket}
 use Rattle.pass_forms.specs.Parts.{◌>>=◌, after_prefix, before_suffix}
@@ -113,3 +114,26 @@ packet_other key other text rest fits differs =
     let front : take n (packet other text ++ rest) ≡ packet other text = take_at (packet other text) rest n len in
     let inner : drop 4 (packet other text) ≡ body = drop_at (four_digits n) body 4 refl in
     rw (read, within, front, inner, differs) refl
+
+-- A length that the key doesn't fit into is no packet's.
+none_so_short : (key bytes : List ℕ) (n : ℕ) (found : Option (List ℕ × List ℕ)) → packet_at key bytes ≡ found → len_at bytes ≡ Some n → n < 4 + length key → found ≡ None
+none_so_short key bytes n None e told short = refl
+none_so_short key bytes n (Some (text, rest)) e told short =
+    let parts = packet_takes key bytes text rest e in
+    let body = key ++ (text ++ 10 ∷ []) in
+    let again : len_at bytes ≡ Some (packet_len key text) = ap len_at (parts.0 ∙ append_assoc (four_digits (packet_len key text)) body rest) ∙ len_again (packet_len key text) (body ++ rest) parts.1 in
+    let same : n ≡ packet_len key text = some_is n (packet_len key text) (sym told ∙ again) in
+    absurd (omega (arith, same, short))
+
+pub too_short : (key bytes : List ℕ) (n : ℕ) → len_at bytes ≡ Some n → n < 4 + length key → packet_at key bytes ≡ None
+too_short key bytes n told short = none_so_short key bytes n (packet_at key bytes) refl told short
+
+-- What the length cuts of the bytes behind the key is the packet's data, with its end.
+pub packet_of_body : (key bytes body : List ℕ) (n m : ℕ) → after_prefix key (drop 4 bytes) ≡ Some body → len_at bytes ≡ Some n → n ≡ 4 + (length key + m) → n ≤ length bytes →
+    packet_at key bytes ≡ (before_suffix (10 ∷ []) (take m body) >>= λ text. Some (text, drop n bytes))
+unfolding packet_at
+packet_of_body key bytes body n m begins told is_len within =
+    let leads : drop 4 bytes ≡ key ++ body = after_prefix_takes key (drop 4 bytes) body begins in
+    let cut : drop 4 (take n bytes) ≡ key ++ take m body =
+    ap (λ (x : ℕ). drop 4 (take x bytes)) is_len ∙ drop-take 4 (length key + m) bytes ∙ ap (take (length key + m)) leads ∙ take-append-add key body m in
+    rw (told, le-leb n (length bytes) within, cut, after_prefix_again key (take m body)) refl

@@ -1,5 +1,5 @@
 -- What is written of a pass in V2.
-use Rattle.std.proofs.Common.{◌≡◌, ◌↔◌, ℕ, ◌≤◌, List, [], ◌∷◌, length, Ok, Some, refl, arith}
+use Rattle.std.proofs.Common.{◌≡◌, ◌↔◌, ℕ, List, [], ◌∷◌, length, Ok, Some, refl}
 use Rattle.std.specs.Prelude.{unwrap_or}
 use Rattle.pass_forms.specs.declared.form.Form.TheVariants.{V2}
 use Rattle.pass_forms.specs.Envelope.{form_of}

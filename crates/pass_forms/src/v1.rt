@@ -22,6 +22,9 @@ const CAVEAT_LOCATION: &[u8] = b"cl ";
 
 pub const SIGNATURE: &[u8] = b"signature ";
 
+// The digits of a packet's length, at its front.
+const LEN_DIGITS: usize = 4;
+
 fn digit_value(byte: u8) -> Option<u8>
     ensures { result ≡ reading.digit_value byte }
 {
@@ -51,21 +54,18 @@ fn packet_len(bytes: &[u8]) -> Option<usize>
 fn first_packet<'a>(key: &[u8], bytes: &'a [u8]) -> Option<(&'a [u8], &'a [u8])>
     ensures { option_map (λ found. (found.0.now, found.1.now)) result ≡ reading.packet_at key.now bytes.now }
 {
-    // Most packets are of another key, which is seen before the length is read.
-    if bytes.len() >= 4 {
-        let _body = after_prefix(key, &bytes[4..])?;
+    if bytes.len() < LEN_DIGITS {
+        return None;
     }
+    // Most packets are of another key, which is seen before the length is read.
+    let body = after_prefix(key, &bytes[LEN_DIGITS..])?;
     let len = packet_len(bytes)?;
+    let body_len = len.checked_sub(LEN_DIGITS)?.checked_sub(key.len())?;
     if len > bytes.len() {
         return None;
     }
-    let (whole, rest) = bytes.split_at(len);
-    if len < 4 {
-        return None;
-    }
-    let body = after_prefix(key, &whole[4..])?;
-    let text = before_suffix(b"\n", body)?;
-    Some((text, rest))
+    let text = before_suffix(b"\n", &body[..body_len])?;
+    Some((text, &bytes[len..]))
 }
 
 // The same for a packet that may be left out: nothing is taken off where there is none.

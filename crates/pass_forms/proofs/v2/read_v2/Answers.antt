@@ -1,4 +1,4 @@
-use Rattle.std.proofs.Common.{◌≡◌, length, Ok, ap, ◌∙◌, subst, sym}
+use Rattle.std.proofs.Common.{length, Ok, ap, ◌∙◌, subst, sym}
 use Rattle.pass_forms.specs.Pass.{Plain}
 use Rattle.pass_forms.specs.Reading.{IsReading}
 use Rattle.pass_forms.specs.V2.{SpellsV2}

@@ -1,5 +1,4 @@
-use Rattle.std.proofs.Common.{rules, ◌≡◌, length, Err, Ok}
-use Rattle.pass_forms.specs.FieldSource.{IsOpening, opened}
+use Rattle.std.proofs.Common.{rules, length, Err, Ok}
 use Rattle.pass_forms.specs.Reading.{IsReading}
 use Rattle.pass_forms.specs.V1.{SpellsV1}
 use Rattle.pass_forms.specs.V1Reading.{reading_v1}

@@ -1,5 +1,4 @@
-use Rattle.std.proofs.Common.{rules, ◌≡◌, length, Err, Ok}
-use Rattle.pass_forms.specs.FieldSource.{IsOpening, opened}
+use Rattle.std.proofs.Common.{rules, length, Err, Ok}
 use Rattle.pass_forms.specs.Reading.{IsReading}
 use Rattle.pass_forms.specs.V2.{SpellsV2}
 use Rattle.pass_forms.specs.V2Reading.{reading_v2}
