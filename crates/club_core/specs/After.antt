@@ -1,11 +1,12 @@
 -- The club after a change (ours).
-use Rattle.std.specs.Prelude.{ℕ, ◌+◌, ◌==◌, ◌&&◌, ◌||◌, not, Bool, List, [], ◌∷◌, ◌++◌, map, if◌then◌else◌}
+use Rattle.std.specs.Prelude.{ℕ, ◌+◌, ◌==◌, ◌&&◌, ◌||◌, not, Bool, List, [], ◌∷◌, ◌++◌, map, Some, if◌then◌else◌}
 use Rattle.std.specs.Str.{bytes_eq}
 use Rattle.club_rows.specs.declared.member.Member.{Member}
 use Rattle.club_rows.specs.declared.key.Key.{Key}
+use Rattle.club_rows.specs.declared.key.OlderRoot.{OlderRoot}
 use Rattle.club_rows.specs.declared.booking.Booking.{Booking}
 use Rattle.club_core.specs.declared.change.Change.{Change}
-use Rattle.club_core.specs.declared.change.Change.TheVariants.{InsertMember, AddCredit, InsertFacility, InsertKey, MarkRevoked, MarkClosed, InsertBooking, MarkCancelled}
+use Rattle.club_core.specs.declared.change.Change.TheVariants.{InsertMember, AddCredit, InsertFacility, InsertKey, MarkRevoked, ReplaceRoot, MarkClosed, InsertBooking, MarkCancelled}
 use Rattle.club_core.specs.Club.{Club}
 use Rattle.club_core.specs.Sums.{is_under}
 
@@ -16,6 +17,16 @@ credited name points member =
 
 abbrev pub revoked : List ℕ → Key → Key
 revoked name key = record key { revoked = key.revoked || bytes_eq key.name name }
+
+abbrev pub good_until : ℕ → List ℕ → OlderRoot
+good_until until root = record { root = root; until = until }
+
+-- a key's row after a rotation under this name: the row's root becomes the older one, and the new root takes its place
+abbrev pub rotated : List ℕ → List ℕ → ℕ → Key → Key
+rotated name root until key = record key {
+  root = if bytes_eq key.name name then root else key.root;
+  older = if bytes_eq key.name name then Some (good_until until key.root) else key.older;
+}
 
 -- whether a cancellation under this key and number marks the booking
 abbrev pub is_marked : List ℕ → ℕ → Booking → Bool
@@ -33,6 +44,7 @@ after (AddCredit name points) club = record club { members = map (credited name 
 after (InsertFacility facility) club = record club { facilities = club.facilities ++ facility ∷ [] }
 after (InsertKey key) club = record club { keys = club.keys ++ key ∷ [] }
 after (MarkRevoked name) club = record club { keys = map (revoked name) club.keys }
+after (ReplaceRoot name root until) club = record club { keys = map (rotated name root until) club.keys }
 after (MarkClosed slot) club = record club { closed = club.closed ++ slot ∷ [] }
 after (InsertBooking booking) club = record club { bookings = club.bookings ++ booking ∷ [] }
 after (MarkCancelled key number refund) club = record club { bookings = map (cancelled key number refund) club.bookings }

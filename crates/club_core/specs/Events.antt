@@ -1,11 +1,12 @@
 -- The limits of the values that an event holds (ours).
+use Rattle.club_values.specs.Moment.{IsMoment}
 use Rattle.club_values.specs.Name.{IsName}
 use Rattle.club_rows.specs.Limits.{IsBookingNumber, IsGuests, IsRoot}
 use Rattle.club_rows.specs.Rows.{IsSlot}
 use Rattle.club_core.specs.declared.request.Request.{Request}
 use Rattle.club_core.specs.declared.request.Request.TheVariants as asked
 use Rattle.club_core.specs.declared.command.Command.{Command}
-use Rattle.club_core.specs.declared.command.Command.TheVariants.{AddMember, Credit, AddFacility, AddKey, RevokeKey, CloseSlot}
+use Rattle.club_core.specs.declared.command.Command.TheVariants.{AddMember, Credit, AddFacility, AddKey, RevokeKey, RotateKey, CloseSlot}
 use Rattle.club_core.specs.Run.{Event, Asked, Ordered}
 
 abbrev pub IsRequest : Request → Type 0
@@ -21,9 +22,10 @@ IsCommand (Credit member points) = IsName member
 IsCommand (AddFacility name kind places price opens shuts) = IsName name
 IsCommand (AddKey name member root) = IsName name × IsName member × IsRoot root
 IsCommand (RevokeKey name) = IsName name
+IsCommand (RotateKey name root until) = IsName name × IsRoot root × IsMoment until
 IsCommand (CloseSlot slot) = IsSlot slot
 
--- names are names, slots are slots, numbers, guests and roots are within their limits; a moment may be any
+-- names are names, slots are slots, numbers, guests and roots are within their limits; the moment of a request may be any
 abbrev pub IsEvent : Event → Type 0
 IsEvent (Asked words moment) = IsRequest words.request
 IsEvent (Ordered command) = IsCommand command

@@ -1,14 +1,16 @@
 -- The orders of the office (ours). The first line that fits refuses.
 use Rattle.std.specs.Prelude.{ℕ, ◌+◌, ◌==◌, ◌&&◌, ◌||◌, not, Bool, false, List, [], ◌∷◌, nat_lt, nat_le, is_some, Option, Some, None, Result, Ok, Err}
+use Rattle.std.specs.Str.{bytes_eq}
 use Rattle.club_values.specs.declared.slot.Slot.{Slot}
 use Rattle.club_rows.specs.declared.member.Member.{Member}
 use Rattle.club_rows.specs.declared.facility.Facility.{Facility}
 use Rattle.club_rows.specs.declared.key.Key.{Key}
 use Rattle.club_rows.specs.Facility.{is_open_at}
+use Rattle.club_rows.specs.Limits.{credited_limit, quota_limit, places_limit, price_limit, shutting_limit}
 use Rattle.club_core.specs.declared.change.Change.{Change}
-use Rattle.club_core.specs.declared.change.Change.TheVariants.{InsertMember, AddCredit, InsertFacility, InsertKey, MarkRevoked, MarkClosed}
+use Rattle.club_core.specs.declared.change.Change.TheVariants.{InsertMember, AddCredit, InsertFacility, InsertKey, MarkRevoked, ReplaceRoot, MarkClosed}
 use Rattle.club_core.specs.declared.command.Command.{Command}
-use Rattle.club_core.specs.declared.command.Command.TheVariants.{AddMember, Credit, AddFacility, AddKey, RevokeKey, CloseSlot}
+use Rattle.club_core.specs.declared.command.Command.TheVariants.{AddMember, Credit, AddFacility, AddKey, RevokeKey, RotateKey, CloseSlot}
 use Rattle.club_core.specs.declared.command.OfficeFault.{OfficeFault}
 use Rattle.club_core.specs.declared.command.OfficeFault.TheVariants.{Exists, Unknown, OutOfRange, SlotInUse}
 use Rattle.club_core.specs.declared.order_view.OrderView.{OrderView}
@@ -29,18 +31,28 @@ order_view club (Credit name points) = rows_seen (member_named name club) None N
 order_view club (AddFacility name kind places price opens shuts) = rows_seen None None (facility_named name club)
 order_view club (AddKey name member root) = rows_seen (member_named member club) (key_named name club) None
 order_view club (RevokeKey name) = rows_seen None (key_named name club) None
+order_view club (RotateKey name root until) = rows_seen None (key_named name club) None
 order_view club (CloseSlot slot) =
     record { member = None; key = None; facility = facility_named slot.facility club; slot = slot_use club slot }
+
+-- the points of one credit
+abbrev pub points_limit : ℕ
+points_limit = 1_000_000
 
 abbrev pub credit_verdict : List ℕ → ℕ → Option Member → Result Change OfficeFault
 credit_verdict name points None = Err Unknown
 credit_verdict name points (Some member) =
-    first_of (line (nat_lt 999_999_999 (member.credited + points)) (Err OutOfRange) ∷ []) (Ok (AddCredit name points))
+    first_of (line (nat_lt credited_limit (member.credited + points)) (Err OutOfRange) ∷ []) (Ok (AddCredit name points))
 
--- places 1 to 50, price to 9,999, opening before shutting, to 24
+-- some places, opening before shutting, and all within the limits of a facility
 abbrev pub are_limits : ℕ → ℕ → ℕ → ℕ → Bool
 are_limits places price opens shuts =
-    nat_le 1 places && nat_le places 50 && nat_le price 9_999 && nat_lt opens shuts && nat_le shuts 24
+    nat_le 1 places && nat_le places places_limit && nat_le price price_limit && nat_lt opens shuts && nat_le shuts shutting_limit
+
+abbrev pub rotate_verdict : List ℕ → List ℕ → ℕ → Option Key → Result Change OfficeFault
+rotate_verdict name root until None = Err Unknown
+rotate_verdict name root until (Some key) =
+    first_of (line (bytes_eq key.root root) (Err Exists) ∷ []) (Ok (ReplaceRoot name root until))
 
 abbrev pub close_verdict : SlotUse → Slot → Option Facility → Result Change OfficeFault
 close_verdict held slot None = Err Unknown
@@ -56,11 +68,11 @@ close_verdict held slot (Some facility) =
 abbrev pub order_verdict : OrderView → Command → Result Change OfficeFault
 order_verdict view (AddMember name quota) =
     first_of
-    (line (nat_lt 99 quota) (Err OutOfRange) ∷ line (is_some view.member) (Err Exists) ∷ [])
+    (line (nat_lt quota_limit quota) (Err OutOfRange) ∷ line (is_some view.member) (Err Exists) ∷ [])
     (Ok (InsertMember (record { name = name; credited = 0; quota = quota })))
 order_verdict view (Credit name points) =
     first_of
-    (line (points == 0 || nat_lt 1_000_000 points) (Err OutOfRange) ∷ [])
+    (line (points == 0 || nat_lt points_limit points) (Err OutOfRange) ∷ [])
     (credit_verdict name points view.member)
 order_verdict view (AddFacility name kind places price opens shuts) =
     first_of
@@ -69,8 +81,9 @@ order_verdict view (AddFacility name kind places price opens shuts) =
 order_verdict view (AddKey name member root) =
     first_of
     (line (not (is_some view.member)) (Err Unknown) ∷ line (is_some view.key) (Err Exists) ∷ [])
-    (Ok (InsertKey (record { name = name; member = member; root = root; revoked = false })))
+    (Ok (InsertKey (record { name = name; member = member; root = root; older = None; revoked = false })))
 order_verdict view (RevokeKey name) = first_of (line (not (is_some view.key)) (Err Unknown) ∷ []) (Ok (MarkRevoked name))
+order_verdict view (RotateKey name root until) = rotate_verdict name root until view.key
 order_verdict view (CloseSlot slot) = close_verdict view.slot slot view.facility
 
 -- in a club

@@ -1,7 +1,9 @@
 -- A pass, as the club's rules see it (ours).
-use Rattle.std.specs.Prelude.{◌≡◌, ℕ, Bool, IsTrue, List, Option, Result}
+use Rattle.std.specs.Prelude.{◌≡◌, ◌⊎◌, ℕ, ◌||◌, Bool, false, IsTrue, List, Option, Some, Result}
+use Rattle.std.specs.Option.{option_map_or}
 use Rattle.pass_caveats.specs.declared.caveat.Caveat.{Caveat}
 use Rattle.club_rows.specs.declared.key.Key.{Key}
+use Rattle.club_rows.specs.Key.{older_root_at}
 use Rattle.club_core.specs.declared.form_fault.FormFault.{FormFault}
 use Rattle.club_core.specs.declared.request.Request.{Request}
 
@@ -17,9 +19,9 @@ pub record Words : Type 0 where
   pub pass : Result Pass FormFault
   pub request : Request
 
--- a root of the key's row that is good at the moment: a row has one root, which is good at each
+-- a root is good at a moment where it is the root of the key's row, or the older one and the moment is strictly earlier than its end
 abbrev pub IsGoodRoot : Key → ℕ → List ℕ → Type 0
-IsGoodRoot key moment root = root ≡ key.root
+IsGoodRoot key moment root = (root ≡ key.root) ⊎ (older_root_at key.older moment ≡ Some root)
 
 -- the pass is signed under a root of the key's row that is good at the moment
 pub record IsSignedUnder (pass : Pass) (key : Key) (moment : ℕ) : Type 0 where
@@ -29,4 +31,5 @@ pub record IsSignedUnder (pass : Pass) (key : Key) (moment : ℕ) : Type 0 where
 
 -- and the test for it
 abbrev pub is_signed_under : Pass → Key → ℕ → Bool
-is_signed_under pass key moment = pass.is_signed key.root
+is_signed_under pass key moment =
+    pass.is_signed key.root || option_map_or pass.is_signed (older_root_at key.older moment) false

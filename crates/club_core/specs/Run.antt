@@ -1,9 +1,9 @@
 -- The club as a machine: its steps, and its runs over lists of events (ours).
-use Rattle.std.specs.Prelude.{ℕ, Bool, List, [], ◌∷◌, Option, Some, None, Result, Ok, Err, if◌then◌else◌}
+use Rattle.std.specs.Prelude.{ℕ, List, [], ◌∷◌, Option, Some, None, Result, Ok, Err}
 use Rattle.club_core.specs.declared.verdict.Verdict.{Verdict}
 use Rattle.club_core.specs.declared.change.Change.{Change}
 use Rattle.club_core.specs.declared.command.Command.{Command}
-use Rattle.club_core.specs.declared.command.Command.TheVariants.{AddMember, Credit, AddFacility, AddKey, RevokeKey, CloseSlot}
+use Rattle.club_core.specs.declared.command.Command.TheVariants.{AddMember, Credit, AddFacility, AddKey, RevokeKey, RotateKey, CloseSlot}
 use Rattle.club_core.specs.declared.command.OfficeFault.{OfficeFault}
 use Rattle.club_core.specs.declared.event.EventReply.{EventReply}
 use Rattle.club_core.specs.declared.event.EventReply.TheVariants.{Replied, Answered}
@@ -29,13 +29,14 @@ abbrev pub after_change : Option Change → Club → Club
 after_change None club = club
 after_change (Some change) club = after change club
 
--- what the office is told of an order that is done; of a new key, its name and root, from which its signature follows
+-- what the office is told of an order that is done; of a new key or a new root, the name and the root, from which the signature follows
 abbrev pub done_answer : Command → OfficeAnswer
 done_answer (AddMember name quota) = Done
 done_answer (Credit member points) = Done
 done_answer (AddFacility name kind places price opens shuts) = Done
 done_answer (AddKey name member root) = NewKey name root
 done_answer (RevokeKey name) = Done
+done_answer (RotateKey name root until) = NewKey name root
 done_answer (CloseSlot slot) = Done
 
 -- a refused order keeps the club
@@ -58,9 +59,3 @@ replies_of club (event ∷ events) = (step club event).reply ∷ replies_of (ste
 abbrev pub club_after : Club → List Event → Club
 club_after club [] = club
 club_after club (event ∷ events) = club_after (step club event).club events
-
--- the events whose replies pass a test, as those that don't say that memory or storage was refused
-abbrev pub events_where : {R : Type 0} → (R → Bool) → List Event → List R → List Event
-events_where counts (event ∷ events) (reply ∷ replies) =
-    if counts reply then event ∷ events_where counts events replies else events_where counts events replies
-events_where counts events replies = []

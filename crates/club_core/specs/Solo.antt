@@ -7,12 +7,12 @@ use Rattle.club_rows.specs.declared.booking.Booking.{Booking}
 use Rattle.club_core.specs.declared.reply.Reply.{Reply}
 use Rattle.club_core.specs.declared.verdict.Verdict.{Verdict}
 use Rattle.club_core.specs.declared.change.Change.{Change}
-use Rattle.club_core.specs.declared.change.Change.TheVariants.{InsertMember, AddCredit, InsertFacility, InsertKey, MarkRevoked, MarkClosed, InsertBooking, MarkCancelled}
+use Rattle.club_core.specs.declared.change.Change.TheVariants.{InsertMember, AddCredit, InsertFacility, InsertKey, MarkRevoked, ReplaceRoot, MarkClosed, InsertBooking, MarkCancelled}
 use Rattle.club_core.specs.declared.command.OfficeFault.{OfficeFault}
 use Rattle.club_core.specs.declared.slot_use.SlotUse.{SlotUse}
 use Rattle.club_core.specs.Pass.{Words}
 use Rattle.club_core.specs.Club.{Club, keys_of, is_key_of, bookings_of}
-use Rattle.club_core.specs.Basis.{Basis, SlotState, basis_of, use_by}
+use Rattle.club_core.specs.Basis.{Basis, basis_of, use_by}
 use Rattle.club_core.specs.Request.{slot_of}
 use Rattle.club_core.specs.Answer.{answer_of}
 use Rattle.club_core.specs.After.{after}
@@ -38,6 +38,7 @@ is_own name club (AddCredit member points) = bytes_eq member name
 is_own name club (InsertFacility facility) = true
 is_own name club (InsertKey key) = bytes_eq key.member name
 is_own name club (MarkRevoked key) = is_key_of name club key
+is_own name club (ReplaceRoot key root until) = is_key_of name club key
 is_own name club (MarkClosed slot) = false
 is_own name club (InsertBooking booking) = false
 is_own name club (MarkCancelled key number refund) = false

@@ -1,5 +1,5 @@
-use club_rows::{Booking, BookingNumber, Facility, Key, Member};
-use pass_caveats::{Name, Slot};
+use club_rows::{Booking, BookingNumber, Facility, Key, Member, Root};
+use pass_caveats::{Moment, Name, Slot};
 
 /// A change of the club's rows.
 #[derive(Clone, Copy, Debug, PartialEq, Eq)]
@@ -13,6 +13,13 @@ pub enum Change {
     InsertKey(Key),
     MarkRevoked {
         key: Name,
+    },
+    /// Gives a key a new root. The one that it had is its older root from then on, good until the
+    /// moment, and an older one from before is dropped.
+    ReplaceRoot {
+        key: Name,
+        root: Root,
+        until: Moment,
     },
     MarkClosed(Slot),
     InsertBooking(Booking),

@@ -1,6 +1,6 @@
 use crate::request::slot_within;
 use club_rows::Root;
-use pass_caveats::{Kind, Name, Slot};
+use pass_caveats::{Kind, Moment, Name, Slot};
 use std::error::Error;
 use std::fmt;
 
@@ -34,13 +34,20 @@ pub enum Command {
     RevokeKey {
         name: Name,
     },
+    /// A new root for a key. Passes under the one that it had are verified until the moment, and
+    /// not from it on.
+    RotateKey {
+        name: Name,
+        root: Root,
+        until: Moment,
+    },
     CloseSlot(Slot),
 }
 
 /// Why an order of the office is refused.
 #[derive(Clone, Copy, Debug, PartialEq, Eq)]
 pub enum OfficeFault {
-    /// The new name is taken, or the slot is closed already.
+    /// The new name is taken, the key has the root already, or the slot is closed already.
     Exists,
     /// There is no member, key or facility of the name.
     Unknown,
@@ -86,6 +93,11 @@ impl Command {
                 let _name = name.as_bytes();
                 let _member = member.as_bytes();
                 let _root = root.as_bytes();
+            }
+            Command::RotateKey { name, root, until } => {
+                let _name = name.as_bytes();
+                let _root = root.as_bytes();
+                let _until = until.number();
             }
             Command::CloseSlot(slot) => slot_within(slot),
         }

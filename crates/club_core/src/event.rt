@@ -17,7 +17,8 @@ pub enum Event {
 #[derive(Clone, Copy, Debug, PartialEq, Eq)]
 pub enum OfficeAnswer {
     Done,
-    /// A key was added. The signature of its passes follows from its name and root.
+    /// A key was added, or got a new root. The signature of its passes follows from its name and
+    /// root.
     NewKey { name: Name, root: Root },
     NotDone(OfficeFault),
 }
@@ -30,10 +31,11 @@ impl OfficeAnswer {
         ensures { result ≡ done_answer command.now }
     {
         match command {
-            Command::AddKey { name, root, .. } => OfficeAnswer::NewKey {
-                name: *name,
-                root: *root,
-            },
+            Command::AddKey { name, root, .. } | Command::RotateKey { name, root, .. } =>
+                OfficeAnswer::NewKey {
+                    name: *name,
+                    root: *root,
+                },
             _ => OfficeAnswer::Done,
         }
     }

@@ -24,6 +24,7 @@ pub(crate) fn key() -> Option<Key> {
         name: Name::read(b"amy-1")?,
         member: Name::read(b"amy")?,
         root: Root::new(&[7; 16])?,
+        older: None,
         revoked: false,
     })
 }

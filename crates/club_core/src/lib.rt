@@ -14,6 +14,7 @@ mod orders;
 mod refusal;
 mod reply;
 mod request;
+mod sent_words;
 mod sheet;
 mod slot_use;
 mod store;
@@ -26,7 +27,7 @@ pub use change::Change;
 pub use club_rows::{
     Booking, BookingColumns, BookingNumber, Facility, FacilityColumns, Guests, Key, LAST_HOUR,
     MAX_BOOKING_NUMBER, MAX_CHARGE, MAX_CREDITED, MAX_GUESTS, MAX_PLACES, MAX_PRICE, MAX_QUOTA,
-    MAX_ROOT_LEN, MIN_ROOT_LEN, Member, Root, slot_from_columns,
+    MAX_ROOT_LEN, MIN_ROOT_LEN, Member, OlderRoot, Root, slot_from_columns,
 };
 pub use command::{Command, MAX_POINTS, OfficeFault};
 pub use decisions::{decide, decide_account, decide_book, decide_cancel, decide_view};
@@ -37,6 +38,7 @@ pub use orders::decide_order;
 pub use refusal::{Methods, Refusal};
 pub use reply::Reply;
 pub use request::Request;
+pub use sent_words::SentWords;
 pub use sheet::sheet_text;
 pub use slot_use::SlotUse;
 pub use store::{ClubStore, StoreFault};
@@ -50,5 +52,7 @@ mod answer_tests;
 mod fixture;
 #[cfg(test)]
 mod order_tests;
+#[cfg(test)]
+mod rotation_tests;
 #[cfg(test)]
 mod tests;

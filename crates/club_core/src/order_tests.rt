@@ -42,12 +42,18 @@ fn everything() -> OrderView {
 
 /// Why the order is refused; `None` where it isn't.
 fn fault(view: &OrderView, command: &Command) -> Option<OfficeFault> {
-    decide_order(view, command).err()
+    match decide_order(view, command) {
+        Err(fault) => Some(fault),
+        Ok(_) => None,
+    }
 }
 
 /// The change that the order makes; `None` where it is refused.
 fn change(view: &OrderView, command: &Command) -> Option<Change> {
-    decide_order(view, command).ok()
+    match decide_order(view, command) {
+        Ok(change) => Some(change),
+        Err(_) => None,
+    }
 }
 
 fn member(rt: &impl Abort, quota: u32) -> Command {
@@ -143,7 +149,8 @@ fn keys(rt: HostRuntime) {
     assert_eq!(rt; fault(&seen, &new_key(&rt)), Some(OfficeFault::Unknown));
     seen.member = amy();
     seen.key = None;
-    assert_eq!(rt; change(&seen, &new_key(&rt)), key().map(Change::InsertKey));
+    let row = key().expect(&rt, "a key");
+    assert_eq!(rt; change(&seen, &new_key(&rt)), Some(Change::InsertKey(row)));
     let told = OfficeAnswer::NewKey {
         name: Name::read(b"amy-1").expect(&rt, "a name"),
         root: Root::new(&[7; 16]).expect(&rt, "a root"),

@@ -10,7 +10,7 @@ use crate::order_view::OrderView;
 use club_rows::{
     Facility, Key, LAST_HOUR, MAX_CREDITED, MAX_PLACES, MAX_PRICE, MAX_QUOTA, Member, Root,
 };
-use pass_caveats::{Kind, Name, Slot};
+use pass_caveats::{Kind, Moment, Name, Slot};
 
 fn add_member(view: &OrderView, name: &Name, quota: u32) -> Result<Change, OfficeFault>
     ensures { result ≡ order_verdict view.now (commands.AddMember name.now quota) }
@@ -94,6 +94,7 @@ fn add_key(view: &OrderView, name: &Name, member: &Name, root: &Root) -> Result<
         name: *name,
         member: *member,
         root: *root,
+        older: None,
         revoked: false,
     }))
 }
@@ -105,6 +106,27 @@ fn revoke_key(view: &OrderView, name: &Name) -> Result<Change, OfficeFault>
         return Err(OfficeFault::Unknown);
     }
     Ok(Change::MarkRevoked { key: *name })
+}
+
+fn rotate_key(
+    view: &OrderView,
+    name: &Name,
+    root: &Root,
+    until: Moment,
+) -> Result<Change, OfficeFault>
+    ensures { result ≡ order_verdict view.now (commands.RotateKey name.now root.now until) }
+{
+    let Some(key) = &view.key else {
+        return Err(OfficeFault::Unknown);
+    };
+    if key.root == *root {
+        return Err(OfficeFault::Exists);
+    }
+    Ok(Change::ReplaceRoot {
+        key: *name,
+        root: *root,
+        until,
+    })
 }
 
 fn close_slot(view: &OrderView, slot: &Slot) -> Result<Change, OfficeFault>
@@ -131,8 +153,8 @@ fn close_slot(view: &OrderView, slot: &Slot) -> Result<Change, OfficeFault>
 ///
 /// Why it makes none: `OutOfRange` where a number is out of its limits, the hour out of opening, or
 /// a member's points would pass theirs; `Unknown` where the order's member, key or facility is;
-/// `Exists` where the new name is taken, or the slot is closed already; `SlotInUse` where somebody
-/// booked the slot.
+/// `Exists` where the new name is taken, the key has the root already, or the slot is closed
+/// already; `SlotInUse` where somebody booked the slot.
 pub fn decide_order(view: &OrderView, command: &Command) -> Result<Change, OfficeFault>
     ensures { result ≡ order_verdict view.now command.now }
 {
@@ -149,6 +171,7 @@ pub fn decide_order(view: &OrderView, command: &Command) -> Result<Change, Offic
         } => add_facility(view, name, *kind, *places, *price, *opens, *shuts),
         Command::AddKey { name, member, root } => add_key(view, name, member, root),
         Command::RevokeKey { name } => revoke_key(view, name),
+        Command::RotateKey { name, root, until } => rotate_key(view, name, root, *until),
         Command::CloseSlot(slot) => close_slot(view, slot),
     }
 }

@@ -33,12 +33,24 @@ impl Pass {
     ghost use Rattle.club_core.specs.Pass.{is_signed_under};
     ghost use Rattle.club_core.specs.Words.{pass_of};
 
-    /// Whether it is signed under a root of the key that is good at the moment. A key has one root,
-    /// which is good at each.
-    pub fn is_signed_under(&self, key: &Key, _moment: Moment) -> bool
-        ensures { result ≡ is_signed_under (pass_of self.now) key.now _moment }
+    /// Whether it is signed under this root.
+    fn is_signed(&self, root: &Root) -> bool
+        ensures { result ≡ (pass_of self.now).is_signed root.now }
     {
-        self.roots.iter().any(|signing| *signing == key.root)
+        self.roots.iter().any(|signing| *signing == *root)
+    }
+
+    /// Whether it is signed under a root of the key that is good at the moment.
+    pub fn is_signed_under(&self, key: &Key, moment: Moment) -> bool
+        ensures { result ≡ is_signed_under (pass_of self.now) key.now moment }
+    {
+        if self.is_signed(&key.root) {
+            return true;
+        }
+        match key.older_root_at(moment) {
+            Some(older) => self.is_signed(older),
+            None => false,
+        }
     }
 
     /// The first of its caveats that isn't understood or doesn't allow what is asked.

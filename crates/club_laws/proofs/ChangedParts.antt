@@ -1,18 +1,19 @@
 -- What each kind of change does to a member's part.
-use Rattle.std.proofs.Common.{◌≡◌, ℕ, ◌+◌, Bool, true, false, not, ◌||◌, ◌&&◌, ◌==◌, cond, List, [], ◌∷◌, ◌++◌, map, filter, None, All, Contains, bytes_eq, refl, ap, ◌∙◌, subst}
+use Rattle.std.proofs.Common.{◌≡◌, ℕ, ◌+◌, Bool, true, false, not, ◌||◌, ◌&&◌, ◌==◌, cond, List, [], ◌∷◌, ◌++◌, map, filter, Option, Some, None, All, Contains, bytes_eq, refl, ap, ◌∙◌, subst}
 use Rattle.std.specs.List.{list_any}
 use Rattle.club_rows.specs.declared.member.Member.{Member}
 use Rattle.club_rows.specs.declared.key.Key.{Key}
+use Rattle.club_rows.specs.declared.key.OlderRoot.{OlderRoot}
 use Rattle.club_rows.specs.declared.booking.Booking.{Booking}
 use Rattle.club_core.specs.declared.change.Change.{Change}
-use Rattle.club_core.specs.declared.change.Change.TheVariants.{InsertMember, AddCredit, InsertFacility, InsertKey, MarkRevoked, MarkClosed, InsertBooking, MarkCancelled}
+use Rattle.club_core.specs.declared.change.Change.TheVariants.{InsertMember, AddCredit, InsertFacility, InsertKey, MarkRevoked, ReplaceRoot, MarkClosed, InsertBooking, MarkCancelled}
 use Rattle.club_core.specs.Club.{Club, key_named, keys_of, is_key_of, bookings_of}
-use Rattle.club_core.specs.After.{after, credited, revoked, cancelled}
+use Rattle.club_core.specs.After.{after, credited, revoked, good_until, rotated, cancelled}
 use Rattle.club_core.specs.Solo.{part_of}
 use Rattle.club_laws.specs.Frame.{part_after}
 use Rattle.club_laws.proofs.FoundRows.{other_bytes}
 use Rattle.club_laws.proofs.Filtering.{filter_push_true, filter_push_false, filter_fixed, fixed_where_none, filter-map}
-use Rattle.club_laws.proofs.KeyOwners.{bookings_of-added, bookings_of-revoked}
+use Rattle.club_laws.proofs.KeyOwners.{edited, bookings_of-added, bookings_of-edited}
 use Rattle.club_laws.proofs.NamedRows.{none_named}
 
 abbrev part_with : Club → List Member → List Key → List Booking → Club
@@ -78,19 +79,33 @@ not_revoked : (name : List ℕ) (key : Key) → bytes_eq key.name name ≡ false
 not_revoked name key e =
     ap (λ (b : Bool). record key { revoked = key.revoked || b }) e ∙ ap (λ (b : Bool). record key { revoked = b }) (or_false key.revoked false refl)
 
-key_revoked : (name : List ℕ) (club : Club) (other : List ℕ) (b : Bool) → is_key_of name club other ≡ b → part_of name (after (MarkRevoked other) club) ≡ cond b (after (MarkRevoked other) (part_of name club)) (part_of name club)
-key_revoked name club other b e =
+not_rotated : (name root : List ℕ) (until : ℕ) (key : Key) → bytes_eq key.name name ≡ false → rotated name root until key ≡ key
+not_rotated name root until key e =
+    ap (λ (b : Bool). let k : Key = record key { root = cond b root key.root; older = cond b (Some (good_until until key.root)) key.older } in k) e
+
+-- an edit of the rows of one name
+key_edited : (root : Key → List ℕ) (older : Key → Option OlderRoot) (is_revoked : Key → Bool) (name : List ℕ) (club : Club) (other : List ℕ) (b : Bool) → ((key : Key) → bytes_eq key.name other ≡ false → edited root older is_revoked key ≡ key) → is_key_of name club other ≡ b
+    → part_of name (record club { keys = map (edited root older is_revoked) club.keys }) ≡ cond b (record (part_of name club) { keys = map (edited root older is_revoked) (keys_of name club) }) (part_of name club)
+key_edited root older is_revoked name club other b same e =
+    let edit = edited root older is_revoked in
     let members = filter (is_named name) club.members in
-    let keys = filter (is_owned name) (map (revoked other) club.keys) in
-    ap (λ (bookings : List Booking). part_with club members keys bookings) (bookings_of-revoked name club other)
-    ∙ (ap (λ (ks : List Key). part_with club members ks (bookings_of name club)) (filter-map (revoked other) (is_owned name) club.keys)
+    ap (λ (bookings : List Booking). part_with club members (filter (is_owned name) (map edit club.keys)) bookings) (bookings_of-edited root older is_revoked name club)
+    ∙ (ap (λ (ks : List Key). part_with club members ks (bookings_of name club)) (filter-map edit (is_owned name) club.keys)
     ∙ at_keys b e)
   where
-    at_keys : (b : Bool) → is_key_of name club other ≡ b → part_with club (filter (is_named name) club.members) (map (revoked other) (filter (is_owned name) club.keys)) (bookings_of name club) ≡ cond b (after (MarkRevoked other) (part_of name club)) (part_of name club)
+    at_keys : (b : Bool) → is_key_of name club other ≡ b → part_with club (filter (is_named name) club.members) (map (edited root older is_revoked) (filter (is_owned name) club.keys)) (bookings_of name club) ≡ cond b (record (part_of name club) { keys = map (edited root older is_revoked) (keys_of name club) }) (part_of name club)
     at_keys true f = refl
     at_keys false f =
         ap (λ (ks : List Key). part_with club (filter (is_named name) club.members) ks (bookings_of name club))
-        (fixed_where_none (has_name other) (revoked other) (λ key. not_revoked other key) (filter (is_owned name) club.keys) f)
+        (fixed_where_none (has_name other) (edited root older is_revoked) same (filter (is_owned name) club.keys) f)
+
+key_revoked : (name : List ℕ) (club : Club) (other : List ℕ) (b : Bool) → is_key_of name club other ≡ b → part_of name (after (MarkRevoked other) club) ≡ cond b (after (MarkRevoked other) (part_of name club)) (part_of name club)
+key_revoked name club other b e =
+    key_edited (λ key. key.root) (λ key. key.older) (λ key. (revoked other key).revoked) name club other b (not_revoked other) e
+
+key_rotated : (name : List ℕ) (club : Club) (other root : List ℕ) (until : ℕ) (b : Bool) → is_key_of name club other ≡ b → part_of name (after (ReplaceRoot other root until) club) ≡ cond b (after (ReplaceRoot other root until) (part_of name club)) (part_of name club)
+key_rotated name club other root until b e =
+    key_edited (λ key. (rotated other root until key).root) (λ key. (rotated other root until key).older) (λ key. key.revoked) name club other b (not_rotated other root until) e
 
 booking_inserted : (name : List ℕ) (club : Club) (booking : Booking) (b : Bool) → is_key_of name club booking.key ≡ b → part_of name (after (InsertBooking booking) club) ≡ cond b (after (InsertBooking booking) (part_of name club)) (part_of name club)
 booking_inserted name club booking true e =
@@ -136,6 +151,7 @@ part_changed name club (AddCredit other points) known fresh = credit_added name 
 part_changed name club (InsertFacility facility) known fresh = refl
 part_changed name club (InsertKey key) known fresh = key_inserted name club key (bytes_eq key.member name) known fresh refl
 part_changed name club (MarkRevoked other) known fresh = key_revoked name club other (is_key_of name club other) refl
+part_changed name club (ReplaceRoot other root until) known fresh = key_rotated name club other root until (is_key_of name club other) refl
 part_changed name club (MarkClosed slot) known fresh = refl
 part_changed name club (InsertBooking booking) known fresh = booking_inserted name club booking (is_key_of name club booking.key) refl
 part_changed name club (MarkCancelled key number refund) known fresh = booking_cancelled name club key number refund (is_key_of name club key) refl

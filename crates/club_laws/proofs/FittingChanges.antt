@@ -8,7 +8,9 @@ use Rattle.club_rows.specs.declared.facility.Facility.{Facility}
 use Rattle.club_rows.specs.declared.key.Key.{Key}
 use Rattle.club_rows.specs.declared.booking.Booking.{Booking}
 use Rattle.club_core.specs.declared.change.Change.{Change}
-use Rattle.club_core.specs.declared.change.Change.TheVariants.{InsertMember, AddCredit, InsertFacility, InsertKey, MarkRevoked, MarkClosed, InsertBooking, MarkCancelled}
+use Rattle.club_core.specs.declared.change.Change.TheVariants.{InsertMember, AddCredit, InsertFacility, InsertKey, MarkRevoked, ReplaceRoot, MarkClosed, InsertBooking, MarkCancelled}
+use Rattle.club_values.specs.Moment.{IsMoment}
+use Rattle.club_rows.specs.Limits.{IsRoot}
 use Rattle.club_rows.specs.Rows.{IsMember, IsFacility, IsKey, IsSlot, IsBooking}
 use Rattle.club_rows.specs.Booking.{persons_of}
 use Rattle.club_core.specs.Sums.{cost_of, is_in, taken_in}
@@ -30,6 +32,10 @@ pub record FitsKey (club : Club) (key : Key) : Type 0 where
   pub row : IsKey key
   pub fresh : All (λ (other : Key). other.name ≢ key.name) club.keys
   pub owned : Contains (map (λ (m : Member). m.name) club.members) key.member
+
+pub record FitsRotation (new : List ℕ) (until : ℕ) : Type 0 where
+  pub root : IsRoot new
+  pub moment : IsMoment until
 
 pub record FitsClosed (club : Club) (slot : Slot) : Type 0 where
   pub row : IsSlot slot
@@ -53,6 +59,7 @@ Fits club (AddCredit name points) = FitsCredit club name points
 Fits club (InsertFacility facility) = FitsFacility club facility
 Fits club (InsertKey key) = FitsKey club key
 Fits club (MarkRevoked name) = Unit {0}
+Fits club (ReplaceRoot name root until) = FitsRotation root until
 Fits club (MarkClosed slot) = FitsClosed club slot
 Fits club (InsertBooking booking) = FitsBooking club booking
 Fits club (MarkCancelled key number refund) = FitsCancellation club key number refund

@@ -9,7 +9,7 @@ use Rattle.club_rows.specs.declared.facility.Facility.{Facility}
 use Rattle.club_rows.specs.declared.key.Key.{Key}
 use Rattle.club_core.specs.declared.change.Change.{Change}
 use Rattle.club_core.specs.declared.command.Command.{Command}
-use Rattle.club_core.specs.declared.command.Command.TheVariants.{AddMember, Credit, AddFacility, AddKey, RevokeKey, CloseSlot}
+use Rattle.club_core.specs.declared.command.Command.TheVariants.{AddMember, Credit, AddFacility, AddKey, RevokeKey, RotateKey, CloseSlot}
 use Rattle.club_core.specs.declared.command.OfficeFault.{OfficeFault}
 use Rattle.club_core.specs.Club.{Club, IsSound}
 use Rattle.club_rows.specs.Booking.{same_slot}
@@ -52,11 +52,12 @@ fits club s (AddFacility name kind places price opens shuts) c r =
       fresh = none_named (λ (f : Facility). f.name) name club.facilities r.1;
     }
 fits club s (AddKey name member root) c r = record {
-  row = record { name = c.0; member = c.1; root = c.2 };
+  row = record { name = c.0; member = c.1; root = c.2; older = tt };
   fresh = none_named (λ (k : Key). k.name) name club.keys r.2;
   owned = named_there (λ (m : Member). m.name) member club.members r.0 r.1;
 }
 fits club s (RevokeKey name) c r = tt
+fits club s (RotateKey name root until) c r = record { root = c.1; moment = c.2 }
 fits club s (CloseSlot slot) c r = record {
   row = c;
   fresh =

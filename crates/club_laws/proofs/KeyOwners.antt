@@ -1,5 +1,5 @@
--- Whose a key is, as keys are added and revoked.
-use Rattle.std.proofs.Common.{◌≡◌, ◌≢◌, ℕ, Bool, true, false, List, [], ◌∷◌, ◌++◌, get_or, map, Some, refl, sym, ap, ◌∙◌, subst}
+-- Whose a key is, as keys are added and their rows are edited.
+use Rattle.std.proofs.Common.{◌≡◌, ◌≢◌, ℕ, Bool, true, false, List, [], ◌∷◌, ◌++◌, get_or, map, Option, Some, refl, sym, ap, ◌∙◌, subst}
 use Rattle.std.specs.Prelude.{All, AllPairs, Contains, ◌&&◌, ◌||◌}
 use Rattle.std.specs.Str.{bytes_eq}
 use Rattle.std.specs.List.{list_any}
@@ -7,9 +7,9 @@ use Rattle.std.proofs.lemmas.List.Elements.{All-map, All-contains}
 use Rattle.std.proofs.lemmas.List.Folds.{list_any-append, Any-from_list_any}
 use Rattle.std.proofs.lemmas.Bool.{and_parts, and_right}
 use Rattle.club_rows.specs.declared.key.Key.{Key}
+use Rattle.club_rows.specs.declared.key.OlderRoot.{OlderRoot}
 use Rattle.club_rows.specs.declared.booking.Booking.{Booking}
 use Rattle.club_core.specs.Club.{Club, key_named, is_key_of, bookings_of}
-use Rattle.club_core.specs.After.{revoked}
 use Rattle.club_laws.proofs.FoundRows.{any-filter, any-map, bytes_same, other_bytes}
 use Rattle.club_laws.proofs.NamedRows.{only_named}
 use Rattle.club_laws.proofs.Filtering.{filter_same}
@@ -32,10 +32,14 @@ is_key_of-added member club key name =
     or_nothing true = refl
     or_nothing false = refl
 
-pub is_key_of-revoked : (member : List ℕ) (club : Club) (key name : List ℕ) → is_key_of member (record club { keys = map (revoked key) club.keys }) name ≡ is_key_of member club name
-is_key_of-revoked member club key name =
-    is_key_of-any member (record club { keys = map (revoked key) club.keys }) name
-    ∙ (any-map (revoked key) (is_own member name) club.keys ∙ sym (is_key_of-any member club name))
+-- an edit of a key's row that keeps its name and its member
+abbrev pub edited : (Key → List ℕ) → (Key → Option OlderRoot) → (Key → Bool) → Key → Key
+edited root older is_revoked key = record key { root = root key; older = older key; revoked = is_revoked key }
+
+pub is_key_of-edited : (root : Key → List ℕ) (older : Key → Option OlderRoot) (is_revoked : Key → Bool) (member : List ℕ) (club : Club) (name : List ℕ) → is_key_of member (record club { keys = map (edited root older is_revoked) club.keys }) name ≡ is_key_of member club name
+is_key_of-edited root older is_revoked member club name =
+    is_key_of-any member (record club { keys = map (edited root older is_revoked) club.keys }) name
+    ∙ (any-map (edited root older is_revoked) (is_own member name) club.keys ∙ sym (is_key_of-any member club name))
 
 -- a key that nobody has booked under changes nobody's bookings
 pub bookings_of-added : (member : List ℕ) (club : Club) (key : Key) → All (λ (other : Key). other.name ≢ key.name) club.keys → All (λ (booking : Booking). Contains (map (λ (k : Key). k.name) club.keys) booking.key) club.bookings → bookings_of member (record club { keys = club.keys ++ key ∷ [] }) ≡ bookings_of member club
@@ -53,10 +57,10 @@ bookings_of-added member club key fresh known =
         let no_own : is_own member booking.key key ≡ false = and_right (bytes_eq key.member member) (bytes_eq key.name booking.key) (other_bytes key.name booking.key (λ e. other (sym e))) in
         is_key_of-added member club key booking.key ∙ or_not (is_key_of member club booking.key) (is_own member booking.key key) no_own
 
-pub bookings_of-revoked : (member : List ℕ) (club : Club) (key : List ℕ) → bookings_of member (record club { keys = map (revoked key) club.keys }) ≡ bookings_of member club
-bookings_of-revoked member club key =
-    filter_same (λ (booking : Booking). is_key_of member (record club { keys = map (revoked key) club.keys }) booking.key) (λ (booking : Booking). is_key_of member club booking.key) club.bookings
-    (λ k d short. is_key_of-revoked member club key (get_or club.bookings k d).key)
+pub bookings_of-edited : (root : Key → List ℕ) (older : Key → Option OlderRoot) (is_revoked : Key → Bool) (member : List ℕ) (club : Club) → bookings_of member (record club { keys = map (edited root older is_revoked) club.keys }) ≡ bookings_of member club
+bookings_of-edited root older is_revoked member club =
+    filter_same (λ (booking : Booking). is_key_of member (record club { keys = map (edited root older is_revoked) club.keys }) booking.key) (λ (booking : Booking). is_key_of member club booking.key) club.bookings
+    (λ k d short. is_key_of-edited root older is_revoked member club (get_or club.bookings k d).key)
 
 -- where names are unique, whoever's key it is, is the member that its row names
 pub owner : (club : Club) → AllPairs (λ (a : Key) (b : Key). a.name ≢ b.name) club.keys → (key : Key) → key_named key.name club ≡ Some key → (name : List ℕ) → is_key_of name club key.name ≡ true → name ≡ key.member

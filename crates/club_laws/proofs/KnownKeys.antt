@@ -1,16 +1,18 @@
 -- Key names are unique and bookings are under known keys, before and after each change.
-use Rattle.std.proofs.Common.{◌≡◌, ◌≢◌, ℕ, suc, cond, Bool, List, [], ◌∷◌, ◌++◌, map, find, length, get_or, Some, None, AllPairs, Contains, refl, sym, ap, ◌∙◌, subst, arith, length-append}
+use Rattle.std.proofs.Common.{◌≡◌, ◌≢◌, ℕ, suc, cond, Bool, List, [], ◌∷◌, ◌++◌, map, find, length, get_or, Option, Some, None, AllPairs, Contains, refl, sym, ap, ◌∙◌, subst, arith, length-append}
 use Rattle.std.proofs.lemmas.List.{get_or-append-add}
 use Rattle.std.proofs.lemmas.List.Elements.{All-push, All-map}
 use Rattle.std.proofs.lemmas.List.Quantifiers.{all_pairs_push}
 use Rattle.std.proofs.lemmas.Simd.{map-map}
 use Rattle.club_rows.specs.declared.key.Key.{Key}
+use Rattle.club_rows.specs.declared.key.OlderRoot.{OlderRoot}
 use Rattle.club_rows.specs.declared.booking.Booking.{Booking}
 use Rattle.club_core.specs.declared.change.Change.{Change}
-use Rattle.club_core.specs.declared.change.Change.TheVariants.{InsertKey, MarkRevoked, InsertBooking, MarkCancelled}
+use Rattle.club_core.specs.declared.change.Change.TheVariants.{InsertKey, MarkRevoked, ReplaceRoot, InsertBooking, MarkCancelled}
 use Rattle.club_core.specs.Club.{Club, IsSound}
-use Rattle.club_core.specs.After.{after, revoked, cancelled}
+use Rattle.club_core.specs.After.{after, revoked, rotated, cancelled}
 use Rattle.club_laws.proofs.FoundRows.{other_bytes, AllPairs-map}
+use Rattle.club_laws.proofs.KeyOwners.{edited}
 use Rattle.club_laws.proofs.NamedRows.{none_named, still_there}
 use Rattle.club_laws.proofs.ChangedParts.{HasKnownKeys, IsFresh, has_name}
 
@@ -27,6 +29,12 @@ abbrev pub IsKnown : Club → Change → Type 0
 IsKnown club (InsertBooking booking) = Contains (map (λ (key : Key). key.name) club.keys) booking.key
 IsKnown club change = Unit {0}
 
+keyed_edited : (root : Key → List ℕ) (older : Key → Option OlderRoot) (is_revoked : Key → Bool) (club : Club) → IsKeyed club → IsKeyed (record club { keys = map (edited root older is_revoked) club.keys })
+keyed_edited root older is_revoked club keyed = record {
+  unique = AllPairs-map (edited root older is_revoked) (λ (a : Key) (b : Key). a.name ≢ b.name) (λ (a : Key) (b : Key). a.name ≢ b.name) (λ a b h. h) club.keys keyed.unique;
+  known = λ k d short. rw (map-map (λ (x : Key). x.name) (edited root older is_revoked) club.keys) (keyed.known k d short);
+}
+
 pub keyed_after : (club : Club) (change : Change) → IsFresh club change → IsKnown club change → IsKeyed club → IsKeyed (after change club)
 keyed_after club (InsertKey key) fresh known keyed = record {
   unique =
@@ -34,10 +42,9 @@ keyed_after club (InsertKey key) fresh known keyed = record {
       (none_named (λ (k : Key). k.name) key.name club.keys fresh);
   known = λ k d short. still_there (λ (other : Key). other.name) club.keys key _ (keyed.known k d short);
 }
-keyed_after club (MarkRevoked name) fresh known keyed = record {
-  unique = AllPairs-map (revoked name) (λ (a : Key) (b : Key). a.name ≢ b.name) (λ (a : Key) (b : Key). a.name ≢ b.name) (λ a b h. h) club.keys keyed.unique;
-  known = λ k d short. rw (map-map (λ (x : Key). x.name) (revoked name) club.keys) (keyed.known k d short);
-}
+keyed_after club (MarkRevoked name) fresh known keyed = keyed_edited (λ key. key.root) (λ key. key.older) (λ key. (revoked name key).revoked) club keyed
+keyed_after club (ReplaceRoot name root until) fresh known keyed =
+    keyed_edited (λ key. (rotated name root until key).root) (λ key. (rotated name root until key).older) (λ key. key.revoked) club keyed
 keyed_after club (InsertBooking booking) fresh known keyed = record {
   unique = keyed.unique;
   known = All-push (λ (b : Booking). Contains (map (λ (k : Key). k.name) club.keys) b.key) club.bookings booking keyed.known known;

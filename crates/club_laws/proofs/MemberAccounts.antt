@@ -10,18 +10,18 @@ use Rattle.club_rows.specs.declared.key.Key.{Key}
 use Rattle.club_core.specs.declared.verdict.Verdict.{Verdict}
 use Rattle.club_core.specs.declared.change.Change.{Change}
 use Rattle.club_core.specs.declared.command.Command.{Command}
-use Rattle.club_core.specs.declared.command.Command.TheVariants.{AddMember, Credit, AddKey, RevokeKey}
+use Rattle.club_core.specs.declared.command.Command.TheVariants.{AddMember, Credit, AddKey, RevokeKey, RotateKey}
 use Rattle.club_core.specs.declared.command.OfficeFault.{OfficeFault}
 use Rattle.club_core.specs.Pass.{Words}
 use Rattle.club_core.specs.Club.{Club, member_named, is_key_of}
 use Rattle.club_core.specs.Answer.{verdict_in}
-use Rattle.club_core.specs.After.{credited}
+use Rattle.club_core.specs.After.{credited, revoked, rotated}
 use Rattle.club_core.specs.Office.{office_verdict}
 use Rattle.club_core.specs.Run.{Event, Asked, Ordered, step, after_change, ordered, replies_of, club_after}
 use Rattle.club_laws.specs.Points.{key_given, keys_given, credit_accepted, credits_accepted}
 use Rattle.club_laws.proofs.FoundRows.{bytes_same, same_bytes}
 use Rattle.club_laws.proofs.NamedRows.{tests_same}
-use Rattle.club_laws.proofs.KeyOwners.{is_key_of-added, is_key_of-revoked}
+use Rattle.club_laws.proofs.KeyOwners.{is_key_of-added, is_key_of-edited}
 use Rattle.club_laws.proofs.AnswerCases.{answer_cases}
 use Rattle.club_laws.proofs.OrderCases.{order_cases}
 
@@ -56,12 +56,13 @@ module _ (member : List ℕ) where
   gives_key : (club : Club) (key : List ℕ) (command : Command) → GivesKey club key command (office_verdict club command)
   gives_key club key (AddKey name owner root) =
       order_cases (GivesKey club key (AddKey name owner root)) club (λ fault. or_nothing (is_key_of member club key)) (AddKey name owner root)
-      (λ k. is_key_of-added member club (record { name = name; member = owner; root = root; revoked = false }) key ∙ ap (λ b. is_key_of member club key || b) (go (bytes_eq owner member)))
+      (λ k. is_key_of-added member club (record { name = name; member = owner; root = root; older = None; revoked = false }) key ∙ ap (λ b. is_key_of member club key || b) (go (bytes_eq owner member)))
     where
       go : (b : Bool) → (b && bytes_eq name key) ≡ is_among (cond b (name ∷ []) []) key
       go true = or_nothing (bytes_eq name key)
       go false = refl
-  gives_key club key (RevokeKey name) = order_cases (GivesKey club key (RevokeKey name)) club (λ fault. or_nothing (is_key_of member club key)) (RevokeKey name) (λ k. is_key_of-revoked member club name key ∙ or_nothing (is_key_of member club key))
+  gives_key club key (RevokeKey name) = order_cases (GivesKey club key (RevokeKey name)) club (λ fault. or_nothing (is_key_of member club key)) (RevokeKey name) (λ k. is_key_of-edited (λ row. row.root) (λ row. row.older) (λ row. (revoked name row).revoked) member club key ∙ or_nothing (is_key_of member club key))
+  gives_key club key (RotateKey name root until) = order_cases (GivesKey club key (RotateKey name root until)) club (λ fault. or_nothing (is_key_of member club key)) (RotateKey name root until) (λ k. is_key_of-edited (λ row. (rotated name root until row).root) (λ row. (rotated name root until row).older) (λ row. row.revoked) member club key ∙ or_nothing (is_key_of member club key))
   gives_key club key command = order_cases (GivesKey club key command) club (λ fault. or_nothing (is_key_of member club key)) command (λ k. or_nothing (is_key_of member club key))
 
   keys_of_step : (club : Club) (key : List ℕ) (event : Event) → is_key_of member (step club event).club key ≡ (is_key_of member club key || is_among (key_given member event (step club event).reply) key)

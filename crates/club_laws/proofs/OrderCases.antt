@@ -1,15 +1,16 @@
 -- What an order of the office comes to: a fault, or the change that it asks for.
 use Rattle.std.proofs.Common.{◌≡◌, ℕ, ◌+◌, ◌≤◌, true, false, List, [], ◌∷◌, Option, Some, None, Ok, Err, refl}
 use Rattle.std.specs.Prelude.{Result, ◌||◌, ◌==◌, not, nat_lt, is_some}
+use Rattle.std.specs.Str.{bytes_eq}
 use Rattle.std.proofs.lemmas.Bool.{not-false, ltb-false}
 use Rattle.club_values.specs.declared.slot.Slot.{Slot}
 use Rattle.club_rows.specs.declared.member.Member.{Member}
 use Rattle.club_rows.specs.declared.facility.Facility.{Facility}
 use Rattle.club_rows.specs.declared.key.Key.{Key}
 use Rattle.club_core.specs.declared.change.Change.{Change}
-use Rattle.club_core.specs.declared.change.Change.TheVariants.{InsertMember, AddCredit, InsertFacility, InsertKey, MarkRevoked, MarkClosed}
+use Rattle.club_core.specs.declared.change.Change.TheVariants.{InsertMember, AddCredit, InsertFacility, InsertKey, MarkRevoked, ReplaceRoot, MarkClosed}
 use Rattle.club_core.specs.declared.command.Command.{Command}
-use Rattle.club_core.specs.declared.command.Command.TheVariants.{AddMember, Credit, AddFacility, AddKey, RevokeKey, CloseSlot}
+use Rattle.club_core.specs.declared.command.Command.TheVariants.{AddMember, Credit, AddFacility, AddKey, RevokeKey, RotateKey, CloseSlot}
 use Rattle.club_core.specs.declared.command.OfficeFault.{OfficeFault}
 use Rattle.club_core.specs.declared.command.OfficeFault.TheVariants.{Exists, Unknown, OutOfRange, SlotInUse}
 use Rattle.club_core.specs.Lines.{line}
@@ -17,7 +18,7 @@ use Rattle.club_core.specs.Club.{Club, member_named, facility_named, key_named, 
 use Rattle.club_core.specs.Sums.{taken_in}
 use Rattle.club_rows.specs.Facility.{is_open_at}
 use Rattle.club_core.specs.Basis.{slot_use}
-use Rattle.club_core.specs.Office.{office_verdict, credit_verdict, close_verdict, are_limits}
+use Rattle.club_core.specs.Office.{office_verdict, credit_verdict, rotate_verdict, close_verdict, are_limits}
 use Rattle.club_laws.proofs.AnswerCases.{first_of_cases}
 use Rattle.club_laws.proofs.NamedRows.{none_there, some_there}
 
@@ -25,8 +26,9 @@ abbrev pub change_of : Command → Change
 change_of (AddMember name quota) = InsertMember (record { name = name; credited = 0; quota = quota })
 change_of (Credit name points) = AddCredit name points
 change_of (AddFacility name kind places price opens shuts) = InsertFacility (record { name = name; kind = kind; places = places; price = price; opens = opens; shuts = shuts })
-change_of (AddKey name member root) = InsertKey (record { name = name; member = member; root = root; revoked = false })
+change_of (AddKey name member root) = InsertKey (record { name = name; member = member; root = root; older = None; revoked = false })
 change_of (RevokeKey name) = MarkRevoked name
+change_of (RotateKey name root until) = ReplaceRoot name root until
 change_of (CloseSlot slot) = MarkClosed slot
 
 -- what an order that is carried out rests on
@@ -36,6 +38,7 @@ OrderRestsOn club (Credit name points) = (member : Member) × (member_named name
 OrderRestsOn club (AddFacility name kind places price opens shuts) = (are_limits places price opens shuts ≡ true) × (facility_named name club ≡ None)
 OrderRestsOn club (AddKey name member root) = (owner : Member) × (member_named member club ≡ Some owner) × (key_named name club ≡ None)
 OrderRestsOn club (RevokeKey name) = (key : Key) × (key_named name club ≡ Some key)
+OrderRestsOn club (RotateKey name root until) = (key : Key) × (key_named name club ≡ Some key)
 OrderRestsOn club (CloseSlot slot) = (facility : Facility) × (facility_named slot.facility club ≡ Some facility) × (is_closed slot club ≡ false)
 
 module _ (P : Result Change OfficeFault → Type 0) (club : Club) (fails : (fault : OfficeFault) → P (Err fault)) where
@@ -44,6 +47,11 @@ module _ (P : Result Change OfficeFault → Type 0) (club : Club) (fails : (faul
   credit_cases name points (Some member) e done =
       first_of_cases P (line (nat_lt 999_999_999 (member.credited + points)) (Err OutOfRange) ∷ []) (Ok (AddCredit name points)) (fails OutOfRange, tt)
       (λ none. done (member, e, ltb-false 999_999_999 (member.credited + points) none.0))
+
+  rotate_cases : (name root : List ℕ) (until : ℕ) (o : Option Key) → key_named name club ≡ o → (OrderRestsOn club (RotateKey name root until) → P (Ok (ReplaceRoot name root until))) → P (rotate_verdict name root until o)
+  rotate_cases name root until None e done = fails Unknown
+  rotate_cases name root until (Some key) e done =
+      first_of_cases P (line (bytes_eq key.root root) (Err Exists) ∷ []) (Ok (ReplaceRoot name root until)) (fails Exists, tt) (λ none. done (key, e))
 
   close_cases : (slot : Slot) (o : Option Facility) → facility_named slot.facility club ≡ o → (OrderRestsOn club (CloseSlot slot) → P (Ok (MarkClosed slot))) → P (close_verdict (slot_use club slot) slot o)
   close_cases slot None e done = fails Unknown
@@ -70,4 +78,5 @@ module _ (P : Result Change OfficeFault → Type 0) (club : Club) (fails : (faul
   order_cases (RevokeKey name) done =
       first_of_cases P (line (not (is_some (key_named name club))) (Err Unknown) ∷ []) (Ok (MarkRevoked name)) (fails Unknown, tt)
       (λ none. done (some_there (key_named name club) (not-false (is_some (key_named name club)) none.0)))
+  order_cases (RotateKey name root until) done = rotate_cases name root until (key_named name club) refl done
   order_cases (CloseSlot slot) done = close_cases slot (facility_named slot.facility club) refl done

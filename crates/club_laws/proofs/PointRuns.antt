@@ -124,16 +124,15 @@ conserved events name member h e =
     at_found (λ (m : Member). sum_by cost_of (bookings_of m.name club) ≤ m.credited) (λ (m : Member). bytes_eq m.name name) club.members member s.balances e in
     record { balanced = omega arith; covered = covered }
 
-pub has_room : (events : List Event) (slot : Slot) → All IsEvent events → MatchOption (facility_named slot.facility (club_after empty_club events)) (taken_in slot (club_after empty_club events).bookings ≡ 0) (λ (facility : Facility). taken_in slot (club_after empty_club events).bookings ≤ facility.places)
-has_room events slot h = go (facility_named slot.facility club) refl
+-- who booked a slot of a sound club has a place in it
+pub has_places : (club : Club) (slot : Slot) → IsSound club → MatchOption (facility_named slot.facility club) (taken_in slot club.bookings ≡ 0) (λ (facility : Facility). taken_in slot club.bookings ≤ facility.places)
+has_places club slot sound = go (facility_named slot.facility club) refl
   where
-    club : Club
-    club = club_after empty_club events
-
-    go : (o : Option Facility) → facility_named slot.facility (club_after empty_club events) ≡ o → MatchOption o (taken_in slot (club_after empty_club events).bookings ≡ 0) (λ (facility : Facility). taken_in slot (club_after empty_club events).bookings ≤ facility.places)
-    go None e =
-        nobody_in (club_after empty_club events) slot (sound_run empty_club events sound_empty h).references
-        (none_named (λ (f : Facility). f.name) slot.facility (club_after empty_club events).facilities e)
+    go : (o : Option Facility) → facility_named slot.facility club ≡ o → MatchOption o (taken_in slot club.bookings ≡ 0) (λ (facility : Facility). taken_in slot club.bookings ≤ facility.places)
+    go None e = nobody_in club slot sound.references (none_named (λ (f : Facility). f.name) slot.facility club.facilities e)
     go (Some facility) e =
-        at_found (λ (f : Facility). (at : Slot) → at.facility ≡ f.name → taken_in at (club_after empty_club events).bookings ≤ f.places) (λ (f : Facility). bytes_eq f.name slot.facility) (club_after empty_club events).facilities facility
-        (sound_run empty_club events sound_empty h).places e slot (sym (named (λ (f : Facility). f.name) slot.facility (club_after empty_club events).facilities facility e))
+        at_found (λ (f : Facility). (at : Slot) → at.facility ≡ f.name → taken_in at club.bookings ≤ f.places) (λ (f : Facility). bytes_eq f.name slot.facility) club.facilities facility
+        sound.places e slot (sym (named (λ (f : Facility). f.name) slot.facility club.facilities facility e))
+
+pub has_room : (events : List Event) (slot : Slot) → All IsEvent events → MatchOption (facility_named slot.facility (club_after empty_club events)) (taken_in slot (club_after empty_club events).bookings ≡ 0) (λ (facility : Facility). taken_in slot (club_after empty_club events).bookings ≤ facility.places)
+has_room events slot h = has_places (club_after empty_club events) slot (sound_run empty_club events sound_empty h)

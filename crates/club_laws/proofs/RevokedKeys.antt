@@ -9,12 +9,12 @@ use Rattle.pass_caveats.specs.Laws.{TestsTheSet}
 use Rattle.club_core.specs.Laws.{TestsTheSignature}
 use Rattle.club_rows.specs.declared.key.Key.{Key}
 use Rattle.club_core.specs.declared.change.Change.{Change}
-use Rattle.club_core.specs.declared.change.Change.TheVariants.{InsertKey, MarkRevoked}
+use Rattle.club_core.specs.declared.change.Change.TheVariants.{InsertKey, MarkRevoked, ReplaceRoot}
 use Rattle.club_core.specs.declared.command.Command.TheVariants.{RevokeKey}
 use Rattle.club_core.specs.Pass.{Words}
 use Rattle.club_core.specs.Basis.{key_of, basis_of}
 use Rattle.club_core.specs.Club.{Club, key_named}
-use Rattle.club_core.specs.After.{after, revoked}
+use Rattle.club_core.specs.After.{after, revoked, rotated}
 use Rattle.club_core.specs.declared.event.EventReply.TheVariants.{Answered}
 use Rattle.club_core.specs.declared.event.OfficeAnswer.TheVariants.{Done}
 use Rattle.club_core.specs.Run.{Event, Ordered, step, ordered, club_after}
@@ -39,6 +39,12 @@ stays_revoked name club (MarkRevoked other) h =
       key = revoked other h.key;
       row = found_edited (revoked other) (λ (k : Key). bytes_eq k.name name) (λ k. refl) club.keys h.key h.row;
       revoked = or_left h.key.revoked (bytes_eq h.key.name other) h.revoked;
+    }
+stays_revoked name club (ReplaceRoot other root until) h =
+    record {
+      key = rotated other root until h.key;
+      row = found_edited (rotated other root until) (λ (k : Key). bytes_eq k.name name) (λ k. refl) club.keys h.key h.row;
+      revoked = h.revoked;
     }
 stays_revoked name club change h = record { key = h.key; row = h.row; revoked = h.revoked }
 

@@ -1,5 +1,5 @@
 -- The laws over runs in which some events failed: the same laws over the events that were answered.
-use Rattle.std.proofs.Common.{◌≡◌, ℕ, inl, inr, Bool, true, false, cond, List, [], ◌∷◌, ◌++◌, length, All, Some, refl, sym, ap, ◌∙◌, subst, arith}
+use Rattle.std.proofs.Common.{◌≡◌, ℕ, inl, inr, Bool, true, false, cond, List, [], ◌∷◌, ◌++◌, length, All, Some, refl, sym, ap, ◌∙◌, subst, arith, append_assoc}
 use Rattle.std.proofs.lemmas.Bool.{both_ways}
 use Rattle.club_values.specs.declared.slot.Slot.{Slot}
 use Rattle.club_rows.specs.declared.member.Member.{Member}
@@ -10,7 +10,7 @@ use Rattle.club_core.specs.Pass.{Words}
 use Rattle.club_core.specs.Answer.{verdict_in}
 use Rattle.club_core.specs.declared.event.EventReply.TheVariants.{Replied}
 use Rattle.club_core.specs.Run.{Event, Asked, Outcome, step, replies_of, club_after}
-use Rattle.club_laws.specs.AsTold.{WasTold}
+use Rattle.club_laws.specs.AsTold.{WasTold, TellsAgain}
 use Rattle.club_laws.specs.Conservation.{IsConserved, HasPlaces}
 use Rattle.club_core.specs.Events.{IsEvent}
 use Rattle.club_laws.specs.Failed.{Told, ToMember, Telling, told_of, is_unavailable, has_failed, IsStep, IsRun, answered_events}
@@ -18,6 +18,7 @@ use Rattle.club_core.specs.Acceptance.{IsAcceptedIn}
 use Rattle.club_laws.specs.Repeats.{IsBookedOrCancelled, WasServed}
 use Rattle.club_laws.proofs.FailedEvents.{run_of_answered, events_left, cut, join}
 use Rattle.club_laws.proofs.PointRuns.{conserved, has_room}
+use Rattle.club_laws.proofs.KeptByRuns.{club_after-append}
 use Rattle.club_laws.proofs.RepeatAnswers.{tells_the_same}
 use Rattle.club_laws.proofs.SoundSteps.{sound_run}
 
@@ -116,3 +117,34 @@ module _ {O : Type 0} (telling : Telling O) where
         join telling club parts.now last history rest before since parts.first
             (subst (λ (c : Club). IsRun telling c rest since last) one.1 parts.second.2),
       )
+
+  -- what was served is on record after one event more
+  served_and_more : (club : Club) (history : List Event) (event : Event) (words : Words) (reply : Reply) → WasServed club history words reply → WasServed club (history ++ event ∷ []) words reply
+  served_and_more club history event words reply w = record {
+    front = w.front;
+    first = w.first;
+    moment = w.moment;
+    rest = w.rest ++ event ∷ [];
+    place = ap (λ (events : List Event). events ++ event ∷ []) w.place ∙ append_assoc w.front (Asked w.first w.moment ∷ w.rest) (event ∷ []);
+    told = w.told;
+    served = w.served;
+    same_key = w.same_key;
+    same_request = w.same_request;
+  }
+
+  pub again_as_told : (club last : Club) (events : List Event) (replies : List (Told O)) → IsRun telling club events replies last → TellsAgain last events replies × ((event : Event) → TellsAgain (step last event).club events replies)
+  again_as_told club last events replies run =
+      let answered = answered_events telling events replies in
+      let left = (run_of_answered telling club last events replies run).left in
+      let At : Club → Type 0 = λ c. TellsAgain c events replies in
+      let at_end : At (club_after club answered) = λ words moment reply was accepted.
+      tells_the_same club answered words moment reply (served_as_told club last events replies words reply run was) accepted
+      in
+      let After : Club → Type 0 = λ c. (event : Event) → TellsAgain (step c event).club events replies in
+      let since : After (club_after club answered) = λ event.
+      subst At (club_after-append club answered (event ∷ []))
+      (λ words moment reply was accepted.
+      tells_the_same club (answered ++ event ∷ []) words moment reply
+      (served_and_more club answered event words reply (served_as_told club last events replies words reply run was)) accepted)
+      in
+      (subst At (sym left) at_end, subst After (sym left) since)

@@ -1,6 +1,6 @@
 -- A club stays sound under the fitting changes of the office.
 use Rattle.std.proofs.Common.{◌≡◌, ◌≢◌, ℕ, ◌+◌, ◌≤◌, Bool, true, false, cond, List, [], ◌∷◌, ◌++◌, get_or, map, refl, sym, ap, subst, arith}
-use Rattle.std.specs.Prelude.{All, Contains, ◌&&◌, ◌==◌, not, sum_by}
+use Rattle.std.specs.Prelude.{All, Contains, Option, Some, IfSome, ◌&&◌, ◌==◌, not, sum_by}
 use Rattle.std.specs.Str.{bytes_eq}
 use Rattle.std.specs.List.{list_any}
 use Rattle.std.proofs.lemmas.List.Elements.{All-push, All-map, All-contains}
@@ -11,17 +11,19 @@ use Rattle.club_values.specs.declared.slot.Slot.{Slot}
 use Rattle.club_rows.specs.declared.member.Member.{Member}
 use Rattle.club_rows.specs.declared.facility.Facility.{Facility}
 use Rattle.club_rows.specs.declared.key.Key.{Key}
+use Rattle.club_rows.specs.declared.key.OlderRoot.{OlderRoot}
 use Rattle.club_rows.specs.declared.booking.Booking.{Booking}
-use Rattle.club_rows.specs.Rows.{IsMember, IsFacility, IsKey, IsSlot}
+use Rattle.club_rows.specs.Limits.{IsRoot}
+use Rattle.club_rows.specs.Rows.{IsMember, IsFacility, IsOlderRoot, IsKey, IsSlot}
 use Rattle.club_rows.specs.Booking.{persons_of, same_slot}
 use Rattle.club_core.specs.Sums.{cost_of, is_in, taken_in}
-use Rattle.club_core.specs.After.{credited, revoked}
+use Rattle.club_core.specs.After.{credited, revoked, good_until, rotated}
 use Rattle.club_core.specs.Club.{Club, keys_of, is_key_of, bookings_of, IsSound, HasReferences}
 use Rattle.club_laws.proofs.FoundRows.{AllPairs-map, other_bytes}
 use Rattle.club_laws.proofs.Filtering.{filter_none}
 use Rattle.club_laws.proofs.NamedRows.{still_there, still_all}
-use Rattle.club_laws.proofs.KeyOwners.{bookings_of-added, bookings_of-revoked}
-use Rattle.club_laws.proofs.FittingChanges.{FitsMember, FitsCredit, FitsFacility, FitsKey, FitsClosed}
+use Rattle.club_laws.proofs.KeyOwners.{edited, bookings_of-added, bookings_of-edited}
+use Rattle.club_laws.proofs.FittingChanges.{FitsMember, FitsCredit, FitsFacility, FitsKey, FitsRotation, FitsClosed}
 
 balance_kept : (club new : Club) (member : Member) → bookings_of member.name new ≡ bookings_of member.name club → sum_by cost_of (bookings_of member.name club) ≤ member.credited → sum_by cost_of (bookings_of member.name new) ≤ member.credited
 balance_kept club new member e h = subst (λ (bookings : List Booking). sum_by cost_of bookings ≤ member.credited) (sym e) h
@@ -128,22 +130,47 @@ sound_key club key s f =
       places = s.places;
     }
 
-pub sound_revoked : (club : Club) (name : List ℕ) → IsSound club → IsSound (record club { keys = map (revoked name) club.keys })
-sound_revoked club name s =
-    let limits = All-map IsKey (revoked name) club.keys (λ k d short. let row = s.rows.keys k d short in record { name = row.name; member = row.member; root = row.root }) in
-    let names = AllPairs-map (revoked name) (λ (a : Key) (b : Key). a.name ≢ b.name) (λ (a : Key) (b : Key). a.name ≢ b.name) (λ a b h. h) club.keys s.unique.keys in
+-- an edit of the keys' rows within their limits, that keeps names and members
+sound_edited : (root : Key → List ℕ) (older : Key → Option OlderRoot) (is_revoked : Key → Bool) (club : Club) → IsSound club → All IsKey (map (edited root older is_revoked) club.keys) → IsSound (record club { keys = map (edited root older is_revoked) club.keys })
+sound_edited root older is_revoked club s limits =
+    let edit = edited root older is_revoked in
+    let names = AllPairs-map edit (λ (a : Key) (b : Key). a.name ≢ b.name) (λ (a : Key) (b : Key). a.name ≢ b.name) (λ a b h. h) club.keys s.unique.keys in
     record {
       rows = record { members = s.rows.members; facilities = s.rows.facilities; keys = limits; bookings = s.rows.bookings; closed = s.rows.closed };
       unique = record { members = s.unique.members; facilities = s.unique.facilities; keys = names; bookings = s.unique.bookings; closed = s.unique.closed };
       references = record {
-        keys = All-map (λ (k : Key). Contains (map (λ (m : Member). m.name) club.members) k.member) (revoked name) club.keys s.references.keys;
-        bookings = λ k d short. rw (map-map (λ (k : Key). k.name) (revoked name) club.keys) (s.references.bookings k d short);
+        keys = All-map (λ (k : Key). Contains (map (λ (m : Member). m.name) club.members) k.member) edit club.keys s.references.keys;
+        bookings = λ k d short. rw (map-map (λ (k : Key). k.name) edit club.keys) (s.references.bookings k d short);
         booked = s.references.booked;
         closed = s.references.closed;
       };
-      balances = λ k d short. balance_kept club (record club { keys = map (revoked name) club.keys }) (get_or club.members k d) (bookings_of-revoked (get_or club.members k d).name club name) (s.balances k d short);
+      balances = λ k d short. balance_kept club (record club { keys = map edit club.keys }) (get_or club.members k d) (bookings_of-edited root older is_revoked (get_or club.members k d).name club) (s.balances k d short);
       places = s.places;
     }
+
+revoked_row : (name : List ℕ) (key : Key) → IsKey key → IsKey (revoked name key)
+revoked_row name key row = record { name = row.name; member = row.member; root = row.root; older = row.older }
+
+pub sound_revoked : (club : Club) (name : List ℕ) → IsSound club → IsSound (record club { keys = map (revoked name) club.keys })
+sound_revoked club name s =
+    sound_edited (λ key. key.root) (λ key. key.older) (λ key. (revoked name key).revoked) club s
+    (All-map IsKey (revoked name) club.keys (λ k d short. revoked_row name _ (s.rows.keys k d short)))
+
+rotated_row : (name root : List ℕ) (until : ℕ) (key : Key) → FitsRotation root until → IsKey key → IsKey (rotated name root until key)
+rotated_row name root until key f row = record { name = row.name; member = row.member; root = new (bytes_eq key.name name); older = old (bytes_eq key.name name) }
+  where
+    new : (b : Bool) → IsRoot (cond b root key.root)
+    new true = f.root
+    new false = row.root
+
+    old : (b : Bool) → IfSome (cond b (Some (good_until until key.root)) key.older) IsOlderRoot
+    old true = record { root = row.root; until = f.moment }
+    old false = row.older
+
+pub sound_rotated : (club : Club) (name root : List ℕ) (until : ℕ) → IsSound club → FitsRotation root until → IsSound (record club { keys = map (rotated name root until) club.keys })
+sound_rotated club name root until s f =
+    sound_edited (λ key. (rotated name root until key).root) (λ key. (rotated name root until key).older) (λ key. key.revoked) club s
+    (All-map IsKey (rotated name root until) club.keys (λ k d short. rotated_row name root until _ f (s.rows.keys k d short)))
 
 pub sound_closed : (club : Club) (slot : Slot) → IsSound club → FitsClosed club slot → IsSound (record club { closed = club.closed ++ slot ∷ [] })
 sound_closed club slot s f =

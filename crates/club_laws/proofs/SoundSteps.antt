@@ -3,7 +3,7 @@ use Rattle.std.proofs.Common.{List, [], ◌∷◌, Option, Some, None, Ok, Err}
 use Rattle.std.specs.Prelude.{Result, All}
 use Rattle.std.proofs.lemmas.List.Elements.{All-head, All-tail}
 use Rattle.club_core.specs.declared.change.Change.{Change}
-use Rattle.club_core.specs.declared.change.Change.TheVariants.{InsertMember, AddCredit, InsertFacility, InsertKey, MarkRevoked, MarkClosed, InsertBooking, MarkCancelled}
+use Rattle.club_core.specs.declared.change.Change.TheVariants.{InsertMember, AddCredit, InsertFacility, InsertKey, MarkRevoked, ReplaceRoot, MarkClosed, InsertBooking, MarkCancelled}
 use Rattle.club_core.specs.declared.command.Command.{Command}
 use Rattle.club_core.specs.declared.command.OfficeFault.{OfficeFault}
 use Rattle.club_core.specs.Club.{Club, IsSound}
@@ -15,7 +15,7 @@ use Rattle.club_core.specs.Events.{IsEvent}
 use Rattle.club_laws.proofs.FittingChanges.{Fits, FitsIfAny}
 use Rattle.club_laws.proofs.FittingOffice.{FitsIfOk, fits_order}
 use Rattle.club_laws.proofs.FittingAnswers.{fits_answer}
-use Rattle.club_laws.proofs.SoundOffice.{sound_member, sound_credit, sound_facility, sound_key, sound_revoked, sound_closed}
+use Rattle.club_laws.proofs.SoundOffice.{sound_member, sound_credit, sound_facility, sound_key, sound_revoked, sound_rotated, sound_closed}
 use Rattle.club_laws.proofs.SoundBookings.{sound_booking, sound_cancellation}
 
 pub sound_after : (club : Club) (change : Change) → IsSound club → Fits club change → IsSound (after change club)
@@ -24,6 +24,7 @@ sound_after club (AddCredit name points) s f = sound_credit club name points s f
 sound_after club (InsertFacility facility) s f = sound_facility club facility s f
 sound_after club (InsertKey key) s f = sound_key club key s f
 sound_after club (MarkRevoked name) s f = sound_revoked club name s
+sound_after club (ReplaceRoot name root until) s f = sound_rotated club name root until s f
 sound_after club (MarkClosed slot) s f = sound_closed club slot s f
 sound_after club (InsertBooking booking) s f = sound_booking club booking s f
 sound_after club (MarkCancelled key number refund) s f = sound_cancellation club key number refund s f

@@ -6,7 +6,8 @@ use Rattle.club_core.specs.declared.reply.Reply.{Reply}
 use Rattle.club_core.specs.Basis.{key_of}
 use Rattle.club_core.specs.Club.{Club, empty_club, member_named, IsSound}
 use Rattle.club_core.specs.Pass.{Words}
-use Rattle.club_core.specs.Run.{Event, Asked, replies_of, club_after}
+use Rattle.club_core.specs.declared.event.EventReply.TheVariants.{Replied}
+use Rattle.club_core.specs.Run.{Event, Asked, step, replies_of, club_after}
 use Rattle.club_core.specs.Solo.{own_events, part_of, solo_replies}
 use Rattle.club_laws.specs.Conservation.{IsConserved, HasPlaces}
 use Rattle.club_core.specs.Events.{IsEvent}
@@ -68,6 +69,22 @@ TellsRepeatsTheSame O =
     → IsAcceptedIn (club_after club (answered_events telling history before)) words moment
     → (IsFalse (has_failed telling (Asked words moment) told) → told ≡ ToMember reply)
     × IsRun telling club (history ++ rest) (before ++ since) last
+
+-- in this club each request that was told as served is told the same again, and changes nothing
+abbrev pub TellsAgain : {O : Type 0} → Club → List Event → List (Told O) → Type 0
+TellsAgain club events replies =
+    (words : Words) (moment : ℕ) (reply : Reply)
+    → WasTold events replies words reply
+    → IsAcceptedIn club words moment
+    → step club (Asked words moment) ≡ record { reply = Replied reply; club = club }
+
+-- so it is in the club that is left, and in the one that any further event would leave, such as one that failed while a crash
+-- left its change
+abbrev pub TellsAgainAfterOneMore : Type 0 → Type 0
+TellsAgainAfterOneMore O =
+    (telling : Telling O) (club last : Club) (events : List Event) (replies : List (Told O))
+    → IsRun telling club events replies last
+    → TellsAgain last events replies × ((event : Event) → TellsAgain (step last event).club events replies)
 
 -- the replies to a member's requests are those that the member's part and own events give
 abbrev pub SoloLawAsTold : Type 0 → Type 0

@@ -3,7 +3,7 @@ use Rattle.std.specs.Prelude.{◌≡◌, ℕ, ◌+◌, ◌≤◌, List, All, sum
 use Rattle.club_values.specs.declared.slot.Slot.{Slot}
 use Rattle.club_rows.specs.declared.member.Member.{Member}
 use Rattle.club_rows.specs.declared.facility.Facility.{Facility}
-use Rattle.club_core.specs.Club.{Club, empty_club, member_named, facility_named, bookings_of}
+use Rattle.club_core.specs.Club.{Club, empty_club, member_named, facility_named, bookings_of, IsSound}
 use Rattle.club_core.specs.Sums.{cost_of, balance_of, taken_in}
 use Rattle.club_core.specs.declared.event.EventReply.{EventReply}
 use Rattle.club_core.specs.Run.{Event, replies_of, club_after}
@@ -28,6 +28,9 @@ ConservesPoints =
 abbrev pub HasPlaces : Slot → Club → Type 0
 HasPlaces slot club =
     MatchOption (facility_named slot.facility club) (taken_in slot club.bookings ≡ 0) (λ (facility : Facility). taken_in slot club.bookings ≤ facility.places)
+
+abbrev pub SoundClubsHavePlaces : Type 0
+SoundClubsHavePlaces = (club : Club) (slot : Slot) → IsSound club → HasPlaces slot club
 
 abbrev pub NeverOverbooks : Type 0
 NeverOverbooks = (events : List Event) (slot : Slot) → All IsEvent events → HasPlaces slot (club_after empty_club events)

@@ -29,7 +29,7 @@ abbrev pub RefusesWithoutABasis : Type 0
 RefusesWithoutABasis =
     (words : Words) (moment : ℕ) (club : Club) → basis_of club words ≡ None → verdict_in club words moment ≡ refused (blind_refusal words.pass)
 
--- so is a pass that names a key of the club and isn't signed under its row, whatever else it says
+-- so is a pass that names a key of the club and isn't signed under a root of its row that is good at the moment, whatever else it says
 abbrev pub RefusesTheUnsigned : Type 0
 RefusesTheUnsigned =
     (words : Words) (moment : ℕ) (club : Club) (pass : Pass) (key : Key)
@@ -48,8 +48,8 @@ ServesOnlyTheEntitled =
 abbrev pub words_with : Pass → Request → Words
 words_with pass request = record { pass = Ok pass; request = request }
 
--- of two passes of one key, the wide one signed under the key's row, and the narrow one with more caveats: what is served under
--- the narrow one is served under the wide one, with the same reply and the same change
+-- of two passes of one key, the wide one signed under a root of the key's row that is good at the moment, and the narrow one with
+-- more caveats: what is served under the narrow one is served under the wide one, with the same reply and the same change
 abbrev pub MoreCaveatsNeverOpenMore : Type 0
 MoreCaveatsNeverOpenMore =
     (wide narrow : Pass) (more : List (Option Caveat)) (key : Key) (request : Request) (moment : ℕ) (club : Club)

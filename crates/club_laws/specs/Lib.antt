@@ -13,3 +13,4 @@ pub mod AsTold
 pub mod AccountExample
 pub mod Outside
 pub mod Revoked
+pub mod Rotation

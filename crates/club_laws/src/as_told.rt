@@ -1,6 +1,6 @@
 //! The laws over runs in which some events failed, in what is told. `O` is what a desk tells the office.
 
-ghost use Rattle.club_laws.specs.AsTold.{ConservesPointsAsTold, NeverOverbooksAsTold, SoloLawAsTold, SoloLawOfTwoAsTold, SoundAsTold, TellsRepeatsTheSame};
+ghost use Rattle.club_laws.specs.AsTold.{ConservesPointsAsTold, NeverOverbooksAsTold, SoloLawAsTold, SoloLawOfTwoAsTold, SoundAsTold, TellsAgainAfterOneMore, TellsRepeatsTheSame};
 
 /// A run from a sound club leaves a sound one.
 pub fn keeps_sound<O>()
@@ -20,6 +20,11 @@ pub fn never_overbooks<O>()
 /// A repeat of a served booking or cancellation is told what was told first, and may be left out.
 pub fn tells_repeats_the_same<O>()
     ensures { TellsRepeatsTheSame O }
+{}
+
+/// What was told as served is told again in the club that is left, and in each that one event more would leave.
+pub fn tells_again_after_one_more<O>()
+    ensures { TellsAgainAfterOneMore O }
 {}
 
 /// The replies to a member's requests are those that the member's part and own events give.

@@ -16,15 +16,16 @@ pub fn refuses_without_a_basis()
     ensures { RefusesWithoutABasis }
 {}
 
-/// A pass that isn't signed under the key that it names is answered as one that names no key.
+/// A pass that isn't signed under a root of its key that is good at the moment is answered as one
+/// that names no key.
 pub fn refuses_the_unsigned()
     ensures { RefusesTheUnsigned }
 {
     tests_the_signature();
 }
 
-/// A request is served only where the pass names a key of the club that isn't revoked, is signed under its row, and each caveat
-/// allows the request.
+/// A request is served only where the pass names a key of the club that isn't revoked, is signed
+/// under a root of its row that is good at the moment, and each caveat allows the request.
 pub fn serves_only_the_entitled()
     ensures { ServesOnlyTheEntitled }
 {

@@ -9,5 +9,6 @@ pub mod failed;
 pub mod frame;
 pub mod once;
 pub mod outside;
+pub mod rotation;
 pub mod solo;
 pub mod sound;

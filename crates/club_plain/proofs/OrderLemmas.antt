@@ -1,13 +1,14 @@
 -- Each order of the office keeps a club's numbers within their widths.
 use Rattle.std.proofs.Common.{◌≡◌, ℕ, ◌+◌, ◌≤◌, Bool, true, false, cond, List, [], ◌∷◌, refl, arith, subst}
 use Rattle.std.specs.Prelude.{Option, Some, None, Result, Ok, Err, is_some, nat_lt, nat_le, ◌&&◌, ◌||◌, ◌==◌, not}
+use Rattle.std.specs.Str.{bytes_eq}
 use Rattle.std.proofs.lemmas.Bool.{ltb-false, leb-true}
 use Rattle.club_values.specs.declared.slot.Slot.{Slot}
 use Rattle.club_rows.specs.declared.member.Member.{Member}
 use Rattle.club_rows.specs.declared.facility.Facility.{Facility}
 use Rattle.club_rows.specs.declared.key.Key.{Key}
 use Rattle.club_core.specs.declared.change.Change.{Change}
-use Rattle.club_core.specs.declared.change.Change.TheVariants.{InsertMember, AddCredit, InsertFacility, InsertKey, MarkRevoked, MarkClosed}
+use Rattle.club_core.specs.declared.change.Change.TheVariants.{InsertMember, AddCredit, InsertFacility, InsertKey, MarkRevoked, ReplaceRoot, MarkClosed}
 use Rattle.club_core.specs.declared.command.Command.{Command}
 use Rattle.club_core.specs.declared.command.Command.TheVariants as commands
 use Rattle.club_core.specs.declared.command.OfficeFault.{OfficeFault}
@@ -18,7 +19,7 @@ use Rattle.club_core.specs.Basis.{slot_use}
 use Rattle.club_rows.specs.Facility.{is_open_at}
 use Rattle.club_core.specs.Club.{Club, member_named, facility_named, key_named}
 use Rattle.club_core.specs.After.{after}
-use Rattle.club_core.specs.Office.{are_limits, credit_verdict, close_verdict, office_verdict}
+use Rattle.club_core.specs.Office.{are_limits, credit_verdict, rotate_verdict, close_verdict, office_verdict}
 use Rattle.club_plain.specs.Widths.{FitsWidths}
 use Rattle.club_plain.proofs.NameLemmas.{both}
 use Rattle.club_plain.proofs.WidthLemmas.{fits_insert_member, fits_add_credit, fits_insert_facility}
@@ -65,6 +66,12 @@ fits_keys club keys h = record { credited = h.credited; named = h.named; places 
 fits_closed : (club : Club) (closed : List Slot) → FitsWidths club → FitsWidths (record club { closed = closed })
 fits_closed club closed h = record { credited = h.credited; named = h.named; places = h.places; taken = h.taken; spent = h.spent; kept = h.kept }
 
+keeps_rotation : (club : Club) (name root : List ℕ) (until : ℕ) (key : Option Key) → FitsWidths club → KeepsOk club (rotate_verdict name root until key)
+keeps_rotation club name root until None h = keeps_err club _
+keeps_rotation club name root until (Some key) h =
+    let change = ReplaceRoot name root until in
+    keep club (bytes_eq key.root root) Exists (Ok change) (λ e. keeps_ok club change (fits_keys club (after change club).keys h))
+
 keeps_close : (club : Club) (held : SlotUse) (slot : Slot) (facility : Option Facility) → FitsWidths club → KeepsOk club (close_verdict held slot facility)
 keeps_close club held slot None h = keeps_err club _
 keeps_close club held slot (Some facility) h =
@@ -92,7 +99,7 @@ keeps_order club (commands.AddFacility name kind places price opens shuts) h =
     keep club (is_some (facility_named name club)) Exists (Ok (InsertFacility facility)) (λ none.
     keeps_ok club (InsertFacility facility) (fits_insert_facility club facility h (few_places places price opens shuts (not_false (are_limits places price opens shuts) limits)))))
 keeps_order club (commands.AddKey name member root) h =
-    let key : Key = record { name = name; member = member; root = root; revoked = false } in
+    let key : Key = record { name = name; member = member; root = root; older = None; revoked = false } in
     let known : Line (Result Change OfficeFault) = line (is_some (key_named name club)) (Err Exists) in
     keep club (not (is_some (member_named member club))) Unknown (first_of (known ∷ []) (Ok (InsertKey key))) (λ e.
     keep club (is_some (key_named name club)) Exists (Ok (InsertKey key)) (λ f.
@@ -100,4 +107,5 @@ keeps_order club (commands.AddKey name member root) h =
 keeps_order club (commands.RevokeKey name) h =
     keep club (not (is_some (key_named name club))) Unknown (Ok (MarkRevoked name)) (λ e.
     keeps_ok club (MarkRevoked name) (fits_keys club (after (MarkRevoked name) club).keys h))
+keeps_order club (commands.RotateKey name root until) h = keeps_rotation club name root until (key_named name club) h
 keeps_order club (commands.CloseSlot slot) h = keeps_close club (slot_use club slot) slot (facility_named slot.facility club) h

@@ -1,7 +1,7 @@
 -- What takes memory (ours): a new row, and nothing else.
 use Rattle.std.specs.Prelude.{ℕ, ◌+◌, ◌<◌, Bool, true, false, length}
 use Rattle.club_core.specs.declared.change.Change.{Change}
-use Rattle.club_core.specs.declared.change.Change.TheVariants.{InsertMember, AddCredit, InsertFacility, InsertKey, MarkRevoked, MarkClosed, InsertBooking, MarkCancelled}
+use Rattle.club_core.specs.declared.change.Change.TheVariants.{InsertMember, AddCredit, InsertFacility, InsertKey, MarkRevoked, ReplaceRoot, MarkClosed, InsertBooking, MarkCancelled}
 use Rattle.club_core.specs.Club.{Club}
 use Rattle.club_core.specs.Run.{Event, step}
 
@@ -11,6 +11,7 @@ is_growth (AddCredit member points) = false
 is_growth (InsertFacility facility) = true
 is_growth (InsertKey key) = true
 is_growth (MarkRevoked key) = false
+is_growth (ReplaceRoot key root until) = false
 is_growth (MarkClosed slot) = true
 is_growth (InsertBooking booking) = true
 is_growth (MarkCancelled key number refund) = false

@@ -4,17 +4,18 @@ use Rattle.club_values.specs.declared.slot.Slot.{Slot}
 use Rattle.club_rows.specs.declared.member.Member.{Member}
 use Rattle.club_rows.specs.declared.facility.Facility.{Facility}
 use Rattle.club_rows.specs.declared.booking.Booking.{Booking}
+use Rattle.club_rows.specs.Limits.{credited_limit, places_limit}
 use Rattle.club_core.specs.Club.{Club, member_named}
 use Rattle.club_core.specs.Sums.{taken_in, spent_under}
 
 pub record FitsWidths (club : Club) : Type 0 where
   -- points are credited up to this limit, to the one member of a name
-  pub credited : All (λ (member : Member). member.credited ≤ 999_999_999) club.members
+  pub credited : All (λ (member : Member). member.credited ≤ credited_limit) club.members
   pub named : All (λ (member : Member). member_named member.name club ≡ Some member) club.members
   -- no slot has more persons than the most places
-  pub places : All (λ (facility : Facility). facility.places ≤ 50) club.facilities
-  pub taken : (slot : Slot) → taken_in slot club.bookings ≤ 50
+  pub places : All (λ (facility : Facility). facility.places ≤ places_limit) club.facilities
+  pub taken : (slot : Slot) → taken_in slot club.bookings ≤ places_limit
   -- no key has spent more than the most points
-  pub spent : (key : List ℕ) → spent_under key club.bookings ≤ 999_999_999
+  pub spent : (key : List ℕ) → spent_under key club.bookings ≤ credited_limit
   -- a booking gives back nothing before it is cancelled
   pub kept : All (λ (booking : Booking). booking.cancelled ≡ false → booking.refund ≡ 0) club.bookings

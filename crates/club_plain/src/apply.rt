@@ -1,7 +1,7 @@
 ghost use Rattle.std.specs.Prelude.{◌≡◌, OnOk, OnErr, IsTrue};
 
 use crate::club::Club;
-use crate::edits::{cancel, credit, revoke};
+use crate::edits::{cancel, credit, revoke, rotate};
 use club_core::Change;
 use std::alloc::AllocError;
 
@@ -24,6 +24,7 @@ impl Club {
             Change::InsertFacility(facility) => self.facilities.push(facility)?,
             Change::InsertKey(key) => self.keys.push(key)?,
             Change::MarkRevoked { key } => revoke(&mut self.keys, &key),
+            Change::ReplaceRoot { key, root, until } => rotate(&mut self.keys, &key, &root, until),
             Change::MarkClosed(slot) => self.closed.push(slot)?,
             Change::InsertBooking(booking) => self.bookings.push(booking)?,
             Change::MarkCancelled {

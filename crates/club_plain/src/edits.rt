@@ -2,13 +2,14 @@
 
 ghost use Rattle.std.specs.Prelude.{◌≡◌, ◌≤◌, map, All};
 ghost use Rattle.club_rows.specs.declared.member.Member.{Member as MemberRow};
+ghost use Rattle.club_rows.specs.Limits.{credited_limit};
 ghost use Rattle.club_core.specs.After as after;
 
-use club_core::{Booking, BookingNumber, Key, Member};
-use pass_caveats::Name;
+use club_core::{Booking, BookingNumber, Key, Member, OlderRoot, Root};
+use pass_caveats::{Moment, Name};
 
 fn credited(member: &Member, name: &Name, points: u32) -> Member
-    requires { (after.credited name.now points member.now).credited ≤ 999_999_999 }
+    requires { (after.credited name.now points member.now).credited ≤ credited_limit }
     ensures { result ≡ after.credited name.now points member.now }
 {
     let mut member = *member;
@@ -20,7 +21,7 @@ fn credited(member: &Member, name: &Name, points: u32) -> Member
 
 /// Adds points to the member of the name.
 pub(crate) fn credit(members: &mut [Member], name: &Name, points: u32)
-    requires { All (λ (member : MemberRow). member.credited ≤ 999_999_999)
+    requires { All (λ (member : MemberRow). member.credited ≤ credited_limit)
         (map (after.credited name.now points) members.old) }
     ensures { members.new ≡ map (after.credited name.now points) members.old }
 {
@@ -43,6 +44,31 @@ pub(crate) fn revoke(keys: &mut [Key], name: &Name)
 {
     for key in keys.iter_mut() {
         *key = revoked(key, name);
+    }
+}
+
+fn rotated(key: &Key, name: &Name, root: &Root, until: Moment) -> Key
+    ensures { result ≡ after.rotated name.now root.now until key.now }
+{
+    let mut key = *key;
+    if key.name == *name {
+        let replaced = OlderRoot {
+            root: key.root,
+            until,
+        };
+        key.older = Some(replaced);
+        key.root = *root;
+    }
+    key
+}
+
+/// Gives the key of the name a new root. The one that it had is its older root from then on, good
+/// until the moment.
+pub(crate) fn rotate(keys: &mut [Key], name: &Name, root: &Root, until: Moment)
+    ensures { keys.new ≡ map (after.rotated name.now root.now until) keys.old }
+{
+    for key in keys.iter_mut() {
+        *key = rotated(key, name, root, until);
     }
 }
 

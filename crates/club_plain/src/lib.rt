@@ -14,4 +14,6 @@ mod views;
 pub use club::Club;
 
 #[cfg(test)]
+mod rotation_tests;
+#[cfg(test)]
 mod tests;

@@ -81,8 +81,10 @@ impl Club {
         ensures few { IfSome result (λ view. view.taken ≤ 50) }
     {
         let name = words.key()?;
-        let key = self.key_named(&name)?;
-        self.view_of(&key, &words.request, moment)
+        match self.key_named(&name) {
+            Some(key) => self.view_of(&key, &words.request, moment),
+            None => None,
+        }
     }
 
     /// What an order looks at: the rows of the names in it, and what is taken of its slot.
@@ -101,7 +103,9 @@ impl Club {
                 self.key_named(name),
                 None,
             ),
-            Command::RevokeKey { name } => rows_seen(None, self.key_named(name), None),
+            Command::RevokeKey { name } | Command::RotateKey { name, .. } => {
+                rows_seen(None, self.key_named(name), None)
+            }
             Command::CloseSlot(slot) => OrderView {
                 member: None,
                 key: None,

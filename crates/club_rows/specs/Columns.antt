@@ -1,5 +1,5 @@
 -- The rows that the values of columns are (ours).
-use Rattle.std.specs.Prelude.{◌≡◌, ℕ, ◌≤◌, ℤ, pos, Bool, true, false, List}
+use Rattle.std.specs.Prelude.{◌≡◌, ℕ, ◌≤◌, ℤ, pos, Bool, true, false, List, None}
 use Rattle.club_values.specs.declared.slot.Slot.{Slot}
 use Rattle.club_values.specs.Kind.{kind_text}
 use Rattle.club_rows.specs.declared.booking.Booking.{Booking}
@@ -8,6 +8,7 @@ use Rattle.club_rows.specs.declared.facility.Facility.{Facility}
 use Rattle.club_rows.specs.declared.facility.FacilityColumns.{FacilityColumns}
 use Rattle.club_rows.specs.declared.key.Key.{Key}
 use Rattle.club_rows.specs.declared.member.Member.{Member}
+use Rattle.club_rows.specs.Limits.{charge_limit}
 use Rattle.club_rows.specs.Rows.{IsMember, IsFacility, IsKey, IsSlot, IsBooking}
 
 abbrev pub truth : Bool → ℕ
@@ -32,11 +33,13 @@ pub record IsFacilityOf (columns : FacilityColumns) (facility : Facility) : Type
   pub same_opens : columns.opens ≡ pos facility.opens
   pub same_shuts : columns.shuts ≡ pos facility.shuts
 
+-- without an older root, of which these columns don't tell
 pub record IsKeyOf (name member root : List ℕ) (revoked : ℤ) (key : Key) : Type 0 where
   pub row : IsKey key
   pub same_name : name ≡ key.name
   pub same_member : member ≡ key.member
   pub same_root : root ≡ key.root
+  pub no_older : key.older ≡ None
   pub same_revoked : IsTruth revoked key.revoked
 
 pub record IsSlotOf (facility : List ℕ) (day hour : ℤ) (slot : Slot) : Type 0 where
@@ -50,7 +53,7 @@ pub record IsPaid (charge_value cancelled_value refund_value : ℤ) (charge : �
   pub same_charge : charge_value ≡ pos charge
   pub same_cancelled : IsTruth cancelled_value cancelled
   pub same_refund : refund_value ≡ pos refund
-  pub largest : charge ≤ 499_950
+  pub largest : charge ≤ charge_limit
   pub at_most : refund ≤ charge
   pub kept : cancelled ≡ false → refund ≡ 0
 

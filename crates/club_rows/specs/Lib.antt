@@ -1,6 +1,7 @@
 pub mod Limits
 pub mod RootInside
 pub mod Rows
+pub mod Key
 pub mod Facility
 pub mod Booking
 pub mod Columns

@@ -1,5 +1,5 @@
 use super::*;
-use club_values::{Day, Hour, Kind, Name, Slot};
+use club_values::{Day, Hour, Kind, Moment, Name, Slot};
 use std::test::*;
 
 /// `court-1` on 2026-05-01, at 18 unless told.
@@ -16,6 +16,7 @@ fn key() -> Option<Key> {
         name: Name::read(b"amy-1")?,
         member: Name::read(b"amy")?,
         root: Root::new(&[7; 16])?,
+        older: None,
         revoked: false,
     })
 }
@@ -107,6 +108,28 @@ fn booking_columns(rt: HostRuntime) {
     assert!(rt; Booking::from_columns(&columns).is_some());
     columns.refund = 601;
     assert_eq!(rt; Booking::from_columns(&columns), None);
+}
+
+/// The key after a rotation, with the older root good until a moment.
+fn rotated(until: Moment) -> Option<Key> {
+    let mut key = key()?;
+    key.older = Some(OlderRoot {
+        root: Root::new(&[8; 16])?,
+        until,
+    });
+    Some(key)
+}
+
+#[test]
+fn older_roots(rt: HostRuntime) -> Result<(), Fail> {
+    let until = Moment::read(b"2026-04-25T00:00").ok_or("a moment")?;
+    let before = Moment::read(b"2026-04-24T23:59").ok_or("a moment")?;
+    let key = rotated(until).ok_or("a key")?;
+    assert_eq!(rt; key.older_root_at(before).copied(), Root::new(&[8; 16]));
+    assert_eq!(rt; key.older_root_at(until).copied(), None);
+    let fresh = self::key().ok_or("a key")?;
+    assert_eq!(rt; fresh.older_root_at(before).copied(), None);
+    Ok(())
 }
 
 /// A root is a secret: what is printed of it tells nothing of its bytes.

@@ -23,7 +23,7 @@ use Rattle.club_values.specs.declared.slot.Slot.{Slot}
 use Rattle.club_rows.specs.Columns.{truth}
 use Rattle.club_rows.specs.declared.booking.Booking.{Booking}
 use Rattle.club_rows.specs.Booking.{same_slot}
-use Rattle.club_core.specs.Sums.{is_in, is_under, booking_under}
+use Rattle.club_core.specs.Sums.{is_under, booking_under}
 use Rattle.club_core.specs.Club.{Club}
 use Rattle.club_store.specs.declared.texts.TheConstants.{SLOT, BOOKING, COSTS_UNDER_KEY}
 use Rattle.club_store.specs.Schema.{club_schema}

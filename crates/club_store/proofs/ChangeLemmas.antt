@@ -1,6 +1,6 @@
 -- What the statements that change a row of a member or of a key make of the tables.
-use Rattle.std.proofs.Common.{◌≡◌, ◌+◌, ℕ, ℤ, pos, Ok, Bool, true, false, ◌||◌, cond, if◌then◌else◌, List, [], ◌∷◌, map, length, ◌≤◌, ◌≢◌, refl, sym, ap, subst, ◌∙◌, arith}
-use Rattle.std.specs.Prelude.{filter, AllPairs}
+use Rattle.std.proofs.Common.{◌≡◌, ◌+◌, ℕ, ℤ, pos, Ok, Some, Bool, true, false, ◌||◌, cond, if◌then◌else◌, List, [], ◌∷◌, map, ◌≢◌, refl, sym, ap, subst, ◌∙◌}
+use Rattle.std.specs.Prelude.{AllPairs}
 use Rattle.std.specs.List.{AllByRecursion}
 use Rattle.std.specs.Str.{bytes_eq}
 use Rattle.sqlite_tied.specs.Compute.{everything}
@@ -18,9 +18,9 @@ use Rattle.sqlite.specs.State.{State, Executes}
 use Rattle.sqlite.proofs.Callers.{IsPlain, command_of}
 use Rattle.club_rows.specs.Columns.{truth}
 use Rattle.club_rows.specs.declared.key.Key.{Key}
-use Rattle.club_core.specs.After.{credited, revoked}
+use Rattle.club_core.specs.After.{credited, revoked, good_until, rotated}
 use Rattle.club_store.specs.declared.row.MemberRow.{MemberRow}
-use Rattle.club_store.specs.declared.texts.TheConstants.{ADD_CREDIT, ADD_USED, REVOKE_KEY}
+use Rattle.club_store.specs.declared.texts.TheConstants.{ADD_CREDIT, ADD_USED, REVOKE_KEY, SET_ROOT}
 use Rattle.club_store.specs.Schema.{members_table, keys_table, club_schema}
 use Rattle.club_store.specs.Columns.{whole, flag, member_values, key_values}
 use Rattle.club_store.specs.Statements.{select, is_given}
@@ -75,6 +75,35 @@ key_revoked old new rows lies unique name count ran =
     (λ id key _ passes. ap (λ v. Int id ∷ Int id ∷ Text key.name ∷ Text key.member ∷ Blob key.root ∷ v ∷ []) (sym (marked key passes)))
     (λ id key. rw (cast_int id, cast_int (pos (truth key.revoked)))) lies.keys (one_named (λ (key : Key). key.name) name rows.keys unique) put.1 in
     on_keys old.now new.now rows lies put.2 put.5 put.4 (map (revoked name) rows.keys) (subst (λ rs. Holds key_values rs (map (revoked name) rows.keys)) (sym put.3) keys)
+
+-- ---- a key gets a new root
+
+abbrev root_terms : List Term
+root_terms = col 1 0 ∷ col 1 0 ∷ col 1 1 ∷ col 1 2 ∷ col 0 1 ∷ col 1 4 ∷ []
+
+root_is : command_of (understood club_schema SET_ROOT.now) ≡ Update 3 (record { lets = []; body = select (inner keys_tree end) (is_given 1 0 ∷ []) root_terms })
+unfolding understood everything
+root_is = refl
+
+root_plain : IsPlain (understood club_schema SET_ROOT.now)
+unfolding understood everything
+root_plain = (refl, refl)
+
+-- the columns don't tell of the older root
+pub root_set : (old new : State) (rows : Rows) → Lies old.now rows → AllPairs (λ (a : Key) (b : Key). a.name ≢ b.name) rows.keys → (name root : List ℕ) (until count : ℕ) → Executes SET_ROOT.now (Text name ∷ Blob root ∷ []) old new (Ok count)
+    → Lies new.now (record rows { keys = map (rotated name root until) rows.keys })
+root_set old new rows lies unique name root until count ran =
+    let params = Text name ∷ Blob root ∷ [] in
+    let p : Key → Bool = λ key. bytes_eq key.name name in
+    let change = rotated name root until in
+    let put = updates old new lies.schema SET_ROOT.now root_plain 3 key_table (select (inner keys_tree end) (is_given 1 0 ∷ []) root_terms) params refl root_is count ran in
+    let same : (key : Key) → p key ≡ false → change key ≡ key = λ key fails.
+    ap (λ b. let k : Key = record key { root = if b then root else key.root; older = if b then Some (good_until until key.root) else key.older } in k) fails in
+    let keys = replaced key_values p change same params (is_given 1 0 ∷ []) root_terms (λ id key. and_true _ ∙ text_equal key.name name) key_table
+    (record { schema = club_schema; trees = old.now.trees }) rows.keys put.0 (λ _. Unit {0}) (nothing_more rows.keys)
+    (λ id key _ passes. ap (λ b. Int id ∷ Int id ∷ Text key.name ∷ Text key.member ∷ Blob (if b then root else key.root) ∷ flag key.revoked ∷ []) (sym passes))
+    (λ id key. rw (cast_int id, cast_int (pos (truth key.revoked)))) lies.keys (one_named (λ (key : Key). key.name) name rows.keys unique) put.1 in
+    on_keys old.now new.now rows lies put.2 put.5 put.4 (map change rows.keys) (subst (λ rs. Holds key_values rs (map change rows.keys)) (sym put.3) keys)
 
 -- ---- the numbers of a member's row
 

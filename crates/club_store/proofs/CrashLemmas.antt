@@ -36,7 +36,8 @@ database_once one other p q same =
 
 pub is_database : (db : Database) (club : Club) → HoldsClub db club → IsDatabase db
 is_database db club (inl tables) = tables.lies.database
-is_database db club (inr blank) = blank.2
+is_database db club (inr (inl first)) = first.lies.database
+is_database db club (inr (inr blank)) = blank.2
 
 -- what a crash left is a database
 pub left_is_sound : (trees : Trees) (clubs : List Club) → IsLeftOf trees clubs → (schema : Schema) × IsSound schema trees
@@ -82,7 +83,7 @@ unlisted schema listed = λ i. record {
 }
 
 blank_if_unlisted : (db : Database) → IsDatabase db → db.trees catalog_tree ≡ [] → HoldsClub db empty_club
-blank_if_unlisted db sound none = inr (unlisted db.schema (subst (λ rows. AreListed rows db.schema) none sound.lists.listed), refl, sound)
+blank_if_unlisted db sound none = inr (inr (unlisted db.schema (subst (λ rows. AreListed rows db.schema) none sound.lists.listed), refl, sound))
 
 -- what is found in an empty file is no table
 pub new_is_blank : (start : Image) (opened : State) → start.db ≡ [] → FindsIn start opened → IsDatabase opened.committed → HoldsClub opened.committed empty_club

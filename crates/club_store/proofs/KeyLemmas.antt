@@ -1,5 +1,5 @@
 -- Rows that are asked for by name.
-use Rattle.std.proofs.Common.{◌≡◌, ℕ, ◌≤◌, List, [], ◌∷◌, length, map, codes, Some, cond, subst, false, Bool, true, ◌&&◌, ◌≢◌, slice_get, refl, sym, ap, ◌∙◌, arith}
+use Rattle.std.proofs.Common.{◌≡◌, ℕ, ◌≤◌, List, [], ◌∷◌, length, map, codes, Option, Some, None, cond, subst, false, Bool, true, ◌&&◌, ◌≢◌, slice_get, refl, sym, ap, ◌∙◌, arith}
 use Rattle.std.specs.Prelude.{filter, find, option_map, AllPairs, IsPermutation}
 use Rattle.std.proofs.lemmas.List.{length-map}
 use Rattle.std.specs.Option.{option_to_list}
@@ -21,11 +21,11 @@ use Rattle.club_rows.specs.declared.member.Member.{Member}
 use Rattle.club_rows.specs.declared.facility.Facility.{Facility}
 use Rattle.club_core.specs.Club.{Club, key_named, member_named, facility_named}
 use Rattle.club_store.specs.declared.row.MemberRow.{MemberRow}
-use Rattle.club_store.specs.declared.texts.TheConstants.{KEY, MEMBER, FACILITY}
+use Rattle.club_store.specs.declared.texts.TheConstants.{KEY, MEMBER, FACILITY, OLDER_ROOT}
 use Rattle.club_store.specs.Schema.{club_schema}
-use Rattle.club_store.specs.Columns.{key_values, member_values, facility_values}
-use Rattle.club_store.specs.Stored.{member_row}
-use Rattle.club_store.specs.Tables.{Stands, Holds, keys_tree, members_tree, facilities_tree}
+use Rattle.club_store.specs.Columns.{key_values, member_values, facility_values, older_values, older_root_values}
+use Rattle.club_store.specs.Stored.{OlderRow, member_row, older_of}
+use Rattle.club_store.specs.Tables.{Stands, Holds, keys_tree, members_tree, facilities_tree, olders_tree}
 use Rattle.club_store.specs.Statements.{select, is_given}
 use Rattle.club_store.specs.Transaction.{Asked}
 use Rattle.club_store.proofs.SelectLemmas.{selected, text_equal, find_first, apart_from_pairs, one_passes, short_permutation}
@@ -88,6 +88,35 @@ key_told g old name rows clean asked club others stands =
     let same = selected key_values (Text name ∷ []) (is_given 1 0 ∷ []) _ p key_values (λ id key. and_true _ ∙ text_equal key.name name) (λ id key. refl) keys_tree
     (map codes ("name" ∷ "member" ∷ "root" ∷ "revoked" ∷ [])) (state g old).now club.keys rows (keys_held _ club tables) reads in
     first_told key_values p club.keys rows (one_named (λ (key : Key). key.name) name club.keys tables.sound.unique.keys) same
+
+older_is : command_of (understood club_schema OLDER_ROOT.now) ≡ Select (record { lets = []; body = select (inner olders_tree end) (is_given 1 0 ∷ []) (map (col 1) (2 ∷ 3 ∷ [])) }) (map codes ("root" ∷ "until" ∷ []))
+unfolding understood everything
+older_is = refl
+
+older_plain : IsPlain (understood club_schema OLDER_ROOT.now)
+unfolding understood everything
+older_plain = (refl, refl)
+
+older_unlisted : reads_listing club_schema OLDER_ROOT.now ≡ false
+unfolding everything
+older_unlisted = refl
+
+shown_again : (found : Option OlderRow) → map (λ (row : OlderRow). older_root_values row.older) (option_to_list found) ≡ map older_root_values (option_to_list (option_map (λ (row : OlderRow). row.older) found))
+shown_again None = refl
+shown_again (Some row) = refl
+
+pub older_told : {S : Type 0} (g : Ghosts S) (old : Held S) (name : List ℕ) (rows : List Row) → HasCleanDisk (state g old) → Asked g OLDER_ROOT.now (Text name ∷ []) old rows
+    → (club : Club) (others : List Club) → Stands (state g old) club others → rows ≡ map older_root_values (option_to_list (older_of name club))
+older_told g old name rows clean asked club others stands =
+    let tables = asked_tables g OLDER_ROOT.now _ old rows asked clean club others stands in
+    let reads = asked_reads g OLDER_ROOT.now _ old rows asked tables.lies.schema _ older_is older_plain older_unlisted in
+    let p : OlderRow → Bool = λ row. bytes_eq row.key name in
+    let show : OlderRow → Row = λ row. older_root_values row.older in
+    let olders = tables.rows.olders in
+    let same = selected older_values (Text name ∷ []) (is_given 1 0 ∷ []) _ p show (λ id row. and_true _ ∙ text_equal row.key name) (λ id row. refl) olders_tree
+    (map codes ("root" ∷ "until" ∷ [])) (state g old).now olders rows tables.lies.olders reads in
+    first_told show p olders rows (one_named (λ (row : OlderRow). row.key) name olders tables.stored.rotated) same
+    ∙ shown_again (find p olders) ∙ ap (λ o. map older_root_values (option_to_list o)) (tables.stored.olders name)
 
 member_is : command_of (understood club_schema MEMBER.now) ≡ Select (record { lets = []; body = select (inner members_tree end) (is_given 1 0 ∷ []) (map (col 1) (1 ∷ 2 ∷ 3 ∷ 4 ∷ [])) }) (map codes ("name" ∷ "credited" ∷ "quota" ∷ "used" ∷ []))
 unfolding understood everything

@@ -18,7 +18,9 @@ pub mod CancelLemmas
 pub mod SlotRows
 pub mod SlotTold
 pub mod UpsertLemmas
+pub mod OwnerLemmas
 pub mod StoredLemmas
+pub mod CancelStored
 pub mod MadeLemmas
 pub mod BookingLemmas
 pub mod OrderLemmas
@@ -34,3 +36,7 @@ pub mod MemberLemmas
 pub mod SumLemmas
 pub mod ViewLemmas
 pub mod SoundLemmas
+pub mod PutRows
+pub mod PutLemmas
+pub mod MigrateLemmas
+pub mod OlderLemmas

@@ -1,11 +1,11 @@
 -- What each change makes of the tables.
-use Rattle.std.proofs.Common.{◌≡◌, ◌≢◌, ℕ, zero, suc, ◌+◌, ◌-◌, ◌<◌, ◌≤◌, ◌^◌, ℤ, pos, neg_ℤ, ◌+ℤ◌, Bool, true, false, ◌||◌, cond, if◌then◌else◌, Ok, Option, Some, None, List, [], ◌∷◌, ◌++◌, length, map, Contains, refl, sym, ap, subst, ◌∙◌, arith, true≢false}
-use Rattle.std.specs.Prelude.{All, AllPairs}
+use Rattle.std.proofs.Common.{◌≡◌, ◌≢◌, ℕ, zero, suc, ◌+◌, ◌-◌, ◌<◌, ◌≤◌, ◌^◌, ℤ, pos, neg_ℤ, ◌+ℤ◌, Bool, true, false, ◌||◌, cond, if◌then◌else◌, Ok, None, List, [], ◌∷◌, ◌++◌, map, Contains, refl, sym, ap, subst, ◌∙◌, arith}
+use Rattle.std.specs.Prelude.{AllPairs}
 use Rattle.std.specs.List.{AllByRecursion, list_any}
 use Rattle.std.specs.Str.{bytes_eq}
 use Rattle.std.proofs.lemmas.Bool.{lt-ltb}
 use Rattle.std.proofs.lemmas.Int.{ints}
-use Rattle.sqlite_value.specs.declared.value.Value.TheVariants.{Int, Text}
+use Rattle.sqlite_value.specs.declared.value.Value.TheVariants.{Int, Text, Blob}
 use Rattle.sqlite_sql.specs.declared.ops.BinaryOp.TheVariants.{Arith}
 use Rattle.sqlite_sql.specs.declared.ops.ArithOp.TheVariants.{Add}
 use Rattle.sqlite_sql.specs.Ops.{binary}
@@ -18,8 +18,8 @@ use Rattle.club_rows.specs.declared.booking.Booking.{Booking}
 use Rattle.club_rows.specs.declared.facility.Facility.{Facility}
 use Rattle.club_rows.specs.declared.key.Key.{Key}
 use Rattle.club_rows.specs.declared.member.Member.{Member}
-use Rattle.club_core.specs.declared.change.Change.TheVariants.{InsertMember, AddCredit, InsertFacility, InsertKey, MarkRevoked, MarkClosed, InsertBooking, MarkCancelled}
-use Rattle.club_core.specs.After.{after, credited}
+use Rattle.club_core.specs.declared.change.Change.TheVariants.{InsertMember, AddCredit, InsertFacility, InsertKey, MarkRevoked, ReplaceRoot, MarkClosed, InsertBooking, MarkCancelled}
+use Rattle.club_core.specs.After.{after, credited, good_until}
 use Rattle.club_rows.specs.Booking.{same_slot, persons_of}
 use Rattle.club_core.specs.Club.{Club, IsSound, is_key_of}
 use Rattle.club_rows.specs.Rows.{IsMember, IsFacility, IsBooking}
@@ -27,21 +27,24 @@ use Rattle.club_core.specs.Basis.{slot_use}
 use Rattle.club_core.specs.Store.{Fits}
 use Rattle.club_core.specs.Sums.{taken_in, cost_of}
 use Rattle.club_store.specs.declared.row.MemberRow.{MemberRow}
-use Rattle.club_store.specs.declared.texts.TheConstants.{ADD_MEMBER, ADD_FACILITY, ADD_KEY, ADD_CREDIT, REVOKE_KEY, CLOSE_SLOT, ADD_BOOKING, CANCEL_BOOKING}
-use Rattle.club_store.specs.Columns.{whole, facility_values, key_values, booking_values, name_values}
-use Rattle.club_store.specs.Stored.{SlotRow, Rows, member_row, used_by, unused, use_by, row_of, persons_taken}
-use Rattle.club_store.specs.Tables.{Tables, Lies}
-use Rattle.club_store.specs.Told.{IsOwnedBy, IsToCancel, HasNoneToCancel}
+use Rattle.club_store.specs.declared.texts.TheConstants.{ADD_MEMBER, ADD_FACILITY, ADD_KEY, ADD_CREDIT, REVOKE_KEY, PUT_OLDER_ROOT, SET_ROOT, CLOSE_SLOT, ADD_BOOKING, CANCEL_BOOKING}
+use Rattle.club_store.specs.Columns.{whole, facility_values, key_values, older_root_values, booking_values, name_values}
+use Rattle.club_store.specs.Stored.{SlotRow, Rows, member_row, used_by, unused, use_by, persons_taken}
+use Rattle.club_store.specs.Tables.{Tables}
+use Rattle.club_store.specs.Told.{IsOwnedBy, HasRoot, IsToCancel, HasNoneToCancel}
 use Rattle.club_store.specs.Transaction.{Words, Ran, begun, with_totals}
 use Rattle.club_store.proofs.AddLemmas.{member_put, facility_put, key_put, booking_put}
 use Rattle.club_store.proofs.BookingLemmas.{same_slots}
 use Rattle.club_store.proofs.CancelLemmas.{booking_cancelled}
-use Rattle.club_store.proofs.ChangeLemmas.{key_revoked, member_credited, member_used, AreNamedOnce, Credits, Uses, name_of}
+use Rattle.club_store.proofs.ChangeLemmas.{key_revoked, root_set, member_credited, member_used, AreNamedOnce, Credits, Uses, name_of}
 use Rattle.club_store.proofs.MemberLemmas.{total}
 use Rattle.club_store.proofs.OrderLemmas.{pairs_from_apart}
 use Rattle.club_store.proofs.SelectLemmas.{Apart, apart_from_pairs}
 use Rattle.club_store.proofs.SlotRows.{AreApart, same_itself, not_same}
-use Rattle.club_store.proofs.StoredLemmas.{all_of, all_last, bytes_eq-sym, owner_is, member_stored, credit_stored, facility_stored, key_stored, revoke_stored, close_stored, booking_stored, taken_more, there, used_back, taken_back, cancel_stored, same_stored}
+use Rattle.club_store.proofs.OlderLemmas.{put_older, older_stands}
+use Rattle.club_store.proofs.OwnerLemmas.{all_of, all_last, owner_is}
+use Rattle.club_store.proofs.StoredLemmas.{member_stored, credit_stored, facility_stored, key_stored, revoke_stored, rotate_stored, close_stored, booking_stored, taken_more}
+use Rattle.club_store.proofs.CancelStored.{there, used_back, taken_back, cancel_stored, same_stored}
 use Rattle.club_store.proofs.UpsertLemmas.{slot_closed, slot_taken, Takes}
 
 -- ---- turns
@@ -180,13 +183,13 @@ module _ {S : Type 0} (g : Ghosts S) (old : Held S) (db : Database) (club : Club
         sound = fits;
       })
 
-  pub key_made : (key : Key) → Fits (InsertKey key) club → Ran g ((ADD_KEY.now, key_values key) ∷ []) old db → Tables db (after (InsertKey key) club)
-  key_made key fits ran =
+  pub key_made : (key : Key) → key.older ≡ None → Fits (InsertKey key) club → Ran g ((ADD_KEY.now, key_values key) ∷ []) old db → Tables db (after (InsertKey key) club)
+  key_made key new fits ran =
       let t = one_turn g old db _ ran in
       held_by g old db _ t.mid t.left (record {
         rows = _;
         lies = key_put (state g (begun old)) (state g t.mid) tables.rows tables.lies key t.count t.ran;
-        stored = key_stored club tables.rows tables.stored tables.sound key fits;
+        stored = key_stored club tables.rows tables.stored tables.sound key new fits;
         sound = fits;
       })
 
@@ -210,6 +213,21 @@ module _ {S : Type 0} (g : Ghosts S) (old : Held S) (db : Database) (club : Club
         rows = _;
         lies = key_revoked (state g (begun old)) (state g t.mid) tables.rows tables.lies unique name t.count t.ran;
         stored = revoke_stored club tables.rows tables.stored name;
+        sound = fits;
+      })
+
+  pub rotate_made : (name root was : List ℕ) (until : ℕ) → HasRoot name was club → Fits (ReplaceRoot name root until) club
+      → Ran g ((PUT_OLDER_ROOT.now, Text name ∷ older_root_values (good_until until was)) ∷ (SET_ROOT.now, Text name ∷ Blob root ∷ []) ∷ []) old db → Tables db (after (ReplaceRoot name root until) club)
+  rotate_made name root was until has fits ran =
+      let t1 = ran.turns in
+      let t2 = t1.3 in
+      let unique = subst (AllPairs (λ (a : Key) (b : Key). a.name ≢ b.name)) (sym tables.stored.keys) tables.sound.unique.keys in
+      let put = older_stands (state g (begun old)) (state g t1.0) tables.rows tables.lies tables.stored.rotated name (good_until until was) t1.1 t1.2 in
+      let mid : Rows = record tables.rows { olders = put_older name (good_until until was) tables.rows.olders } in
+      held_by g old db _ t2.0 (ran.is ∙ ap (λ h. (state g h).now) t2.3) (record {
+        rows = _;
+        lies = root_set (state g t1.0) (state g t2.0) mid put unique name root until t2.1 t2.2;
+        stored = rotate_stored club tables.rows tables.stored name root was until has;
         sound = fits;
       })
 

@@ -12,8 +12,8 @@ use Rattle.sqlite.specs.Command.TheVariants.{CreateTable, CreateIndex}
 use Rattle.sqlite.specs.Does.{lacks_sequence}
 use Rattle.sqlite.specs.Listing.{understood}
 use Rattle.sqlite.proofs.Callers.{IsPlain, command_of, statement_of}
-use Rattle.club_store.specs.Schema.{no_schema, desk_table, members_table, facilities_table, keys_table, slots_table, bookings_table, six_tables, keys_by_member, club_schema}
-use Rattle.club_store.specs.declared.texts.TheConstants.{MAKE_DESK, MAKE_MEMBERS, MAKE_FACILITIES, MAKE_KEYS, MAKE_SLOTS, MAKE_BOOKINGS, MAKE_KEYS_BY_MEMBER}
+use Rattle.club_store.specs.Schema.{no_schema, desk_table, members_table, facilities_table, keys_table, slots_table, bookings_table, six_tables, old_roots_table, keys_by_member, first_schema, club_schema}
+use Rattle.club_store.specs.declared.texts.TheConstants.{MAKE_DESK, MAKE_MEMBERS, MAKE_FACILITIES, MAKE_KEYS, MAKE_SLOTS, MAKE_BOOKINGS, MAKE_KEYS_BY_MEMBER, MAKE_OLD_ROOTS}
 
 -- the text makes the table
 pub record Makes (schema : Schema) (text : List ℕ) (table : Table) : Type 0 where
@@ -77,7 +77,15 @@ pub makes_keys_by_member : MakesIndex six_tables MAKE_KEYS_BY_MEMBER.now 3 keys_
 unfolding understood everything
 makes_keys_by_member = record { plain = (refl, refl); listed = refl; is = refl; whole = refl; defined = refl }
 
--- over the club's tables the first text is refused
+pub makes_old_roots : Makes first_schema MAKE_OLD_ROOTS.now old_roots_table
+unfolding understood everything
+makes_old_roots = record { plain = (refl, refl); is = refl; whole = refl; defined = refl; uncounted = refl }
+
+-- over the club's tables the first text is refused, and over those of version 1
 pub makes_again : is_ok (understood club_schema MAKE_DESK.now) ≡ false
 unfolding understood everything
 makes_again = refl
+
+pub makes_over_first : is_ok (understood first_schema MAKE_DESK.now) ≡ false
+unfolding understood everything
+makes_over_first = refl

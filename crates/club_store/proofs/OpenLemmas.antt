@@ -1,15 +1,15 @@
 -- What an opening finds, and what it makes.
-use Rattle.std.proofs.Common.{◌≡◌, List, [], ◌∷◌, IsTrue, true, false, true≢false, codes, inl, inr, refl, sym, subst, ap, ◌∙◌, arith}
+use Rattle.std.proofs.Common.{◌≡◌, ◌⊎◌, ℕ, List, [], ◌∷◌, IsTrue, true, false, true≢false, codes, inl, inr, refl, sym, subst, ap, ◌∙◌, arith}
 use Rattle.std.specs.Prelude.{is_ok}
 use Rattle.sqlite_tied.specs.Compute.{everything}
-use Rattle.sqlite.specs.Order.{Row}
+use Rattle.sqlite.specs.Order.{Row, column}
 use Rattle.sqlite.specs.Term.{col}
 use Rattle.sqlite.specs.Query.{inner, end}
 use Rattle.sqlite.specs.Command.TheVariants.{Select}
 use Rattle.sqlite.specs.Listing.{understood, reads_listing, listing_schema}
 use Rattle.sqlite.proofs.Callers.{IsPlain, command_of}
 use Rattle.club_store.specs.declared.texts.TheConstants.{VERSION}
-use Rattle.club_store.specs.Columns.{version_values}
+use Rattle.club_store.specs.Columns.{whole, HasValues, version_values}
 use Rattle.club_store.specs.Statements.{select}
 use Rattle.sqlite.specs.Store.{Ghosts}
 use Rattle.sqlite.specs.Tree.{Trees}
@@ -20,14 +20,14 @@ use Rattle.sqlite.specs.Steps.{over_memory, IsEmpty}
 use Rattle.sqlite.specs.Held.{Held, state}
 use Rattle.club_core.specs.Club.{Club, empty_club}
 use Rattle.club_core.specs.Store.{KeepsStanding}
-use Rattle.club_store.specs.Schema.{club_schema, no_schema}
-use Rattle.club_store.specs.Tables.{Tables, HoldsClub, Stands, IsFound, desk_tree}
+use Rattle.club_store.specs.Schema.{club_schema, first_schema, no_schema}
+use Rattle.club_store.specs.Tables.{Tables, FirstTables, HoldsClub, Stands, FirstStands, IsFound, desk_tree}
 use Rattle.club_store.specs.Told.{found_in}
 use Rattle.club_store.specs.Opening.{table_batch}
 use Rattle.club_store.specs.Transaction.{Asked, Ran, IsKept}
 use Rattle.club_store.proofs.SelectLemmas.{selected, short_permutation}
-use Rattle.club_store.proofs.StandLemmas.{asked_open, asked_tables, asked_reads}
-use Rattle.club_store.proofs.MakingLemmas.{made_tables, makes_no_more}
+use Rattle.club_store.proofs.StandLemmas.{asked_open, asked_tables, asked_reads, first_reads}
+use Rattle.club_store.proofs.MakingLemmas.{made_tables, makes_no_more, makes_no_second}
 
 -- every crash leaves what was committed last
 abbrev pub IsSettled : State → Type 0
@@ -49,7 +49,8 @@ module _ {S : Type 0} (g : Ghosts S) (old new : Held S) where
       let now = found.settled clean is_open in
       elim (found.held clean is_open) [
         | inl tables ↦ absurd (makes_no_more g old db ran (ap (λ (d : Database). d.schema) now ∙ tables.lies.schema))
-        | inr blank ↦ subst (Tables db) (sym blank.1) (made_tables g old db ran (ap (λ (d : Database). d.schema) now ∙ blank.0))
+        | inr (inl first) ↦ absurd (makes_no_second g old db ran (ap (λ (d : Database). d.schema) now ∙ first.lies.schema))
+        | inr (inr blank) ↦ subst (Tables db) (sym blank.1) (made_tables g old db ran (ap (λ (d : Database). d.schema) now ∙ blank.0))
       ]
 
   pub made_stands : HasCleanDisk (state g old) → IsTrue (state g new).is_open → Ran g table_batch old (state g new).committed → (state g new).now ≡ (state g new).committed → IsSettled (state g new)
@@ -86,9 +87,21 @@ version_unlisted : reads_listing club_schema VERSION.now ≡ false
 unfolding everything
 version_unlisted = refl
 
+first_version_is : command_of (understood first_schema VERSION.now) ≡ Select (record { lets = []; body = select (inner desk_tree end) [] (col 1 1 ∷ []) }) (codes "version" ∷ [])
+unfolding understood everything
+first_version_is = refl
+
+first_version_plain : IsPlain (understood first_schema VERSION.now)
+unfolding understood everything
+first_version_plain = (refl, refl)
+
+first_version_unlisted : reads_listing first_schema VERSION.now ≡ false
+unfolding everything
+first_version_unlisted = refl
+
 -- a database whose version was read has the tables of the club that was found
 pub version_told : {S : Type 0} (g : Ghosts S) (old : Held S) (rows : List Row) → HasCleanDisk (state g old) → Asked g VERSION.now [] old rows
-    → (club : Club) (others : List Club) → IsFound (state g old) club others → Stands (state g old) club others × (rows ≡ version_values 1 ∷ [])
+    → (club : Club) (others : List Club) → IsFound (state g old) club others → (Stands (state g old) club others × (rows ≡ version_values 2 ∷ [])) ⊎ (FirstStands (state g old) club others × (rows ≡ version_values 1 ∷ []))
 unfolding Shown
 version_told g old rows clean asked club others found =
     let is_open = asked_open g VERSION.now [] old rows asked in
@@ -98,15 +111,31 @@ version_told g old rows clean asked club others found =
           let stands : Stands (state g old) club others = record { held = λ _ _. tables; settled = found.settled; left = found.left } in
           let here = asked_tables g VERSION.now [] old rows asked clean club others stands in
           let reads = asked_reads g VERSION.now [] old rows asked here.lies.schema _ version_is version_plain version_unlisted in
+          let same = selected version_values [] [] (col 1 1 ∷ []) (λ _. true) version_values (λ id n. refl) (λ id n. refl) desk_tree (codes "version" ∷ []) (state g old).now (2 ∷ []) rows here.lies.version reads in
+          inl (stands, short_permutation (version_values 2 ∷ []) rows (omega arith) same)
+      | inr (inl first) ↦
+          let stands : FirstStands (state g old) club others = record { held = λ _ _. first; settled = found.settled; left = found.left } in
+          let here : FirstTables (state g old).now club = subst (λ (db : Database). FirstTables db club) (sym now) first in
+          let reads = first_reads g VERSION.now [] old rows asked here.lies.schema _ first_version_is first_version_plain first_version_unlisted in
           let same = selected version_values [] [] (col 1 1 ∷ []) (λ _. true) version_values (λ id n. refl) (λ id n. refl) desk_tree (codes "version" ∷ []) (state g old).now (1 ∷ []) rows here.lies.version reads in
-          (stands, short_permutation (version_values 1 ∷ []) rows (omega arith) same)
-      | inr blank ↦
+          inr (stands, short_permutation (version_values 1 ∷ []) rows (omega arith) same)
+      | inr (inr blank) ↦
           let none : is_ok (understood (state g old).now.schema VERSION.now) ≡ false = ap (λ (d : Database). is_ok (understood d.schema VERSION.now)) now ∙ ap (λ s. is_ok (understood s VERSION.now)) blank.0 ∙ no_version in
           absurd (true≢false (sym (ap is_ok asked.shown.1.is) ∙ none))
     ]
 
+-- rows tell one version
+pub one_version : (rows : List Row) (m n : ℕ) → rows ≡ version_values m ∷ [] → (row : Row) × (rows ≡ row ∷ []) × HasValues row (version_values n) → m ≡ n
+one_version rows m n is one =
+    let same : one.0 ≡ version_values m = let e : one.0 ∷ [] ≡ version_values m ∷ [] = sym one.1 ∙ is in cc in
+    let values : whole m ≡ whole n = subst (λ (row : Row). column row 0 ≡ whole n) same one.2.0 in
+    cc
+
+pub first_found : (s : State) (club : Club) (others : List Club) → FirstStands s club others → IsFound s club others
+first_found s club others first = record { held = λ clean is_open. inr (inl (first.held clean is_open)); settled = first.settled; left = first.left }
+
 -- a new database in memory is found to hold the empty club
 pub empty_found : (c : Held MemStore) → IsEmpty (state over_memory c) → IsFound (state over_memory c) empty_club []
 empty_found c empty =
-    let blank : HoldsClub (state over_memory c).committed empty_club = inr (ap (λ (d : Database). d.schema) (sym empty.0.clean) ∙ empty.2, refl, (empty.1 empty.0.is_open).1) in
+    let blank : HoldsClub (state over_memory c).committed empty_club = inr (inr (ap (λ (d : Database). d.schema) (sym empty.0.clean) ∙ empty.2, refl, (empty.1 empty.0.is_open).1)) in
     record { held = λ _ _. blank; settled = λ _ _. empty.0.clean; left = λ _ trees may. inl ((state over_memory c).committed, sym may, blank) }

@@ -1,35 +1,24 @@
 -- Rows of slots: which of them a new row meets, and what is told once one is put.
-use Rattle.std.proofs.Common.{◌≡◌, ◌≢◌, ◌⊎◌, inl, inr, ℕ, ℤ, Bool, true, false, ◌&&◌, ◌||◌, ◌==◌, cond, if◌then◌else◌, None, Some, Option, List, [], ◌∷◌, ◌++◌, map, refl, sym, ap, subst, ◌∙◌, Less, arith, true≢false}
-use Rattle.std.specs.Prelude.{find, AllPairs, option_map, unwrap_or}
-use Rattle.std.specs.List.{AllByRecursion, AllZip, list_any}
+use Rattle.std.proofs.Common.{◌≡◌, ◌≢◌, ℤ, Bool, true, false, ◌||◌, ◌==◌, cond, if◌then◌else◌, None, Some, Option, List, [], ◌∷◌, ◌++◌, map, refl, sym, ap, ◌∙◌, true≢false}
+use Rattle.std.specs.Prelude.{AllPairs, option_map, unwrap_or}
+use Rattle.std.specs.List.{AllByRecursion, list_any}
 use Rattle.std.specs.Str.{bytes_eq}
 use Rattle.std.specs.Cmp.{unsigned_Decides}
-use Rattle.std.specs.Ordering.{is_eq, int_cmp}
-use Rattle.std.proofs.lemmas.Bool.{cases_Bool, false_from_ne_true}
-use Rattle.std.proofs.lemmas.Cmp.{tied_itself}
+use Rattle.std.proofs.lemmas.Bool.{false_from_ne_true}
 use Rattle.std.proofs.lemmas.Slice.Eq.{bytes_eq-Decides}
 use Rattle.sqlite_value.specs.declared.value.Value.{Value}
-use Rattle.sqlite_value.specs.declared.value.Value.TheVariants.{Int, Text}
-use Rattle.sqlite_value.specs.declared.keys.Collation.TheVariants.{Binary}
+use Rattle.sqlite_value.specs.declared.value.Value.TheVariants.{Int}
 use Rattle.sqlite_value.specs.Keys.{first_key}
-use Rattle.sqlite_value.proofs.OrderLemmas.{value_cmp-Int, value_cmp_total}
-use Rattle.sqlite_sql.specs.declared.ops.BinaryOp.TheVariants.{Compare}
-use Rattle.sqlite_sql.specs.declared.ops.CompareOp.TheVariants.{Eq}
-use Rattle.sqlite_sql.specs.Ops.{binary, is_true}
-use Rattle.sqlite.specs.Order.{Row, value_cmp}
-use Rattle.sqlite.specs.Tree.{rowid, IsTable}
 use Rattle.sqlite.specs.Table.{Table}
 use Rattle.sqlite_rules.specs.Keys.{conflicts}
-use Rattle.sqlite_rules.specs.Lists.{Has}
 use Rattle.club_values.specs.declared.slot.Slot.{Slot}
 use Rattle.club_core.specs.declared.slot_use.SlotUse.{SlotUse}
 use Rattle.club_rows.specs.Booking.{same_slot}
 use Rattle.club_store.specs.Schema.{slots_table, club_schema}
 use Rattle.club_store.specs.Columns.{name_values, slot_values}
 use Rattle.club_store.specs.Stored.{SlotRow, unused, row_of, use_by}
-use Rattle.club_store.specs.Tables.{IsRowOf, slots_tree}
-use Rattle.club_store.proofs.SelectLemmas.{told, text_equal, whole_equal, Apart, apart_from_pairs}
-use Rattle.club_store.proofs.ReplaceLemmas.{flipped}
+use Rattle.club_store.specs.Tables.{slots_tree}
+use Rattle.club_store.proofs.SelectLemmas.{text_equal, whole_equal, Apart, apart_from_pairs}
 use Rattle.club_store.proofs.CancelLemmas.{three}
 use Rattle.club_store.proofs.ChangeLemmas.{or_false}
 use Rattle.club_store.proofs.BookingLemmas.{same_slots}
@@ -40,9 +29,6 @@ slot_table = record slots_table { tree = slots_tree }
 
 abbrev pub AreApart : List SlotRow → Type 0
 AreApart = Apart (λ (a : SlotRow) (b : SlotRow). a.slot ≢ b.slot)
-
-abbrev pub AreSlots : List Row → List SlotRow → Type 0
-AreSlots = AllZip (λ row (x : SlotRow). IsRowOf (slot_values x) row)
 
 -- a row conflicts with a new one where both are of one slot
 pub slots_conflict : (id id' : ℤ) (a : SlotRow) (b : Slot) (v w : Value) → conflicts (Some (1 ∷ 2 ∷ 3 ∷ [])) club_schema.indexes slot_table (Int id' ∷ name_values b ++ v ∷ w ∷ []) (Int id ∷ slot_values a) ≡ same_slot a.slot b
@@ -60,101 +46,6 @@ same_itself slot =
 
 pub not_same : (a b : Slot) → a ≢ b → same_slot a b ≡ false
 not_same a b apart = false_from_ne_true (same_slot a b) (λ same. apart (same_slots a b same))
-
-module _ (slot : Slot) where
-  -- the row of the slot has this rowid
-  abbrev pub IsAt : List Row → List SlotRow → ℤ → Type 0
-  IsAt [] xs id = ⊥
-  IsAt (r ∷ rows) [] id = ⊥
-  IsAt (r ∷ rows) (x ∷ xs) id = ((r ≡ Int id ∷ slot_values x) × (x.slot ≡ slot)) ⊎ IsAt rows xs id
-
-  -- a row that the new one meets is that of the slot
-  pub met_at : (id' : ℤ) (v w : Value) (rows : List Row) (xs : List SlotRow) → AreSlots rows xs → (r : Row) → Has rows r
-      → conflicts (Some (1 ∷ 2 ∷ 3 ∷ [])) club_schema.indexes slot_table (Int id' ∷ name_values slot ++ v ∷ w ∷ []) r ≡ true → (id : ℤ) × (rowid r ≡ Int id) × IsAt rows xs id
-  met_at id' v w [] [] same r has h = absurd has
-  met_at id' v w [] (x ∷ xs) same r has h = absurd same
-  met_at id' v w (q ∷ rows) [] same r has h = absurd same
-  met_at id' v w (q ∷ rows) (x ∷ xs) same r (inl here) h =
-      let new = Int id' ∷ name_values slot ++ v ∷ w ∷ [] in
-      let is : r ≡ Int same.0.0 ∷ slot_values x = here ∙ same.0.1 in
-      let one : x.slot ≡ slot = same_slots x.slot slot (sym (slots_conflict same.0.0 id' x slot v w) ∙ ap (conflicts (Some (1 ∷ 2 ∷ 3 ∷ [])) club_schema.indexes slot_table new) (sym is) ∙ h) in
-      (same.0.0, ap rowid is, inl (same.0.1, one))
-  met_at id' v w (q ∷ rows) (x ∷ xs) same r (inr there) h = let more = met_at id' v w rows xs same.1 r there h in (more.0, more.1, inr more.2)
-
-  -- a slot that has a row has one that the new one meets
-  pub meets_one : (id' : ℤ) (v w : Value) (rows : List Row) (xs : List SlotRow) → AreSlots rows xs → list_any (λ (x : SlotRow). same_slot x.slot slot) xs ≡ true
-      → (r : Row) × Has rows r × (conflicts (Some (1 ∷ 2 ∷ 3 ∷ [])) club_schema.indexes slot_table (Int id' ∷ name_values slot ++ v ∷ w ∷ []) r ≡ true)
-  meets_one id' v w [] [] same any = absurd cc
-  meets_one id' v w [] (x ∷ xs) same any = absurd same
-  meets_one id' v w (q ∷ rows) [] same any = absurd same
-  meets_one id' v w (q ∷ rows) (x ∷ xs) same any = go (meets_one id' v w rows xs same.1) (same_slot x.slot slot) refl any
-    where
-      new : Row
-      new = Int id' ∷ name_values slot ++ v ∷ w ∷ []
-
-      go : (list_any (λ (x : SlotRow). same_slot x.slot slot) xs ≡ true → (r : Row) × Has rows r × (conflicts (Some (1 ∷ 2 ∷ 3 ∷ [])) club_schema.indexes slot_table new r ≡ true))
-          → (b : Bool) → same_slot x.slot slot ≡ b → (b || list_any (λ (x : SlotRow). same_slot x.slot slot) xs) ≡ true
-          → (r : Row) × Has (q ∷ rows) r × (conflicts (Some (1 ∷ 2 ∷ 3 ∷ [])) club_schema.indexes slot_table new r ≡ true)
-      go later true is h = (q, inl refl, ap (conflicts (Some (1 ∷ 2 ∷ 3 ∷ [])) club_schema.indexes slot_table new) same.0.1 ∙ slots_conflict same.0.0 id' x slot v w ∙ is)
-      go later false is h = let more = later h in (more.0, inr more.1, more.2)
-
-  -- rows of other slots meet no row of this one
-  pub meets_none : (id' : ℤ) (v w : Value) (rows : List Row) (xs : List SlotRow) → AreSlots rows xs → list_any (λ (x : SlotRow). same_slot x.slot slot) xs ≡ false
-      → (r : Row) → Has rows r → conflicts (Some (1 ∷ 2 ∷ 3 ∷ [])) club_schema.indexes slot_table (Int id' ∷ name_values slot ++ v ∷ w ∷ []) r ≡ true → ⊥
-  meets_none id' v w [] [] same none r has h = absurd has
-  meets_none id' v w [] (x ∷ xs) same none r has h = absurd same
-  meets_none id' v w (q ∷ rows) [] same none r has h = absurd same
-  meets_none id' v w (q ∷ rows) (x ∷ xs) same none r (inl here) h =
-      let new = Int id' ∷ name_values slot ++ v ∷ w ∷ [] in
-      let is : r ≡ Int same.0.0 ∷ slot_values x = here ∙ same.0.1 in
-      let one : same_slot x.slot slot ≡ true = sym (slots_conflict same.0.0 id' x slot v w) ∙ ap (conflicts (Some (1 ∷ 2 ∷ 3 ∷ [])) club_schema.indexes slot_table new) (sym is) ∙ h in
-      true≢false (rw one at none)
-  meets_none id' v w (q ∷ rows) (x ∷ xs) same none r (inr there) h = meets_none id' v w rows xs same.1 (later (same_slot x.slot slot) none) r there h
-    where
-      later : (b : Bool) → (b || list_any (λ (x : SlotRow). same_slot x.slot slot) xs) ≡ false → list_any (λ (x : SlotRow). same_slot x.slot slot) xs ≡ false
-      later true h = absurd cc
-      later false h = h
-
-  -- the row's rowid is this one
-  abbrev pub is_id : ℤ → Row → Bool
-  is_id id row = is_eq (value_cmp (rowid row) (Int id))
-
-  at_above : (q : Row) (rows : List Row) (xs : List SlotRow) (id : ℤ) → AllByRecursion (λ s. value_cmp (rowid q) (rowid s) ≡ Less) rows → IsAt rows xs id → value_cmp (rowid q) (Int id) ≡ Less
-  at_above q [] xs id above at = absurd at
-  at_above q (r ∷ rows) [] id above at = absurd at
-  at_above q (r ∷ rows) (x ∷ xs) id above (inl here) = subst (λ (s : Row). value_cmp (rowid q) (rowid s) ≡ Less) here.0 above.0
-  at_above q (r ∷ rows) (x ∷ xs) id above (inr there) = at_above q rows xs id above.1 there
-
-  at_apart : (y : SlotRow) (rows : List Row) (xs : List SlotRow) (id : ℤ) → AllByRecursion (λ (x : SlotRow). y.slot ≢ x.slot) xs → IsAt rows xs id → y.slot ≢ slot
-  at_apart y [] xs id apart at = absurd at
-  at_apart y (r ∷ rows) [] id apart at = absurd at
-  at_apart y (r ∷ rows) (x ∷ xs) id apart (inl here) = λ same. apart.0 (same ∙ sym here.1)
-  at_apart y (r ∷ rows) (x ∷ xs) id apart (inr there) = at_apart y rows xs id apart.1 there
-
-  others_miss : (id : ℤ) (rows : List Row) (xs : List SlotRow) → AreSlots rows xs → AllByRecursion (λ s. value_cmp (Int id) (rowid s) ≡ Less) rows → AllByRecursion (λ (x : SlotRow). slot ≢ x.slot) xs
-      → AllZip (λ row (x : SlotRow). is_id id row ≡ same_slot x.slot slot) rows xs
-  others_miss id [] [] same above apart = tt
-  others_miss id [] (x ∷ xs) same above apart = absurd same
-  others_miss id (r ∷ rows) [] same above apart = absurd same
-  others_miss id (r ∷ rows) (x ∷ xs) same above apart =
-      (ap is_eq (flipped (Int id) (rowid r) above.0) ∙ sym (not_same x.slot slot (λ e. apart.0 (sym e))), others_miss id rows xs same.1 above.1 apart.1)
-
-  -- the rowid of the slot's row is that of no other
-  pub hits : (id : ℤ) (rows : List Row) (xs : List SlotRow) → IsTable rows → AreSlots rows xs → AreApart xs → IsAt rows xs id → AllZip (λ row (x : SlotRow). is_id id row ≡ same_slot x.slot slot) rows xs
-  hits id [] xs table same apart at = absurd at
-  hits id (r ∷ rows) [] table same apart at = absurd at
-  hits id (r ∷ rows) (x ∷ xs) table same apart (inl here) =
-      let mine : is_id id r ≡ true = ap (λ (s : Row). is_eq (value_cmp (rowid s) (Int id))) here.0 ∙ ap is_eq (tied_itself value_cmp_total (Int id)) in
-      let this : same_slot x.slot slot ≡ true = ap (λ s. same_slot s slot) here.1 ∙ same_itself slot in
-      let above : AllByRecursion (λ s. value_cmp (Int id) (rowid s) ≡ Less) rows = subst (λ (t : Row). AllByRecursion (λ s. value_cmp (rowid t) (rowid s) ≡ Less) rows) here.0 table.0 in
-      (mine ∙ sym this, others_miss id rows xs same.1 above (subst (λ s. AllByRecursion (λ (y : SlotRow). s ≢ y.slot) xs) here.1 apart.0))
-  hits id (r ∷ rows) (x ∷ xs) table same apart (inr there) =
-      (ap is_eq (at_above r rows xs id table.0 there) ∙ sym (not_same x.slot slot (at_apart x rows xs id apart.0 there)), hits id rows xs table.1 same.1 apart.1 there)
-
--- `=` of two rowids
-pub id_equal : (a b : ℤ) → is_true (binary (Compare Eq Binary) (Int a) (Int b)) ≡ is_eq (value_cmp (Int a) (Int b))
-unfolding binary
-id_equal a b = told _
 
 -- ---- one row for each slot
 

@@ -1,5 +1,5 @@
 -- What is taken of a slot, as it is read from its row.
-use Rattle.std.proofs.Common.{◌≡◌, ◌≤◌, ◌⊎◌, inl, inr, ℕ, Bool, true, false, Option, Some, List, [], ◌∷◌, refl, sym, ap, subst, ◌∙◌, arith}
+use Rattle.std.proofs.Common.{◌≡◌, ◌≤◌, inl, inr, Option, Some, List, [], ◌∷◌, sym, subst, ◌∙◌}
 use Rattle.sqlite.specs.Order.{Row}
 use Rattle.club_values.specs.declared.slot.Slot.{Slot}
 use Rattle.club_values.specs.Reading.{Reads}

@@ -1,5 +1,5 @@
 -- A change that fits leaves sound clubs: the one that stands, and each other that a crash may leave.
-use Rattle.std.proofs.Common.{List, [], ◌∷◌, Ok, Err}
+use Rattle.std.proofs.Common.{[], ◌∷◌, Ok, Err}
 use Rattle.std.specs.Prelude.{Result}
 use Rattle.std.proofs.lemmas.List.Elements.{All-cons, All-head, All-nil, All-tail}
 use Rattle.sqlite.specs.Store.{Ghosts}

@@ -13,10 +13,10 @@ use Rattle.sqlite.proofs.StateLemmas.{survives_then}
 use Rattle.sqlite.proofs.Callers.{IsPlain, command_of, reads_as}
 use Rattle.club_core.specs.Club.{Club}
 use Rattle.club_core.specs.Store.{KeepsStanding}
-use Rattle.club_store.specs.Schema.{club_schema}
+use Rattle.club_store.specs.Schema.{first_schema, club_schema}
 use Rattle.club_store.specs.Columns.{key_values, booking_values}
-use Rattle.club_store.specs.Tables.{Tables, Holds, HoldsClub, Rests, Stands, keys_tree, bookings_tree}
-use Rattle.club_store.specs.Told.{stands_in, found_in}
+use Rattle.club_store.specs.Tables.{Tables, FirstTables, Holds, HoldsClub, Rests, Stands, keys_tree, bookings_tree}
+use Rattle.club_store.specs.Told.{stands_in, first_in, found_in}
 use Rattle.club_store.specs.Transaction.{Asked, IsKept, begun}
 
 -- the same clubs stand, whatever is held of them
@@ -52,6 +52,11 @@ pub asked_reads : {S : Type 0} (g : Ghosts S) (sql : List ℕ) (params : Row) (o
     → (command : Command) → command_of (understood club_schema sql) ≡ command → IsPlain (understood club_schema sql) → reads_listing club_schema sql ≡ Rattle.std.proofs.Common.false → Reads command (state g old).now params rows
 asked_reads g sql params old rows asked schema command is plain unlisted = reads_as sql params (state g (begun old)) (state g asked.mid) club_schema schema command is plain unlisted rows asked.shown
 
+-- the same over tables of version 1
+pub first_reads : {S : Type 0} (g : Ghosts S) (sql : List ℕ) (params : Row) (old : Held S) (rows : List Row) → Asked g sql params old rows → (state g old).now.schema ≡ first_schema
+    → (command : Command) → command_of (understood first_schema sql) ≡ command → IsPlain (understood first_schema sql) → reads_listing first_schema sql ≡ Rattle.std.proofs.Common.false → Reads command (state g old).now params rows
+first_reads g sql params old rows asked schema command is plain unlisted = reads_as sql params (state g (begun old)) (state g asked.mid) first_schema schema command is plain unlisted rows asked.shown
+
 pub told_if : {A E : Type 0} (P Q : A → Type 0) (r : Result A E) → IfOk r P → ((x : A) → P x → Q x) → IfOk r Q
 told_if P Q (Ok x) p f = f x p
 told_if P Q (Err e) p f = tt
@@ -70,6 +75,9 @@ any_err (Err e) p = p
 
 pub keeps_found : {S : Type 0} (g : Ghosts S) (old new : Held S) → IsKept (state g old) (state g new) → Survives (state g old) (state g new) (λ _. ⊥) → KeepsStanding (found_in g) old new
 keeps_found g old new kept quiet club others found = rests_on HoldsClub (state g old) (state g new) kept quiet club others found
+
+pub keeps_first : {S : Type 0} (g : Ghosts S) (old new : Held S) → IsKept (state g old) (state g new) → Survives (state g old) (state g new) (λ _. ⊥) → KeepsStanding (first_in g) old new
+keeps_first g old new kept quiet club others first = rests_on FirstTables (state g old) (state g new) kept quiet club others first
 
 pub survives_same : (s : State) → Survives s s (λ _. ⊥)
 survives_same s = record { clean = omega arith; shield = λ h. h; counts = omega arith; limit = refl; closes = λ _ is_open. inl is_open; crash = λ _ db may. inl may }

@@ -1,42 +1,29 @@
 -- What the statements that put the row of a slot make of the tables.
-use Rattle.std.proofs.Common.{◌≡◌, ◌≢◌, ◌⊎◌, inl, inr, ℕ, ◌/◌, pos, ℤ, Bool, true, false, if◌then◌else◌, None, Some, Option, Ok, List, [], ◌∷◌, ◌++◌, length, map, refl, sym, ap, subst, ◌∙◌, arith, append-nil, ◌≤◌}
-use Rattle.std.specs.Prelude.{AllPairs, filter, IsPermutation}
-use Rattle.std.specs.List.{AllByRecursion, AllZip, list_any, list_all}
+use Rattle.std.proofs.Common.{◌≡◌, ◌≢◌, ℕ, ◌/◌, pos, ℤ, Bool, true, false, if◌then◌else◌, Some, Option, Ok, List, [], ◌∷◌, ◌++◌, length, refl, sym, ap, ◌∙◌}
+use Rattle.std.specs.Prelude.{AllPairs}
+use Rattle.std.specs.List.{AllByRecursion, list_any}
 use Rattle.sqlite_tied.specs.Compute.{everything}
 use Rattle.sqlite_value.specs.declared.value.Value.{Value}
-use Rattle.sqlite_value.specs.declared.value.Value.TheVariants.{Null, Int, Text}
-use Rattle.sqlite_value.specs.declared.keys.Collation.TheVariants.{Binary}
-use Rattle.sqlite_sql.specs.declared.ops.BinaryOp.TheVariants.{Compare, Arith}
-use Rattle.sqlite_sql.specs.declared.ops.CompareOp.TheVariants.{Eq}
+use Rattle.sqlite_value.specs.declared.value.Value.TheVariants.{Null, Int}
+use Rattle.sqlite_sql.specs.declared.ops.BinaryOp.TheVariants.{Arith}
 use Rattle.sqlite_sql.specs.declared.ops.ArithOp.TheVariants.{Add}
 use Rattle.sqlite_sql.specs.Ops.{binary}
 use Rattle.sqlite.specs.Order.{Row, column}
-use Rattle.sqlite.specs.Tree.{Trees, put_row, rowid}
-use Rattle.sqlite.specs.Term.{Term, lit, col, op2, holds, eval_all}
-use Rattle.sqlite.specs.Query.{inner, end}
+use Rattle.sqlite.specs.Tree.{rowid}
+use Rattle.sqlite.specs.Term.{Term, lit, col, op2, eval_all}
 use Rattle.sqlite.specs.Source.TheVariants.{Values}
-use Rattle.sqlite.specs.Command.{Command}
 use Rattle.sqlite.specs.Command.TheVariants.{InsertOr}
 use Rattle.sqlite_schema.specs.declared.command.Conflict.TheVariants.{Abort}
 use Rattle.sqlite_schema.specs.declared.command.Upsert.{Upsert}
 use Rattle.sqlite_schema.specs.declared.program.Program.{Program}
-use Rattle.sqlite_rules.specs.Keys.{conflicts, AreConflicts}
-use Rattle.sqlite_rules.specs.Lists.{Has}
 use Rattle.sqlite.specs.Kind.TheVariants.{Integer}
-use Rattle.sqlite.specs.Cast.{cast, cast_row}
-use Rattle.sqlite.specs.Edit.{Edit, edit_of, edited, next_rowid, with_rowid}
-use Rattle.sqlite.specs.Rowids.TheVariants.{Chosen, Given}
-use Rattle.sqlite_rules.specs.Edit.{taken_by}
-use Rattle.sqlite_rules.specs.Calls.{ids_of}
-use Rattle.sqlite_rules.specs.Action.{Writes as ActionWrites}
-use Rattle.sqlite_schema.specs.declared.schema.Keys.TheVariants.{Enforced}
-use Rattle.sqlite.specs.Does.{Tally, Does}
-use Rattle.sqlite_rules.specs.declared.error.Refusal.{Refusal}
-use Rattle.sqlite.specs.Rows.{Written, Task, nothing, shown, count_of, Judged, Upserts, Clears, Puts, Resolves, Updates, Tries, TriesEach, Meets}
-use Rattle.sqlite.specs.Effect.{Database, IsDatabase, Answers, value_rows}
-use Rattle.sqlite.specs.State.{State, mode_of, Executes}
+use Rattle.sqlite.specs.Cast.{cast}
+use Rattle.sqlite.specs.Edit.{next_rowid}
+use Rattle.sqlite.specs.Rows.{shown}
+use Rattle.sqlite.specs.Effect.{value_rows}
+use Rattle.sqlite.specs.State.{State, Executes}
 use Rattle.sqlite.specs.Listing.{understood}
-use Rattle.sqlite.proofs.Callers.{IsPlain, command_of, statement_of, runs_as, one_step}
+use Rattle.sqlite.proofs.Callers.{IsPlain, command_of}
 use Rattle.club_values.specs.declared.slot.Slot.{Slot}
 use Rattle.club_rows.specs.Booking.{same_slot}
 use Rattle.club_rows.specs.Columns.{truth}
@@ -44,231 +31,72 @@ use Rattle.club_core.specs.declared.slot_use.SlotUse.{SlotUse}
 use Rattle.club_store.specs.declared.texts.TheConstants.{CLOSE_SLOT, ADD_TAKEN}
 use Rattle.club_store.specs.Schema.{slots_table, club_schema}
 use Rattle.club_store.specs.Columns.{whole, flag, name_values, use_values, slot_values}
-use Rattle.club_store.specs.Statements.{select}
 use Rattle.club_store.specs.Stored.{Rows, SlotRow, unused}
-use Rattle.club_store.specs.Tables.{Lies, Holds, slots_tree}
-use Rattle.club_store.proofs.RowLemmas.{holds_more}
-use Rattle.club_store.proofs.InsertLemmas.{went, same_value, cast_null, cast_int}
-use Rattle.club_store.proofs.UpdateLemmas.{no_works}
+use Rattle.club_store.specs.Tables.{Lies, slots_tree}
+use Rattle.club_store.proofs.InsertLemmas.{cast_null, cast_int}
 use Rattle.club_store.proofs.LiesLemmas.{on_slots}
-use Rattle.club_store.proofs.KeyLemmas.{and_true}
-use Rattle.club_store.proofs.SelectLemmas.{apart_from_pairs, one_passes}
-use Rattle.club_store.proofs.ReplaceLemmas.{replaced_where}
+use Rattle.club_store.proofs.SelectLemmas.{Apart, apart_from_pairs}
 use Rattle.club_store.proofs.BookingLemmas.{same_slots}
-use Rattle.club_store.proofs.SlotRows.{slot_table, met_at, meets_one, meets_none, is_id, hits, id_equal, changed, put_slot}
+use Rattle.club_store.proofs.PutLemmas as put
+use Rattle.club_store.proofs.PutLemmas.{first_clause, row_put}
+use Rattle.club_store.proofs.PutRows.{IsLone}
+use Rattle.club_store.proofs.SlotRows.{AreApart, slots_conflict, slot_table, changed, put_slot}
 
 abbrev target : Option (List ℕ)
 target = Some (1 ∷ 2 ∷ 3 ∷ [])
 
--- the row whose rowid is a parameter
-abbrev has_id : ℕ → Term
-has_id at = op2 (Compare Eq Binary) (col 1 0) (col 0 at)
-
--- the row that is met gets new values
 abbrev sets_by : ℕ → List Term → Option Program
-sets_by at sets = Some (record { lets = []; body = select (inner slots_tree end) (has_id at ∷ []) sets })
+sets_by = put.sets_by slots_table.name slots_table.columns slots_table.uniques slots_table.checks slots_table.references slots_tree target
 
-abbrev first_clause : Command → Upsert
-first_clause (InsertOr at way from (clause ∷ clauses)) = clause
-first_clause _ = record { target = None; update = None }
+module _ (slot : Slot) where
+  abbrev is_of : SlotRow → Bool
+  is_of row = same_slot row.slot slot
 
-no_conflicts : (new : Row) (rows found : List Row) → ((r : Row) → Has rows r → conflicts target club_schema.indexes slot_table new r ≡ true → ⊥)
-    → AreConflicts target club_schema.indexes slot_table rows new found → found ≡ []
-no_conflicts new rows [] none h = refl
-no_conflicts new rows (x ∷ found) none h = let it = h.sound x (inl refl) in absurd (none it.0 it.1 it.2)
+  each_lone : (row : SlotRow) (rows : List SlotRow) → AllByRecursion (λ (x : SlotRow). row.slot ≢ x.slot) rows → AllByRecursion (IsLone slot_values is_of row) rows
+  each_lone row [] apart = tt
+  each_lone row (x ∷ rows) apart = (λ both. apart.0 (same_slots row.slot slot both.0 ∙ sym (same_slots x.slot slot both.1)), each_lone row rows apart.1)
 
-abbrev task_of : Option ℕ → Row → Task
-task_of limit params = record { limit = limit; keys = Enforced; schema = club_schema; table = slot_table; params = params }
-
--- what the statement leaves in the table of slots, and in the others
-abbrev Leaves : Trees → Trees → List Row → Type 0
-Leaves db next rows = (next slots_tree ≡ rows) × AllByRecursion (λ t. t.tree ≢ slots_tree → next t.tree ≡ db t.tree) club_schema.tables
-
-module _ (limit : Option ℕ) (params : Row) (new : Row) (db : Trees) (one : Written) (clause : Upsert) where
-  abbrev task : Task
-  task = task_of limit params
-
-  judged : (verdict : Option Refusal) → Judged task Abort (clause ∷ []) new db verdict (Ok one) → Upserts task Abort new db (clause ∷ []) (Ok one)
-  judged None h = h
-  judged (Some why) h = absurd cc
-
-  -- which rows it meets, and what it makes of them
-  abbrev Met : Type 0
-  Met = (found : List Row) × AreConflicts clause.target club_schema.indexes slot_table (db slots_tree) new found × Meets task (Upserts task Abort new db []) new db clause found (Ok one)
-
-  met : Tries task Abort (clause ∷ []) new db (Ok one) → Met
-  met (inl refused) = absurd (let e = refused.1 in cc)
-  met (inr tried) = judged tried.0 tried.2
-
-  cleared : (found : List Row) → Clears task Abort new db found (Ok one) → Puts task new db (Ok one)
-  cleared [] h = h
-  cleared (x ∷ found) h = h
-
-  put_alone : cast_row slot_table new ≡ new → Puts task new db (Ok one) → Leaves db one.trees (put_row new (db slots_tree))
-  put_alone casts h =
-      let put = went h in
-      let edit : Row → Edit = λ row. record { table = slot_table; gone = []; news = row ∷ [] } in
-      let wrote : ActionWrites club_schema Enforced db (edit new) (Ok put.0) = subst (λ row. ActionWrites club_schema Enforced db (edit row) (Ok put.0)) casts put.1 in
-      let applied = one_step club_schema Enforced db put.0 (edit new) (no_works slots_tree [] (new ∷ [])) wrote in
-      let is : one.trees ≡ put.0 = ap (λ (it : Written). it.trees) (same_value put.2) in (
-        ap (λ (t : Trees). t slots_tree) is ∙ applied.rows,
-        subst (λ (trees : Trees). AllByRecursion (λ t. t.tree ≢ slots_tree → trees t.tree ≡ db t.tree) club_schema.tables) (sym is) applied.tables,
-      )
-
-  -- a row that meets none is put beside the others
-  made : cast_row slot_table new ≡ new → clause.target ≡ target → ((r : Row) → Has (db slots_tree) r → conflicts target club_schema.indexes slot_table new r ≡ true → ⊥)
-      → Met → Leaves db one.trees (put_row new (db slots_tree))
-  made casts aims none met =
-      let found = subst (λ target. AreConflicts target club_schema.indexes slot_table (db slots_tree) new met.0) aims met.1 in
-      let empty = no_conflicts new (db slots_tree) met.0 none found in
-      let otherwise : Upserts task Abort new db [] (Ok one) = subst (λ f. Meets task (Upserts task Abort new db []) new db clause f (Ok one)) empty met.2 in
-      put_alone casts (cleared otherwise.0 otherwise.2)
-
-  abbrev given : Row → Row
-  given there = params ++ rowid there ∷ shown slot_table new
-
-  -- the row that it meets gets the values of the clause
-  abbrev Updated : Program → Type 0
-  Updated q = (there : Row) × (r : Row) × Has (db slots_tree) r × (conflicts target club_schema.indexes slot_table new r ≡ true) × (rowid there ≡ rowid r)
-      × (rows : List Row) × Answers (record { schema = club_schema; trees = db }) q (given there) rows × Leaves db one.trees (edited db (edit_of db slot_table (ids_of rows) Given 1 rows))
-
-  resolved : (q : Program) (there : Row) → Updates task q (given there) db (Ok one) → (rows : List Row) × Answers (record { schema = club_schema; trees = db }) q (given there) rows × Leaves db one.trees (edited db (edit_of db slot_table (ids_of rows) Given 1 rows))
-  resolved q there h =
-      let asked = went h in
-      let written = went asked.2 in
-      let edit = edit_of db slot_table (ids_of asked.0) Given 1 asked.0 in
-      let applied = one_step club_schema Enforced db written.0 edit (no_works slots_tree (taken_by db edit) edit.news) written.1 in
-      let is : one.trees ≡ written.0 = ap (λ (it : Written). it.trees) (same_value written.2) in (
-        asked.0,
-        asked.1,
-        (ap (λ (t : Trees). t slots_tree) is ∙ applied.rows, subst (λ (trees : Trees). AllByRecursion (λ t. t.tree ≢ slots_tree → trees t.tree ≡ db t.tree) club_schema.tables) (sym is) applied.tables),
-      )
-
-  updated : (q : Program) → clause.target ≡ target → clause.update ≡ Some q → (r : Row) → Has (db slots_tree) r → conflicts target club_schema.indexes slot_table new r ≡ true → Met → Updated q
-  updated q aims by r has hit met = go met.0 (subst (λ target. AreConflicts target club_schema.indexes slot_table (db slots_tree) new met.0) aims met.1) met.2
-    where
-      go : (found : List Row) → AreConflicts target club_schema.indexes slot_table (db slots_tree) new found → Meets task (Upserts task Abort new db []) new db clause found (Ok one) → Updated q
-      go [] are h = absurd (are.complete r has hit)
-      go (x ∷ found) are h =
-          let it = are.sound x (inl refl) in
-          let some : Resolves task new db x (Some q) (Ok one) = subst (λ u. Resolves task new db x u (Ok one)) by h in
-          let done = resolved q x some in
-          (x, it.0, it.1, it.2, ap rowid it.3, done.0, done.1, done.2)
+  lone : (rows : List SlotRow) → AreApart rows → Apart (IsLone slot_values is_of) rows
+  lone [] apart = tt
+  lone (row ∷ rows) apart = (each_lone row rows apart.0, lone rows apart.1)
 
 -- ---- a statement of this form
 
 module _ (text : List ℕ) (terms sets : List Term) (at : ℕ) (clause : Upsert) (is : command_of (understood club_schema text) ≡ InsertOr 4 Abort (Values terms 6) (clause ∷ [])) (plain : IsPlain (understood club_schema text))
     (aims : clause.target ≡ target) (by : clause.update ≡ sets_by at sets)
     (old new : State) (rows : Rows) (lies : Lies old.now rows) (once : AllPairs (λ (a : SlotRow) (b : SlotRow). a.slot ≢ b.slot) rows.slots) (slot : Slot) (params : Row) (closed taken : Value)
-    (gives : value_rows params 6 (length terms / 6) terms ≡ (Null ∷ name_values slot ++ closed ∷ taken ∷ []) ∷ []) (casts_closed : cast Integer closed ≡ closed) (casts_taken : cast Integer taken ≡ taken) where
-  abbrev db : Trees
-  db = old.now.trees
-
+    (gives : value_rows params 6 (length terms / 6) terms ≡ (Null ∷ name_values slot ++ closed ∷ taken ∷ []) ∷ []) (casts_closed : cast Integer closed ≡ closed) (casts_taken : cast Integer taken ≡ taken) (change : SlotUse → SlotUse) where
   abbrev new_row : Row
-  new_row = Int (next_rowid (db slots_tree)) ∷ name_values slot ++ closed ∷ taken ∷ []
+  new_row = Int (next_rowid (old.now.trees slots_tree)) ∷ name_values slot ++ closed ∷ taken ∷ []
 
-  -- what the statement met, and what it left
-  record Ran : Type 0 where
-    one : Written
-    schema : new.now.schema ≡ club_schema
-    trees : new.now.trees ≡ one.trees
-    sound : IsDatabase new.now
-    meets : Met old.step_limit params new_row db one clause
+  -- what the clause says of the slot's row
+  abbrev SaysUse : SlotRow → Type 0
+  SaysUse x = (id : ℤ) (there : Row) → same_slot x.slot slot ≡ true → eval_all sets ((params ++ rowid there ∷ shown slot_table new_row) ∷ (Int id ∷ slot_values x) ∷ []) ≡ Int id ∷ Int id ∷ name_values x.slot ++ use_values (change x.held)
 
-  casts_new : cast_row slot_table new_row ≡ new_row
-  casts_new = rw (cast_int (next_rowid (db slots_tree)), cast_int (pos slot.day), cast_int (pos slot.hour), casts_closed, casts_taken)
+  abbrev SaysRow : SlotRow → Type 0
+  SaysRow x = (id : ℤ) (there : Row) → same_slot x.slot slot ≡ true → eval_all sets ((params ++ rowid there ∷ shown slot_table new_row) ∷ (Int id ∷ slot_values x) ∷ []) ≡ Int id ∷ Int id ∷ slot_values (changed slot change x)
 
-  ran : (count : ℕ) → Executes text params old new (Ok count) → Ran
-  ran count h =
-      let command = InsertOr 4 Abort (Values terms 6) (clause ∷ []) in
-      let w = runs_as text params old new club_schema lies.schema command is plain count h in
-      let words = statement_of text (understood club_schema text) in
-      let does = subst (λ s. Does old.step_limit (mode_of old) params (record old.now { schema = s }) words None command (Ok (w.tally, new.now))) lies.schema w.changed in
-      let done = went does in
-      let now = ap (λ (p : Tally × Database). p.1) (same_value (went (went done.2).2).2) in
-      let given = went done.1 in
-      let counter = went given.2 in
-      let tried = went counter.2 in
-      let counted = went tried.2 in
-      let source = Null ∷ name_values slot ++ closed ∷ taken ∷ [] in
-      let sourced : given.0 ≡ source ∷ [] = given.1.1 ∙ ap (λ p. value_rows p 6 (length terms / 6) terms) (append-nil params) ∙ gives in
-      let first = went (subst (λ rows. TriesEach (task_of old.step_limit params) Abort (clause ∷ []) rows (count_of counter.0) (nothing db) (Ok tried.0)) sourced tried.1) in
-      let casts_source : cast_row slot_table source ≡ source = rw (cast_null, cast_int (pos slot.day), cast_int (pos slot.hour), casts_closed, casts_taken) in
-      let alone : Tries (task_of old.step_limit params) Abort (clause ∷ []) new_row db (Ok first.0) =
-      subst (λ row. Tries (task_of old.step_limit params) Abort (clause ∷ []) (with_rowid Chosen (db slots_tree) row) db (Ok first.0)) casts_source first.1 in
-      let last : tried.0.0.trees ≡ first.0.trees = ap (λ (p : Written × ℤ). p.0.trees) (same_value first.2) in
-      let trees : done.0.trees ≡ first.0.trees = ap (λ (it : Written). it.trees) (same_value counted.2) ∙ same_value counted.1 ∙ last in
-      record {
-        one = first.0;
-        schema = ap (λ (d : Database). d.schema) now;
-        trees = ap (λ (d : Database). d.trees) now ∙ trees;
-        sound = w.sound;
-        meets = met old.step_limit params new_row db first.0 clause alone;
-      }
+  each_says : (xs : List SlotRow) → AllByRecursion SaysUse xs → AllByRecursion SaysRow xs
+  each_says [] says = tt
+  each_says (x ∷ xs) says = (
+    λ id there passes. says.0 id there passes ∙ ap (λ b. Int id ∷ Int id ∷ name_values x.slot ++ use_values (if b then change x.held else x.held)) (sym passes),
+    each_says xs says.1,
+  )
 
-  others_left : (it : Ran) (left : List Row) → Leaves db it.one.trees left → Leaves db new.now.trees left
-  others_left it left h = subst (λ trees. Leaves db trees left) (sym it.trees) h
-
-  module _ (change : SlotUse → SlotUse) where
-    -- a slot without a row gets one
-    put_new : (closed ∷ taken ∷ [] ≡ use_values (change unused)) → list_any (λ (row : SlotRow). same_slot row.slot slot) rows.slots ≡ false → Ran
-        → Lies new.now (record rows { slots = rows.slots ++ record { slot = slot; held = change unused } ∷ [] })
-    put_new values none it =
-        let row : SlotRow = record { slot = slot; held = change unused } in
-        let left = others_left it _ (made old.step_limit params new_row db it.one clause casts_new aims (meets_none slot (next_rowid (db slots_tree)) closed taken (db slots_tree) rows.slots lies.slots.same none) it.meets) in
-        let as_row : new_row ≡ Int (next_rowid (db slots_tree)) ∷ slot_values row = ap (λ vs. Int (next_rowid (db slots_tree)) ∷ name_values slot ++ vs) values in
-        let more = holds_more slot_values (db slots_tree) rows.slots row lies.slots in
-        on_slots old.now new.now rows lies it.schema it.sound left.1 (rows.slots ++ row ∷ [])
-        (subst (λ rs. Holds slot_values rs (rows.slots ++ row ∷ [])) (sym (left.0 ∙ ap (λ r. put_row r (db slots_tree)) as_row)) more)
-
-    -- the row of a slot is changed
-    put_old : ((there : Row) → column (params ++ rowid there ∷ shown slot_table new_row) at ≡ rowid there)
-        → AllByRecursion (λ (x : SlotRow). (id : ℤ) (there : Row) → same_slot x.slot slot ≡ true → eval_all sets ((params ++ rowid there ∷ shown slot_table new_row) ∷ (Int id ∷ slot_values x) ∷ []) ≡ Int id ∷ Int id ∷ name_values x.slot ++ use_values (change x.held)) rows.slots
-        → list_any (λ (row : SlotRow). same_slot row.slot slot) rows.slots ≡ true → Ran → Lies new.now (record rows { slots = map (changed slot change) rows.slots })
-    put_old ids says any it =
-        let q : Program = record { lets = []; body = select (inner slots_tree end) (has_id at ∷ []) sets } in
-        let hit = meets_one slot (next_rowid (db slots_tree)) closed taken (db slots_tree) rows.slots lies.slots.same any in
-        let up = updated old.step_limit params new_row db it.one clause q aims by hit.0 hit.1 hit.2 it.meets in
-        let there = up.0 in
-        let env = params ++ rowid there ∷ shown slot_table new_row in
-        let place = met_at slot (next_rowid (db slots_tree)) closed taken (db slots_tree) rows.slots lies.slots.same up.1 up.2 up.3 in
-        let id_is : rowid there ≡ Int place.0 = up.4 ∙ place.1 in
-        let R : SlotRow → SlotRow → Type 0 = λ a b. a.slot ≢ b.slot in
-        let apart = apart_from_pairs R rows.slots once in
-        let found = hits slot place.0 (db slots_tree) rows.slots lies.slots.rising lies.slots.same apart place.2 in
-        let p : SlotRow → Bool = λ x. same_slot x.slot slot in
-        let low = one_passes R p rows.slots (λ x y a b different. different (same_slots x.slot slot a ∙ sym (same_slots y.slot slot b))) apart in
-        let same : (x : SlotRow) → p x ≡ false → changed slot change x ≡ x = λ x fails. ap (λ b. let y : SlotRow = record x { held = if b then change x.held else x.held } in y) fails in
-        let kept = replaced_where slot_values p (changed slot change) same env (has_id at ∷ []) sets slot_table (record { schema = club_schema; trees = db }) rows.slots up.5
-        (λ x. (id : ℤ) (there : Row) → p x ≡ true → eval_all sets ((params ++ rowid there ∷ shown slot_table new_row) ∷ (Int id ∷ slot_values x) ∷ []) ≡ Int id ∷ Int id ∷ name_values x.slot ++ use_values (change x.held)) says
-        (λ id x say passes. say id there passes ∙ ap (λ b. Int id ∷ Int id ∷ name_values x.slot ++ use_values (if b then change x.held else x.held)) (sym passes))
-        (λ id x. rw (cast_int id, cast_int (pos x.slot.day), cast_int (pos x.slot.hour), cast_int (pos (truth x.held.closed)), cast_int (pos x.held.taken)))
-        (tests (db slots_tree) rows.slots lies.slots.same there place.0 (ids there ∙ id_is) found) lies.slots low up.6 in
-        let left = others_left it _ up.7 in
-        on_slots old.now new.now rows lies it.schema it.sound left.1 (map (changed slot change) rows.slots) (subst (λ rs. Holds slot_values rs (map (changed slot change) rows.slots)) (sym left.0) kept)
-      where
-        tests : (before : List Row) (xs : List SlotRow) → AllZip (λ row (x : SlotRow). (id : ℤ) × (row ≡ Int id ∷ slot_values x)) before xs → (there : Row) (id : ℤ) → column (params ++ rowid there ∷ shown slot_table new_row) at ≡ Int id
-            → AllZip (λ row (x : SlotRow). is_id slot id row ≡ same_slot x.slot slot) before xs
-            → AllZip (λ row (x : SlotRow). list_all (holds ((params ++ rowid there ∷ shown slot_table new_row) ∷ row ∷ [])) (has_id at ∷ []) ≡ same_slot x.slot slot) before xs
-        tests [] [] same there id of found = tt
-        tests [] (x ∷ xs) same there id of found = absurd same
-        tests (r ∷ before) [] same there id of found = absurd same
-        tests (r ∷ before) (x ∷ xs) same there id of found =
-            let first : list_all (holds ((params ++ rowid there ∷ shown slot_table new_row) ∷ r ∷ [])) (has_id at ∷ []) ≡ is_id slot id r =
-            rw (same.0.1, of) (and_true _ ∙ id_equal same.0.0 id) in
-            (first ∙ found.0, tests before xs same.1 there id of found.1)
-
-    -- the slot's row is put, where there was one and where there was none
-    pub slot_put : (list_any (λ (row : SlotRow). same_slot row.slot slot) rows.slots ≡ false → closed ∷ taken ∷ [] ≡ use_values (change unused))
-        → ((there : Row) → column (params ++ rowid there ∷ shown slot_table new_row) at ≡ rowid there)
-        → AllByRecursion (λ (x : SlotRow). (id : ℤ) (there : Row) → same_slot x.slot slot ≡ true → eval_all sets ((params ++ rowid there ∷ shown slot_table new_row) ∷ (Int id ∷ slot_values x) ∷ []) ≡ Int id ∷ Int id ∷ name_values x.slot ++ use_values (change x.held)) rows.slots
-        → (count : ℕ) → Executes text params old new (Ok count) → Lies new.now (record rows { slots = put_slot slot change rows.slots })
-    slot_put values ids says count executed = go (list_any (λ (row : SlotRow). same_slot row.slot slot) rows.slots) refl
-      where
-        go : (b : Bool) → list_any (λ (row : SlotRow). same_slot row.slot slot) rows.slots ≡ b
-            → Lies new.now (record rows { slots = if b then map (changed slot change) rows.slots else rows.slots ++ record { slot = slot; held = change unused } ∷ [] })
-        go true any = put_old ids says any (ran count executed)
-        go false none = put_new (values none) none (ran count executed)
+  -- the slot's row is put, where there was one and where there was none
+  slot_put : (list_any (λ (row : SlotRow). same_slot row.slot slot) rows.slots ≡ false → closed ∷ taken ∷ [] ≡ use_values (change unused))
+      → ((there : Row) → column (params ++ rowid there ∷ shown slot_table new_row) at ≡ rowid there)
+      → AllByRecursion SaysUse rows.slots → (count : ℕ) → Executes text params old new (Ok count) → Lies new.now (record rows { slots = put_slot slot change rows.slots })
+  slot_put values ids says count executed =
+      let t = slots_table in
+      let kept : (x : SlotRow) → same_slot x.slot slot ≡ false → changed slot change x ≡ x = λ x fails. ap (λ b. let y : SlotRow = record x { held = if b then change x.held else x.held } in y) fails in
+      let left = row_put t.name t.columns t.uniques t.checks t.references slots_tree target 4 refl text terms sets 6 at clause is plain aims by old new lies.schema params (name_values slot ++ closed ∷ taken ∷ []) gives
+      (rw (cast_null, cast_int (pos slot.day), cast_int (pos slot.hour), casts_closed, casts_taken) refl) (λ id. rw (cast_int id, cast_int (pos slot.day), cast_int (pos slot.hour), casts_closed, casts_taken) refl)
+      slot_values (is_of slot) (changed slot change) kept (record { slot = slot; held = change unused }) (λ id x. slots_conflict id (next_rowid (old.now.trees slots_tree)) x slot closed taken)
+      (λ id x. rw (cast_int id, cast_int (pos x.slot.day), cast_int (pos x.slot.hour), cast_int (pos (truth x.held.closed)), cast_int (pos x.held.taken)) refl)
+      rows.slots lies.slots (lone slot rows.slots (apart_from_pairs (λ (a : SlotRow) (b : SlotRow). a.slot ≢ b.slot) rows.slots once))
+      (λ none. ap (λ vs. name_values slot ++ vs) (values none)) ids (each_says rows.slots says) count executed in
+      on_slots old.now new.now rows lies left.0 left.3 left.2 (put_slot slot change rows.slots) left.1
 
 -- ---- a slot is closed
 

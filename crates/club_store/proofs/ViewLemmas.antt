@@ -4,6 +4,7 @@ use Rattle.std.specs.Prelude.{find, Contains, option_map, option_and_then}
 use Rattle.std.specs.Str.{bytes_eq}
 use Rattle.std.proofs.lemmas.Slice.Eq.{bytes_eq-Decides}
 use Rattle.club_rows.specs.declared.key.Key.{Key}
+use Rattle.club_rows.specs.declared.key.OlderRoot.{OlderRoot}
 use Rattle.club_rows.specs.declared.member.Member.{Member}
 use Rattle.club_core.specs.declared.request.Request.{Request}
 use Rattle.club_core.specs.Club.{Club, bookings_of, key_named, member_named}
@@ -13,7 +14,7 @@ use Rattle.club_core.specs.Basis.{view_in}
 use Rattle.club_core.specs.Sums.{booking_under, spent_under}
 use Rattle.club_store.specs.declared.row.MemberRow.{MemberRow}
 use Rattle.club_store.specs.Figures.{seen}
-use Rattle.club_store.specs.Stored.{member_row}
+use Rattle.club_store.specs.Stored.{member_row, fresh}
 
 -- what is found is an element, and passes
 pub found : {X : Type 0} (p : X → Bool) (xs : List X) (x : X) → find p xs ≡ Some x → Contains xs x × (p x ≡ true)
@@ -49,3 +50,15 @@ of_row club (Some m) row h =
     let e : row ≡ member_row club m = cc in
     let same : m ≡ row.member = ap (λ (r : MemberRow). r.member) (sym e) in
     (ap Some same, e ∙ ap (member_row club) same)
+
+-- a key's row that was found without its older root is that of the key
+pub of_fresh : (found : Option Key) (key : Key) → Some key ≡ option_map fresh found → (row : Key) × (found ≡ Some row) × (key ≡ fresh row)
+of_fresh None key h = absurd cc
+of_fresh (Some row) key h = let e : key ≡ fresh row = cc in (row, refl, e)
+
+-- with its older root it is the key
+pub with_older : (row key : Key) (older : Option OlderRoot) → key ≡ fresh row → older ≡ row.older
+    → ◌≡◌ {A = Key} (record { name = key.name; member = key.member; root = key.root; older = older; revoked = key.revoked }) row
+with_older row key older is same =
+    ap (λ (k : Key). let r : Key = record { name = k.name; member = k.member; root = k.root; older = older; revoked = k.revoked } in r) is
+    ∙ ap (λ o. let r : Key = record { name = row.name; member = row.member; root = row.root; older = o; revoked = row.revoked } in r) same

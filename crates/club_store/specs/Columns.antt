@@ -8,10 +8,11 @@ use Rattle.club_values.specs.declared.slot.Slot.{Slot}
 use Rattle.club_rows.specs.Columns.{truth}
 use Rattle.club_rows.specs.declared.facility.Facility.{Facility}
 use Rattle.club_rows.specs.declared.key.Key.{Key}
+use Rattle.club_rows.specs.declared.key.OlderRoot.{OlderRoot}
 use Rattle.club_rows.specs.declared.booking.Booking.{Booking}
 use Rattle.club_core.specs.declared.slot_use.SlotUse.{SlotUse}
 use Rattle.club_store.specs.declared.row.MemberRow.{MemberRow}
-use Rattle.club_store.specs.Stored.{SlotRow}
+use Rattle.club_store.specs.Stored.{SlotRow, OlderRow}
 
 abbrev pub whole : ℕ → Value
 whole n = Int (pos n)
@@ -43,6 +44,13 @@ use_values held = flag held.closed ∷ whole held.taken ∷ []
 
 abbrev pub slot_values : SlotRow → Row
 slot_values row = name_values row.slot ++ use_values row.held
+
+-- what is told of an older root, and its row
+abbrev pub older_root_values : OlderRoot → Row
+older_root_values older = Blob older.root ∷ whole older.until ∷ []
+
+abbrev pub older_values : OlderRow → Row
+older_values row = Text row.key ∷ older_root_values row.older
 
 abbrev pub booking_values : Booking → Row
 booking_values booking =

@@ -1,4 +1,4 @@
--- The tables of the club as sqlite understands them (ours): six STRICT tables, each column NOT NULL.
+-- The tables of the club as sqlite understands them (ours): seven STRICT tables, each column NOT NULL.
 use Rattle.std.specs.Prelude.{ℕ, pos, true, false, codes, None, List, [], ◌∷◌, ◌++◌, map, slice_get, unwrap_or}
 use Rattle.sqlite_value.specs.declared.value.Value.TheVariants.{Null, Int}
 use Rattle.sqlite_value.specs.declared.keys.Collation.TheVariants.{Binary}
@@ -102,6 +102,12 @@ bookings_table =
     ∷ within 9 0 1 ∷ within 10 0 499_950 ∷ [])
     (refers_to (codes "keys") 1 ∷ refers_to (codes "facilities") 3 ∷ [])
 
+-- the older roots of keys that were rotated
+abbrev pub old_roots_table : Table
+old_roots_table =
+    table_of (codes "old_roots") (text (codes "pass_key") ∷ column_of Blob (codes "root") ∷ number (codes "until") ∷ []) ((1 ∷ []) ∷ [])
+    (within 3 15_778_080 68_374_079 ∷ []) (refers_to (codes "keys") 1 ∷ [])
+
 abbrev pub no_schema : Schema
 no_schema = record { tables = []; indexes = []; views = [] }
 
@@ -116,11 +122,16 @@ keys_by_member = record {
   is_unique = false;
 }
 
--- the tables, made in this order: each takes the next trees, for itself and for its key
+-- the first six tables, made in this order: each takes the next trees, for itself and for its key
 abbrev pub six_tables : Schema
 six_tables =
     created (created (created (created (created (created no_schema desk_table) members_table) facilities_table) keys_table) slots_table)
     bookings_table
 
+-- the tables of version 1
+abbrev pub first_schema : Schema
+first_schema = indexed six_tables (record keys_table { tree = 5 }) keys_by_member
+
+-- those of version 2
 abbrev pub club_schema : Schema
-club_schema = indexed six_tables (record keys_table { tree = 5 }) keys_by_member
+club_schema = created first_schema old_roots_table

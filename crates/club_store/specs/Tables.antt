@@ -7,8 +7,8 @@ use Rattle.sqlite_trees.specs.Tree.{Trees, IsTable}
 use Rattle.sqlite.specs.Effect.{Database, IsDatabase}
 use Rattle.sqlite.specs.State.{State, HasCleanDisk}
 use Rattle.club_core.specs.Club.{Club, IsSound, empty_club}
-use Rattle.club_store.specs.Schema.{no_schema, club_schema}
-use Rattle.club_store.specs.Columns.{version_values, member_values, facility_values, key_values, slot_values, booking_values}
+use Rattle.club_store.specs.Schema.{no_schema, first_schema, club_schema}
+use Rattle.club_store.specs.Columns.{version_values, member_values, facility_values, key_values, slot_values, booking_values, older_values}
 use Rattle.club_store.specs.Stored.{Rows, IsStoredAs}
 
 -- the trees of the tables
@@ -30,6 +30,9 @@ slots_tree = 7
 abbrev pub bookings_tree : ℕ
 bookings_tree = 9
 
+abbrev pub olders_tree : ℕ
+olders_tree = 12
+
 -- the row is a rowid and these values
 abbrev pub IsRowOf : Row → Row → Type 0
 IsRowOf values row = (id : ℤ) × (row ≡ Int id ∷ values)
@@ -39,15 +42,16 @@ pub record Holds {X : Type 0} (values : X → Row) (rows : List Row) (xs : List 
   pub rising : IsTable rows
   pub same : AllZip (λ row x. IsRowOf (values x) row) rows xs
 
--- the tables of version 1 hold these rows and no others
+-- the tables of version 2 hold these rows and no others
 pub record Lies (db : Database) (rows : Rows) : Type 0 where
   pub schema : db.schema ≡ club_schema
-  pub version : Holds version_values (db.trees desk_tree) (1 ∷ [])
+  pub version : Holds version_values (db.trees desk_tree) (2 ∷ [])
   pub members : Holds member_values (db.trees members_tree) rows.members
   pub facilities : Holds facility_values (db.trees facilities_tree) rows.facilities
   pub keys : Holds key_values (db.trees keys_tree) rows.keys
   pub slots : Holds slot_values (db.trees slots_tree) rows.slots
   pub bookings : Holds booking_values (db.trees bookings_tree) rows.bookings
+  pub olders : Holds older_values (db.trees olders_tree) rows.olders
   -- the trees list this schema, and obey it
   pub database : IsDatabase db
 
@@ -58,12 +62,31 @@ pub record Tables (db : Database) (club : Club) : Type 0 where
   pub stored : IsStoredAs club rows
   pub sound : IsSound club
 
+-- the tables of version 1 hold these rows and no others: they have none for older roots
+pub record FirstLies (db : Database) (rows : Rows) : Type 0 where
+  pub schema : db.schema ≡ first_schema
+  pub version : Holds version_values (db.trees desk_tree) (1 ∷ [])
+  pub members : Holds member_values (db.trees members_tree) rows.members
+  pub facilities : Holds facility_values (db.trees facilities_tree) rows.facilities
+  pub keys : Holds key_values (db.trees keys_tree) rows.keys
+  pub slots : Holds slot_values (db.trees slots_tree) rows.slots
+  pub bookings : Holds booking_values (db.trees bookings_tree) rows.bookings
+  pub olders : rows.olders ≡ []
+  pub database : IsDatabase db
+
+pub record FirstTables (db : Database) (club : Club) : Type 0 where
+  pub rows : Rows
+  pub lies : FirstLies db rows
+  pub stored : IsStoredAs club rows
+  pub sound : IsSound club
+
 -- a database without tables stands for the empty club
 abbrev pub IsBlank : Database → Club → Type 0
 IsBlank db club = (db.schema ≡ no_schema) × (club ≡ empty_club) × IsDatabase db
 
+-- tables of version 2, tables of version 1, or none
 abbrev pub HoldsClub : Database → Club → Type 0
-HoldsClub db club = Tables db club ⊎ IsBlank db club
+HoldsClub db club = Tables db club ⊎ (FirstTables db club ⊎ IsBlank db club)
 
 -- a crash left a database of one of these clubs
 abbrev pub IsLeftOf : Trees → List Club → Type 0
@@ -81,6 +104,10 @@ pub record Rests (IsHeld : Database → Club → Type 0) (state : State) (club :
 abbrev pub Stands : State → Club → List Club → Type 0
 Stands = Rests Tables
 
--- the tables stand, or are still to be made
+-- the tables of version 1 stand
+abbrev pub FirstStands : State → Club → List Club → Type 0
+FirstStands = Rests FirstTables
+
+-- the tables stand, or are still to be migrated or made
 abbrev pub IsFound : State → Club → List Club → Type 0
 IsFound = Rests HoldsClub

@@ -9,7 +9,7 @@ use Rattle.club_core.specs.Club.{Club, IsSound, key_named}
 use Rattle.club_rows.specs.declared.key.Key.{Key}
 use Rattle.club_rows.specs.declared.booking.Booking.{Booking}
 use Rattle.club_core.specs.Sums.{booking_under}
-use Rattle.club_store.specs.Tables.{Stands, IsFound}
+use Rattle.club_store.specs.Tables.{Stands, FirstStands, IsFound}
 
 abbrev pub stands_in : {S : Type 0} → Ghosts S → Held S → Club → List Club → Type 0
 stands_in g held = Stands (state g held)
@@ -17,6 +17,9 @@ stands_in g held = Stands (state g held)
 -- a club that stands, where it and each other that a crash may leave are sound
 abbrev pub sound_in : {S : Type 0} → Ghosts S → Held S → Club → List Club → Type 0
 sound_in g held club others = All IsSound (club ∷ others) × Stands (state g held) club others
+
+abbrev pub first_in : {S : Type 0} → Ghosts S → Held S → Club → List Club → Type 0
+first_in g held = FirstStands (state g held)
 
 abbrev pub found_in : {S : Type 0} → Ghosts S → Held S → Club → List Club → Type 0
 found_in g held = IsFound (state g held)
@@ -36,6 +39,10 @@ ChangesWhere IsIt IsStanding change old new result =
 -- the key of this name is the member's
 abbrev pub IsOwnedBy : List ℕ → List ℕ → Club → Type 0
 IsOwnedBy member key club = (row : Key) × (key_named key club ≡ Some row) × (row.member ≡ member)
+
+-- the key of this name has this root
+abbrev pub HasRoot : List ℕ → List ℕ → Club → Type 0
+HasRoot key root club = (row : Key) × (key_named key club ≡ Some row) × (row.root ≡ root)
 
 -- the booking is one of the club's, and isn't cancelled
 abbrev pub IsToCancel : Booking → Club → Type 0

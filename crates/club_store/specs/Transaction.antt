@@ -11,7 +11,7 @@ use Rattle.sqlite.specs.declared.error.ErrorCode.TheVariants.{OutOfMemory}
 use Rattle.sqlite.specs.Values.{bound}
 use Rattle.club_core.specs.declared.store.StoreFault.{StoreFault}
 use Rattle.club_core.specs.declared.store.StoreFault.TheVariants.{Memory, Storage}
-use Rattle.club_store.specs.declared.texts.TheConstants.{ADD_USED, ADD_TAKEN}
+use Rattle.club_store.specs.declared.texts.TheConstants.{ADD_USED, ADD_TAKEN, PUT_OLDER_ROOT, SET_ROOT}
 use Rattle.club_store.specs.declared.transaction.Statement.{Statement}
 
 -- want of memory is Memory, and each other error Storage
@@ -55,3 +55,7 @@ pub record Ran {S : Type 0} (g : Ghosts S) (all : List Words) (old : Held S) (db
 -- a statement on a booking, and the additions to the totals of its member and its slot
 abbrev pub with_totals : List ℕ → Row → Row → Row → List Words
 with_totals text booking used taken = (text, booking) ∷ (ADD_USED.now, used) ∷ (ADD_TAKEN.now, taken) ∷ []
+
+-- the statements of a rotation: an older root is put, and the key's root set
+abbrev pub rotating : Row → Row → List Words
+rotating put set = (PUT_OLDER_ROOT.now, put) ∷ (SET_ROOT.now, set) ∷ []

@@ -2,6 +2,7 @@
 
 use crate::Store;
 use crate::tests::{amy, booking, facility, key, name, slot};
+use crate::version_tests::fill;
 use club_core::{Change, StoreFault};
 use pass_caveats::Kind;
 use sqlite::{Connection, FileStore, Files, Options};
@@ -70,12 +71,16 @@ fn bytes_of(alloc: Global, files: &Files<Stops>) -> Result<Vec<u8>, Fail> {
     Ok(Vec::from_slice(alloc, files.db.inner().bytes())?)
 }
 
-/// The files of a store that is closed, or that could not be.
-fn closed(store: Store<FileStore<Stops>>) -> Files<Stops> {
-    match store.into_connection().close_files() {
+/// The files of a connection that is closed, or that could not be.
+fn connection_closed(connection: Connection<FileStore<Stops>>) -> Files<Stops> {
+    match connection.close_files() {
         Ok(files) => files,
         Err((_, store)) => store.close(),
     }
+}
+
+fn closed(store: Store<FileStore<Stops>>) -> Files<Stops> {
+    connection_closed(store.into_connection())
 }
 
 /// The file of a club that has a member with points, a court and a key.
@@ -141,5 +146,64 @@ fn holds_a_booking_whole_or_not_at_all(rt: HostRuntime) -> Result<(), Fail> {
     let (made, left) = booked(rt.alloc(), calls.saturating_add(1), &bytes)?;
     assert_eq!(rt; made, Some(true));
     assert!(rt; held(rt.alloc(), left)?);
+    Ok(())
+}
+
+/// The file of version 1 with the bookings of its tests.
+fn first_version_file(alloc: Global) -> Result<Vec<u8>, Fail> {
+    let new = files(alloc, u64::MAX, &[])?;
+    let mut connection = connected(alloc, new).ok().ok_or("a new file")?;
+    fill(&mut connection)?;
+    let files = connection_closed(connection);
+    bytes_of(alloc, &files)
+}
+
+/// Whether the store holds the bookings of version 1: 7 and 8, of which 8 is cancelled.
+fn holds_bookings(store: &mut Store<FileStore<Stops>>) -> Result<bool, Fail> {
+    let whole = key()?;
+    let found = store.key(&name(b"amy-1")?)?.ok_or("the key")?;
+    let court = store.slot(&slot(b"court-1", 18)?)?.taken;
+    let room = store.slot(&slot(b"room-1", 18)?)?.taken;
+    Ok(found == whole && court == 3 && room == 0)
+}
+
+/// Whether tables of version 1 were opened on a log that stops after so many calls, and what is left of the files.
+fn migrated(alloc: Global, calls: u64, bytes: &[u8]) -> Result<(bool, Files<Stops>), Fail> {
+    match opened(alloc, files(alloc, calls, bytes)?) {
+        Ok(store) => Ok((true, given_up(store))),
+        Err(left) => Ok((false, left)),
+    }
+}
+
+/// Whether the same club is found once the machine comes back.
+fn same_club(alloc: Global, left: Files<Stops>) -> Result<bool, Fail> {
+    let mut again = opened(alloc, restarted(left)).ok().ok_or("opened")?;
+    holds_bookings(&mut again)
+}
+
+/// The most calls, of up to 127, that are too few for the opening.
+fn calls_too_few_to_migrate(alloc: Global, bytes: &[u8]) -> Result<u64, Fail> {
+    let mut calls = 0u64;
+    let mut step = 64u64;
+    for _ in 0..7 {
+        let more = calls.saturating_add(step);
+        if !migrated(alloc, more, bytes)?.0 {
+            calls = more;
+        }
+        step /= 2;
+    }
+    Ok(calls)
+}
+
+#[test]
+fn migrates_whole_or_not_at_all(rt: HostRuntime) -> Result<(), Fail> {
+    let bytes = first_version_file(rt.alloc())?;
+    let calls = calls_too_few_to_migrate(rt.alloc(), &bytes)?;
+    let (early, left) = migrated(rt.alloc(), calls / 2, &bytes)?;
+    assert!(rt; !early && same_club(rt.alloc(), left)?);
+    let (stopped, left) = migrated(rt.alloc(), calls, &bytes)?;
+    assert!(rt; !stopped && same_club(rt.alloc(), left)?);
+    let (made, left) = migrated(rt.alloc(), calls.saturating_add(1), &bytes)?;
+    assert!(rt; made && same_club(rt.alloc(), left)?);
     Ok(())
 }

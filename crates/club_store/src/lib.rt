@@ -20,3 +20,5 @@ pub use store::Store;
 mod crash_tests;
 #[cfg(test)]
 mod tests;
+#[cfg(test)]
+mod version_tests;

@@ -2,14 +2,14 @@
 
 ghost use Rattle.std.specs.Prelude.{◌≡◌, [], ◌∷◌, ◌++◌, pos, neg_ℤ};
 ghost use Rattle.sqlite.specs.Values.{bound};
-ghost use Rattle.sqlite_value.specs.declared.value.Value.TheVariants.{Int as IntValue, Text as TextValue};
+ghost use Rattle.sqlite_value.specs.declared.value.Value.TheVariants.{Int as IntValue, Text as TextValue, Blob as BlobValue};
 ghost use Rattle.club_rows.specs.Booking.{persons_of};
 ghost use Rattle.club_rows.specs.Columns.{truth};
 ghost use Rattle.club_core.specs.Sums.{cost_of};
 ghost use Rattle.club_store.specs.Stored.{persons_taken};
-ghost use Rattle.club_store.specs.Columns.{whole, facility_values, key_values, booking_values, name_values};
+ghost use Rattle.club_store.specs.Columns.{whole, facility_values, key_values, older_root_values, booking_values, name_values};
 
-use club_core::{Booking, BookingNumber, Facility, Key, Member};
+use club_core::{Booking, BookingNumber, Facility, Key, Member, OlderRoot, Root};
 use pass_caveats::{Name, Slot};
 use sqlite::types::ValueRef;
 
@@ -54,6 +54,35 @@ pub(crate) fn of_key(key: &Key) -> [ValueRef<'_>; 4]
         ValueRef::Text(key.member.as_bytes()),
         ValueRef::Blob(key.root.as_bytes()),
         ValueRef::Int(number_of(key.revoked)),
+    ]
+}
+
+/// A new root for a key, and the root that it has with the moment until which that one is good.
+#[derive(Clone, Copy)]
+pub(crate) struct Rotation {
+    pub(crate) key: Name,
+    pub(crate) root: Root,
+    pub(crate) older: OlderRoot,
+}
+
+/// A key, and its older root.
+pub(crate) fn of_older_root(rotation: &Rotation) -> [ValueRef<'_>; 3]
+    ensures { bound result ≡ TextValue rotation.now.key ∷ older_root_values rotation.now.older }
+{
+    [
+        ValueRef::Text(rotation.key.as_bytes()),
+        ValueRef::Blob(rotation.older.root.as_bytes()),
+        ValueRef::Int(i64::from(rotation.older.until.number())),
+    ]
+}
+
+/// A key, and its new root.
+pub(crate) fn of_root(rotation: &Rotation) -> [ValueRef<'_>; 2]
+    ensures { bound result ≡ TextValue rotation.now.key ∷ BlobValue rotation.now.root ∷ [] }
+{
+    [
+        ValueRef::Text(rotation.key.as_bytes()),
+        ValueRef::Blob(rotation.root.as_bytes()),
     ]
 }
 

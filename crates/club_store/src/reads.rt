@@ -1,21 +1,21 @@
 //! The statements that read, each in a function of its own. They change nothing.
 
-ghost use Rattle.std.specs.Prelude.{◌≡◌, false, [], ◌∷◌, length, map, filter, option_map, IsPermutation, IfOk};
+ghost use Rattle.std.specs.Prelude.{◌≡◌, ◌⊎◌, false, [], ◌∷◌, length, map, filter, option_map, IsPermutation, IfOk};
 ghost use Rattle.std.specs.Option.{option_to_list};
 ghost use Rattle.sqlite.specs.State.{HasCleanDisk, Survives};
 ghost use Rattle.sqlite.specs.Held.{state};
 ghost use Rattle.club_core.specs.Club.{Club, bookings_of, key_named, member_named, facility_named};
 ghost use Rattle.club_core.specs.Store.{KeepsStanding, Tells};
 ghost use Rattle.club_store.specs.Told.{stands_in, found_in};
-ghost use Rattle.club_store.specs.Tables.{IsFound, Stands};
+ghost use Rattle.club_store.specs.Tables.{IsFound, Stands, FirstStands};
 ghost use Rattle.club_store.specs.Transaction.{IsKept};
 ghost use Rattle.club_store.specs.Opening.{IsAnswered};
 ghost use Rattle.club_store.specs.declared.texts.TheConstants.{VERSION};
 ghost use Rattle.club_core.specs.Sums.{is_under, booking_under, count_to_come};
 ghost use Rattle.club_store.specs.Sheet.{ShowsDay};
-ghost use Rattle.club_store.specs.Stored.{member_row};
+ghost use Rattle.club_store.specs.Stored.{member_row, older_of};
 ghost use Rattle.club_store.specs.Use.{ShowsUse};
-ghost use Rattle.club_store.specs.Columns.{version_values, key_values, member_values, facility_values, booking_values, cost_values};
+ghost use Rattle.club_store.specs.Columns.{version_values, key_values, member_values, facility_values, booking_values, cost_values, older_root_values};
 
 use crate::texts;
 use crate::transaction::ask;
@@ -33,6 +33,20 @@ pub(crate) fn key<S: Alter>(conn: &mut Connection<S>, name: &Name) -> Result<Vec
     ensures survives { Survives (state S.Store conn.old) (state S.Store conn.new) (λ _. ⊥) }
 {
     ask(conn, texts::KEY, &[ValueRef::Text(name.as_bytes())])
+}
+
+/// What is told of the older root of a key, where it was rotated.
+pub(crate) fn older_root<S: Alter>(
+    conn: &mut Connection<S>,
+    key: &Name,
+) -> Result<Vec<Row>, StoreFault>
+    requires { conn.old.in_transaction ≡ false }
+    ensures idle { conn.new.in_transaction ≡ false }
+    ensures told { HasCleanDisk (state S.Store conn.new) → Tells (stands_in S.Store) conn.old result (λ club rows. rows.items ≡ map older_root_values (option_to_list (older_of key.now club))) }
+    ensures kept { HasCleanDisk (state S.Store conn.new) → KeepsStanding (stands_in S.Store) conn.old conn.new }
+    ensures survives { Survives (state S.Store conn.old) (state S.Store conn.new) (λ _. ⊥) }
+{
+    ask(conn, texts::OLDER_ROOT, &[ValueRef::Text(key.as_bytes())])
 }
 
 /// The row of a member, with what the member's bookings have cost.
@@ -63,13 +77,13 @@ pub(crate) fn facility<S: Alter>(
     ask(conn, texts::FACILITY, &[ValueRef::Text(name.as_bytes())])
 }
 
-/// The version of the tables. Where it is read, the tables stand.
+/// The version of the tables. Where it is read, tables of that version stand.
 pub(crate) fn version<S: Alter>(conn: &mut Connection<S>) -> Result<Vec<Row>, StoreFault>
     requires { conn.old.in_transaction ≡ false }
     ensures idle { conn.new.in_transaction ≡ false }
     ensures answered { HasCleanDisk (state S.Store conn.new) → IfOk result (λ rows. IsAnswered VERSION.now (state S.Store conn.old).now rows.items) }
     ensures same { IsKept (state S.Store conn.old) (state S.Store conn.new) }
-    ensures told { HasCleanDisk (state S.Store conn.new) → IfOk result (λ rows. (club : Club) (others : _) → IsFound (state S.Store conn.old) club others → Stands (state S.Store conn.new) club others × (rows.items ≡ version_values 1 ∷ [])) }
+    ensures told { HasCleanDisk (state S.Store conn.new) → IfOk result (λ rows. (club : Club) (others : _) → IsFound (state S.Store conn.old) club others → (Stands (state S.Store conn.new) club others × (rows.items ≡ version_values 2 ∷ [])) ⊎ (FirstStands (state S.Store conn.new) club others × (rows.items ≡ version_values 1 ∷ []))) }
     ensures kept { HasCleanDisk (state S.Store conn.new) → KeepsStanding (found_in S.Store) conn.old conn.new }
     ensures survives { Survives (state S.Store conn.old) (state S.Store conn.new) (λ _. ⊥) }
 {

@@ -1,17 +1,19 @@
 //! Rows of the tables as rows of the club: none where a value is of another kind, or out of its limits.
 
-ghost use Rattle.std.specs.Prelude.{◌≡◌, ◌≤◌, false, true, [], ◌∷◌, List, Err, IfOk, option_map};
+ghost use Rattle.std.specs.Prelude.{◌≡◌, ◌≤◌, false, true, [], ◌∷◌, List, Err, None, IfOk, option_map};
 ghost use Rattle.sqlite_value.specs.Order.{column};
 ghost use Rattle.club_values.specs.Reading.{Reads};
-ghost use Rattle.club_rows.specs.Rows.{IsFacility, IsKey, IsBooking};
+ghost use Rattle.club_rows.specs.Rows.{IsFacility, IsKey, IsOlderRoot, IsBooking};
 ghost use Rattle.club_rows.specs.declared.booking.Booking.{Booking as BookingRow};
 ghost use Rattle.club_store.specs.Sheet.{AreBookings};
 ghost use Rattle.club_store.specs.Stored.{IsMemberRow};
-ghost use Rattle.club_store.specs.Columns.{whole, HasValues, text_in, bytes_in, integer_in, member_values, use_values, facility_values, key_values, booking_values};
+ghost use Rattle.club_store.specs.Columns.{whole, HasValues, text_in, bytes_in, integer_in, member_values, use_values, facility_values, key_values, older_root_values, booking_values};
 
 use club_core::{
-    Booking, BookingColumns, Facility, FacilityColumns, Key, Member, SlotUse, StoreFault,
+    Booking, BookingColumns, Facility, FacilityColumns, Key, Member, OlderRoot, Root, SlotUse,
+    StoreFault,
 };
+use pass_caveats::Moment;
 use sqlite::Row;
 use sqlite::types::ValueRef;
 use std::alloc::Global;
@@ -101,8 +103,9 @@ pub(crate) fn member_in(row: &Row) -> Option<MemberRow>
     Some(MemberRow { member, used })
 }
 
+/// A key's row, which tells of no older root.
 pub(crate) fn key_in(row: &Row) -> Option<Key>
-    ensures { Reads (λ key. IsKey key × HasValues row.now (key_values key)) result }
+    ensures { Reads (λ key. IsKey key × (key.older ≡ None) × HasValues row.now (key_values key)) result }
 {
     Key::from_columns(
         text_at(row, 0)?,
@@ -110,6 +113,15 @@ pub(crate) fn key_in(row: &Row) -> Option<Key>
         bytes_at(row, 2)?,
         integer_at(row, 3)?,
     )
+}
+
+/// The older root of a key, of the columns `root` and `until`.
+pub(crate) fn older_root_in(row: &Row) -> Option<OlderRoot>
+    ensures { Reads (λ older. IsOlderRoot older × HasValues row.now (older_root_values older)) result }
+{
+    let root = Root::new(bytes_at(row, 0)?)?;
+    let until = Moment::from_number(number_within(row, 1, u32::MAX)?)?;
+    Some(OlderRoot { root, until })
 }
 
 pub(crate) fn facility_in(row: &Row) -> Option<Facility>

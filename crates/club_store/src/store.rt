@@ -6,8 +6,8 @@ ghost use Rattle.club_core.specs.Sheet.{AreRowsOf};
 ghost use Rattle.club_core.specs.Sums.{booking_under};
 ghost use Rattle.club_core.specs.Basis.{slot_use, view_in};
 ghost use Rattle.club_core.specs.Store.{KeepsStanding, Tells};
-ghost use Rattle.club_rows.specs.Rows.{IsMember, IsFacility, IsKey, IsBooking};
-ghost use Rattle.club_core.specs.declared.change.Change.TheVariants.{InsertMember, AddCredit, InsertFacility, InsertKey, MarkRevoked, MarkClosed, InsertBooking, MarkCancelled};
+ghost use Rattle.club_rows.specs.Rows.{IsMember, IsFacility, IsKey, IsOlderRoot, IsBooking};
+ghost use Rattle.club_core.specs.declared.change.Change.TheVariants.{InsertMember, AddCredit, InsertFacility, InsertKey, MarkRevoked, ReplaceRoot, MarkClosed, InsertBooking, MarkCancelled};
 ghost use Rattle.sqlite.specs.Steps.{over_memory, IsFresh, IsEmpty};
 ghost use Rattle.sqlite.specs.View.{IsClean};
 ghost use Rattle.sqlite.specs.Files.{file_state};
@@ -16,18 +16,22 @@ ghost use Rattle.club_store.specs.Crash.{LeavesOneOf, IsOpenedOn, OneStands};
 ghost use Rattle.club_store.specs.Opening.{OpensFrom, IsAccepted};
 ghost use Rattle.club_store.specs.Tables.{Stands, IsFound};
 ghost use Rattle.club_store.specs.Told.{stands_in, found_in, Changes, ChangesWhere, IsToCancel, HasNoneToCancel};
-ghost use Rattle.club_store.specs.Stored.{IsMemberRow, member_row};
+ghost use Rattle.club_store.specs.Stored.{IsMemberRow, member_row, older_of, fresh};
 ghost use Rattle.club_store.specs.Transaction.{IsKept};
 ghost use Rattle.club_store.specs.Figures.{slot_state, seen, HasLimits};
 
 use crate::figures::{SlotState, account_at, booked, booking};
 use crate::open::open_tables;
-use crate::row::{MemberRow, bookings_in, facility_in, key_in, member_in, slot_use_of};
+use crate::params::Rotation;
+use crate::row::{
+    MemberRow, bookings_in, facility_in, key_in, member_in, older_root_in, slot_use_of,
+};
 use crate::transaction::fault_of;
 use crate::{reads, writes};
 use club_core::laws::own_bookings_suffice;
 use club_core::{
-    Booking, BookingNumber, Change, Facility, Key, Member, Request, SlotUse, StoreFault, View,
+    Booking, BookingNumber, Change, Facility, Key, Member, OlderRoot, Request, Root, SlotUse,
+    StoreFault, View,
 };
 use pass_caveats::{Day, Moment, Name, Slot};
 use sqlite::{Alter, Connection, FileFrom, FileStore, MemStore, Start};
@@ -94,9 +98,9 @@ impl<Q: Start> Store<FileStore<FileFrom<Q>>> {
 }
 
 impl<S: Alter + Drop> Store<S> {
-    /// Takes over a connection, whose database has the tables of a club, or none, and then gets those of an empty club. A refusal
-    /// changes nothing, and hands the connection back beside the fault: Storage for another version, other tables, or a
-    /// connection in a transaction.
+    /// Takes over a connection, whose database has the tables of a club, or none, and then gets those of an empty club. Tables of
+    /// version 1 get older roots as the last step. A refusal changes nothing, and hands the connection back beside the fault:
+    /// Storage for another version, other tables, or a connection in a transaction.
     pub fn adopt(
         alloc: Global,
         mut connection: Connection<S>,
@@ -150,11 +154,48 @@ impl<S: Alter> Store<S> {
         ensures kept { HasCleanDisk (state S.Store self.new) → KeepsStanding (stands_in S.Store) self.old self.new }
         ensures survives { Survives (state S.Store self.old) (state S.Store self.new) (λ _. ⊥) }
     {
+        let Some(key) = self.key_row(name)? else {
+            return Ok(None);
+        };
+        let older = self.older_root(name)?;
+        Ok(Some(Key {
+            name: key.name,
+            member: key.member,
+            root: key.root,
+            older,
+            revoked: key.revoked,
+        }))
+    }
+
+    /// The key of this name, without its older root; `None` where there is none.
+    fn key_row(&mut self, name: &Name) -> Result<Option<Key>, StoreFault>
+        ensures told { HasCleanDisk (state S.Store self.new) → Tells (stands_in S.Store) self.old result (λ club key. key ≡ option_map fresh (key_named name.now club)) }
+        ensures limits { IfOk result (λ key. IfSome key IsKey) }
+        ensures kept { HasCleanDisk (state S.Store self.new) → KeepsStanding (stands_in S.Store) self.old self.new }
+        ensures survives { Survives (state S.Store self.old) (state S.Store self.new) (λ _. ⊥) }
+    {
         let rows = reads::key(&mut self.connection, name)?;
         match rows.first() {
             None => Ok(None),
             Some(row) => match key_in(row) {
                 Some(key) => Ok(Some(key)),
+                None => Err(StoreFault::Storage),
+            },
+        }
+    }
+
+    /// The older root of the key of this name; `None` where it was never rotated.
+    fn older_root(&mut self, name: &Name) -> Result<Option<OlderRoot>, StoreFault>
+        ensures told { HasCleanDisk (state S.Store self.new) → Tells (stands_in S.Store) self.old result (λ club older. older ≡ older_of name.now club) }
+        ensures limits { IfOk result (λ older. IfSome older IsOlderRoot) }
+        ensures kept { HasCleanDisk (state S.Store self.new) → KeepsStanding (stands_in S.Store) self.old self.new }
+        ensures survives { Survives (state S.Store self.old) (state S.Store self.new) (λ _. ⊥) }
+    {
+        let rows = reads::older_root(&mut self.connection, name)?;
+        match rows.first() {
+            None => Ok(None),
+            Some(row) => match older_root_in(row) {
+                Some(older) => Ok(Some(older)),
                 None => Err(StoreFault::Storage),
             },
         }
@@ -319,6 +360,7 @@ impl<S: Alter> Store<S> {
             Change::InsertFacility(facility) => self.insert_facility(facility),
             Change::InsertKey(key) => self.insert_key(key),
             Change::MarkRevoked { key } => self.revoke_key(key),
+            Change::ReplaceRoot { key, root, until } => self.replace_root(key, root, *until),
             Change::MarkClosed(slot) => self.close_slot(slot),
             Change::InsertBooking(booking) => self.insert_booking(booking),
             Change::MarkCancelled {
@@ -334,7 +376,7 @@ impl<S: Alter> Store<S> {
         ensures honest { HasCleanDisk (state S.Store self.new) → HasCleanDisk (state S.Store self.old) }
         ensures changed { HasCleanDisk (state S.Store self.new) → Changes (stands_in S.Store) (InsertBooking booking.now) self.old self.new result }
     {
-        let found = match self.key(&booking.key) {
+        let found = match self.key_row(&booking.key) {
             Ok(found) => found,
             Err(fault) => return Err(fault),
         };
@@ -396,7 +438,7 @@ impl<S: Alter> Store<S> {
         ensures honest { HasCleanDisk (state S.Store self.new) → HasCleanDisk (state S.Store self.old) }
         ensures changed { HasCleanDisk (state S.Store self.new) → ChangesWhere (IsToCancel booking.now) (stands_in S.Store) (MarkCancelled booking.now.key booking.now.number refund) self.old self.new result }
     {
-        let found = match self.key(&booking.key) {
+        let found = match self.key_row(&booking.key) {
             Ok(found) => found,
             Err(fault) => return Err(fault),
         };
@@ -432,7 +474,7 @@ impl<S: Alter> Store<S> {
         writes::insert_facility(&mut self.connection, facility)
     }
 
-    /// Inserts a key, in one transaction. A refusal is as that of `apply`.
+    /// Inserts a key, in one transaction. A refusal is as that of `apply`; so is a key refused that has an older root already.
     pub fn insert_key(&mut self, key: &Key) -> Result<(), StoreFault>
         ensures honest { HasCleanDisk (state S.Store self.new) → HasCleanDisk (state S.Store self.old) }
         ensures changed { HasCleanDisk (state S.Store self.new) → Changes (stands_in S.Store) (InsertKey key.now) self.old self.new result }
@@ -446,6 +488,32 @@ impl<S: Alter> Store<S> {
         ensures changed { HasCleanDisk (state S.Store self.new) → Changes (stands_in S.Store) (MarkRevoked key.now) self.old self.new result }
     {
         writes::revoke_key(&mut self.connection, key)
+    }
+
+    /// Gives a key a new root, in one transaction. The one that it has becomes its older root, good until the moment, in place of
+    /// one from before. A refusal is as that of `apply`; an unknown key is one of storage.
+    pub fn replace_root(&mut self, key: &Name, root: &Root, until: Moment) -> Result<(), StoreFault>
+        ensures honest { HasCleanDisk (state S.Store self.new) → HasCleanDisk (state S.Store self.old) }
+        ensures changed { HasCleanDisk (state S.Store self.new) → Changes (stands_in S.Store) (ReplaceRoot key.now root.now until) self.old self.new result }
+    {
+        let found = match self.key_row(key) {
+            Ok(found) => found,
+            Err(fault) => return Err(fault),
+        };
+        match found {
+            Some(row) => {
+                let rotation = Rotation {
+                    key: *key,
+                    root: *root,
+                    older: OlderRoot {
+                        root: row.root,
+                        until,
+                    },
+                };
+                writes::replace_root(&mut self.connection, &rotation)
+            }
+            None => Err(StoreFault::Storage),
+        }
     }
 
     /// Marks a slot closed, in one transaction. A refusal is as that of `apply`.

@@ -44,6 +44,7 @@ pub(crate) fn key() -> Result<Key, Fail> {
         name: name(b"amy-1")?,
         member: name(b"amy")?,
         root: Root::new(b"0123456789abcdef").ok_or("root")?,
+        older: None,
         revoked: false,
     })
 }
@@ -80,7 +81,7 @@ fn member_of(store: &mut Store<MemStore>) -> Result<Option<Member>, Fail> {
     Ok(store.member(&name(b"amy")?)?)
 }
 
-fn key_of(store: &mut Store<MemStore>) -> Result<Option<Key>, Fail> {
+pub(crate) fn key_of(store: &mut Store<MemStore>) -> Result<Option<Key>, Fail> {
     Ok(store.key(&name(b"amy-1")?)?)
 }
 
@@ -148,7 +149,7 @@ fn fault_over(alloc: Global, texts: &[&str]) -> Result<Option<StoreFault>, Fail>
     }
 }
 
-fn reopened(alloc: Global, store: Store<MemStore>) -> Result<Store<MemStore>, Fail> {
+pub(crate) fn reopened(alloc: Global, store: Store<MemStore>) -> Result<Store<MemStore>, Fail> {
     match Store::adopt(alloc, store.into_connection()) {
         Ok(store) => Ok(store),
         Err((fault, _)) => Err(fault)?,
@@ -288,13 +289,16 @@ Total bookings 3, persons 5, charge 1401
 }
 
 /// What `amy-1` sees of a request at a minute of the day before the slots.
-fn view_of(store: &mut Store<MemStore>, request: &Request) -> Result<Option<View>, Fail> {
+pub(crate) fn view_of(
+    store: &mut Store<MemStore>,
+    request: &Request,
+) -> Result<Option<View>, Fail> {
     let moment = Moment::from_number(29_626_140).ok_or("moment")?;
     Ok(store.view(&name(b"amy-1")?, request, moment)?)
 }
 
 /// Spent, balance, open bookings, persons taken, and whether the slot is closed, as `amy-1` sees them.
-fn figures(
+pub(crate) fn figures(
     store: &mut Store<MemStore>,
     request: &Request,
 ) -> Result<(u64, u32, u64, u64, bool), Fail> {
@@ -316,7 +320,7 @@ fn booked(store: &mut Store<MemStore>, number: u32) -> Result<Option<Booking>, F
     Ok(view_of(store, &request)?.ok_or("view")?.booking)
 }
 
-fn store_with_bookings(alloc: Global) -> Result<Store<MemStore>, Fail> {
+pub(crate) fn store_with_bookings(alloc: Global) -> Result<Store<MemStore>, Fail> {
     let mut store = open(alloc)?;
     add_rows(&mut store)?;
     credit(&mut store)?;
@@ -371,8 +375,8 @@ fn add_room(store: &mut Store<MemStore>) -> Result<(), Fail> {
     Ok(store.insert_facility(&facility(b"room-1", Kind::Room, 1, 601)?)?)
 }
 
-fn add_key(store: &mut Store<MemStore>) -> Result<(), Fail> {
-    Ok(store.insert_key(&key()?)?)
+fn add_key(store: &mut Store<MemStore>, key: &Key) -> Result<(), Fail> {
+    Ok(store.insert_key(key)?)
 }
 
 fn revoke_at_the_office(store: &mut Store<MemStore>) -> Result<(), Fail> {
@@ -412,8 +416,9 @@ fn makes_the_writes_of_keys_and_slots(rt: HostRuntime) -> Result<(), Fail> {
     let mut store = open(rt.alloc())?;
     enroll(&mut store)?;
     add_room(&mut store)?;
-    add_key(&mut store)?;
-    assert_eq!(rt; key_of(&mut store)?, Some(key()?));
+    let key = key()?;
+    add_key(&mut store, &key)?;
+    assert_eq!(rt; key_of(&mut store)?, Some(key));
     revoke_at_the_office(&mut store)?;
     let revoked = key_of(&mut store)?.ok_or("amy-1")?.revoked;
     assert_eq!(rt; revoked, true);

@@ -18,14 +18,23 @@ pub(crate) const MAKE_SLOTS: &str =
 pub(crate) const MAKE_BOOKINGS: &str =
     "CREATE TABLE bookings (pass_key TEXT NOT NULL REFERENCES keys (name), number INTEGER NOT NULL CHECK (number BETWEEN 1 AND 999999999), facility TEXT NOT NULL REFERENCES facilities (name), day INTEGER NOT NULL CHECK (day BETWEEN 10957 AND 47481), hour INTEGER NOT NULL CHECK (hour BETWEEN 0 AND 23), guests INTEGER NOT NULL CHECK (guests BETWEEN 0 AND 49), charge INTEGER NOT NULL CHECK (charge BETWEEN 0 AND 499950), remains INTEGER NOT NULL CHECK (remains BETWEEN 0 AND 49), cancelled INTEGER NOT NULL CHECK (cancelled BETWEEN 0 AND 1), refund INTEGER NOT NULL CHECK (refund BETWEEN 0 AND 499950), PRIMARY KEY (pass_key, number)) STRICT";
 
+/// The root that a key had before its last rotation.
+pub(crate) const MAKE_OLD_ROOTS: &str =
+    "CREATE TABLE old_roots (pass_key TEXT NOT NULL PRIMARY KEY REFERENCES keys (name), root BLOB NOT NULL, until INTEGER NOT NULL CHECK (until BETWEEN 15778080 AND 68374079)) STRICT";
+
 /// The keys of a member are found without a walk over all keys.
 pub(crate) const MAKE_KEYS_BY_MEMBER: &str = "CREATE INDEX keys_by_member ON keys (member)";
 
-pub(crate) const ADD_VERSION: &str = "INSERT INTO desk (version) VALUES (1)";
+pub(crate) const ADD_VERSION: &str = "INSERT INTO desk (version) VALUES (2)";
+
+/// Makes tables of version 1 those of version 2, once they have older roots.
+pub(crate) const SET_VERSION: &str = "UPDATE desk SET version = 2";
 
 pub(crate) const VERSION: &str = "SELECT version FROM desk";
 
 pub(crate) const KEY: &str = "SELECT name, member, root, revoked FROM keys WHERE name = ?1";
+
+pub(crate) const OLDER_ROOT: &str = "SELECT root, until FROM old_roots WHERE pass_key = ?1";
 
 pub(crate) const MEMBER: &str = "SELECT name, credited, quota, used FROM members WHERE name = ?1";
 
@@ -54,6 +63,12 @@ pub(crate) const ADD_KEY: &str =
 
 pub(crate) const REVOKE_KEY: &str = "UPDATE keys SET revoked = 1 WHERE name = ?1";
 
+/// Takes the place of an older root from before.
+pub(crate) const PUT_OLDER_ROOT: &str =
+    "INSERT INTO old_roots (pass_key, root, until) VALUES (?1, ?2, ?3) ON CONFLICT (pass_key) DO UPDATE SET root = ?2, until = ?3";
+
+pub(crate) const SET_ROOT: &str = "UPDATE keys SET root = ?2 WHERE name = ?1";
+
 pub(crate) const CLOSE_SLOT: &str =
     "INSERT INTO slots (facility, day, hour, closed, taken) VALUES (?1, ?2, ?3, 1, 0) ON CONFLICT (facility, day, hour) DO UPDATE SET closed = 1";
 
@@ -75,5 +90,8 @@ pub(crate) const DAY: &str =
 pub(crate) const OPEN: &str =
     "SELECT number FROM keys JOIN bookings ON name = pass_key WHERE member = ?1 AND cancelled = 0 AND day * 1440 + hour * 60 > ?2";
 
+/// The statements that give a row by its key over tables of version 1.
+pub(crate) const FIRST_ROWS_BY_KEY: [&str; 5] = [KEY, MEMBER, FACILITY, SLOT, BOOKING];
+
 /// The statements that give a row by its key.
-pub(crate) const ROWS_BY_KEY: [&str; 5] = [KEY, MEMBER, FACILITY, SLOT, BOOKING];
+pub(crate) const ROWS_BY_KEY: [&str; 6] = [KEY, MEMBER, FACILITY, SLOT, BOOKING, OLDER_ROOT];

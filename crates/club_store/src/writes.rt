@@ -3,11 +3,12 @@
 ghost use Rattle.std.specs.Prelude.{◌≡◌, false, OnOk, OnErr, IsTrue};
 ghost use Rattle.sqlite.specs.State.{HasCleanDisk, Survives};
 ghost use Rattle.sqlite.specs.Values.{bound};
-ghost use Rattle.club_store.specs.Transaction.{Ran, IsKept, with_totals};
+ghost use Rattle.club_store.specs.Transaction.{Ran, IsKept, with_totals, rotating};
 ghost use Rattle.sqlite.specs.Held.{state};
-ghost use Rattle.club_core.specs.declared.change.Change.TheVariants.{InsertMember, InsertFacility, InsertKey, InsertBooking, AddCredit, MarkRevoked, MarkClosed, MarkCancelled};
-ghost use Rattle.club_store.specs.Told.{stands_in, Changes, ChangesWhere, IsOwnedBy, IsToCancel, HasNoneToCancel};
+ghost use Rattle.club_core.specs.declared.change.Change.TheVariants.{InsertMember, InsertFacility, InsertKey, InsertBooking, AddCredit, MarkRevoked, ReplaceRoot, MarkClosed, MarkCancelled};
+ghost use Rattle.club_store.specs.Told.{stands_in, Changes, ChangesWhere, IsOwnedBy, HasRoot, IsToCancel, HasNoneToCancel};
 
+use crate::params::Rotation;
 use crate::transaction::{Statement, run};
 use crate::{params, texts};
 use club_core::{Booking, BookingNumber, Facility, Key, Member, StoreFault};
@@ -55,13 +56,16 @@ pub(crate) fn insert_facility<S: Alter>(
     )
 }
 
-/// Inserts a key.
+/// Inserts a key. One that has an older root is refused, and nothing is changed.
 pub(crate) fn insert_key<S: Alter>(conn: &mut Connection<S>, key: &Key) -> Result<(), StoreFault>
     requires { conn.old.in_transaction ≡ false }
     ensures idle { conn.new.in_transaction ≡ false }
     ensures honest { HasCleanDisk (state S.Store conn.new) → HasCleanDisk (state S.Store conn.old) }
     ensures changed { HasCleanDisk (state S.Store conn.new) → Changes (stands_in S.Store) (InsertKey key.now) conn.old conn.new result }
 {
+    if key.older.is_some() {
+        return Err(StoreFault::Storage);
+    }
     let values = params::of_key(key);
     run(
         conn,
@@ -107,6 +111,48 @@ pub(crate) fn revoke_key<S: Alter>(conn: &mut Connection<S>, key: &Name) -> Resu
             text: texts::REVOKE_KEY,
             params: &values,
         }],
+    )
+}
+
+/// Gives a key a new root. The one that it has becomes its older root, in place of one from before.
+pub(crate) fn replace_root<S: Alter>(
+    conn: &mut Connection<S>,
+    rotation: &Rotation,
+) -> Result<(), StoreFault>
+    requires { conn.old.in_transaction ≡ false }
+    ensures idle { conn.new.in_transaction ≡ false }
+    ensures honest { HasCleanDisk (state S.Store conn.new) → HasCleanDisk (state S.Store conn.old) }
+    ensures changed { HasCleanDisk (state S.Store conn.new) → ChangesWhere (HasRoot rotation.now.key rotation.now.older.root) (stands_in S.Store) (ReplaceRoot rotation.now.key rotation.now.root rotation.now.older.until) conn.old conn.new result }
+{
+    let put = params::of_older_root(rotation);
+    let set = params::of_root(rotation);
+    run_rotation(conn, &put, &set)
+}
+
+/// Puts an older root, and sets a key's root.
+fn run_rotation<S: Alter>(
+    conn: &mut Connection<S>,
+    put: &[ValueRef<'_>],
+    set: &[ValueRef<'_>],
+) -> Result<(), StoreFault>
+    requires { conn.old.in_transaction ≡ false }
+    ensures idle { conn.new.in_transaction ≡ false }
+    ensures ran { HasCleanDisk (state S.Store conn.new) → OnOk result (IsTrue (state S.Store conn.new).is_open × Ran S.Store (rotating (bound put.now) (bound set.now)) conn.old (state S.Store conn.new).committed × ((state S.Store conn.new).now ≡ (state S.Store conn.new).committed)) }
+    ensures kept { OnErr result (IsKept (state S.Store conn.old) (state S.Store conn.new)) }
+    ensures survives { Survives (state S.Store conn.old) (state S.Store conn.new) (λ trees. (db : _) × Ran S.Store (rotating (bound put.now) (bound set.now)) conn.old db × (trees ≡ db.trees)) }
+{
+    run(
+        conn,
+        &[
+            Statement {
+                text: texts::PUT_OLDER_ROOT,
+                params: put,
+            },
+            Statement {
+                text: texts::SET_ROOT,
+                params: set,
+            },
+        ],
     )
 }
 

@@ -94,6 +94,7 @@ fn key(index: u32) -> Option<Key> {
         name: name(b'k', index)?,
         member: name(b'm', index)?,
         root: Root::new(b"0123456789abcdef")?,
+        older: None,
         revoked: false,
     })
 }

@@ -2,7 +2,7 @@
 
 use crate::club;
 use crate::fault::Fault;
-use club_core::{BookingNumber, Request, StoreFault, View, sheet_text};
+use club_core::{Booking, BookingNumber, Request, StoreFault, View, sheet_text};
 use club_store::Store;
 use pass_caveats::{Day, Moment, Name, Slot};
 use sqlite::Alter;
@@ -82,10 +82,17 @@ fn view<S: Alter>(store: &mut Store<S>, request: &Request) -> Result<Option<View
     Ok(store.view(&name(club::KEY)?, request, moment)?)
 }
 
+// The booking that a request asks for.
+fn booked<S: Alter>(store: &mut Store<S>, request: &Request) -> Result<Option<Booking>, Fault> {
+    let Some(view) = view(store, request)? else {
+        return Ok(None);
+    };
+    Ok(view.booking)
+}
+
 fn booking<S: Alter>(rt: &impl Print, store: &mut Store<S>, number: u32) -> Result<(), Fault> {
     let request = cancelling(number).ok_or(StoreFault::Storage)?;
-    let found = view(store, &request)?.and_then(|view| view.booking);
-    let Some(booking) = found else {
+    let Some(booking) = booked(store, &request)? else {
         return Ok(println!(rt; "booking {number}: none")?);
     };
     let Slot {

@@ -1,4 +1,4 @@
-use Rattle.std.proofs.Common.{[], ◌∷◌, Some, Ok, refl}
+use Rattle.std.proofs.Common.{[], ◌∷◌, Some, None, Ok, refl}
 use Rattle.std.specs.Prelude.{true, false, codes}
 use Rattle.club_values.specs.declared.kind.Kind.TheVariants.{Court}
 use Rattle.pass_caveats.specs.declared.caveat.Caveat.TheVariants.{Spend}
@@ -27,7 +27,7 @@ returns c = record {
   accepted = record {
     pass = record { key = Some (codes "amy-1"); caveats = Some (Spend 0) ∷ []; is_signed = λ _. true };
     basis = record {
-      key = record { name = codes "amy-1"; member = codes "amy"; root = root; revoked = false };
+      key = record { name = codes "amy-1"; member = codes "amy"; root = root; older = None; revoked = false };
       member = record { name = codes "amy"; credited = 10_000; quota = 5 };
       bookings = record { key = codes "amy-1"; number = 7; slot = slot_at 18; guests = 2; charge = 600; left = 1; cancelled = true; refund = 600 } ∷ [];
       state = record {

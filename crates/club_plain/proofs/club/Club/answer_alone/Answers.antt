@@ -1,12 +1,10 @@
 use Rattle.std.proofs.Common.{◌≡◌, ◌∙◌, ℕ, List, refl, ap, arith}
 use Rattle.std.proofs.lemmas.Grind.{common_steps}
-use Rattle.std.specs.Prelude.{Option, Some, None, Result, Ok, Err, option_map, option_and_then}
-use Rattle.club_core.specs.declared.form_fault.FormFault.{FormFault}
+use Rattle.std.specs.Prelude.{Option, Some, None, option_map, option_and_then}
 use Rattle.club_core.specs.declared.request.Request.{Request}
 use Rattle.club_core.specs.declared.slot_use.SlotUse.{SlotUse}
 use Rattle.club_core.specs.Club.{Club, key_named}
 use Rattle.club_core.specs.Basis.{Basis, view_of, view_in, key_of, basis_under}
-use Rattle.club_core.specs.Pass.{Pass}
 use Rattle.club_core.specs.Answer.{answer_to}
 use Rattle.club_core.specs.Solo.{with_others}
 use Rattle.club_core.specs.Words.{words_of}

@@ -1,4 +1,4 @@
-use Rattle.std.proofs.Common.{◌≡◌, Some, List, [], ◌∷◌, sym, subst₂, ◌∙◌}
+use Rattle.std.proofs.Common.{◌≡◌, Some, [], ◌∷◌, sym, subst₂, ◌∙◌}
 use Rattle.std.specs.Prelude.{MatchResult}
 use Rattle.sqlite.specs.State.{HasCleanDisk}
 use Rattle.sqlite.specs.Held.{state}
@@ -7,7 +7,7 @@ use Rattle.club_core.specs.After.{after}
 use Rattle.club_core.specs.Store.{Fits}
 use Rattle.club_core.specs.Sums.{booking_under}
 use Rattle.club_store.specs.Told.{stands_in}
-use Rattle.club_store.proofs.StoredLemmas.{to_cancel}
+use Rattle.club_store.proofs.CancelStored.{to_cancel}
 use Rattle.club_store.proofs.store.Store.cancel_booking.Goals as goal
 
 pub returns-in-Some-clause-changed : goal.returns-in-Some-clause-changed

@@ -1,0 +1,74 @@
+-- Runs with a rotation of a key, which compute (ours).
+use Rattle.std.specs.Prelude.{◌≡◌, ℕ, List, [], ◌∷◌, Some, Ok, replicate, codes}
+use Rattle.std.specs.Str.{bytes_eq}
+use Rattle.club_core.specs.declared.command.Command.TheVariants.{RevokeKey, RotateKey}
+use Rattle.club_core.specs.declared.refusal.Refusal.TheVariants as refusals
+use Rattle.club_core.specs.declared.reply.Reply.TheVariants.{Refused}
+use Rattle.club_core.specs.declared.request.Request.{Request}
+use Rattle.club_core.specs.declared.request.Request.TheVariants as asked
+use Rattle.club_core.specs.Examples.{opened_club, root, slot_at, noon, late, booked, account}
+use Rattle.club_core.specs.declared.event.EventReply.TheVariants.{Replied, Answered}
+use Rattle.club_core.specs.declared.event.OfficeAnswer.TheVariants.{Done, NewKey}
+use Rattle.club_core.specs.Run.{Event, Asked, Ordered, replies_of}
+
+-- a request of the key amy-1, under a pass that is signed under this root alone
+abbrev pub ask_under : List ℕ → Request → ℕ → Event
+ask_under root request moment =
+    Asked (record { pass = Ok (record { key = Some (codes "amy-1"); caveats = []; is_signed = λ other. bytes_eq other root }); request = request }) moment
+
+-- two more roots
+abbrev pub second_root : List ℕ
+second_root = replicate 16 8
+
+abbrev pub third_root : List ℕ
+third_root = replicate 64 9
+
+-- 2026-04-25T00:00, and the minute before
+abbrev pub midnight : ℕ
+midnight = 29_617_920
+
+abbrev pub before_midnight : ℕ
+before_midnight = 29_617_919
+
+abbrev pub rotate : List ℕ → ℕ → Event
+rotate root until = Ordered (RotateKey (codes "amy-1") root until)
+
+-- the older root is good until the moment, and a repeat under the new one gets the recorded reply, and nothing is charged
+abbrev pub RepeatsUnderANewRoot : Type 0
+RepeatsUnderANewRoot =
+    replies_of opened_club
+    (ask_under root (asked.Book (slot_at 18) 7 2) noon
+    ∷ rotate second_root midnight
+    ∷ ask_under root asked.Account before_midnight
+    ∷ ask_under root asked.Account midnight
+    ∷ ask_under second_root (asked.Book (slot_at 18) 7 2) late
+    ∷ ask_under second_root asked.Account midnight
+    ∷ [])
+    ≡ booked 7 600 1
+    ∷ Answered (NewKey (codes "amy-1") second_root)
+    ∷ account 9_400 1 600
+    ∷ Replied (Refused refusals.NotVerified)
+    ∷ booked 7 600 1
+    ∷ account 9_400 1 600
+    ∷ []
+
+-- a second rotation drops the root that the first kept, and a revoked key stays revoked
+abbrev pub DropsTheOldestRoot : Type 0
+DropsTheOldestRoot =
+    replies_of opened_club
+    (rotate second_root midnight
+    ∷ rotate third_root midnight
+    ∷ ask_under root asked.Account noon
+    ∷ ask_under second_root asked.Account noon
+    ∷ Ordered (RevokeKey (codes "amy-1"))
+    ∷ rotate root midnight
+    ∷ ask_under root asked.Account noon
+    ∷ [])
+    ≡ Answered (NewKey (codes "amy-1") second_root)
+    ∷ Answered (NewKey (codes "amy-1") third_root)
+    ∷ Replied (Refused refusals.NotVerified)
+    ∷ account 10_000 0 0
+    ∷ Answered Done
+    ∷ Answered (NewKey (codes "amy-1") root)
+    ∷ Replied (Refused refusals.KeyRevoked)
+    ∷ []

@@ -1,0 +1,14 @@
+//! A key that is rotated.
+
+ghost use Rattle.club_laws.specs.Rotation.{DropsTheOldestRoot, RepeatsUnderANewRoot};
+
+/// The older root is good until the moment. A booking that was made under it is told again under
+/// the new one as it was first told, and nothing is charged.
+pub fn repeats_under_a_new_root()
+    ensures { RepeatsUnderANewRoot }
+{}
+
+/// A second rotation drops the root that the first kept; a revoked key stays revoked.
+pub fn drops_the_oldest_root()
+    ensures { DropsTheOldestRoot }
+{}
