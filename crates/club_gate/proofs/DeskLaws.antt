@@ -1,0 +1,168 @@
+-- The laws of the desk, of what one event was told.
+use Rattle.std.proofs.Common.{◌≡◌, ◌⊎◌, inl, inr, ℕ, true, List, [], ◌∷◌, ◌++◌, map, Option, Some, None, Result, Ok, Err, All, refl, sym, ap, ◌∙◌, subst}
+use Rattle.std.proofs.lemmas.List.{map-append}
+use Rattle.std.proofs.lemmas.List.Elements.{All-nil, All-cons, All-head, All-tail}
+use Rattle.base64.specs.GeneralPurpose.{IsBytes}
+use Rattle.pass_caveats.specs.declared.ask.Ask.{Ask}
+use Rattle.pass_caveats.specs.declared.caveat.Caveat.{Caveat}
+use Rattle.pass_caveats.specs.CaveatOf.{caveat_of}
+use Rattle.pass_caveats.specs.Fault.{Allowed, Allows}
+use Rattle.pass_caveats.specs.Laws.{ReadsWhatIsUnderstood}
+use Rattle.pass_forms.specs.declared.fault.FormFault.{FormFault as Fault}
+use Rattle.pass_forms.specs.declared.form.Form.{Form}
+use Rattle.pass_forms.specs.Pass.{Plain, TellsSigned}
+use Rattle.pass_json.specs.AnyForm.{IsAnyReading, ReadsAnyFormExactly, reading}
+use Rattle.club_rows.specs.declared.key.Key.{Key}
+use Rattle.club_core.specs.declared.form_fault.FormFault.{FormFault}
+use Rattle.club_core.specs.declared.refusal.Refusal.TheVariants.{Unavailable}
+use Rattle.club_core.specs.declared.reply.Reply.{Reply}
+use Rattle.club_core.specs.declared.reply.Reply.TheVariants.{Refused}
+use Rattle.club_core.specs.declared.request.Request.{Request}
+use Rattle.club_core.specs.declared.verdict.Verdict.{Verdict}
+use Rattle.club_core.specs.Acceptance.{IsAllowedBy, IsServed}
+use Rattle.club_core.specs.Answer.{ask_of, verdict_in}
+use Rattle.club_core.specs.Basis.{view_of}
+use Rattle.club_core.specs.Club.{Club}
+use Rattle.club_core.specs.Pass.{Pass, Words, IsSignedUnder}
+use Rattle.club_core.specs.Run.{Asked}
+use Rattle.club_laws.specs.DeskLaw.{MoreCaveatsNeverOpenMore, ServesOnlyTheEntitled, words_with}
+use Rattle.club_laws.specs.Failed.{ToMember, is_unavailable}
+use Rattle.club_gate.specs.Desk.{IsAnsweredBy, IsRefusedBy}
+use Rattle.club_gate.specs.Identifier.{FindsNames, name_in}
+use Rattle.club_gate.specs.Minted.{identifier_of}
+use Rattle.club_gate.specs.Said.{pass_of, said, said_by, without_form, words_said}
+use Rattle.club_gate.specs.Served.{AnswersItsForms, EntitlesTo, IsNarrowed, IsSignedFor, reply_in}
+use Rattle.club_gate.specs.Told.{unavailable}
+
+failed_reply : (reply : Reply) → is_unavailable reply ≡ true → reply ≡ unavailable
+failed_reply (Refused Unavailable) h = refl
+failed_reply reply h = absurd (cc)
+
+-- it was told the machine's reply, or that it failed
+pub told_reply : {S : Type 0} (Stands : S → Club → List Club → Type 0) (new : S) (club : Club) (others : List Club)
+    (words : Words) (moment : ℕ) (reply : Reply) → IsAnsweredBy Stands new club others (Asked words moment)
+    (ToMember reply) ⊎ IsRefusedBy Stands new club others (Asked words moment) (ToMember reply)
+    → (reply ≡ unavailable) ⊎ (reply ≡ (verdict_in club words moment).reply)
+told_reply Stands new club others words moment reply (inl a) =
+    let e = a.reply in let same : reply ≡ (verdict_in club words moment).reply = cc in inr same
+told_reply Stands new club others words moment reply (inr f) = inl (failed_reply reply f.failed)
+
+-- what is served is no failure
+not_served : (reply : Reply) → reply ≡ unavailable → IsServed reply → ⊥
+not_served reply e h = h Unavailable e
+
+pub served_reply : (club : Club) (words : Words) (moment : ℕ) (reply : Reply)
+    → (reply ≡ unavailable) ⊎ (reply ≡ (verdict_in club words moment).reply) → IsServed reply
+    → reply ≡ (verdict_in club words moment).reply
+served_reply club words moment reply (inl e) h = absurd (not_served reply e h)
+served_reply club words moment reply (inr e) h = e
+
+-- what was read, of what is said
+said_read : (read : Result (Form × Plain) Fault) (pass : Pass) → said_by (without_form read) ≡ Ok pass
+    → (found : Form × Plain) × (read ≡ Ok found) × (pass_of found.1 ≡ pass)
+said_read (Ok found) pass e = let same : pass_of found.1 ≡ pass = cc in (found, refl, same)
+said_read (Err fault) pass e = absurd (cc)
+
+-- each caveat that is allowed is understood and allowed
+allowed_text : ReadsWhatIsUnderstood → (ask : Ask) (text : List ℕ) (caveat : Option Caveat) → caveat_of text ≡ caveat
+    → IsAllowedBy ask caveat → Allows text ask
+allowed_text reads ask text None e h = absurd h
+allowed_text reads ask text (Some caveat) e h = (caveat, (reads text caveat).1 e, h)
+
+allowed_texts : ReadsWhatIsUnderstood → (ask : Ask) (texts : List (List ℕ)) → All (IsAllowedBy ask) (map caveat_of texts)
+    → Allowed texts ask
+allowed_texts reads ask [] h = All-nil (λ (text : List ℕ). Allows text ask)
+allowed_texts reads ask (text ∷ texts) h =
+    All-cons (λ (text : List ℕ). Allows text ask) text texts
+    (allowed_text reads ask text (caveat_of text) refl (All-head (IsAllowedBy ask) (caveat_of text) (map caveat_of texts) h))
+    (allowed_texts reads ask texts (All-tail (IsAllowedBy ask) (caveat_of text) (map caveat_of texts) h))
+
+-- a signed pass in the machine's words
+signed_plain : TellsSigned → (plain : Plain) (key : Key) (moment : ℕ) → IsSignedUnder (pass_of plain) key moment
+    → IsSignedFor plain key moment
+signed_plain tells plain key moment h = record { root = h.root; good = h.good; signed = (tells h.root plain).1 h.signed }
+
+plain_signed : TellsSigned → (plain : Plain) (key : Key) (moment : ℕ) → IsSignedFor plain key moment
+    → IsSignedUnder (pass_of plain) key moment
+plain_signed tells plain key moment h = record { root = h.root; good = h.good; signed = (tells h.root plain).0 h.signed }
+
+-- what is served is entitled, in the words of the formats
+pub served_text : ServesOnlyTheEntitled → ReadsAnyFormExactly → TellsSigned → FindsNames → ReadsWhatIsUnderstood
+    → (club : Club) (text : List ℕ) (request : Request) (moment : ℕ) → IsBytes text → IsServed (reply_in club text request moment)
+    → EntitlesTo club text request moment
+served_text serves reads tells finds understood club text request moment bytes h =
+    let entitled = serves (words_said text request) moment club h in
+    let found = said_read (reading text) entitled.pass entitled.read in
+    let plain = found.0.1 in
+    let Signed : Pass → Type 0 = λ p. IsSignedUnder p entitled.basis.key moment in
+    let ask = ask_of (view_of entitled.basis request moment) request moment in
+    let Allowing : Pass → Type 0 = λ p. All (IsAllowedBy ask) p.caveats in
+    record {
+      form = found.0.0;
+      pass = plain;
+      read = (reads text (Ok found.0) bytes).1 found.1;
+      key = entitled.basis.key;
+      named = ((finds plain.identifier entitled.basis.key.name).0 (ap (λ (p : Pass). p.key) found.2 ∙ entitled.named)).1;
+      row = entitled.row;
+      stands = entitled.stands;
+      signed = signed_plain tells plain entitled.basis.key moment (subst Signed (sym found.2) entitled.signed);
+      basis = entitled.basis;
+      known = entitled.known;
+      allowed = allowed_texts understood ask plain.caveats (subst Allowing (sym found.2) entitled.allowed);
+    }
+
+-- what a text says, by its reading
+says : ReadsAnyFormExactly → (text : List ℕ) (form : Form) (plain : Plain) → IsBytes text → IsAnyReading text (Ok (form, plain))
+    → said text ≡ Ok (pass_of plain)
+says reads text form plain bytes h = ap (λ (r : Result (Form × Plain) Fault). said_by (without_form r)) ((reads text (Ok (form, plain)) bytes).0 h)
+
+-- texts of one pass are answered alike
+forms_alike : ReadsAnyFormExactly
+    → (club : Club) (text other : List ℕ) (request : Request) (moment : ℕ) (form other_form : Form) (plain : Plain) → IsBytes text
+    → IsBytes other → IsAnyReading text (Ok (form, plain)) → IsAnyReading other (Ok (other_form, plain))
+    → reply_in club text request moment ≡ reply_in club other request moment
+forms_alike reads club text other request moment form other_form plain a b h k =
+    let same : said text ≡ said other = says reads text form plain a h ∙ sym (says reads other other_form plain b k) in
+    ap (λ (s : Result Pass FormFault). (verdict_in club (record { pass = s; request = request }) moment).reply) same
+
+pub answers_forms : ReadsAnyFormExactly → (club : Club) (text : List ℕ) (request : Request) (moment : ℕ) (reply : Reply)
+    → IsBytes text → (reply ≡ unavailable) ⊎ (reply ≡ reply_in club text request moment)
+    → AnswersItsForms club text request moment reply
+answers_forms reads club text request moment reply bytes (inl e) other form other_form plain b h k some = absurd (some e)
+answers_forms reads club text request moment reply bytes (inr e) other form other_form plain b h k some =
+    e ∙ forms_alike reads club text other request moment form other_form plain bytes b h k
+
+-- an identifier names one key
+one_name : (a b : List ℕ) → identifier_of a ≡ identifier_of b → a ≡ b
+one_name a b e = cc
+
+-- the key of a pass that is served is the one that its identifier names
+named_by : FindsNames → (identifier name other : List ℕ) → name_in identifier ≡ Some name → identifier ≡ identifier_of other
+    → name_in identifier ≡ Some other
+named_by finds identifier name other e f =
+    let same : name ≡ other = one_name name other (sym ((finds identifier name).0 e).1 ∙ f) in
+    e ∙ ap (λ (n : List ℕ). Some n) same
+
+-- a narrower pass opens no more
+pub opens_no_more : ServesOnlyTheEntitled → MoreCaveatsNeverOpenMore → ReadsAnyFormExactly → TellsSigned → FindsNames
+    → (club : Club) (text wide : List ℕ) (request : Request) (moment : ℕ) → IsBytes text → IsBytes wide
+    → IsNarrowed club wide text moment → IsServed (reply_in club text request moment)
+    → reply_in club text request moment ≡ reply_in club wide request moment
+opens_no_more serves more reads tells finds club text wide request moment bytes wide_bytes n served =
+    let broad = pass_of n.pass in
+    let narrow = pass_of n.other_pass in
+    let broad_said = says reads wide n.form n.pass wide_bytes n.wide_read in
+    let narrow_said = says reads text n.other_form n.other_pass bytes n.narrow_read in
+    let reply : Result Pass FormFault → Reply = λ s. (verdict_in club (record { pass = s; request = request }) moment).reply in
+    let P : Reply → Type 0 = λ r. IsServed r in
+    let there : IsServed (verdict_in club (words_with narrow request) moment).reply = subst P (ap reply narrow_said) served in
+    let entitled = serves (words_with narrow request) moment club there in
+    let e = entitled.read in
+    let alike : narrow ≡ entitled.pass = cc in
+    let name = named_by finds n.other_pass.identifier entitled.basis.key.name n.key.name (ap (λ (p : Pass). p.key) alike ∙ entitled.named) (n.identifier ∙ n.named) in
+    let caveats : narrow.caveats ≡ broad.caveats ++ map caveat_of n.more =
+    ap (λ (cs : List (List ℕ)). map caveat_of cs) n.caveats ∙ map-append caveat_of n.pass.caveats n.more
+    in
+    let wide_name : broad.key ≡ Some n.key.name = ap name_in (sym n.identifier) ∙ name in
+    let same = more broad narrow (map caveat_of n.more) n.key request moment club wide_name name caveats n.row (plain_signed tells n.pass n.key moment n.signed) there in
+    ap reply narrow_said ∙ (ap (λ (v : Verdict). v.reply) (sym same) ∙ sym (ap reply broad_said))

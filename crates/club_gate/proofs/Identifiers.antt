@@ -1,0 +1,33 @@
+-- The name in an identifier.
+use Rattle.std.proofs.Common.{◌≡◌, ℕ, Bool, true, false, cond, List, ◌++◌, take, drop, Option, Some, None, refl, sym, ap, ◌∙◌, subst}
+use Rattle.std.specs.Prelude.{codes}
+use Rattle.std.specs.Str.{bytes_eq}
+use Rattle.std.proofs.lemmas.List.{take-append-drop}
+use Rattle.std.proofs.lemmas.Slice.Eq.{bytes_eq-Decides}
+use Rattle.club_values.specs.Laws.{ReadsNames}
+use Rattle.club_values.specs.Name.{IsName}
+use Rattle.club_values.specs.TextOf.{name_of_text}
+use Rattle.club_gate.specs.Identifier.{name_in}
+use Rattle.club_gate.specs.Minted.{identifier_of}
+
+found : (b : Bool) (o : Option (List ℕ)) (name : List ℕ) → cond b o None ≡ Some name → (b ≡ true) × (o ≡ Some name)
+found true o name e = (refl, e)
+found false o name e = absurd (cc)
+
+pub name_found : ReadsNames → (identifier name : List ℕ) → name_in identifier ≡ Some name
+    → IsName name × (identifier ≡ identifier_of name)
+unfolding name_in
+name_found reads identifier name e =
+    let parts = found (bytes_eq (take 4 identifier) (codes "key:")) (name_of_text (drop 4 identifier)) name e in
+    let front : take 4 identifier ≡ codes "key:" = (bytes_eq-Decides (take 4 identifier) (codes "key:")).0 parts.0 in
+    let named = (reads (drop 4 identifier) name).0 parts.1 in
+    let P : List ℕ → Type 0 = λ n. IsName n in (
+      subst P (sym named.1) named.0,
+      sym (take-append-drop 4 identifier) ∙ (ap (λ (xs : List ℕ). xs ++ drop 4 identifier) front ∙ ap (λ (xs : List ℕ). codes "key:" ++ xs) (sym named.1)),
+    )
+
+pub name_there : ReadsNames → (identifier name : List ℕ) → IsName name → identifier ≡ identifier_of name
+    → name_in identifier ≡ Some name
+unfolding name_in
+name_there reads identifier name named e =
+    ap (λ (xs : List ℕ). name_in xs) e ∙ (reads name name).1 (named, refl)

@@ -1,0 +1,10 @@
+pub mod Minted
+pub mod Identifier
+pub mod Signing
+pub mod Walk
+pub mod Said
+pub mod Verify
+pub mod Told
+pub mod Desk
+pub mod Served
+pub mod Runs

@@ -1,0 +1,26 @@
+//! The desk: it verifies the pass of a request, asks the rules of the club, and keeps what they
+//! change.
+#![tactic(auto)]
+
+mod desk;
+mod event;
+mod fault;
+mod identifier;
+mod kept;
+pub mod laws;
+mod mint;
+mod run;
+mod signing;
+mod verify;
+mod walk;
+
+pub use club_core::{Command, SentWords as Words};
+pub use desk::Desk;
+pub use event::{Event, EventReply, OfficeReply};
+pub use fault::Fault;
+pub use mint::{LOCATION, key_signature, minted};
+
+#[cfg(test)]
+mod single_store;
+#[cfg(test)]
+mod tests;

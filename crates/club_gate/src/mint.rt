@@ -1,0 +1,52 @@
+ghost use Rattle.std.specs.Prelude.{◌≡◌, ℕ, List, IfOk};
+ghost use Rattle.pass_forms.specs.Pass.{IsSigned};
+ghost use Rattle.club_gate.specs.Minted.{minted_pass, signature_of};
+
+use club_rows::Root;
+use pass_caveats::Name;
+use pass_forms::Pass;
+use pass_mac::Chain;
+use std::alloc::{AllocError, Global};
+
+/// The location of the passes that the office hands out.
+pub const LOCATION: &[u8; 9] = b"club-desk";
+
+/// What the identifier of a pass begins with, before the name of its key.
+const KEY_PREFIX: &[u8; 4] = b"key:";
+
+/// The most bytes of such an identifier.
+const MAX_IDENTIFIER_LEN: usize = 28;
+
+/// The signature of a key's pass without caveats under a root: the chain of `key:NAME`. No memory
+/// is taken.
+pub fn key_signature(name: &Name, root: &Root) -> [u8; 32]
+    ensures { result ≡ signature_of name.now root.now }
+{
+    let name = name.as_bytes();
+    let end = KEY_PREFIX.len() + name.len();
+    let mut identifier = [0; MAX_IDENTIFIER_LEN];
+    identifier[..KEY_PREFIX.len()].copy_from_slice(KEY_PREFIX);
+    identifier[KEY_PREFIX.len()..end].copy_from_slice(name);
+    Chain::start(root.as_bytes(), &identifier[..end]).signature()
+}
+
+/// A key's pass without caveats: its location is `club-desk`, its identifier `key:NAME`, and its
+/// signature this one, of 32 bytes.
+///
+/// # Errors
+///
+/// Memory was refused to a copy of a field.
+pub fn minted(alloc: Global, name: &Name, signature: [u8; 32]) -> Result<Pass, AllocError>
+    ensures ok { IfOk result (λ pass. pass ≡ minted_pass name.now signature) }
+    ensures signed { IfOk result (λ pass. (root : List ℕ)
+        → signature ≡ signature_of name.now root
+        → IsSigned root pass) }
+{
+    let location = Vec::from_slice(alloc, LOCATION)?;
+    let mut identifier = Vec::from_slice(alloc, KEY_PREFIX)?;
+    identifier.extend_from_slice(name.as_bytes())?;
+    Ok(Pass::new(location, identifier, Vec::new(alloc), signature))
+}
+
+#[cfg(test)]
+mod tests;
