@@ -1,5 +1,5 @@
 -- Bytes have one frame.
-use Rattle.std.proofs.Common.{◌≡◌, ℕ, ◌+◌, ◌<◌, ◌≤◌, ◌⊎◌, inl, inr, true, false, List, [], ◌∷◌, ◌++◌, length, take, drop, nat_eq, Some, refl, sym, ap, ◌∙◌, subst, arith, append_assoc, length-append}
+use Rattle.std.proofs.Common.{◌≡◌, ℕ, ◌<◌, ◌≤◌, inl, inr, false, List, ◌++◌, length, take, drop, nat_eq, Some, sym, ap, ◌∙◌, arith, length-append}
 use Rattle.std.specs.List.{ends_with}
 use Rattle.std.proofs.Math.Seq.{take-length, take-append_seam, drop-append_seam}
 use Rattle.std.proofs.lemmas.Bool.{cases_order}
@@ -7,7 +7,7 @@ use Rattle.std.proofs.lemmas.List.{take-append-le, take-append-drop, length-take
 use Rattle.httparse.specs.declared.spans.HeaderSpan.{HeaderSpan}
 use Rattle.httparse.specs.Grammar.{RequestHead}
 use Rattle.club_words.specs.declared.front.Head.{Head}
-use Rattle.club_words.specs.Head.{empty_line, IsPiece, IsHeadOf}
+use Rattle.club_words.specs.Head.{empty_line, IsPiece}
 use Rattle.club_words.specs.Length.{asked_length}
 use Rattle.club_words.specs.Frame.{Asks, IsFramed, IsRefused, HasNoPiece, fields_of}
 use Rattle.club_words.specs.Front.{IsHeadAt}

@@ -1,5 +1,5 @@
 -- A head that asks for no body that is allowed.
-use Rattle.std.proofs.Common.{◌≡◌, ℕ, List, [], map, take, Option, Some, None, refl, sym, ◌∙◌}
+use Rattle.std.proofs.Common.{◌≡◌, ℕ, List, [], map, take, Some, None, refl, sym, ◌∙◌}
 use Rattle.httparse.specs.declared.spans.HeaderSpan.{HeaderSpan}
 use Rattle.httparse.specs.declared.spans.RequestSpans.{RequestSpans}
 use Rattle.httparse.specs.Grammar.{RequestHead}

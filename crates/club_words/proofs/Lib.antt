@@ -9,3 +9,5 @@ mod ReadingLemmas
 mod WholeLemmas
 mod BodyLemmas
 mod LengthLemmas
+pub mod Walks
+pub mod RouteLemmas

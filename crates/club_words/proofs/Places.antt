@@ -2,7 +2,7 @@
 use Rattle.std.proofs.Common.{◌≡◌, List, ◌∷◌, ℕ, Bor, Option, Some, None, true, refl}
 use Rattle.std.specs.Option.{is_some}
 use Rattle.club_values.specs.declared.slot.Slot.{Slot}
-use Rattle.club_words.specs.Parts.{segments, parts_of}
+use Rattle.club_words.specs.Parts.{parts_of}
 use Rattle.club_words.specs.Path.{at_slot, account_at}
 use Rattle.club_words.proofs.Segments.{first_part}
 

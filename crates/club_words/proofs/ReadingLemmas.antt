@@ -1,5 +1,5 @@
 -- What the front of bytes says of their reading.
-use Rattle.std.proofs.Common.{◌≡◌, ℕ, ◌≤◌, ◌⊎◌, inl, inr, List, length, map, take, Result, Ok, Err, refl, sym, ◌∙◌}
+use Rattle.std.proofs.Common.{◌≡◌, ℕ, ◌≤◌, inl, inr, List, length, map, take, Result, Ok, Err, refl, sym, ◌∙◌}
 use Rattle.httparse.specs.declared.spans.HeaderSpan.{HeaderSpan}
 use Rattle.httparse.specs.Grammar.{RequestHead}
 use Rattle.httparse.specs.Spans.{header_bytes, span_bytes}
@@ -7,7 +7,7 @@ use Rattle.club_core.specs.declared.refusal.Refusal.{Refusal}
 use Rattle.club_words.specs.declared.front.Head.{Head}
 use Rattle.club_words.specs.declared.front.Front.{Front}
 use Rattle.club_words.specs.declared.front.Front.TheVariants.{NoPiece, Refused, Asking}
-use Rattle.club_words.specs.declared.words.Words.{Words}
+use Rattle.club_core.specs.declared.sent_words.SentWords.{SentWords as Words}
 use Rattle.club_words.specs.Frame.{IsFramed}
 use Rattle.club_words.specs.Front.{IsHeadAt, StandsAtFront}
 use Rattle.club_words.specs.Words.{said_in, said_by, IsReading, framed, WantsMemory, HoldsBody, UnlessMemory}

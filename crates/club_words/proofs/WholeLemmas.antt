@@ -1,19 +1,18 @@
 -- When a request is whole, and what follows it.
-use Rattle.std.proofs.Common.{◌≡◌, ℕ, ◌+◌, ◌-◌, ◌<◌, ◌≤◌, ◌⊎◌, ◌↔◌, inl, inr, true, false, List, [], ◌∷◌, ◌++◌, length, take, drop, nat_eq, Result, refl, sym, ap, ◌∙◌, subst, arith, append_assoc, length-append}
+use Rattle.std.proofs.Common.{◌≡◌, ℕ, ◌-◌, ◌<◌, ◌≤◌, ◌↔◌, inl, inr, false, List, [], ◌∷◌, ◌++◌, length, take, nat_eq, refl, sym, ap, ◌∙◌, arith, append_assoc, length-append}
 use Rattle.std.specs.List.{ends_with}
-use Rattle.std.proofs.Math.Seq.{take-append_seam, drop-append_seam}
+use Rattle.std.proofs.Math.Seq.{take-append_seam}
 use Rattle.std.proofs.lemmas.Bool.{cases_lt}
 use Rattle.std.proofs.lemmas.List.{take-append-le, append-nil}
 use Rattle.httparse.specs.declared.spans.HeaderSpan.{HeaderSpan}
 use Rattle.httparse.specs.Grammar.{RequestHead}
-use Rattle.club_core.specs.declared.refusal.Refusal.{Refusal}
 use Rattle.club_words.specs.declared.front.Head.{Head}
 use Rattle.club_words.specs.Head.{empty_line, IsPiece}
 use Rattle.club_words.specs.Frame.{Asks, IsFramed, IsRefused, HasNoPiece, IsWhole, framed, endless, refused}
 use Rattle.club_words.specs.Front.{IsHeadAt}
 use Rattle.club_words.specs.Words as words
-use Rattle.club_words.specs.Words.{Said, IsReading}
-use Rattle.club_words.specs.Laws.{OneReading, WholeKeepsItsReading}
+use Rattle.club_words.specs.Words.{Said, IsReading, HoldsBody}
+use Rattle.club_words.specs.Laws.{OneReading, WholeKeepsItsReading, BodyStays}
 use Rattle.club_words.proofs.FrameLemmas.{one_piece, no_frame, refused_frame, same_asked, whole_frame}
 
 no_piece : (bytes piece rest : List ℕ) → IsPiece piece → bytes ≡ piece ++ rest → ¬ (HasNoPiece bytes)
@@ -107,3 +106,6 @@ keeps bytes more answer whole (words.framed head body is said) = words.framed he
 keeps bytes more answer (framed head body is) (words.unframed none told) = absurd (none head body is)
 keeps bytes more answer (endless empty long) (words.unframed none told) = words.unframed (no_frame (bytes ++ more) (endless_more bytes more empty long)) told
 keeps bytes more answer (refused is) (words.unframed none told) = words.unframed (refused_frame (bytes ++ more) (refused_more bytes more is)) told
+
+pub stays : BodyStays
+stays bytes more (head, body, is, wants) = (head, body, frame_more bytes more head body is, wants)

@@ -10,3 +10,4 @@ pub mod Parts
 pub mod Path
 pub mod Words
 pub mod Laws
+pub mod Routes

@@ -1,5 +1,5 @@
 -- What a request says.
-use Rattle.std.specs.Prelude.{◌≡◌, ◌⊎◌, ℕ, ◌<◌, List, length, if◌then◌else◌, codes, Option, Some, None, Result, Ok, Err}
+use Rattle.std.specs.Prelude.{◌≡◌, ◌⊎◌, ℕ, ◌<◌, List, length, if◌then◌else◌, codes, Option, Some, Result, Ok, Err}
 use Rattle.std.specs.Option.{ok_or}
 use Rattle.std.specs.Str.{bytes_eq}
 use Rattle.httparse.specs.Grammar.{RequestHead}
@@ -10,7 +10,7 @@ use Rattle.club_core.specs.declared.request.Request.{Request}
 use Rattle.club_core.specs.declared.request.Request.TheVariants as asked
 use Rattle.club_words.specs.declared.path.Place.{Place}
 use Rattle.club_words.specs.declared.path.Place.TheVariants.{SlotPlace, BookingPlace, AccountPlace}
-use Rattle.club_words.specs.declared.words.Words.{Words}
+use Rattle.club_core.specs.declared.sent_words.SentWords.{SentWords as Words}
 use Rattle.club_words.specs.Body.{guests_in}
 use Rattle.club_words.specs.Path.{place_of}
 use Rattle.club_words.specs.Pass.{pass_of}

@@ -13,13 +13,13 @@ mod pass;
 mod path;
 mod routes;
 mod whole;
-mod words;
 
+/// The words of a request as they were sent.
+pub use club_core::SentWords as Words;
 pub use head::{MAX_FIELDS, MAX_HEAD_LEN};
 pub use length::MAX_BODY_LEN;
-pub use routes::words_of;
+pub use routes::{Routes, words_of};
 pub use whole::{MAX_REQUEST_LEN, missing};
-pub use words::Words;
 
 #[cfg(test)]
 mod tests;

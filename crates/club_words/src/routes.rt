@@ -1,20 +1,77 @@
 //! The routes of the desk, and what requests say.
 
-ghost use Rattle.std.specs.Prelude.{◌≡◌, length, map, All, codes, MatchResult, Some};
+ghost use Rattle.std.specs.Prelude.{◌≡◌, length, map, All, codes, IfOk, MatchResult, Some, Ok};
+ghost use Rattle.matchit.specs.Route.{parse_route};
+ghost use Rattle.matchit.specs.Router.{InsertsRead};
+ghost use Rattle.std.specs.Str.{IsUtf8};
+ghost use Rattle.club_words.specs.Path as path;
+ghost use Rattle.club_words.specs.Routes.{KnowsPlaces};
 ghost use Rattle.httparse.specs.Spans.{IsHeaderWithin, header_bytes};
 ghost use Rattle.club_words.specs.Refused.{Refuses};
-ghost use Rattle.club_words.specs.Words.{guests_of, said_in, IsReading, WantsMemory, HoldsBody, UnlessMemory};
+ghost use Rattle.club_words.specs.Words.{guests_of, said_in, IsReading};
+ghost use Rattle.club_words.specs.Words.{WantsMemory, HoldsBody, UnlessMemory};
 
 use crate::asked::request_at;
 use crate::body::guests_in;
 use crate::front::{Front, front_of};
 use crate::head::MAX_FIELDS;
 use crate::pass::pass_of;
-use crate::path::place_of;
-use crate::words::Words;
-use club_core::{Guests, Refusal};
+use crate::path::{Place, place_of};
+use club_core::{Guests, Refusal, SentWords as Words};
 use httparse::spans::{EMPTY_HEADER_SPAN, HeaderSpan};
-use std::alloc::Global;
+use matchit::Router;
+use std::alloc::{AllocError, Global};
+use std::str;
+
+/// The routes of the desk's paths.
+#[derive(Drop)]
+pub struct Routes {
+    alloc: Global,
+    router: Router<()>,
+    ghost knows: { KnowsPlaces router },
+}
+
+/// Adds a route. Those of the desk are good, and none stands in the way of another: it fails where
+/// memory was refused.
+fn add(router: &mut Router<()>, route: &str) -> Result<(), AllocError>
+    ensures { IfOk result (λ _.
+        InsertsRead (parse_route route.now) tt router.old router.new (Ok tt)) }
+{
+    match router.insert(route, ()) {
+        Ok(()) => Ok(()),
+        Err(_) => Err(AllocError),
+    }
+}
+
+impl Routes {
+    /// The routes of the account, of a slot and of a booking.
+    ///
+    /// # Errors
+    ///
+    /// Memory was refused.
+    pub fn new(alloc: Global) -> Result<Routes, AllocError> {
+        let mut router = Router::new(alloc);
+        add(
+            &mut router,
+            "/slots/{facility}/{day}/{hour}/bookings/{number}",
+        )?;
+        add(&mut router, "/slots/{facility}/{day}/{hour}")?;
+        add(&mut router, "/account")?;
+        Ok(Routes { alloc, router })
+    }
+
+    /// The place that a target names: one that has a route, and whose parts can be read.
+    fn place_of(&self, target: &[u8]) -> Option<Place>
+        requires { IsUtf8 target.now }
+        ensures { result ≡ path.place_of target.now }
+    {
+        let target = str::from_utf8(target).unwrap();
+        if self.router.at(target).is_err() {
+            return None;
+        }
+        place_of(target.as_bytes())
+    }
+}
 
 /// The guests that a request brings: those that the body of a PUT tells.
 fn guests_of_body(alloc: Global, method: &[u8], body: &[u8]) -> Result<Guests, Refusal>
@@ -31,20 +88,22 @@ fn guests_of_body(alloc: Global, method: &[u8], body: &[u8]) -> Result<Guests, R
 /// What a request says by its method, its target, its fields and its body.
 #[tactic(auto, unfolding(crate::specs::Words::said_in))]
 fn said<'a>(
-    alloc: Global,
+    routes: &Routes,
     head: &'a [u8],
     fields: &[HeaderSpan],
     method: &[u8],
     target: &[u8],
     body: &[u8],
 ) -> Result<Words<'a>, Refusal>
-    requires { All (IsHeaderWithin (length head.now)) fields.now }
+    requires within { All (IsHeaderWithin (length head.now)) fields.now }
+    requires text { IsUtf8 target.now }
     ensures { UnlessMemory (WantsMemory method.now body.now)
-        (λ answer. said_in method.now target.now (map (header_bytes head.now) fields.now) body.now ≡ answer)
+        (λ answer.
+        said_in method.now target.now (map (header_bytes head.now) fields.now) body.now ≡ answer)
         result }
 {
-    let guests = guests_of_body(alloc, method, body)?;
-    let place = place_of(target).ok_or(Refusal::NoSuchPath)?;
+    let guests = guests_of_body(routes.alloc, method, body)?;
+    let place = routes.place_of(target).ok_or(Refusal::NoSuchPath)?;
     let request = request_at(place, method, guests)?;
     let pass = pass_of(head, fields).ok_or(Refusal::NoPass)?;
     Ok(Words { pass, request })
@@ -54,9 +113,9 @@ fn said<'a>(
 ///
 /// # Errors
 ///
-/// The first that fits: `BadRequest`, `NoSuchPath`, `MethodNotAllowed`, `NoPass`. `Unavailable` comes only where memory was
-/// refused, which is wanted for the body of a PUT alone.
-pub fn words_of(alloc: Global, bytes: &[u8]) -> Result<Words<'_>, Refusal>
+/// The first that fits: `BadRequest`, `NoSuchPath`, `MethodNotAllowed`, `NoPass`. `Unavailable`
+/// comes only where memory was refused, which is wanted for the body of a PUT alone.
+pub fn words_of<'a>(routes: &Routes, bytes: &'a [u8]) -> Result<Words<'a>, Refusal>
     ensures { UnlessMemory (HoldsBody bytes.now) (IsReading bytes.now) result }
 {
     let mut fields = [EMPTY_HEADER_SPAN; MAX_FIELDS];
@@ -70,7 +129,7 @@ pub fn words_of(alloc: Global, bytes: &[u8]) -> Result<Words<'_>, Refusal>
     let method = found.spans.method.of(found.piece);
     let target = found.spans.path.of(found.piece);
     said(
-        alloc,
+        routes,
         found.piece,
         &fields[..found.spans.headers],
         method,

@@ -10,14 +10,16 @@ const BOOKING: &str = "PUT /slots/court-1/2026-05-01/18/bookings/7 HTTP/1.1\r\nH
 
 /// What is asked, or the refusal.
 fn asked(rt: &(impl Abort + AllocGlobal), bytes: &[u8]) -> Result<Request, Refusal> {
-    match words_of(rt.alloc(), bytes) {
+    let routes = Routes::new(rt.alloc()).expect(rt, "memory");
+    match words_of(&routes, bytes) {
         Ok(words) => Ok(words.request),
         Err(refusal) => Err(refusal),
     }
 }
 
 fn carries_pass(rt: &(impl Abort + AllocGlobal), bytes: &[u8], pass: &[u8]) -> bool {
-    match words_of(rt.alloc(), bytes) {
+    let routes = Routes::new(rt.alloc()).expect(rt, "memory");
+    match words_of(&routes, bytes) {
         Ok(words) => words.pass == pass,
         Err(_) => false,
     }
@@ -320,4 +322,17 @@ fn order(rt: HostRuntime) {
         b"POST /account HTTP/1.1\r\n\r\n",
     );
     refuses(&rt, Refusal::NoPass, b"GET /account HTTP/1.1\r\n\r\n");
+}
+
+/// With any allocation refused, as `rt try --test --fail-alloc N` refuses the Nth: no routes, the
+/// words, or `Unavailable`.
+#[test]
+fn refused_memory(rt: HostRuntime) {
+    let Ok(routes) = Routes::new(rt.alloc()) else {
+        return;
+    };
+    match words_of(&routes, BOOKING.as_bytes()) {
+        Ok(words) => assert!(rt; Some(words.request) == book(2)),
+        Err(refusal) => assert_eq!(&rt; refusal, Refusal::Unavailable),
+    }
 }

@@ -1,6 +1,5 @@
-use Rattle.std.proofs.Common.{◌≡◌, Some, sym, ap, ◌∙◌}
+use Rattle.std.proofs.Common.{sym, ap, ◌∙◌}
 use Rattle.std.specs.Option.{option_and_then}
-use Rattle.serde_json.specs.View.{view}
 use Rattle.club_words.specs.Body.{guests_in, guests_told}
 use Rattle.club_words.proofs.BodyLemmas.{refused_before, told_or_bad}
 use Rattle.club_words.proofs.body.guests_in.Goals as goal

@@ -1,5 +1,4 @@
-use Rattle.std.proofs.Common.{◌≡◌, Result, Ok, refl, sym, ◌∙◌}
-use Rattle.std.specs.Str.Parse.{digits_value}
+use Rattle.std.proofs.Common.{refl, sym, ◌∙◌}
 use Rattle.club_words.proofs.DigitLemmas.{digits_are_text, few_digits, same_ok}
 use Rattle.club_words.proofs.digits.number_of.Goals as goal
 

@@ -1,4 +1,4 @@
-use Rattle.std.proofs.Common.{◌≡◌, ℕ, ◌-◌, ◌<◌, ◌↔◌, List, length, arith}
+use Rattle.std.proofs.Common.{arith}
 use Rattle.club_words.proofs.LengthLemmas.{room_for}
 use Rattle.club_words.proofs.WholeLemmas.{open_head, open_head_more, open_body_more, body_there}
 use Rattle.club_words.proofs.whole.missing.Goals as goal

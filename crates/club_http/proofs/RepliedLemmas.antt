@@ -1,0 +1,26 @@
+-- A reply to what was received is the reply to all that the reader gives.
+use Rattle.std.proofs.Common.{ℕ, inl, inr, List, ◌++◌, Option, Some, None, Ok, Err, append-nil, IfSome}
+use Rattle.club_core.specs.declared.reply.Reply.{Reply}
+use Rattle.club_words.specs.Frame.{IsWhole}
+use Rattle.club_words.specs.Laws.{WholeKeepsItsReading, BodyStays}
+use Rattle.club_http.specs.Received.{Receives}
+use Rattle.club_http.specs.Replied.{Asks, IsReplied, refused, answered, starved}
+
+replied_more : {Desk : Type 0} (Answers : Asks Desk) (bytes more : List ℕ) (old : Desk) (reply : Reply) (new : Desk)
+    → WholeKeepsItsReading → BodyStays → IsWhole bytes
+    → IsReplied Answers bytes old reply new → IsReplied Answers (bytes ++ more) old reply new
+replied_more Answers bytes more old reply new keeps stays whole (refused refusal reading is same) =
+    refused refusal (keeps bytes more (Err refusal) whole reading) is same
+replied_more Answers bytes more old reply new keeps stays whole (answered said reading is) = answered said (keeps bytes more (Ok said) whole reading) is
+replied_more Answers bytes more old reply new keeps stays whole (starved held is same) = starved (stays bytes more held) is same
+
+pub replied_to_all : {Desk : Type 0} (Answers : Asks Desk) (before after : Option (List ℕ)) (bytes : List ℕ) (old : Desk)
+    (reply : Reply) (new : Desk)
+    → WholeKeepsItsReading → BodyStays → Receives before after bytes
+    → IsReplied Answers bytes old reply new → IfSome before (λ all. IsReplied Answers all old reply new)
+replied_to_all Answers None after bytes old reply new keeps stays received replied = tt
+replied_to_all Answers (Some all) None bytes old reply new keeps stays received replied = absurd received.came
+replied_to_all Answers (Some all) (Some rest) bytes old reply new keeps stays received replied = elim received.ends [
+  | inl whole ↦ rw received.came (replied_more Answers bytes rest old reply new keeps stays whole replied)
+  | inr none ↦ rw (received.came, none, append-nil) replied
+]

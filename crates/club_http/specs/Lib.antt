@@ -1,0 +1,5 @@
+pub mod Ends
+pub mod Received
+pub mod Replied
+pub mod Exchange
+pub mod Desk

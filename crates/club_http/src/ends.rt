@@ -1,0 +1,114 @@
+//! The two ends of a connection.
+
+use std::io::{Read, Write};
+
+/// What a request is read from.
+pub trait Inlet {
+    ghost use Rattle.std.specs.Prelude.{◌≡◌, ◌≤◌, ℕ, List, length, Option, IfSome};
+    ghost use Rattle.club_http.specs.Ends.{Fills, read_failures};
+
+    // the bytes to come, where they are known
+    ghost to_come: { Self → Option (List ℕ) };
+
+    // how often it failed
+    ghost failures: { Self → ℕ };
+
+    /// Puts the next bytes at the front of the room, and answers how many; none in a room that has
+    /// room is the end of the input. `None` is a failure.
+    fn fill(&mut self, room: &mut [u8]) -> Option<usize>
+        ensures within { IfSome result (λ n. n ≤ length room.new) }
+        ensures bytes { Fills (to_come self.old) (to_come self.new) result room.new }
+        ensures counted { failures self.new ≡ read_failures (failures self.old) result };
+}
+
+/// What a reply is written to.
+pub trait Outlet {
+    ghost use Rattle.std.specs.Prelude.{◌≡◌, ◌≤◌, ℕ, List, length, Option, IfSome};
+    ghost use Rattle.club_http.specs.Ends.{Takes, put_failures};
+
+    // the bytes that it took, where they are known
+    ghost taken: { Self → Option (List ℕ) };
+
+    // how often it failed, or took none of some bytes
+    ghost failures: { Self → ℕ };
+
+    /// Takes the first of the bytes, and answers how many. `None` is a failure.
+    fn put(&mut self, bytes: &[u8]) -> Option<usize>
+        ensures within { IfSome result (λ n. n ≤ length bytes.now) }
+        ensures bytes { Takes (taken self.old) (taken self.new) result bytes.now }
+        ensures counted { failures self.new ≡ put_failures (failures self.old) result bytes.now };
+}
+
+/// A reader of `std`, such as a connection.
+#[derive(Drop)]
+pub struct ReadInlet<R> {
+    reader: R,
+    failures: u64,
+}
+
+impl<R: Read> ReadInlet<R> {
+    ghost use Rattle.std.specs.Prelude.{◌≡◌};
+
+    /// Nothing was read yet.
+    pub fn new(reader: R) -> ReadInlet<R>
+        ensures { result ≡ record { reader = reader; failures = 0 } }
+    {
+        ReadInlet {
+            reader,
+            failures: 0,
+        }
+    }
+}
+
+impl<R: Read> Inlet for ReadInlet<R> {
+    ghost to_come = { λ inlet. R.remaining inlet.reader };
+
+    ghost failures = { λ inlet. inlet.failures };
+
+    fn fill(&mut self, room: &mut [u8]) -> Option<usize> {
+        match self.reader.read(room) {
+            Ok(n) => Some(n),
+            Err(_) => {
+                self.failures = self.failures.saturating_add(1);
+                None
+            }
+        }
+    }
+}
+
+/// A writer of `std`, such as a connection.
+#[derive(Drop)]
+pub struct WriteOutlet<W> {
+    writer: W,
+    failures: u64,
+}
+
+impl<W: Write> WriteOutlet<W> {
+    ghost use Rattle.std.specs.Prelude.{◌≡◌};
+
+    /// Nothing was written yet.
+    pub fn new(writer: W) -> WriteOutlet<W>
+        ensures { result ≡ record { writer = writer; failures = 0 } }
+    {
+        WriteOutlet {
+            writer,
+            failures: 0,
+        }
+    }
+}
+
+impl<W: Write> Outlet for WriteOutlet<W> {
+    ghost taken = { λ outlet. W.contents outlet.writer };
+
+    ghost failures = { λ outlet. outlet.failures };
+
+    fn put(&mut self, bytes: &[u8]) -> Option<usize> {
+        match self.writer.write(bytes) {
+            Ok(taken) if taken > 0 || bytes.is_empty() => Some(taken),
+            outcome => {
+                self.failures = self.failures.saturating_add(1);
+                outcome.ok()
+            }
+        }
+    }
+}

@@ -1,0 +1,58 @@
+//! How a request is received.
+
+ghost use Rattle.std.specs.Prelude.{◌≡◌, ℕ, ◌<◌, ◌≤◌, ◌+◌, ◌++◌, ◌↔◌, List, length, take};
+ghost use Rattle.std.specs.Prelude.{MatchOption, false};
+ghost use Rattle.club_words.specs.Frame.{IsWhole};
+ghost use Rattle.club_http.specs.Ends.{read_failures};
+ghost use Rattle.club_http.specs.Received.{Receives, IsCutOff, AwaitsHead, NoHeadBefore};
+
+use crate::ends::Inlet;
+use club_words::laws::open_head_is_not_whole;
+use club_words::{MAX_HEAD_LEN, missing};
+
+/// Whether a head has ended, or can't any more. Only the end of the bytes is looked at: `before`
+/// tells whether one had ended before it.
+fn has_head(bytes: &[u8], before: bool) -> bool
+    requires { before ≡ false → NoHeadBefore bytes.now }
+    ensures { result ≡ false → AwaitsHead bytes.now }
+{
+    before || bytes.len() >= MAX_HEAD_LEN || bytes.ends_with(b"\r\n\r\n")
+}
+
+/// How many bytes are read next: one, till a head has ended, and then what is missing.
+fn wanted(bytes: &[u8], has_head: bool) -> usize
+    requires { has_head ≡ false → AwaitsHead bytes.now }
+    ensures whole { (result ≡ 0) ↔ IsWhole bytes.now }
+    ensures room { 0 < result → length bytes.now + result ≤ 16640 }
+    ensures needed { (more : List ℕ) → length more < result → ¬ (IsWhole (bytes.now ++ more)) }
+    ensures step { has_head ≡ false → result ≡ 1 }
+{
+    open_head_is_not_whole();
+    if has_head { missing(bytes) } else { 1 }
+}
+
+/// Reads a request into the room, till it is whole or the input ends, and answers how many bytes it
+/// has. No byte behind it is taken. `None` where the reader fails before.
+pub(crate) fn receive<R: Inlet>(reader: &mut R, room: &mut [u8]) -> Option<usize>
+    requires { length room.old ≡ 16640 }
+    ensures received { MatchOption result
+        (IsCutOff (R.to_come reader.old) (R.to_come reader.new))
+        (λ n. (n ≤ 16640)
+        × Receives (R.to_come reader.old) (R.to_come reader.new) (take n room.new)) }
+    ensures counted { R.failures reader.new ≡ read_failures (R.failures reader.old) result }
+{
+    let mut len = 0;
+    let mut head = false;
+    loop {
+        head = has_head(&room[..len], head);
+        let more = wanted(&room[..len], head);
+        if more == 0 {
+            return Some(len);
+        }
+        let came = reader.fill(&mut room[len..len + more])?;
+        if came == 0 {
+            return Some(len);
+        }
+        len += came;
+    }
+}

@@ -1,0 +1,108 @@
+-- Which paths have a route: a walk of matchit over one part of a path.
+use Rattle.std.proofs.Common.{◌≡◌, ℕ, zero, suc, ◌-◌, ◌<◌, List, [], ◌∷◌, ◌++◌, length, drop, Option, Some}
+use Rattle.std.proofs.Common.{None, Bool, true, false, cond, ◌==◌, ◌&&◌, ltb, nat_eq, refl, ap, ◌∙◌, arith, length-append}
+use Rattle.std.specs.Prelude.{IsSome}
+use Rattle.std.specs.Cmp.Lexicographic.{pointwise}
+use Rattle.std.proofs.Math.Seq.{drop-append_seam}
+use Rattle.std.proofs.lemmas.Bool.Decides.{nat_tests}
+use Rattle.matchit.specs.Rows.{RowsOf, param_token}
+use Rattle.matchit.specs.Seek.{segment, has_slash, cuts, step, or_else, param_step, seek}
+
+-- the rows that go on after some bytes
+abbrev pub steps : {K : Type 0} → List ℕ → RowsOf K → RowsOf K
+steps [] rs = rs
+steps (b ∷ word) rs = steps word (step b rs)
+
+some_first : {K : Type 0} (a b : Option K) → IsSome a → IsSome (or_else a b)
+some_first None b is = cc
+some_first (Some k) b is = refl
+
+some_second : {K : Type 0} (a b : Option K) → IsSome b → IsSome (or_else a b)
+some_second None b is = is
+some_second (Some k) b is = refl
+
+pub over_bytes : {K : Type 0} (word : List ℕ) (rs : RowsOf K) (rest : List ℕ) → IsSome (seek 0 (steps word rs) rest) → IsSome (seek 0 rs (word ++ rest))
+unfolding seek
+over_bytes [] rs rest is = is
+over_bytes (b ∷ word) rs rest is = some_first _ _ (over_bytes word (step b rs) rest is)
+
+skipped : {K : Type 0} (part : List ℕ) (rs : RowsOf K) (rest : List ℕ) → seek (length part) rs (part ++ rest) ≡ seek 0 rs rest
+unfolding seek
+skipped [] rs rest = refl
+skipped (b ∷ part) rs rest = skipped part rs rest
+
+-- past a parameter that takes a part
+past : {K : Type 0} (gone : ℕ × RowsOf K) (b : ℕ) (part rest : List ℕ) (kept : RowsOf K) → gone ≡ (length (b ∷ part), kept) → IsSome (seek 0 kept rest)
+    → IsSome (seek (gone.0 - 1) gone.1 (part ++ rest))
+past gone b part rest kept e is =
+    let less : length (b ∷ part) - 1 ≡ length part = omega arith in
+    rw (e, less, skipped part kept rest) is
+
+pub over_part : {K : Type 0} (rs ts kept : RowsOf K) (part rest : List ℕ) → 0 < length part → step param_token rs ≡ ts
+    → param_step ts (part ++ rest) ≡ (length part, kept)
+    → IsSome (seek 0 kept rest) → IsSome (seek 0 rs (part ++ rest))
+unfolding seek
+over_part rs ts kept [] rest some from takes is = let no : ⊥ = omega arith in absurd no
+over_part rs ts kept (b ∷ part) rest some from takes is =
+    some_second _ _ (some_first _ _ (past _ b part rest kept (ap (λ (r : _). param_step r (b ∷ part ++ rest)) from ∙ takes) is))
+
+-- a part without a slash
+head_none : (b : ℕ) (part : List ℕ) → has_slash (b ∷ part) ≡ false → (b == 47) ≡ false
+head_none b part none = elim (b == 47) as (λ v. cond v true (has_slash part) ≡ false → v ≡ false) [ true ↦ λ no. cc | false ↦ λ no. refl ] none
+
+rest_none : (b : ℕ) (part : List ℕ) → has_slash (b ∷ part) ≡ false → has_slash part ≡ false
+rest_none b part none = elim (b == 47) as (λ v. cond v true (has_slash part) ≡ false → has_slash part ≡ false) [ true ↦ λ no. cc | false ↦ λ no. no ] none
+
+-- the segment of a part and a slash
+segment_of : (part rest : List ℕ) → has_slash part ≡ false → segment (part ++ 47 ∷ rest) ≡ part ++ 47 ∷ []
+segment_of [] rest none = refl
+segment_of (b ∷ part) rest none = rw (head_none b part none) (ap (λ (l : List ℕ). b ∷ l) (segment_of part rest (rest_none b part none)))
+
+last_segment : (part : List ℕ) → has_slash part ≡ false → segment part ≡ part
+last_segment [] none = refl
+last_segment (b ∷ part) none = rw (head_none b part none) (ap (λ (l : List ℕ). b ∷ l) (last_segment part (rest_none b part none)))
+
+one_less : (part : List ℕ) → length (part ++ 47 ∷ []) - 1 ≡ length part
+one_less part = rw (length-append part (47 ∷ [])) (omega arith)
+
+cuts_slash : (part : List ℕ) → 0 < length part → cuts (part ++ 47 ∷ []) (47 ∷ []) ≡ true
+cuts_slash part some =
+    let longer : ltb 1 (length (part ++ 47 ∷ [])) ≡ true = rw (length-append part (47 ∷ [])) (grind (arith, nat_tests)) in
+    rw (longer, one_less part, drop-append_seam part (47 ∷ [])) refl
+
+not_at : (n : ℕ) (part : List ℕ) → has_slash part ≡ false → pointwise nat_eq (47 ∷ []) (drop n part) ≡ false
+not_at zero [] none = refl
+not_at zero (b ∷ part) none =
+    let other : nat_eq 47 b ≡ false = let no = head_none b part none in grind (arith, nat_tests) in
+    rw other refl
+not_at (suc n) [] none = refl
+not_at (suc n) (b ∷ part) none = not_at n part (rest_none b part none)
+
+and_false : (a b : Bool) → b ≡ false → (a && b) ≡ false
+and_false true b is = is
+and_false false b is = refl
+
+cuts_no_slash : (part : List ℕ) → has_slash part ≡ false → cuts part (47 ∷ []) ≡ false
+cuts_no_slash part none = and_false _ _ (not_at (length part - 1) part none)
+
+-- what a parameter takes of a part and a slash, where each row goes on with a slash
+pub takes_two : {K : Type 0} (t s : List ℕ) (k j : K) (part rest : List ℕ) → 0 < length part → has_slash part ≡ false
+    → param_step ((47 ∷ t, k) ∷ (47 ∷ s, j) ∷ []) (part ++ 47 ∷ rest) ≡ (length part, (47 ∷ t, k) ∷ (47 ∷ s, j) ∷ [])
+unfolding param_step
+takes_two t s k j part rest some none = rw (segment_of part rest none, cuts_slash part some, one_less part) refl
+
+-- where one row goes on with a slash, and one ends
+pub takes_one : {K : Type 0} (t : List ℕ) (k j : K) (part rest : List ℕ) → 0 < length part → has_slash part ≡ false
+    → param_step ((47 ∷ t, k) ∷ ([], j) ∷ []) (part ++ 47 ∷ rest) ≡ (length part, (47 ∷ t, k) ∷ [])
+unfolding param_step
+takes_one t k j part rest some none = rw (segment_of part rest none, cuts_slash part some, one_less part) refl
+
+-- what it takes of a path's last part
+pub takes_last : {K : Type 0} (t : List ℕ) (k j : K) (part : List ℕ) → has_slash part ≡ false
+    → param_step ((47 ∷ t, k) ∷ ([], j) ∷ []) part ≡ (length part, (47 ∷ t, k) ∷ ([], j) ∷ [])
+unfolding param_step
+takes_last t k j part none = rw (last_segment part none, cuts_no_slash part none, none) refl
+
+pub takes_end : {K : Type 0} (k : K) (part : List ℕ) → has_slash part ≡ false → param_step (([], k) ∷ []) part ≡ (length part, ([], k) ∷ [])
+unfolding param_step
+takes_end k part none = rw none refl
