@@ -1,0 +1,20 @@
+//! Tests of the desk over the tables in memory: worked rows, and lists of events that the plain
+//! machine judges.
+#![tactic(auto)]
+
+#[cfg(test)]
+mod counter;
+#[cfg(test)]
+mod drawn;
+#[cfg(test)]
+mod ledger;
+#[cfg(test)]
+mod lists;
+#[cfg(test)]
+mod rotation;
+#[cfg(test)]
+mod rows;
+#[cfg(test)]
+mod texts;
+#[cfg(test)]
+mod values;

@@ -1,0 +1,36 @@
+//! What is told, printed.
+
+use anyhow::Result;
+use club_core::Reply;
+use club_gate::{EventReply, OfficeReply};
+use club_replies::{MAX_REPLY_LEN, reply_bytes};
+
+/// Prints what is told: to the office a line, to a member the text of the reply.
+pub(crate) fn reply(rt: &impl Print, reply: &EventReply) -> Result<()> {
+    match reply {
+        EventReply::Answered(OfficeReply::Done) => println!(rt; "done")?,
+        EventReply::Answered(OfficeReply::Key { signature }) => {
+            print!(rt; "signature ")?;
+            for byte in signature {
+                print!(rt; "{byte:02x}")?;
+            }
+            println!(rt)?;
+        }
+        EventReply::Answered(OfficeReply::Refused(fault)) => println!(rt; "refused: {fault}")?,
+        EventReply::Replied(reply) => text_of(rt, reply)?,
+    }
+    Ok(())
+}
+
+// The status line and the body.
+fn text_of(rt: &impl Print, reply: &Reply) -> Result<()> {
+    let mut room = [0; MAX_REPLY_LEN];
+    let len = reply_bytes(reply, &mut room);
+    let text = str::from_utf8(room.get(..len).unwrap_or(&[])).unwrap_or("");
+    for (index, line) in text.split("\r\n").enumerate() {
+        if index == 0 || line.starts_with('{') {
+            println!(rt; "{line}")?;
+        }
+    }
+    Ok(())
+}
