@@ -1,0 +1,60 @@
+//! The facilities desk of a club on the command line: `desk_commands` on the process's words, standard input and
+//! standard output, over databases in files.
+#![tactic(auto)]
+
+ghost use Rattle.std.specs.Prelude.{IfErr};
+ghost use Rattle.desk_commands.specs.Fault.{IsOfWords};
+
+mod files;
+
+pub use desk_commands::run;
+use desk_commands::{Fault, not_text};
+use files::Files;
+use std::process::ExitCode;
+use std::{env, io};
+
+fn main(rt: HostRuntime) -> ExitCode {
+    let status = match run_here(&rt) {
+        Ok(()) => 0,
+        Err(fault) => {
+            // Nothing is left to be told where standard error fails.
+            let _ = report(&rt, &fault);
+            fault.status()
+        }
+    };
+    ExitCode::from(status)
+}
+
+// Runs on the process's words, standard input and standard output.
+fn run_here(rt: &HostRuntime) -> Result<(), Fault> {
+    let words = given_words(rt)?;
+    let mut files = Files { rt, tried: 0 };
+    run(
+        rt,
+        &mut files,
+        words.as_slice(),
+        &mut rt.stdin(),
+        &mut rt.stdout(),
+    )
+}
+
+fn given_words(rt: &HostRuntime) -> Result<Vec<String>, Fault>
+    ensures { IfErr result IsOfWords }
+{
+    match env::args(rt) {
+        Ok(words) => Ok(words.collect(rt.alloc())?),
+        Err(error) if error.kind() == io::ErrorKind::OutOfMemory => Err(Fault::Memory),
+        Err(_) => Err(not_text(rt.alloc())),
+    }
+}
+
+// Prints the line of a fault; the text of `clap` ends its lines itself.
+fn report(rt: &impl Eprint, fault: &Fault) -> io::Result<()> {
+    match fault {
+        Fault::Words(text) => eprint!(rt; "{text}"),
+        _ => eprintln!(rt; "{fault}"),
+    }
+}
+
+#[cfg(test)]
+mod tests;

@@ -1,0 +1,12 @@
+use Rattle.std.proofs.Common.{◌∙◌, ap}
+use Rattle.std.proofs.lemmas.Result.{IfOk-weaker}
+use Rattle.desk_commands.specs.Application.{application, with_commands}
+use Rattle.desk_commands.proofs.AppLemmas.{days, keys, office}
+use Rattle.desk_commands.proofs.application.make_application.Goals as goal
+
+pub returns : goal.returns
+unfolding application
+returns c =
+    let one = c.in_ok-office.ensures ∙ ap (λ app. with_commands app office) c.make_top-top.ensures in
+    let two = c.in_ok-keys.ensures ∙ ap (λ app. with_commands app keys) one in
+    IfOk-weaker c.with_days.result _ _ (λ made is. is ∙ ap (λ app. with_commands app days) two) c.with_days.ensures

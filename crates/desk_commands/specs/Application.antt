@@ -1,0 +1,105 @@
+-- The program's commands and options, as `clap` reads them (ours).
+use Rattle.std.specs.Prelude.{◌≡◌, List, [], ◌∷◌, Option, Some, true, false, codes}
+use Rattle.clap.specs.Words.{App, Kinds, Row, Rule, Shape, Text, app_of, fault_of, new_app, new_rule}
+use Rattle.clap.specs.Words.{subcommand_of, with_rule, with_subcommand}
+use Rattle.clap.specs.Simple.{on_top}
+use Rattle.clap.specs.declared.builder.command.Command.{Command}
+use Rattle.clap.specs.declared.builder.command.Command.TheViews.{out-Command}
+
+-- a word that must be there, told by its place
+abbrev pub word_named : Text → Rule
+word_named name = record (new_rule name) { required = true; value_names = 1 }
+
+abbrev pub with_words : App → List Text → App
+with_words app [] = app
+with_words app (name ∷ names) = with_words (with_rule app (word_named name)) names
+
+-- `NAME WORD..`
+abbrev pub command_of_words : Text → List Text → App
+command_of_words name words = with_words (new_app name) words
+
+-- `--NAME VALUE`
+abbrev pub option_named : Text → Rule
+option_named name = record (new_rule name) { long = Some name; value_names = 1 }
+
+abbrev pub required : Rule → Rule
+required rule = record rule { required = true }
+
+-- with a value that stands for an option that is left out
+abbrev pub with_default : Text → Rule → Rule
+with_default value rule = record rule { defaults = value ∷ [] }
+
+-- `[--form F]`, V2 where it is left out
+abbrev pub form_option : Rule
+form_option = with_default (codes "v2") (option_named (codes "form"))
+
+-- `[--zone RULE]`, UTC where it is left out
+abbrev pub zone_option : Rule
+zone_option = with_default (codes "UTC0") (option_named (codes "zone"))
+
+abbrev pub add_member_command : App
+add_member_command = command_of_words (codes "add-member") (codes "FILE" ∷ codes "NAME" ∷ codes "QUOTA" ∷ [])
+
+abbrev pub credit_command : App
+credit_command = command_of_words (codes "credit") (codes "FILE" ∷ codes "MEMBER" ∷ codes "POINTS" ∷ [])
+
+abbrev pub add_facility_command : App
+add_facility_command =
+    command_of_words (codes "add-facility")
+    (codes "FILE" ∷ codes "NAME" ∷ codes "KIND" ∷ codes "PLACES" ∷ codes "PRICE" ∷ codes "OPENS" ∷ codes "SHUTS" ∷ [])
+
+abbrev pub add_key_command : App
+add_key_command =
+    with_rule (command_of_words (codes "add-key") (codes "FILE" ∷ codes "KEY" ∷ codes "MEMBER" ∷ codes "HEX" ∷ [])) form_option
+
+abbrev pub revoke_key_command : App
+revoke_key_command = command_of_words (codes "revoke-key") (codes "FILE" ∷ codes "KEY" ∷ [])
+
+abbrev pub rotate_key_command : App
+rotate_key_command =
+    with_rule (command_of_words (codes "rotate-key") (codes "FILE" ∷ codes "KEY" ∷ codes "HEX" ∷ codes "MOMENT" ∷ [])) form_option
+
+abbrev pub close_slot_command : App
+close_slot_command =
+    command_of_words (codes "close-slot") (codes "FILE" ∷ codes "FACILITY" ∷ codes "DAY" ∷ codes "HOUR" ∷ [])
+
+abbrev pub sheet_command : App
+sheet_command = command_of_words (codes "sheet") (codes "FILE" ∷ codes "DAY" ∷ [])
+
+-- `serve FILE --port P --count N [--zone RULE] [--at MOMENT]`
+abbrev pub serve_command : App
+serve_command =
+    with_rule (with_rule (with_rule (with_rule (command_of_words (codes "serve") (codes "FILE" ∷ []))
+    (required (option_named (codes "port")))) (required (option_named (codes "count"))))
+    zone_option) (option_named (codes "at"))
+
+abbrev pub with_commands : App → List App → App
+with_commands app [] = app
+with_commands app (command ∷ commands) = with_commands (with_subcommand app command.top) commands
+
+abbrev pub needs_subcommand : Shape → Shape
+needs_subcommand top = record top { subcommand_required = true }
+
+-- the program before its commands, of which one must be named
+abbrev pub top : App
+top = on_top needs_subcommand (new_app (codes "clubdesk"))
+
+-- `clubdesk COMMAND`
+unfoldable pub application : App
+application =
+    with_commands top
+    (add_member_command ∷ credit_command ∷ add_facility_command ∷ add_key_command ∷ revoke_key_command
+    ∷ rotate_key_command ∷ close_slot_command ∷ sheet_command ∷ serve_command ∷ [])
+
+-- the command is of this application, and none of its options is global
+pub record IsMade (app : App) (made : Command) : Type 0 where
+  pub app_is : app_of made ≡ app
+  pub local : (out-Command made).has_globals ≡ false
+
+-- what clap has against the words, the program's name first; empty where it reads them
+unfoldable pub refusals : List Text → Kinds
+refusals words = fault_of application words
+
+-- the command that the words name, with what clap found of its options
+unfoldable pub subcommand : List Text → Option (Text × List Row)
+subcommand words = subcommand_of application words

@@ -1,0 +1,104 @@
+-- Laws of the definitions: what each command's words ask for. Behind `--` words are never options, whatever they begin with.
+use Rattle.std.specs.Prelude.{◌≡◌, ℕ, List, [], ◌∷◌, ◌++◌, Option, Some, None, codes}
+use Rattle.clap.specs.Words.{Text}
+use Rattle.club_values.specs.TextOf.{name_of_text, kind_of_text, day_of_text, hour_of_text, moment_of_text}
+use Rattle.club_values.specs.declared.kind.Kind.{Kind}
+use Rattle.club_core.specs.declared.command.Command.TheVariants as order
+use Rattle.pass_forms.specs.declared.form.Form.{Form}
+use Rattle.pass_forms.specs.declared.form.Form.TheVariants.{V2}
+use Rattle.pass_commands.specs.FormName.{form_name}
+use Rattle.desk_commands.specs.Commanded.{Commanded}
+use Rattle.desk_commands.specs.Values.{count_of, number_of, port_of, root_of}
+use Rattle.desk_server.specs.Zone.{zone_of}
+use Rattle.desk_commands.specs.Words.{asked}
+use Rattle.desk_commands.specs.declared.clock.Clock.TheVariants.{Fixed, InZone}
+use Rattle.desk_commands.specs.declared.task.Task.{Task}
+use Rattle.desk_commands.specs.declared.task.Task.TheVariants.{Order, AddKey, RotateKey, Sheet, Serve}
+
+-- words ask for a task over a file
+abbrev pub Asks : List Text → Text → Task → Type 0
+Asks words file task = asked words ≡ Some (record { file = file; task = task })
+
+-- `add-member FILE NAME QUOTA`, of whatever name the program has
+abbrev pub AddMemberTakesItsParts : Type 0
+AddMemberTakesItsParts = (program file name quota : Text) (who : Text) (most : ℕ)
+    → name_of_text name ≡ Some who → number_of quota ≡ Some most
+    → Asks (program ∷ codes "add-member" ∷ codes "--" ∷ file ∷ name ∷ quota ∷ []) file (Order (order.AddMember who most))
+
+-- `credit FILE MEMBER POINTS`
+abbrev pub CreditTakesItsParts : Type 0
+CreditTakesItsParts = (program file member points : Text) (who : Text) (many : ℕ)
+    → name_of_text member ≡ Some who → number_of points ≡ Some many
+    → Asks (program ∷ codes "credit" ∷ codes "--" ∷ file ∷ member ∷ points ∷ []) file (Order (order.Credit who many))
+
+-- `add-facility FILE NAME KIND PLACES PRICE OPENS SHUTS`
+abbrev pub AddFacilityTakesItsParts : Type 0
+AddFacilityTakesItsParts = (program file name kind places price opens shuts : Text) (what : Text) (of_kind : Kind) (p q o s : ℕ)
+    → name_of_text name ≡ Some what → kind_of_text kind ≡ Some of_kind → number_of places ≡ Some p → number_of price ≡ Some q
+    → number_of opens ≡ Some o → number_of shuts ≡ Some s
+    → Asks (program ∷ codes "add-facility" ∷ codes "--" ∷ file ∷ name ∷ kind ∷ places ∷ price ∷ opens ∷ shuts ∷ [])
+    file (Order (order.AddFacility what of_kind p q o s))
+
+-- `add-key --form=F -- FILE KEY MEMBER HEX`
+abbrev pub AddKeyTakesItsParts : Type 0
+AddKeyTakesItsParts = (program file key member hex : Text) (form : Form) (what who root : Text)
+    → name_of_text key ≡ Some what → name_of_text member ≡ Some who → root_of hex ≡ Some root
+    → Asks (program ∷ codes "add-key" ∷ (codes "--form=" ++ form_name form) ∷ codes "--" ∷ file ∷ key ∷ member ∷ hex ∷ [])
+    file (AddKey what who root form)
+
+-- the same without a form
+abbrev pub AddKeyTakesV2 : Type 0
+AddKeyTakesV2 = (program file key member hex : Text) (what who root : Text)
+    → name_of_text key ≡ Some what → name_of_text member ≡ Some who → root_of hex ≡ Some root
+    → Asks (program ∷ codes "add-key" ∷ codes "--" ∷ file ∷ key ∷ member ∷ hex ∷ []) file (AddKey what who root V2)
+
+-- `revoke-key FILE KEY`
+abbrev pub RevokeKeyTakesItsKey : Type 0
+RevokeKeyTakesItsKey = (program file key : Text) (what : Text) → name_of_text key ≡ Some what
+    → Asks (program ∷ codes "revoke-key" ∷ codes "--" ∷ file ∷ key ∷ []) file (Order (order.RevokeKey what))
+
+-- `rotate-key --form=F -- FILE KEY HEX MOMENT`
+abbrev pub RotateKeyTakesItsParts : Type 0
+RotateKeyTakesItsParts = (program file key hex moment : Text) (form : Form) (what root : Text) (until : ℕ)
+    → name_of_text key ≡ Some what → root_of hex ≡ Some root → moment_of_text moment ≡ Some until
+    → Asks (program ∷ codes "rotate-key" ∷ (codes "--form=" ++ form_name form) ∷ codes "--" ∷ file ∷ key ∷ hex ∷ moment ∷ [])
+    file (RotateKey what root until form)
+
+-- the same without a form
+abbrev pub RotateKeyTakesV2 : Type 0
+RotateKeyTakesV2 = (program file key hex moment : Text) (what root : Text) (until : ℕ)
+    → name_of_text key ≡ Some what → root_of hex ≡ Some root → moment_of_text moment ≡ Some until
+    → Asks (program ∷ codes "rotate-key" ∷ codes "--" ∷ file ∷ key ∷ hex ∷ moment ∷ []) file (RotateKey what root until V2)
+
+-- `close-slot FILE FACILITY DAY HOUR`
+abbrev pub CloseSlotTakesItsSlot : Type 0
+CloseSlotTakesItsSlot = (program file facility day hour : Text) (what : Text) (on at : ℕ)
+    → name_of_text facility ≡ Some what → day_of_text day ≡ Some on → hour_of_text hour ≡ Some at
+    → Asks (program ∷ codes "close-slot" ∷ codes "--" ∷ file ∷ facility ∷ day ∷ hour ∷ [])
+    file (Order (order.CloseSlot (record { facility = what; day = on; hour = at })))
+
+-- `sheet FILE DAY`
+abbrev pub SheetTakesItsDay : Type 0
+SheetTakesItsDay = (program file day : Text) (on : ℕ) → day_of_text day ≡ Some on
+    → Asks (program ∷ codes "sheet" ∷ codes "--" ∷ file ∷ day ∷ []) file (Sheet on)
+
+-- `serve --port=P --count=N --zone=RULE -- FILE`
+abbrev pub ServeTakesItsParts : Type 0
+ServeTakesItsParts = (program file port count zone : Text) (at many : ℕ) (rule : Text)
+    → port_of port ≡ Some at → count_of count ≡ Some many → zone_of zone ≡ Some rule
+    → Asks (program ∷ codes "serve" ∷ (codes "--port=" ++ port) ∷ (codes "--count=" ++ count) ∷ (codes "--zone=" ++ zone) ∷ codes "--" ∷ file ∷ [])
+    file (Serve (record { port = at; count = many; clock = InZone rule }))
+
+-- the same without a zone
+abbrev pub ServeTakesUtc : Type 0
+ServeTakesUtc = (program file port count : Text) (at many : ℕ)
+    → port_of port ≡ Some at → count_of count ≡ Some many
+    → Asks (program ∷ codes "serve" ∷ (codes "--port=" ++ port) ∷ (codes "--count=" ++ count) ∷ codes "--" ∷ file ∷ [])
+    file (Serve (record { port = at; count = many; clock = InZone (codes "UTC0") }))
+
+-- the same with a moment for all connections
+abbrev pub ServeTakesItsMoment : Type 0
+ServeTakesItsMoment = (program file port count fixed : Text) (at many moment : ℕ)
+    → port_of port ≡ Some at → count_of count ≡ Some many → moment_of_text fixed ≡ Some moment
+    → Asks (program ∷ codes "serve" ∷ (codes "--port=" ++ port) ∷ (codes "--count=" ++ count) ∷ (codes "--at=" ++ fixed) ∷ codes "--" ∷ file ∷ [])
+    file (Serve (record { port = at; count = many; clock = Fixed moment }))

@@ -1,0 +1,325 @@
+//! The commands and their options, with what help shows of them.
+
+ghost use Rattle.std.specs.Prelude.{◌≡◌, ◌∷◌, [], IfOk, false, map};
+ghost use Rattle.clap.specs.Words.{App, app_of, kind_of, rule_of};
+ghost use Rattle.desk_commands.specs.Application as spec;
+ghost use Rattle.desk_commands.specs.Fault.{IsOfWords};
+
+use crate::fault::Fault;
+use clap::error::ErrorKind;
+use clap::{Arg, Command};
+use std::alloc::{AllocError, Global};
+
+const STATUSES: &str = "Exit status:
+  0  done
+  1  refused: exists, unknown, out of range, or slot in use
+  2  the words
+  3  a word that spells no value of its place
+  4  out of memory
+  5  storage failed
+  6  serve: the clock doesn't stand in the years 2000 to 2099
+  7  input or output failed";
+
+const ADD_MEMBER_HELP: &str = "FILE is the database; it is made where it isn't there.
+QUOTA is the most bookings that the member has open at once, 0 to 99.
+
+Example:
+  clubdesk add-member club.db amy 5";
+
+const CREDIT_HELP: &str = "POINTS are 1 to 1000000; a member is credited at most 999999999.
+
+Example:
+  clubdesk credit club.db amy 10000";
+
+const ADD_FACILITY_HELP: &str = "KIND is court, boat or room; PLACES 1 to 50; PRICE the points of
+one place for an hour, 0 to 9999; it OPENS and SHUTS at full hours, 0 to 24.
+
+Example:
+  clubdesk add-facility club.db court-1 court 4 200 8 22";
+
+const ADD_KEY_HELP: &str = "HEX is the key's root, 16 to 64 bytes in hexadecimal; other users may
+see it in the list of processes. The pass of the key is printed.
+
+Example:
+  clubdesk add-key club.db amy-1 amy 000102030405060708090a0b0c0d0e0f";
+
+const REVOKE_KEY_HELP: &str = "No pass of a revoked key is served any more.
+
+Example:
+  clubdesk revoke-key club.db amy-1";
+
+const ROTATE_KEY_HELP: &str = "HEX is the key's new root. Passes under the root that it has are
+served until MOMENT, and not from it on. The new pass is printed.
+
+Example:
+  clubdesk rotate-key club.db amy-1 101112131415161718191a1b1c1d1e1f 2026-05-01T00:00";
+
+const CLOSE_SLOT_HELP: &str = "HOUR has two digits, 00 to 23.
+
+Example:
+  clubdesk close-slot club.db court-1 2026-05-01 18";
+
+const SHEET_HELP: &str = "Example:
+  clubdesk sheet club.db 2026-05-01";
+
+const SERVE_HELP: &str = "Serves connections to 127.0.0.1 one after the other, and ends after the
+last of them. A client that sends slowly holds up those behind it.
+
+Example:
+  clubdesk serve club.db --port 8080 --count 1000 --zone CET-1CEST,M3.5.0,M10.5.0/3";
+
+/// The whole command line.
+pub fn make_application<'a>(alloc: Global) -> Result<Command<'a>, AllocError>
+    ensures { IfOk result (λ made. app_of made ≡ spec.application) }
+{
+    let top = make_top(alloc);
+    let office = with_office(alloc, top)?;
+    let keys = with_keys(alloc, office)?;
+    with_days(alloc, keys)
+}
+
+/// A fault of the words that `clap` didn't find, with the usage.
+pub fn refusal(alloc: Global, kind: ErrorKind, message: &str) -> Result<clap::Error, AllocError>
+    ensures { IfOk result (λ error. kind_of error ≡ kind) }
+{
+    make_application(alloc)?.error(kind, message)
+}
+
+/// The fault of words that aren't UTF-8, which `clap` never sees here.
+pub fn not_text(alloc: Global) -> Fault
+    ensures { IsOfWords result }
+{
+    let message = "invalid UTF-8 was detected in one or more arguments";
+    match refusal(alloc, ErrorKind::ValueValidation, message) {
+        Ok(error) => Fault::Words(error),
+        Err(_) => Fault::Memory,
+    }
+}
+
+// The program before its commands.
+fn make_top<'a>(alloc: Global) -> Command<'a>
+    ensures { app_of result ≡ spec.top }
+{
+    Command::new(alloc, "clubdesk")
+        .about("The desk of a club: its office, its day sheet and its server")
+        .after_long_help(STATUSES)
+        .subcommand_required(true)
+}
+
+// The commands on members and facilities.
+fn with_office<'a>(alloc: Global, app: Command<'a>) -> Result<Command<'a>, AllocError>
+    ensures { IfOk result (λ made. app_of made ≡ spec.with_commands (app_of app.entry)
+        (spec.add_member_command ∷ spec.credit_command ∷ spec.add_facility_command ∷ [])) }
+{
+    let add_member = make_add_member(alloc)?;
+    let credit = make_credit(alloc)?;
+    let add_facility = make_add_facility(alloc)?;
+    app.subcommand(add_member)?
+        .subcommand(credit)?
+        .subcommand(add_facility)
+}
+
+// The commands on keys.
+fn with_keys<'a>(alloc: Global, app: Command<'a>) -> Result<Command<'a>, AllocError>
+    ensures { IfOk result (λ made. app_of made ≡ spec.with_commands (app_of app.entry)
+        (spec.add_key_command ∷ spec.revoke_key_command ∷ spec.rotate_key_command ∷ [])) }
+{
+    let add_key = make_add_key(alloc)?;
+    let revoke_key = make_revoke_key(alloc)?;
+    let rotate_key = make_rotate_key(alloc)?;
+    app.subcommand(add_key)?
+        .subcommand(revoke_key)?
+        .subcommand(rotate_key)
+}
+
+// The commands on days, and the server.
+fn with_days<'a>(alloc: Global, app: Command<'a>) -> Result<Command<'a>, AllocError>
+    ensures { IfOk result (λ made. app_of made ≡ spec.with_commands (app_of app.entry)
+        (spec.close_slot_command ∷ spec.sheet_command ∷ spec.serve_command ∷ [])) }
+{
+    let close_slot = make_close_slot(alloc)?;
+    let sheet = make_sheet(alloc)?;
+    let serve = make_serve(alloc)?;
+    app.subcommand(close_slot)?
+        .subcommand(sheet)?
+        .subcommand(serve)
+}
+
+fn make_add_member<'a>(alloc: Global) -> Result<Command<'a>, AllocError>
+    ensures { IfOk result (spec.IsMade spec.add_member_command) }
+{
+    make_command(
+        alloc,
+        "add-member",
+        "Adds a member",
+        ADD_MEMBER_HELP,
+        &["FILE", "NAME", "QUOTA"],
+    )
+}
+
+fn make_credit<'a>(alloc: Global) -> Result<Command<'a>, AllocError>
+    ensures { IfOk result (spec.IsMade spec.credit_command) }
+{
+    make_command(
+        alloc,
+        "credit",
+        "Credits a member with points",
+        CREDIT_HELP,
+        &["FILE", "MEMBER", "POINTS"],
+    )
+}
+
+fn make_add_facility<'a>(alloc: Global) -> Result<Command<'a>, AllocError>
+    ensures { IfOk result (spec.IsMade spec.add_facility_command) }
+{
+    let words = ["FILE", "NAME", "KIND", "PLACES", "PRICE", "OPENS", "SHUTS"];
+    make_command(
+        alloc,
+        "add-facility",
+        "Adds a facility",
+        ADD_FACILITY_HELP,
+        &words,
+    )
+}
+
+fn make_add_key<'a>(alloc: Global) -> Result<Command<'a>, AllocError>
+    ensures { IfOk result (spec.IsMade spec.add_key_command) }
+{
+    make_command(
+        alloc,
+        "add-key",
+        "Adds a key of a member",
+        ADD_KEY_HELP,
+        &["FILE", "KEY", "MEMBER", "HEX"],
+    )?
+    .arg(make_form(alloc))
+}
+
+fn make_revoke_key<'a>(alloc: Global) -> Result<Command<'a>, AllocError>
+    ensures { IfOk result (spec.IsMade spec.revoke_key_command) }
+{
+    make_command(
+        alloc,
+        "revoke-key",
+        "Revokes a key",
+        REVOKE_KEY_HELP,
+        &["FILE", "KEY"],
+    )
+}
+
+fn make_rotate_key<'a>(alloc: Global) -> Result<Command<'a>, AllocError>
+    ensures { IfOk result (spec.IsMade spec.rotate_key_command) }
+{
+    make_command(
+        alloc,
+        "rotate-key",
+        "Gives a key a new root",
+        ROTATE_KEY_HELP,
+        &["FILE", "KEY", "HEX", "MOMENT"],
+    )?
+    .arg(make_form(alloc))
+}
+
+fn make_close_slot<'a>(alloc: Global) -> Result<Command<'a>, AllocError>
+    ensures { IfOk result (spec.IsMade spec.close_slot_command) }
+{
+    make_command(
+        alloc,
+        "close-slot",
+        "Closes a slot of a facility",
+        CLOSE_SLOT_HELP,
+        &["FILE", "FACILITY", "DAY", "HOUR"],
+    )
+}
+
+fn make_sheet<'a>(alloc: Global) -> Result<Command<'a>, AllocError>
+    ensures { IfOk result (spec.IsMade spec.sheet_command) }
+{
+    make_command(
+        alloc,
+        "sheet",
+        "Prints the sheet of a day's bookings",
+        SHEET_HELP,
+        &["FILE", "DAY"],
+    )
+}
+
+fn make_serve<'a>(alloc: Global) -> Result<Command<'a>, AllocError>
+    ensures { IfOk result (spec.IsMade spec.serve_command) }
+{
+    let port = make_option(
+        alloc,
+        "port",
+        "P",
+        "The port, to 65535; 0 for any that is free",
+    );
+    let count = make_option(alloc, "count", "N", "How many connections, 1 to 1000000");
+    let zone = make_option(alloc, "zone", "RULE", "The clock's zone, a POSIX rule");
+    let at = make_option(alloc, "at", "MOMENT", "One moment for all connections");
+    make_command(
+        alloc,
+        "serve",
+        "Serves requests over HTTP",
+        SERVE_HELP,
+        &["FILE"],
+    )?
+    .arg(port.required(true))?
+    .arg(count.required(true))?
+    .arg(zone.default_value("UTC0"))?
+    .arg(at)
+}
+
+// A command with the words behind its name, each of which must be there.
+fn make_command<'a>(
+    alloc: Global,
+    name: &'a str,
+    about: &'a str,
+    help: &'a str,
+    words: &[&'a str],
+) -> Result<Command<'a>, AllocError>
+    ensures { IfOk result (spec.IsMade
+        (spec.command_of_words name.entry.now (map (λ word. word.now) words.now))) }
+{
+    let named = Command::new(alloc, name).about(about).after_help(help);
+    with_words(alloc, named, words)
+}
+
+// The command with more words behind its name.
+fn with_words<'a>(
+    alloc: Global,
+    mut command: Command<'a>,
+    words: &[&'a str],
+) -> Result<Command<'a>, AllocError>
+    ensures { (app : App) → spec.IsMade app command.entry → IfOk result
+        (spec.IsMade (spec.with_words app (map (λ word. word.now) words.now))) }
+{
+    for word in words {
+        command = command.arg(make_word(alloc, word))?;
+    }
+    Ok(command)
+}
+
+fn make_word<'a>(alloc: Global, name: &'a str) -> Arg<'a>
+    ensures rule { rule_of result ≡ spec.word_named name.entry.now }
+    ensures local { result.global ≡ false }
+{
+    Arg::new(alloc, name).value_name(name).required(true)
+}
+
+// `--NAME VALUE`
+fn make_option<'a>(alloc: Global, name: &'a str, value: &'a str, help: &'a str) -> Arg<'a>
+    ensures rule { rule_of result ≡ spec.option_named name.entry.now }
+    ensures local { result.global ≡ false }
+{
+    Arg::new(alloc, name)
+        .long(name)
+        .value_name(value)
+        .help(help)
+}
+
+fn make_form<'a>(alloc: Global) -> Arg<'a>
+    ensures rule { rule_of result ≡ spec.form_option }
+    ensures local { result.global ≡ false }
+{
+    make_option(alloc, "form", "FORM", "v1, v2 or json").default_value("v2")
+}

@@ -1,0 +1,68 @@
+//! What holds of the definitions alone: each command takes its words.
+
+ghost use Rattle.desk_commands.specs.Laws.{AddMemberTakesItsParts, CreditTakesItsParts, AddFacilityTakesItsParts, AddKeyTakesItsParts, AddKeyTakesV2, RevokeKeyTakesItsKey, RotateKeyTakesItsParts, RotateKeyTakesV2, CloseSlotTakesItsSlot, SheetTakesItsDay, ServeTakesItsParts, ServeTakesUtc, ServeTakesItsMoment};
+
+/// `add-member FILE NAME QUOTA` asks for a member of that name and quota.
+pub fn add_member_takes_its_parts()
+    ensures { AddMemberTakesItsParts }
+{}
+
+/// `credit FILE MEMBER POINTS` asks for these points for that member.
+pub fn credit_takes_its_parts()
+    ensures { CreditTakesItsParts }
+{}
+
+/// `add-facility FILE NAME KIND PLACES PRICE OPENS SHUTS` asks for the facility of these, in this order.
+pub fn add_facility_takes_its_parts()
+    ensures { AddFacilityTakesItsParts }
+{}
+
+/// `add-key FILE KEY MEMBER HEX` with a form asks for the key of these, and its pass in that form.
+pub fn add_key_takes_its_parts()
+    ensures { AddKeyTakesItsParts }
+{}
+
+/// `add-key` without a form asks for a pass in V2.
+pub fn add_key_takes_v2()
+    ensures { AddKeyTakesV2 }
+{}
+
+/// `revoke-key FILE KEY` asks for that key to be revoked.
+pub fn revoke_key_takes_its_key()
+    ensures { RevokeKeyTakesItsKey }
+{}
+
+/// `rotate-key FILE KEY HEX MOMENT` with a form asks for that root of the key, its older one good until the moment.
+pub fn rotate_key_takes_its_parts()
+    ensures { RotateKeyTakesItsParts }
+{}
+
+/// `rotate-key` without a form asks for a pass in V2.
+pub fn rotate_key_takes_v2()
+    ensures { RotateKeyTakesV2 }
+{}
+
+/// `close-slot FILE FACILITY DAY HOUR` asks for that slot to be closed.
+pub fn close_slot_takes_its_slot()
+    ensures { CloseSlotTakesItsSlot }
+{}
+
+/// `sheet FILE DAY` asks for the sheet of that day.
+pub fn sheet_takes_its_day()
+    ensures { SheetTakesItsDay }
+{}
+
+/// `serve` with a port, a count and a zone asks for the server of these, whose clock stands in the zone.
+pub fn serve_takes_its_parts()
+    ensures { ServeTakesItsParts }
+{}
+
+/// `serve` without a zone asks for a clock in UTC.
+pub fn serve_takes_utc()
+    ensures { ServeTakesUtc }
+{}
+
+/// `serve` with a moment asks for that moment at all connections.
+pub fn serve_takes_its_moment()
+    ensures { ServeTakesItsMoment }
+{}

@@ -1,0 +1,126 @@
+//! The commands of the office, over a desk.
+
+ghost use Rattle.std.specs.Prelude.{◌≡◌, ◌++◌, ◌∷◌, [], IfSome, Ok, Err, codes};
+ghost use Rattle.std.specs.String.{string_bytes};
+ghost use Rattle.club_core.specs.Store.{KeepsStanding};
+ghost use Rattle.desk_commands.specs.Office as spec;
+
+use crate::fault::Fault;
+use club_core::{ClubStore, Command};
+use club_gate::{Desk, OfficeReply, key_signature, minted};
+use club_rows::Root;
+use club_values::{Day, Name};
+use pass_commands::write_text;
+use pass_forms::Form;
+use pass_json::write_any;
+use std::alloc::Global;
+use std::io::Write;
+
+/// What is written of an order that makes no pass.
+const DONE: &str = "done\n";
+
+/// Gives an order to the desk, and writes `done`.
+///
+/// # Errors
+///
+/// `Refused`, `Memory` and `Storage` where the desk tells so: then the club is as it was, and nothing
+/// was written. `InputOutput` where the writer failed: then the order stands.
+pub fn give_order<S: ClubStore, W: Write>(
+    desk: &mut Desk<S>,
+    order: &Command,
+    writer: &mut W,
+) -> Result<(), Fault>
+    ensures { spec.IsOrdered S.stands (S.is_honest desk.new) desk.old desk.new order.now
+        (λ reply. spec.TellsOrder (codes "done\n") (W.contents writer.old) (W.contents writer.new)
+        (writer.new ≡ writer.old) reply result) }
+{
+    carry_out(desk, order, DONE, writer)
+}
+
+/// Makes the text of a key's pass under a root, then gives the order that adds the key or changes
+/// its root, and then writes the text.
+///
+/// # Errors
+///
+/// As for an order; `Memory` also where it was refused to the text, and then no order was given.
+pub fn order_pass<S: ClubStore, W: Write>(
+    alloc: Global,
+    desk: &mut Desk<S>,
+    name: &Name,
+    root: &Root,
+    form: Form,
+    order: &Command,
+    writer: &mut W,
+) -> Result<(), Fault>
+    ensures { spec.IsOrderedOnce (spec.pass_text name.now root.now form)
+        (result ≡ Err Fault.Memory)
+        ((desk.new ≡ desk.old) × (writer.new ≡ writer.old))
+        (λ text. spec.IsOrdered S.stands (S.is_honest desk.new) desk.old desk.new order.now
+        (λ reply. spec.TellsOrder text (W.contents writer.old) (W.contents writer.new)
+        (writer.new ≡ writer.old) reply result)) }
+{
+    match pass_line(alloc, name, root, form) {
+        None => Err(Fault::Memory),
+        Some(text) => carry_out(desk, order, text.as_str(), writer),
+    }
+}
+
+/// Writes the sheet of a day.
+///
+/// # Errors
+///
+/// `Memory` and `Storage` where the desk tells so, and then nothing was written; `InputOutput` where
+/// the writer failed. The club is as it was.
+pub fn show_sheet<S: ClubStore, W: Write>(
+    desk: &mut Desk<S>,
+    day: Day,
+    writer: &mut W,
+) -> Result<(), Fault>
+    ensures kept { S.is_honest desk.new → KeepsStanding S.stands desk.old desk.new }
+    ensures told { spec.IsSheetTold S.stands (S.is_honest desk.new) desk.old day
+        (λ read. spec.TellsSheet (W.contents writer.old) (W.contents writer.new)
+        (writer.new ≡ writer.old) read result) }
+{
+    match desk.sheet(day) {
+        Ok(text) => written(writer, text.as_str()),
+        Err(fault) => Err(Fault::from(fault)),
+    }
+}
+
+// The line of a key's pass under a root; `None` where memory was refused. A pass so short has a text
+// in every form.
+fn pass_line(alloc: Global, name: &Name, root: &Root, form: Form) -> Option<String>
+    ensures { IfSome result (λ line. spec.IsPassLine
+        (spec.pass_text name.now root.now form) (string_bytes line)) }
+{
+    let pass = minted(alloc, name, key_signature(name, root)).ok()?;
+    let mut line = write_any(alloc, form, &pass).ok()?;
+    line.push('\n').ok()?;
+    Some(line)
+}
+
+// Gives an order to the desk, and writes a text where it is carried out.
+fn carry_out<S: ClubStore, W: Write>(
+    desk: &mut Desk<S>,
+    order: &Command,
+    text: &str,
+    writer: &mut W,
+) -> Result<(), Fault>
+    ensures { spec.IsOrdered S.stands (S.is_honest desk.new) desk.old desk.new order.now
+        (λ reply. spec.TellsOrder text.now (W.contents writer.old) (W.contents writer.new)
+        (writer.new ≡ writer.old) reply result) }
+{
+    match desk.office(order) {
+        OfficeReply::Refused(fault) => Err(Fault::from(fault)),
+        OfficeReply::Done | OfficeReply::Key { .. } => written(writer, text),
+    }
+}
+
+fn written<W: Write>(writer: &mut W, text: &str) -> Result<(), Fault>
+    ensures { spec.WritesText text.now (W.contents writer.old) (W.contents writer.new) result }
+{
+    match write_text(writer, text) {
+        Ok(()) => Ok(()),
+        Err(_) => Err(Fault::InputOutput),
+    }
+}

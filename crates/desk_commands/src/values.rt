@@ -1,0 +1,55 @@
+//! The values that words spell, beside those of the club's own texts.
+
+ghost use Rattle.std.specs.Prelude.{◌≡◌};
+ghost use Rattle.desk_commands.specs.Values as spec;
+
+use club_rows::Root;
+
+/// The most digits of a number.
+const MAX_DIGITS: usize = 9;
+
+/// The most connections that are served.
+pub const MAX_CONNECTIONS: u32 = 1_000_000;
+
+/// The number of 1 to 9 decimal digits.
+pub fn number_of(text: &str) -> Option<u32>
+    ensures { result ≡ spec.number_of text.now }
+{
+    if text.is_empty() || text.len() > MAX_DIGITS || !are_digits(text.as_bytes()) {
+        return None;
+    }
+    text.parse().ok()
+}
+
+fn are_digits(text: &[u8]) -> bool
+    ensures { result ≡ spec.are_digits text.now }
+{
+    text.iter().all(|byte| byte.is_ascii_digit())
+}
+
+/// The port of TCP that a number is, up to 65,535.
+pub fn port_of(text: &str) -> Option<u16>
+    ensures { result ≡ spec.port_of text.now }
+{
+    let number = number_of(text)?;
+    u16::try_from(number).ok()
+}
+
+/// A number of connections, 1 to 1,000,000.
+pub fn count_of(text: &str) -> Option<u32>
+    ensures { result ≡ spec.count_of text.now }
+{
+    let number = number_of(text)?;
+    if number == 0 || number > MAX_CONNECTIONS {
+        return None;
+    }
+    Some(number)
+}
+
+/// The root of 16 to 64 bytes that a text spells in hexadecimal, in either case of letters.
+pub fn root_of(text: &str) -> Option<Root>
+    ensures { result ≡ spec.root_of text.now }
+{
+    let root = pass_commands::Root::from_hex(text)?;
+    Root::new(root.as_slice())
+}

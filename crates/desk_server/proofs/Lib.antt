@@ -1,0 +1,2 @@
+pub mod ZoneLemmas
+pub mod ServedLemmas

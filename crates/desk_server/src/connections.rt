@@ -1,0 +1,101 @@
+//! Connections, and what they come from.
+
+ghost use Rattle.desk_server.specs.Served.{IsExchanged};
+
+use club_core::Reply;
+use club_http::{AnswerFault, Face, Inlet, Outlet, ReadInlet, Responder, WriteOutlet, answer};
+use club_values::Moment;
+use std::net::{TcpListener, TcpStream};
+
+/// A connection.
+pub trait Connection {
+    /// One exchange with the desk, at a moment.
+    ///
+    /// # Errors
+    ///
+    /// As `club_http::answer`.
+    fn exchange<D: Responder>(
+        &mut self,
+        face: &mut Face,
+        desk: &mut D,
+        moment: Moment,
+    ) -> Result<Reply, AnswerFault>
+        ensures { IsExchanged (D.answers moment) desk.old desk.new };
+}
+
+impl Connection for TcpStream {
+    fn exchange<D: Responder>(
+        &mut self,
+        face: &mut Face,
+        desk: &mut D,
+        moment: Moment,
+    ) -> Result<Reply, AnswerFault> {
+        let stream = &*self;
+        let mut reader = ReadInlet::new(stream);
+        let mut writer = WriteOutlet::new(stream);
+        exchange_over(face, desk, moment, &mut reader, &mut writer)
+    }
+}
+
+// One exchange, over any two ends.
+pub(crate) fn exchange_over<D: Responder, R: Inlet, W: Outlet>(
+    face: &mut Face,
+    desk: &mut D,
+    moment: Moment,
+    reader: &mut R,
+    writer: &mut W,
+) -> Result<Reply, AnswerFault>
+    ensures { IsExchanged (D.answers moment) desk.old desk.new }
+{
+    answer(face, desk, moment, reader, writer)
+}
+
+/// What connections come from.
+pub trait Connections {
+    type Connection: Connection + Drop;
+
+    ghost use Rattle.std.specs.Prelude.{ℕ};
+    ghost use Rattle.desk_server.specs.Served.{CountsOn};
+
+    // how many were waited for
+    ghost waited: { Self → ℕ };
+
+    /// Waits for the next one; `None` where it failed.
+    fn accept(&mut self) -> Option<Self::Connection>
+        ensures { CountsOn (waited self.old) 1 (waited self.new) };
+}
+
+/// The connections that a listener accepts.
+#[derive(Drop)]
+pub struct Listening<'a> {
+    listener: &'a TcpListener,
+    waited: u64,
+}
+
+impl<'a> Listening<'a> {
+    ghost use Rattle.std.specs.Prelude.{◌≡◌};
+
+    /// None was waited for yet.
+    pub fn new(listener: &'a TcpListener) -> Listening<'a>
+        ensures { result ≡ record { listener = listener.entry; waited = 0 } }
+    {
+        Listening {
+            listener,
+            waited: 0,
+        }
+    }
+}
+
+impl Connections for Listening<'_> {
+    type Connection = TcpStream;
+
+    ghost waited = { λ listening. listening.waited };
+
+    fn accept(&mut self) -> Option<TcpStream> {
+        self.waited = self.waited.saturating_add(1);
+        match self.listener.accept() {
+            Ok((stream, _)) => Some(stream),
+            Err(_) => None,
+        }
+    }
+}

@@ -1,0 +1,142 @@
+//! Connections, moments and a responder over memory.
+
+use crate::connections::exchange_over;
+use crate::{Connection, Connections, Moments};
+use club_core::{Refusal, Reply};
+use club_http::{AnswerFault, Face, Inlet, ReadInlet, Responder, WriteOutlet};
+use club_values::Moment;
+use club_words::Words;
+use std::io;
+
+/// What comes of waiting for a connection.
+#[derive(Clone, Copy, Drop)]
+pub enum Wire<'a> {
+    /// None: it failed before.
+    Absent,
+    /// One whose reader fails.
+    Broken,
+    /// One that sends these bytes, and then ends.
+    Whole(&'a [u8]),
+}
+
+/// Fails at each read.
+#[derive(Drop)]
+struct Failing {
+    failures: u64,
+}
+
+impl Inlet for Failing {
+    ghost use Rattle.std.specs.Prelude.{None};
+
+    ghost to_come = { λ _. None };
+
+    ghost failures = { λ reader. reader.failures };
+
+    fn fill(&mut self, _room: &mut [u8]) -> Option<usize> {
+        self.failures = self.failures.saturating_add(1);
+        None
+    }
+}
+
+impl Connection for Wire<'_> {
+    fn exchange<D: Responder>(
+        &mut self,
+        face: &mut Face,
+        desk: &mut D,
+        moment: Moment,
+    ) -> Result<Reply, AnswerFault> {
+        let mut writer = WriteOutlet::new(io::sink());
+        match self {
+            Wire::Whole(bytes) => {
+                let mut reader = ReadInlet::new(*bytes);
+                exchange_over(face, desk, moment, &mut reader, &mut writer)
+            }
+            _ => {
+                let mut reader = Failing { failures: 0 };
+                exchange_over(face, desk, moment, &mut reader, &mut writer)
+            }
+        }
+    }
+}
+
+/// Connections in turn.
+#[derive(Drop)]
+pub struct Script<'a> {
+    wires: &'a [Wire<'a>],
+    pub waited: u64,
+}
+
+impl<'a> Script<'a> {
+    pub fn new(wires: &'a [Wire<'a>]) -> Script<'a> {
+        Script { wires, waited: 0 }
+    }
+}
+
+impl<'a> Connections for Script<'a> {
+    type Connection = Wire<'a>;
+
+    ghost waited = { λ script. script.waited };
+
+    fn accept(&mut self) -> Option<Wire<'a>> {
+        let place = self.waited as usize;
+        self.waited = self.waited.saturating_add(1);
+        if place >= self.wires.len() {
+            return None;
+        }
+        match self.wires[place] {
+            Wire::Absent => None,
+            wire => Some(wire),
+        }
+    }
+}
+
+/// Tells a moment so many times, and then none.
+#[derive(Drop)]
+pub struct Countdown {
+    moment: Moment,
+    left: u32,
+}
+
+impl Countdown {
+    pub fn new(moment: Moment, left: u32) -> Countdown {
+        Countdown { moment, left }
+    }
+}
+
+impl Moments for Countdown {
+    ghost tells = { λ _ _ _. Unit {0} };
+
+    fn now(&mut self) -> Option<Moment> {
+        if self.left == 0 {
+            return None;
+        }
+        self.left -= 1;
+        Some(self.moment)
+    }
+}
+
+/// Refuses all requests for want of memory; counts them, and notes their moments.
+#[derive(Drop)]
+pub struct Noting {
+    pub asked: u64,
+    pub last: Option<Moment>,
+}
+
+impl Noting {
+    pub fn new() -> Noting {
+        Noting {
+            asked: 0,
+            last: None,
+        }
+    }
+}
+
+impl Responder for Noting {
+    ghost answers = { λ _ _ _ _ _ _. Unit {0} };
+
+    fn ask(&mut self, moment: Moment, _words: &Words<'_>) -> Reply {
+        self.asked = self.asked.saturating_add(1);
+        self.last = Some(moment);
+        Reply::Refused(Refusal::Unavailable)
+    }
+}

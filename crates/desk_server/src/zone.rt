@@ -1,0 +1,55 @@
+//! The zone of the club's clock.
+
+ghost use Rattle.std.specs.Prelude.{◌≡◌};
+ghost use Rattle.desk_server.specs.Zone.{IsShown, zone_of};
+
+use club_values::{Day, Moment};
+use jiff::Timestamp;
+use jiff::tz::TimeZone;
+use std::marker::Model;
+
+/// The minutes of an hour.
+const MINUTES_AN_HOUR: u16 = 60;
+
+/// A zone by the POSIX text of its rule, as `UTC0` or `CET-1CEST,M3.5.0,M10.5.0/3`. Contracts see
+/// it as that text.
+#[derive(Drop)]
+pub struct Zone<'a> {
+    rule: &'a str,
+    time_zone: TimeZone<'static>,
+}
+
+impl<'a> Model for Zone<'a> {
+    ghost use Rattle.std.specs.Prelude.{ℕ, List};
+    ghost use Rattle.jiff.specs.Placed.{IsPosixZone};
+    ghost use Rattle.jiff.specs.ZoneView.{plain_zone};
+
+    ghost Value = { List ℕ };
+
+    ghost view = { λ zone. zone.rule.now };
+
+    ghost invariant = { λ zone. IsPosixZone zone.rule.now (plain_zone zone.time_zone) };
+}
+
+impl<'a> Zone<'a> {
+    /// The zone of a rule; `None` where the text is none.
+    pub fn from_rule(rule: &'a str) -> Option<Zone<'a>>
+        ensures { result ≡ zone_of rule.entry.now }
+    {
+        match TimeZone::posix(rule) {
+            Ok(time_zone) => Some(Zone { rule, time_zone }),
+            Err(_) => None,
+        }
+    }
+
+    /// The minute that a clock in the zone shows at an instant; `None` where its year isn't 2000 to
+    /// 2099.
+    pub fn moment_at(&self, instant: Timestamp) -> Option<Moment>
+        ensures { IsShown self.now instant.nanosecond result }
+    {
+        let civil = self.time_zone.to_datetime(instant);
+        let day = Day::from_date(civil.date())?;
+        let minute = civil.hour() as u16 * MINUTES_AN_HOUR + civil.minute() as u16;
+        Moment::new(day, minute)
+    }
+}
