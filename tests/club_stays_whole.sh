@@ -131,7 +131,12 @@ kill_runs() {
     for milliseconds in $(seq 120); do
         cut="$1, killed after $milliseconds ms"
         begin
-        timeout -s KILL "$(printf '0.%03d' "$milliseconds")" "$walk" "$@" >out 2>fault || status=$?
+        "$walk" "$@" >out 2>fault &
+        walking=$!
+        sleep "$(printf '0.%03d' "$milliseconds")"
+        kill -KILL "$walking" 2>/dev/null || :
+        # Its locks are gone once it has ended.
+        wait "$walking" 2>/dev/null || status=$?
         if [ "$status" = 137 ]; then count=$((count + 1)); else ends killed 137; fi
         keeps_a_club
     done

@@ -47,9 +47,9 @@ ROWS
 cp club copied
 same 'what sqlite3 finds' "$(sql copied "PRAGMA integrity_check; PRAGMA foreign_key_check;
     SELECT * FROM desk; SELECT * FROM members; SELECT * FROM facilities; SELECT name, member, hex(root), revoked FROM keys;
-    SELECT * FROM slots; SELECT * FROM bookings")" <<'ROWS'
+    SELECT * FROM slots; SELECT * FROM bookings; SELECT * FROM old_roots")" <<'ROWS'
 ok
-1
+2
 amy|10000|5|901
 court-1|court|4|200|8|22
 room-1|room|1|601|8|22
@@ -109,6 +109,9 @@ members|name|TEXT|1
 members|credited|INTEGER|0
 members|quota|INTEGER|0
 members|used|INTEGER|0
+old_roots|pass_key|TEXT|1
+old_roots|root|BLOB|0
+old_roots|until|INTEGER|0
 slots|facility|TEXT|1
 slots|day|INTEGER|2
 slots|hour|INTEGER|3
@@ -121,6 +124,7 @@ same 'the references' "$(sql club "SELECT t.name, f.\"from\", f.\"table\", f.\"t
 bookings|facility|facilities|name
 bookings|pass_key|keys|name
 keys|member|members|name
+old_roots|pass_key|keys|name
 slots|facility|facilities|name
 ROWS
 
@@ -128,6 +132,7 @@ ROWS
 while read -r table column least most; do
     for value in "$least" "$most" $((least - 1)) $((most + 1)); do
         cp club limits
+        sql limits "INSERT INTO old_roots VALUES ('amy-1', zeroblob(16), 20000000)"
         wanted=0
         if [ "$value" -lt "$least" ] || [ "$value" -gt "$most" ]; then wanted=19; fi
         status=0
@@ -158,6 +163,7 @@ bookings guests 0 49
 bookings remains 0 49
 bookings charge 0 499950
 bookings refund 0 499950
+old_roots until 15778080 68374079
 LIMITS
 
 # What sqlite3 writes within the limits, store_walk reads, beside the log that it left.
@@ -203,10 +209,24 @@ ROWS
     same "$file, by sqlite3" "$(sql "$file" "PRAGMA integrity_check; SELECT * FROM desk;
         SELECT count(*) FROM members, facilities, keys, slots, bookings")" <<'ROWS'
 ok
-1
+2
 0
 ROWS
 done
+
+# A file of version 1 is migrated as it is opened: the rows are the same, and no key has an older root.
+cp club first
+sql first 'DROP TABLE old_roots; UPDATE desk SET version = 1'
+"$walk" show club >shown
+same 'a file of version 1' "$("$walk" show first)" <shown
+same 'a file of version 1, by sqlite3' "$(sql first 'PRAGMA integrity_check; SELECT * FROM desk; SELECT count(*) FROM old_roots')" <<'ROWS'
+ok
+2
+0
+ROWS
+same 'the schema of a migrated file' "$(sql first 'SELECT type, name, sql FROM sqlite_schema')" <<ROWS
+$(sql club 'SELECT type, name, sql FROM sqlite_schema')
+ROWS
 
 # refused WHAT WORD..: store_walk answers a fault of storage and leaves `bad` as it is. What it leaves beside it, a log with no
 # commit, doesn't change what sqlite3 reads.
@@ -235,7 +255,7 @@ cp bad notes
 "$walk" show notes >/dev/null
 same 'tables of others stay' "$(sql notes 'SELECT * FROM notes; SELECT * FROM desk')" <<'ROWS'
 a
-1
+2
 ROWS
 rm bad
 head -c 20000 club >bad
@@ -265,6 +285,13 @@ DROP TABLE facilities
 DROP TABLE keys
 DROP TABLE slots
 DROP TABLE bookings
+DROP TABLE old_roots
+UPDATE desk SET version = 1
+UPDATE desk SET version = 3
+ALTER TABLE old_roots RENAME COLUMN until TO till
+INSERT INTO old_roots VALUES ('amy-1', zeroblob(15), 20000000)
+INSERT INTO old_roots VALUES ('amy-1', zeroblob(16), 15778079)
+INSERT INTO old_roots VALUES ('bob-1', zeroblob(16), 20000000)
 ALTER TABLE members RENAME COLUMN quota TO most
 ALTER TABLE members RENAME COLUMN used TO spent
 ALTER TABLE facilities RENAME COLUMN price TO points
