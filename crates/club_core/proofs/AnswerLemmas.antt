@@ -16,7 +16,8 @@ use Rattle.club_rows.specs.Booking.{same_slot, refund_at}
 use Rattle.club_core.specs.Lines.{Line, first_of}
 use Rattle.club_core.specs.declared.form_fault.FormFault.{FormFault}
 use Rattle.club_core.specs.Pass.{Pass, is_signed_under}
-use Rattle.club_core.specs.Verdict.{refused, booked, booked_before, cancelled, new_booking, book_lines, cancel_lines, new_verdict, repeat_booking_verdict, cancel_recorded_verdict, shown_at, unknown_verdict, recorded_or, verdict_of}
+use Rattle.club_core.specs.Verdict.{refused, booked, booked_before, cancelled, new_booking, book_lines, cancel_lines, new_verdict, repeat_booking_verdict}
+use Rattle.club_core.specs.Verdict.{cancel_recorded_verdict, shown_at, unknown_verdict, recorded_or, verdict_of}
 use Rattle.club_core.specs.Answer.{answer_to, acceptance_lines, ask_of, after_caveats}
 use Rattle.club_core.specs.Laws.{KeepsWhereRefused}
 
@@ -32,17 +33,21 @@ keeps_first : (lines : List (Line Verdict)) (last : Verdict) → EachLine lines 
 keeps_first [] last h k = k
 keeps_first (l ∷ lines) last h k = keep l.fits l.answer (first_of lines last) h.0 (keeps_first lines last h.1 k)
 
-keeps_new : (view : View) (slot : Slot) (number guests moment : ℕ) (facility : Option Facility) → KeepsWhereRefused (new_verdict view slot number guests moment facility)
+keeps_new : (view : View) (slot : Slot) (number guests moment : ℕ) (facility : Option Facility) →
+    KeepsWhereRefused (new_verdict view slot number guests moment facility)
 keeps_new view slot number guests moment None = record { kept = λ r e. refl }
 keeps_new view slot number guests moment (Some facility) =
     let last = booked (new_booking view slot number guests facility) in
-    keeps_first (book_lines view slot guests moment facility) last
-    (record { kept = λ r e. refl }, (record { kept = λ r e. refl }, (record { kept = λ r e. refl }, (record { kept = λ r e. refl }, (record { kept = λ r e. refl }, tt)))))
+    keeps_first (book_lines view slot guests moment facility) last (
+      record { kept = λ r e. refl },
+      (record { kept = λ r e. refl }, (record { kept = λ r e. refl }, (record { kept = λ r e. refl }, (record { kept = λ r e. refl }, tt)))),
+    )
     (record { kept = λ r e. cc })
 
 keeps_repeat : (booking : Booking) (slot : Slot) (guests : ℕ) → KeepsWhereRefused (repeat_booking_verdict booking slot guests)
 keeps_repeat booking slot guests =
-    keep (same_slot booking.slot slot && booking.guests == guests) (booked_before booking) (refused NumberUsed) (record { kept = λ r e. refl }) (record { kept = λ r e. refl })
+    keep (same_slot booking.slot slot && booking.guests == guests) (booked_before booking) (refused NumberUsed) (record { kept = λ r e. refl })
+    (record { kept = λ r e. refl })
 
 keeps_cancel : (booking : Booking) (slot : Slot) (moment : ℕ) → KeepsWhereRefused (cancel_recorded_verdict booking slot moment)
 keeps_cancel booking slot moment =
@@ -58,16 +63,19 @@ keeps_shown : (view : View) (slot : Slot) (facility : Option Facility) → Keeps
 keeps_shown view slot None = record { kept = λ r e. refl }
 keeps_shown view slot (Some facility) = record { kept = λ r e. refl }
 
-keeps_recorded : (booking : Option Booking) (f : Booking → Verdict) (other : Verdict) → ((b : Booking) → KeepsWhereRefused (f b)) → KeepsWhereRefused other → KeepsWhereRefused (recorded_or booking f other)
+keeps_recorded : (booking : Option Booking) (f : Booking → Verdict) (other : Verdict) → ((b : Booking) → KeepsWhereRefused (f b)) → KeepsWhereRefused other →
+    KeepsWhereRefused (recorded_or booking f other)
 keeps_recorded None f other h k = k
 keeps_recorded (Some booking) f other h k = h booking
 
 keeps_verdict : (view : View) (request : Request) (moment : ℕ) → KeepsWhereRefused (verdict_of view request moment)
 keeps_verdict view (asked.View slot) moment = keeps_shown view slot view.facility
 keeps_verdict view (asked.Book slot number guests) moment =
-    keeps_recorded view.booking (λ b. repeat_booking_verdict b slot guests) (new_verdict view slot number guests moment view.facility) (λ b. keeps_repeat b slot guests) (keeps_new view slot number guests moment view.facility)
+    keeps_recorded view.booking (λ b. repeat_booking_verdict b slot guests) (new_verdict view slot number guests moment view.facility)
+    (λ b. keeps_repeat b slot guests) (keeps_new view slot number guests moment view.facility)
 keeps_verdict view (asked.Cancel slot number) moment =
-    keeps_recorded view.booking (λ b. cancel_recorded_verdict b slot moment) (unknown_verdict view.facility) (λ b. keeps_cancel b slot moment) (keeps_unknown view.facility)
+    keeps_recorded view.booking (λ b. cancel_recorded_verdict b slot moment) (unknown_verdict view.facility) (λ b. keeps_cancel b slot moment)
+    (keeps_unknown view.facility)
 keeps_verdict view asked.Account moment = record { kept = λ r e. refl }
 
 keeps_after_caveats : (fault : Option CaveatFault) (verdict : Verdict) → KeepsWhereRefused verdict → KeepsWhereRefused (after_caveats fault verdict)

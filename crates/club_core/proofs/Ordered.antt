@@ -38,7 +38,8 @@ module _ {X : Type 0} (R : X → X → Type 0) (asymmetric : Asymmetric R) where
         ]
       ]
 
-  tails : (x y : X) (xs ys : List X) → x ≡ y → AllPairs R (x ∷ xs) → ((z : X) → Contains (x ∷ xs) z → Contains (y ∷ ys) z) → (z : X) → Contains xs z → Contains ys z
+  tails : (x y : X) (xs ys : List X) → x ≡ y → AllPairs R (x ∷ xs) → ((z : X) → Contains (x ∷ xs) z → Contains (y ∷ ys) z) → (z : X) → Contains xs z →
+      Contains ys z
   tails x y xs ys same p to z h =
       elim (Contains-cons_cases y ys z (to z (Contains-there x xs z h))) [
         | inl e ↦
@@ -49,7 +50,8 @@ module _ {X : Type 0} (R : X → X → Type 0) (asymmetric : Asymmetric R) where
       ]
 
   -- two lists in this order with the same elements
-  pub one_order : (xs ys : List X) → AllPairs R xs → AllPairs R ys → ((z : X) → Contains xs z → Contains ys z) → ((z : X) → Contains ys z → Contains xs z) → xs ≡ ys
+  pub one_order : (xs ys : List X) → AllPairs R xs → AllPairs R ys → ((z : X) → Contains xs z → Contains ys z) → ((z : X) → Contains ys z → Contains xs z) →
+      xs ≡ ys
   one_order [] [] p q to back = refl
   one_order [] (y ∷ ys) p q to back = let h = back y (Contains-here y ys) in absurd (omega (arith, h.1))
   one_order (x ∷ xs) [] p q to back = let h = to x (Contains-here x xs) in absurd (omega (arith, h.1))

@@ -63,7 +63,8 @@ less_total m n = elim (cases_order m n) [ inl same ↦ inr (inl same) | inr othe
 before_transitive : (a b c : List ℕ) → IsBefore a b → IsBefore b c → IsBefore a c
 before_transitive a b c h k = nat_list_cmp_total.trans a b c h k
 
-lexicographic_total : {K : Type 0} (R : K → K → Type 0) → Total R → (x y : K) (P S Q : Type 0) → (x ≡ y → P ⊎ (S ⊎ Q)) → (R x y ⊎ ((x ≡ y) × P)) ⊎ (((x ≡ y) × S) ⊎ (R y x ⊎ ((y ≡ x) × Q)))
+lexicographic_total : {K : Type 0} (R : K → K → Type 0) → Total R → (x y : K) (P S Q : Type 0) → (x ≡ y → P ⊎ (S ⊎ Q)) →
+    (R x y ⊎ ((x ≡ y) × P)) ⊎ (((x ≡ y) × S) ⊎ (R y x ⊎ ((y ≡ x) × Q)))
 lexicographic_total R total x y P S Q f =
     elim (total x y) [
       | inl below ↦ inl (inl below)
@@ -76,7 +77,8 @@ lexicographic_total R total x y P S Q f =
       ]
     ]
 
-lexicographic_transitive : {K : Type 0} (R : K → K → Type 0) → ((x y z : K) → R x y → R y z → R x z) → (x y z : K) (P Q S : Type 0) → (P → Q → S) → R x y ⊎ ((x ≡ y) × P) → R y z ⊎ ((y ≡ z) × Q) → R x z ⊎ ((x ≡ z) × S)
+lexicographic_transitive : {K : Type 0} (R : K → K → Type 0) → ((x y z : K) → R x y → R y z → R x z) → (x y z : K) (P Q S : Type 0) → (P → Q → S) →
+    R x y ⊎ ((x ≡ y) × P) → R y z ⊎ ((y ≡ z) × Q) → R x z ⊎ ((x ≡ z) × S)
 lexicographic_transitive R trans x y z P Q S f (inl r) (inl s) = inl (trans x y z r s)
 lexicographic_transitive R trans x y z P Q S f (inl r) (inr s) = inl (subst (λ v. R x v) s.0 r)
 lexicographic_transitive R trans x y z P Q S f (inr r) (inl s) = inl (subst (λ v. R v z) (sym r.0) s)
@@ -104,5 +106,7 @@ pub day_rows : (club : Club) → IsSound club → (day : ℕ) → (rows : List B
 unfolding Same
 day_rows club sound day =
     let named = AllPairs-filter (λ (a : Booking) (b : Booking). ¬ ((a.key ≡ b.key) × (a.number ≡ b.number))) (is_on day) club.bookings sound.unique.bookings in
-    let made = ordering Precedes Same precedes_transitive precedes_total (filter (is_on day) club.bookings) (λ i j d lt h same. named i j d lt h (same.1.1.0, same.1.1.1)) in
+    let made =
+    ordering Precedes Same precedes_transitive precedes_total (filter (is_on day) club.bookings)
+    (λ i j d lt h same. named i j d lt h (same.1.1.0, same.1.1.1)) in
     (made.0, record { same = made.1.same; sorted = made.1.sorted })

@@ -51,29 +51,35 @@ styled_text-left text h =
     let count = char_count-name text h.letters in
     rw (whole, count) (ap (λ rest. text ++ rest) (spaces (24 - length text - 0) (24 - length text) (omega arith)))
 
-pub padded_integral-right : (places : ℕ) (numeral : List ℕ) → padded_integral (format_spec 32 3 0 places (2 ^ 64 - 1)) false [] numeral ≡ right_in places numeral
+pub padded_integral-right : (places : ℕ) (numeral : List ℕ) →
+    padded_integral (format_spec 32 3 0 places (2 ^ 64 - 1)) false [] numeral ≡ right_in places numeral
 unfolding padded_integral char_count encode
 padded_integral-right places numeral =
     let room = places - length numeral in
     let laid : List ℕ → List ℕ → List ℕ = λ before behind. (((before ++ []) ++ []) ++ []) ++ (numeral ++ behind) in
-    let e : padded_integral (format_spec 32 3 0 places (2 ^ 64 - 1)) false [] numeral ≡ laid (repeat (room - 0 - 0) (32 ∷ [])) (repeat (room - 0 - 0 - (room - 0 - 0)) (32 ∷ [])) = refl in
+    let e : padded_integral (format_spec 32 3 0 places (2 ^ 64 - 1)) false [] numeral ≡ laid (repeat (room - 0 - 0) (32 ∷ []))
+    (repeat (room - 0 - 0 - (room - 0 - 0)) (32 ∷ [])) = refl in
     let before = ap (λ front. laid front (repeat (room - 0 - 0 - (room - 0 - 0)) (32 ∷ []))) (spaces (room - 0 - 0) room (omega arith)) in
     let behind = ap (laid (replicate room 32)) (spaces (room - 0 - 0 - (room - 0 - 0)) 0 (omega arith)) in
     e ∙ before ∙ behind ∙ simp append-nil
 
 -- the options are some that equal these
-pub left-of : (options : _) (text name : List ℕ) → options ≡ format_spec 32 1 0 24 (2 ^ 64 - 1) → text ≡ name → IsName text → styled_text options text ≡ left_in 24 name
+pub left-of : (options : _) (text name : List ℕ) → options ≡ format_spec 32 1 0 24 (2 ^ 64 - 1) → text ≡ name → IsName text →
+    styled_text options text ≡ left_in 24 name
 left-of options text name e same h = ap (λ s. styled_text s text) e ∙ styled_text-left text h ∙ ap (left_in 24) same
 
-pub right-of : (places : ℕ) (options : _) (n m : ℕ) → options ≡ format_spec 32 3 0 places (2 ^ 64 - 1) → n ≡ m → 0 < places → styled_decimal options n ≡ right_in places (decimal m)
+pub right-of : (places : ℕ) (options : _) (n m : ℕ) → options ≡ format_spec 32 3 0 places (2 ^ 64 - 1) → n ≡ m → 0 < places →
+    styled_decimal options n ≡ right_in places (decimal m)
 right-of places options n m e same h =
-    let wide : styled_decimal (format_spec 32 3 0 places (2 ^ 64 - 1)) n ≡ padded_integral (format_spec 32 3 0 places (2 ^ 64 - 1)) false [] (decimal n) = rw (not_zero places h) refl in
+    let wide : styled_decimal (format_spec 32 3 0 places (2 ^ 64 - 1)) n ≡ padded_integral (format_spec 32 3 0 places (2 ^ 64 - 1)) false [] (decimal n) =
+    rw (not_zero places h) refl in
     ap (λ s. styled_decimal s n) e ∙ wide ∙ padded_integral-right places (decimal n) ∙ ap (λ k. right_in places (decimal k)) same
 
 -- what `{} {}:00 {} {} {} {}` and a line feed write of these pieces
 unfoldable pub laid_text : List ℕ → ℕ → List ℕ → List ℕ → List ℕ → List ℕ → List ℕ
 laid_text facility hour key number persons charge =
-    facility ++ (codes " " ++ (two_digits hour ++ (codes ":00 " ++ (key ++ (codes " " ++ (number ++ (codes " " ++ (persons ++ (codes " " ++ (charge ++ 10 ∷ []))))))))))
+    facility ++ (codes " " ++ (two_digits hour ++
+    (codes ":00 " ++ (key ++ (codes " " ++ (number ++ (codes " " ++ (persons ++ (codes " " ++ (charge ++ 10 ∷ []))))))))))
 
 pub laid_text-row_text : (row : Booking) (facility key number persons charge : List ℕ) → facility ≡ left_in 24 row.slot.facility → key ≡ left_in 24 row.key
     → number ≡ right_in 9 (decimal row.number) → persons ≡ right_in 2 (decimal (row.guests + 1)) → charge ≡ right_in 6 (decimal row.charge)
@@ -86,7 +92,8 @@ unfoldable pub laid_totals : ℕ → ℕ → ℕ → List ℕ
 laid_totals count persons charge =
     codes "Total bookings " ++ (decimal count ++ (codes ", persons " ++ (decimal persons ++ (codes ", charge " ++ (decimal charge ++ 10 ∷ [])))))
 
-pub laid_totals-totals_text : (rows : List Booking) (persons charge : ℕ) → ¬ (length rows ≡ 0) → persons ≡ sum_by persons_of rows → charge ≡ sum_by (λ (b : Booking). b.charge) rows
+pub laid_totals-totals_text : (rows : List Booking) (persons charge : ℕ) → ¬ (length rows ≡ 0) → persons ≡ sum_by persons_of rows →
+    charge ≡ sum_by (λ (b : Booking). b.charge) rows
     → laid_totals (length rows) persons charge ≡ totals_text rows
 unfolding laid_totals
 laid_totals-totals_text [] persons charge some p c = absurd (some refl)

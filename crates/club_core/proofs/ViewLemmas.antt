@@ -1,5 +1,6 @@
 -- The view of a key: what is decided by it, and where its sums come from.
-use Rattle.std.proofs.Common.{◌≡◌, ℕ, zero, suc, ◌<◌, Bool, true, false, List, [], ◌∷◌, length, get_or, Option, Some, None, Ok, Err, refl, sym, ap, subst, arith}
+use Rattle.std.proofs.Common.{◌≡◌, ℕ, zero, suc, ◌<◌, Bool, true, false, List, [], ◌∷◌, length, get_or, Option, Some, None, Ok, Err, refl, sym, ap, subst}
+use Rattle.std.proofs.Common.{arith}
 use Rattle.std.specs.Prelude.{Result, ◌&&◌, ◌==◌, ◌||◌, filter, find, sum_by, Contains, option_map, option_and_then}
 use Rattle.std.specs.List.{list_any}
 use Rattle.std.specs.Str.{bytes_eq}
@@ -18,13 +19,17 @@ use Rattle.club_core.specs.Sums.{cost_of, is_under}
 -- ---- decisions
 
 by_name : (club : Club) (pass : Pass) (request : Request) (moment : ℕ) (name : Option (List ℕ))
-    → answer_to (Ok pass) request moment (option_map (λ (b : Basis). view_of b request moment) (option_and_then (basis_under club request) (option_and_then (λ (n : List ℕ). key_named n club) name)))
+    → answer_to (Ok pass) request moment
+    (option_map (λ (b : Basis). view_of b request moment)
+    (option_and_then (basis_under club request) (option_and_then (λ (n : List ℕ). key_named n club) name)))
     ≡ answer_to (Ok pass) request moment (option_and_then (λ (n : List ℕ). view_in club n request moment) name)
 by_name club pass request moment None = refl
 by_name club pass request moment (Some name) = refl
 
 pub views_decide : (club : Club) (pass : Result Pass FormFault) (request : Request) (moment : ℕ)
-    → answer_to pass request moment (option_map (λ (b : Basis). view_of b request moment) (option_and_then (basis_under club request) (option_and_then (λ (n : List ℕ). key_named n club) (key_of pass))))
+    → answer_to pass request moment
+    (option_map (λ (b : Basis). view_of b request moment)
+    (option_and_then (basis_under club request) (option_and_then (λ (n : List ℕ). key_named n club) (key_of pass))))
     ≡ answer_to pass request moment (option_and_then (λ (n : List ℕ). view_in club n request moment) (key_of pass))
 views_decide club (Err fault) request moment = refl
 views_decide club (Ok pass) request moment = by_name club pass request moment pass.key
@@ -45,7 +50,8 @@ filter_step strict wide b bookings false true es ew h rest = rw (ew, es) rest
 filter_step strict wide b bookings false false es ew h rest = rw (ew, es) rest
 
 -- a test that keeps all that a stricter one finds may come first
-filter_twice : (strict wide : Booking → Bool) (bookings : List Booking) → ((b : Booking) → strict b ≡ true → wide b ≡ true) → filter strict (filter wide bookings) ≡ filter strict bookings
+filter_twice : (strict wide : Booking → Bool) (bookings : List Booking) → ((b : Booking) → strict b ≡ true → wide b ≡ true) →
+    filter strict (filter wide bookings) ≡ filter strict bookings
 filter_twice strict wide [] h = refl
 filter_twice strict wide (b ∷ bookings) h = filter_step strict wide b bookings (strict b) (wide b) refl refl (h b) (filter_twice strict wide bookings h)
 
@@ -56,7 +62,8 @@ find_step strict wide b bookings true false es ew h rest = let e = h refl in cc
 find_step strict wide b bookings false true es ew h rest = rw (ew, es) rest
 find_step strict wide b bookings false false es ew h rest = rw (ew, es) rest
 
-find_twice : (strict wide : Booking → Bool) (bookings : List Booking) → ((b : Booking) → strict b ≡ true → wide b ≡ true) → find strict (filter wide bookings) ≡ find strict bookings
+find_twice : (strict wide : Booking → Bool) (bookings : List Booking) → ((b : Booking) → strict b ≡ true → wide b ≡ true) →
+    find strict (filter wide bookings) ≡ find strict bookings
 find_twice strict wide [] h = refl
 find_twice strict wide (b ∷ bookings) h = find_step strict wide b bookings (strict b) (wide b) refl refl (h b) (find_twice strict wide bookings h)
 
@@ -76,7 +83,8 @@ first_among : (keys : List Key) (key : Key) → is_name_of (key ∷ keys) key.me
 unfolding is_name_of
 first_among keys key = rw (itself key.member, itself key.name) refl
 
-among_step : (k : Key) (keys : List Key) (member name : List ℕ) (own : Bool) → bytes_eq k.member member ≡ own → is_name_of keys member name ≡ true → is_name_of (k ∷ keys) member name ≡ true
+among_step : (k : Key) (keys : List Key) (member name : List ℕ) (own : Bool) → bytes_eq k.member member ≡ own → is_name_of keys member name ≡ true →
+    is_name_of (k ∷ keys) member name ≡ true
 unfolding is_name_of
 among_step k keys member name true e rest = rw (e, rest) (or_true (bytes_eq k.name name))
 among_step k keys member name false e rest = rw e rest
@@ -94,5 +102,7 @@ own_key club key here b under =
 pub own_bookings : (club : Club) (key : Key) → Contains club.keys key → HasOwnBookings club key
 own_bookings club key here = record {
   spent = ap (sum_by cost_of) (filter_twice (is_under key.name) (λ b. is_key_of key.member club b.key) club.bookings (own_key club key here));
-  booked = λ number. find_twice (λ b. is_under key.name b && b.number == number) (λ b. is_key_of key.member club b.key) club.bookings (λ b both. own_key club key here b (and_left (is_under key.name b) (b.number == number) both));
+  booked =
+      λ number. find_twice (λ b. is_under key.name b && b.number == number) (λ b. is_key_of key.member club b.key) club.bookings
+      (λ b both. own_key club key here b (and_left (is_under key.name b) (b.number == number) both));
 }

@@ -13,7 +13,8 @@ use Rattle.club_core.specs.declared.form_fault.FormFault.TheVariants.{TooLong, M
 use Rattle.club_core.specs.declared.view.View.{View}
 use Rattle.club_core.specs.declared.verdict.Verdict.{Verdict}
 use Rattle.club_core.specs.declared.refusal.Refusal.{Refusal}
-use Rattle.club_core.specs.declared.refusal.Refusal.TheVariants.{PassTooLong, PassMalformed, ThirdPartyCaveat, TooManyCaveats, NotVerified, KeyRevoked, CaveatNotUnderstood, CaveatDenies}
+use Rattle.club_core.specs.declared.refusal.Refusal.TheVariants.{PassTooLong, PassMalformed, ThirdPartyCaveat, TooManyCaveats, NotVerified, KeyRevoked}
+use Rattle.club_core.specs.declared.refusal.Refusal.TheVariants.{CaveatNotUnderstood, CaveatDenies}
 use Rattle.club_core.specs.declared.request.Request.{Request}
 use Rattle.club_core.specs.declared.request.Request.TheVariants as asked
 use Rattle.club_core.specs.Lines.{Line, line, first_of}

@@ -1,7 +1,10 @@
 -- How a refusal is told: its number, its HTTP status (RFC 9110, section 15) and its text (ours).
 use Rattle.std.specs.Prelude.{ℕ, List, codes, Option, Some, None}
 use Rattle.club_core.specs.declared.refusal.Refusal.{Refusal}
-use Rattle.club_core.specs.declared.refusal.Refusal.TheVariants.{BadRequest, NoSuchPath, MethodNotAllowed, NoPass, PassTooLong, PassMalformed, ThirdPartyCaveat, TooManyCaveats, NotVerified, KeyRevoked, CaveatNotUnderstood, CaveatDenies, NumberUsed, NoSuchFacility, NoSuchBooking, NotBookable, SlotClosed, NoPlaces, QuotaReached, BalanceTooLow, SlotHasBegun, Unavailable}
+use Rattle.club_core.specs.declared.refusal.Refusal.TheVariants.{BadRequest, NoSuchPath, MethodNotAllowed, NoPass, PassTooLong, PassMalformed, ThirdPartyCaveat}
+use Rattle.club_core.specs.declared.refusal.Refusal.TheVariants.{TooManyCaveats, NotVerified, KeyRevoked, CaveatNotUnderstood, CaveatDenies, NumberUsed}
+use Rattle.club_core.specs.declared.refusal.Refusal.TheVariants.{NoSuchFacility, NoSuchBooking, NotBookable, SlotClosed, NoPlaces, QuotaReached, BalanceTooLow}
+use Rattle.club_core.specs.declared.refusal.Refusal.TheVariants.{SlotHasBegun, Unavailable}
 
 -- the number of the fault, the status of the reply, the text
 pub record Telling : Type 0 where

@@ -21,10 +21,10 @@ use crate::request::Request;
 use crate::verdict::Verdict;
 use crate::view::View;
 use club_rows::{Booking, BookingNumber, Facility, Guests};
-use pass_caveats::{Moment, Slot};
+use pass_caveats::{MINUTES_A_DAY, Moment, Slot};
 
-/// How far ahead a slot may begin, in minutes.
-const BOOKING_WINDOW: u64 = 86_400;
+/// How far ahead a slot may begin, in minutes: 60 days.
+const BOOKING_WINDOW: u64 = 60 * MINUTES_A_DAY as u64;
 
 /// Whether a slot of the facility can be booked at a moment.
 fn is_bookable(facility: &Facility, slot: &Slot, moment: Moment) -> bool

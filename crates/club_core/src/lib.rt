@@ -45,14 +45,3 @@ pub use store::{ClubStore, StoreFault};
 pub use verdict::Verdict;
 pub use view::View;
 pub use words::{Pass, Words};
-
-#[cfg(test)]
-mod answer_tests;
-#[cfg(test)]
-mod fixture;
-#[cfg(test)]
-mod order_tests;
-#[cfg(test)]
-mod rotation_tests;
-#[cfg(test)]
-mod tests;

@@ -28,7 +28,8 @@ pub fn sheet_text(alloc: Global, day: Day, rows: &[Booking]) -> Result<String, A
 }
 
 fn push_rows(text: &mut String, rows: &[Booking]) -> Result<(), AllocError>
-    ensures { OnOk result (string_bytes text.new ≡ string_bytes text.old ++ flat_map spec.row_text rows.now) }
+    ensures { OnOk result
+        (string_bytes text.new ≡ string_bytes text.old ++ flat_map spec.row_text rows.now) }
 {
     for row in rows {
         push_row(text, row)?;
@@ -51,7 +52,8 @@ fn push_row(text: &mut String, row: &Booking) -> Result<(), AllocError>
 }
 
 fn push_totals(text: &mut String, rows: &[Booking]) -> Result<(), AllocError>
-    ensures { OnOk result (string_bytes text.new ≡ string_bytes text.old ++ spec.totals_text rows.now) }
+    ensures { OnOk result
+        (string_bytes text.new ≡ string_bytes text.old ++ spec.totals_text rows.now) }
 {
     if rows.is_empty() {
         return writeln!(text, "No bookings.");

@@ -81,7 +81,8 @@ impl Words {
     /// where no such key is known.
     pub fn answer(&self, view: Option<&View>, moment: Moment) -> Verdict
         ensures { result
-            ≡ answer_to (words_of self.now).pass self.now.request moment (option_copied view.entry) }
+            ≡ answer_to (words_of self.now).pass self.now.request moment
+            (option_copied view.entry) }
     {
         match &self.pass {
             Err(fault) => Verdict::refused(fault.refusal()),

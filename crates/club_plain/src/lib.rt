@@ -12,8 +12,3 @@ mod sums;
 mod views;
 
 pub use club::Club;
-
-#[cfg(test)]
-mod rotation_tests;
-#[cfg(test)]
-mod tests;

@@ -7,6 +7,3 @@ mod line;
 mod reply;
 
 pub use reply::{MAX_REPLY_LEN, reply_bytes};
-
-#[cfg(test)]
-mod tests;

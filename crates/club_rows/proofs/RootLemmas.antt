@@ -20,6 +20,7 @@ HoldsRoot-inside_of root h =
     }
 
 -- a root at the front of 64 zero bytes
-pub HoldsRoot-front : (root front : List ℕ) → IsRoot root → front ≡ root → HoldsRoot (record { bytes = front ++ drop (length root) (replicate 64 0); len = length root })
+pub HoldsRoot-front : (root front : List ℕ) → IsRoot root → front ≡ root → HoldsRoot
+    (record { bytes = front ++ drop (length root) (replicate 64 0); len = length root })
 HoldsRoot-front root front h e =
     rw (e, drop-replicate {X = ℕ} (length root) 64 0) (HoldsRoot-inside_of root h)

@@ -1,6 +1,7 @@
 -- What a facility charges, and when it can be booked (ours).
 use Rattle.std.specs.Prelude.{ℕ, ◌+◌, ◌*◌, ◌&&◌, Bool, nat_lt, nat_le}
 use Rattle.club_values.specs.declared.slot.Slot.{Slot}
+use Rattle.club_values.specs.Moment.{minutes_a_day}
 use Rattle.club_values.specs.Slot.{start_of}
 use Rattle.club_rows.specs.declared.facility.Facility.{Facility}
 
@@ -11,7 +12,11 @@ charge_of facility guests = facility.price * (guests + 1)
 abbrev pub is_open_at : Facility → ℕ → Bool
 is_open_at facility hour = nat_le facility.opens hour && nat_lt hour facility.shuts
 
--- the hour is within opening, and the slot begins later than the moment, by 60 days at most
+-- how far ahead a slot may begin, in minutes: 60 days
+abbrev pub booking_window : ℕ
+booking_window = 60 * minutes_a_day
+
+-- the hour is within opening, and the slot begins later than the moment, by the window at most
 abbrev pub is_bookable : Facility → Slot → ℕ → Bool
 is_bookable facility slot moment =
-    is_open_at facility slot.hour && nat_lt moment (start_of slot) && nat_le (start_of slot) (moment + 86_400)
+    is_open_at facility slot.hour && nat_lt moment (start_of slot) && nat_le (start_of slot) (moment + booking_window)

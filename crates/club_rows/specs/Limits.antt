@@ -1,5 +1,7 @@
 -- The limits of the values that stand alone (ours).
-use Rattle.std.specs.Prelude.{ℕ, ◌≤◌, List, length}
+use Rattle.std.specs.Prelude.{ℕ, ◌-◌, ◌*◌, ◌≤◌, List, length}
+use Rattle.club_values.specs.Hour.{hours_a_day}
+use Rattle.club_values.specs.Slot.{guests_limit}
 
 -- the points that a member is ever credited, and the bookings that a member may have open
 abbrev pub credited_limit : ℕ
@@ -16,21 +18,31 @@ abbrev pub price_limit : ℕ
 price_limit = 9_999
 
 abbrev pub shutting_limit : ℕ
-shutting_limit = 24
+shutting_limit = hours_a_day
 
--- the charge of 50 persons at the highest price, and the places that a booking of one person leaves of 50
+-- the charge of all places at the highest price, and the places that a booking of one person leaves of them
 abbrev pub charge_limit : ℕ
-charge_limit = 499_950
+charge_limit = places_limit * price_limit
 
 abbrev pub left_limit : ℕ
-left_limit = 49
+left_limit = places_limit - 1
+
+-- the greatest number of a booking
+abbrev pub booking_number_limit : ℕ
+booking_number_limit = 999_999_999
 
 abbrev pub IsBookingNumber : ℕ → Type 0
-IsBookingNumber n = (1 ≤ n) × (n ≤ 999_999_999)
+IsBookingNumber n = (1 ≤ n) × (n ≤ booking_number_limit)
 
 abbrev pub IsGuests : ℕ → Type 0
-IsGuests n = n ≤ 49
+IsGuests n = n ≤ guests_limit
 
--- a root has 16 to 64 bytes
+-- the fewest and the most bytes of a root
+abbrev pub min_root_len : ℕ
+min_root_len = 16
+
+abbrev pub max_root_len : ℕ
+max_root_len = 64
+
 abbrev pub IsRoot : List ℕ → Type 0
-IsRoot bytes = (16 ≤ length bytes) × (length bytes ≤ 64)
+IsRoot bytes = (min_root_len ≤ length bytes) × (length bytes ≤ max_root_len)

@@ -1,8 +1,8 @@
--- How a root lies in its 64 bytes.
+-- How a root lies in its room.
 use Rattle.std.specs.Prelude.{◌≡◌, ℕ, ◌-◌, ◌≤◌, List, ◌++◌, length, take, replicate}
 use Rattle.std.proofs.Common.{sym, ap, ◌∙◌}
 use Rattle.std.proofs.lemmas.List.{length-take-le}
-use Rattle.club_rows.specs.Limits.{IsRoot}
+use Rattle.club_rows.specs.Limits.{IsRoot, max_root_len}
 use Rattle.club_rows.specs.declared.root.Root.TheInside.{Inside}
 
 abbrev pub bytes_of : Inside → List ℕ
@@ -10,7 +10,7 @@ bytes_of a = take a.len a.bytes
 
 -- the bytes behind the root are zero
 abbrev pub padded : List ℕ → List ℕ
-padded root = root ++ replicate (64 - length root) 0
+padded root = root ++ replicate (max_root_len - length root) 0
 
 abbrev pub inside_of : List ℕ → Inside
 inside_of root = record { bytes = padded root; len = length root }

@@ -10,7 +10,8 @@ use Rattle.club_rows.specs.declared.facility.Facility.{Facility}
 use Rattle.club_rows.specs.declared.key.Key.{Key}
 use Rattle.club_rows.specs.declared.key.OlderRoot.{OlderRoot}
 use Rattle.club_rows.specs.declared.booking.Booking.{Booking}
-use Rattle.club_rows.specs.Limits.{credited_limit, quota_limit, places_limit, price_limit, shutting_limit, charge_limit, left_limit, IsBookingNumber, IsGuests, IsRoot}
+use Rattle.club_rows.specs.Limits.{credited_limit, quota_limit, places_limit, price_limit, shutting_limit, charge_limit, left_limit, IsBookingNumber, IsGuests}
+use Rattle.club_rows.specs.Limits.{IsRoot}
 
 pub record IsMember (member : Member) : Type 0 where
   pub name : IsName member.name

@@ -3,17 +3,18 @@ ghost use Rattle.club_values.specs.Reading.{Reads};
 
 use crate::booking_number::BookingNumber;
 use crate::columns::{booking_number_of, guests_of, number_within, paid_of, slot_from_columns};
+use crate::facility::{MAX_PLACES, MAX_PRICE};
 use crate::guests::Guests;
-use club_values::{Moment, Name, Slot};
+use club_values::{MINUTES_A_DAY, Moment, Name, Slot};
 
-/// The most points that a booking is charged: 50 persons at the highest price.
-pub const MAX_CHARGE: u32 = 499_950;
+/// The most points that a booking is charged: those of all places at the highest price.
+pub const MAX_CHARGE: u32 = MAX_PLACES * MAX_PRICE;
 
-/// The most places that a booking leaves in its slot.
-const MAX_LEFT: u32 = 49;
+/// The most places that a booking leaves in its slot: those of a booking of one person.
+const MAX_LEFT: u32 = MAX_PLACES - 1;
 
 /// How long before a slot begins all points come back, in minutes: a day.
-const FULL_REFUND_MINUTES: u64 = 1_440;
+const FULL_REFUND_MINUTES: u64 = MINUTES_A_DAY as u64;
 
 /// A booking of a slot. A booking that was cancelled keeps its row.
 #[derive(Clone, Copy, Debug, PartialEq, Eq)]

@@ -3,7 +3,7 @@ ghost use Rattle.club_values.specs.Reading.{Reads};
 
 use crate::columns::number_within;
 use crate::guests::Guests;
-use club_values::{Hour, Kind, Name};
+use club_values::{HOURS_A_DAY, Hour, Kind, Name};
 
 /// The most persons that a slot of a facility has room for.
 pub const MAX_PLACES: u32 = 50;
@@ -12,7 +12,7 @@ pub const MAX_PLACES: u32 = 50;
 pub const MAX_PRICE: u32 = 9_999;
 
 /// The latest hour at which a facility shuts: the end of the day.
-pub const LAST_HOUR: u32 = 24;
+pub const LAST_HOUR: u32 = HOURS_A_DAY as u32;
 
 /// A facility of the club.
 #[derive(Clone, Copy, Debug, PartialEq, Eq)]

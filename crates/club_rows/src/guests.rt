@@ -1,10 +1,8 @@
 ghost use Rattle.std.specs.Prelude.{◌≡◌, ◌+◌, ◌↔◌, IsSome, IfSome};
 ghost use Rattle.club_rows.specs.Limits.{IsGuests};
 
+use club_values::MAX_GUESTS;
 use std::marker::Model;
-
-/// The most guests of a booking.
-pub const MAX_GUESTS: u8 = 49;
 
 /// How many guests a booking brings beside its member, 0 to 49. Contracts see it as its number.
 #[derive(Clone, Copy, Debug, PartialEq, Eq, PartialOrd, Ord)]

@@ -13,12 +13,10 @@ mod root;
 
 pub use booking::{Booking, BookingColumns, MAX_CHARGE};
 pub use booking_number::{BookingNumber, MAX_BOOKING_NUMBER};
+pub use club_values::MAX_GUESTS;
 pub use columns::slot_from_columns;
 pub use facility::{Facility, FacilityColumns, LAST_HOUR, MAX_PLACES, MAX_PRICE};
-pub use guests::{Guests, MAX_GUESTS};
+pub use guests::Guests;
 pub use key::{Key, OlderRoot};
 pub use member::{MAX_CREDITED, MAX_QUOTA, Member};
 pub use root::{MAX_ROOT_LEN, MIN_ROOT_LEN, Root};
-
-#[cfg(test)]
-mod tests;

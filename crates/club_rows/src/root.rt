@@ -25,7 +25,12 @@ impl Model for Root {
 
     ghost Value = { List ℕ };
 
-    ghost use Rattle.club_rows.specs.RootInside.{bytes_of, inside_of, HoldsRoot, inside_of-bytes_of};
+    ghost use Rattle.club_rows.specs.RootInside.{
+      bytes_of,
+      inside_of,
+      HoldsRoot,
+      inside_of-bytes_of,
+    };
 
     ghost view = { bytes_of };
 

@@ -1,5 +1,6 @@
 -- The texts of dates.
-use Rattle.std.proofs.Common.{◌≡◌, ◌<◌, ℕ, ◌+◌, ◌*◌, length, List, [], ◌∷◌, get_or, drop, ap, arith, refl, sym, ◌∙◌, subst, Option, Some, None, Result, Ok, Err, ℤ, pos}
+use Rattle.std.proofs.Common.{◌≡◌, ◌<◌, ℕ, ◌+◌, ◌*◌, length, List, [], ◌∷◌, get_or, drop, ap, arith, refl, sym, ◌∙◌, subst, Option, Some, None, Result, Ok, Err}
+use Rattle.std.proofs.Common.{ℤ, pos}
 use Rattle.std.specs.Prelude.{IsOk, IfOk}
 use Rattle.std.specs.Result.{result_ok}
 use Rattle.std.proofs.lemmas.Slice.Eq.{text_from_reads}
@@ -18,7 +19,10 @@ heads : (a b x y : ℕ) → a ∷ b ∷ [] ≡ x ∷ y ∷ [] → (a ≡ x) × (
 heads a b x y e = (cc, cc)
 
 -- a text of ten bytes, read two digits at a time
-pub parts_from_reads : (text : List ℕ) (century y year month day : ℕ) → length text ≡ 10 → get_or text 4 0 ≡ 45 → get_or text 7 0 ≡ 45 → century < 100 → y < 100 → month < 100 → day < 100 → year ≡ century * 100 + y → get_or text 0 0 ∷ get_or text 1 0 ∷ [] ≡ two_digits century → get_or text 2 0 ∷ get_or text 3 0 ∷ [] ≡ two_digits y → get_or text 5 0 ∷ get_or text 6 0 ∷ [] ≡ two_digits month → get_or text 8 0 ∷ get_or text 9 0 ∷ [] ≡ two_digits day → AreDateParts text year month day
+pub parts_from_reads : (text : List ℕ) (century y year month day : ℕ) → length text ≡ 10 → get_or text 4 0 ≡ 45 → get_or text 7 0 ≡ 45 → century < 100 →
+    y < 100 → month < 100 → day < 100 → year ≡ century * 100 + y → get_or text 0 0 ∷ get_or text 1 0 ∷ [] ≡ two_digits century →
+    get_or text 2 0 ∷ get_or text 3 0 ∷ [] ≡ two_digits y → get_or text 5 0 ∷ get_or text 6 0 ∷ [] ≡ two_digits month →
+    get_or text 8 0 ∷ get_or text 9 0 ∷ [] ≡ two_digits day → AreDateParts text year month day
 parts_from_reads text century y year month day len four seven hc hy hm hd e ec ey em ed =
     let c = heads _ _ _ _ ec in
     let a = heads _ _ _ _ ey in
@@ -28,7 +32,9 @@ parts_from_reads text century y year month day len four seven hc hy hm hd e ec e
       short_year = omega arith;
       short_month = hm;
       short_day = hd;
-      spelled = text_from_reads text (date_text year month day) len (omega arith, (omega arith, (omega arith, (omega arith, (four, (omega arith, (omega arith, (seven, (omega arith, (omega arith, tt))))))))));
+      spelled =
+          text_from_reads text (date_text year month day) len
+          (omega arith, (omega arith, (omega arith, (omega arith, (four, (omega arith, (omega arith, (seven, (omega arith, (omega arith, tt))))))))));
     }
 
 -- a text has one year, month and day
@@ -65,7 +71,8 @@ from_pos : (a b : ℕ) → pos a ≡ pos b → a ≡ b
 from_pos a b e = cc
 
 -- a date by its parts, where the constructor says whether there is one
-date_by_parts : {E : Type 0} (text : List ℕ) (y m d : ℕ) (r : Result Date E) → AreDateParts text y m d → (IsDate (pos y) (pos m) (pos d) → IsOk r) → IfOk r (IsYmd (pos y) (pos m) (pos d)) → Reads (IsDateText text) (result_ok r)
+date_by_parts : {E : Type 0} (text : List ℕ) (y m d : ℕ) (r : Result Date E) → AreDateParts text y m d → (IsDate (pos y) (pos m) (pos d) → IsOk r) →
+    IfOk r (IsYmd (pos y) (pos m) (pos d)) → Reads (IsDateText text) (result_ok r)
 date_by_parts text y m d (Ok date) p can h =
     record {
       year = y;
@@ -80,7 +87,8 @@ date_by_parts text y m d (Err e) p can h = λ date t.
     cc
 
 -- the same, as the code gives its numbers
-pub reads_date : {E : Type 0} (text : List ℕ) (y m d : ℕ) (yz mz dz : ℤ) (r : Result Date E) (o : Option Date) → AreDateParts text y m d → yz ≡ pos y → mz ≡ pos m → dz ≡ pos d → (IsDate yz mz dz → IsOk r) → IfOk r (IsYmd yz mz dz) → o ≡ result_ok r → Reads (IsDateText text) o
+pub reads_date : {E : Type 0} (text : List ℕ) (y m d : ℕ) (yz mz dz : ℤ) (r : Result Date E) (o : Option Date) → AreDateParts text y m d → yz ≡ pos y →
+    mz ≡ pos m → dz ≡ pos d → (IsDate yz mz dz → IsOk r) → IfOk r (IsYmd yz mz dz) → o ≡ result_ok r → Reads (IsDateText text) o
 reads_date text y m d yz mz dz r o p ey em ed can value e =
     rw e (date_by_parts text y m d r p (λ h. can (rw (ey, em, ed) h)) (rw (ey, em, ed) at value))
 

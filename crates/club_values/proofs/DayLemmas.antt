@@ -1,5 +1,6 @@
 -- The date of a day by arithmetic is the calendar's.
-use Rattle.std.proofs.Common.{◌≡◌, ℕ, ◌+◌, ◌-◌, ◌*◌, ◌/◌, ◌%◌, ◌<◌, ◌≤◌, ◌≢◌, cond, Bool, true, false, nat_lt, refl, suc, ◌∙◌, ltb-true, ltb-false, sym, List, ◌++◌, drop, ap, arith, ◌^◌, ℤ, to_z, of_z, w8, w16, pos, ◌+ℤ◌}
+use Rattle.std.proofs.Common.{◌≡◌, ℕ, ◌+◌, ◌-◌, ◌*◌, ◌/◌, ◌%◌, ◌<◌, ◌≤◌, ◌≢◌, cond, Bool, true, false, nat_lt, refl, suc, ◌∙◌, ltb-true, ltb-false, sym, List}
+use Rattle.std.proofs.Common.{◌++◌, drop, ap, arith, ◌^◌, ℤ, to_z, of_z, w8, w16, pos, ◌+ℤ◌}
 use Rattle.std.proofs.lemmas.Bool.Decides.{nat_tests}
 use Rattle.jiff_core.specs.Calendar.{IsCivilDate, days_from_civil, day_count}
 use Rattle.jiff_core.specs.Date.{epoch_day}
@@ -16,7 +17,8 @@ use Rattle.club_values.proofs.DateTextLemmas.{date_record}
 use Rattle.club_values.proofs.DigitLemmas.{two_digits_injective, four_digits_injective}
 
 -- a day lies in its year from March, at its place
-pub march_year_bounds : (n : ℕ) → IsDay n → (3 ≤ march_year n) × (march_year n ≤ 103) × (day_of_march_year n < 366) × (n ≡ 9556 + 365 * march_year n + march_year n / 4 + day_of_march_year n)
+pub march_year_bounds : (n : ℕ) → IsDay n →
+    (3 ≤ march_year n) × (march_year n ≤ 103) × (day_of_march_year n < 366) × (n ≡ 9556 + 365 * march_year n + march_year n / 4 + day_of_march_year n)
 march_year_bounds n h = (omega arith, omega arith, omega arith, omega arith)
 
 -- the days before a year from March
@@ -31,7 +33,9 @@ days_from_civil-is : (y m d n : ℕ) → day_count (pos y) m d ≡ n + 4371953 �
 days_from_civil-is y m d n e = omega (arith, signed_arith, days_from_civil-day_count (pos y) m d)
 
 -- the date from March to December
-late_date : (q r n : ℕ) → 3 ≤ q → q ≤ 103 → r < 366 → n ≡ 9556 + 365 * q + q / 4 + r → (5 * r + 461) / 153 ≤ 12 → IsCivilDate (pos (1996 + q)) ((5 * r + 461) / 153) ((5 * r + 461) % 153 / 5 + 1) × (days_from_civil (pos (1996 + q)) ((5 * r + 461) / 153) ((5 * r + 461) % 153 / 5 + 1) ≡ pos n)
+late_date : (q r n : ℕ) → 3 ≤ q → q ≤ 103 → r < 366 → n ≡ 9556 + 365 * q + q / 4 + r → (5 * r + 461) / 153 ≤ 12 →
+    IsCivilDate (pos (1996 + q)) ((5 * r + 461) / 153) ((5 * r + 461) % 153 / 5 + 1) ×
+    (days_from_civil (pos (1996 + q)) ((5 * r + 461) / 153) ((5 * r + 461) % 153 / 5 + 1) ≡ pos n)
 late_date q r n low high small e late =
     let year : pos (1996 + q) +ℤ pos 10000 ≡ pos (11996 + q) = omega (arith, signed_arith) in
     let count = day_count-late (pos (1996 + q)) (11996 + q) ((5 * r + 461) / 153) ((5 * r + 461) % 153 / 5 + 1) year (omega arith) late (omega arith) in
@@ -42,18 +46,22 @@ late_date q r n low high small e late =
     )
 
 -- the date in January or February
-early_date : (q r n : ℕ) → 3 ≤ q → q ≤ 102 → r < 365 + leap_day (pos (1997 + q)) → r < 366 → n ≡ 9556 + 365 * q + q / 4 + r → 12 < (5 * r + 461) / 153 → IsCivilDate (pos (1997 + q)) ((5 * r + 461) / 153 - 12) ((5 * r + 461) % 153 / 5 + 1) × (days_from_civil (pos (1997 + q)) ((5 * r + 461) / 153 - 12) ((5 * r + 461) % 153 / 5 + 1) ≡ pos n)
+early_date : (q r n : ℕ) → 3 ≤ q → q ≤ 102 → r < 365 + leap_day (pos (1997 + q)) → r < 366 → n ≡ 9556 + 365 * q + q / 4 + r → 12 < (5 * r + 461) / 153 →
+    IsCivilDate (pos (1997 + q)) ((5 * r + 461) / 153 - 12) ((5 * r + 461) % 153 / 5 + 1) ×
+    (days_from_civil (pos (1997 + q)) ((5 * r + 461) / 153 - 12) ((5 * r + 461) % 153 / 5 + 1) ≡ pos n)
 early_date q r n low high fits small e early =
     let year : pos (1997 + q) +ℤ pos 10000 ≡ pos (suc (11996 + q)) = omega (arith, signed_arith) in
     let back : (5 * r + 461) / 153 - 12 + 12 ≡ (5 * r + 461) / 153 = omega arith in
-    let count = day_count-early (pos (1997 + q)) (11996 + q) ((5 * r + 461) / 153 - 12) ((5 * r + 461) % 153 / 5 + 1) year (omega arith) (omega arith) (omega arith) in
+    let count =
+    day_count-early (pos (1997 + q)) (11996 + q) ((5 * r + 461) / 153 - 12) ((5 * r + 461) % 153 / 5 + 1) year (omega arith) (omega arith) (omega arith) in
     let before = march_days-1996 q low (omega arith) in
     let place = month_and_day r small in (
       ((omega (arith, signed_arith), omega (arith, signed_arith)), (omega arith, omega arith), (omega arith, day_in_early_month (pos (1997 + q)) r early fits)),
       days_from_civil-is (1997 + q) _ _ n (rw back at count ∙ omega arith),
     )
 
-dated : (q r n : ℕ) (b : Bool) → nat_lt 12 ((5 * r + 461) / 153) ≡ b → 3 ≤ q → q ≤ 103 → r < 366 → (q % 4 ≢ 3 → r < 365) → n ≤ 47481 → n ≡ 9556 + 365 * q + q / 4 + r → IsDateOf (1996 + q + cond b 1 0) (cond b ((5 * r + 461) / 153 - 12) ((5 * r + 461) / 153)) ((5 * r + 461) % 153 / 5 + 1) n
+dated : (q r n : ℕ) (b : Bool) → nat_lt 12 ((5 * r + 461) / 153) ≡ b → 3 ≤ q → q ≤ 103 → r < 366 → (q % 4 ≢ 3 → r < 365) → n ≤ 47481 →
+    n ≡ 9556 + 365 * q + q / 4 + r → IsDateOf (1996 + q + cond b 1 0) (cond b ((5 * r + 461) / 153 - 12) ((5 * r + 461) / 153)) ((5 * r + 461) % 153 / 5 + 1) n
 dated q r n true test low high small common last e =
     let early : 12 < (5 * r + 461) / 153 = ltb-true _ _ test in
     let year : 1996 + q + 1 ≡ 1997 + q = omega arith in
@@ -84,7 +92,8 @@ date_of_day n d h e =
     let is = civil_date n h in
     epoch_day_injective d (date_record (year_of n) (month_of n) (day_of_month n) is.0) (e ∙ sym is.1)
 
-year_bounds : (q r n : ℕ) (b : Bool) → nat_lt 12 ((5 * r + 461) / 153) ≡ b → 3 ≤ q → q ≤ 103 → r < 366 → IsDay n → n ≡ 9556 + 365 * q + q / 4 + r → (2000 ≤ 1996 + q + cond b 1 0) × (1996 + q + cond b 1 0 ≤ 2099)
+year_bounds : (q r n : ℕ) (b : Bool) → nat_lt 12 ((5 * r + 461) / 153) ≡ b → 3 ≤ q → q ≤ 103 → r < 366 → IsDay n → n ≡ 9556 + 365 * q + q / 4 + r →
+    (2000 ≤ 1996 + q + cond b 1 0) × (1996 + q + cond b 1 0 ≤ 2099)
 year_bounds q r n true test low high small h e =
     let early : 12 < (5 * r + 461) / 153 = ltb-true _ _ test in
     (omega arith, omega arith)
@@ -105,11 +114,15 @@ cast_back : (w : Width) (z : ℤ) (n : ℕ) → z ≡ pos n → n < 2 ^ hbits w 
 cast_back w z n e h = rw e (back_small w (pos n) h)
 
 -- the parts of a day's date, as the code gets them
-pub parts_of_day : (n : ℕ) (d : Date) (year month day : ℤ) → IsDay n → epoch_day d ≡ pos n → year ≡ d.year → month ≡ pos d.month → day ≡ pos d.day → (to_z w16 (of_z w16 year) ≡ pos (year_of n)) × (to_z w8 (of_z w8 month) ≡ pos (month_of n)) × (to_z w8 (of_z w8 day) ≡ pos (day_of_month n))
+pub parts_of_day : (n : ℕ) (d : Date) (year month day : ℤ) → IsDay n → epoch_day d ≡ pos n → year ≡ d.year → month ≡ pos d.month → day ≡ pos d.day →
+    (to_z w16 (of_z w16 year) ≡ pos (year_of n)) × (to_z w8 (of_z w8 month) ≡ pos (month_of n)) × (to_z w8 (of_z w8 day) ≡ pos (day_of_month n))
 parts_of_day n d year month day h e ey em ed =
     let same = date_of_day n d h e in
-    let b = date_bounds n h in
-    (cast_back w16 year (year_of n) (ey ∙ same.0) (omega arith), cast_back w8 month (month_of n) (em ∙ ap pos same.1) (omega arith), cast_back w8 day (day_of_month n) (ed ∙ ap pos same.2) (omega arith))
+    let b = date_bounds n h in (
+      cast_back w16 year (year_of n) (ey ∙ same.0) (omega arith),
+      cast_back w8 month (month_of n) (em ∙ ap pos same.1) (omega arith),
+      cast_back w8 day (day_of_month n) (ed ∙ ap pos same.2) (omega arith),
+    )
 
 -- the text of a real date is that of its day
 pub date_text-day_text : (n y m d : ℕ) → IsDay n → IsDateOf y m d n → date_text y m d ≡ day_text n

@@ -10,7 +10,8 @@ use Rattle.club_values.proofs.DayLemmas.{march_year_bounds}
 pub two_again : (n : ℕ) → 10 * (48 + n / 10 - 48) + (48 + n % 10 - 48) ≡ n
 two_again n = omega arith
 
-number_again : (q r n : ℕ) (b : Bool) → nat_lt 12 ((5 * r + 461) / 153) ≡ b → 3 ≤ q → q ≤ 103 → r < 366 → n ≡ 9556 + 365 * q + q / 4 + r → number_of_date (1996 + q + cond b 1 0) (cond b ((5 * r + 461) / 153 - 12) ((5 * r + 461) / 153)) ((5 * r + 461) % 153 / 5 + 1) ≡ n
+number_again : (q r n : ℕ) (b : Bool) → nat_lt 12 ((5 * r + 461) / 153) ≡ b → 3 ≤ q → q ≤ 103 → r < 366 → n ≡ 9556 + 365 * q + q / 4 + r →
+    number_of_date (1996 + q + cond b 1 0) (cond b ((5 * r + 461) / 153 - 12) ((5 * r + 461) / 153)) ((5 * r + 461) % 153 / 5 + 1) ≡ n
 number_again q r n true test low high small e =
     let late : 12 < (5 * r + 461) / 153 = ltb-true _ _ test in
     let early : nat_lt ((5 * r + 461) / 153 - 12) 3 ≡ true = lt-ltb _ _ (omega arith) in

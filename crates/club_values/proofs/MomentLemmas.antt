@@ -61,7 +61,10 @@ moment_text_injective a b h k e =
     omega arith
 
 -- the text as the code puts it together
-pub joined_text : (date t₁ t₂ : List ℕ) (day minute n : ℕ) → SpellsDay date day → t₁ ≡ two_digits (minute / 60) → t₂ ≡ two_digits (minute % 60) → day ≡ n / 1440 → minute ≡ n % 1440 → get_or date 0 0 ∷ get_or date 1 0 ∷ get_or date 2 0 ∷ get_or date 3 0 ∷ get_or date 4 0 ∷ get_or date 5 0 ∷ get_or date 6 0 ∷ get_or date 7 0 ∷ get_or date 8 0 ∷ get_or date 9 0 ∷ 84 ∷ get_or t₁ 0 0 ∷ get_or t₁ 1 0 ∷ 58 ∷ get_or t₂ 0 0 ∷ get_or t₂ 1 0 ∷ [] ≡ moment_text n
+pub joined_text : (date t₁ t₂ : List ℕ) (day minute n : ℕ) → SpellsDay date day → t₁ ≡ two_digits (minute / 60) → t₂ ≡ two_digits (minute % 60) →
+    day ≡ n / 1440 → minute ≡ n % 1440 →
+    get_or date 0 0 ∷ get_or date 1 0 ∷ get_or date 2 0 ∷ get_or date 3 0 ∷ get_or date 4 0 ∷ get_or date 5 0 ∷ get_or date 6 0 ∷ get_or date 7 0 ∷ get_or date
+    8 0 ∷ get_or date 9 0 ∷ 84 ∷ get_or t₁ 0 0 ∷ get_or t₁ 1 0 ∷ 58 ∷ get_or t₂ 0 0 ∷ get_or t₂ 1 0 ∷ [] ≡ moment_text n
 unfolding moment_text
 joined_text date t₁ t₂ day minute n s e₁ e₂ ed em =
     let same : n % 1440 % 60 ≡ n % 60 = omega arith in

@@ -23,7 +23,8 @@ HoldsName-inside_of name h =
     }
 
 -- a name at the front of 24 zero bytes
-pub HoldsName-front : (name front : List ℕ) → IsName name → front ≡ name → HoldsName (record { bytes = front ++ drop (length name) (replicate 24 0); len = length name })
+pub HoldsName-front : (name front : List ℕ) → IsName name → front ≡ name → HoldsName
+    (record { bytes = front ++ drop (length name) (replicate 24 0); len = length name })
 HoldsName-front name front h e =
     rw (e, drop-replicate {X = ℕ} (length name) 24 0) (HoldsName-inside_of name h)
 

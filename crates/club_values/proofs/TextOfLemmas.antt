@@ -16,7 +16,8 @@ use Rattle.club_values.specs.Moment.{IsMoment, SpellsMoment, moment_text}
 use Rattle.club_values.specs.Hour.{IsHour, SpellsHour}
 use Rattle.club_values.specs.Kind.{kind_text}
 use Rattle.club_values.specs.Action.{action_text}
-use Rattle.club_values.specs.TextOf.{is_name, two_at, day_of, moment_of, kind_of, action_of, where_spelled, name_of_text, day_of_text, moment_of_text, hour_of_text, kind_of_text, action_of_text}
+use Rattle.club_values.specs.TextOf.{is_name, two_at, day_of, moment_of, kind_of, action_of, where_spelled, name_of_text, day_of_text, moment_of_text}
+use Rattle.club_values.specs.TextOf.{hour_of_text, kind_of_text, action_of_text}
 use Rattle.club_values.proofs.TestLemmas.{Decides-is_name, Decides-range}
 use Rattle.club_values.proofs.GuessLemmas.{two_again, day_of-day_text, moment_of-moment_text}
 use Rattle.club_values.proofs.DayLemmas.{day_text-spells, spells-day_text}
@@ -24,17 +25,21 @@ use Rattle.club_values.proofs.MomentLemmas.{moment_text-spells, spells-moment_te
 use Rattle.club_values.specs.Laws.{ReadsNames, ReadsKinds, ReadsActions, ReadsDays, ReadsHours, ReadsMoments}
 
 -- a value that its text gives back is found just where it is spelled
-found : {A : Type 0} (Spells : A → Type 0) (guess : A) (test : Bool) → Decides test (Spells guess) → ((x : A) → Spells x → guess ≡ x) → (x : A) → (cond test (Some guess) None ≡ Some x) ↔ Spells x
+found : {A : Type 0} (Spells : A → Type 0) (guess : A) (test : Bool) → Decides test (Spells guess) → ((x : A) → Spells x → guess ≡ x) → (x : A) →
+    (cond test (Some guess) None ≡ Some x) ↔ Spells x
 found Spells guess true d same x = let P = Spells in ((λ e. let is : guess ≡ x = cc in subst P is (d.0 refl)), (λ s. ap Some (same x s)))
 found Spells guess false d same x =
     let P = Spells in
     ((λ e. absurd (cc)), (λ s. let t : false ≡ true = d.1 (subst P (sym (same x s)) s) in cc))
 
 -- the same, where a text function gives the spelling
-found_where : {A : Type 0} (text : List ℕ) (Spells Fits : A → Type 0) (guess : List ℕ → A) (text_of : A → List ℕ) (fits : A → Bool) → ((x : A) → Decides (fits x) (Fits x)) → ((x : A) → Spells x → Fits x × (text ≡ text_of x)) → ((x : A) → Fits x → text ≡ text_of x → Spells x) → ((x : A) → Fits x → guess (text_of x) ≡ x) → (x : A) → (where_spelled text (guess text) (text_of (guess text)) (fits (guess text)) ≡ Some x) ↔ Spells x
+found_where : {A : Type 0} (text : List ℕ) (Spells Fits : A → Type 0) (guess : List ℕ → A) (text_of : A → List ℕ) (fits : A → Bool) →
+    ((x : A) → Decides (fits x) (Fits x)) → ((x : A) → Spells x → Fits x × (text ≡ text_of x)) → ((x : A) → Fits x → text ≡ text_of x → Spells x) →
+    ((x : A) → Fits x → guess (text_of x) ≡ x) → (x : A) → (where_spelled text (guess text) (text_of (guess text)) (fits (guess text)) ≡ Some x) ↔ Spells x
 found_where text Spells Fits guess text_of fits decides to from again =
     found Spells (guess text) (fits (guess text) && bytes_eq text (text_of (guess text)))
-    (Decides-like _ (λ both. from (guess text) both.0 both.1) (λ s. to (guess text) s) (Decides-and _ _ (decides (guess text)) (bytes_eq-Decides text (text_of (guess text)))))
+    (Decides-like _ (λ both. from (guess text) both.0 both.1) (λ s. to (guess text) s)
+    (Decides-and _ _ (decides (guess text)) (bytes_eq-Decides text (text_of (guess text)))))
     (λ x s. ap guess (to x s).1 ∙ again x (to x s).0)
 
 -- so a reader of the same values answers what such a function does
@@ -91,7 +96,8 @@ action_again Account u = refl
 pub reads_actions : ReadsActions
 unfolding action_of_text
 reads_actions text =
-    found_where text (λ action. text ≡ action_text action) (λ _. Unit {0}) action_of action_text (λ _. true) always (λ action e. (tt, e)) (λ action u e. e) action_again
+    found_where text (λ action. text ≡ action_text action) (λ _. Unit {0}) action_of action_text (λ _. true) always (λ action e. (tt, e))
+    (λ action u e. e) action_again
 
 pub reads_names : ReadsNames
 unfolding name_of_text

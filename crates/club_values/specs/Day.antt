@@ -4,9 +4,15 @@ use Rattle.jiff_core.specs.Calendar.{IsCivilDate, days_from_civil}
 use Rattle.jiff_core.specs.declared.civil.date.Date.{Date}
 use Rattle.club_values.specs.Digits.{two_digits, four_digits}
 
--- the days of the years 2000 to 2099, as days since 1970-01-01 (ours)
+-- 2000-01-01 and 2099-12-31, as days since 1970-01-01 (ours)
+abbrev pub first_day : ℕ
+first_day = 10_957
+
+abbrev pub last_day : ℕ
+last_day = 47_481
+
 abbrev pub IsDay : ℕ → Type 0
-IsDay n = (10957 ≤ n) × (n ≤ 47481)
+IsDay n = (first_day ≤ n) × (n ≤ last_day)
 
 -- YYYY-MM-DD (RFC 3339, full-date)
 abbrev pub date_text : ℕ → ℕ → ℕ → List ℕ

@@ -2,9 +2,12 @@
 use Rattle.std.specs.Prelude.{◌≡◌, ℕ, ◌<◌, List}
 use Rattle.club_values.specs.Digits.{two_digits}
 
+abbrev pub hours_a_day : ℕ
+hours_a_day = 24
+
 -- an hour begins a slot (ours)
 abbrev pub IsHour : ℕ → Type 0
-IsHour n = n < 24
+IsHour n = n < hours_a_day
 
 -- two digits, 00 to 23
 pub record SpellsHour (text : List ℕ) (n : ℕ) : Type 0 where

@@ -1,11 +1,24 @@
 -- Moments and their texts.
-use Rattle.std.specs.Prelude.{◌≡◌, ℕ, ◌+◌, ◌*◌, ◌/◌, ◌%◌, ◌<◌, ◌≤◌, List, ◌∷◌, ◌++◌}
+use Rattle.std.specs.Prelude.{◌≡◌, ℕ, ◌+◌, ◌-◌, ◌*◌, ◌/◌, ◌%◌, ◌<◌, ◌≤◌, List, ◌∷◌, ◌++◌}
 use Rattle.club_values.specs.Digits.{two_digits}
-use Rattle.club_values.specs.Day.{SpellsDay, day_text}
+use Rattle.club_values.specs.Day.{SpellsDay, day_text, first_day, last_day}
+use Rattle.club_values.specs.Hour.{hours_a_day}
 
--- the civil minutes of those days, as minutes since 1970-01-01T00:00 (ours)
+abbrev pub minutes_an_hour : ℕ
+minutes_an_hour = 60
+
+abbrev pub minutes_a_day : ℕ
+minutes_a_day = hours_a_day * minutes_an_hour
+
+-- the civil minutes of the first day to the last, as minutes since 1970-01-01T00:00 (ours)
+abbrev pub first_moment : ℕ
+first_moment = first_day * minutes_a_day
+
+abbrev pub last_moment : ℕ
+last_moment = last_day * minutes_a_day + (minutes_a_day - 1)
+
 abbrev pub IsMoment : ℕ → Type 0
-IsMoment n = (15_778_080 ≤ n) × (n ≤ 68_374_079)
+IsMoment n = (first_moment ≤ n) × (n ≤ last_moment)
 
 -- THH:MM
 abbrev pub time_text : ℕ → ℕ → List ℕ
@@ -16,9 +29,9 @@ pub record SpellsTime (text : List ℕ) (n : ℕ) : Type 0 where
   pub hour : ℕ
   pub minute : ℕ
   pub spelled : text ≡ time_text hour minute
-  pub hour_within : hour < 24
-  pub minute_within : minute < 60
-  pub number : n ≡ hour * 60 + minute
+  pub hour_within : hour < hours_a_day
+  pub minute_within : minute < minutes_an_hour
+  pub number : n ≡ hour * minutes_an_hour + minute
 
 -- YYYY-MM-DDTHH:MM (ISO 8601)
 pub record SpellsMoment (text : List ℕ) (n : ℕ) : Type 0 where
@@ -29,8 +42,9 @@ pub record SpellsMoment (text : List ℕ) (n : ℕ) : Type 0 where
   pub spelled : text ≡ date ++ time
   pub spells_day : SpellsDay date day
   pub spells_time : SpellsTime time minute
-  pub number : n ≡ day * 1440 + minute
+  pub number : n ≡ day * minutes_a_day + minute
 
 -- the one text of a moment
 unfoldable pub moment_text : ℕ → List ℕ
-moment_text n = day_text (n / 1440) ++ time_text (n % 1440 / 60) (n % 60)
+moment_text n =
+    day_text (n / minutes_a_day) ++ time_text (n % minutes_a_day / minutes_an_hour) (n % minutes_an_hour)

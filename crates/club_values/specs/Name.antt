@@ -7,9 +7,13 @@ use Rattle.std.specs.List.{AllPass}
 abbrev pub is_name_byte : ℕ → Bool
 is_name_byte byte = is_in_range 97 122 byte || is_in_range 48 57 byte || byte == 45
 
--- 1 to 24 such bytes, the first no hyphen (ours)
+-- the most bytes of a name (ours)
+abbrev pub max_name_len : ℕ
+max_name_len = 24
+
+-- one such byte or more, the first no hyphen (ours)
 pub record IsName (bytes : List ℕ) : Type 0 where
   pub nonempty : 0 < length bytes
-  pub short : length bytes ≤ 24
+  pub short : length bytes ≤ max_name_len
   pub letters : AllPass is_name_byte bytes
   pub first : slice_index bytes 0 ≢ 45

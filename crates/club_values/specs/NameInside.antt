@@ -1,8 +1,8 @@
--- How a name lies in its 24 bytes.
+-- How a name lies in its room.
 use Rattle.std.specs.Prelude.{◌≡◌, ℕ, ◌-◌, ◌≤◌, List, ◌++◌, length, take, replicate}
 use Rattle.std.proofs.Common.{sym, ap, ◌∙◌}
 use Rattle.std.proofs.lemmas.List.{length-take-le}
-use Rattle.club_values.specs.Name.{IsName}
+use Rattle.club_values.specs.Name.{IsName, max_name_len}
 use Rattle.club_values.specs.declared.name.Name.TheInside.{Inside}
 
 abbrev pub bytes_of : Inside → List ℕ
@@ -10,7 +10,7 @@ bytes_of a = take a.len a.bytes
 
 -- the bytes behind the name are zero
 abbrev pub padded : List ℕ → List ℕ
-padded name = name ++ replicate (24 - length name) 0
+padded name = name ++ replicate (max_name_len - length name) 0
 
 abbrev pub inside_of : List ℕ → Inside
 inside_of name = record { bytes = padded name; len = length name }

@@ -1,7 +1,12 @@
 -- Slots.
 use Rattle.std.specs.Prelude.{ℕ, ◌+◌, ◌*◌}
 use Rattle.club_values.specs.declared.slot.Slot.{Slot}
+use Rattle.club_values.specs.Moment.{minutes_a_day, minutes_an_hour}
 
 -- the minute at which a slot begins (ours)
 abbrev pub start_of : Slot → ℕ
-start_of slot = slot.day * 1440 + slot.hour * 60
+start_of slot = slot.day * minutes_a_day + slot.hour * minutes_an_hour
+
+-- the guests that a booking brings at most (ours)
+abbrev pub guests_limit : ℕ
+guests_limit = 49

@@ -8,16 +8,17 @@ use Rattle.club_values.specs.declared.kind.Kind.{Kind as AKind}
 use Rattle.club_values.specs.declared.kind.Kind.TheVariants.{Court, Boat, Room}
 use Rattle.club_values.specs.declared.action.Action.{Action}
 use Rattle.club_values.specs.declared.action.Action.TheVariants.{View, Book, Cancel, Account}
-use Rattle.club_values.specs.Name.{is_name_byte}
+use Rattle.club_values.specs.Name.{is_name_byte, max_name_len}
 use Rattle.club_values.specs.Digits.{two_digits}
-use Rattle.club_values.specs.Day.{day_text}
-use Rattle.club_values.specs.Moment.{moment_text}
+use Rattle.club_values.specs.Day.{day_text, first_day, last_day}
+use Rattle.club_values.specs.Hour.{hours_a_day}
+use Rattle.club_values.specs.Moment.{moment_text, first_moment, last_moment, minutes_a_day, minutes_an_hour}
 use Rattle.club_values.specs.Kind.{kind_text}
 use Rattle.club_values.specs.Action.{action_text}
 
 abbrev pub is_name : List ℕ → Bool
 is_name bytes =
-    nat_lt 0 (length bytes) && nat_le (length bytes) 24 && list_all is_name_byte bytes
+    nat_lt 0 (length bytes) && nat_le (length bytes) max_name_len && list_all is_name_byte bytes
     && not (slice_index bytes 0 == 45)
 
 -- the number of the two digits at a place
@@ -36,7 +37,7 @@ abbrev pub day_of : List ℕ → ℕ
 day_of text = number_of_date (100 * two_at text 0 + two_at text 2) (two_at text 5) (two_at text 8)
 
 abbrev pub moment_of : List ℕ → ℕ
-moment_of text = day_of text * 1440 + two_at text 11 * 60 + two_at text 14
+moment_of text = day_of text * minutes_a_day + two_at text 11 * minutes_an_hour + two_at text 14
 
 abbrev pub kind_of : List ℕ → AKind
 kind_of text = if slice_index text 0 == 99 then Court else (if slice_index text 0 == 98 then Boat else Room)
@@ -55,14 +56,14 @@ unfoldable pub name_of_text : List ℕ → Option (List ℕ)
 name_of_text text = if is_name text then Some text else None
 
 unfoldable pub day_of_text : List ℕ → Option ℕ
-day_of_text text = where_spelled text (day_of text) (day_text (day_of text)) (is_in_range 10957 47481 (day_of text))
+day_of_text text = where_spelled text (day_of text) (day_text (day_of text)) (is_in_range first_day last_day (day_of text))
 
 unfoldable pub moment_of_text : List ℕ → Option ℕ
 moment_of_text text =
-    where_spelled text (moment_of text) (moment_text (moment_of text)) (is_in_range 15_778_080 68_374_079 (moment_of text))
+    where_spelled text (moment_of text) (moment_text (moment_of text)) (is_in_range first_moment last_moment (moment_of text))
 
 unfoldable pub hour_of_text : List ℕ → Option ℕ
-hour_of_text text = where_spelled text (two_at text 0) (two_digits (two_at text 0)) (nat_lt (two_at text 0) 24)
+hour_of_text text = where_spelled text (two_at text 0) (two_digits (two_at text 0)) (nat_lt (two_at text 0) hours_a_day)
 
 unfoldable pub kind_of_text : List ℕ → Option AKind
 kind_of_text text = where_spelled text (kind_of text) (kind_text (kind_of text)) true

@@ -1,7 +1,14 @@
 ghost use Rattle.std.specs.Prelude.{◌≡◌, ◌<◌, ◌≤◌, ◌↔◌, IsSome, IfSome, Some, pos};
 ghost use Rattle.jiff_core.specs.Date.{epoch_day};
 ghost use Rattle.club_values.specs.Reading.{Reads};
-ghost use Rattle.club_values.specs.Day.{IsDay, SpellsDay, AreDateParts, IsDateText, IsDateOf, day_text};
+ghost use Rattle.club_values.specs.Day.{
+  IsDay,
+  SpellsDay,
+  AreDateParts,
+  IsDateText,
+  IsDateOf,
+  day_text,
+};
 ghost use Rattle.club_values.specs.TextOf.{day_of_text};
 ghost use Rattle.club_values.specs.Weekday.{weekday_of};
 
@@ -12,15 +19,16 @@ use std::fmt;
 use std::marker::Model;
 
 /// The number of the first day, 2000-01-01.
-const FIRST_DAY: u16 = 10_957;
+pub(crate) const FIRST_DAY: u16 = 10_957;
 
 /// The number of the last day, 2099-12-31.
-const LAST_DAY: u16 = 47_481;
+pub(crate) const LAST_DAY: u16 = 47_481;
 
 /// The days from the earliest date that `jiff_core` has to 1970-01-01.
 const DAYS_BEFORE_1970: u32 = 4_371_587;
 
-/// A day from 2000-01-01 to 2099-12-31. Contracts see it as its number, the days since 1970-01-01. Days are ordered in time.
+/// A day from 2000-01-01 to 2099-12-31. Contracts see it as its number, the days since 1970-01-01.
+/// Days are ordered in time.
 #[derive(Clone, Copy, Debug, PartialEq, Eq, PartialOrd, Ord)]
 pub struct Day {
     number: u16,

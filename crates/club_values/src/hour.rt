@@ -10,7 +10,7 @@ use std::fmt;
 use std::marker::Model;
 
 /// The hours of a day.
-pub(crate) const HOURS_A_DAY: u8 = 24;
+pub const HOURS_A_DAY: u8 = 24;
 
 /// An hour of a day, 0 to 23. Contracts see it as its number.
 #[derive(Clone, Copy, Debug, PartialEq, Eq, PartialOrd, Ord)]

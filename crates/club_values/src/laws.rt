@@ -1,6 +1,17 @@
 //! Laws of the definitions, each the contract of a function that does nothing.
 
-ghost use Rattle.club_values.specs.Laws.{ReadsNames, ReadsKinds, ReadsActions, ReadsDays, ReadsHours, ReadsMoments, IsTextOfDay, IsTextOfMoment, TellsDays, TellsMoments};
+ghost use Rattle.club_values.specs.Laws.{
+  ReadsNames,
+  ReadsKinds,
+  ReadsActions,
+  ReadsDays,
+  ReadsHours,
+  ReadsMoments,
+  IsTextOfDay,
+  IsTextOfMoment,
+  TellsDays,
+  TellsMoments,
+};
 
 /// `name_of_text` gives a name exactly where the text is one, and that name.
 pub fn reads_names()

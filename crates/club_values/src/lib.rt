@@ -1,5 +1,5 @@
-//! The values of the club's texts: names, kinds, actions, days, hours, moments and slots, each with its one text. Nothing here
-//! takes memory.
+//! The values of the club's texts: names, kinds, actions, days, hours, moments and slots, each with
+//! its one text. Nothing here takes memory.
 #![tactic(auto)]
 
 mod action;
@@ -15,12 +15,9 @@ mod slot;
 
 pub use action::Action;
 pub use day::Day;
-pub use hour::Hour;
+pub use hour::{HOURS_A_DAY, Hour};
 pub use jiff::civil::Weekday;
 pub use kind::Kind;
 pub use moment::{MINUTES_A_DAY, Moment};
 pub use name::{MAX_NAME_LEN, Name};
-pub use slot::Slot;
-
-#[cfg(test)]
-mod tests;
+pub use slot::{MAX_GUESTS, Slot};

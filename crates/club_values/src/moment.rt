@@ -1,30 +1,36 @@
 ghost use Rattle.std.specs.Prelude.{◌≡◌, ◌+◌, ◌*◌, ◌/◌, ◌%◌, ◌<◌, ◌↔◌, IsSome, IfSome, Some};
 ghost use Rattle.club_values.specs.Reading.{Reads};
 ghost use Rattle.club_values.specs.Day.{IsDay};
-ghost use Rattle.club_values.specs.Moment.{IsMoment, SpellsTime, SpellsMoment, moment_text};
+ghost use Rattle.club_values.specs.Moment.{
+  IsMoment,
+  SpellsTime,
+  SpellsMoment,
+  minutes_a_day,
+  moment_text,
+};
 ghost use Rattle.club_values.specs.TextOf.{moment_of_text};
 
 use crate::ascii::text_of;
-use crate::day::Day;
+use crate::day::{Day, FIRST_DAY, LAST_DAY};
 use crate::digits::{read_two, two_digits};
 use crate::hour::HOURS_A_DAY;
 use std::fmt;
 use std::marker::Model;
 
-/// The minutes of a day.
-pub const MINUTES_A_DAY: u16 = 1440;
-
 /// The minutes of an hour.
 pub(crate) const MINUTES_AN_HOUR: u16 = 60;
 
+/// The minutes of a day.
+pub const MINUTES_A_DAY: u16 = HOURS_A_DAY as u16 * MINUTES_AN_HOUR;
+
 /// The number of the first moment, 2000-01-01T00:00.
-const FIRST_MOMENT: u32 = 15_778_080;
+const FIRST_MOMENT: u32 = FIRST_DAY as u32 * MINUTES_A_DAY as u32;
 
 /// The number of the last moment, 2099-12-31T23:59.
-const LAST_MOMENT: u32 = 68_374_079;
+const LAST_MOMENT: u32 = (LAST_DAY as u32 + 1) * MINUTES_A_DAY as u32 - 1;
 
-/// A civil minute from 2000-01-01T00:00 to 2099-12-31T23:59. Contracts see it as its number, the minutes since
-/// 1970-01-01T00:00. Moments are ordered in time.
+/// A civil minute from 2000-01-01T00:00 to 2099-12-31T23:59. Contracts see it as its number, the
+/// minutes since 1970-01-01T00:00. Moments are ordered in time.
 #[derive(Clone, Copy, Debug, PartialEq, Eq, PartialOrd, Ord)]
 pub struct Moment {
     number: u32,
@@ -86,8 +92,8 @@ impl Moment {
 
     /// The moment at a minute of a day; `None` from minute 1,440 on.
     pub fn new(day: Day, minute: u16) -> Option<Moment>
-        ensures within { IsSome result ↔ (minute < 1440) }
-        ensures value { IfSome result (λ moment. moment ≡ day * 1440 + minute) }
+        ensures within { IsSome result ↔ (minute < minutes_a_day) }
+        ensures value { IfSome result (λ moment. moment ≡ day * minutes_a_day + minute) }
     {
         if minute >= MINUTES_A_DAY {
             return None;
@@ -107,7 +113,7 @@ impl Moment {
 
     /// The day of the moment.
     pub fn day(self) -> Day
-        ensures value { result ≡ self / 1440 }
+        ensures value { result ≡ self / minutes_a_day }
         ensures within { IsDay result }
     {
         let number = self.number / u32::from(MINUTES_A_DAY);
@@ -116,8 +122,8 @@ impl Moment {
 
     /// The minutes since the day began, 0 to 1,439.
     pub fn minute_of_day(self) -> u16
-        ensures value { result ≡ self % 1440 }
-        ensures within { result < 1440 }
+        ensures value { result ≡ self % minutes_a_day }
+        ensures within { result < minutes_a_day }
     {
         (self.number % u32::from(MINUTES_A_DAY)) as u16
     }

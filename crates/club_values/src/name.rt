@@ -1,7 +1,14 @@
 ghost use Rattle.std.specs.Prelude.{◌≡◌, ◌↔◌, IsTrue, IsSome, IfSome, Some, nat_eq, refl};
 ghost use Rattle.std.specs.Ordering.{nat_cmp};
 ghost use Rattle.std.specs.Hash as fed;
-ghost use Rattle.std.specs.Cmp.Lexicographic.{pointwise, slice_cmp, nat_list_eq_equiv, nat_list_cmp_total, texts_ties, texts_po};
+ghost use Rattle.std.specs.Cmp.Lexicographic.{
+  pointwise,
+  slice_cmp,
+  nat_list_eq_equiv,
+  nat_list_cmp_total,
+  texts_ties,
+  texts_po,
+};
 ghost use Rattle.std.specs.Cmp.{partial_equiv_from_equiv};
 ghost use Rattle.std.specs.Cmp.Rules.{hashing};
 ghost use Rattle.std.proofs.Common.{rules};
@@ -19,8 +26,8 @@ use std::marker::Model;
 /// The most bytes of a name.
 pub const MAX_NAME_LEN: usize = 24;
 
-/// A name of a member, a key or a facility: 1 to 24 bytes of `a` to `z`, `0` to `9` and `-`, the first not `-`.
-/// Contracts see it as its bytes. Names are ordered by their bytes.
+/// A name of a member, a key or a facility: 1 to 24 bytes of `a` to `z`, `0` to `9` and `-`, the
+/// first not `-`. Contracts see it as its bytes. Names are ordered by their bytes.
 #[derive(Clone, Copy)]
 pub struct Name {
     bytes: [u8; MAX_NAME_LEN],
@@ -32,7 +39,12 @@ impl Model for Name {
 
     ghost Value = { List ℕ };
 
-    ghost use Rattle.club_values.specs.NameInside.{bytes_of, inside_of, HoldsName, inside_of-bytes_of};
+    ghost use Rattle.club_values.specs.NameInside.{
+      bytes_of,
+      inside_of,
+      HoldsName,
+      inside_of-bytes_of,
+    };
 
     ghost view = { bytes_of };
 

@@ -1,9 +1,13 @@
-ghost use Rattle.std.specs.Prelude.{◌≡◌, ◌≤◌};
+ghost use Rattle.std.specs.Prelude.{◌≡◌, ◌+◌, ◌≤◌};
+ghost use Rattle.club_values.specs.Moment.{last_moment, minutes_an_hour};
 
 use crate::day::Day;
 use crate::hour::Hour;
 use crate::moment::{MINUTES_A_DAY, MINUTES_AN_HOUR};
 use crate::name::Name;
+
+/// The most guests that a booking of a slot brings, beside its member.
+pub const MAX_GUESTS: u8 = 49;
 
 /// An hour of a facility on a day.
 #[derive(Clone, Copy, Debug, PartialEq, Eq)]
@@ -19,7 +23,8 @@ impl Slot {
     /// The minute at which the slot begins, counted from 1970-01-01T00:00.
     pub fn start(&self) -> u32
         ensures value { result ≡ start_of self.now }
-        ensures bound { result ≤ 68_374_020 }
+        // It ends with the last day.
+        ensures bound { result + minutes_an_hour ≤ last_moment + 1 }
     {
         u32::from(self.day.number()) * u32::from(MINUTES_A_DAY)
             + u32::from(self.hour.number()) * u32::from(MINUTES_AN_HOUR)

@@ -1,9 +1,9 @@
 -- When a request is whole, and what follows it.
-use Rattle.std.proofs.Common.{◌≡◌, ℕ, ◌-◌, ◌<◌, ◌≤◌, ◌↔◌, inl, inr, false, List, [], ◌∷◌, ◌++◌, length, take, nat_eq, refl, sym, ap, ◌∙◌, arith, append_assoc, length-append}
+use Rattle.std.proofs.Common.{◌≡◌, ℕ, ◌-◌, ◌<◌, ◌≤◌, ◌↔◌, inl, inr, false, List, [], ◌∷◌, ◌++◌, length, take, drop, nat_eq, refl, sym, ap, ◌∙◌, arith, append_assoc, length-append}
 use Rattle.std.specs.List.{ends_with}
 use Rattle.std.proofs.Math.Seq.{take-append_seam}
 use Rattle.std.proofs.lemmas.Bool.{cases_lt}
-use Rattle.std.proofs.lemmas.List.{take-append-le, append-nil}
+use Rattle.std.proofs.lemmas.List.{take-append-le, take-append-drop, length-take-le, append-nil}
 use Rattle.httparse.specs.declared.spans.HeaderSpan.{HeaderSpan}
 use Rattle.httparse.specs.Grammar.{RequestHead}
 use Rattle.club_words.specs.declared.front.Head.{Head}
@@ -61,6 +61,20 @@ body_there bytes fields found at = (
   ],
 )
 
+-- so many bytes more, and the body is there
+pub body_then_there : (bytes more : List ℕ) (fields : List HeaderSpan) (found : Head) → IsHeadAt bytes fields found
+    → length more ≡ found.body_len - length found.rest.now → IsWhole (bytes ++ more)
+body_then_there bytes more fields found at enough =
+    let long : found.body_len ≤ length (found.rest.now ++ more) = simp length-append (omega arith) in
+    framed at.head (take found.body_len (found.rest.now ++ more)) (record {
+      piece = found.piece.now;
+      after = drop found.body_len (found.rest.now ++ more);
+      cut = at.cut;
+      parts =
+          rw (take-append-drop found.body_len (found.rest.now ++ more)) (ap (λ (l : List ℕ). l ++ more) at.parts ∙ append_assoc found.piece.now found.rest.now more);
+      asks = rw (length-take-le found.body_len (found.rest.now ++ more) long) at.asks;
+    })
+
 same_body : (a b r s : List ℕ) → length a ≡ length b → a ++ r ≡ b ++ s → a ≡ b
 same_body a b r s len same = sym (take-append_seam a r) ∙ ap (take (length a)) same ∙ ap (λ (n : ℕ). take n (b ++ s)) len ∙ take-append_seam b s
 
@@ -92,7 +106,7 @@ endless_more bytes more none long = λ n within short.
     let le : n ≤ length bytes = omega arith in
     rw take-append-le (none n le short)
 
-refused_more : (bytes more : List ℕ) → IsRefused bytes → IsRefused (bytes ++ more)
+pub refused_more : (bytes more : List ℕ) → IsRefused bytes → IsRefused (bytes ++ more)
 refused_more bytes more is = record {
   piece = is.piece;
   rest = is.rest ++ more;

@@ -20,6 +20,3 @@ pub use head::{MAX_FIELDS, MAX_HEAD_LEN};
 pub use length::MAX_BODY_LEN;
 pub use routes::{Routes, words_of};
 pub use whole::{MAX_REQUEST_LEN, missing};
-
-#[cfg(test)]
-mod tests;

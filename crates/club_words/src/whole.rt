@@ -1,7 +1,7 @@
 //! When a request is whole.
 
 ghost use Rattle.std.specs.Prelude.{◌≡◌, ℕ, ◌<◌, ◌≤◌, ◌+◌, ◌++◌, ◌↔◌, List, length};
-ghost use Rattle.club_words.specs.Frame.{IsWhole};
+ghost use Rattle.club_words.specs.Frame.{IsWhole, HasNoPiece};
 
 use crate::front::{Front, front_of};
 use crate::head::{MAX_FIELDS, MAX_HEAD_LEN};
@@ -10,11 +10,14 @@ use httparse::spans::EMPTY_HEADER_SPAN;
 /// The most bytes of a request.
 pub const MAX_REQUEST_LEN: usize = 16_640;
 
-/// How many more bytes a reader may take without taking one behind the request: none exactly where the request is whole.
-/// Till a head's end has come that is one byte. No request has more than `MAX_REQUEST_LEN` bytes.
+/// How many more bytes a reader may take without taking one behind the request: none exactly where
+/// the request is whole. Till a head's end has come that is one byte, and then all that are missing.
+/// No request has more than `MAX_REQUEST_LEN` bytes.
 pub fn missing(bytes: &[u8]) -> usize
     ensures whole { (result ≡ 0) ↔ IsWhole bytes.now }
     ensures room { 0 < result → length bytes.now + result ≤ 16640 }
+    ensures enough { ¬ (HasNoPiece bytes.now) → (more : List ℕ) → length more ≡ result
+        → IsWhole (bytes.now ++ more) }
     ensures needed { (more : List ℕ) → length more < result → ¬ (IsWhole (bytes.now ++ more)) }
 {
     let mut fields = [EMPTY_HEADER_SPAN; MAX_FIELDS];

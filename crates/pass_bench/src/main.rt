@@ -1,5 +1,6 @@
-//! Prints how many passes of three caveats are signed, read and verified in a second: `pass_bench COUNT`. A pass is read and
-//! verified whole, from a `Pass` in memory, and by its fields as they are read, without one.
+//! Prints how many passes of three caveats are signed, read and verified in a second: `pass_bench
+//! COUNT`. A pass is read and verified whole, from a `Pass` in memory, and by its fields as they
+//! are read, without one.
 #![tactic(auto)]
 
 mod task;

@@ -32,8 +32,8 @@ pub enum Task {
 }
 
 impl Task {
-    /// Does it once, with a text and the bytes that the text wraps. Answers a byte of the result, so that nothing of it can
-    /// be left out.
+    /// Does it once, with a text and the bytes that the text wraps. Answers a byte of the result,
+    /// so that nothing of it can be left out.
     pub fn once(
         self,
         alloc: Global,

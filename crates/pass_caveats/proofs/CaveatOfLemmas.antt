@@ -1,5 +1,6 @@
 -- The functions say what the definitions say.
-use Rattle.std.proofs.Common.{◌≡◌, ◌↔◌, ℕ, ◌+◌, Bool, true, false, cond, List, [], ◌∷◌, ◌++◌, length, map, ◌⊎◌, Option, Some, None, inl, inr, refl, sym, ap, subst, ◌∙◌, arith, add-zero}
+use Rattle.std.proofs.Common.{◌≡◌, ◌↔◌, ℕ, ◌+◌, Bool, true, false, cond, List, [], ◌∷◌, ◌++◌, length, map, ◌⊎◌, Option, Some, None, inl, inr, refl, sym, ap}
+use Rattle.std.proofs.Common.{subst, ◌∙◌, arith, add-zero}
 use Rattle.std.specs.Option.{option_or}
 use Rattle.std.proofs.lemmas.List.Elements.{All-head, All-tail, All-push, All-nil, All-cons}
 use Rattle.std.proofs.lemmas.List.{append_assoc, append-nil}
@@ -20,7 +21,8 @@ caveat_of-understood text caveat h =
     let e : candidate text ≡ caveat = ap candidate h.line.spelled ∙ candidate-caveat_text caveat h.line.real in
     rw (e, (Decides-spells text caveat).1 h) refl
 
-chosen_is : (text : List ℕ) (found caveat : Caveat) (b : Bool) → (b ≡ true → Understood text found) → cond b (Some found) None ≡ Some caveat → Understood text caveat
+chosen_is : (text : List ℕ) (found caveat : Caveat) (b : Bool) → (b ≡ true → Understood text found) → cond b (Some found) None ≡ Some caveat →
+    Understood text caveat
 chosen_is text found caveat true h e =
     let same : found ≡ caveat = cc in
     let P : Caveat → Type 0 = λ c. Understood text c in
@@ -51,18 +53,21 @@ not_true true h = absurd (h refl)
 not_true false h = refl
 
 -- caveats that allow the request are passed over
-passed : (n : ℕ) (front rest : List (List ℕ)) (ask : Ask) → Allowed front ask → first_fault_from n (map caveat_of (front ++ rest)) ask ≡ first_fault_from (n + length front) (map caveat_of rest) ask
+passed : (n : ℕ) (front rest : List (List ℕ)) (ask : Ask) → Allowed front ask →
+    first_fault_from n (map caveat_of (front ++ rest)) ask ≡ first_fault_from (n + length front) (map caveat_of rest) ask
 passed n [] rest ask h = rw add-zero refl
 passed n (text ∷ front) rest ask h =
     let first = All-head (λ t. Allows t ask) text front h in
     let next : n + 1 + length front ≡ n + length (text ∷ front) = omega arith in
-    rw (caveat_of-understood text first.0 first.1, (Decides-permits first.0 ask).1 first.2) (passed (n + 1) front rest ask (All-tail (λ t. Allows t ask) text front h) ∙ rw next refl)
+    rw (caveat_of-understood text first.0 first.1, (Decides-permits first.0 ask).1 first.2)
+    (passed (n + 1) front rest ask (All-tail (λ t. Allows t ask) text front h) ∙ rw next refl)
 
 all_passed : (n : ℕ) (texts : List (List ℕ)) (ask : Ask) → Allowed texts ask → first_fault_from n (map caveat_of texts) ask ≡ None
 all_passed n [] ask h = refl
 all_passed n (text ∷ texts) ask h =
     let first = All-head (λ t. Allows t ask) text texts h in
-    rw (caveat_of-understood text first.0 first.1, (Decides-permits first.0 ask).1 first.2) (all_passed (n + 1) texts ask (All-tail (λ t. Allows t ask) text texts h))
+    rw (caveat_of-understood text first.0 first.1, (Decides-permits first.0 ask).1 first.2)
+    (all_passed (n + 1) texts ask (All-tail (λ t. Allows t ask) text texts h))
 
 -- the function finds the first fault
 pub first_fault-is : (texts : List (List ℕ)) (ask : Ask) (r : Option CaveatFault) → IsFirstFault texts ask r → r ≡ first_fault_of (map caveat_of texts) ask
@@ -75,7 +80,8 @@ first_fault-is texts ask (Some (Denied n)) h =
     let denied = not_true (permits h.fault.0 ask) (λ e. h.fault.2 ((Decides-permits h.fault.0 ask).0 e)) in
     sym (rw h.place (passed 1 h.front (h.text ∷ h.rest) ask h.before ∙ rw (caveat_of-understood h.text h.fault.0 h.fault.1, denied, number) refl))
 
-verdict_on : (text : List ℕ) (ask : Ask) (caveat : Caveat) (b : Bool) → Understood text caveat → permits caveat ask ≡ b → Allows text ask ⊎ (IsUnknown text ⊎ Denies text ask)
+verdict_on : (text : List ℕ) (ask : Ask) (caveat : Caveat) (b : Bool) → Understood text caveat → permits caveat ask ≡ b →
+    Allows text ask ⊎ (IsUnknown text ⊎ Denies text ask)
 verdict_on text ask caveat true h e = inl (caveat, h, (Decides-permits caveat ask).0 e)
 verdict_on text ask caveat false h e =
     inr (inr (caveat, h, λ permitted. let t = (Decides-permits caveat ask).1 permitted in cc))
@@ -97,8 +103,10 @@ some_fault front (text ∷ texts) ask h =
           let found = some_fault (front ++ text ∷ []) texts ask (All-push (λ t. Allows t ask) front text h allows) in
           let P : List (List ℕ) → Type 0 = λ all. IsFirstFault all ask found.0 in
           (found.0, subst P (append_assoc front (text ∷ []) texts) found.1)
-      | inr (inl unknown) ↦
-          (Some (NotUnderstood (length front + 1)), record { front = front; text = text; rest = texts; place = refl; number = refl; before = h; fault = unknown })
+      | inr (inl unknown) ↦ (
+        Some (NotUnderstood (length front + 1)),
+        record { front = front; text = text; rest = texts; place = refl; number = refl; before = h; fault = unknown },
+      )
       | inr (inr denies) ↦
           (Some (Denied (length front + 1)), record { front = front; text = text; rest = texts; place = refl; number = refl; before = h; fault = denies })
     ]
@@ -110,12 +118,14 @@ first_fault_of-is_first texts ask =
     let P : Option CaveatFault → Type 0 = λ r. IsFirstFault texts ask r in
     subst P (first_fault-is texts ask found.0 found.1) found.1
 
-fault_by : (b : Bool) (all front last : Option CaveatFault) (fault : CaveatFault) → all ≡ option_or front last → cond b all (Some fault) ≡ option_or (cond b front (Some fault)) last
+fault_by : (b : Bool) (all front last : Option CaveatFault) (fault : CaveatFault) → all ≡ option_or front last →
+    cond b all (Some fault) ≡ option_or (cond b front (Some fault)) last
 fault_by true all front last fault e = e
 fault_by false all front last fault e = refl
 
 -- the first fault of a list with one more caveat
-pub fault_of_one_more : (n : ℕ) (caveats : List (Option Caveat)) (caveat : Option Caveat) (ask : Ask) → first_fault_from n (caveats ++ caveat ∷ []) ask ≡ option_or (first_fault_from n caveats ask) (first_fault_from (n + length caveats) (caveat ∷ []) ask)
+pub fault_of_one_more : (n : ℕ) (caveats : List (Option Caveat)) (caveat : Option Caveat) (ask : Ask) →
+    first_fault_from n (caveats ++ caveat ∷ []) ask ≡ option_or (first_fault_from n caveats ask) (first_fault_from (n + length caveats) (caveat ∷ []) ask)
 fault_of_one_more n [] caveat ask = rw add-zero refl
 fault_of_one_more n (None ∷ caveats) caveat ask = refl
 fault_of_one_more n (Some first ∷ caveats) caveat ask =
@@ -138,4 +148,5 @@ none_where_allowed texts ask fault h =
 pub narrower : (texts more : List (List ℕ)) (ask : Ask) → Allowed (texts ++ more) ask → Allowed texts ask
 narrower [] more ask h = All-nil (λ t. Allows t ask)
 narrower (text ∷ texts) more ask h =
-    All-cons (λ t. Allows t ask) text texts (All-head (λ t. Allows t ask) text (texts ++ more) h) (narrower texts more ask (All-tail (λ t. Allows t ask) text (texts ++ more) h))
+    All-cons (λ t. Allows t ask) text texts (All-head (λ t. Allows t ask) text (texts ++ more) h)
+    (narrower texts more ask (All-tail (λ t. Allows t ask) text (texts ++ more) h))

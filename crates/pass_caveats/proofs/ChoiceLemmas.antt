@@ -1,5 +1,6 @@
 -- Some words of a list, in its order: how the text of them is read, word after word.
-use Rattle.std.proofs.Common.{◌≡◌, ◌≢◌, ℕ, ◌<◌, Bool, true, false, cond, List, [], ◌∷◌, ◌++◌, length, map, Option, Some, None, refl, sym, ap, ◌∙◌, arith, Decides, Bor}
+use Rattle.std.proofs.Common.{◌≡◌, ◌≢◌, ℕ, ◌<◌, Bool, true, false, cond, List, [], ◌∷◌, ◌++◌, length, map, Option, Some, None, refl, sym, ap, ◌∙◌, arith}
+use Rattle.std.proofs.Common.{Decides, Bor}
 use Rattle.std.specs.Prelude.{◌==◌, ◌&&◌, ◌||◌, not, filter, is_some, All}
 use Rattle.std.specs.Option.{option_copied}
 use Rattle.std.specs.List.{list_all}
@@ -17,7 +18,8 @@ chosen [] words = []
 chosen (flag ∷ flags) [] = []
 chosen (flag ∷ flags) (word ∷ words) = cond flag (word ∷ chosen flags words) (chosen flags words)
 
-with_item : {A : Type 0} (flag : Bool) (text : A → List ℕ) (x : A) (xs : List A) → map text (cond flag (x ∷ xs) xs) ≡ cond flag (text x ∷ map text xs) (map text xs)
+with_item : {A : Type 0} (flag : Bool) (text : A → List ℕ) (x : A) (xs : List A) →
+    map text (cond flag (x ∷ xs) xs) ≡ cond flag (text x ∷ map text xs) (map text xs)
 with_item true text x xs = refl
 with_item false text x xs = refl
 
@@ -60,7 +62,8 @@ refused true e = absurd (cc)
 refused false e = refl
 
 -- a word that isn't among the words isn't the first of them
-next_by : (flag : Bool) (word other : List ℕ) (rest : List (List ℕ)) → bytes_eq other word ≡ false → is_next word rest ≡ false → is_next word (cond flag (other ∷ rest) rest) ≡ false
+next_by : (flag : Bool) (word other : List ℕ) (rest : List (List ℕ)) → bytes_eq other word ≡ false → is_next word rest ≡ false →
+    is_next word (cond flag (other ∷ rest) rest) ≡ false
 next_by true word other rest differs none = differs
 next_by false word other rest differs none = none
 
@@ -81,7 +84,8 @@ left_after [] parts = parts
 left_after (word ∷ words) parts = left_after words (after_next word parts)
 
 -- chosen words are found again, and nothing is left
-found_again : (flags : List Bool) (words : List (List ℕ)) → length flags ≡ length words → are_distinct words ≡ true → (words_found words (chosen flags words) ≡ flags) × (left_after words (chosen flags words) ≡ [])
+found_again : (flags : List Bool) (words : List (List ℕ)) → length flags ≡ length words → are_distinct words ≡ true →
+    (words_found words (chosen flags words) ≡ flags) × (left_after words (chosen flags words) ≡ [])
 found_again [] [] same distinct = (refl, refl)
 found_again [] (word ∷ words) same distinct = absurd (omega arith)
 found_again (flag ∷ flags) [] same distinct = absurd (omega arith)
@@ -104,7 +108,8 @@ Steps (flag ∷ flags) [] parts last = ⊥
 Steps (flag ∷ flags) (word ∷ words) parts last =
     (next : List (List ℕ)) × (flag ≡ is_next word parts) × (next ≡ after_next word parts) × Steps flags words next last
 
-front_of : (flag : Bool) (word : List ℕ) (front rest : List (List ℕ)) → cond flag (word ∷ (front ++ rest)) (front ++ rest) ≡ cond flag (word ∷ front) front ++ rest
+front_of : (flag : Bool) (word : List ℕ) (front rest : List (List ℕ)) →
+    cond flag (word ∷ (front ++ rest)) (front ++ rest) ≡ cond flag (word ∷ front) front ++ rest
 front_of true word front rest = refl
 front_of false word front rest = refl
 
@@ -125,7 +130,8 @@ steps_leave (flag ∷ flags) (word ∷ words) parts last s = rw s.2 at (steps_le
 plain_words : (words : List (List ℕ)) → are_plain words ≡ true → All HasNoComma words
 plain_words words e =
     let byte : (n : ℕ) → Decides (not (n == 44)) ((n == 44) ≡ false) = λ n. (denied (n == 44), refused (n == 44)) in
-    let word : (w : List ℕ) → Decides (list_all (λ n. not (n == 44)) w) (HasNoComma w) = λ w. Decides-by_and _ _ (list_all (λ n. not (n == 44))) byte refl (λ _ _. refl) w in
+    let word : (w : List ℕ) → Decides (list_all (λ n. not (n == 44)) w) (HasNoComma w) =
+    λ w. Decides-by_and _ _ (list_all (λ n. not (n == 44))) byte refl (λ _ _. refl) w in
     (Decides-by_and _ _ (list_all (list_all (λ n. not (n == 44)))) word refl (λ _ _. refl) words).0 e
 
 chosen_by : (flag : Bool) (word : List ℕ) (rest : List (List ℕ)) → HasNoComma word → All HasNoComma rest → All HasNoComma (cond flag (word ∷ rest) rest)
@@ -143,7 +149,8 @@ some_of [] h = absurd (h refl)
 some_of (part ∷ parts) h = omega arith
 
 -- what is chosen is the list of the parts of its text
-parts_again : (flags : List Bool) (words : List (List ℕ)) → are_plain words ≡ true → chosen flags words ≢ [] → parts_of (joined (chosen flags words)) ≡ chosen flags words
+parts_again : (flags : List Bool) (words : List (List ℕ)) → are_plain words ≡ true → chosen flags words ≢ [] →
+    parts_of (joined (chosen flags words)) ≡ chosen flags words
 parts_again flags words plain some =
     parts_of-joined (chosen flags words) (some_of (chosen flags words) some) (chosen_plain flags words (plain_words words plain))
 
@@ -151,23 +158,27 @@ same_length : {A : Type 0} (test : A → Bool) (text : A → List ℕ) (xs : Lis
 same_length test text xs = length-map xs test ∙ sym (length-map xs text)
 
 -- a text that was read to its end is that of the items
-pub reads_choice : {A : Type 0} (test : A → Bool) (text : A → List ℕ) (xs : List A) (t : List ℕ) → Steps (map test xs) (map text xs) (parts_of t) [] → (map text (filter test xs) ≢ []) × (t ≡ joined (map text (filter test xs)))
+pub reads_choice : {A : Type 0} (test : A → Bool) (text : A → List ℕ) (xs : List A) (t : List ℕ) → Steps (map test xs) (map text xs) (parts_of t) [] →
+    (map text (filter test xs) ≢ []) × (t ≡ joined (map text (filter test xs)))
 reads_choice test text xs t steps =
     let parts : parts_of t ≡ map text (filter test xs) =
     steps_take (map test xs) (map text xs) (parts_of t) [] steps ∙ (append-nil (chosen (map test xs) (map text xs)) ∙ sym (chosen_is test text xs)) in
     ((λ none. absurd (omega (arith, some_part t, ap (length {A = List ℕ}) (parts ∙ none)))), sym (joined-parts_of t) ∙ ap joined parts)
 
 -- a text of which something was left is that of no items
-pub no_choice : {A : Type 0} (text : A → List ℕ) (xs : List A) → AreWords text xs → (found : List Bool) (t : List ℕ) (last : List (List ℕ)) → last ≢ [] → Steps found (map text xs) (parts_of t) last → (test : A → Bool) → map text (filter test xs) ≢ [] → t ≡ joined (map text (filter test xs)) → ⊥
+pub no_choice : {A : Type 0} (text : A → List ℕ) (xs : List A) → AreWords text xs → (found : List Bool) (t : List ℕ) (last : List (List ℕ)) → last ≢ [] →
+    Steps found (map text xs) (parts_of t) last → (test : A → Bool) → map text (filter test xs) ≢ [] → t ≡ joined (map text (filter test xs)) → ⊥
 no_choice text xs are found t last some steps test chooses e =
     let items = chosen_is test text xs in
     let is : t ≡ joined (chosen (map test xs) (map text xs)) = e ∙ ap joined items in
-    let parts : parts_of t ≡ chosen (map test xs) (map text xs) = ap parts_of is ∙ parts_again (map test xs) (map text xs) are.plain (λ none. chooses (items ∙ none)) in
+    let parts : parts_of t ≡ chosen (map test xs) (map text xs) =
+    ap parts_of is ∙ parts_again (map test xs) (map text xs) are.plain (λ none. chooses (items ∙ none)) in
     some (steps_leave found (map text xs) (parts_of t) last steps
     ∙ (ap (left_after (map text xs)) parts ∙ (found_again (map test xs) (map text xs) (same_length test text xs) are.distinct).1))
 
 -- the words that are found in a text are those of its items
-pub choice_again : {A : Type 0} (test : A → Bool) (text : A → List ℕ) (xs : List A) → AreWords text xs → map text (filter test xs) ≢ [] → words_found (map text xs) (parts_of (joined (map text (filter test xs)))) ≡ map test xs
+pub choice_again : {A : Type 0} (test : A → Bool) (text : A → List ℕ) (xs : List A) → AreWords text xs → map text (filter test xs) ≢ [] →
+    words_found (map text xs) (parts_of (joined (map text (filter test xs)))) ≡ map test xs
 choice_again test text xs are chooses =
     let items = chosen_is test text xs in
     ap (λ (texts : List (List ℕ)). words_found (map text xs) (parts_of (joined texts))) items

@@ -9,14 +9,16 @@ use Rattle.pass_caveats.specs.declared.fault.CaveatFault.{CaveatFault}
 use Rattle.pass_caveats.specs.declared.fault.CaveatFault.TheVariants.{NotUnderstood, Denied}
 use Rattle.pass_caveats.specs.Fault.{Allows, Allowed, IsUnknown, Denies, IsFaultAt, IsFirstAt, IsFirstFault}
 
-pub text_at : {Z : Type 0} (vs : List (Vec ℕ Z)) (i : ℕ) (v : Vec ℕ Z) (text : List ℕ) → i < length vs → v ≡ get_or vs i v → text ≡ vec_items v → get_or (map vec_items vs) i [] ≡ text
+pub text_at : {Z : Type 0} (vs : List (Vec ℕ Z)) (i : ℕ) (v : Vec ℕ Z) (text : List ℕ) → i < length vs → v ≡ get_or vs i v → text ≡ vec_items v →
+    get_or (map vec_items vs) i [] ≡ text
 text_at vs i v text h at e = get_or-map vec_items vs i v [] h ∙ (ap vec_items (sym at) ∙ sym e)
 
 split_here : (texts : List (List ℕ)) (i : ℕ) → i < length texts → texts ≡ take i texts ++ get_or texts i [] ∷ drop (i + 1) texts
 split_here texts i h =
     sym (take-append-drop i texts) ∙ ap (λ (rest : List (List ℕ)). take i texts ++ rest) (drop-cons texts i [] h ∙ rw add-one refl)
 
-first_at : (texts : List (List ℕ)) (ask : Ask) (i : ℕ) (text : List ℕ) (Fault : List ℕ → Type 0) → i < length texts → get_or texts i [] ≡ text → Allowed (take i texts) ask → Fault text → IsFirstAt texts ask (i + 1) Fault
+first_at : (texts : List (List ℕ)) (ask : Ask) (i : ℕ) (text : List ℕ) (Fault : List ℕ → Type 0) → i < length texts → get_or texts i [] ≡ text →
+    Allowed (take i texts) ask → Fault text → IsFirstAt texts ask (i + 1) Fault
 first_at texts ask i text Fault h at before fault =
     record {
       front = take i texts;
@@ -29,10 +31,12 @@ first_at texts ask i text Fault h at before fault =
     }
 
 -- the fault of the text at i, before which all allow the request, is the first
-pub first_fault_at : (texts : List (List ℕ)) (ask : Ask) (i : ℕ) (text : List ℕ) (fault : CaveatFault) → i < length texts → get_or texts i [] ≡ text → Allowed (take i texts) ask → IsFaultAt text (i + 1) ask (Some fault) → IsFirstFault texts ask (Some fault)
+pub first_fault_at : (texts : List (List ℕ)) (ask : Ask) (i : ℕ) (text : List ℕ) (fault : CaveatFault) → i < length texts → get_or texts i [] ≡ text →
+    Allowed (take i texts) ask → IsFaultAt text (i + 1) ask (Some fault) → IsFirstFault texts ask (Some fault)
 first_fault_at texts ask i text (NotUnderstood m) h at before fault = rw fault.0 (first_at texts ask i text IsUnknown h at before fault.1)
 first_fault_at texts ask i text (Denied m) h at before fault = rw fault.0 (first_at texts ask i text (λ t. Denies t ask) h at before fault.1)
 
-pub one_more : (texts : List (List ℕ)) (ask : Ask) (i : ℕ) (text : List ℕ) → i < length texts → get_or texts i [] ≡ text → Allowed (take i texts) ask → Allows text ask → Allowed (take (i + 1) texts) ask
+pub one_more : (texts : List (List ℕ)) (ask : Ask) (i : ℕ) (text : List ℕ) → i < length texts → get_or texts i [] ≡ text → Allowed (take i texts) ask →
+    Allows text ask → Allowed (take (i + 1) texts) ask
 one_more texts ask i text h at before allows =
     rw (add-one, take-suc texts i [] h, at) (All-push (λ t. Allows t ask) (take i texts) text before allows)

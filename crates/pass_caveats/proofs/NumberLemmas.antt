@@ -37,7 +37,8 @@ spells_value text h =
     }
 
 -- and that is what `parse` gives
-pub reads_number : {E : Type 0} (text read : List ℕ) (r : Result ℕ E) (o : Option ℕ) → IsNumber text → read ≡ text → ParsesUnsigned 32 10 read r → o ≡ result_ok r → Reads (SpellsNumber text) o
+pub reads_number : {E : Type 0} (text read : List ℕ) (r : Result ℕ E) (o : Option ℕ) → IsNumber text → read ≡ text → ParsesUnsigned 32 10 read r →
+    o ≡ result_ok r → Reads (SpellsNumber text) o
 reads_number text read r o h e parses is =
     let small = value_below text h in
     let given = parse_gives own 32 text r (rw e at parses) h.digits h.some (omega arith) in

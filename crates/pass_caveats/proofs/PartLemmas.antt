@@ -1,5 +1,6 @@
 -- The parts of a list with commas.
-use Rattle.std.proofs.Common.{◌≡◌, ◌≢◌, ℕ, ◌+◌, ◌<◌, ◌≤◌, ◌↔◌, ◌-◌, Bool, true, false, cond, List, [], ◌∷◌, ◌++◌, length, get_or, take, drop, add-one, refl, sym, ap, ◌∙◌, arith, IsTrue}
+use Rattle.std.proofs.Common.{◌≡◌, ◌≢◌, ℕ, ◌+◌, ◌<◌, ◌≤◌, ◌↔◌, ◌-◌, Bool, true, false, cond, List, [], ◌∷◌, ◌++◌, length, get_or, take, drop, add-one, refl}
+use Rattle.std.proofs.Common.{sym, ap, ◌∙◌, arith, IsTrue}
 use Rattle.std.proofs.lemmas.List.{take-append-drop, length-take-le, get_or-take, take_all, length-drop}
 use Rattle.std.proofs.Math.Seq.{drop-cons}
 use Rattle.std.specs.Prelude.{All, Contains}
@@ -16,12 +17,14 @@ use Rattle.std.specs.Str.{bytes_eq}
 use Rattle.std.proofs.lemmas.Slice.Eq.{bytes_eq-Decides}
 
 -- what `any` answers of a list's items that are x
-pub contains_from_any : (r : Bool) (xs : List (List ℕ)) (x : List ℕ) → MatchBool r ((k : ℕ) × (k < length xs) × HoldsAt (λ y. y ≡ x) xs k) (AllWithin (λ y. y ≢ x) xs 0 (length xs)) → IsTrue r ↔ Contains xs x
+pub contains_from_any : (r : Bool) (xs : List (List ℕ)) (x : List ℕ) →
+    MatchBool r ((k : ℕ) × (k < length xs) × HoldsAt (λ y. y ≡ x) xs k) (AllWithin (λ y. y ≢ x) xs 0 (length xs)) → IsTrue r ↔ Contains xs x
 contains_from_any true xs x h = ((λ e. (h.0, h.1, h.2 x)), (λ c. refl))
 contains_from_any false xs x h = ((λ e. cc), (λ c. absurd (h c.0 x (omega arith) c.1 c.2)))
 
 -- what `all` answers of a list's items with P
-pub all_from_all : (r : Bool) (xs : List (List ℕ)) (P : List ℕ → Type 0) → MatchBool r (AllWithin P xs 0 (length xs)) ((k : ℕ) × (k < length xs) × HoldsAt (λ y. P y → ⊥) xs k) → IsTrue r ↔ All P xs
+pub all_from_all : (r : Bool) (xs : List (List ℕ)) (P : List ℕ → Type 0) →
+    MatchBool r (AllWithin P xs 0 (length xs)) ((k : ℕ) × (k < length xs) × HoldsAt (λ y. P y → ⊥) xs k) → IsTrue r ↔ All P xs
 all_from_all true xs P h = ((λ e k d within. h k d (omega arith) within), (λ c. refl))
 all_from_all false xs P h = ((λ e. cc), (λ c. absurd (h.2 [] (c h.0 [] h.1))))
 
@@ -70,9 +73,11 @@ no_comma_before text i h none = λ k d within.
     let other : get_or text k d ≢ 44 = none k d (omega arith) below in
     rw get_or-take (grind (arith, nat_tests))
 
-pub parts_of-comma : (text rest : List ℕ) (i : ℕ) → i < length text → HoldsAt (λ byte. byte ≡ 44) text i → AllWithin (λ byte. byte ≢ 44) text 0 i → rest ≡ drop (i + 1) text → parts_of text ≡ take i text ∷ parts_of rest
+pub parts_of-comma : (text rest : List ℕ) (i : ℕ) → i < length text → HoldsAt (λ byte. byte ≡ 44) text i → AllWithin (λ byte. byte ≢ 44) text 0 i →
+    rest ≡ drop (i + 1) text → parts_of text ≡ take i text ∷ parts_of rest
 parts_of-comma text rest i h here before e =
-    rw e (ap parts_of (at_comma text i h (here 0)) ∙ slice_split_at (λ byte. byte == 44) (take i text) 44 (drop (i + 1) text) (no_comma_before text i (omega arith) before) refl)
+    rw e (ap parts_of (at_comma text i h (here 0)) ∙ slice_split_at (λ byte. byte == 44) (take i text) 44 (drop (i + 1) text)
+    (no_comma_before text i (omega arith) before) refl)
 
 pub parts_of-no_comma : (text : List ℕ) → AllWithin (λ byte. byte ≢ 44) text 0 (length text) → parts_of text ≡ text ∷ []
 parts_of-no_comma text none =
@@ -81,11 +86,13 @@ parts_of-no_comma text none =
 pub tail_is : (text : List ℕ) (i : ℕ) → take (length text - (i + 1)) (drop (i + 1) text) ≡ drop (i + 1) text
 tail_is text i = take_all (length text - (i + 1)) (drop (i + 1) text) (omega (arith, length-drop (i + 1) text))
 
-taken : (word part : List ℕ) (parts : List (List ℕ)) (b : Bool) → bytes_eq part word ≡ b → part ∷ parts ≡ cond b (word ∷ cond b parts (part ∷ parts)) (cond b parts (part ∷ parts))
+taken : (word part : List ℕ) (parts : List (List ℕ)) (b : Bool) → bytes_eq part word ≡ b →
+    part ∷ parts ≡ cond b (word ∷ cond b parts (part ∷ parts)) (cond b parts (part ∷ parts))
 taken word part parts true e = ap (λ (first : List ℕ). first ∷ parts) ((bytes_eq-Decides part word).0 e)
 taken word part parts false e = refl
 
 -- what a step takes from the front
-pub skip_takes : (word : List ℕ) (parts left : List (List ℕ)) (b : Bool) → b ≡ is_next word parts → left ≡ after_next word parts → parts ≡ cond b (word ∷ left) left
+pub skip_takes : (word : List ℕ) (parts left : List (List ℕ)) (b : Bool) → b ≡ is_next word parts → left ≡ after_next word parts →
+    parts ≡ cond b (word ∷ left) left
 skip_takes word [] left b e f = rw (e, f) refl
 skip_takes word (part ∷ parts) left b e f = rw (e, f) (taken word part parts (bytes_eq part word) refl)

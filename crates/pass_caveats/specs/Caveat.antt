@@ -6,9 +6,12 @@ use Rattle.pass_caveats.specs.declared.caveat.Caveat.TheVariants.{Facility, Kind
 use Rattle.pass_caveats.specs.declared.ask.Ask.{Ask}
 use Rattle.club_values.specs.Digits.{two_digits}
 use Rattle.club_values.specs.Day.{IsDay, day_text}
+use Rattle.club_values.specs.Hour.{hours_a_day}
 use Rattle.club_values.specs.Moment.{IsMoment, moment_text}
 use Rattle.club_values.specs.Kind.{kind_text}
+use Rattle.club_values.specs.Slot.{guests_limit}
 use Rattle.pass_caveats.specs.Names.{AreNames}
+use Rattle.pass_caveats.specs.Number.{number_limit}
 use Rattle.pass_caveats.specs.Parts.{joined}
 use Rattle.club_values.specs.Weekday.{weekday_of}
 use Rattle.pass_caveats.specs.Actions.{has_action, action_texts}
@@ -18,12 +21,12 @@ use Rattle.pass_caveats.specs.Weekdays.{has_weekday, weekday_texts}
 abbrev pub IsCaveat : Caveat → Type 0
 IsCaveat (Facility names) = AreNames names
 IsCaveat (Kind kind) = ⊤
-IsCaveat (Hours from until) = (from < until) × (until ≤ 24)
+IsCaveat (Hours from until) = (from < until) × (until ≤ hours_a_day)
 IsCaveat (Days first last) = IsDay first × IsDay last × (first ≤ last)
 IsCaveat (Weekdays set) = weekday_texts set ≢ []
 IsCaveat (Until moment) = IsMoment moment
-IsCaveat (Guests n) = n ≤ 49
-IsCaveat (Spend n) = n ≤ 999_999_999
+IsCaveat (Guests n) = n ≤ guests_limit
+IsCaveat (Spend n) = n ≤ number_limit
 IsCaveat (Actions actions) = action_texts actions ≢ []
 
 -- the line of these values
@@ -43,10 +46,14 @@ pub record Spells (text : List ℕ) (caveat : Caveat) : Type 0 where
   pub real : IsCaveat caveat
   pub spelled : text ≡ caveat_text caveat
 
--- the text is a line of at most 256 bytes
+-- the most bytes of a caveat (ours)
+abbrev pub max_caveat_len : ℕ
+max_caveat_len = 256
+
+-- the text is a line that isn't longer
 pub record Understood (text : List ℕ) (caveat : Caveat) : Type 0 where
   pub line : Spells text caveat
-  pub short : length text ≤ 256
+  pub short : length text ≤ max_caveat_len
 
 -- the set of the requests that a caveat allows
 abbrev pub Permits : Caveat → Ask → Type 0

@@ -1,6 +1,7 @@
 -- The caveat that a text is, and whether it permits a request, as functions for whoever computes with them. What they mean is
 -- said by `Understood` and `Permits`; laws say that they agree.
-use Rattle.std.specs.Prelude.{ℕ, ◌+◌, ◌==◌, ◌&&◌, ◌||◌, Bool, true, false, List, [], ◌∷◌, length, drop, slice_index, slice_index_or, map, nat_lt, nat_le, if◌then◌else◌, Option, Some, None}
+use Rattle.std.specs.Prelude.{ℕ, ◌+◌, ◌==◌, ◌&&◌, ◌||◌, Bool, true, false, List, [], ◌∷◌, length, drop, slice_index, slice_index_or, map, nat_lt, nat_le}
+use Rattle.std.specs.Prelude.{if◌then◌else◌, Option, Some, None}
 use Rattle.std.specs.List.{list_all, list_any}
 use Rattle.std.specs.Str.{bytes_eq}
 use Rattle.std.specs.Str.Parse.{digits_value}
@@ -12,16 +13,22 @@ use Rattle.pass_caveats.specs.declared.actions.Actions.{Actions as SomeActions}
 use Rattle.pass_caveats.specs.declared.weekdays.Weekdays.{Weekdays as SomeWeekdays}
 use Rattle.std.specs.Int.{is_in_range}
 use Rattle.club_values.specs.declared.slot.Slot.{Slot}
+use Rattle.club_values.specs.Slot.{guests_limit}
 use Rattle.pass_caveats.specs.declared.ask.Ask.{Ask}
 use Rattle.pass_caveats.specs.declared.fault.CaveatFault.{CaveatFault}
 use Rattle.pass_caveats.specs.declared.fault.CaveatFault.TheVariants.{NotUnderstood, Denied}
 use Rattle.club_values.specs.TextOf.{two_at, day_of, moment_of, kind_of, is_name}
+use Rattle.club_values.specs.Day.{first_day, last_day}
+use Rattle.club_values.specs.Hour.{hours_a_day}
+use Rattle.club_values.specs.Moment.{first_moment, last_moment}
 use Rattle.club_values.specs.Action.{action_text}
 use Rattle.club_values.specs.Weekday.{weekdays, weekday_of}
+use Rattle.pass_caveats.specs.Names.{max_names}
+use Rattle.pass_caveats.specs.Number.{number_limit}
 use Rattle.pass_caveats.specs.Parts.{parts_of, words_found}
 use Rattle.pass_caveats.specs.Actions.{all_actions, has_action, action_texts}
 use Rattle.pass_caveats.specs.Weekdays.{weekday_text, has_weekday, weekday_texts}
-use Rattle.pass_caveats.specs.Caveat.{caveat_text}
+use Rattle.pass_caveats.specs.Caveat.{caveat_text, max_caveat_len}
 
 -- the sets of what is found
 abbrev pub actions_from : List Bool → SomeActions
@@ -56,18 +63,18 @@ candidate text =
 
 -- whether the values may stand in a line
 abbrev pub is_caveat : Caveat → Bool
-is_caveat (Facility names) = nat_lt 0 (length names) && nat_le (length names) 8 && list_all is_name names
+is_caveat (Facility names) = nat_lt 0 (length names) && nat_le (length names) max_names && list_all is_name names
 is_caveat (Kind kind) = true
-is_caveat (Hours from until) = nat_lt from until && nat_le until 24
-is_caveat (Days first last) = is_in_range 10957 47481 first && is_in_range 10957 47481 last && nat_le first last
+is_caveat (Hours from until) = nat_lt from until && nat_le until hours_a_day
+is_caveat (Days first last) = is_in_range first_day last_day first && is_in_range first_day last_day last && nat_le first last
 is_caveat (Weekdays set) = nat_lt 0 (length (weekday_texts set))
-is_caveat (Until moment) = is_in_range 15_778_080 68_374_079 moment
-is_caveat (Guests n) = nat_le n 49
-is_caveat (Spend n) = nat_le n 999_999_999
+is_caveat (Until moment) = is_in_range first_moment last_moment moment
+is_caveat (Guests n) = nat_le n guests_limit
+is_caveat (Spend n) = nat_le n number_limit
 is_caveat (Actions actions) = nat_lt 0 (length (action_texts actions))
 
 abbrev pub spells : List ℕ → Caveat → Bool
-spells text caveat = is_caveat caveat && bytes_eq text (caveat_text caveat) && nat_le (length text) 256
+spells text caveat = is_caveat caveat && bytes_eq text (caveat_text caveat) && nat_le (length text) max_caveat_len
 
 -- the caveat that is understood
 unfoldable pub caveat_of : List ℕ → Option Caveat

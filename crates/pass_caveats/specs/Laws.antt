@@ -25,7 +25,8 @@ FindsTheFirstFault =
 -- with one more caveat the first fault is that of the caveats before it, and else that of the last one
 abbrev pub FindsTheFaultOfOneMore : Type 0
 FindsTheFaultOfOneMore =
-    (caveats : List (Option Caveat)) (caveat : Option Caveat) (ask : Ask) → first_fault_of (caveats ++ caveat ∷ []) ask ≡ option_or (first_fault_of caveats ask) (first_fault_from (length caveats + 1) (caveat ∷ []) ask)
+    (caveats : List (Option Caveat)) (caveat : Option Caveat) (ask : Ask) →
+    first_fault_of (caveats ++ caveat ∷ []) ask ≡ option_or (first_fault_of caveats ask) (first_fault_from (length caveats + 1) (caveat ∷ []) ask)
 
 -- this function reads what is understood
 abbrev pub ReadsWhatIsUnderstood : Type 0

@@ -2,8 +2,12 @@
 use Rattle.std.specs.Prelude.{ℕ, ◌<◌, ◌≤◌, List, length, All}
 use Rattle.club_values.specs.Name.{IsName}
 
--- one to eight names (ours)
+-- the most names of a list (ours)
+abbrev pub max_names : ℕ
+max_names = 8
+
+-- one name or more
 pub record AreNames (names : List (List ℕ)) : Type 0 where
   pub some : 0 < length names
-  pub few : length names ≤ 8
+  pub few : length names ≤ max_names
   pub named : All IsName names

@@ -33,7 +33,8 @@ pub enum Caveat<'a> {
     Until(Moment),
     /// No more guests than this, 0 to 49.
     Guests(u8),
-    /// Nothing is owed, or all that the key has spent comes to no more than this, 0 to 999,999,999 points.
+    /// Nothing is owed, or all that the key has spent comes to no more than this, 0 to 999,999,999
+    /// points.
     Spend(u32),
     /// The action is in the set.
     Actions(Actions),
@@ -79,7 +80,8 @@ fn short_line_of(text: &[u8]) -> Option<Caveat<'_>>
     line_of(text)
 }
 
-/// The caveat that a text is; `None` where the text is no line of the language, or longer than 256 bytes.
+/// The caveat that a text is; `None` where the text is no line of the language, or longer than 256
+/// bytes.
 pub fn read(bytes: &[u8]) -> Option<Caveat<'_>>
     ensures understood { Reads (Understood bytes.now) result }
     ensures function { result ≡ caveat_of bytes.now }

@@ -46,8 +46,9 @@ fn fault_of_text(text: &[u8], number: usize, ask: &Ask) -> Option<CaveatFault>
     }
 }
 
-/// The fault of one caveat, whose number in its list is told; `None` where it allows the request. Whoever takes caveats one by one
-/// numbers them from 1: the first fault that is told is that of their list.
+/// The fault of one caveat, whose number in its list is told; `None` where it allows the request.
+/// Whoever takes caveats one by one numbers them from 1: the first fault that is told is that of
+/// their list.
 pub fn fault_at(text: &[u8], number: usize, ask: &Ask) -> Option<CaveatFault>
     ensures cases { IsFaultAt text.now number ask.now result }
     ensures function { result ≡ first_fault_from number (caveat_of text.now ∷ []) ask.now }

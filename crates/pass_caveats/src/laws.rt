@@ -1,6 +1,14 @@
 //! Laws of the definitions, each the contract of a function that does nothing.
 
-ghost use Rattle.pass_caveats.specs.Laws.{Narrows, FaultsOnlyWhereNotAllowed, FindsTheFirstFault, FindsTheFaultOfOneMore, ReadsWhatIsUnderstood, TestsTheSet, IsUnderstoodOnce};
+ghost use Rattle.pass_caveats.specs.Laws.{
+  Narrows,
+  FaultsOnlyWhereNotAllowed,
+  FindsTheFirstFault,
+  FindsTheFaultOfOneMore,
+  ReadsWhatIsUnderstood,
+  TestsTheSet,
+  IsUnderstoodOnce,
+};
 
 /// What a list of caveats allows with more caveats added, it allows without them.
 pub fn narrows()
@@ -17,8 +25,8 @@ pub fn finds_the_first_fault()
     ensures { FindsTheFirstFault }
 {}
 
-/// With one more caveat the first fault is that of the caveats before it where there is one, and else that of the last one, whose
-/// number is one more than there were before.
+/// With one more caveat the first fault is that of the caveats before it where there is one, and
+/// else that of the last one, whose number is one more than there were before.
 pub fn finds_the_fault_of_one_more()
     ensures { FindsTheFaultOfOneMore }
 {}

@@ -1,5 +1,5 @@
-//! The caveat language of the club's passes: the lines that a caveat may be, and the requests that each allows. Nothing here takes
-//! memory.
+//! The caveat language of the club's passes: the lines that a caveat may be, and the requests that
+//! each allows. Nothing here takes memory.
 #![tactic(auto)]
 
 mod actions;
@@ -22,6 +22,3 @@ pub use club_values::{
 pub use fault::{CaveatFault, fault_at, first_fault};
 pub use names::{MAX_NAMES, Names};
 pub use weekdays::Weekdays;
-
-#[cfg(test)]
-mod tests;

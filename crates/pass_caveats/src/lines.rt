@@ -9,13 +9,7 @@ use crate::names::Names;
 use crate::text::{after, number_of};
 use crate::weekdays::Weekdays;
 use club_values::digits::read_two;
-use club_values::{Day, Kind, Moment};
-
-/// The most guests that a caveat may name.
-const MAX_GUESTS: u32 = 49;
-
-/// The last hour at which a caveat's hours may end.
-const LAST_HOUR: u8 = 24;
+use club_values::{Day, HOURS_A_DAY, Kind, MAX_GUESTS, Moment};
 
 pub(crate) fn read_facility(text: &[u8]) -> Option<Names<'_>>
     ensures { Reads (λ names. Spells text.now (caveats.Facility names)) result }
@@ -37,7 +31,7 @@ pub(crate) fn read_hours(text: &[u8]) -> Option<(u8, u8)>
     };
     let from = read_two(a1, a2)?;
     let until = read_two(b1, b2)?;
-    if from < until && until <= LAST_HOUR {
+    if from < until && until <= HOURS_A_DAY {
         Some((from, until))
     } else {
         None
@@ -77,7 +71,7 @@ pub(crate) fn read_guests(text: &[u8]) -> Option<u8>
     ensures { Reads (λ n. Spells text.now (caveats.Guests n)) result }
 {
     let guests = number_of(after(text, b"guests <= ")?)?;
-    if guests <= MAX_GUESTS {
+    if guests <= u32::from(MAX_GUESTS) {
         Some(guests as u8)
     } else {
         None

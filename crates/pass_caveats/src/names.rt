@@ -10,7 +10,8 @@ use std::marker::Model;
 /// The most names of a list in a caveat.
 pub const MAX_NAMES: usize = 8;
 
-/// One to eight names with commas between them, borrowed from a text. Contracts see the list of the names.
+/// One to eight names with commas between them, borrowed from a text. Contracts see the list of the
+/// names.
 #[derive(Debug, Drop)]
 pub struct Names<'a> {
     text: &'a [u8],

@@ -4,6 +4,9 @@ ghost use Rattle.pass_caveats.specs.Number.{IsNumber, SpellsNumber};
 
 use club_values::ascii::text_of;
 
+/// The most digits of a number in a caveat.
+const MAX_DIGITS: usize = 9;
+
 /// What follows a word at the front of a text.
 pub(crate) fn after<'a>(text: &'a [u8], word: &[u8]) -> Option<&'a [u8]>
     ensures { MatchOption result ((rest : List ℕ) → ¬ (text.now ≡ word.now ++ rest))
@@ -16,7 +19,7 @@ fn is_number(text: &[u8]) -> bool
     ensures { IsTrue result ↔ IsNumber text.now }
 {
     !text.is_empty()
-        && text.len() <= 9
+        && text.len() <= MAX_DIGITS
         && (text[0] != b'0' || text.len() == 1)
         && text.iter().all(|byte| byte.is_ascii_digit())
 }

@@ -19,7 +19,8 @@ pub struct Weekdays {
 impl Weekdays {
     ghost use Rattle.pass_caveats.specs.Weekdays.{has_weekday, SpellsWeekdays};
 
-    /// The set of a list with commas: some of `mon,tue,wed,thu,fri,sat,sun`, in this order; `None` for any other text.
+    /// The set of a list with commas: some of `mon,tue,wed,thu,fri,sat,sun`, in this order; `None`
+    /// for any other text.
     pub fn read(text: &[u8]) -> Option<Weekdays>
         ensures { Reads (SpellsWeekdays text.now) result }
     {

@@ -60,14 +60,15 @@ convert_command = with_rule (new_app (codes "convert")) (required form_option)
 abbrev pub verify_command : App
 verify_command = with_rule (new_app (codes "verify")) root_option
 
-abbrev pub needs_subcommand : Shape → Shape
-needs_subcommand top = record top { subcommand_required = true }
+-- it has a version, and a command must be named
+abbrev pub as_program : Shape → Shape
+as_program top = record top { has_version = true; subcommand_required = true }
 
--- `passtool COMMAND`, where a command must be named
+-- `passtool COMMAND`
 unfoldable pub application : App
 application =
     with_subcommand (with_subcommand (with_subcommand (with_subcommand (with_subcommand
-    (on_top needs_subcommand (new_app (codes "passtool")))
+    (on_top as_program (new_app (codes "passtool")))
     mint_command.top) show_command.top) narrow_command.top) convert_command.top) verify_command.top
 
 -- the command is of this application, and none of its options is global

@@ -7,7 +7,7 @@ use Rattle.clap.specs.Words.{Text}
 use Rattle.pass_commands.specs.Answer.{ReadsBack, Told, answer_of, reads_input}
 use Rattle.pass_commands.specs.Fault.{of_form}
 use Rattle.pass_commands.specs.Input.{Reads}
-use Rattle.pass_commands.specs.Words.{AsksHelp, IsFaultOf, asked}
+use Rattle.pass_commands.specs.Words.{AsksText, IsFaultOf, asked}
 use Rattle.pass_commands.specs.declared.answer.Fault.{Fault}
 use Rattle.pass_commands.specs.declared.answer.Fault.TheVariants.{Words, TooLong, Malformed, ThirdParty, TooMany, Memory, BadRoot, CaveatNotUnderstood, InputOutput}
 use Rattle.pass_commands.specs.declared.answer.Outcome.{Outcome}
@@ -56,12 +56,12 @@ asks_input (Some command) = reads_input command
 -- what the words decide of a run's answer
 abbrev pub AnswersWords : List Text → Result Outcome Fault → Type 0
 AnswersWords words (Ok NotSigned) = IsSome (asked words)
-AnswersWords words (Ok Done) = IsSome (asked words) ⊎ AsksHelp words
+AnswersWords words (Ok Done) = IsSome (asked words) ⊎ AsksText words
 AnswersWords words (Err (Words error)) = IsFaultOf words (Words error)
 AnswersWords words (Err BadRoot) = IsFaultOf words BadRoot
 AnswersWords words (Err (CaveatNotUnderstood number)) = IsFaultOf words (CaveatNotUnderstood number)
 AnswersWords words (Err Memory) = Unit {0}
-AnswersWords words (Err InputOutput) = IsSome (asked words) ⊎ AsksHelp words
+AnswersWords words (Err InputOutput) = IsSome (asked words) ⊎ AsksText words
 AnswersWords words (Err TooLong) = IsSome (asked words)
 AnswersWords words (Err Malformed) = IsSome (asked words)
 AnswersWords words (Err ThirdParty) = IsSome (asked words)

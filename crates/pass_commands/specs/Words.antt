@@ -5,6 +5,7 @@ use Rattle.std.specs.Option.{ok_or}
 use Rattle.std.specs.Result.{result_ok}
 use Rattle.std.specs.Str.{bytes_eq}
 use Rattle.clap.specs.Words.{IsAmong, Row, Text, all_of, first_of, kind_of}
+use Rattle.clap.specs.declared.error.kind.ErrorKind.{ErrorKind}
 use Rattle.clap.specs.declared.error.kind.ErrorKind.TheVariants as kind
 use Rattle.clap.specs.Walk.{is_empty}
 use Rattle.pass_caveats.specs.CaveatOf.{caveat_of}
@@ -17,7 +18,7 @@ use Rattle.pass_commands.specs.declared.answer.Fault.TheVariants.{Words, BadRoot
 use Rattle.pass_commands.specs.declared.command.Command.{Command}
 use Rattle.pass_commands.specs.declared.command.Command.TheVariants.{Mint, Show, Narrow, Convert, Verify}
 use Rattle.pass_commands.specs.declared.command.Request.{Request}
-use Rattle.pass_commands.specs.declared.command.Request.TheVariants.{Perform, ShowHelp}
+use Rattle.pass_commands.specs.declared.command.Request.TheVariants.{Perform, ShowText}
 
 -- why words that clap reads ask for no command
 pub data Refusal : Type 0 where
@@ -127,8 +128,13 @@ command_of words = asked_by (subcommand words)
 abbrev pub asked : List Text → Option Command
 asked words = if is_empty (refusals words) then result_ok (command_of words) else None
 
-abbrev pub AsksHelp : List Text → Type 0
-AsksHelp words = IsAmong kind.DisplayHelp (refusals words)
+-- words that ask for a text: help, or the version
+abbrev pub AsksText : List Text → Type 0
+AsksText words = IsAmong kind.DisplayHelp (refusals words) ⊎ IsAmong kind.DisplayVersion (refusals words)
+
+-- the kind of a fault that is no such text
+abbrev pub IsNoText : ErrorKind → Type 0
+IsNoText of_kind = (of_kind ≢ kind.DisplayHelp) × (of_kind ≢ kind.DisplayVersion)
 
 -- A call answers what is asked for, or the fault that fits, or out of memory in place of either.
 abbrev pub AnswersAsked : {A : Type 0} → Result A Refusal → Result A Fault → Type 0
@@ -141,7 +147,7 @@ AnswersAsked expected (Err _) = ⊥
 
 -- The fault of the words: clap decides first.
 abbrev pub IsFaultOf : List Text → Fault → Type 0
-IsFaultOf words (Words error) = (IsAmong (kind_of error) (refusals words) × (kind_of error ≢ kind.DisplayHelp))
+IsFaultOf words (Words error) = (IsAmong (kind_of error) (refusals words) × IsNoText (kind_of error))
     ⊎ ((refusals words ≡ []) × (command_of words ≡ Err bad_form) × (kind_of error ≡ kind.InvalidValue))
 IsFaultOf words BadRoot = (refusals words ≡ []) × (command_of words ≡ Err bad_root)
 IsFaultOf words (CaveatNotUnderstood number) =
@@ -151,6 +157,6 @@ IsFaultOf words _ = ⊥
 
 -- what the words may be read as
 abbrev pub ReadsWords : List Text → Result Request Fault → Type 0
-ReadsWords words (Ok (ShowHelp text)) = AsksHelp words
+ReadsWords words (Ok (ShowText text)) = AsksText words
 ReadsWords words (Ok (Perform command)) = (refusals words ≡ []) × (command_of words ≡ Ok command)
 ReadsWords words (Err fault) = IsFaultOf words fault

@@ -10,6 +10,9 @@ use clap::error::ErrorKind;
 use clap::{Arg, ArgAction, Command};
 use std::alloc::{AllocError, Global};
 
+/// The version of both programs, which `--version` tells.
+pub const VERSION: &str = "0.1.0";
+
 const LOCATION_HELP: &str =
     "A hint at who made the pass; not signed, not checked; empty where it is left out";
 
@@ -52,6 +55,7 @@ pub fn make_application<'a>(alloc: Global) -> Result<Command<'a>, AllocError>
     let convert = make_convert(alloc)?;
     let verify = make_verify(alloc)?;
     Command::new(alloc, "passtool")
+        .version(VERSION)
         .about("Passes on the command line")
         .after_long_help(STATUSES)
         .subcommand_required(true)

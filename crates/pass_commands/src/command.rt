@@ -26,8 +26,8 @@ use std::io::{self, Read, Write};
 /// What the words ask for.
 #[derive(Drop)]
 pub enum Request<'a> {
-    /// The help text, which `clap` made.
-    ShowHelp(clap::Error),
+    /// The help text or the version, which `clap` made.
+    ShowText(clap::Error),
     Perform(Command<'a>),
 }
 
@@ -63,7 +63,8 @@ impl<'a> Request<'a> {
                 Err(fault) => Err(fault),
             },
             Err(error) => match error.kind() {
-                ErrorKind::DisplayHelp => Ok(Request::ShowHelp(error)),
+                ErrorKind::DisplayHelp => Ok(Request::ShowText(error)),
+                ErrorKind::DisplayVersion => Ok(Request::ShowText(error)),
                 ErrorKind::OutOfMemory => Err(Fault::Memory),
                 _ => Err(Fault::Words(error)),
             },

@@ -15,13 +15,11 @@ mod options;
 mod output;
 mod root;
 mod show;
-#[cfg(test)]
-mod tests;
 mod tool;
 mod verify;
 
 pub use answer::{Fault, Outcome};
-pub use application::not_text;
+pub use application::{VERSION, not_text};
 pub use form_names::{form_name, form_named};
 pub use options::value_of;
 pub use output::write_text;

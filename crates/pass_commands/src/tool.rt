@@ -14,15 +14,15 @@ use std::io::{Read, Write};
 /// Runs the program on its words, of which the first is its name.
 ///
 /// The words are judged before the input is read: by `clap`, then a form, a root and caveats. The input is read to its end,
-/// but at most 8,194 bytes of it; `mint` reads none. Then the whole answer is made, and written. Help is written as `clap`
-/// makes it.
+/// but at most 8,194 bytes of it; `mint` reads none. Then the whole answer is made, and written. Help and the version are
+/// written as `clap` makes them.
 ///
 /// # Errors
 ///
 /// Of the words: `Words` where `clap` refuses them or a form is none, `BadRoot`, and `CaveatNotUnderstood` with the number of
 /// the caveat among those given. Of the pass: `TooLong`, `Malformed`, `ThirdParty` and `TooMany`. `Memory` comes only where
 /// memory was refused. After these nothing was written. `InputOutput` where the reader or the writer failed: then nothing was
-/// written, or a beginning of the answer to the whole input, or of help.
+/// written, or a beginning of the answer to the whole input, or of help or the version.
 pub fn run<S: AsStr, R: Read, W: Write>(
     alloc: Global,
     words: &[S],
@@ -43,18 +43,18 @@ pub fn run<S: AsStr, R: Read, W: Write>(
         → writer.new ≡ writer.old) }
 {
     match Request::from_words(alloc, words) {
-        Ok(Request::ShowHelp(help)) => show(&help, writer),
+        Ok(Request::ShowText(text)) => show(&text, writer),
         Ok(Request::Perform(command)) => command.perform(alloc, reader, writer),
         Err(fault) => Err(fault),
     }
 }
 
-// Writes the help text, whose bytes no clause states.
-fn show<W: Write>(help: &clap::Error, writer: &mut W) -> Result<Outcome, Fault>
+// Writes help or the version, whose bytes no clause states.
+fn show<W: Write>(text: &clap::Error, writer: &mut W) -> Result<Outcome, Fault>
     ensures { MatchResult result (λ outcome. outcome ≡ Outcome.Done)
         (λ fault. fault ≡ Fault.InputOutput) }
 {
-    write!(writer, "{help}")?;
+    write!(writer, "{text}")?;
     writer.flush()?;
     Ok(Outcome::Done)
 }

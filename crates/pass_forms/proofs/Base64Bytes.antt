@@ -1,5 +1,6 @@
 -- What decodes is a list of bytes.
-use Rattle.std.proofs.Common.{◌≡◌, ℕ, zero, suc, ◌+◌, ◌*◌, ◌/◌, ◌<◌, Bool, List, [], ◌∷◌, ◌++◌, length, take, drop, slice_index, refl, sym, subst, arith, inl, inr, ◌⊎◌}
+use Rattle.std.proofs.Common.{◌≡◌, ℕ, zero, suc, ◌+◌, ◌*◌, ◌/◌, ◌<◌, Bool, List, [], ◌∷◌, ◌++◌, length, take, drop, slice_index, refl, sym, subst, arith, inl}
+use Rattle.std.proofs.Common.{inr, ◌⊎◌}
 use Rattle.std.proofs.lemmas.Bool.{eq-eqb}
 use Rattle.std.proofs.lemmas.List.{get_or-drop, take-append-drop}
 use Rattle.std.specs.declared.option.Option.{Option}
@@ -9,7 +10,9 @@ use Rattle.std.specs.declared.result.Result.TheVariants.{Ok, Err}
 use Rattle.base64.specs.declared.decode.DecodeError.{DecodeError}
 use Rattle.base64.specs.declared.engine.DecodePaddingMode.{DecodePaddingMode}
 use Rattle.base64.specs.declared.engine.general_purpose.GeneralPurpose.{GeneralPurpose}
-use Rattle.base64.specs.Decode.{IsDecodeTable, decode_error, decode_group, decode_outcome, decoded_bytes, group_bytes, group_error, groups_before_last, groups_bytes, groups_error, lone_error, no_leftover, or_else, push_leftover, scan, scan_last, scan_steps, suffix_bytes, suffix_error, symbol_error}
+use Rattle.base64.specs.Decode.{IsDecodeTable, decode_error, decode_group, decode_outcome, decoded_bytes, group_bytes, group_error, groups_before_last}
+use Rattle.base64.specs.Decode.{groups_bytes, groups_error, lone_error, no_leftover, or_else, push_leftover, scan, scan_last, scan_steps, suffix_bytes}
+use Rattle.base64.specs.Decode.{suffix_error, symbol_error}
 use Rattle.base64.specs.GeneralPurpose.{IsBytes, decode_of}
 use Rattle.base64.proofs.Decoding.{IsLeftover, IsLeftover_next}
 use Rattle.base64.proofs.EngineFacts.{decode_of_bytes, front_bytes}
@@ -125,4 +128,5 @@ decode_of_are_bytes e s b bytes ok =
     let table : IsDecodeTable e.decode_table = IsDecodeTable_from e.encode_table e.decode_table
     (are_tables_inverse e.encode_table e.decode_table e.padding.value e.tables) in
     let none = no_error _ _ b ok in
-    decode_of_bytes e s b (decoded_are_bytes e.decode_table s e.padding.value e.config.decode_allow_trailing_bits e.config.decode_padding_mode table bytes none) ok
+    decode_of_bytes e s b (decoded_are_bytes e.decode_table s e.padding.value e.config.decode_allow_trailing_bits e.config.decode_padding_mode table bytes none)
+    ok

@@ -1,5 +1,6 @@
 -- The engines in turn: which bytes the first that decodes gives.
-use Rattle.std.proofs.Common.{◌≡◌, ℕ, zero, suc, ◌-◌, ◌==◌, nat_eq, not, Bool, true, false, List, [], ◌∷◌, ◌++◌, length, take, replicate, refl, sym, ap, ◌∙◌, inl, inr, add-one, arith, ◌≤◌}
+use Rattle.std.proofs.Common.{◌≡◌, ℕ, zero, suc, ◌-◌, ◌==◌, nat_eq, not, Bool, true, false, List, [], ◌∷◌, ◌++◌, length, take, replicate, refl, sym, ap, ◌∙◌}
+use Rattle.std.proofs.Common.{inl, inr, add-one, arith, ◌≤◌}
 use Rattle.std.proofs.lemmas.Bool.{and_right, both_ways}
 use Rattle.std.proofs.lemmas.Bool.Decides.{Decides-eqb}
 use Rattle.std.proofs.lemmas.Grind.{replicate_next}
@@ -111,7 +112,8 @@ no_copies : (front : List ℕ) (k : ℕ) → ends_in_padding (front ++ replicate
 no_copies front zero ends = refl
 no_copies front (suc k) ends =
     let next : replicate {A = ℕ} (suc k) 61 ≡ replicate k 61 ++ 61 ∷ [] = rw add-one at (replicate_next {X = ℕ} k 61) in
-    let whole : front ++ replicate (suc k) 61 ≡ (front ++ replicate k 61) ++ 61 ∷ [] = ap (λ (l : List ℕ). front ++ l) next ∙ sym (append_assoc front (replicate {A = ℕ} k 61) (61 ∷ [])) in
+    let whole : front ++ replicate (suc k) 61 ≡ (front ++ replicate k 61) ++ 61 ∷ [] =
+    ap (λ (l : List ℕ). front ++ l) next ∙ sym (append_assoc front (replicate {A = ℕ} k 61) (61 ∷ [])) in
     absurd (both_ways _ ends ((ends_is Decides-eqb _ (61 ∷ []) _ refl).1 (front ++ replicate k 61) whole))
 
 -- an encoding that does not end in padding has none

@@ -1,5 +1,6 @@
 -- The symbols of an encoding: which bytes they are, and that both alphabets spell the same bytes.
-use Rattle.std.proofs.Common.{◌≡◌, ℕ, zero, suc, ◌+◌, ◌*◌, ◌/◌, ◌%◌, ◌==◌, ◌&&◌, not, if◌then◌else◌, Bool, true, false, List, [], ◌∷◌, ◌++◌, length, replicate, slice_index, refl, ◌∙◌}
+use Rattle.std.proofs.Common.{◌≡◌, ℕ, zero, suc, ◌+◌, ◌*◌, ◌/◌, ◌%◌, ◌==◌, ◌&&◌, not, if◌then◌else◌, Bool, true, false, List, [], ◌∷◌, ◌++◌, length, replicate}
+use Rattle.std.proofs.Common.{slice_index, refl, ◌∙◌}
 use Rattle.std.specs.List.{list_all}
 use Rattle.std.specs.Cmp.Lexicographic.{pointwise}
 use Rattle.std.proofs.lemmas.Bool.{and_parts, not-true, eqb-true}
@@ -22,7 +23,12 @@ symbols_pass p t (a ∷ []) past all = rw (passes_at p t (a / 4) past all, passe
 symbols_pass p t (a ∷ b ∷ []) past all =
     rw (passes_at p t (a / 4) past all, passes_at p t (a % 4 * 16 + b / 16) past all, passes_at p t (b % 16 * 4) past all) refl
 symbols_pass p t (a ∷ b ∷ c ∷ rest) past all =
-    rw (passes_at p t (a / 4) past all, passes_at p t (a % 4 * 16 + b / 16) past all, passes_at p t (b % 16 * 4 + c / 64) past all, passes_at p t (c % 64) past all)
+    rw (
+      passes_at p t (a / 4) past all,
+      passes_at p t (a % 4 * 16 + b / 16) past all,
+      passes_at p t (b % 16 * 4 + c / 64) past all,
+      passes_at p t (c % 64) past all,
+    )
     (symbols_pass p t rest past all)
 
 -- copies of a byte that passes

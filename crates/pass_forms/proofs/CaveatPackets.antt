@@ -10,7 +10,8 @@ use Rattle.pass_forms.proofs.CaveatTexts.{Exact}
 use Rattle.pass_forms.proofs.Digits.{bind_some, some_is}
 use Rattle.pass_forms.proofs.Packets.{packet_takes, packet_again, packet_other, length-packet}
 
-optional_takes : (key bytes : List ℕ) (read : Option (List ℕ × List ℕ)) → packet_at key bytes ≡ read → (bytes ≡ optional_packet key (found_or_none bytes read).0 ++ (found_or_none bytes read).1) × IfSome (found_or_none bytes read).0 (FitsPacket key)
+optional_takes : (key bytes : List ℕ) (read : Option (List ℕ × List ℕ)) → packet_at key bytes ≡ read →
+    (bytes ≡ optional_packet key (found_or_none bytes read).0 ++ (found_or_none bytes read).1) × IfSome (found_or_none bytes read).0 (FitsPacket key)
 optional_takes key bytes None e = (refl, tt)
 optional_takes key bytes (Some found) e = packet_takes key bytes found.0 found.1 e
 
@@ -28,7 +29,9 @@ caveat_takes bytes found e =
     let tv = optional_takes verifier_id_key i.0.1 (packet_at verifier_id_key i.0.1) refl in
     let tl = optional_takes caveat_location_key v.1 (packet_at caveat_location_key v.1) refl in
     let parts : bytes ≡ caveat_packets (made i.0).0 ++ (made i.0).1 =
-    ti.0 ∙ ap (λ (x : List ℕ). packet caveat_key i.0.0 ++ x) (tv.0 ∙ ap (λ (x : List ℕ). optional_packet verifier_id_key v.0 ++ x) tl.0 ∙ sym (append_assoc (optional_packet verifier_id_key v.0) (optional_packet caveat_location_key l.0) l.1))
+    ti.0 ∙ ap (λ (x : List ℕ). packet caveat_key i.0.0 ++ x)
+    (tv.0 ∙ ap (λ (x : List ℕ). optional_packet verifier_id_key v.0 ++ x) tl.0 ∙ sym
+    (append_assoc (optional_packet verifier_id_key v.0) (optional_packet caveat_location_key l.0) l.1))
     ∙ sym (append_assoc (packet caveat_key i.0.0) (optional_packet verifier_id_key v.0 ++ optional_packet caveat_location_key l.0) l.1) in
     let fits : FitsCaveat (made i.0).0 = record { identifier = ti.1; verifier_id = tv.1; location = tl.1 } in
     subst (λ (x : WideCaveat × List ℕ). (bytes ≡ caveat_packets x.0 ++ x.1) × FitsCaveat x.0) (some_is (made i.0) found i.2) (parts, fits)
@@ -38,12 +41,14 @@ pub record EndsCaveat (rest : List ℕ) : Type 0 where
   pub verifier_id : packet_at verifier_id_key rest ≡ None
   pub location : packet_at caveat_location_key rest ≡ None
 
-optional_again : (key : List ℕ) (text : Option (List ℕ)) (rest : List ℕ) → IfSome text (FitsPacket key) → packet_at key rest ≡ None → optional_at key (optional_packet key text ++ rest) ≡ (text, rest)
+optional_again : (key : List ℕ) (text : Option (List ℕ)) (rest : List ℕ) → IfSome text (FitsPacket key) → packet_at key rest ≡ None →
+    optional_at key (optional_packet key text ++ rest) ≡ (text, rest)
 optional_again key None rest fits none = rw none refl
 optional_again key (Some text) rest fits none = rw (packet_again key text rest fits) refl
 
 -- A location of a caveat is no verifier id.
-no_verifier_id : (location : Option (List ℕ)) (rest : List ℕ) → IfSome location (FitsPacket caveat_location_key) → EndsCaveat rest → packet_at verifier_id_key (optional_packet caveat_location_key location ++ rest) ≡ None
+no_verifier_id : (location : Option (List ℕ)) (rest : List ℕ) → IfSome location (FitsPacket caveat_location_key) → EndsCaveat rest →
+    packet_at verifier_id_key (optional_packet caveat_location_key location ++ rest) ≡ None
 no_verifier_id None rest fits ends = ends.verifier_id
 no_verifier_id (Some location) rest fits ends = packet_other verifier_id_key caveat_location_key location rest fits refl
 
@@ -53,7 +58,8 @@ caveat_again caveat rest fits ends =
     let i = packet caveat_key caveat.identifier in
     let v = optional_packet verifier_id_key caveat.verifier_id in
     let l = optional_packet caveat_location_key caveat.location in
-    let regrouped : caveat_packets caveat ++ rest ≡ i ++ (v ++ (l ++ rest)) = append_assoc i (v ++ l) rest ∙ ap (λ (x : List ℕ). i ++ x) (append_assoc v l rest) in
+    let regrouped : caveat_packets caveat ++ rest ≡ i ++ (v ++ (l ++ rest)) =
+    append_assoc i (v ++ l) rest ∙ ap (λ (x : List ℕ). i ++ x) (append_assoc v l rest) in
     let last = optional_again caveat_location_key caveat.location rest fits.location ends.location in
     let second = optional_again verifier_id_key caveat.verifier_id (l ++ rest) fits.verifier_id (no_verifier_id caveat.location rest fits.location ends) in
     ap caveat_at regrouped ∙ rw (packet_again caveat_key caveat.identifier (v ++ (l ++ rest)) fits.identifier, second, last) refl
@@ -65,8 +71,10 @@ caveat_ends caveat rest fits =
     let optional = optional_packet verifier_id_key caveat.verifier_id ++ optional_packet caveat_location_key caveat.location in
     let regrouped = append_assoc i optional rest in
     record {
-      verifier_id = ap (packet_at verifier_id_key) regrouped ∙ packet_other verifier_id_key caveat_key caveat.identifier (optional ++ rest) fits.identifier refl;
-      location = ap (packet_at caveat_location_key) regrouped ∙ packet_other caveat_location_key caveat_key caveat.identifier (optional ++ rest) fits.identifier refl;
+      verifier_id =
+          ap (packet_at verifier_id_key) regrouped ∙ packet_other verifier_id_key caveat_key caveat.identifier (optional ++ rest) fits.identifier refl;
+      location =
+          ap (packet_at caveat_location_key) regrouped ∙ packet_other caveat_location_key caveat_key caveat.identifier (optional ++ rest) fits.identifier refl;
     }
 
 pub exact_caveats : Exact caveat_at caveat_packets FitsCaveat EndsCaveat

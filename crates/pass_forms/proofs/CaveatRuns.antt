@@ -1,5 +1,6 @@
 -- Going over caveats one by one, in whichever layout: what was found so far and what is left are the whole.
-use Rattle.std.proofs.Common.{◌≡◌, ℕ, zero, suc, ◌+◌, Bool, true, false, ◌||◌, List, [], ◌∷◌, length, map, Option, Some, None, option_map, refl, sym, ◌∙◌, subst, arith}
+use Rattle.std.proofs.Common.{◌≡◌, ℕ, zero, suc, ◌+◌, Bool, true, false, ◌||◌, List, [], ◌∷◌, length, map, Option, Some, None, option_map, refl, sym, ◌∙◌}
+use Rattle.std.proofs.Common.{subst, arith}
 use Rattle.std.specs.List.{list_any}
 use Rattle.pass_forms.specs.Caveats.{Counts, and_others, caveats_at, seen}
 use Rattle.pass_forms.specs.Pass.{WideCaveat, is_third_party, first_party_caveat}
@@ -8,7 +9,8 @@ abbrev pub Reader : Type 0
 Reader = List ℕ → Option (WideCaveat × List ℕ)
 
 -- What a reader was told of a caveat is that caveat.
-pub seen_some : (read : Option (WideCaveat × List ℕ)) (told : List ℕ × Bool × List ℕ) → Some told ≡ option_map seen read → (found : WideCaveat × List ℕ) × (read ≡ Some found) × (seen found ≡ told)
+pub seen_some : (read : Option (WideCaveat × List ℕ)) (told : List ℕ × Bool × List ℕ) → Some told ≡ option_map seen read →
+    (found : WideCaveat × List ℕ) × (read ≡ Some found) × (seen found ≡ told)
 seen_some None told e = absurd cc
 seen_some (Some found) told e = (found, refl, cc)
 
@@ -17,7 +19,8 @@ seen_none None e = refl
 seen_none (Some found) e = absurd cc
 
 -- the caveats that follow, where one does
-pub one_more : (at : Reader) (fuel less : ℕ) (rest : List ℕ) (found : WideCaveat × List ℕ) → fuel ≡ suc less → at rest ≡ Some found → caveats_at at fuel rest ≡ (found.0 ∷ (caveats_at at less found.1).0, (caveats_at at less found.1).1)
+pub one_more : (at : Reader) (fuel less : ℕ) (rest : List ℕ) (found : WideCaveat × List ℕ) → fuel ≡ suc less → at rest ≡ Some found →
+    caveats_at at fuel rest ≡ (found.0 ∷ (caveats_at at less found.1).0, (caveats_at at less found.1).1)
 unfolding caveats_at
 one_more at fuel less rest found e is_found = rw (e, is_found) refl
 
@@ -28,7 +31,9 @@ none_follow at zero rest e = refl
 none_follow at (suc fuel) rest e = rw e refl
 
 -- Going over as many caveats as there are finds the same ones.
-as_many_others : (at : Reader) (n : ℕ) (bytes : List ℕ) (read : Option (WideCaveat × List ℕ)) → at bytes ≡ read → ((rest : List ℕ) → caveats_at at (length (caveats_at at n rest).0) rest ≡ caveats_at at n rest) → caveats_at at (length (and_others (caveats_at at n) bytes read).0) bytes ≡ and_others (caveats_at at n) bytes read
+as_many_others : (at : Reader) (n : ℕ) (bytes : List ℕ) (read : Option (WideCaveat × List ℕ)) → at bytes ≡ read →
+    ((rest : List ℕ) → caveats_at at (length (caveats_at at n rest).0) rest ≡ caveats_at at n rest) →
+    caveats_at at (length (and_others (caveats_at at n) bytes read).0) bytes ≡ and_others (caveats_at at n) bytes read
 unfolding caveats_at
 as_many_others at n bytes None e others = refl
 as_many_others at n bytes (Some found) e others = rw (e, others found.1) refl
@@ -54,28 +59,34 @@ or_false : (a : Bool) → (a || false) ≡ a
 or_false true = refl
 or_false false = refl
 
-keeps_one : (count : ℕ) (third_party : Bool) (caveat : WideCaveat) (left whole : List WideCaveat × List ℕ) → Keeps count third_party (caveat ∷ left.0, left.1) whole → Keeps (count + 1) (third_party || is_third_party caveat) left whole
+keeps_one : (count : ℕ) (third_party : Bool) (caveat : WideCaveat) (left whole : List WideCaveat × List ℕ) →
+    Keeps count third_party (caveat ∷ left.0, left.1) whole → Keeps (count + 1) (third_party || is_third_party caveat) left whole
 keeps_one count third_party caveat left whole kept = record {
   counted = omega (arith, kept.counted);
   any = or_assoc third_party (is_third_party caveat) (list_any is_third_party left.0) ∙ kept.any;
   after = kept.after;
 }
 
-keeps_all : (count : ℕ) (third_party : Bool) (rest : List ℕ) (left whole : List WideCaveat × List ℕ) → left ≡ ([], rest) → Keeps count third_party left whole → Counts count third_party rest whole
+keeps_all : (count : ℕ) (third_party : Bool) (rest : List ℕ) (left whole : List WideCaveat × List ℕ) → left ≡ ([], rest) → Keeps count third_party left whole →
+    Counts count third_party rest whole
 keeps_all count third_party rest left whole ended kept =
     let known : Keeps count third_party ([], rest) whole = subst (λ (left : List WideCaveat × List ℕ). Keeps count third_party left whole) ended kept in
     record { counted = omega (arith, known.counted); any = sym (or_false third_party) ∙ known.any; after = known.after }
 
 -- Where no caveat follows, what was counted is the whole.
-pub none_left : (at : Reader) (count : ℕ) (third_party : Bool) (rest : List ℕ) (fuel : ℕ) (whole : List WideCaveat × List ℕ) → option_map seen None ≡ option_map seen (at rest) → Keeps count third_party (caveats_at at fuel rest) whole → Counts count third_party rest whole
+pub none_left : (at : Reader) (count : ℕ) (third_party : Bool) (rest : List ℕ) (fuel : ℕ) (whole : List WideCaveat × List ℕ) →
+    option_map seen None ≡ option_map seen (at rest) → Keeps count third_party (caveats_at at fuel rest) whole → Counts count third_party rest whole
 none_left at count third_party rest fuel whole told kept =
     keeps_all count third_party rest (caveats_at at fuel rest) whole (none_follow at fuel rest (seen_none (at rest) told)) kept
 
-pub no_fuel_left : (at : Reader) (count : ℕ) (third_party : Bool) (rest : List ℕ) (fuel : ℕ) (whole : List WideCaveat × List ℕ) → fuel ≡ 0 → Keeps count third_party (caveats_at at fuel rest) whole → Counts count third_party rest whole
+pub no_fuel_left : (at : Reader) (count : ℕ) (third_party : Bool) (rest : List ℕ) (fuel : ℕ) (whole : List WideCaveat × List ℕ) → fuel ≡ 0 →
+    Keeps count third_party (caveats_at at fuel rest) whole → Counts count third_party rest whole
 unfolding caveats_at
 no_fuel_left at count third_party rest fuel whole e kept = keeps_all count third_party rest (caveats_at at fuel rest) whole (rw e refl) kept
 
-pub one_left : (at : Reader) (count : ℕ) (third_party : Bool) (rest : List ℕ) (fuel less : ℕ) (whole : List WideCaveat × List ℕ) (told : List ℕ × Bool × List ℕ) → fuel ≡ suc less → Some told ≡ option_map seen (at rest) → Keeps count third_party (caveats_at at fuel rest) whole → Keeps (count + 1) (third_party || told.1) (caveats_at at less told.2) whole
+pub one_left : (at : Reader) (count : ℕ) (third_party : Bool) (rest : List ℕ) (fuel less : ℕ) (whole : List WideCaveat × List ℕ) (told : List ℕ × Bool × List ℕ)
+    → fuel ≡ suc less → Some told ≡ option_map seen (at rest) → Keeps count third_party (caveats_at at fuel rest) whole →
+    Keeps (count + 1) (third_party || told.1) (caveats_at at less told.2) whole
 one_left at count third_party rest fuel less whole told e is_told kept =
     let s = seen_some (at rest) told is_told in
     let split = subst (λ (left : List WideCaveat × List ℕ). Keeps count third_party left whole) (one_more at fuel less rest s.0 e s.1) kept in
@@ -88,11 +99,15 @@ pub none_counted : (at : Reader) (count : ℕ) (rest : List ℕ) → count ≡ 0
 unfolding caveats_at
 none_counted at count rest e = rw e refl
 
-pub none_found : (at : Reader) (count : ℕ) (rest : List ℕ) → option_map seen None ≡ option_map seen (at rest) → map first_party_caveat (caveats_at at count rest).0 ≡ []
+pub none_found : (at : Reader) (count : ℕ) (rest : List ℕ) → option_map seen None ≡ option_map seen (at rest) →
+    map first_party_caveat (caveats_at at count rest).0 ≡ []
 none_found at count rest told = rw (none_follow at count rest (seen_none (at rest) told)) refl
 
-pub one_found : (at : Reader) (count less : ℕ) (rest : List ℕ) (told : List ℕ × Bool × List ℕ) → count ≡ suc less → Some told ≡ option_map seen (at rest) → map first_party_caveat (caveats_at at count rest).0 ≡ told.0 ∷ map first_party_caveat (caveats_at at less told.2).0
+pub one_found : (at : Reader) (count less : ℕ) (rest : List ℕ) (told : List ℕ × Bool × List ℕ) → count ≡ suc less → Some told ≡ option_map seen (at rest) →
+    map first_party_caveat (caveats_at at count rest).0 ≡ told.0 ∷ map first_party_caveat (caveats_at at less told.2).0
 one_found at count less rest told e is_told =
     let s = seen_some (at rest) told is_told in
-    let one : map first_party_caveat (caveats_at at count rest).0 ≡ first_party_caveat s.0.0 ∷ map first_party_caveat (caveats_at at less s.0.1).0 = rw (one_more at count less rest s.0 e s.1) refl in
-    subst (λ (t : List ℕ × Bool × List ℕ). map first_party_caveat (caveats_at at count rest).0 ≡ t.0 ∷ map first_party_caveat (caveats_at at less t.2).0) s.2 one
+    let one : map first_party_caveat (caveats_at at count rest).0 ≡ first_party_caveat s.0.0 ∷ map first_party_caveat (caveats_at at less s.0.1).0 =
+    rw (one_more at count less rest s.0 e s.1) refl in
+    subst (λ (t : List ℕ × Bool × List ℕ). map first_party_caveat (caveats_at at count rest).0 ≡ t.0 ∷ map first_party_caveat
+    (caveats_at at less t.2).0) s.2 one

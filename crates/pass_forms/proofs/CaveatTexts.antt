@@ -14,7 +14,11 @@ pub record Exact (at : Reader) (text : WideCaveat → List ℕ) (Fits : WideCave
   -- a caveat ends the one before it
   pub next : (caveat : WideCaveat) (rest : List ℕ) → Fits caveat → Ends (text caveat ++ rest)
 
-takes_one : (at : Reader) (text : WideCaveat → List ℕ) (Fits : WideCaveat → Type 0) (Ends : List ℕ → Type 0) (exact : Exact at text Fits Ends) (n : ℕ) (bytes : List ℕ) (read : Option (WideCaveat × List ℕ)) → at bytes ≡ read → ((rest : List ℕ) → (rest ≡ flat_map text (caveats_at at n rest).0 ++ (caveats_at at n rest).1) × AllByRecursion Fits (caveats_at at n rest).0) → (bytes ≡ flat_map text (and_others (caveats_at at n) bytes read).0 ++ (and_others (caveats_at at n) bytes read).1) × AllByRecursion Fits (and_others (caveats_at at n) bytes read).0
+takes_one : (at : Reader) (text : WideCaveat → List ℕ) (Fits : WideCaveat → Type 0) (Ends : List ℕ → Type 0) (exact : Exact at text Fits Ends) (n : ℕ)
+    (bytes : List ℕ) (read : Option (WideCaveat × List ℕ)) → at bytes ≡ read →
+    ((rest : List ℕ) → (rest ≡ flat_map text (caveats_at at n rest).0 ++ (caveats_at at n rest).1) × AllByRecursion Fits (caveats_at at n rest).0) →
+    (bytes ≡ flat_map text (and_others (caveats_at at n) bytes read).0 ++ (and_others (caveats_at at n) bytes read).1) × AllByRecursion Fits
+    (and_others (caveats_at at n) bytes read).0
 takes_one at text Fits Ends exact n bytes None e others = (refl, tt)
 takes_one at text Fits Ends exact n bytes (Some found) e others =
     let first = exact.takes bytes found e in
@@ -25,21 +29,27 @@ takes_one at text Fits Ends exact n bytes (Some found) e others =
       (first.1, more.1),
     )
 
-pub caveats_take : (at : Reader) (text : WideCaveat → List ℕ) (Fits : WideCaveat → Type 0) (Ends : List ℕ → Type 0) → Exact at text Fits Ends → (n : ℕ) (bytes : List ℕ) → (bytes ≡ flat_map text (caveats_at at n bytes).0 ++ (caveats_at at n bytes).1) × AllByRecursion Fits (caveats_at at n bytes).0
+pub caveats_take : (at : Reader) (text : WideCaveat → List ℕ) (Fits : WideCaveat → Type 0) (Ends : List ℕ → Type 0) → Exact at text Fits Ends →
+    (n : ℕ) (bytes : List ℕ) → (bytes ≡ flat_map text (caveats_at at n bytes).0 ++ (caveats_at at n bytes).1) × AllByRecursion Fits (caveats_at at n bytes).0
 unfolding caveats_at
 caveats_take at text Fits Ends exact zero bytes = (refl, tt)
 caveats_take at text Fits Ends exact (suc n) bytes = takes_one at text Fits Ends exact n bytes (at bytes) refl (caveats_take at text Fits Ends exact n)
 
-regrouped : (text : WideCaveat → List ℕ) (caveat : WideCaveat) (caveats : List WideCaveat) (rest : List ℕ) → flat_map text (caveat ∷ caveats) ++ rest ≡ text caveat ++ (flat_map text caveats ++ rest)
-regrouped text caveat caveats rest = ap (λ (x : List ℕ). x ++ rest) (flat_map-cons text caveat caveats) ∙ append_assoc (text caveat) (flat_map text caveats) rest
+regrouped : (text : WideCaveat → List ℕ) (caveat : WideCaveat) (caveats : List WideCaveat) (rest : List ℕ) →
+    flat_map text (caveat ∷ caveats) ++ rest ≡ text caveat ++ (flat_map text caveats ++ rest)
+regrouped text caveat caveats rest =
+    ap (λ (x : List ℕ). x ++ rest) (flat_map-cons text caveat caveats) ∙ append_assoc (text caveat) (flat_map text caveats) rest
 
 -- A caveat, or what ends the caveats, ends the caveat before it.
-caveats_end : (at : Reader) (text : WideCaveat → List ℕ) (Fits : WideCaveat → Type 0) (Ends : List ℕ → Type 0) → Exact at text Fits Ends → (caveats : List WideCaveat) (rest : List ℕ) → AllByRecursion Fits caveats → Ends rest → Ends (flat_map text caveats ++ rest)
+caveats_end : (at : Reader) (text : WideCaveat → List ℕ) (Fits : WideCaveat → Type 0) (Ends : List ℕ → Type 0) → Exact at text Fits Ends →
+    (caveats : List WideCaveat) (rest : List ℕ) → AllByRecursion Fits caveats → Ends rest → Ends (flat_map text caveats ++ rest)
 caveats_end at text Fits Ends exact [] rest fits ends = ends
 caveats_end at text Fits Ends exact (caveat ∷ caveats) rest fits ends =
     subst Ends (sym (regrouped text caveat caveats rest)) (exact.next caveat (flat_map text caveats ++ rest) fits.0)
 
-pub caveats_again : (at : Reader) (text : WideCaveat → List ℕ) (Fits : WideCaveat → Type 0) (Ends : List ℕ → Type 0) → Exact at text Fits Ends → (n : ℕ) (caveats : List WideCaveat) (rest : List ℕ) → length caveats ≤ n → AllByRecursion Fits caveats → Ends rest → at rest ≡ None → caveats_at at n (flat_map text caveats ++ rest) ≡ (caveats, rest)
+pub caveats_again : (at : Reader) (text : WideCaveat → List ℕ) (Fits : WideCaveat → Type 0) (Ends : List ℕ → Type 0) → Exact at text Fits Ends →
+    (n : ℕ) (caveats : List WideCaveat) (rest : List ℕ) → length caveats ≤ n → AllByRecursion Fits caveats → Ends rest → at rest ≡ None →
+    caveats_at at n (flat_map text caveats ++ rest) ≡ (caveats, rest)
 unfolding caveats_at
 caveats_again at text Fits Ends exact zero [] rest h fits ends none = refl
 caveats_again at text Fits Ends exact (suc n) [] rest h fits ends none = rw none refl
@@ -51,7 +61,14 @@ caveats_again at text Fits Ends exact (suc n) (caveat ∷ caveats) rest h fits e
     ∙ rw (exact.again caveat others fits.0 (caveats_end at text Fits Ends exact caveats rest fits.1 ends), more) refl
 
 -- Where no caveat is without bytes, there are no more caveats than bytes.
-pub caveats_fit : (text : WideCaveat → List ℕ) → ((caveat : WideCaveat) → 1 ≤ length (text caveat)) → (caveats : List WideCaveat) → length caveats ≤ length (flat_map text caveats)
+pub caveats_fit : (text : WideCaveat → List ℕ) → ((caveat : WideCaveat) → 1 ≤ length (text caveat)) → (caveats : List WideCaveat) →
+    length caveats ≤ length (flat_map text caveats)
 caveats_fit text long [] = omega arith
 caveats_fit text long (caveat ∷ caveats) =
-    omega (arith, ap length (flat_map-cons text caveat caveats), caveats_fit text long caveats, long caveat, length-append (text caveat) (flat_map text caveats))
+    omega (
+      arith,
+      ap length (flat_map-cons text caveat caveats),
+      caveats_fit text long caveats,
+      long caveat,
+      length-append (text caveat) (flat_map text caveats),
+    )

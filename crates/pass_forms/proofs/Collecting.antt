@@ -6,7 +6,8 @@ use Rattle.pass_forms.specs.FieldSource.{IsOpening, PassField, caveat_field, fie
 use Rattle.pass_forms.specs.Pass.{Plain}
 
 -- What is opened is what bytes stand for, if the reading is.
-pub opens : (Reads : Result Plain FormFault → Type 0) (reading : Result Plain FormFault) (answer : Result (List PassField) FormFault) → Reads reading → answer ≡ opened reading → IsOpening Reads answer
+pub opens : (Reads : Result Plain FormFault → Type 0) (reading : Result Plain FormFault) (answer : Result (List PassField) FormFault) → Reads reading →
+    answer ≡ opened reading → IsOpening Reads answer
 opens Reads (Ok pass) (Ok fields) h e = (pass, h, cc)
 opens Reads (Ok pass) (Err fault) h e = absurd cc
 opens Reads (Err fault) (Ok fields) h e = absurd cc
@@ -14,13 +15,16 @@ opens Reads (Err fault) (Err other) h e = subst (λ (f : FormFault). Reads (Err 
 
 -- caveats, and then the signature
 last_fields : (location identifier : List ℕ) (front caveats : List (List ℕ)) (before signature : List ℕ) →
-    with_fields (record { location = location; identifier = identifier; caveats = front; signature = before }) (map caveat_field caveats ++ signature_field signature ∷ [])
+    with_fields (record { location = location; identifier = identifier; caveats = front; signature = before })
+    (map caveat_field caveats ++ signature_field signature ∷ [])
     ≡ record { location = location; identifier = identifier; caveats = front ++ caveats; signature = signature }
 last_fields location identifier front [] before signature =
-    ap (λ (cs : List (List ℕ)). let p : Plain = record { location = location; identifier = identifier; caveats = cs; signature = signature } in p) (sym (append-nil front))
+    ap (λ (cs : List (List ℕ)). let p : Plain = record { location = location; identifier = identifier; caveats = cs; signature = signature } in p)
+    (sym (append-nil front))
 last_fields location identifier front (caveat ∷ caveats) before signature =
     last_fields location identifier (front ++ caveat ∷ []) caveats before signature
-    ∙ ap (λ (cs : List (List ℕ)). let p : Plain = record { location = location; identifier = identifier; caveats = cs; signature = signature } in p) (append_assoc front (caveat ∷ []) caveats)
+    ∙ ap (λ (cs : List (List ℕ)). let p : Plain = record { location = location; identifier = identifier; caveats = cs; signature = signature } in p)
+    (append_assoc front (caveat ∷ []) caveats)
 
 all_fields : (pass : Plain) → with_fields no_fields (fields_of pass) ≡ pass
 all_fields pass = last_fields pass.location pass.identifier [] pass.caveats no_fields.signature pass.signature

@@ -30,9 +30,11 @@ bind_some (Some x) f y e = (x, refl, e)
 pub some_is : {A : Type 0} (x y : A) → ◌≡◌ {A = Option A} (Some x) (Some y) → x ≡ y
 some_is x y e = cc
 
-joined : (a b c d x y z w n : ℕ) (rest : List ℕ) → (x < 16) × (a ≡ hex_digit x) → (y < 16) × (b ≡ hex_digit y) → (z < 16) × (c ≡ hex_digit z) → (w < 16) × (d ≡ hex_digit w) → value x y z w ≡ n → (n < 2 ^ 16) × (a ∷ b ∷ c ∷ d ∷ rest ≡ four_digits n ++ rest)
+joined : (a b c d x y z w n : ℕ) (rest : List ℕ) → (x < 16) × (a ≡ hex_digit x) → (y < 16) × (b ≡ hex_digit y) → (z < 16) × (c ≡ hex_digit z) →
+    (w < 16) × (d ≡ hex_digit w) → value x y z w ≡ n → (n < 2 ^ 16) × (a ∷ b ∷ c ∷ d ∷ rest ≡ four_digits n ++ rest)
 joined a b c d x y z w n rest ha hb hc hd is_n =
-    let e : four_digits n ≡ hex_digit x ∷ hex_digit y ∷ hex_digit z ∷ hex_digit w ∷ [] = ap four_digits (sym is_n) ∙ digits_of_value x y z w ha.0 hb.0 hc.0 hd.0 in
+    let e : four_digits n ≡ hex_digit x ∷ hex_digit y ∷ hex_digit z ∷ hex_digit w ∷ [] =
+    ap four_digits (sym is_n) ∙ digits_of_value x y z w ha.0 hb.0 hc.0 hd.0 in
     (omega arith, rw (ha.1, hb.1, hc.1, hd.1) (ap (λ (ds : List ℕ). ds ++ rest) (sym e)))
 
 pub len_takes : (bytes : List ℕ) (n : ℕ) → len_at bytes ≡ Some n → (n < 2 ^ 16) × (rest : List ℕ) × (bytes ≡ four_digits n ++ rest)

@@ -1,5 +1,6 @@
 -- A field that is read is the field that was written, and what was written is read, whatever follows.
-use Rattle.std.proofs.Common.{◌≡◌, ◌≢◌, ℕ, zero, suc, ◌+◌, ◌-◌, ◌*◌, ◌/◌, ◌%◌, ◌<◌, ◌≤◌, true, false, leb, eqb, List, [], ◌∷◌, ◌++◌, length, take, drop, Option, Some, None, refl, sym, ap, subst, ◌∙◌, append_assoc, arith, inl, inr}
+use Rattle.std.proofs.Common.{◌≡◌, ◌≢◌, ℕ, zero, suc, ◌+◌, ◌-◌, ◌*◌, ◌/◌, ◌%◌, ◌<◌, ◌≤◌, true, false, leb, eqb, List, [], ◌∷◌, ◌++◌, length, take, drop, Option}
+use Rattle.std.proofs.Common.{Some, None, refl, sym, ap, subst, ◌∙◌, append_assoc, arith, inl, inr}
 use Rattle.std.proofs.lemmas.Bool.{cases_lt, leb-true, le-leb, lt-ltb, le-ltb}
 use Rattle.std.proofs.lemmas.Bool.Decides.{nat_tests}
 use Rattle.std.proofs.lemmas.List.{take_at, drop_at, take-append-drop, length-append, length-take}
@@ -55,7 +56,8 @@ last_takes byte bytes n rest small e =
     let is_n : byte ≡ n = ap (λ (x : ℕ × List ℕ). x.0) same in
     ap (λ (x : ℕ × List ℕ). x.0 ∷ x.1) same ∙ ap (λ (x : List ℕ). x ++ rest) (sym (varint_small n (omega (arith, is_n))))
 
-more_takes : (byte : ℕ) (bytes : List ℕ) (n high : ℕ) (rest : List ℕ) → 128 ≤ byte → byte < 256 → 0 < high → n ≡ (byte - 128) + 128 * high → bytes ≡ varint high ++ rest → byte ∷ bytes ≡ varint n ++ rest
+more_takes : (byte : ℕ) (bytes : List ℕ) (n high : ℕ) (rest : List ℕ) → 128 ≤ byte → byte < 256 → 0 < high → n ≡ (byte - 128) + 128 * high →
+    bytes ≡ varint high ++ rest → byte ∷ bytes ≡ varint n ++ rest
 more_takes byte bytes n high rest low top positive is_n others =
     let first : 128 + n % 128 ≡ byte = omega arith in
     let above_is : n / 128 ≡ high = omega arith in
@@ -86,7 +88,8 @@ large_again n rest large others =
     let high : n / 128 ≢ 0 = omega arith in
     let some : eqb (n / 128) 0 ≡ false = grind (arith, nat_tests) in
     let sum : ((128 + n % 128) - 128) + 128 * (n / 128) ≡ n = omega arith in
-    ap (λ (x : List ℕ). varint_at (x ++ rest)) (varint_large n large) ∙ varint_more (128 + n % 128) (varint (n / 128) ++ rest) low top ∙ rw (others, some, sum) refl
+    ap (λ (x : List ℕ). varint_at (x ++ rest)) (varint_large n large) ∙ varint_more (128 + n % 128) (varint (n / 128) ++ rest) low top ∙ rw
+    (others, some, sum) refl
 
 small_again : (n : ℕ) (rest : List ℕ) → n < 128 → varint_at (varint n ++ rest) ≡ Some (n, rest)
 small_again n rest small = ap (λ (x : List ℕ). varint_at (x ++ rest)) (varint_small n small) ∙ varint_last n rest small
@@ -132,28 +135,35 @@ field_takes type bytes text rest e =
     let c = counted_takes n.0.0 n.0.1 text rest n.2 in
     let len : varint n.0.0 ≡ varint (length text) = ap varint (sym c.1) in
     after_prefix_takes (type ∷ []) bytes t.0 t.1
-    ∙ ap (λ (x : List ℕ). type ∷ x) (varint_takes t.0 n.0.0 n.0.1 n.1 ∙ ap (λ (x : List ℕ). x ++ n.0.1) len ∙ ap (λ (x : List ℕ). varint (length text) ++ x) c.0 ∙ sym (append_assoc (varint (length text)) text rest))
+    ∙ ap (λ (x : List ℕ). type ∷ x)
+    (varint_takes t.0 n.0.0 n.0.1 n.1 ∙ ap (λ (x : List ℕ). x ++ n.0.1) len ∙ ap (λ (x : List ℕ). varint (length text) ++ x) c.0 ∙ sym
+    (append_assoc (varint (length text)) text rest))
 
 pub field_again : (type : ℕ) (text rest : List ℕ) → field_at type (field type text ++ rest) ≡ Some (text, rest)
 unfolding field_at
 field_again type text rest =
-    let regrouped : field type text ++ rest ≡ (type ∷ []) ++ (varint (length text) ++ (text ++ rest)) = ap (λ (x : List ℕ). type ∷ x) (append_assoc (varint (length text)) text rest) in
+    let regrouped : field type text ++ rest ≡ (type ∷ []) ++ (varint (length text) ++ (text ++ rest)) =
+    ap (λ (x : List ℕ). type ∷ x) (append_assoc (varint (length text)) text rest) in
     ap (λ (x : List ℕ). after_prefix (type ∷ []) x >>= λ r. varint_at r >>= counted_at) regrouped
     ∙ rw (after_prefix_again (type ∷ []) (varint (length text) ++ (text ++ rest)), varint_again (length text) (text ++ rest), counted_again text rest) refl
 
-pub optional_takes : (type : ℕ) (bytes : List ℕ) (read : Option (List ℕ × List ℕ)) → field_at type bytes ≡ read → bytes ≡ optional_field type (found_or_none bytes read).0 ++ (found_or_none bytes read).1
+pub optional_takes : (type : ℕ) (bytes : List ℕ) (read : Option (List ℕ × List ℕ)) → field_at type bytes ≡ read →
+    bytes ≡ optional_field type (found_or_none bytes read).0 ++ (found_or_none bytes read).1
 optional_takes type bytes None e = refl
 optional_takes type bytes (Some found) e = field_takes type bytes found.0 found.1 e
 
-pub optional_again : (type : ℕ) (text : Option (List ℕ)) (rest : List ℕ) → field_at type rest ≡ None → optional_at type (optional_field type text ++ rest) ≡ (text, rest)
+pub optional_again : (type : ℕ) (text : Option (List ℕ)) (rest : List ℕ) → field_at type rest ≡ None →
+    optional_at type (optional_field type text ++ rest) ≡ (text, rest)
 optional_again type None rest none = rw none refl
 optional_again type (Some text) rest none = rw (field_again type text rest) refl
 
 -- A length above the bytes that follow it is no field.
-none_counted : (bytes : List ℕ) (read : Option (ℕ × List ℕ)) → varint_at bytes ≡ read → ((n : ℕ) (rest : List ℕ) → varint_at bytes ≡ Some (n, rest) → length bytes < n) → (read >>= counted_at) ≡ None
+none_counted : (bytes : List ℕ) (read : Option (ℕ × List ℕ)) → varint_at bytes ≡ read →
+    ((n : ℕ) (rest : List ℕ) → varint_at bytes ≡ Some (n, rest) → length bytes < n) → (read >>= counted_at) ≡ None
 none_counted bytes None e long = refl
 none_counted bytes (Some (n, rest)) e long = counted_too_long n rest (omega (arith, long n rest e, varint_shortens bytes n rest e))
 
-pub field_too_long : (type : ℕ) (bytes rest : List ℕ) → Some rest ≡ after_prefix (type ∷ []) bytes → ((n : ℕ) (after : List ℕ) → varint_at rest ≡ Some (n, after) → length rest < n) → field_at type bytes ≡ None
+pub field_too_long : (type : ℕ) (bytes rest : List ℕ) → Some rest ≡ after_prefix (type ∷ []) bytes →
+    ((n : ℕ) (after : List ℕ) → varint_at rest ≡ Some (n, after) → length rest < n) → field_at type bytes ≡ None
 unfolding field_at
 field_too_long type bytes rest is long = rw (← is) (none_counted rest (varint_at rest) refl long)

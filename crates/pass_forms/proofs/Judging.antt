@@ -1,5 +1,6 @@
 -- From one wide pass at most for each text to the one reading of it.
-use Rattle.std.proofs.Common.{◌≡◌, ℕ, ◌<◌, ◌≤◌, Bool, true, false, cond, ltb, ◌||◌, List, [], ◌∷◌, length, map, Option, Some, None, Result, Ok, Err, refl, sym, ap, subst, ◌∙◌, arith, ◌⊎◌, inl, inr}
+use Rattle.std.proofs.Common.{◌≡◌, ℕ, ◌<◌, ◌≤◌, Bool, true, false, cond, ltb, ◌||◌, List, [], ◌∷◌, length, map, Option, Some, None, Result, Ok, Err, refl, sym}
+use Rattle.std.proofs.Common.{ap, subst, ◌∙◌, arith, ◌⊎◌, inl, inr}
 use Rattle.std.specs.Prelude.{is_some}
 use Rattle.std.specs.List.{list_any}
 use Rattle.std.proofs.lemmas.List.{length-map}
@@ -12,7 +13,8 @@ use Rattle.pass_forms.specs.Reading.{max_text_len, max_caveats, IsReading, judge
 
 -- ---- a wide pass with no third party's caveat is a pass
 
-is_first_party : (identifier : List ℕ) (verifier_id location : Option (List ℕ)) → (is_some verifier_id || is_some location) ≡ false → ◌≡◌ {A = WideCaveat} (widened_caveat identifier) (record { identifier = identifier; verifier_id = verifier_id; location = location })
+is_first_party : (identifier : List ℕ) (verifier_id location : Option (List ℕ)) → (is_some verifier_id || is_some location) ≡ false → ◌≡◌ {A = WideCaveat}
+    (widened_caveat identifier) (record { identifier = identifier; verifier_id = verifier_id; location = location })
 is_first_party identifier None None e = refl
 is_first_party identifier None (Some location) e = absurd cc
 is_first_party identifier (Some verifier_id) location e = absurd cc
@@ -26,12 +28,14 @@ all_first_party [] e = refl
 all_first_party (caveat ∷ caveats) e =
     let both = neither (is_third_party caveat) (list_any is_third_party caveats) e in
     let one : widened_caveat (first_party_caveat caveat) ≡ caveat = is_first_party caveat.identifier caveat.verifier_id caveat.location both.0 in
-    ap (λ (c : WideCaveat). c ∷ map widened_caveat (map first_party_caveat caveats)) one ∙ ap (λ (cs : List WideCaveat). caveat ∷ cs) (all_first_party caveats both.1)
+    ap (λ (c : WideCaveat). c ∷ map widened_caveat (map first_party_caveat caveats)) one ∙ ap (λ (cs : List WideCaveat). caveat ∷ cs)
+    (all_first_party caveats both.1)
 
 widened-first_party : (wide : WidePass) → has_third_party wide ≡ false → widened (first_party wide) ≡ wide
 widened-first_party wide e =
     ap (λ (caveats : List WideCaveat).
-    let w : WidePass = record { location = wide.location; identifier = wide.identifier; caveats = caveats; signature = wide.signature } in w) (all_first_party wide.caveats e)
+    let w : WidePass =
+    record { location = wide.location; identifier = wide.identifier; caveats = caveats; signature = wide.signature } in w) (all_first_party wide.caveats e)
 
 first_party_caveats : (caveats : List (List ℕ)) → map first_party_caveat (map widened_caveat caveats) ≡ caveats
 first_party_caveats [] = refl
@@ -40,7 +44,9 @@ first_party_caveats (caveat ∷ caveats) = ap (λ (cs : List (List ℕ)). caveat
 first_party-widened : (pass : Plain) → first_party (widened pass) ≡ pass
 first_party-widened pass =
     ap (λ (caveats : List (List ℕ)).
-    let p : Plain = record { location = pass.location; identifier = pass.identifier; caveats = caveats; signature = pass.signature } in p) (first_party_caveats pass.caveats)
+    let p : Plain =
+    record { location = pass.location; identifier = pass.identifier; caveats = caveats; signature = pass.signature } in p)
+    (first_party_caveats pass.caveats)
 
 no_third_party : (caveats : List (List ℕ)) → list_any is_third_party (map widened_caveat caveats) ≡ false
 no_third_party [] = refl
@@ -54,32 +60,39 @@ pub record Computes (Spelled : WidePass → Type 0) (computed : Option WidePass)
   pub again : (wide : WidePass) → Spelled wide → computed ≡ Some wide
 
 -- Nothing else is spelled.
-pub one_spelled : (Spelled : WidePass → Type 0) (computed : Option WidePass) (one other : WidePass) → Computes Spelled computed → Spelled one → Spelled other → one ≡ other
+pub one_spelled : (Spelled : WidePass → Type 0) (computed : Option WidePass) (one other : WidePass) → Computes Spelled computed → Spelled one → Spelled other →
+    one ≡ other
 one_spelled Spelled computed one other exact h k = some_is one other (sym (exact.again one h) ∙ exact.again other k)
 
-judged_by : (len : ℕ) (Spelled : WidePass → Type 0) (wide : WidePass) (third many : Bool) → has_third_party wide ≡ third → ltb max_caveats (length wide.caveats) ≡ many → len ≤ max_text_len → Spelled wide → IsReading len Spelled (cond third (Err ThirdParty) (cond many (Err TooMany) (Ok (first_party wide))))
+judged_by : (len : ℕ) (Spelled : WidePass → Type 0) (wide : WidePass) (third many : Bool) → has_third_party wide ≡ third →
+    ltb max_caveats (length wide.caveats) ≡ many → len ≤ max_text_len → Spelled wide →
+    IsReading len Spelled (cond third (Err ThirdParty) (cond many (Err TooMany) (Ok (first_party wide))))
 judged_by len Spelled wide true many et em within spelled = (within, wide, spelled, et)
 judged_by len Spelled wide false true et em within spelled = (within, wide, spelled, et, ltb-true _ _ em)
 judged_by len Spelled wide false false et em within spelled =
     (within, subst Spelled (sym (widened-first_party wide et)) spelled, omega (arith, ltb-false _ _ em, length-map wide.caveats first_party_caveat))
 
-pub judged_if_any_is : (len : ℕ) (Spelled : WidePass → Type 0) (computed : Option WidePass) → Computes Spelled computed → len ≤ max_text_len → IsReading len Spelled (judged_if_any computed)
+pub judged_if_any_is : (len : ℕ) (Spelled : WidePass → Type 0) (computed : Option WidePass) → Computes Spelled computed → len ≤ max_text_len →
+    IsReading len Spelled (judged_if_any computed)
 judged_if_any_is len Spelled None exact within = (within, λ wide spelled. let e = exact.again wide spelled in absurd cc)
 judged_if_any_is len Spelled (Some wide) exact within =
     judged_by len Spelled wide (has_third_party wide) (ltb max_caveats (length wide.caveats)) refl refl within (exact.takes wide refl)
 
-reading_by : (len : ℕ) (Spelled : WidePass → Type 0) (computed : Option WidePass) (long : Bool) → ltb max_text_len len ≡ long → Computes Spelled computed → IsReading len Spelled (cond long (Err TooLong) (judged_if_any computed))
+reading_by : (len : ℕ) (Spelled : WidePass → Type 0) (computed : Option WidePass) (long : Bool) → ltb max_text_len len ≡ long → Computes Spelled computed →
+    IsReading len Spelled (cond long (Err TooLong) (judged_if_any computed))
 reading_by len Spelled computed true e exact = ltb-true _ _ e
 reading_by len Spelled computed false e exact = judged_if_any_is len Spelled computed exact (ltb-false _ _ e)
 
-pub reading_is : (len : ℕ) (Spelled : WidePass → Type 0) (computed : Option WidePass) → Computes Spelled computed → IsReading len Spelled (reading_of len computed)
+pub reading_is : (len : ℕ) (Spelled : WidePass → Type 0) (computed : Option WidePass) → Computes Spelled computed →
+    IsReading len Spelled (reading_of len computed)
 reading_is len Spelled computed exact = reading_by len Spelled computed (ltb max_text_len len) refl exact
 
 nothing_computed : (computed : Option WidePass) → ((wide : WidePass) → computed ≡ Some wide → ⊥) → computed ≡ None
 nothing_computed None none = refl
 nothing_computed (Some wide) none = absurd (none wide refl)
 
-pub judged_determined : (len : ℕ) (Spelled : WidePass → Type 0) (computed : Option WidePass) (answer : Result Plain FormFault) → Computes Spelled computed → len ≤ max_text_len → IsReading len Spelled answer → judged_if_any computed ≡ answer
+pub judged_determined : (len : ℕ) (Spelled : WidePass → Type 0) (computed : Option WidePass) (answer : Result Plain FormFault) → Computes Spelled computed →
+    len ≤ max_text_len → IsReading len Spelled answer → judged_if_any computed ≡ answer
 judged_determined len Spelled computed (Err TooLong) exact within h = absurd (omega arith)
 judged_determined len Spelled computed (Err Malformed) exact within h =
     let none : computed ≡ None = nothing_computed computed (λ wide e. h.1 wide (exact.takes wide e)) in
@@ -92,7 +105,8 @@ judged_determined len Spelled computed (Ok pass) exact within h =
 judged_determined len Spelled computed (Err Memory) exact within h = absurd h
 
 -- Where an answer isn't too long, the text is within the limit.
-within_limit : (len : ℕ) (Spelled : WidePass → Type 0) (answer : Result Plain FormFault) → IsReading len Spelled answer → (answer ≡ Err TooLong) ⊎ (len ≤ max_text_len)
+within_limit : (len : ℕ) (Spelled : WidePass → Type 0) (answer : Result Plain FormFault) → IsReading len Spelled answer →
+    (answer ≡ Err TooLong) ⊎ (len ≤ max_text_len)
 within_limit len Spelled (Err TooLong) h = inl refl
 within_limit len Spelled (Err Malformed) h = inr h.0
 within_limit len Spelled (Err ThirdParty) h = inr h.0
@@ -100,7 +114,8 @@ within_limit len Spelled (Err TooMany) h = inr h.0
 within_limit len Spelled (Ok pass) h = inr h.0
 within_limit len Spelled (Err Memory) h = absurd h
 
-pub reading_determined : (len : ℕ) (Spelled : WidePass → Type 0) (computed : Option WidePass) (answer : Result Plain FormFault) → Computes Spelled computed → IsReading len Spelled answer → reading_of len computed ≡ answer
+pub reading_determined : (len : ℕ) (Spelled : WidePass → Type 0) (computed : Option WidePass) (answer : Result Plain FormFault) → Computes Spelled computed →
+    IsReading len Spelled answer → reading_of len computed ≡ answer
 reading_determined len Spelled computed answer exact h =
     elim (within_limit len Spelled answer h) [
       | inl long ↦

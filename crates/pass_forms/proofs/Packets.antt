@@ -1,5 +1,6 @@
 -- A packet that is read is the packet that was written, and what was written is read, whatever follows.
-use Rattle.std.proofs.Common.{◌≡◌, ℕ, ◌+◌, ◌-◌, ◌^◌, ◌<◌, ◌≤◌, Bool, true, false, cond, leb, nat_eq, List, [], ◌∷◌, ◌++◌, length, take, drop, Option, Some, None, refl, sym, ap, ◌∙◌, append_assoc, arith}
+use Rattle.std.proofs.Common.{◌≡◌, ℕ, ◌+◌, ◌-◌, ◌^◌, ◌<◌, ◌≤◌, Bool, true, false, cond, leb, nat_eq, List, [], ◌∷◌, ◌++◌, length, take, drop, Option, Some}
+use Rattle.std.proofs.Common.{None, refl, sym, ap, ◌∙◌, append_assoc, arith}
 use Rattle.std.specs.Cmp.Lexicographic.{pointwise}
 use Rattle.std.proofs.lemmas.Bool.{leb-true, le-leb}
 use Rattle.std.proofs.Math.Seq.{take-append-add}
@@ -41,24 +42,33 @@ before_suffix_again suffix front =
     rw (cut, back, same, whole) refl
 
 -- the frame of a packet: its length, its key and its end
-framed : (bytes more key text : List ℕ) (n : ℕ) → n < 2 ^ 16 → bytes ≡ four_digits n ++ more → n ≤ length bytes → drop 4 (take n bytes) ≡ key ++ (text ++ 10 ∷ []) → (bytes ≡ packet key text ++ drop n bytes) × FitsPacket key text
+framed : (bytes more key text : List ℕ) (n : ℕ) → n < 2 ^ 16 → bytes ≡ four_digits n ++ more → n ≤ length bytes →
+    drop 4 (take n bytes) ≡ key ++ (text ++ 10 ∷ []) → (bytes ≡ packet key text ++ drop n bytes) × FitsPacket key text
 framed bytes more key text n fits begins within body =
     let whole = take n bytes in
     let whole_len : length whole ≡ n = omega (arith, length-take n bytes) in
-    let body_len : length (drop 4 whole) ≡ length key + (length text + 1) = ap length body ∙ omega (arith, length-append key (text ++ 10 ∷ []), length-append text (10 ∷ [])) in
+    let body_len : length (drop 4 whole) ≡ length key + (length text + 1) =
+    ap length body ∙ omega (arith, length-append key (text ++ 10 ∷ []), length-append text (10 ∷ [])) in
     let long : 4 ≤ n = omega (arith, length-drop 4 whole) in
     let is_n : packet_len key text ≡ n = omega (arith, length-drop 4 whole) in
     let digits : take 4 whole ≡ four_digits n = take-take 4 n bytes long ∙ ap (take 4) begins ∙ take_at (four_digits n) more 4 refl in
-    let split : whole ≡ packet key text = sym (take-append-drop 4 whole) ∙ ap (λ (x : List ℕ). x ++ drop 4 whole) (digits ∙ ap four_digits (sym is_n)) ∙ ap (λ (x : List ℕ). four_digits (packet_len key text) ++ x) body in
+    let split : whole ≡ packet key text =
+    sym (take-append-drop 4 whole) ∙ ap (λ (x : List ℕ). x ++ drop 4 whole) (digits ∙ ap four_digits (sym is_n)) ∙ ap
+    (λ (x : List ℕ). four_digits (packet_len key text) ++ x) body in
     (sym (take-append-drop n bytes) ∙ ap (λ (x : List ℕ). x ++ drop n bytes) split, omega arith)
 
 pub packet_takes : (key bytes text rest : List ℕ) → packet_at key bytes ≡ Some (text, rest) → (bytes ≡ packet key text ++ rest) × FitsPacket key text
 unfolding packet_at
 packet_takes key bytes text rest e =
-    let len = bind_some (len_at bytes) (λ len. cond (leb len (length bytes)) (Some (take len bytes)) None >>= λ whole. after_prefix key (drop 4 whole) >>= λ body. before_suffix (10 ∷ []) body >>= λ text. Some (text, drop len bytes)) (text, rest) e in
+    let len =
+    bind_some (len_at bytes) (λ len. cond (leb len (length bytes)) (Some (take len bytes)) None >>= λ whole. after_prefix key
+    (drop 4 whole) >>= λ body. before_suffix (10 ∷ []) body >>= λ text. Some (text, drop len bytes)) (text, rest) e in
     let n = len.0 in
-    let whole = bind_some (cond (leb n (length bytes)) (Some (take n bytes)) None) (λ whole. after_prefix key (drop 4 whole) >>= λ body. before_suffix (10 ∷ []) body >>= λ text. Some (text, drop n bytes)) (text, rest) len.2 in
-    let body = bind_some (after_prefix key (drop 4 whole.0)) (λ body. before_suffix (10 ∷ []) body >>= λ text. Some (text, drop n bytes)) (text, rest) whole.2 in
+    let whole =
+    bind_some (cond (leb n (length bytes)) (Some (take n bytes)) None)
+    (λ whole. after_prefix key (drop 4 whole) >>= λ body. before_suffix (10 ∷ []) body >>= λ text. Some (text, drop n bytes)) (text, rest) len.2 in
+    let body =
+    bind_some (after_prefix key (drop 4 whole.0)) (λ body. before_suffix (10 ∷ []) body >>= λ text. Some (text, drop n bytes)) (text, rest) whole.2 in
     let found = bind_some (before_suffix (10 ∷ []) body.0) (λ text. Some (text, drop n bytes)) (text, rest) body.2 in
     let digits = len_takes bytes n len.1 in
     let within = guard_some (leb n (length bytes)) (take n bytes) whole.0 whole.1 in
@@ -103,7 +113,8 @@ length-packet key text =
     omega (arith, length-append (four_digits (packet_len key text)) body, length-append key (text ++ 10 ∷ []), length-append text (10 ∷ []))
 
 -- A packet of one key is none of a key with which its body doesn't begin.
-pub packet_other : (key other text rest : List ℕ) → FitsPacket other text → after_prefix key (other ++ (text ++ 10 ∷ [])) ≡ None → packet_at key (packet other text ++ rest) ≡ None
+pub packet_other : (key other text rest : List ℕ) → FitsPacket other text → after_prefix key (other ++ (text ++ 10 ∷ [])) ≡ None →
+    packet_at key (packet other text ++ rest) ≡ None
 unfolding packet_at
 packet_other key other text rest fits differs =
     let body = other ++ (text ++ 10 ∷ []) in
@@ -116,12 +127,14 @@ packet_other key other text rest fits differs =
     rw (read, within, front, inner, differs) refl
 
 -- A length that the key doesn't fit into is no packet's.
-none_so_short : (key bytes : List ℕ) (n : ℕ) (found : Option (List ℕ × List ℕ)) → packet_at key bytes ≡ found → len_at bytes ≡ Some n → n < 4 + length key → found ≡ None
+none_so_short : (key bytes : List ℕ) (n : ℕ) (found : Option (List ℕ × List ℕ)) → packet_at key bytes ≡ found → len_at bytes ≡ Some n → n < 4 + length key →
+    found ≡ None
 none_so_short key bytes n None e told short = refl
 none_so_short key bytes n (Some (text, rest)) e told short =
     let parts = packet_takes key bytes text rest e in
     let body = key ++ (text ++ 10 ∷ []) in
-    let again : len_at bytes ≡ Some (packet_len key text) = ap len_at (parts.0 ∙ append_assoc (four_digits (packet_len key text)) body rest) ∙ len_again (packet_len key text) (body ++ rest) parts.1 in
+    let again : len_at bytes ≡ Some (packet_len key text) =
+    ap len_at (parts.0 ∙ append_assoc (four_digits (packet_len key text)) body rest) ∙ len_again (packet_len key text) (body ++ rest) parts.1 in
     let same : n ≡ packet_len key text = some_is n (packet_len key text) (sym told ∙ again) in
     absurd (omega (arith, same, short))
 
@@ -129,7 +142,8 @@ pub too_short : (key bytes : List ℕ) (n : ℕ) → len_at bytes ≡ Some n →
 too_short key bytes n told short = none_so_short key bytes n (packet_at key bytes) refl told short
 
 -- What the length cuts of the bytes behind the key is the packet's data, with its end.
-pub packet_of_body : (key bytes body : List ℕ) (n m : ℕ) → after_prefix key (drop 4 bytes) ≡ Some body → len_at bytes ≡ Some n → n ≡ 4 + (length key + m) → n ≤ length bytes →
+pub packet_of_body : (key bytes body : List ℕ) (n m : ℕ) → after_prefix key (drop 4 bytes) ≡ Some body → len_at bytes ≡ Some n → n ≡ 4 + (length key + m) →
+    n ≤ length bytes →
     packet_at key bytes ≡ (before_suffix (10 ∷ []) (take m body) >>= λ text. Some (text, drop n bytes))
 unfolding packet_at
 packet_of_body key bytes body n m begins told is_len within =

@@ -1,5 +1,6 @@
 -- Caveats that are put one after the other.
-use Rattle.std.proofs.Common.{◌≡◌, Vec, Global, ℕ, suc, ◌+◌, ◌<◌, List, ◌∷◌, ◌++◌, length, map, drop, get_or, sym, ap, ◌∙◌, append_assoc, add-one, drop-cons, arith}
+use Rattle.std.proofs.Common.{◌≡◌, Vec, Global, ℕ, suc, ◌+◌, ◌<◌, List, ◌∷◌, ◌++◌, length, map, drop, get_or, sym, ap, ◌∙◌, append_assoc, add-one, drop-cons}
+use Rattle.std.proofs.Common.{arith}
 use Rattle.std.proofs.Math.ListN.{get_or-map}
 use Rattle.std.specs.List.{flat_map}
 use Rattle.std.proofs.lemmas.List.{length-append}
@@ -13,24 +14,35 @@ left_from text caveats i = flat_map text (map widened_caveat (drop i caveats))
 pub left_next : (text : WideCaveat → List ℕ) (caveats : List (List ℕ)) (i : ℕ) (caveat : List ℕ) → i < length caveats → caveat ≡ get_or caveats i caveat →
     left_from text caveats i ≡ text (widened_caveat caveat) ++ left_from text caveats (i + 1)
 left_next text caveats i caveat h is =
-    let split : drop i caveats ≡ caveat ∷ drop (i + 1) caveats = rw add-one (drop-cons caveats i caveat h ∙ ap (λ (c : List ℕ). c ∷ drop (suc i) caveats) (sym is)) in
+    let split : drop i caveats ≡ caveat ∷ drop (i + 1) caveats =
+    rw add-one (drop-cons caveats i caveat h ∙ ap (λ (c : List ℕ). c ∷ drop (suc i) caveats) (sym is)) in
     ap (λ (left : List (List ℕ)). flat_map text (map widened_caveat left)) split
 
 -- One more caveat was put.
-pub one_put : (text : WideCaveat → List ℕ) (caveats : List (List ℕ)) (i : ℕ) (caveat room next total : List ℕ) → i < length caveats → caveat ≡ get_or caveats i caveat →
+pub one_put : (text : WideCaveat → List ℕ) (caveats : List (List ℕ)) (i : ℕ) (caveat room next total : List ℕ) → i < length caveats →
+    caveat ≡ get_or caveats i caveat →
     room ++ left_from text caveats i ≡ total → next ≡ room ++ text (widened_caveat caveat) → next ++ left_from text caveats (i + 1) ≡ total
 one_put text caveats i caveat room next total h is kept put =
     rw (put, append_assoc, ← left_next text caveats i caveat h is) kept
 
 -- What has no room with one more caveat has none with all.
-pub one_full : (text : WideCaveat → List ℕ) (caveats : List (List ℕ)) (i : ℕ) (caveat room total : List ℕ) → i < length caveats → caveat ≡ get_or caveats i caveat →
+pub one_full : (text : WideCaveat → List ℕ) (caveats : List (List ℕ)) (i : ℕ) (caveat room total : List ℕ) → i < length caveats →
+    caveat ≡ get_or caveats i caveat →
     room ++ left_from text caveats i ≡ total → room_len < length (room ++ text (widened_caveat caveat)) → room_len < length total
 one_full text caveats i caveat room total h is kept full =
     let piece : List ℕ = text (widened_caveat caveat) in
     let rest : List ℕ = left_from text caveats (i + 1) in
-    omega (arith, ap length kept, ap length (left_next text caveats i caveat h is), length-append room (left_from text caveats i), length-append piece rest, length-append room piece)
+    omega (
+      arith,
+      ap length kept,
+      ap length (left_next text caveats i caveat h is),
+      length-append room (left_from text caveats i),
+      length-append piece rest,
+      length-append room piece,
+    )
 
 -- the caveat that a loop has come to, as one of the list
-pub caveat_at : (caveats : List (Vec ℕ Global)) (i : ℕ) (item : Vec ℕ Global) → item ≡ get_or caveats i item → item.items ≡ get_or (map (λ (caveat : Vec ℕ Global). caveat.items) caveats) i item.items
+pub caveat_at : (caveats : List (Vec ℕ Global)) (i : ℕ) (item : Vec ℕ Global) → item ≡ get_or caveats i item →
+    item.items ≡ get_or (map (λ (caveat : Vec ℕ Global). caveat.items) caveats) i item.items
 caveat_at caveats i item is =
     ap (λ (caveat : Vec ℕ Global). caveat.items) is ∙ sym (get_or-map (λ (caveat : Vec ℕ Global). caveat.items) caveats i item)

@@ -4,7 +4,8 @@ use Rattle.std.specs.List.{flat_map}
 use Rattle.std.proofs.lemmas.Bool.{eqb-true}
 use Rattle.std.proofs.lemmas.List.{append-nil, nil_from_length, length-append}
 use Rattle.pass_forms.specs.Pass.{WidePass}
-use Rattle.pass_forms.specs.V1.{packet, location_key, identifier_key, caveat_key, verifier_id_key, caveat_location_key, signature_key, caveat_packets, packets_of, FitsPacket, FitsCaveat, Fits, SpellsV1}
+use Rattle.pass_forms.specs.V1.{packet, location_key, identifier_key, caveat_key, verifier_id_key, caveat_location_key, signature_key, caveat_packets}
+use Rattle.pass_forms.specs.V1.{packets_of, FitsPacket, FitsCaveat, Fits, SpellsV1}
 use Rattle.pass_forms.specs.Parts.{◌>>=◌}
 use Rattle.pass_forms.specs.V1Reading.{packet_at, header_at, caveat_at, signature_at, wide_at}
 use Rattle.pass_forms.specs.Caveats.{caveats_at}
@@ -26,7 +27,8 @@ signature_takes bytes signature e =
     let g = guard_some (eqb (length s.0.0) 32 && eqb (length s.0.1) 0) s.0.0 signature s.2 in
     let lens = both_true (eqb (length s.0.0) 32) (eqb (length s.0.1) 0) g.0 in
     let nothing : s.0.1 ≡ [] = nil_from_length s.0.1 (eqb-true (length s.0.1) 0 lens.1) in
-    let parts : bytes ≡ packet signature_key s.0.0 = t.0 ∙ ap (λ (x : List ℕ). packet signature_key s.0.0 ++ x) nothing ∙ append-nil (packet signature_key s.0.0) in
+    let parts : bytes ≡ packet signature_key s.0.0 =
+    t.0 ∙ ap (λ (x : List ℕ). packet signature_key s.0.0 ++ x) nothing ∙ append-nil (packet signature_key s.0.0) in
     subst (λ (x : List ℕ). (bytes ≡ packet signature_key x) × (length x ≡ 32)) g.1 (parts, eqb-true (length s.0.0) 32 lens.0)
 
 -- A signature of 32 bytes fits a packet, and is neither a caveat nor a part of one.
@@ -52,10 +54,13 @@ signature_is_no_caveat : (signature : List ℕ) → length signature ≡ 32 → 
 unfolding caveat_at
 signature_is_no_caveat signature len =
     let none : packet_at caveat_key (packet signature_key signature) ≡ None =
-    ap (packet_at caveat_key) (sym (append-nil (packet signature_key signature))) ∙ packet_other caveat_key signature_key signature [] (signature_fits signature len) refl in
+    ap (packet_at caveat_key) (sym (append-nil (packet signature_key signature))) ∙ packet_other caveat_key signature_key signature []
+    (signature_fits signature len) refl in
     rw none refl
 
-header_takes : (bytes : List ℕ) (header : List ℕ × List ℕ × List ℕ) → header_at bytes ≡ Some header → (bytes ≡ packet location_key header.0 ++ (packet identifier_key header.1 ++ header.2)) × FitsPacket location_key header.0 × FitsPacket identifier_key header.1
+header_takes : (bytes : List ℕ) (header : List ℕ × List ℕ × List ℕ) → header_at bytes ≡ Some header →
+    (bytes ≡ packet location_key header.0 ++ (packet identifier_key header.1 ++ header.2)) × FitsPacket location_key header.0 × FitsPacket identifier_key
+    header.1
 unfolding header_at
 header_takes bytes header e =
     let l = bind_some (packet_at location_key bytes) (λ l. packet_at identifier_key l.1 >>= λ i. Some (l.0, i.0, i.1)) header e in
@@ -63,10 +68,12 @@ header_takes bytes header e =
     let tl = packet_takes location_key bytes l.0.0 l.0.1 l.1 in
     let ti = packet_takes identifier_key l.0.1 i.0.0 i.0.1 i.1 in
     let found : List ℕ × List ℕ × List ℕ = (l.0.0, i.0.0, i.0.1) in
-    subst (λ (h : List ℕ × List ℕ × List ℕ). (bytes ≡ packet location_key h.0 ++ (packet identifier_key h.1 ++ h.2)) × FitsPacket location_key h.0 × FitsPacket identifier_key h.1)
+    subst (λ (h : List ℕ × List ℕ × List ℕ). (bytes ≡ packet location_key h.0 ++ (packet identifier_key h.1 ++ h.2)) × FitsPacket location_key h.0
+    × FitsPacket identifier_key h.1)
     (some_is found header i.2) (tl.0 ∙ ap (λ (x : List ℕ). packet location_key l.0.0 ++ x) ti.0, tl.1, ti.1)
 
-header_again : (location identifier rest : List ℕ) → FitsPacket location_key location → FitsPacket identifier_key identifier → header_at (packet location_key location ++ (packet identifier_key identifier ++ rest)) ≡ Some (location, identifier, rest)
+header_again : (location identifier rest : List ℕ) → FitsPacket location_key location → FitsPacket identifier_key identifier →
+    header_at (packet location_key location ++ (packet identifier_key identifier ++ rest)) ≡ Some (location, identifier, rest)
 unfolding header_at
 header_again location identifier rest fl fi =
     rw (packet_again location_key location (packet identifier_key identifier ++ rest) fl, packet_again identifier_key identifier rest fi) refl
@@ -90,7 +97,11 @@ wide_again bytes wide spelled =
     let fits = spelled.fits in
     let last = packet signature_key wide.signature in
     let caveats = flat_map caveat_packets wide.caveats ++ last in
-    let fuel : length wide.caveats ≤ length caveats = omega (arith, caveats_fit caveat_packets caveat_has_bytes wide.caveats, length-append (flat_map caveat_packets wide.caveats) last) in
+    let fuel : length wide.caveats ≤ length caveats =
+    omega (arith, caveats_fit caveat_packets caveat_has_bytes wide.caveats, length-append (flat_map caveat_packets wide.caveats) last) in
     let h = ap header_at spelled.packets ∙ header_again wide.location wide.identifier caveats fits.location fits.identifier in
-    let c = caveats_again caveat_at caveat_packets FitsCaveat EndsCaveat exact_caveats (length caveats) wide.caveats last fuel fits.caveats (signature_ends wide.signature fits.signature) (signature_is_no_caveat wide.signature fits.signature) in
-    whole_again header_at caveat_at signature_at bytes (wide.location, wide.identifier, caveats) wide.caveats last wide.signature h c (signature_again wide.signature fits.signature)
+    let c =
+    caveats_again caveat_at caveat_packets FitsCaveat EndsCaveat exact_caveats (length caveats) wide.caveats last fuel fits.caveats
+    (signature_ends wide.signature fits.signature) (signature_is_no_caveat wide.signature fits.signature) in
+    whole_again header_at caveat_at signature_at bytes (wide.location, wide.identifier, caveats) wide.caveats last wide.signature h c
+    (signature_again wide.signature fits.signature)

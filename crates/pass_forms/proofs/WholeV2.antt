@@ -7,7 +7,8 @@ use Rattle.std.proofs.lemmas.List.{append-nil, nil_from_length, length-append}
 use Rattle.pass_forms.specs.Caveats.{caveats_at}
 use Rattle.pass_forms.specs.Parts.{◌>>=◌, after_prefix}
 use Rattle.pass_forms.specs.Pass.{WideCaveat, WidePass}
-use Rattle.pass_forms.specs.V2.{field, optional_field, location_type, identifier_type, verifier_id_type, signature_type, end_of_section, caveat_section, sections, SpellsV2}
+use Rattle.pass_forms.specs.V2.{field, optional_field, location_type, identifier_type, verifier_id_type, signature_type, end_of_section, caveat_section}
+use Rattle.pass_forms.specs.V2.{sections, SpellsV2}
 use Rattle.pass_forms.specs.V2Reading.{field_at, optional_at, caveat_at, signature_at, header_at, footer_at, wide_at}
 use Rattle.pass_forms.proofs.CaveatTexts.{Exact, caveats_take, caveats_again, caveats_fit}
 use Rattle.pass_forms.proofs.Digits.{bind_some, some_is}
@@ -59,7 +60,9 @@ caveat_again caveat rest fits ends =
     let lt = optional_field location_type caveat.location in
     let it = field identifier_type caveat.identifier in
     let vt = optional_field verifier_id_type caveat.verifier_id in
-    let l = optional_again location_type caveat.location (it ++ (vt ++ (end_of_section ++ rest))) (not_location caveat.identifier (vt ++ (end_of_section ++ rest))) in
+    let l =
+    optional_again location_type caveat.location (it ++ (vt ++ (end_of_section ++ rest)))
+    (not_location caveat.identifier (vt ++ (end_of_section ++ rest))) in
     let i = field_again identifier_type caveat.identifier (vt ++ (end_of_section ++ rest)) in
     let v = optional_again verifier_id_type caveat.verifier_id (end_of_section ++ rest) (end_is_no_verifier_id rest) in
     ap caveat_at (section_assoc lt it vt rest) ∙ rw (l, i, v) refl
@@ -84,7 +87,8 @@ signature_takes bytes signature e =
     let g = guard_some (eqb (length s.0.0) 32 && eqb (length s.0.1) 0) s.0.0 signature s.2 in
     let lens = both_true (eqb (length s.0.0) 32) (eqb (length s.0.1) 0) g.0 in
     let nothing : s.0.1 ≡ [] = nil_from_length s.0.1 (eqb-true (length s.0.1) 0 lens.1) in
-    let parts : bytes ≡ field signature_type s.0.0 = t ∙ ap (λ (x : List ℕ). field signature_type s.0.0 ++ x) nothing ∙ append-nil (field signature_type s.0.0) in
+    let parts : bytes ≡ field signature_type s.0.0 =
+    t ∙ ap (λ (x : List ℕ). field signature_type s.0.0 ++ x) nothing ∙ append-nil (field signature_type s.0.0) in
     subst (λ (x : List ℕ). (bytes ≡ field signature_type x) × (length x ≡ 32)) g.1 (parts, eqb-true (length s.0.0) 32 lens.0)
 
 signature_again : (signature : List ℕ) → length signature ≡ 32 → signature_at (field signature_type signature) ≡ Some signature
@@ -94,7 +98,8 @@ signature_again signature len =
     ap (field_at signature_type) (sym (append-nil (field signature_type signature))) ∙ field_again signature_type signature [] in
     rw (read, len) refl
 
-footer_takes : (bytes signature : List ℕ) → footer_at bytes ≡ Some signature → (bytes ≡ end_of_section ++ field signature_type signature) × (length signature ≡ 32)
+footer_takes : (bytes signature : List ℕ) → footer_at bytes ≡ Some signature →
+    (bytes ≡ end_of_section ++ field signature_type signature) × (length signature ≡ 32)
 unfolding footer_at
 footer_takes bytes signature e =
     let r = bind_some (after_prefix end_of_section bytes) signature_at signature e in
@@ -121,8 +126,12 @@ header_takes : (bytes : List ℕ) (header : List ℕ × List ℕ × List ℕ) �
 unfolding header_at
 header_takes bytes header e =
     let l = λ (first : List ℕ). optional_at location_type first in
-    let f = bind_some (after_prefix (2 ∷ []) bytes) (λ first. field_at identifier_type (l first).1 >>= λ i. after_prefix end_of_section i.1 >>= λ rest. Some (unwrap_or (l first).0 [], i.0, rest)) header e in
-    let i = bind_some (field_at identifier_type (l f.0).1) (λ i. after_prefix end_of_section i.1 >>= λ rest. Some (unwrap_or (l f.0).0 [], i.0, rest)) header f.2 in
+    let f =
+    bind_some (after_prefix (2 ∷ []) bytes)
+    (λ first. field_at identifier_type (l first).1 >>= λ i. after_prefix end_of_section i.1 >>= λ rest. Some
+    (unwrap_or (l first).0 [], i.0, rest)) header e in
+    let i =
+    bind_some (field_at identifier_type (l f.0).1) (λ i. after_prefix end_of_section i.1 >>= λ rest. Some (unwrap_or (l f.0).0 [], i.0, rest)) header f.2 in
     let r = bind_some (after_prefix end_of_section i.0.1) (λ rest. Some (unwrap_or (l f.0).0 [], i.0.0, rest)) header i.2 in
     let tf = after_prefix_takes (2 ∷ []) bytes f.0 f.1 in
     let tl = optional_takes location_type f.0 (field_at location_type f.0) refl in
@@ -137,10 +146,14 @@ header_takes bytes header e =
     } in
     subst (λ (h : List ℕ × List ℕ × List ℕ). Heads bytes h) (some_is found header r.2) heads
 
-header_again : (location : Option (List ℕ)) (identifier rest : List ℕ) → header_at (2 ∷ optional_field location_type location ++ (field identifier_type identifier ++ (end_of_section ++ rest))) ≡ Some (unwrap_or location [], identifier, rest)
+header_again : (location : Option (List ℕ)) (identifier rest : List ℕ) →
+    header_at (2 ∷ optional_field location_type location ++ (field identifier_type identifier ++ (end_of_section ++ rest))) ≡ Some
+    (unwrap_or location [], identifier, rest)
 unfolding header_at
 header_again location identifier rest =
-    let l = optional_again location_type location (field identifier_type identifier ++ (end_of_section ++ rest)) (not_location identifier (end_of_section ++ rest)) in
+    let l =
+    optional_again location_type location (field identifier_type identifier ++ (end_of_section ++ rest))
+    (not_location identifier (end_of_section ++ rest)) in
     let i = field_again identifier_type identifier (end_of_section ++ rest) in
     rw (l, i) refl
 
@@ -154,7 +167,8 @@ wide_takes bytes wide e =
     let parts : bytes ≡ sections h.location (made p.header read.0 p.signature) =
     h.parts ∙ ap (λ (x : List ℕ). 2 ∷ optional_field location_type h.location ++ (field identifier_type p.header.1 ++ (end_of_section ++ x)))
     (c.0 ∙ ap (λ (x : List ℕ). flat_map caveat_section read.0 ++ x) s.0) in
-    let spelled : SpellsV2 bytes (made p.header read.0 p.signature) = record { location = h.location; is_location = h.is_location; sections = parts; signature = s.1 } in
+    let spelled : SpellsV2 bytes (made p.header read.0 p.signature) =
+    record { location = h.location; is_location = h.is_location; sections = parts; signature = s.1 } in
     subst (λ (w : WidePass). SpellsV2 bytes w) p.whole spelled
 
 all_fit : (caveats : List WideCaveat) → AllByRecursion (λ _. Unit {0}) caveats
@@ -165,8 +179,12 @@ pub wide_again : (bytes : List ℕ) (wide : WidePass) → SpellsV2 bytes wide �
 wide_again bytes wide spelled =
     let last = end_of_section ++ field signature_type wide.signature in
     let caveats = flat_map caveat_section wide.caveats ++ last in
-    let fuel : length wide.caveats ≤ length caveats = omega (arith, caveats_fit caveat_section caveat_has_bytes wide.caveats, length-append (flat_map caveat_section wide.caveats) last) in
+    let fuel : length wide.caveats ≤ length caveats =
+    omega (arith, caveats_fit caveat_section caveat_has_bytes wide.caveats, length-append (flat_map caveat_section wide.caveats) last) in
     let h = ap header_at spelled.sections ∙ header_again spelled.location wide.identifier caveats in
-    let c = caveats_again caveat_at caveat_section (λ _. Unit {0}) (λ _. Unit {0}) exact_caveats (length caveats) wide.caveats last fuel (all_fit wide.caveats) tt (end_is_no_caveat (field signature_type wide.signature)) in
-    whole_again header_at caveat_at footer_at bytes (unwrap_or spelled.location [], wide.identifier, caveats) wide.caveats last wide.signature h c (footer_again wide.signature spelled.signature)
+    let c =
+    caveats_again caveat_at caveat_section (λ _. Unit {0}) (λ _. Unit {0}) exact_caveats (length caveats) wide.caveats last fuel (all_fit wide.caveats) tt
+    (end_is_no_caveat (field signature_type wide.signature)) in
+    whole_again header_at caveat_at footer_at bytes (unwrap_or spelled.location [], wide.identifier, caveats) wide.caveats last wide.signature h c
+    (footer_again wide.signature spelled.signature)
     ∙ ap (λ (l : List ℕ). Some (made (l, wide.identifier, caveats) wide.caveats wide.signature)) spelled.is_location

@@ -7,7 +7,8 @@ use Rattle.std.proofs.lemmas.List.{length-append}
 use Rattle.base64.specs.GeneralPurpose.{IsBytes}
 use Rattle.pass_forms.specs.Pass.{Plain, widened, widened_caveat}
 use Rattle.pass_forms.specs.Putting.{room_len}
-use Rattle.pass_forms.specs.V1.{Fits, FitsCaveat, FitsPacket, caveat_key, caveat_packets, four_digits, hex_digit, identifier_key, location_key, packet, packet_len, signature_key}
+use Rattle.pass_forms.specs.V1.{Fits, FitsCaveat, FitsPacket, caveat_key, caveat_packets, four_digits, hex_digit, identifier_key, location_key, packet}
+use Rattle.pass_forms.specs.V1.{packet_len, signature_key}
 use Rattle.pass_forms.specs.V2.{caveat_section, end_of_section, field, identifier_type, location_type, optional_field, signature_type, varint}
 use Rattle.pass_forms.specs.Writing.{HasBytes, told_location, v1_bytes, v2_bytes}
 use Rattle.pass_forms.proofs.Base64Bytes.{append_is_bytes, nil_is_bytes}
@@ -29,7 +30,8 @@ four_bytes a b c d ha hb hc hd = one_more a (b ∷ c ∷ d ∷ []) ha (one_more 
 digits_are_bytes : (n : ℕ) → n < 2 ^ 16 → IsBytes (four_digits n)
 digits_are_bytes n h =
     four_bytes (hex_digit (n / 4096)) (hex_digit (n / 256 % 16)) (hex_digit (n / 16 % 16)) (hex_digit (n % 16))
-    (digit_is_byte (n / 4096) (omega arith)) (digit_is_byte (n / 256 % 16) (omega arith)) (digit_is_byte (n / 16 % 16) (omega arith)) (digit_is_byte (n % 16) (omega arith))
+    (digit_is_byte (n / 4096) (omega arith)) (digit_is_byte (n / 256 % 16) (omega arith)) (digit_is_byte (n / 16 % 16) (omega arith))
+    (digit_is_byte (n % 16) (omega arith))
 
 key_is_bytes : (key : List ℕ) → list_all (λ byte. ltb byte 256) key ≡ true → IsBytes key
 key_is_bytes [] h = nil_is_bytes
@@ -43,7 +45,8 @@ packet_is_bytes key bytes passes fits are =
     (append_is_bytes key (bytes ++ 10 ∷ []) (key_is_bytes key passes)
     (append_is_bytes bytes (10 ∷ []) are (one_more 10 [] (omega arith) nil_is_bytes)))
 
-packets_are_bytes : (caveats : List (List ℕ)) → AllByRecursion FitsCaveat (map widened_caveat caveats) → AllByRecursion IsBytes caveats → IsBytes (flat_map caveat_packets (map widened_caveat caveats))
+packets_are_bytes : (caveats : List (List ℕ)) → AllByRecursion FitsCaveat (map widened_caveat caveats) → AllByRecursion IsBytes caveats →
+    IsBytes (flat_map caveat_packets (map widened_caveat caveats))
 packets_are_bytes [] fit are = nil_is_bytes
 packets_are_bytes (caveat ∷ caveats) fit are =
     append_is_bytes (packet caveat_key caveat ++ []) (flat_map caveat_packets (map widened_caveat caveats))
@@ -78,14 +81,16 @@ field_is_bytes type bytes small fits are =
     one_more type (varint (length bytes) ++ bytes) small
     (append_is_bytes (varint (length bytes)) bytes (varint_is_bytes (length bytes) (omega (arith, length-append (varint (length bytes)) bytes))) are)
 
-location_is_bytes : (location : List ℕ) → length (optional_field location_type (told_location location)) ≤ room_len → IsBytes location → IsBytes (optional_field location_type (told_location location))
+location_is_bytes : (location : List ℕ) → length (optional_field location_type (told_location location)) ≤ room_len → IsBytes location →
+    IsBytes (optional_field location_type (told_location location))
 location_is_bytes [] fits are = nil_is_bytes
 location_is_bytes (byte ∷ bytes) fits are = field_is_bytes location_type (byte ∷ bytes) (omega arith) fits are
 
 ends_are_bytes : IsBytes end_of_section
 ends_are_bytes = one_more 0 [] (omega arith) nil_is_bytes
 
-sections_are_bytes : (caveats : List (List ℕ)) → length (flat_map caveat_section (map widened_caveat caveats)) ≤ room_len → AllByRecursion IsBytes caveats → IsBytes (flat_map caveat_section (map widened_caveat caveats))
+sections_are_bytes : (caveats : List (List ℕ)) → length (flat_map caveat_section (map widened_caveat caveats)) ≤ room_len → AllByRecursion IsBytes caveats →
+    IsBytes (flat_map caveat_section (map widened_caveat caveats))
 sections_are_bytes [] fits are = nil_is_bytes
 sections_are_bytes (caveat ∷ caveats) fits are =
     let identifier : List ℕ = field identifier_type caveat in
@@ -109,8 +114,10 @@ v2_is_bytes pass fits are =
     let four = length-append caveats (end_of_section ++ signature) in
     let five = length-append end_of_section signature in
     one_more 2 (location ++ (identifier ++ (end_of_section ++ (caveats ++ (end_of_section ++ signature))))) (omega arith)
-    (append_is_bytes location (identifier ++ (end_of_section ++ (caveats ++ (end_of_section ++ signature)))) (location_is_bytes pass.location (omega (arith, one)) are.location)
-    (append_is_bytes identifier (end_of_section ++ (caveats ++ (end_of_section ++ signature))) (field_is_bytes identifier_type pass.identifier (omega arith) (omega (arith, one, two)) are.identifier)
+    (append_is_bytes location (identifier ++ (end_of_section ++ (caveats ++ (end_of_section ++ signature))))
+    (location_is_bytes pass.location (omega (arith, one)) are.location)
+    (append_is_bytes identifier (end_of_section ++ (caveats ++ (end_of_section ++ signature)))
+    (field_is_bytes identifier_type pass.identifier (omega arith) (omega (arith, one, two)) are.identifier)
     (append_is_bytes end_of_section (caveats ++ (end_of_section ++ signature)) ends_are_bytes
     (append_is_bytes caveats (end_of_section ++ signature) (sections_are_bytes pass.caveats (omega (arith, one, two, three, four)) are.caveats)
     (append_is_bytes end_of_section signature ends_are_bytes

@@ -24,7 +24,8 @@ pub record BytesForm : Type 1 where
 abbrev pub IsTextIn : BytesForm → Plain → List ℕ → Type 0
 IsTextIn f pass text = IsTextBy f.bytes_of f.Spells pass text
 
-has_text : (f : BytesForm) (pass : Plain) (text : List ℕ) → text ≡ in_base64 (f.bytes_of pass) → HasRoom (f.bytes_of pass) pass → IsWritten (IsTextIn f) pass text
+has_text : (f : BytesForm) (pass : Plain) (text : List ℕ) → text ≡ in_base64 (f.bytes_of pass) → HasRoom (f.bytes_of pass) pass →
+    IsWritten (IsTextIn f) pass text
 has_text f pass text encoded room = record {
   is_text = record { encoded = encoded; spelled = f.spells pass room.fits room.signature };
   short = rw encoded (text_fits (f.bytes_of pass) room.fits);
@@ -47,7 +48,8 @@ fits_room f pass text written =
     let encoded : text ≡ in_base64 (f.bytes_of pass) = written.is_text.encoded in
     bytes_fit (f.bytes_of pass) (rw (← encoded) written.short)
 
-pub reads_back : (f : BytesForm) (pass : Plain) (text : List ℕ) → IsBytes (f.bytes_of pass) → IsWritten (IsTextIn f) pass text → IsReadBack f.reading f.form (f.bytes_of pass) pass text
+pub reads_back : (f : BytesForm) (pass : Plain) (text : List ℕ) → IsBytes (f.bytes_of pass) → IsWritten (IsTextIn f) pass text →
+    IsReadBack f.reading f.form (f.bytes_of pass) pass text
 reads_back f pass text are written =
     let spelled = written.is_text.spelled in
     let encoded : text ≡ in_base64 (f.bytes_of pass) = written.is_text.encoded in
@@ -57,7 +59,8 @@ reads_back f pass text are written =
       read = f.determined (f.bytes_of pass) (Ok pass) (omega arith, spelled, written.few);
     }
 
-pub exact : (f : BytesForm) (pass : Plain) (text : List ℕ) → length pass.signature ≡ 32 → (writing_of (f.bytes_of pass) pass ≡ Ok text) ↔ IsWritten (IsTextIn f) pass text
+pub exact : (f : BytesForm) (pass : Plain) (text : List ℕ) → length pass.signature ≡ 32 →
+    (writing_of (f.bytes_of pass) pass ≡ Ok text) ↔ IsWritten (IsTextIn f) pass text
 exact f pass text len = (
   λ e.
       let parts = written_parts (f.bytes_of pass) pass text e in

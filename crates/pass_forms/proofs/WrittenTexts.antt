@@ -32,7 +32,8 @@ bytes_fit bytes h = omega (arith, length-in_base64 bytes)
 
 -- ---- the computed answer
 
-pub written_by : (bytes : List ℕ) (pass : Plain) (text : List ℕ) → text ≡ in_base64 bytes → length pass.caveats ≤ max_caveats → length bytes ≤ room_len → writing_of bytes pass ≡ Ok text
+pub written_by : (bytes : List ℕ) (pass : Plain) (text : List ℕ) → text ≡ in_base64 bytes → length pass.caveats ≤ max_caveats → length bytes ≤ room_len →
+    writing_of bytes pass ≡ Ok text
 written_by bytes pass text encoded few fits =
     let few_enough : ltb max_caveats (length pass.caveats) ≡ false = le-ltb _ _ few in
     let short : ltb max_text_len (length (in_base64 bytes)) ≡ false = le-ltb _ _ (text_fits bytes fits) in
@@ -41,12 +42,15 @@ written_by bytes pass text encoded few fits =
 pub writes : (bytes : List ℕ) (pass : Plain) (text : List ℕ) → WritesBytes bytes pass text → writing_of bytes pass ≡ Ok text
 writes bytes pass text written = written_by bytes pass text written.encoded written.room.few written.room.fits
 
-written_in : (many long : Bool) (encoded text : List ℕ) → ◌≡◌ {A = Result (List ℕ) FormFault} (cond many (Err TooMany) (cond long (Err TooLong) (Ok encoded))) (Ok text) → (text ≡ encoded) × (many ≡ false) × (long ≡ false)
+written_in : (many long : Bool) (encoded text : List ℕ) →
+    ◌≡◌ {A = Result (List ℕ) FormFault} (cond many (Err TooMany) (cond long (Err TooLong) (Ok encoded))) (Ok text) →
+    (text ≡ encoded) × (many ≡ false) × (long ≡ false)
 written_in true long encoded text e = absurd cc
 written_in false true encoded text e = absurd cc
 written_in false false encoded text e = (cc, refl, refl)
 
-pub written_parts : (bytes : List ℕ) (pass : Plain) (text : List ℕ) → writing_of bytes pass ≡ Ok text → (text ≡ in_base64 bytes) × (length pass.caveats ≤ max_caveats) × (length bytes ≤ room_len)
+pub written_parts : (bytes : List ℕ) (pass : Plain) (text : List ℕ) → writing_of bytes pass ≡ Ok text →
+    (text ≡ in_base64 bytes) × (length pass.caveats ≤ max_caveats) × (length bytes ≤ room_len)
 written_parts bytes pass text e =
     let parts = written_in (ltb max_caveats (length pass.caveats)) (ltb max_text_len (length (in_base64 bytes))) (in_base64 bytes) text e in
     (parts.0, ltb-false _ _ parts.1, bytes_fit bytes (ltb-false _ _ parts.2))
@@ -66,7 +70,8 @@ fails bytes pass ThirdParty never = absurd never
 
 -- ---- reading back
 
-pub unwraps : (form : Form) (bytes : List ℕ) → IsBytes bytes → length bytes ≤ room_len → form_of bytes ≡ Some form → unwrapped (in_base64 bytes) ≡ Ok (form, bytes)
+pub unwraps : (form : Form) (bytes : List ℕ) → IsBytes bytes → length bytes ≤ room_len → form_of bytes ≡ Some form →
+    unwrapped (in_base64 bytes) ≡ Ok (form, bytes)
 unwraps form bytes are short told =
     let ascii = IsAscii-encode_of url_safe_no_pad bytes in
     let spelled : IsBase64 (in_base64 bytes) bytes = record { are_bytes = are; spelled = inl refl } in

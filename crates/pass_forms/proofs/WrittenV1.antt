@@ -7,7 +7,8 @@ use Rattle.pass_forms.specs.declared.form.Form.TheVariants.{V1}
 use Rattle.pass_forms.specs.Envelope.{form_of, form_of_byte}
 use Rattle.pass_forms.specs.Pass.{Plain, widened, widened_caveat}
 use Rattle.pass_forms.specs.Putting.{room_len}
-use Rattle.pass_forms.specs.V1.{Fits, FitsCaveat, FitsPacket, SpellsV1, caveat_key, caveat_packets, hex_digit, identifier_key, location_key, packet, packet_len, packets_of, signature_key}
+use Rattle.pass_forms.specs.V1.{Fits, FitsCaveat, FitsPacket, SpellsV1, caveat_key, caveat_packets, hex_digit, identifier_key, location_key, packet, packet_len}
+use Rattle.pass_forms.specs.V1.{packets_of, signature_key}
 use Rattle.pass_forms.specs.Writing.{HasBytes, IsReadBack, IsV1Text, IsWritten, v1_bytes, writing_v1}
 use Rattle.pass_forms.proofs.Packets.{length-packet}
 use Rattle.pass_forms.specs.V1Reading.{reading_v1}
@@ -18,12 +19,14 @@ use Rattle.pass_forms.proofs.WrittenForm.{BytesForm, exact, reads_back}
 fits_packet : (key bytes : List ℕ) → length (packet key bytes) ≤ room_len → FitsPacket key bytes
 fits_packet key bytes h = omega (arith, length-packet key bytes)
 
-fit_caveats : (caveats : List (List ℕ)) → length (flat_map caveat_packets (map widened_caveat caveats)) ≤ room_len → AllByRecursion FitsCaveat (map widened_caveat caveats)
+fit_caveats : (caveats : List (List ℕ)) → length (flat_map caveat_packets (map widened_caveat caveats)) ≤ room_len →
+    AllByRecursion FitsCaveat (map widened_caveat caveats)
 fit_caveats [] h = tt
 fit_caveats (caveat ∷ caveats) h =
     let first : List ℕ = packet caveat_key caveat ++ [] in
     let others : List ℕ = flat_map caveat_packets (map widened_caveat caveats) in
-    let split : length (first ++ others) ≡ length (packet caveat_key caveat) + length others = length-append first others ∙ ap (λ (x : List ℕ). length x + length others) (append-nil (packet caveat_key caveat)) in
+    let split : length (first ++ others) ≡ length (packet caveat_key caveat) + length others =
+    length-append first others ∙ ap (λ (x : List ℕ). length x + length others) (append-nil (packet caveat_key caveat)) in
     (record { identifier = fits_packet caveat_key caveat (omega arith); verifier_id = tt; location = tt }, fit_caveats caveats (omega arith))
 
 fits_room : (pass : Plain) → length (packets_of (widened pass)) ≤ room_len → length pass.signature ≡ 32 → Fits (widened pass)

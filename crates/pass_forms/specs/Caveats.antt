@@ -30,7 +30,8 @@ pub record Counts (count : ℕ) (third_party : Bool) (rest : List ℕ) (caveats 
 
 -- A pass is a header (its location and its identifier), then its caveats, then what holds its signature. No caveat is
 -- without bytes, so there are no more caveats than bytes.
-unfoldable pub whole_at : (List ℕ → Option (List ℕ × List ℕ × List ℕ)) → (List ℕ → Option (WideCaveat × List ℕ)) → (List ℕ → Option (List ℕ)) → List ℕ → Option WidePass
+unfoldable pub whole_at : (List ℕ → Option (List ℕ × List ℕ × List ℕ)) → (List ℕ → Option (WideCaveat × List ℕ)) → (List ℕ → Option (List ℕ)) → List ℕ →
+    Option WidePass
 whole_at header_at caveat_at footer_at bytes = do
   header ← header_at bytes
   signature ← footer_at (caveats_at caveat_at (length header.2) header.2).1

@@ -1,5 +1,6 @@
 -- The envelope of a pass text: base64, and which form the bytes in it are in.
-use Rattle.std.specs.Prelude.{◌≡◌, ◌==◌, ◌≤◌, ◌<◌, ◌&&◌, ◌||◌, ◌⊎◌, ℕ, Bool, List, length, take, slice_get, nat_eq, nat_lt, nat_le, IsTrue, [], ◌∷◌, if◌then◌else◌, Option, None, Some, Result, Ok, Err, ◌↔◌}
+use Rattle.std.specs.Prelude.{◌≡◌, ◌==◌, ◌≤◌, ◌<◌, ◌&&◌, ◌||◌, ◌⊎◌, ℕ, Bool, List, length, take, slice_get, nat_eq, nat_lt, nat_le, IsTrue, [], ◌∷◌}
+use Rattle.std.specs.Prelude.{if◌then◌else◌, Option, None, Some, Result, Ok, Err, ◌↔◌}
 use Rattle.std.specs.List.{starts_with}
 use Rattle.std.specs.Option.{option_and_then, option_map, option_or, ok_or}
 use Rattle.base64.specs.Engines.{url_safe_no_pad, url_safe, standard_no_pad, standard}

@@ -1,5 +1,5 @@
 -- What a reader answers, whatever the form (ours: the limits, and the order of the faults).
-use Rattle.std.specs.Prelude.{◌≡◌, ◌↔◌, ℕ, Bool, ◌<◌, ◌≤◌, nat_lt, true, false, if◌then◌else◌, length, Option, Some, None, Result, Ok, Err}
+use Rattle.std.specs.Prelude.{◌≡◌, ◌↔◌, ℕ, Bool, ◌<◌, ◌≤◌, nat_lt, true, false, if◌then◌else◌, List, length, Option, Some, None, Result, Ok, Err}
 use Rattle.pass_forms.specs.declared.fault.FormFault.{FormFault}
 use Rattle.pass_forms.specs.declared.fault.FormFault.TheVariants.{TooLong, Malformed, ThirdParty, TooMany, Memory}
 use Rattle.pass_forms.specs.Pass.{Plain, WidePass, has_third_party, widened, first_party}
@@ -65,3 +65,18 @@ OrOutOfMemory Holds (Ok read) = Holds (Ok read)
 abbrev pub AnswersExactly : Type 0
 AnswersExactly = (len : ℕ) (computed : Option WidePass) (answer : Result Plain FormFault) →
     IsReading len (λ wide. computed ≡ Some wide) answer ↔ (reading_of len computed ≡ answer)
+
+-- ---- laws of a form, told by the wide passes that bytes spell in it
+
+-- No bytes spell two passes.
+abbrev pub OnePassEach : (List ℕ → WidePass → Type 0) → Type 0
+OnePassEach Spells = (bytes : List ℕ) (one other : WidePass) → Spells bytes one → Spells bytes other → one ≡ other
+
+-- What is computed of bytes is what they spell.
+abbrev pub ComputesSpelled : (List ℕ → WidePass → Type 0) → (List ℕ → Option WidePass) → Type 0
+ComputesSpelled Spells wide_at = (bytes : List ℕ) (wide : WidePass) → Spells bytes wide ↔ (wide_at bytes ≡ Some wide)
+
+-- The computed reading is that of what the bytes spell, and no other answer is.
+abbrev pub ReadsExactly : (List ℕ → WidePass → Type 0) → (List ℕ → Result Plain FormFault) → Type 0
+ReadsExactly Spells reading = (bytes : List ℕ) (answer : Result Plain FormFault) →
+    IsReading (length bytes) (Spells bytes) answer ↔ (reading bytes ≡ answer)

@@ -72,7 +72,3 @@ pub record Fits (wide : WidePass) : Type 0 where
 pub record SpellsV1 (bytes : List ℕ) (wide : WidePass) : Type 0 where
   pub packets : bytes ≡ packets_of wide
   pub fits : Fits wide
-
--- No bytes spell two passes.
-abbrev pub OnePassEachV1 : Type 0
-OnePassEachV1 = (bytes : List ℕ) (one other : WidePass) → SpellsV1 bytes one → SpellsV1 bytes other → one ≡ other

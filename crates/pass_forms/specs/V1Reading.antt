@@ -1,11 +1,11 @@
 -- V1 read from the front: what each part of the bytes stands for, and the bytes after it.
-use Rattle.std.specs.Prelude.{◌≡◌, ◌↔◌, ℕ, ◌+◌, ◌-◌, ◌*◌, nat_le, ◌==◌, ◌&&◌, if◌then◌else◌, List, [], ◌∷◌, length, take, drop, Option, Some, None, Result}
+use Rattle.std.specs.Prelude.{ℕ, ◌+◌, ◌-◌, ◌*◌, nat_le, ◌==◌, ◌&&◌, if◌then◌else◌, List, [], ◌∷◌, length, take, drop, Option, Some, None, Result}
 use Rattle.pass_forms.specs.declared.fault.FormFault.{FormFault}
 use Rattle.pass_forms.specs.Caveats.{whole_at}
 use Rattle.pass_forms.specs.Parts.{◌>>=◌, after_prefix, before_suffix, found_or_none}
 use Rattle.pass_forms.specs.Pass.{Plain, WideCaveat, WidePass}
-use Rattle.pass_forms.specs.Reading.{IsReading, reading_of}
-use Rattle.pass_forms.specs.V1.{SpellsV1, location_key, identifier_key, caveat_key, verifier_id_key, caveat_location_key, signature_key}
+use Rattle.pass_forms.specs.Reading.{reading_of}
+use Rattle.pass_forms.specs.V1.{location_key, identifier_key, caveat_key, verifier_id_key, caveat_location_key, signature_key}
 
 abbrev pub digit_value : ℕ → Option ℕ
 digit_value byte =
@@ -59,15 +59,6 @@ header_at bytes = do
 abbrev pub wide_at : List ℕ → Option WidePass
 wide_at bytes = whole_at header_at caveat_at signature_at bytes
 
--- What is computed of bytes is what they spell.
-abbrev pub ComputesV1 : Type 0
-ComputesV1 = (bytes : List ℕ) (wide : WidePass) → SpellsV1 bytes wide ↔ (wide_at bytes ≡ Some wide)
-
 -- the reading of bytes in V1
 unfoldable pub reading_v1 : List ℕ → Result Plain FormFault
 reading_v1 bytes = reading_of (length bytes) (wide_at bytes)
-
--- It is the reading of what the bytes spell, and no other answer is.
-abbrev pub ReadsV1Exactly : Type 0
-ReadsV1Exactly = (bytes : List ℕ) (answer : Result Plain FormFault) →
-    IsReading (length bytes) (SpellsV1 bytes) answer ↔ (reading_v1 bytes ≡ answer)

@@ -54,7 +54,3 @@ pub record SpellsV2 (bytes : List ℕ) (wide : WidePass) : Type 0 where
   pub is_location : unwrap_or location [] ≡ wide.location
   pub sections : bytes ≡ sections location wide
   pub signature : length wide.signature ≡ 32
-
--- No bytes spell two passes.
-abbrev pub OnePassEachV2 : Type 0
-OnePassEachV2 = (bytes : List ℕ) (one other : WidePass) → SpellsV2 bytes one → SpellsV2 bytes other → one ≡ other

@@ -1,11 +1,12 @@
 -- V2 read from the front: what each part of the bytes stands for, and the bytes after it.
-use Rattle.std.specs.Prelude.{◌≡◌, ◌↔◌, ℕ, ◌+◌, ◌-◌, ◌*◌, nat_lt, nat_le, ◌==◌, ◌&&◌, if◌then◌else◌, List, [], ◌∷◌, length, take, drop, Option, Some, None, Result, unwrap_or}
+use Rattle.std.specs.Prelude.{ℕ, ◌+◌, ◌-◌, ◌*◌, nat_lt, nat_le, ◌==◌, ◌&&◌, if◌then◌else◌, List, [], ◌∷◌, length, take, drop, Option, Some, None, Result}
+use Rattle.std.specs.Prelude.{unwrap_or}
 use Rattle.pass_forms.specs.declared.fault.FormFault.{FormFault}
 use Rattle.pass_forms.specs.Caveats.{whole_at}
 use Rattle.pass_forms.specs.Parts.{◌>>=◌, after_prefix, found_or_none}
 use Rattle.pass_forms.specs.Pass.{Plain, WideCaveat, WidePass}
-use Rattle.pass_forms.specs.Reading.{IsReading, reading_of}
-use Rattle.pass_forms.specs.V2.{SpellsV2, location_type, identifier_type, verifier_id_type, signature_type, end_of_section}
+use Rattle.pass_forms.specs.Reading.{reading_of}
+use Rattle.pass_forms.specs.V2.{location_type, identifier_type, verifier_id_type, signature_type, end_of_section}
 
 -- the seven bits of a byte below the bits that follow, which aren't all zero
 abbrev pub above : ℕ → Option (ℕ × List ℕ) → Option (ℕ × List ℕ)
@@ -68,15 +69,6 @@ footer_at bytes = do
 abbrev pub wide_at : List ℕ → Option WidePass
 wide_at bytes = whole_at header_at caveat_at footer_at bytes
 
--- What is computed of bytes is what they spell.
-abbrev pub ComputesV2 : Type 0
-ComputesV2 = (bytes : List ℕ) (wide : WidePass) → SpellsV2 bytes wide ↔ (wide_at bytes ≡ Some wide)
-
 -- the reading of bytes in V2
 unfoldable pub reading_v2 : List ℕ → Result Plain FormFault
 reading_v2 bytes = reading_of (length bytes) (wide_at bytes)
-
--- It is the reading of what the bytes spell, and no other answer is.
-abbrev pub ReadsV2Exactly : Type 0
-ReadsV2Exactly = (bytes : List ℕ) (answer : Result Plain FormFault) →
-    IsReading (length bytes) (SpellsV2 bytes) answer ↔ (reading_v2 bytes ≡ answer)

@@ -3,7 +3,15 @@ ghost use Rattle.std.specs.Option.{option_map, option_or};
 ghost use Rattle.base64.specs.Decode.{decoded_estimate};
 ghost use Rattle.base64.specs.GeneralPurpose.{decoded_of};
 ghost use Rattle.pass_forms.specs.Reading.{max_text_len};
-ghost use Rattle.pass_forms.specs.Envelope.{IsUnwrapped, form_of, from_base64, starts_with_brace, told, told_bytes, unwrapped};
+ghost use Rattle.pass_forms.specs.Envelope.{
+  IsUnwrapped,
+  form_of,
+  from_base64,
+  starts_with_brace,
+  told,
+  told_bytes,
+  unwrapped,
+};
 
 use crate::fault::FormFault;
 use crate::form::Form;
@@ -18,8 +26,8 @@ pub const MAX_TEXT: usize = 8192;
 /// The most bytes that base64 of so many characters stands for.
 pub const MAX_BYTES: usize = 6144;
 
-/// Where the bytes of a pass lie, and in which form they are. Where `plain` is true they are the whole
-/// text, else the first of the room. `len` is their number in both cases.
+/// Where the bytes of a pass lie, and in which form they are. Where `plain` is true they are the
+/// whole text, else the first of the room. `len` is their number in both cases.
 #[derive(Clone, Copy, Debug, PartialEq, Eq)]
 pub struct Unwrapped {
     pub form: Form,
@@ -28,8 +36,8 @@ pub struct Unwrapped {
 }
 
 impl Unwrapped {
-    /// The bytes of the pass, in the text and the room that `unwrap_text` was given. Where `len` passes
-    /// the room, they are the whole room.
+    /// The bytes of the pass, in the text and the room that `unwrap_text` was given. Where `len`
+    /// passes the room, they are the whole room.
     pub fn bytes<'a>(&self, text: &'a [u8], room: &'a [u8; MAX_BYTES]) -> &'a [u8]
         ensures { result.now ≡ told_bytes self.now text.now room.now }
     {
@@ -41,15 +49,16 @@ impl Unwrapped {
     }
 }
 
-/// Tells the form of a pass text and takes base64 off. A text that starts with `{` is JSON and stays
-/// where it is. Any other is base64 (RFC 4648), in the URL-safe or the standard alphabet, unpadded or
-/// padded, of bytes whose first tells the form: 2 is V2, `{` is JSON, `0` to `9` or `a` to `f` is V1.
-/// Those are written to the start of the room. What the room holds past them, or after a fault, is
-/// left open. It takes no memory.
+/// Tells the form of a pass text and takes base64 off. A text that starts with `{` is JSON and
+/// stays where it is. Any other is base64 (RFC 4648), in the URL-safe or the standard alphabet,
+/// unpadded or padded, of bytes whose first tells the form: 2 is V2, `{` is JSON, `0` to `9` or `a`
+/// to `f` is V1. Those are written to the start of the room. What the room holds past them, or
+/// after a fault, is left open. It takes no memory.
 ///
 /// # Errors
 ///
-/// `TooLong` for a text of more than 8,192 bytes, else `Malformed` where it wraps nothing. No other comes.
+/// `TooLong` for a text of more than 8,192 bytes, else `Malformed` where it wraps nothing. No other
+/// comes.
 #[tactic(auto, unfolding(crate::specs::Envelope::unwrapped))]
 pub fn unwrap_text(text: &[u8], room: &mut [u8; MAX_BYTES]) -> Result<Unwrapped, FormFault>
     ensures reading { IsUnwrapped text.now (told result text.now room.new) }
@@ -96,14 +105,16 @@ fn form_of(bytes: &[u8]) -> Option<Form>
     }
 }
 
-/// The bytes that a text is base64 of (RFC 4648), if it is base64 of any: in the URL-safe or the standard alphabet, unpadded
-/// or padded, with trailing bits that are zero. `from_base64_is_base64` among the laws ties this to the relation `IsBase64`.
+/// The bytes that a text is base64 of (RFC 4648), if it is base64 of any: in the URL-safe or the
+/// standard alphabet, unpadded or padded, with trailing bits that are zero. `from_base64_is_base64`
+/// among the laws ties this to the relation `IsBase64`.
 ///
 /// # Errors
 ///
 /// Memory was refused to the bytes.
 pub fn decode_base64(alloc: Global, text: &[u8]) -> Result<Option<Vec<u8>>, AllocError>
-    ensures { IfOk result (λ found. option_map (λ bytes. bytes.items) found ≡ from_base64 text.now) }
+    ensures { IfOk result
+        (λ found. option_map (λ bytes. bytes.items) found ≡ from_base64 text.now) }
 {
     let mut room = vec![in alloc; 0; text.len().div_ceil(4) * 3]?;
     let Some(len) = decode(text, &mut room) else {
@@ -113,8 +124,8 @@ pub fn decode_base64(alloc: Global, text: &[u8]) -> Result<Option<Vec<u8>>, Allo
     Ok(Some(room))
 }
 
-// Takes base64 off a text, into the start of the room, which holds what so long a text can stand for. Answers the number of
-// bytes.
+// Takes base64 off a text, into the start of the room, which holds what so long a text can stand
+// for. Answers the number of bytes.
 fn decode(text: &[u8], room: &mut [u8]) -> Option<usize>
     requires { decoded_estimate (length text.now) ≤ length room.old }
     ensures bytes { option_map (λ len. take len room.new) result ≡ from_base64 text.now }
@@ -154,6 +165,3 @@ fn decode_by(engine: &GeneralPurpose, text: &[u8], room: &mut [u8]) -> Option<us
 {
     engine.decode_slice_unchecked(text, room).ok()
 }
-
-#[cfg(test)]
-mod tests;

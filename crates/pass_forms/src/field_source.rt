@@ -19,8 +19,8 @@ pub enum Field<'a> {
     Signature([u8; 32]),
 }
 
-/// What hands out the fields of a pass: the location, the identifier, the caveats in their order, the signature. It takes
-/// no memory.
+/// What hands out the fields of a pass: the location, the identifier, the caveats in their order,
+/// the signature. It takes no memory.
 pub trait FieldSource<'a> {
     ghost use Rattle.std.specs.Prelude.{◌≡◌, List, [], ◌∷◌, IfNone, IfSome};
     ghost use Rattle.pass_forms.specs.FieldSource.{PassField, told};

@@ -1,13 +1,23 @@
 //! Laws of the definitions, each the contract of a function that does nothing.
 
-ghost use Rattle.pass_forms.specs.Envelope.{FromBase64IsBase64, UnwrappedIsTheAnswer, WrapsBytes, WrapsOne};
+ghost use Rattle.pass_forms.specs.Envelope.{
+  FromBase64IsBase64,
+  UnwrappedIsTheAnswer,
+  WrapsBytes,
+  WrapsOne,
+};
 ghost use Rattle.pass_forms.specs.Pass.{TellsSigned};
-ghost use Rattle.pass_forms.specs.Reading.{AnswersExactly};
+ghost use Rattle.pass_forms.specs.Reading.{
+  AnswersExactly,
+  ComputesSpelled,
+  OnePassEach,
+  ReadsExactly,
+};
 ghost use Rattle.pass_forms.specs.Text.{ReadsTextsExactly};
-ghost use Rattle.pass_forms.specs.V1.{OnePassEachV1};
-ghost use Rattle.pass_forms.specs.V1Reading.{ComputesV1, ReadsV1Exactly};
-ghost use Rattle.pass_forms.specs.V2.{OnePassEachV2};
-ghost use Rattle.pass_forms.specs.V2Reading.{ComputesV2, ReadsV2Exactly};
+ghost use Rattle.pass_forms.specs.V1.{SpellsV1};
+ghost use Rattle.pass_forms.specs.V1Reading as v1;
+ghost use Rattle.pass_forms.specs.V2.{SpellsV2};
+ghost use Rattle.pass_forms.specs.V2Reading as v2;
 ghost use Rattle.pass_forms.specs.Writing.{NarrowedStaysSigned, TextsReadBack, WritesExactly};
 
 /// A text wraps one form and one list of bytes at most, whichever alphabet and padding it is in.
@@ -32,40 +42,42 @@ pub fn unwrapped_is_the_answer()
 
 /// The bytes of V1 spell one pass at most.
 pub fn one_pass_for_each_v1()
-    ensures { OnePassEachV1 }
+    ensures { OnePassEach SpellsV1 }
 {}
 
 /// What is computed of the bytes of V1 is what they spell.
 pub fn computes_v1()
-    ensures { ComputesV1 }
+    ensures { ComputesSpelled SpellsV1 v1.wide_at }
 {}
 
 /// The answer to bytes of V1 is determined, and is the one that is computed.
 pub fn reads_v1_exactly()
-    ensures { ReadsV1Exactly }
+    ensures { ReadsExactly SpellsV1 v1.reading_v1 }
 {}
 
 /// The bytes of V2 spell one pass at most.
 pub fn one_pass_for_each_v2()
-    ensures { OnePassEachV2 }
+    ensures { OnePassEach SpellsV2 }
 {}
 
 /// What is computed of the bytes of V2 is what they spell.
 pub fn computes_v2()
-    ensures { ComputesV2 }
+    ensures { ComputesSpelled SpellsV2 v2.wide_at }
 {}
 
 /// The answer to bytes of V2 is determined, and is the one that is computed.
 pub fn reads_v2_exactly()
-    ensures { ReadsV2Exactly }
+    ensures { ReadsExactly SpellsV2 v2.reading_v2 }
 {}
 
-/// Of what is computed to be spelled, the answer is determined and is the one that is computed, whatever the form.
+/// Of what is computed to be spelled, the answer is determined and is the one that is computed,
+/// whatever the form.
 pub fn answers_exactly()
     ensures { AnswersExactly }
 {}
 
-/// The answer to a text is determined and is the one that is computed, whatever bytes spell in each form.
+/// The answer to a text is determined and is the one that is computed, whatever bytes spell in each
+/// form.
 pub fn reads_texts_exactly()
     ensures { ReadsTextsExactly }
 {}

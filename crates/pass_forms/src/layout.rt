@@ -1,8 +1,15 @@
-//! What the readers of packets and of the binary form share: a pass is gone over whole, which finds each fault, and its fields
-//! are handed out then. Nothing here takes memory.
+//! What the readers of packets and of the binary form share: a pass is gone over whole, which finds
+//! each fault, and its fields are handed out then. Nothing here takes memory.
 
 ghost use Rattle.std.specs.Prelude.{◌≡◌, [], ◌∷◌, Option, option_map, length, IfNone, IfSome};
-ghost use Rattle.pass_forms.specs.Caveats.{caveats_at, gone_over, identifiers_in, to_come, whole_at, Counts};
+ghost use Rattle.pass_forms.specs.Caveats.{
+  caveats_at,
+  gone_over,
+  identifiers_in,
+  to_come,
+  whole_at,
+  Counts,
+};
 ghost use Rattle.pass_forms.specs.FieldSource.{opened, opened_by, told};
 ghost use Rattle.pass_forms.specs.Reading.{reading_of};
 
@@ -64,12 +71,14 @@ pub trait Layout {
 
     /// The header at the front.
     fn first_header(bytes: &[u8]) -> Option<Header<'_>>
-        ensures { option_map (λ header. (header.location.now, header.identifier.now, header.rest.now)) result
+        ensures { option_map (λ header.
+            (header.location.now, header.identifier.now, header.rest.now)) result
             ≡ header_at bytes.now };
 
     /// The caveat at the front.
     fn first_caveat(bytes: &[u8]) -> Option<Caveat<'_>>
-        ensures { option_map (λ found. (found.identifier.now, found.third_party, found.rest.now)) result
+        ensures { option_map (λ found.
+            (found.identifier.now, found.third_party, found.rest.now)) result
             ≡ option_map seen (caveat_at bytes.now) };
 
     /// The signature, where the bytes are a footer.
@@ -87,7 +96,8 @@ struct Skipped<'a> {
 
 // Goes over the caveats at the front.
 fn skip_caveats<L: Layout>(bytes: &[u8]) -> Skipped<'_>
-    ensures { Counts result.count result.third_party result.rest.now (caveats_at L.caveat_at (length bytes.now) bytes.now) }
+    ensures { Counts result.count result.third_party result.rest.now
+        (caveats_at L.caveat_at (length bytes.now) bytes.now) }
 {
     let mut skipped = Skipped {
         count: 0,
@@ -108,7 +118,8 @@ fn skip_caveats<L: Layout>(bytes: &[u8]) -> Skipped<'_>
 // Goes over a whole pass.
 #[tactic(auto, unfolding(crate::specs::Caveats::to_come, crate::specs::Caveats::whole_at))]
 fn go_over<L: Layout>(bytes: &[u8]) -> Option<GoneOver<'_>>
-    ensures { option_map (λ pass. (to_come L.caveat_at pass.fields, pass.fields.caveats.count, pass.third_party)) result
+    ensures { option_map (λ pass.
+        (to_come L.caveat_at pass.fields, pass.fields.caveats.count, pass.third_party)) result
         ≡ option_map gone_over (whole_at L.header_at L.caveat_at L.footer_at bytes.now) }
 {
     let header = L::first_header(bytes)?;
@@ -128,11 +139,12 @@ fn go_over<L: Layout>(bytes: &[u8]) -> Option<GoneOver<'_>>
     })
 }
 
-/// The fields of the pass that the bytes spell in this layout, or the first fault that fits. All of the bytes are gone over
-/// before the first field is handed out.
+/// The fields of the pass that the bytes spell in this layout, or the first fault that fits. All of
+/// the bytes are gone over before the first field is handed out.
 pub fn open<L: Layout>(bytes: &[u8]) -> Result<Walk<'_>, FormFault>
     ensures { opened_by (to_come L.caveat_at) result
-        ≡ opened (reading_of (length bytes.now) (whole_at L.header_at L.caveat_at L.footer_at bytes.now)) }
+        ≡ opened (reading_of (length bytes.now)
+        (whole_at L.header_at L.caveat_at L.footer_at bytes.now)) }
 {
     if bytes.len() > MAX_TEXT {
         return Err(FormFault::TooLong);
@@ -152,8 +164,12 @@ pub fn open<L: Layout>(bytes: &[u8]) -> Result<Walk<'_>, FormFault>
 impl<'a> Caveats<'a> {
     // The identifier of the first caveat, which is taken off.
     fn next<L: Layout>(&mut self) -> Option<&'a [u8]>
-        ensures some { IfSome result (λ caveat. identifiers_in L.caveat_at self.old ≡ caveat.now ∷ identifiers_in L.caveat_at self.new) }
-        ensures none { IfNone result ((identifiers_in L.caveat_at self.old ≡ []) × (identifiers_in L.caveat_at self.new ≡ [])) }
+        ensures some { IfSome result
+            (λ caveat. identifiers_in L.caveat_at self.old ≡ caveat.now
+            ∷ identifiers_in L.caveat_at self.new) }
+        ensures none { IfNone result
+            ((identifiers_in L.caveat_at self.old ≡ [])
+            × (identifiers_in L.caveat_at self.new ≡ [])) }
     {
         self.count = self.count.checked_sub(1)?;
         let first = L::first_caveat(self.bytes)?;
@@ -166,8 +182,10 @@ impl<'a> Walk<'a> {
     /// Hands out the first of the fields still to come, or `None` where none is left.
     #[tactic(auto, unfolding(crate::specs::Caveats::to_come))]
     pub fn next<L: Layout>(&mut self) -> Option<Field<'a>>
-        ensures some { IfSome result (λ field. to_come L.caveat_at self.old ≡ told field ∷ to_come L.caveat_at self.new) }
-        ensures none { IfNone result ((to_come L.caveat_at self.old ≡ []) × (to_come L.caveat_at self.new ≡ [])) }
+        ensures some { IfSome result
+            (λ field. to_come L.caveat_at self.old ≡ told field ∷ to_come L.caveat_at self.new) }
+        ensures none { IfNone result
+            ((to_come L.caveat_at self.old ≡ []) × (to_come L.caveat_at self.new ≡ [])) }
     {
         if let Some(location) = self.location.take() {
             return Some(Field::Location(location));

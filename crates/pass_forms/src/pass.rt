@@ -139,8 +139,8 @@ impl Pass {
         &self.signature
     }
 
-    /// Whether the signature is that of the identifier and the caveats under this root, of any length. No memory is
-    /// taken.
+    /// Whether the signature is that of the identifier and the caveats under this root, of any
+    /// length. No memory is taken.
     #[tactic(auto, unfolding(crate::specs::Pass::is_signed))]
     pub fn is_signed(&self, root: &[u8]) -> bool
         ensures signed { IsTrue result ↔ IsSigned root.now self.now }
@@ -153,7 +153,8 @@ impl Pass {
 
 // The signature of an identifier and caveats under a root.
 fn signature_under(root: &[u8], identifier: &[u8], caveats: &[Vec<u8>]) -> [u8; 32]
-    ensures { result ≡ chain (derived_key root.now) identifier.now (map (λ caveat. caveat.items) caveats.now) }
+    ensures { result ≡ chain (derived_key root.now) identifier.now
+        (map (λ caveat. caveat.items) caveats.now) }
 {
     let mut chain = Chain::start(root, identifier);
     for caveat in caveats {
@@ -162,14 +163,17 @@ fn signature_under(root: &[u8], identifier: &[u8], caveats: &[Vec<u8>]) -> [u8; 
     chain.signature()
 }
 
-/// Adds a caveat to a pass, and signs it without the root: the signature is one more HMAC, under the signature so far.
+/// Adds a caveat to a pass, and signs it without the root: the signature is one more HMAC, under
+/// the signature so far.
 ///
 /// # Errors
 ///
-/// `TooMany` for a pass of 64 caveats or more. `Memory` comes only where memory was refused. The pass stays as it was then.
+/// `TooMany` for a pass of 64 caveats or more. `Memory` comes only where memory was refused. The
+/// pass stays as it was then.
 pub fn narrow(alloc: Global, pass: &mut Pass, caveat: &[u8]) -> Result<(), FormFault>
     ensures ok { OnOk result (pass.new ≡ with_caveat caveat.now pass.old) }
-    ensures signed { OnOk result ((root : List ℕ) → IsSigned root pass.old → IsSigned root pass.new) }
+    ensures signed { OnOk result
+        ((root : List ℕ) → IsSigned root pass.old → IsSigned root pass.new) }
     ensures err { OnErr result (pass.new ≡ pass.old) }
     ensures too_many { (result ≡ Err TooMany) ↔ (max_caveats ≤ length pass.old.caveats) }
     ensures fault { IfErr result IsNarrowingFault }
@@ -183,6 +187,3 @@ pub fn narrow(alloc: Global, pass: &mut Pass, caveat: &[u8]) -> Result<(), FormF
     pass.signature = chain.signature();
     Ok(())
 }
-
-#[cfg(test)]
-mod tests;

@@ -49,10 +49,13 @@ fn packet_len(bytes: &[u8]) -> Option<usize>
     Some(a * 4096 + b * 256 + c * 16 + d)
 }
 
-// The data of the packet of this key at the front, and what follows it.
+// The data of the packet of this key at the front, and what follows it. Inlined, so that a key,
+// which is known where it is called, is compared at once.
+#[inline(always)]
 #[tactic(auto, unfolding(crate::specs::V1Reading::packet_at))]
 fn first_packet<'a>(key: &[u8], bytes: &'a [u8]) -> Option<(&'a [u8], &'a [u8])>
-    ensures { option_map (λ found. (found.0.now, found.1.now)) result ≡ reading.packet_at key.now bytes.now }
+    ensures { option_map (λ found. (found.0.now, found.1.now)) result
+        ≡ reading.packet_at key.now bytes.now }
 {
     if bytes.len() < LEN_DIGITS {
         return None;
@@ -69,8 +72,10 @@ fn first_packet<'a>(key: &[u8], bytes: &'a [u8]) -> Option<(&'a [u8], &'a [u8])>
 }
 
 // The same for a packet that may be left out: nothing is taken off where there is none.
+#[inline(always)]
 fn optional_packet<'a>(key: &[u8], bytes: &'a [u8]) -> (bool, &'a [u8])
-    ensures { (is_some (reading.optional_at key.now bytes.now).0 ≡ result.0) × (result.1.now ≡ (reading.optional_at key.now bytes.now).1) }
+    ensures { (is_some (reading.optional_at key.now bytes.now).0 ≡ result.0)
+        × (result.1.now ≡ (reading.optional_at key.now bytes.now).1) }
 {
     match first_packet(key, bytes) {
         Some((_, rest)) => (true, rest),
@@ -123,7 +128,8 @@ impl Layout for Packets {
     }
 }
 
-/// The fields of the pass that the packets of V1 spell. Contracts see them as the list of those still to come.
+/// The fields of the pass that the packets of V1 spell. Contracts see them as the list of those
+/// still to come.
 #[derive(Drop)]
 pub struct V1Fields<'a> {
     walk: Walk<'a>,
@@ -148,13 +154,14 @@ impl<'a> V1Fields<'a> {
     ghost use Rattle.pass_forms.specs.V1.{SpellsV1};
     ghost use Rattle.pass_forms.specs.V1Reading.{reading_v1};
 
-    /// Checks the packets of V1, all of the bytes, before it hands out the first field. They are libmacaroons' packets, without
-    /// base64. It takes no memory: each field is a part of the bytes.
+    /// Checks the packets of V1, all of the bytes, before it hands out the first field. They are
+    /// libmacaroons' packets, without base64. It takes no memory: each field is a part of the
+    /// bytes.
     ///
     /// # Errors
     ///
-    /// The first that fits: `TooLong` for more than 8,192 bytes, `Malformed` where no pass is spelled, `ThirdParty` where a
-    /// caveat is a third party's, `TooMany` for more than 64 caveats.
+    /// The first that fits: `TooLong` for more than 8,192 bytes, `Malformed` where no pass is
+    /// spelled, `ThirdParty` where a caveat is a third party's, `TooMany` for more than 64 caveats.
     #[tactic(auto, unfolding(crate::specs::V1Reading::reading_v1))]
     pub fn open(bytes: &'a [u8]) -> Result<V1Fields<'a>, FormFault>
         // By what the bytes spell.
@@ -175,12 +182,14 @@ impl<'a> FieldSource<'a> for V1Fields<'a> {
     }
 }
 
-/// The pass that the packets of V1 spell, all of the bytes. They are libmacaroons' packets, without base64.
+/// The pass that the packets of V1 spell, all of the bytes. They are libmacaroons' packets, without
+/// base64.
 ///
 /// # Errors
 ///
-/// The first that fits: `TooLong` for more than 8,192 bytes, `Malformed` where no pass is spelled, `ThirdParty` where a
-/// caveat is a third party's, `TooMany` for more than 64 caveats. `Memory` comes only for a pass that would have been read.
+/// The first that fits: `TooLong` for more than 8,192 bytes, `Malformed` where no pass is spelled,
+/// `ThirdParty` where a caveat is a third party's, `TooMany` for more than 64 caveats. `Memory`
+/// comes only for a pass that would have been read.
 pub fn read_v1(alloc: Global, bytes: &[u8]) -> Result<Pass, FormFault>
     // By what the bytes spell.
     ensures spelled { OrOutOfMemory (IsReading (length bytes.now) (SpellsV1 bytes.now)) result }
@@ -191,6 +200,3 @@ pub fn read_v1(alloc: Global, bytes: &[u8]) -> Result<Pass, FormFault>
     let caveat_count = fields.walk.caveats.count;
     Ok(collect(alloc, caveat_count, &mut fields)?)
 }
-
-#[cfg(test)]
-mod tests;

@@ -1,4 +1,16 @@
-ghost use Rattle.std.specs.Prelude.{◌≡◌, ℕ, List, ◌<◌, ◌≤◌, Some, None, length, option_map, is_some, MatchOption};
+ghost use Rattle.std.specs.Prelude.{
+  ◌≡◌,
+  ℕ,
+  List,
+  ◌<◌,
+  ◌≤◌,
+  Some,
+  None,
+  length,
+  option_map,
+  is_some,
+  MatchOption,
+};
 ghost use Rattle.pass_forms.specs.Reading.{IsReading, OrOutOfMemory};
 ghost use Rattle.pass_forms.specs.V2.{SpellsV2};
 ghost use Rattle.pass_forms.specs.V2Reading as reading;
@@ -22,7 +34,8 @@ pub const SIGNATURE: u8 = 6;
 
 pub const END_OF_SECTION: &[u8] = &[0];
 
-// The number at the front, where it is at most so large. Each byte has seven bits of it, the lowest first.
+// The number at the front, where it is at most so large. Each byte has seven bits of it, the lowest
+// first.
 fn varint_up_to(most: usize, bytes: &[u8]) -> Option<(usize, &[u8])>
     ensures { MatchOption result
         ((n : ℕ) (rest : List ℕ) → reading.varint_at bytes.now ≡ Some (n, rest) → most < n)
@@ -50,7 +63,8 @@ fn varint_up_to(most: usize, bytes: &[u8]) -> Option<(usize, &[u8])>
 // The bytes of the field of this type at the front, and what follows it.
 #[tactic(auto, unfolding(crate::specs::V2Reading::field_at))]
 fn first_field<'a>(kind: u8, bytes: &'a [u8]) -> Option<(&'a [u8], &'a [u8])>
-    ensures { option_map (λ found. (found.0.now, found.1.now)) result ≡ reading.field_at kind bytes.now }
+    ensures { option_map (λ found. (found.0.now, found.1.now)) result
+        ≡ reading.field_at kind bytes.now }
 {
     let rest = after_prefix(&[kind], bytes)?;
     let (len, rest) = varint_up_to(rest.len(), rest)?;
@@ -63,7 +77,8 @@ fn first_field<'a>(kind: u8, bytes: &'a [u8]) -> Option<(&'a [u8], &'a [u8])>
 
 // The same for a field that may be left out: nothing is taken off where there is none.
 fn optional_field<'a>(kind: u8, bytes: &'a [u8]) -> (Option<&'a [u8]>, &'a [u8])
-    ensures { (option_map (λ field. field.now) result.0, result.1.now) ≡ reading.optional_at kind bytes.now }
+    ensures { (option_map (λ field. field.now) result.0, result.1.now)
+        ≡ reading.optional_at kind bytes.now }
 {
     match first_field(kind, bytes) {
         Some((field, rest)) => (Some(field), rest),
@@ -127,7 +142,8 @@ impl Layout for Sections {
     }
 }
 
-/// The fields of the pass that the bytes of V2 spell. Contracts see them as the list of those still to come.
+/// The fields of the pass that the bytes of V2 spell. Contracts see them as the list of those still
+/// to come.
 #[derive(Drop)]
 pub struct V2Fields<'a> {
     walk: Walk<'a>,
@@ -152,13 +168,14 @@ impl<'a> V2Fields<'a> {
     ghost use Rattle.pass_forms.specs.V2.{SpellsV2};
     ghost use Rattle.pass_forms.specs.V2Reading.{reading_v2};
 
-    /// Checks the bytes of V2, all of them, before it hands out the first field. They are libmacaroons' binary form, without
-    /// base64. Each number has its one shortest spelling (ours). It takes no memory: each field is a part of the bytes.
+    /// Checks the bytes of V2, all of them, before it hands out the first field. They are
+    /// libmacaroons' binary form, without base64. Each number has its one shortest spelling (ours).
+    /// It takes no memory: each field is a part of the bytes.
     ///
     /// # Errors
     ///
-    /// The first that fits: `TooLong` for more than 8,192 bytes, `Malformed` where no pass is spelled, `ThirdParty` where a
-    /// caveat is a third party's, `TooMany` for more than 64 caveats.
+    /// The first that fits: `TooLong` for more than 8,192 bytes, `Malformed` where no pass is
+    /// spelled, `ThirdParty` where a caveat is a third party's, `TooMany` for more than 64 caveats.
     #[tactic(auto, unfolding(crate::specs::V2Reading::reading_v2))]
     pub fn open(bytes: &'a [u8]) -> Result<V2Fields<'a>, FormFault>
         // By what the bytes spell.
@@ -179,13 +196,14 @@ impl<'a> FieldSource<'a> for V2Fields<'a> {
     }
 }
 
-/// The pass that the bytes of V2 spell, all of the bytes. They are libmacaroons' binary form, without base64. Each
-/// number has its one shortest spelling (ours).
+/// The pass that the bytes of V2 spell, all of the bytes. They are libmacaroons' binary form,
+/// without base64. Each number has its one shortest spelling (ours).
 ///
 /// # Errors
 ///
-/// The first that fits: `TooLong` for more than 8,192 bytes, `Malformed` where no pass is spelled, `ThirdParty` where a
-/// caveat is a third party's, `TooMany` for more than 64 caveats. `Memory` comes only for a pass that would have been read.
+/// The first that fits: `TooLong` for more than 8,192 bytes, `Malformed` where no pass is spelled,
+/// `ThirdParty` where a caveat is a third party's, `TooMany` for more than 64 caveats. `Memory`
+/// comes only for a pass that would have been read.
 pub fn read_v2(alloc: Global, bytes: &[u8]) -> Result<Pass, FormFault>
     // By what the bytes spell.
     ensures spelled { OrOutOfMemory (IsReading (length bytes.now) (SpellsV2 bytes.now)) result }
@@ -196,6 +214,3 @@ pub fn read_v2(alloc: Global, bytes: &[u8]) -> Result<Pass, FormFault>
     let caveat_count = fields.walk.caveats.count;
     Ok(collect(alloc, caveat_count, &mut fields)?)
 }
-
-#[cfg(test)]
-mod tests;

@@ -7,7 +7,19 @@ ghost use Rattle.pass_forms.specs.declared.form.Form.TheVariants.{V1, V2};
 ghost use Rattle.pass_forms.specs.Putting.{RefusesBytes, WritesBytes};
 ghost use Rattle.pass_forms.specs.V1Reading.{reading_v1};
 ghost use Rattle.pass_forms.specs.V2Reading.{reading_v2};
-ghost use Rattle.pass_forms.specs.Writing.{FailsAs, IsReadBack, IsRefused, IsV1Text, IsV2Text, IsWritten, in_base64, v1_bytes, v2_bytes, writing_v1, writing_v2};
+ghost use Rattle.pass_forms.specs.Writing.{
+  FailsAs,
+  IsReadBack,
+  IsRefused,
+  IsV1Text,
+  IsV2Text,
+  IsWritten,
+  in_base64,
+  v1_bytes,
+  v2_bytes,
+  writing_v1,
+  writing_v2,
+};
 
 use crate::v1::Packets;
 use crate::v2::Sections;
@@ -35,41 +47,48 @@ trait PutLayout {
         ensures signature { OnOk result (length pass.now.signature ≡ 32) };
 }
 
-/// The text of a pass in V1: libmacaroons' packets in URL-safe base64 without padding. An empty location is written.
+/// The text of a pass in V1: libmacaroons' packets in URL-safe base64 without padding. An empty
+/// location is written.
 ///
 /// # Errors
 ///
-/// `TooMany` for more than 64 caveats, else `TooLong` where the pass has no such text of at most 8,192 bytes. `Memory`
-/// comes only where memory was refused to a text.
+/// `TooMany` for more than 64 caveats, else `TooLong` where the pass has no such text of at most
+/// 8,192 bytes. `Memory` comes only where memory was refused to a text.
 pub fn write_v1(alloc: Global, pass: &Pass) -> Result<String, FormFault>
     ensures ok { IfOk result (λ text. IsWritten IsV1Text pass.now (string_bytes text)) }
     ensures err { IfErr result (IsRefused IsV1Text pass.now) }
-    ensures read_back { IfOk result (λ text. IsReadBack reading_v1 V1 (v1_bytes pass.now) pass.now (string_bytes text)) }
+    ensures read_back { IfOk result
+        (λ text. IsReadBack reading_v1 V1 (v1_bytes pass.now) pass.now (string_bytes text)) }
     // By what is computed of the pass.
-    ensures computed { MatchResult result (λ text. writing_v1 pass.now ≡ Ok (string_bytes text)) (FailsAs (writing_v1 pass.now)) }
+    ensures computed { MatchResult result (λ text. writing_v1 pass.now ≡ Ok (string_bytes text))
+        (FailsAs (writing_v1 pass.now)) }
 {
     write_in::<Packets>(alloc, pass)
 }
 
-/// The text of a pass in V2: libmacaroons' binary form in URL-safe base64 without padding. An empty location is left out.
+/// The text of a pass in V2: libmacaroons' binary form in URL-safe base64 without padding. An empty
+/// location is left out.
 ///
 /// # Errors
 ///
-/// `TooMany` for more than 64 caveats, else `TooLong` where the pass has no such text of at most 8,192 bytes. `Memory`
-/// comes only where memory was refused to a text.
+/// `TooMany` for more than 64 caveats, else `TooLong` where the pass has no such text of at most
+/// 8,192 bytes. `Memory` comes only where memory was refused to a text.
 pub fn write_v2(alloc: Global, pass: &Pass) -> Result<String, FormFault>
     ensures ok { IfOk result (λ text. IsWritten IsV2Text pass.now (string_bytes text)) }
     ensures err { IfErr result (IsRefused IsV2Text pass.now) }
-    ensures read_back { IfOk result (λ text. IsReadBack reading_v2 V2 (v2_bytes pass.now) pass.now (string_bytes text)) }
+    ensures read_back { IfOk result
+        (λ text. IsReadBack reading_v2 V2 (v2_bytes pass.now) pass.now (string_bytes text)) }
     // By what is computed of the pass.
-    ensures computed { MatchResult result (λ text. writing_v2 pass.now ≡ Ok (string_bytes text)) (FailsAs (writing_v2 pass.now)) }
+    ensures computed { MatchResult result (λ text. writing_v2 pass.now ≡ Ok (string_bytes text))
+        (FailsAs (writing_v2 pass.now)) }
 {
     write_in::<Sections>(alloc, pass)
 }
 
 // The text of a pass in this layout, or the first fault that fits.
 fn write_in<L: PutLayout>(alloc: Global, pass: &Pass) -> Result<String, FormFault>
-    ensures ok { IfOk result (λ text. WritesBytes (L.bytes_of pass.now) pass.now (string_bytes text)) }
+    ensures ok { IfOk result
+        (λ text. WritesBytes (L.bytes_of pass.now) pass.now (string_bytes text)) }
     ensures err { IfErr result (RefusesBytes (L.bytes_of pass.now) pass.now) }
 {
     if pass.caveats().len() > MAX_CAVEATS {
@@ -87,6 +106,3 @@ fn text_of(alloc: Global, bytes: &[u8]) -> Result<String, AllocError>
 {
     URL_SAFE_NO_PAD.encode(alloc, bytes)
 }
-
-#[cfg(test)]
-mod tests;

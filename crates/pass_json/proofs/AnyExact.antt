@@ -6,10 +6,14 @@ use Rattle.pass_forms.specs.declared.form.Form.{Form}
 use Rattle.pass_forms.specs.declared.form.Form.TheVariants.{V1, V2, Json}
 use Rattle.pass_forms.specs.Pass.{Plain, WidePass}
 use Rattle.pass_forms.specs.Text.{SpellsText, IsTextReading, ReadsTextsExactly}
-use Rattle.pass_forms.specs.V1Reading.{ComputesV1}
-use Rattle.pass_forms.specs.V2Reading.{ComputesV2}
+use Rattle.pass_forms.specs.Reading.{ComputesSpelled}
+use Rattle.pass_forms.specs.V1.{SpellsV1}
+use Rattle.pass_forms.specs.V1Reading as v1
+use Rattle.pass_forms.specs.V2.{SpellsV2}
+use Rattle.pass_forms.specs.V2Reading as v2
 use Rattle.pass_json.specs.AnyForm.{Spells, IsAnyReading, reading, wide_in}
-use Rattle.pass_json.specs.JsonReading.{ComputesJson}
+use Rattle.pass_json.specs.Json.{SpellsJson}
+use Rattle.pass_json.specs.JsonReading.{wide_json}
 use Rattle.pass_json.proofs.SameReading.{same_answer}
 
 abbrev Relation : Type 1
@@ -24,7 +28,8 @@ same_reading : (One Other : Relation) → ((form : Form) (bytes : List ℕ) (wid
     → ((form : Form) (bytes : List ℕ) (wide : WidePass) → Other form bytes wide → One form bytes wide)
     → (text : List ℕ) (answer : Result (Form × Plain) FormFault) → IsTextReading One text answer → IsTextReading Other text answer
 same_reading One Other to from text (Ok (form, pass)) h =
-    same_answer (SpellsText One text form) (SpellsText Other text form) (same_in One Other to text form) (same_in Other One from text form) (length text) (Ok pass) h
+    same_answer (SpellsText One text form) (SpellsText Other text form) (same_in One Other to text form) (same_in Other One from text form) (length text)
+    (Ok pass) h
 same_reading One Other to from text (Err fault) h =
     same_answer (λ wide. (form : Form) × SpellsText One text form wide) (λ wide. (form : Form) × SpellsText Other text form wide)
     (λ wide k. (k.0, same_in One Other to text k.0 wide k.1)) (λ wide k. (k.0, same_in Other One from text k.0 wide k.1)) (length text) (Err fault) h
@@ -33,11 +38,12 @@ abbrev Computed : Relation
 Computed form bytes wide = wide_in form bytes ≡ Some wide
 
 -- by the laws of each form, and of texts
-module _ (v1 : ComputesV1) (v2 : ComputesV2) (json : ComputesJson) (texts : ReadsTextsExactly) where
+module _ (packets : ComputesSpelled SpellsV1 v1.wide_at) (sections : ComputesSpelled SpellsV2 v2.wide_at)
+    (json : ComputesSpelled SpellsJson wide_json) (texts : ReadsTextsExactly) where
   in_each : (form : Form) (bytes : List ℕ) (wide : WidePass) → Spells form bytes wide ↔ Computed form bytes wide
   unfolding wide_in
-  in_each V1 bytes wide = v1 bytes wide
-  in_each V2 bytes wide = v2 bytes wide
+  in_each V1 bytes wide = packets bytes wide
+  in_each V2 bytes wide = sections bytes wide
   in_each Json bytes wide = json bytes wide
 
   pub reading_exact : (text : List ℕ) (answer : Result (Form × Plain) FormFault) → IsBytes text → IsAnyReading text answer ↔ (reading text ≡ answer)

@@ -1,5 +1,6 @@
 -- The caveats of a list, read one after another.
-use Rattle.std.proofs.Common.{◌≡◌, ℕ, suc, ◌+◌, ◌<◌, ◌≤◌, arith, Bool, true, false, ◌||◌, List, [], ◌∷◌, ◌++◌, length, drop, get_or, drop-cons, Option, Some, None, refl, sym, ap, ◌∙◌, append-nil, append_assoc}
+use Rattle.std.proofs.Common.{◌≡◌, ℕ, suc, ◌+◌, ◌<◌, ◌≤◌, arith, Bool, true, false, ◌||◌, List, [], ◌∷◌, ◌++◌, length, drop, get_or, drop-cons, Option, Some}
+use Rattle.std.proofs.Common.{None, refl, sym, ap, ◌∙◌, append-nil, append_assoc}
 use Rattle.std.specs.Option.{option_map}
 use Rattle.std.proofs.lemmas.List.{drop_all}
 use Rattle.pass_forms.specs.declared.fault.FormFault.{FormFault}
@@ -23,7 +24,8 @@ or_false : (b : Bool) → (b || false) ≡ b
 or_false true = refl
 or_false false = refl
 
-pub none_after : (identifiers : List (List ℕ)) (third_party : Bool) → with_kept identifiers third_party (option_map kept_caveats (caveats_of no_items)) ≡ Some (identifiers, third_party)
+pub none_after : (identifiers : List (List ℕ)) (third_party : Bool) →
+    with_kept identifiers third_party (option_map kept_caveats (caveats_of no_items)) ≡ Some (identifiers, third_party)
 unfolding caveats_of
 none_after identifiers third_party = rw (append-nil, or_false) refl
 
@@ -50,7 +52,8 @@ pub next_caveat : (identifiers : List (List ℕ)) (third_party : Bool) (value : 
 unfolding caveats_of
 next_caveat identifiers third_party value values id third e = next_by identifiers third_party (caveat_of value) (caveats_of values) id third e
 
-nothing_kept : (found : Option (List WideCaveat)) (identifiers : List (List ℕ)) (third_party : Bool) → option_map kept_caveats found ≡ with_kept identifiers third_party None → found ≡ None
+nothing_kept : (found : Option (List WideCaveat)) (identifiers : List (List ℕ)) (third_party : Bool) →
+    option_map kept_caveats found ≡ with_kept identifiers third_party None → found ≡ None
 nothing_kept None identifiers third_party e = refl
 nothing_kept (Some caveats) identifiers third_party e = absurd cc
 
@@ -62,7 +65,8 @@ no_rest value values e = rw e refl
 pub refused_caveat : (all : Items) (identifiers : List (List ℕ)) (third_party : Bool) (value : Data) (values : Items) (fault : FormFault)
     → option_map kept_caveats (caveats_of all) ≡ with_kept identifiers third_party (option_map kept_caveats (caveats_of (item value values)))
     → RefusesPart (caveat_of value) fault → RefusesPart (caveats_of all) fault
-refused_caveat all identifiers third_party value values Malformed e refused = nothing_kept (caveats_of all) identifiers third_party (rw (no_rest value values refused) at e)
+refused_caveat all identifiers third_party value values Malformed e refused =
+    nothing_kept (caveats_of all) identifiers third_party (rw (no_rest value values refused) at e)
 refused_caveat all identifiers third_party value values Memory e refused = tt
 refused_caveat all identifiers third_party value values TooLong e refused = absurd refused
 refused_caveat all identifiers third_party value values ThirdParty e refused = absurd refused
@@ -78,7 +82,8 @@ split_items list i value lt is =
     let f : drop i list ≡ value ∷ drop (i + 1) list = e ∙ ap (λ (v : Value). v ∷ drop (suc i) list) (sym is) ∙ ap (λ (k : ℕ). value ∷ drop k list) next in
     ap items_view f
 
-pub one_more : (all : Option (List (List ℕ) × Bool)) (list : List Value) (i : ℕ) (value : Value) (identifiers : List (List ℕ)) (third_party : Bool) (id : List ℕ) (third : Bool)
+pub one_more : (all : Option (List (List ℕ) × Bool)) (list : List Value) (i : ℕ) (value : Value) (identifiers : List (List ℕ)) (third_party : Bool)
+    (id : List ℕ) (third : Bool)
     → i < length list → value ≡ get_or list i value → option_map kept_caveat (caveat_of (view value)) ≡ Some (id, third)
     → all ≡ with_kept identifiers third_party (option_map kept_caveats (caveats_of (items_view (drop i list))))
     → all ≡ with_kept (identifiers ++ id ∷ []) (third_party || third) (option_map kept_caveats (caveats_of (items_view (drop (i + 1) list))))
@@ -87,14 +92,17 @@ one_more all list i value identifiers third_party id third lt is found e =
     ∙ next_caveat identifiers third_party (view value) (items_view (drop (i + 1) list)) id third found
 
 pub all_read : (all : Option (List (List ℕ) × Bool)) (list : List Value) (i : ℕ) (identifiers : List (List ℕ)) (third_party : Bool)
-    → length list ≤ i → all ≡ with_kept identifiers third_party (option_map kept_caveats (caveats_of (items_view (drop i list)))) → all ≡ Some (identifiers, third_party)
+    → length list ≤ i → all ≡ with_kept identifiers third_party (option_map kept_caveats (caveats_of (items_view (drop i list)))) → all ≡ Some
+    (identifiers, third_party)
 all_read all list i identifiers third_party done e =
     let nothing : drop i list ≡ [] = drop_all i list done in
-    e ∙ ap (λ (rest : List Value). with_kept identifiers third_party (option_map kept_caveats (caveats_of (items_view rest)))) nothing ∙ none_after identifiers third_party
+    e ∙ ap (λ (rest : List Value). with_kept identifiers third_party (option_map kept_caveats (caveats_of (items_view rest)))) nothing
+    ∙ none_after identifiers third_party
 
 pub one_refused : (list : List Value) (i : ℕ) (value : Value) (identifiers : List (List ℕ)) (third_party : Bool) (fault : FormFault)
     → i < length list → value ≡ get_or list i value
-    → option_map kept_caveats (caveats_of (items_view list)) ≡ with_kept identifiers third_party (option_map kept_caveats (caveats_of (items_view (drop i list))))
+    → option_map kept_caveats (caveats_of (items_view list)) ≡ with_kept identifiers third_party
+    (option_map kept_caveats (caveats_of (items_view (drop i list))))
     → RefusesPart (caveat_of (view value)) fault → RefusesPart (caveats_of (items_view list)) fault
 one_refused list i value identifiers third_party fault lt is e refused =
     refused_caveat (items_view list) identifiers third_party (view value) (items_view (drop (i + 1) list)) fault

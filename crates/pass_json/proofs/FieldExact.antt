@@ -1,5 +1,6 @@
 -- A field, computed, is what is spelled.
-use Rattle.std.proofs.Common.{◌≡◌, ℕ, zero, suc, ◌<◌, Bool, true, false, cond, ltb, ◌&&◌, List, [], ◌∷◌, Option, Some, None, refl, sym, ap, subst, arith, ◌⊎◌, inl, inr}
+use Rattle.std.proofs.Common.{◌≡◌, ℕ, zero, suc, ◌<◌, Bool, true, false, cond, ltb, ◌&&◌, List, [], ◌∷◌, Option, Some, None, refl, sym, ap, subst, arith, ◌⊎◌}
+use Rattle.std.proofs.Common.{inl, inr}
 use Rattle.std.specs.List.{list_all}
 use Rattle.std.specs.Option.{option_map}
 use Rattle.std.specs.Str.{IsAscii}
@@ -88,7 +89,8 @@ required_by None bytes e = absurd cc
 required_by (Some t) bytes e = ap (λ (x : Option (List ℕ)). Some x) e
 
 -- What has a field is an object.
-pub is_object : (plain base64 : List ℕ) (value : Data) (bytes : List ℕ) → IsField plain base64 value (Some bytes) → (members : Members) × (value ≡ object members)
+pub is_object : (plain base64 : List ℕ) (value : Data) (bytes : List ℕ) → IsField plain base64 value (Some bytes) →
+    (members : Members) × (value ≡ object members)
 is_object plain base64 null bytes (inl h) = absurd (cc h.0)
 is_object plain base64 null bytes (inr h) = absurd (cc h.2)
 is_object plain base64 (boolean b) bytes (inl h) = absurd (cc h.0)
@@ -104,7 +106,8 @@ is_object plain base64 (object members) bytes h = (members, refl)
 -- ---- fields, by the law of base64
 
 module _ (law : FromBase64IsBase64) where
-  base64_by : (text bytes : List ℕ) (test : Bool) → list_all (λ byte. ltb byte 256) text ≡ test → cond test (from_base64 text) None ≡ Some bytes → IsBase64 text bytes
+  base64_by : (text bytes : List ℕ) (test : Bool) → list_all (λ byte. ltb byte 256) text ≡ test → cond test (from_base64 text) None ≡ Some bytes →
+      IsBase64 text bytes
   base64_by text bytes true below e = (law text bytes (are_below text below)).0 e
   base64_by text bytes false below e = absurd cc
 
@@ -145,8 +148,10 @@ module _ (law : FromBase64IsBase64) where
   field_again plain base64 value None h = told_again (get plain value) (get base64 value) None h
   field_again plain base64 value (Some bytes) h = told_again (get plain value) (get base64 value) (Some bytes) h
 
-  pub required_takes : (plain base64 : List ℕ) (value : Data) (bytes : List ℕ) → required (field_at plain base64 value) ≡ Some bytes → IsField plain base64 value (Some bytes)
+  pub required_takes : (plain base64 : List ℕ) (value : Data) (bytes : List ℕ) → required (field_at plain base64 value) ≡ Some bytes →
+      IsField plain base64 value (Some bytes)
   required_takes plain base64 value bytes e = field_takes plain base64 value (Some bytes) (required_by (field_at plain base64 value) bytes e)
 
-  pub required_again : (plain base64 : List ℕ) (value : Data) (bytes : List ℕ) → IsField plain base64 value (Some bytes) → required (field_at plain base64 value) ≡ Some bytes
+  pub required_again : (plain base64 : List ℕ) (value : Data) (bytes : List ℕ) → IsField plain base64 value (Some bytes) →
+      required (field_at plain base64 value) ≡ Some bytes
   required_again plain base64 value bytes h = ap required (field_again plain base64 value (Some bytes) h)

@@ -41,7 +41,8 @@ one_text V1 pass one other h k = h.encoded ∙ sym k.encoded
 one_text V2 pass one other h k = h.encoded ∙ sym k.encoded
 one_text Json pass one other h k = h.compact ∙ sym k.compact
 
-pub in_any_form : TextsReadBack → JsonReadsBack → (form : Form) (pass : Plain) (text : List ℕ) → HasBytes pass → IsWritten (IsTextIn form) pass text → reading text ≡ Ok (form, pass)
+pub in_any_form : TextsReadBack → JsonReadsBack → (form : Form) (pass : Plain) (text : List ℕ) → HasBytes pass → IsWritten (IsTextIn form) pass text →
+    reading text ≡ Ok (form, pass)
 in_any_form texts json V1 pass text are written = back_from_v1 (v1_bytes pass) pass text ((texts pass text are).0 written)
 in_any_form texts json V2 pass text are written = back_from_v2 (v2_bytes pass) pass text ((texts pass text are).1 written)
 in_any_form texts json Json pass text are written = back_from_json text pass text (json pass text written)

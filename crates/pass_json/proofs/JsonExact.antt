@@ -1,5 +1,6 @@
 -- What is computed of JSON is what it spells.
-use Rattle.std.proofs.Common.{◌≡◌, ◌↔◌, ℕ, Bool, true, false, cond, eqb, ◌&&◌, List, [], ◌∷◌, codes, length, Option, Some, None, Result, refl, sym, ap, subst, ◌∙◌}
+use Rattle.std.proofs.Common.{◌≡◌, ◌↔◌, ℕ, Bool, true, false, cond, eqb, ◌&&◌, List, [], ◌∷◌, codes, length, Option, Some, None, Result, refl, sym, ap, subst}
+use Rattle.std.proofs.Common.{◌∙◌}
 use Rattle.std.specs.Option.{unwrap_or}
 use Rattle.std.specs.Str.{IsUtf8, is_utf8}
 use Rattle.std.proofs.lemmas.Bool.Decides.{Decides-eqb}
@@ -12,7 +13,8 @@ use Rattle.pass_forms.specs.Envelope.{FromBase64IsBase64}
 use Rattle.pass_forms.specs.Pass.{Plain, WideCaveat, WidePass}
 use Rattle.pass_forms.specs.Reading.{AnswersExactly, IsReading}
 use Rattle.pass_json.specs.Json.{HasOnly, IsCaveat, AreCaveats, IsCaveatList, IsVersion, IsPass, SpellsJson, caveat_names, pass_names}
-use Rattle.pass_json.specs.JsonReading.{field_at, required, has_only, caveat_of, caveats_of, listed, is_version, of_length, signature_of, pass_of, value_of, wide_json, reading_json}
+use Rattle.pass_json.specs.JsonReading.{field_at, required, has_only, caveat_of, caveats_of, listed, is_version, of_length, signature_of, pass_of, value_of}
+use Rattle.pass_json.specs.JsonReading.{wide_json, reading_json}
 use Rattle.pass_json.proofs.SameReading.{same_answer}
 use Rattle.pass_json.proofs.FieldExact.{bound, field_takes, field_again, required_takes, required_again, is_object}
 use Rattle.pass_json.proofs.NamesExact.{has_only_takes, has_only_again}
@@ -21,7 +23,8 @@ tested : {A : Type 0} (test : Bool) (value a : A) → cond test (Some value) Non
 tested true value a e = refl
 tested false value a e = absurd cc
 
-has_only_of : (names : List (List ℕ)) (value : Data) (found : (members : Members) × (value ≡ object members)) → HasOnly names value → has_only names value ≡ true
+has_only_of : (names : List (List ℕ)) (value : Data) (found : (members : Members) × (value ≡ object members)) → HasOnly names value →
+    has_only names value ≡ true
 has_only_of names value found h =
     ap (has_only names) found.1 ∙ has_only_again names found.0 (subst (HasOnly names) found.1 h)
 
@@ -62,7 +65,8 @@ length_by : (test : Bool) (bytes a : List ℕ) → cond test (Some bytes) None �
 length_by true bytes a e = (refl, cc)
 length_by false bytes a e = absurd cc
 
-value_takes : (bytes : List ℕ) (test : Bool) (value : Data) → is_utf8 bytes ≡ test → cond test (read bytes) None ≡ Some value → IsUtf8 bytes × (read bytes ≡ Some value)
+value_takes : (bytes : List ℕ) (test : Bool) (value : Data) → is_utf8 bytes ≡ test → cond test (read bytes) None ≡ Some value →
+    IsUtf8 bytes × (read bytes ≡ Some value)
 value_takes bytes true value utf8 e = (IsUtf8-from_is_utf8 bytes utf8, e)
 value_takes bytes false value utf8 e = absurd cc
 
@@ -139,7 +143,9 @@ module _ (law : FromBase64IsBase64) where
       let identifier = bound (required (field_at (codes "i") (codes "i64") value)) _ wide location.2 in
       let caveats = bound (listed (get (codes "c") value)) _ wide identifier.2 in
       let signature = bound (signature_of value) _ wide caveats.2 in
-      let both = both_true (has_only pass_names value) (is_version (get (codes "v") value)) (tested (has_only pass_names value && is_version (get (codes "v") value)) value names.0 names.1) in
+      let both =
+      both_true (has_only pass_names value) (is_version (get (codes "v") value))
+      (tested (has_only pass_names value && is_version (get (codes "v") value)) value names.0 names.1) in
       let bytes = bound (required (field_at (codes "s") (codes "s64") value)) (of_length 32) signature.0 signature.1 in
       let sized = length_by (eqb (length bytes.0) 32) bytes.0 signature.0 bytes.2 in
       let w : WidePass = record { location = unwrap_or location.0 []; identifier = identifier.0; caveats = caveats.0; signature = signature.0 } in
@@ -188,7 +194,8 @@ module _ (law : FromBase64IsBase64) where
       let same : ◌≡◌ {A = Option WidePass} (Some one) (Some other) = sym (json_again bytes one h) ∙ json_again bytes other k in
       cc
 
-  pub reading_json_exact : AnswersExactly → (bytes : List ℕ) (answer : Result Plain FormFault) → IsReading (length bytes) (SpellsJson bytes) answer ↔ (reading_json bytes ≡ answer)
+  pub reading_json_exact : AnswersExactly → (bytes : List ℕ) (answer : Result Plain FormFault) →
+      IsReading (length bytes) (SpellsJson bytes) answer ↔ (reading_json bytes ≡ answer)
   unfolding reading_json
   reading_json_exact exact bytes answer =
       let Computed = λ (wide : WidePass). wide_json bytes ≡ Some wide in

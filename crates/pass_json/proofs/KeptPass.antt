@@ -10,7 +10,8 @@ use Rattle.pass_forms.specs.Reading.{kept}
 use Rattle.pass_json.specs.Json.{pass_names}
 use Rattle.pass_json.specs.JsonReading.{field_at, has_only, is_version, kept_caveats, listed, pass_of, required, signature_of}
 
-were_kept : (found : Option (List WideCaveat)) (identifiers : List (List ℕ)) (third_party : Bool) → option_map kept_caveats found ≡ Some (identifiers, third_party)
+were_kept : (found : Option (List WideCaveat)) (identifiers : List (List ℕ)) (third_party : Bool) →
+    option_map kept_caveats found ≡ Some (identifiers, third_party)
     → (caveats : List WideCaveat) × (found ≡ Some caveats) × (map first_party_caveat caveats ≡ identifiers) × (list_any is_third_party caveats ≡ third_party)
 were_kept None identifiers third_party e = absurd cc
 were_kept (Some caveats) identifiers third_party e =
@@ -32,6 +33,7 @@ kept_pass value location identifier identifiers third_party signature only versi
     rw (only, version, is_location, is_identifier, caveats.1, is_signature, caveats.2, caveats.3, count) refl
 
 -- a location that is left out is empty
-pub location_or_none : {V : Type 0} (items : V → List ℕ) (found : Option V) (none : V) → items none ≡ [] → unwrap_or (option_map items found) [] ≡ items (unwrap_or found none)
+pub location_or_none : {V : Type 0} (items : V → List ℕ) (found : Option V) (none : V) → items none ≡ [] →
+    unwrap_or (option_map items found) [] ≡ items (unwrap_or found none)
 location_or_none items None none e = sym e
 location_or_none items (Some location) none e = refl

@@ -39,12 +39,14 @@ both_true true b e = (refl, e)
 both_true false b e = absurd cc
 
 -- what is found is at the first member or among the others
-found_at : (order : Ordering) (later : Option Data) (value : Data) → IsSome (match_ordering order later (Some value) later) → (is_eq order ≡ true) ⊎ IsSome later
+found_at : (order : Ordering) (later : Option Data) (value : Data) → IsSome (match_ordering order later (Some value) later) →
+    (is_eq order ≡ true) ⊎ IsSome later
 found_at Less later value h = inr h
 found_at Equal later value h = inl refl
 found_at Greater later value h = inr h
 
-only_takes : (names : List (List ℕ)) (members : Members) → only_among names members ≡ true → (name : List ℕ) → IsSome (get_member name members) → IsOneOf names name
+only_takes : (names : List (List ℕ)) (members : Members) → only_among names members ≡ true → (name : List ℕ) → IsSome (get_member name members) →
+    IsOneOf names name
 only_takes names no_members e name found = absurd cc
 only_takes names (member key value members) e name found =
     let both = both_true (list_any (bytes_eq key) names) (only_among names members) e in
@@ -65,11 +67,14 @@ first_found Less later value e = absurd cc
 first_found Equal later value e = refl
 first_found Greater later value e = absurd cc
 
-only_again : (names : List (List ℕ)) (members : Members) → ((name : List ℕ) → IsSome (get_member name members) → IsOneOf names name) → only_among names members ≡ true
+only_again : (names : List (List ℕ)) (members : Members) → ((name : List ℕ) → IsSome (get_member name members) → IsOneOf names name) →
+    only_among names members ≡ true
 only_again names no_members h = refl
 only_again names (member key value members) h =
-    let here : IsOneOf names key = h key (first_found (slice_cmp nat_cmp key key) (get_member key members) value (is_eq-slice_cmp key key ∙ (bytes_eq-Decides key key).1 refl)) in
-    let later : only_among names members ≡ true = only_again names members (λ name found. h name (still_found (slice_cmp nat_cmp name key) (get_member name members) value found)) in
+    let here : IsOneOf names key =
+    h key (first_found (slice_cmp nat_cmp key key) (get_member key members) value (is_eq-slice_cmp key key ∙ (bytes_eq-Decides key key).1 refl)) in
+    let later : only_among names members ≡ true =
+    only_again names members (λ name found. h name (still_found (slice_cmp nat_cmp name key) (get_member name members) value found)) in
     rw (one_again names key here) later
 
 pub has_only_takes : (names : List (List ℕ)) (value : Data) → has_only names value ≡ true → HasOnly names value

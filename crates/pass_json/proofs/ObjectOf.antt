@@ -61,7 +61,8 @@ pub caveat_is : (bytes : List ℕ) → caveat_object bytes ≡ object (identifie
 caveat_is bytes = caveat_by (is_utf8 bytes) bytes refl
 
 -- what holds of each member of the one name or the other holds of a caveat's object
-pub of_caveat : (Holds : Data → Type 0) → ((identifier : Told) → Holds (object (identified identifier no_members))) → (bytes : List ℕ) → Holds (caveat_object bytes)
+pub of_caveat : (Holds : Data → Type 0) → ((identifier : Told) → Holds (object (identified identifier no_members))) → (bytes : List ℕ) →
+    Holds (caveat_object bytes)
 of_caveat Holds all bytes = subst Holds (sym (caveat_is bytes)) (all (told bytes))
 
 location_by : (test : Bool) (bytes : List ℕ) → is_utf8 bytes ≡ test
@@ -99,7 +100,8 @@ others_are caveats (false, i) (Some (true, l)) signature = refl
 others_are caveats (true, i) (Some (false, l)) signature = refl
 others_are caveats (false, i) (Some (false, l)) signature = refl
 
-pub object_is : (pass : Plain) → object_of pass ≡ whole (caveat_objects pass.caveats) (told pass.identifier) (told_location pass.location) (encode_of url_safe_no_pad pass.signature)
+pub object_is : (pass : Plain) →
+    object_of pass ≡ whole (caveat_objects pass.caveats) (told pass.identifier) (told_location pass.location) (encode_of url_safe_no_pad pass.signature)
 unfolding object_of with_others
 object_is pass =
     let caveats : Items = caveat_objects pass.caveats in
@@ -123,12 +125,14 @@ caveat_reads : (told : Told) → of_json (outline (object (identified told no_me
 caveat_reads (true, text) = refl
 caveat_reads (false, text) = refl
 
-one_reads : (d : Data) (ds : Items) → of_json (outline d) ≡ Some d → of_items (items_outline ds) ≡ Some ds → of_items (items_outline (item d ds)) ≡ Some (item d ds)
+one_reads : (d : Data) (ds : Items) → of_json (outline d) ≡ Some d → of_items (items_outline ds) ≡ Some ds →
+    of_items (items_outline (item d ds)) ≡ Some (item d ds)
 one_reads d ds e f = rw (e, f) refl
 
 caveats_read : (caveats : List (List ℕ)) → of_items (items_outline (caveat_objects caveats)) ≡ Some (caveat_objects caveats)
 caveats_read [] = refl
-caveats_read (caveat ∷ caveats) = one_reads (caveat_object caveat) (caveat_objects caveats) (of_caveat (λ d. of_json (outline d) ≡ Some d) caveat_reads caveat) (caveats_read caveats)
+caveats_read (caveat ∷ caveats) =
+    one_reads (caveat_object caveat) (caveat_objects caveats) (of_caveat (λ d. of_json (outline d) ≡ Some d) caveat_reads caveat) (caveats_read caveats)
 
 whole_reads : (caveats : Items) (identifier : Told) (location : Option Told) (signature : List ℕ) → of_items (items_outline caveats) ≡ Some caveats
     → of_json (outline (whole caveats identifier location signature)) ≡ Some (whole caveats identifier location signature)
@@ -141,7 +145,8 @@ whole_reads caveats (false, i) (Some (false, l)) signature e = rw (e, two_is_two
 
 pub object_reads : (pass : Plain) → of_json (outline (object_of pass)) ≡ Some (object_of pass)
 object_reads pass =
-    rw (object_is pass) (whole_reads (caveat_objects pass.caveats) (told pass.identifier) (told_location pass.location) (encode_of url_safe_no_pad pass.signature) (caveats_read pass.caveats))
+    rw (object_is pass) (whole_reads (caveat_objects pass.caveats) (told pass.identifier) (told_location pass.location)
+    (encode_of url_safe_no_pad pass.signature) (caveats_read pass.caveats))
 
 -- ---- its numbers and its depth
 
@@ -153,12 +158,14 @@ caveats_numbers : (caveats : List (List ℕ)) → ItemsHaveNumbers (items_outlin
 caveats_numbers [] = tt
 caveats_numbers (caveat ∷ caveats) = (of_caveat (λ d. HasNumbers (outline d)) caveat_numbers caveat, caveats_numbers caveats)
 
-located_numbers : (location : Option Told) (rest : Members) → MembersHaveNumbers (members_outline rest) → MembersHaveNumbers (members_outline (located location rest))
+located_numbers : (location : Option Told) (rest : Members) → MembersHaveNumbers (members_outline rest) →
+    MembersHaveNumbers (members_outline (located location rest))
 located_numbers None rest h = h
 located_numbers (Some (true, l)) rest h = (tt, h)
 located_numbers (Some (false, l)) rest h = (tt, h)
 
-identified_numbers : (identifier : Told) (rest : Members) → MembersHaveNumbers (members_outline rest) → MembersHaveNumbers (members_outline (identified identifier rest))
+identified_numbers : (identifier : Told) (rest : Members) → MembersHaveNumbers (members_outline rest) →
+    MembersHaveNumbers (members_outline (identified identifier rest))
 identified_numbers (true, i) rest h = (tt, h)
 identified_numbers (false, i) rest h = (tt, h)
 
@@ -191,7 +198,8 @@ whole_depth caveats (false, i) (Some (false, l)) signature h = omega arith
 
 pub object_depth : (pass : Plain) → tree.depth (outline (object_of pass)) ≤ 3
 object_depth pass =
-    rw (object_is pass) (whole_depth (caveat_objects pass.caveats) (told pass.identifier) (told_location pass.location) (encode_of url_safe_no_pad pass.signature) (caveats_depth pass.caveats))
+    rw (object_is pass) (whole_depth (caveat_objects pass.caveats) (told pass.identifier) (told_location pass.location)
+    (encode_of url_safe_no_pad pass.signature) (caveats_depth pass.caveats))
 
 -- ---- it has no floats
 
@@ -205,7 +213,8 @@ caveat_no_float (false, text) = refl
 caveats_no_float : (caveats : List (List ℕ)) → items_have_float (caveat_objects caveats) ≡ false
 caveats_no_float [] = refl
 caveats_no_float (caveat ∷ caveats) =
-    neither (has_float (caveat_object caveat)) (items_have_float (caveat_objects caveats)) (of_caveat (λ d. has_float d ≡ false) caveat_no_float caveat) (caveats_no_float caveats)
+    neither (has_float (caveat_object caveat)) (items_have_float (caveat_objects caveats)) (of_caveat (λ d. has_float d ≡ false) caveat_no_float caveat)
+    (caveats_no_float caveats)
 
 whole_no_float : (caveats : Items) (identifier : Told) (location : Option Told) (signature : List ℕ) → items_have_float caveats ≡ false
     → has_float (whole caveats identifier location signature) ≡ false
@@ -219,7 +228,8 @@ whole_no_float caveats (false, i) (Some (false, l)) signature e = rw e refl
 pub object_no_float : (pass : Plain) → has_float (object_of pass) ≡ false
 object_no_float pass =
     rw (object_is pass)
-    (whole_no_float (caveat_objects pass.caveats) (told pass.identifier) (told_location pass.location) (encode_of url_safe_no_pad pass.signature) (caveats_no_float pass.caveats))
+    (whole_no_float (caveat_objects pass.caveats) (told pass.identifier) (told_location pass.location) (encode_of url_safe_no_pad pass.signature)
+    (caveats_no_float pass.caveats))
 
 -- ---- its strings
 
@@ -233,7 +243,8 @@ told_text_by false bytes e = encoded_text bytes
 told_text : (bytes : List ℕ) → IsUtf8 (told bytes).1
 told_text bytes = told_text_by (is_utf8 bytes) bytes refl
 
-named_texts : (plain base64 : List ℕ) (told : Told) (rest : Members) → IsUtf8 plain → IsUtf8 base64 → IsUtf8 told.1 → MembersHaveTexts rest → MembersHaveTexts (named plain base64 told rest)
+named_texts : (plain base64 : List ℕ) (told : Told) (rest : Members) → IsUtf8 plain → IsUtf8 base64 → IsUtf8 told.1 → MembersHaveTexts rest →
+    MembersHaveTexts (named plain base64 told rest)
 named_texts plain base64 (true, text) rest one two u h = (one, u, h)
 named_texts plain base64 (false, text) rest one two u h = (two, u, h)
 
@@ -244,7 +255,8 @@ identified_texts bytes rest h =
 located_texts : (location : List ℕ) (rest : Members) → MembersHaveTexts rest → MembersHaveTexts (located (told_location location) rest)
 located_texts [] rest h = h
 located_texts (byte ∷ bytes) rest h =
-    named_texts (codes "l") (codes "l64") (told (byte ∷ bytes)) rest (IsUtf8-are_ascii (codes "l") refl) (IsUtf8-are_ascii (codes "l64") refl) (told_text (byte ∷ bytes)) h
+    named_texts (codes "l") (codes "l64") (told (byte ∷ bytes)) rest (IsUtf8-are_ascii (codes "l") refl) (IsUtf8-are_ascii (codes "l64") refl)
+    (told_text (byte ∷ bytes)) h
 
 caveats_texts : (caveats : List (List ℕ)) → ItemsHaveTexts (caveat_objects caveats)
 caveats_texts [] = tt
@@ -257,7 +269,8 @@ two_is_text = IsUtf8-are_ascii (decimal 2) refl
 pub object_texts : (pass : Plain) → HasTexts (object_of pass)
 object_texts pass =
     let rest : Members = member (codes "s64") (string (encode_of url_safe_no_pad pass.signature)) (member (codes "v") (number (unsigned 2)) no_members) in
-    let ends : MembersHaveTexts rest = (IsUtf8-are_ascii (codes "s64") refl, encoded_text pass.signature, (IsUtf8-are_ascii (codes "v") refl, two_is_text, tt)) in
+    let ends : MembersHaveTexts rest =
+    (IsUtf8-are_ascii (codes "s64") refl, encoded_text pass.signature, (IsUtf8-are_ascii (codes "v") refl, two_is_text, tt)) in
     rw (object_is pass) (
       IsUtf8-are_ascii (codes "c") refl,
       caveats_texts pass.caveats,

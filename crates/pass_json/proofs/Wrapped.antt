@@ -39,11 +39,13 @@ reads_wide V2 bytes = refl
 reads_wide Json bytes = refl
 
 -- what it wraps
-pub reads_wrapped : (text : List ℕ) (form : Form) (bytes : List ℕ) → unwrapped text ≡ Ok (form, bytes) → length bytes ≤ max_text_len → reading text ≡ in_form form (reading_in_form form bytes)
+pub reads_wrapped : (text : List ℕ) (form : Form) (bytes : List ℕ) → unwrapped text ≡ Ok (form, bytes) → length bytes ≤ max_text_len →
+    reading text ≡ in_form form (reading_in_form form bytes)
 unfolding reading text_reading
 reads_wrapped text form bytes e short = rw (e, reads_wide form bytes, le-ltb max_text_len (length bytes) short) refl
 
-pub read_wrapping : (text : List ℕ) (form : Form) (bytes : List ℕ) (answer : Result Plain FormFault) → unwrapped text ≡ Ok (form, bytes) → length bytes ≤ max_text_len
+pub read_wrapping : (text : List ℕ) (form : Form) (bytes : List ℕ) (answer : Result Plain FormFault) → unwrapped text ≡ Ok (form, bytes) →
+    length bytes ≤ max_text_len
     → UnlessMemory (λ a. reading_in_form form bytes ≡ a) answer → UnlessMemory (λ a. reading text ≡ a) (in_form form answer)
 read_wrapping text form bytes (Ok pass) e short h = reads_wrapped text form bytes e short ∙ ap (in_form form) h
 read_wrapping text form bytes (Err TooLong) e short h = reads_wrapped text form bytes e short ∙ ap (in_form form) h

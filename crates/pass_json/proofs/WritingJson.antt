@@ -7,10 +7,10 @@ use Rattle.pass_forms.specs.declared.fault.FormFault.TheVariants.{TooLong, Malfo
 use Rattle.pass_forms.specs.declared.form.Form.TheVariants.{Json}
 use Rattle.pass_forms.specs.Envelope.{FromBase64IsBase64, starts_with_brace, unwrapped}
 use Rattle.pass_forms.specs.Pass.{Plain, widened}
-use Rattle.pass_forms.specs.Reading.{max_caveats, max_text_len}
+use Rattle.pass_forms.specs.Reading.{ReadsExactly, max_caveats, max_text_len}
 use Rattle.pass_forms.specs.Writing.{HasBytes, IsReadBack, IsWritten}
 use Rattle.pass_json.specs.Json.{SpellsJson}
-use Rattle.pass_json.specs.JsonReading.{ReadsJsonExactly, reading_json}
+use Rattle.pass_json.specs.JsonReading.{reading_json}
 use Rattle.pass_json.specs.JsonWriting.{IsJsonText, IsRefusedJson, MayFailAs, WritesJsonExactly, json_text, writing_json}
 use Rattle.pass_json.proofs.WrittenJson.{spells_json, starts_json}
 
@@ -24,20 +24,23 @@ text_by true long whole text e = absurd cc
 text_by false true whole text e = absurd cc
 text_by false false whole text e = (cc, refl, refl)
 
-written_parts : (pass : Plain) (text : List ℕ) → writing_json pass ≡ Ok text → (text ≡ json_text pass) × (length pass.caveats ≤ max_caveats) × (length (json_text pass) ≤ max_text_len)
+written_parts : (pass : Plain) (text : List ℕ) → writing_json pass ≡ Ok text →
+    (text ≡ json_text pass) × (length pass.caveats ≤ max_caveats) × (length (json_text pass) ≤ max_text_len)
 unfolding writing_json
 written_parts pass text e =
     let parts = text_by (ltb max_caveats (length pass.caveats)) (ltb max_text_len (length (json_text pass))) (json_text pass) text e in
     (parts.0, ltb-false _ _ parts.1, ltb-false _ _ parts.2)
 
-written_as : (pass : Plain) (text : List ℕ) → text ≡ json_text pass → length pass.caveats ≤ max_caveats → length text ≤ max_text_len → writing_json pass ≡ Ok text
+written_as : (pass : Plain) (text : List ℕ) → text ≡ json_text pass → length pass.caveats ≤ max_caveats → length text ≤ max_text_len →
+    writing_json pass ≡ Ok text
 unfolding writing_json
 written_as pass text is few short =
     let few_enough : ltb max_caveats (length pass.caveats) ≡ false = le-ltb _ _ few in
     let short_enough : ltb max_text_len (length (json_text pass)) ≡ false = le-ltb _ _ (rw is at short) in
     rw (few_enough, short_enough) (ap (λ (t : List ℕ). Ok t) (sym is))
 
-pub exact_json : FromBase64IsBase64 → (pass : Plain) (text : List ℕ) → HasBytes pass → length pass.signature ≡ 32 → (writing_json pass ≡ Ok text) ↔ IsWritten IsJsonText pass text
+pub exact_json : FromBase64IsBase64 → (pass : Plain) (text : List ℕ) → HasBytes pass → length pass.signature ≡ 32 →
+    (writing_json pass ≡ Ok text) ↔ IsWritten IsJsonText pass text
 exact_json law pass text are len = (
   λ e.
       let parts = written_parts pass text e in
@@ -57,7 +60,8 @@ unwraps_json text short brace =
     let short_enough : ltb max_text_len (length text) ≡ false = le-ltb _ _ short in
     rw (short_enough, brace) refl
 
-pub reads_back_json : ReadsJsonExactly → (pass : Plain) (text : List ℕ) → IsWritten IsJsonText pass text → IsReadBack reading_json Json text pass text
+pub reads_back_json : ReadsExactly SpellsJson reading_json → (pass : Plain) (text : List ℕ) → IsWritten IsJsonText pass text →
+    IsReadBack reading_json Json text pass text
 reads_back_json law pass text written = record {
   told = unwraps_json text written.short (ap starts_with_brace written.is_text.compact ∙ starts_json pass);
   read = (law text (Ok pass)).0 (written.short, written.is_text.spelled, written.few);
@@ -88,8 +92,10 @@ is_refused_json pass fault e = refused_by pass (ltb max_caveats (length pass.cav
 
 -- ---- what the writer answers, by what is computed
 
-pub written_if : {T : Type 0} (law : WritesJsonExactly) (pass : Plain) (bytes_of : T → List ℕ) (result : Result T FormFault) → OnOk result (HasBytes pass) → OnOk result (length pass.signature ≡ 32)
-    → MatchResult result (λ text. writing_json pass ≡ Ok (bytes_of text)) (MayFailAs (writing_json pass)) → IfOk result (λ text. IsWritten IsJsonText pass (bytes_of text))
+pub written_if : {T : Type 0} (law : WritesJsonExactly) (pass : Plain) (bytes_of : T → List ℕ) (result : Result T FormFault) → OnOk result (HasBytes pass) →
+    OnOk result (length pass.signature ≡ 32)
+    → MatchResult result (λ text. writing_json pass ≡ Ok (bytes_of text)) (MayFailAs (writing_json pass)) → IfOk result
+    (λ text. IsWritten IsJsonText pass (bytes_of text))
 written_if law pass bytes_of (Ok text) are len e = (law pass (bytes_of text) are len).0 e
 written_if law pass bytes_of (Err fault) are len e = tt
 

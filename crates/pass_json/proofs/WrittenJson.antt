@@ -15,7 +15,8 @@ use Rattle.pass_json.specs.JsonReading.{base64_bytes, caveat_of, caveats_of, fie
 use Rattle.pass_json.specs.JsonWriting.{caveat_object, caveat_objects, json_text, object_of}
 use Rattle.pass_json.proofs.FieldExact.{base64_again}
 use Rattle.pass_json.proofs.JsonExact.{pass_takes}
-use Rattle.pass_json.proofs.ObjectOf.{Told, caveat_is, identified, object_depth, object_is, object_numbers, object_reads, object_texts, told, told_by, told_location, whole}
+use Rattle.pass_json.proofs.ObjectOf.{Told, caveat_is, identified, object_depth, object_is, object_numbers, object_reads, object_texts, told, told_by}
+use Rattle.pass_json.proofs.ObjectOf.{told_location, whole}
 use Rattle.pass_json.proofs.ReadsText.{reads_text, utf8_text}
 
 -- ---- the members tell the parts of the pass
@@ -29,7 +30,8 @@ abbrev TellsIfAny : Option Told → List ℕ → Type 0
 TellsIfAny None bytes = bytes ≡ []
 TellsIfAny (Some text) bytes = Tells text bytes
 
-caveat_told : (identifier : Told) (bytes : List ℕ) → Tells identifier bytes → caveat_of (object (identified identifier no_members)) ≡ Some (widened_caveat bytes)
+caveat_told : (identifier : Told) (bytes : List ℕ) → Tells identifier bytes →
+    caveat_of (object (identified identifier no_members)) ≡ Some (widened_caveat bytes)
 unfolding caveat_of field_at has_only
 caveat_told (true, text) bytes e = rw e refl
 caveat_told (false, text) bytes e = rw e refl
@@ -92,7 +94,8 @@ module _ (law : FromBase64IsBase64) where
   object_tells : (pass : Plain) → HasBytes pass → length pass.signature ≡ 32 → pass_of (object_of pass) ≡ Some (widened pass)
   object_tells pass are len =
       ap pass_of (object_is pass)
-      ∙ pass_told (caveat_objects pass.caveats) (map widened_caveat pass.caveats) (told pass.identifier) pass.identifier (told_location pass.location) pass.location
+      ∙ pass_told (caveat_objects pass.caveats) (map widened_caveat pass.caveats) (told pass.identifier) pass.identifier
+      (told_location pass.location) pass.location
       (encode_of url_safe_no_pad pass.signature) pass.signature
       (caveats_tell pass.caveats are.caveats) (told_tells pass.identifier are.identifier) (location_tells pass.location are.location)
       (encoded_tells pass.signature are.signature) (sized pass.signature len)

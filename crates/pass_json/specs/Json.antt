@@ -84,7 +84,3 @@ pub record SpellsJson (bytes : List ℕ) (wide : WidePass) : Type 0 where
   pub utf8 : IsUtf8 bytes
   pub is_read : read bytes ≡ Some value
   pub is_pass : IsPass value wide
-
--- No bytes spell two passes.
-abbrev pub OnePassEachJson : Type 0
-OnePassEachJson = (bytes : List ℕ) (one other : WidePass) → SpellsJson bytes one → SpellsJson bytes other → one ≡ other

@@ -1,5 +1,6 @@
 -- The JSON form, computed: what each part of the object stands for.
-use Rattle.std.specs.Prelude.{◌≡◌, ◌↔◌, ℕ, ◌==◌, ◌&&◌, nat_lt, if◌then◌else◌, Bool, true, false, List, [], ◌∷◌, codes, length, map, Option, None, Some, option_map, unwrap_or, Result}
+use Rattle.std.specs.Prelude.{◌≡◌, ℕ, ◌==◌, ◌&&◌, nat_lt, if◌then◌else◌, Bool, true, false, List, [], ◌∷◌, codes, length, map, Option, None, Some, option_map}
+use Rattle.std.specs.Prelude.{unwrap_or, Result}
 use Rattle.std.specs.List.{list_all, list_any}
 use Rattle.std.specs.Str.{bytes_eq, is_utf8}
 use Rattle.serde_json.specs.Data.{Data, Items, no_items, item, Members, no_members, member}
@@ -10,8 +11,8 @@ use Rattle.pass_forms.specs.declared.fault.FormFault.TheVariants.{Malformed, Mem
 use Rattle.pass_forms.specs.Envelope.{from_base64}
 use Rattle.pass_forms.specs.Parts.{◌>>=◌}
 use Rattle.pass_forms.specs.Pass.{Plain, WideCaveat, WidePass, is_third_party, first_party_caveat}
-use Rattle.pass_forms.specs.Reading.{IsReading, reading_of}
-use Rattle.pass_json.specs.Json.{SpellsJson, caveat_names, pass_names}
+use Rattle.pass_forms.specs.Reading.{reading_of}
+use Rattle.pass_json.specs.Json.{caveat_names, pass_names}
 
 -- the bytes that a text of bytes is base64 of
 unfoldable pub base64_bytes : List ℕ → Option (List ℕ)
@@ -95,10 +96,6 @@ value_of bytes = if is_utf8 bytes then read bytes else None
 unfoldable pub wide_json : List ℕ → Option WidePass
 wide_json bytes = value_of bytes >>= pass_of
 
--- What is computed of bytes is what they spell.
-abbrev pub ComputesJson : Type 0
-ComputesJson = (bytes : List ℕ) (wide : WidePass) → SpellsJson bytes wide ↔ (wide_json bytes ≡ Some wide)
-
 -- the reading of bytes in JSON
 unfoldable pub reading_json : List ℕ → Result Plain FormFault
 reading_json bytes = reading_of (length bytes) (wide_json bytes)
@@ -115,8 +112,3 @@ abbrev pub RefusesPart : {A : Type 0} → Option A → FormFault → Type 0
 RefusesPart found Malformed = found ≡ None
 RefusesPart found Memory = Unit {0}
 RefusesPart found other = ⊥
-
--- It is the reading of what the bytes spell, and no other answer is.
-abbrev pub ReadsJsonExactly : Type 0
-ReadsJsonExactly = (bytes : List ℕ) (answer : Result Plain FormFault) →
-    IsReading (length bytes) (SpellsJson bytes) answer ↔ (reading_json bytes ≡ answer)

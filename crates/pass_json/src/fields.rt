@@ -26,7 +26,8 @@ impl<'a> JsonFields<'a> {
     ghost use Rattle.std.specs.Prelude.{◌≡◌};
     ghost use Rattle.pass_forms.specs.FieldSource.{fields_of};
 
-    /// The fields of a pass that was read, from the first on. It takes no memory: each field is a part of the pass.
+    /// The fields of a pass that was read, from the first on. It takes no memory: each field is a
+    /// part of the pass.
     pub fn over(pass: &'a Pass) -> JsonFields<'a>
         ensures { result ≡ fields_of pass.now }
     {
@@ -57,6 +58,3 @@ impl<'a> FieldSource<'a> for JsonFields<'a> {
         Some(Field::Signature(signature))
     }
 }
-
-#[cfg(test)]
-mod tests;

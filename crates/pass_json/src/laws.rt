@@ -1,8 +1,17 @@
-//! Laws of the definitions, each the contract of a function that does nothing but cite those that it rests on.
+//! Laws of the definitions, each the contract of a function that does nothing but cite those that
+//! it rests on.
 
-ghost use Rattle.pass_json.specs.AnyForm.{AnyFormReadsBack, OneTextEachForm, ReadsAnyFormExactly, ReadsWhatIsWrapped, RefusesWhatWrapsNothing, WritesAnyFormExactly};
-ghost use Rattle.pass_json.specs.Json.{OnePassEachJson};
-ghost use Rattle.pass_json.specs.JsonReading.{ComputesJson, ReadsJsonExactly};
+ghost use Rattle.pass_json.specs.AnyForm.{
+  AnyFormReadsBack,
+  OneTextEachForm,
+  ReadsAnyFormExactly,
+  ReadsWhatIsWrapped,
+  RefusesWhatWrapsNothing,
+  WritesAnyFormExactly,
+};
+ghost use Rattle.pass_forms.specs.Reading.{ComputesSpelled, OnePassEach, ReadsExactly};
+ghost use Rattle.pass_json.specs.Json.{SpellsJson};
+ghost use Rattle.pass_json.specs.JsonReading.{reading_json, wide_json};
 ghost use Rattle.pass_json.specs.JsonWriting.{JsonReadsBack, WritesJsonExactly};
 
 use pass_forms::laws::{
@@ -12,21 +21,21 @@ use pass_forms::laws::{
 
 /// The bytes of JSON spell one pass at most.
 pub fn one_pass_for_each_json()
-    ensures { OnePassEachJson }
+    ensures { OnePassEach SpellsJson }
 {
     from_base64_is_base64();
 }
 
 /// What is computed of the bytes of JSON is what they spell.
 pub fn computes_json()
-    ensures { ComputesJson }
+    ensures { ComputesSpelled SpellsJson wide_json }
 {
     from_base64_is_base64();
 }
 
 /// The answer to bytes of JSON is determined, and is the one that is computed.
 pub fn reads_json_exactly()
-    ensures { ReadsJsonExactly }
+    ensures { ReadsExactly SpellsJson reading_json }
 {
     from_base64_is_base64();
     answers_exactly();

@@ -21,7 +21,9 @@ pub fn has_only(value: &Value, names: &[&str]) -> bool
 }
 
 fn are_among(members: &Map<String, Value>, names: &[&str]) -> bool
-    ensures { result ≡ list_all (λ key. list_any (λ name. bytes_eq (string_bytes key) name.now) names.now) (keys members.now) }
+    ensures { result ≡ list_all
+        (λ key. list_any (λ name. bytes_eq (string_bytes key) name.now) names.now)
+        (keys members.now) }
 {
     members.keys().all(|key| is_among(key.as_str(), names))
 }

@@ -77,9 +77,11 @@ fn is_version(value: &Value) -> bool
 
 // The bytes of a field that may not be left out.
 fn required(alloc: Global, value: &Value, plain: &str, base64: &str) -> Result<Vec<u8>, FormFault>
-    ensures ok { IfOk result (λ bytes. reading.required (reading.field_at plain.now base64.now (view value.now))
+    ensures ok { IfOk result
+        (λ bytes. reading.required (reading.field_at plain.now base64.now (view value.now))
         ≡ Some bytes.items) }
-    ensures err { IfErr result (RefusesPart (reading.required (reading.field_at plain.now base64.now (view value.now)))) }
+    ensures err { IfErr result
+        (RefusesPart (reading.required (reading.field_at plain.now base64.now (view value.now)))) }
 {
     field(alloc, value, plain, base64)?.ok_or(FormFault::Malformed)
 }
@@ -97,7 +99,8 @@ fn signature(alloc: Global, value: &Value) -> Result<[u8; 32], FormFault>
 
 // The caveats of a pass.
 fn read_caveats(alloc: Global, value: &Value) -> Result<Caveats, FormFault>
-    ensures ok { IfOk result (λ caveats. option_map kept_caveats (reading.listed (get (codes "c") (view value.now)))
+    ensures ok { IfOk result
+        (λ caveats. option_map kept_caveats (reading.listed (get (codes "c") (view value.now)))
         ≡ Some (map (λ c. c.items) caveats.identifiers.items, caveats.third_party)) }
     ensures err { IfErr result (RefusesPart (reading.listed (get (codes "c") (view value.now)))) }
 {
@@ -114,7 +117,8 @@ fn read_caveats(alloc: Global, value: &Value) -> Result<Caveats, FormFault>
 }
 
 fn all_caveats(alloc: Global, list: &[Value]) -> Result<Caveats, FormFault>
-    ensures ok { IfOk result (λ caveats. option_map kept_caveats (reading.caveats_of (items_view list.now))
+    ensures ok { IfOk result
+        (λ caveats. option_map kept_caveats (reading.caveats_of (items_view list.now))
         ≡ Some (map (λ c. c.items) caveats.identifiers.items, caveats.third_party)) }
     ensures err { IfErr result (RefusesPart (reading.caveats_of (items_view list.now))) }
 {

@@ -13,13 +13,14 @@ use pass_forms::{FormFault, MAX_CAVEATS, MAX_TEXT, Pass};
 use serde_json::Value;
 use std::alloc::Global;
 
-/// The pass that the bytes spell in JSON: one object after libmacaroons' V2 JSON, as `serde_json` reads it. Its names may
-/// stand in any order, and white space may stand round it.
+/// The pass that the bytes spell in JSON: one object after libmacaroons' V2 JSON, as `serde_json`
+/// reads it. Its names may stand in any order, and white space may stand round it.
 ///
 /// # Errors
 ///
-/// The first that fits: `TooLong` for more than 8,192 bytes, `Malformed` where no pass is spelled, `ThirdParty` where a
-/// caveat is a third party's, `TooMany` for more than 64 caveats. `Memory` comes only where memory was refused.
+/// The first that fits: `TooLong` for more than 8,192 bytes, `Malformed` where no pass is spelled,
+/// `ThirdParty` where a caveat is a third party's, `TooMany` for more than 64 caveats. `Memory`
+/// comes only where memory was refused.
 pub fn read_json(alloc: Global, bytes: &[u8]) -> Result<Pass, FormFault>
     // By what the bytes spell.
     ensures spelled { UnlessMemory (IsReading (length bytes.now) (SpellsJson bytes.now)) result }
@@ -63,6 +64,3 @@ fn value_of(alloc: Global, bytes: &[u8]) -> Result<Value, FormFault>
         }
     }
 }
-
-#[cfg(test)]
-mod tests;

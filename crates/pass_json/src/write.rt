@@ -10,7 +10,15 @@ ghost use Rattle.pass_json.specs.JsonWriting as spec;
 ghost use Rattle.pass_forms.specs.declared.form.Form.TheVariants.{Json};
 ghost use Rattle.pass_forms.specs.Writing.{HasBytes, IsReadBack, IsWritten};
 ghost use Rattle.pass_json.specs.JsonReading.{reading_json};
-ghost use Rattle.pass_json.specs.JsonWriting.{MayFailAs, IsJsonText, IsRefusedJson, base64_text, with_field, with_location, writing_json};
+ghost use Rattle.pass_json.specs.JsonWriting.{
+  MayFailAs,
+  IsJsonText,
+  IsRefusedJson,
+  base64_text,
+  with_field,
+  with_location,
+  writing_json,
+};
 
 use crate::laws::{json_reads_back, writes_json_exactly};
 use base64::engine::general_purpose::URL_SAFE_NO_PAD;
@@ -18,19 +26,22 @@ use pass_forms::{FormFault, MAX_CAVEATS, MAX_TEXT, Pass};
 use serde_json::{Map, Value, put};
 use std::alloc::{AllocError, Global};
 
-/// The text of a pass in JSON, with no white space and the names in the order of their bytes. A `64` name is written only
-/// where the bytes are no UTF-8, but for the signature, which always has it.
+/// The text of a pass in JSON, with no white space and the names in the order of their bytes. A
+/// `64` name is written only where the bytes are no UTF-8, but for the signature, which always has
+/// it.
 ///
 /// # Errors
 ///
-/// `TooMany` for more than 64 caveats, else `TooLong` for a text of more than 8,192 bytes. `Memory` comes only where memory
-/// was refused.
+/// `TooMany` for more than 64 caveats, else `TooLong` for a text of more than 8,192 bytes. `Memory`
+/// comes only where memory was refused.
 pub fn write_json(alloc: Global, pass: &Pass) -> Result<String, FormFault>
     ensures ok { IfOk result (λ text. IsWritten IsJsonText pass.now (string_bytes text)) }
     ensures err { IfErr result (IsRefusedJson pass.now) }
-    ensures read_back { IfOk result (λ text. IsReadBack reading_json Json (string_bytes text) pass.now (string_bytes text)) }
+    ensures read_back { IfOk result
+        (λ text. IsReadBack reading_json Json (string_bytes text) pass.now (string_bytes text)) }
     // By what is computed of the pass.
-    ensures computed { MatchResult result (λ text. writing_json pass.now ≡ Ok (string_bytes text)) (MayFailAs (writing_json pass.now)) }
+    ensures computed { MatchResult result (λ text. writing_json pass.now ≡ Ok (string_bytes text))
+        (MayFailAs (writing_json pass.now)) }
 {
     json_reads_back();
     writes_json_exactly();
@@ -42,7 +53,8 @@ pub fn write_json(alloc: Global, pass: &Pass) -> Result<String, FormFault>
 fn short_text(alloc: Global, pass: &Pass) -> Result<String, FormFault>
     ensures bytes { OnOk result (HasBytes pass.now) }
     ensures signature { OnOk result (length pass.now.signature ≡ 32) }
-    ensures computed { MatchResult result (λ text. writing_json pass.now ≡ Ok (string_bytes text)) (MayFailAs (writing_json pass.now)) }
+    ensures computed { MatchResult result (λ text. writing_json pass.now ≡ Ok (string_bytes text))
+        (MayFailAs (writing_json pass.now)) }
 {
     if pass.caveats().len() > MAX_CAVEATS {
         return Err(FormFault::TooMany);
@@ -106,8 +118,11 @@ fn put_location(
 }
 
 fn caveat_objects(alloc: Global, caveats: &[Vec<u8>]) -> Result<Value, AllocError>
-    ensures bytes { OnOk result (AllByRecursion IsBytes (map (λ caveat. caveat.items) caveats.now)) }
-    ensures value { IfOk result (λ value. view value ≡ array (spec.caveat_objects (map (λ caveat. caveat.items) caveats.now))) }
+    ensures bytes { OnOk result
+        (AllByRecursion IsBytes (map (λ caveat. caveat.items) caveats.now)) }
+    ensures value { IfOk result
+        (λ value. view value ≡ array
+        (spec.caveat_objects (map (λ caveat. caveat.items) caveats.now))) }
 {
     let mut objects = Vec::new(alloc);
     for caveat in caveats {
@@ -151,6 +166,3 @@ fn base64_of(alloc: Global, bytes: &[u8]) -> Result<Value, AllocError>
 {
     Ok(Value::String(URL_SAFE_NO_PAD.encode(alloc, bytes)?))
 }
-
-#[cfg(test)]
-mod tests;

@@ -2,7 +2,8 @@
 use Rattle.std.proofs.Common.{◌≡◌, ℕ, zero, suc, ◌+◌, ◌<◌, List, [], ◌∷◌, ◌++◌, length, map, take, drop, get_or, set, refl, ap, arith}
 
 -- The elements before i are changed already; changing the one at i goes on by one.
-pub map_in_place : (f : ℕ → ℕ) (xs : List ℕ) (i : ℕ) → i < length xs → set (map f (take i xs) ++ drop i xs) i (f (get_or (map f (take i xs) ++ drop i xs) i 0)) ≡ map f (take (i + 1) xs) ++ drop (i + 1) xs
+pub map_in_place : (f : ℕ → ℕ) (xs : List ℕ) (i : ℕ) → i < length xs →
+    set (map f (take i xs) ++ drop i xs) i (f (get_or (map f (take i xs) ++ drop i xs) i 0)) ≡ map f (take (i + 1) xs) ++ drop (i + 1) xs
 map_in_place f [] i h = absurd (omega arith)
 map_in_place f (x ∷ xs) zero h = refl
 map_in_place f (x ∷ xs) (suc i) h =

@@ -1,12 +1,10 @@
-//! Message authentication for passes: HMAC-SHA-256, the derivation of keys, and the signature chain of a macaroon.
-//! Nothing here takes memory, and nothing refuses.
+//! Message authentication for passes: HMAC-SHA-256, the derivation of keys, and the signature chain
+//! of a macaroon. Nothing here takes memory, and nothing refuses.
 #![tactic(auto)]
 
 mod chain;
 pub mod laws;
 mod mac;
-#[cfg(test)]
-mod tests;
 
 pub use chain::Chain;
 pub use mac::{derive, hmac, same};

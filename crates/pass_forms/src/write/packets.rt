@@ -50,7 +50,8 @@ fn put_packet(room: &mut Room, key: &[u8], bytes: &[u8]) -> Result<(), FormFault
 }
 
 fn put_caveats(room: &mut Room, caveats: &[Vec<u8>]) -> Result<(), FormFault>
-    ensures { Puts (flat_map spec.caveat_packets (map widened_caveat (map (λ caveat. caveat.items) caveats.now))) room.old room.new result }
+    ensures { Puts (flat_map spec.caveat_packets
+        (map widened_caveat (map (λ caveat. caveat.items) caveats.now))) room.old room.new result }
 {
     for caveat in caveats {
         put_packet(room, CAVEAT, caveat)?;

@@ -1,4 +1,5 @@
-//! The room that the bytes of a text have. It lies on the stack, so that only the text itself takes memory.
+//! The room that the bytes of a text have. It lies on the stack, so that only the text itself takes
+//! memory.
 
 use crate::{FormFault, MAX_BYTES};
 use std::marker::Model;

@@ -38,7 +38,8 @@ fn put_field(room: &mut Room, kind: u8, bytes: &[u8]) -> Result<(), FormFault>
 
 // Puts a location, unless it is empty.
 fn put_location(room: &mut Room, location: &[u8]) -> Result<(), FormFault>
-    ensures { Puts (spec.optional_field spec.location_type (told_location location.now)) room.old room.new result }
+    ensures { Puts (spec.optional_field spec.location_type
+        (told_location location.now)) room.old room.new result }
 {
     if location.is_empty() {
         return Ok(());
@@ -48,14 +49,16 @@ fn put_location(room: &mut Room, location: &[u8]) -> Result<(), FormFault>
 
 // Puts an identifier, which ends its section.
 fn put_identifier(room: &mut Room, identifier: &[u8]) -> Result<(), FormFault>
-    ensures { Puts (spec.field spec.identifier_type identifier.now ++ spec.end_of_section) room.old room.new result }
+    ensures { Puts (spec.field spec.identifier_type identifier.now
+        ++ spec.end_of_section) room.old room.new result }
 {
     put_field(room, IDENTIFIER, identifier)?;
     room.put(END_OF_SECTION)
 }
 
 fn put_caveats(room: &mut Room, caveats: &[Vec<u8>]) -> Result<(), FormFault>
-    ensures { Puts (flat_map spec.caveat_section (map widened_caveat (map (λ caveat. caveat.items) caveats.now))) room.old room.new result }
+    ensures { Puts (flat_map spec.caveat_section
+        (map widened_caveat (map (λ caveat. caveat.items) caveats.now))) room.old room.new result }
 {
     for caveat in caveats {
         put_identifier(room, caveat)?;

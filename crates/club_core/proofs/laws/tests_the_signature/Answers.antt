@@ -7,11 +7,13 @@ use Rattle.club_core.specs.Pass.{Pass, IsGoodRoot, IsSignedUnder, is_signed_unde
 use Rattle.club_core.proofs.laws.tests_the_signature.Goals as goal
 
 module _ (pass : Pass) (key : Key) (moment : ℕ) where
-  under_older : (older : Option (List ℕ)) → older_root_at key.older moment ≡ older → option_map_or pass.is_signed older false ≡ true → IsSignedUnder pass key moment
+  under_older : (older : Option (List ℕ)) → older_root_at key.older moment ≡ older → option_map_or pass.is_signed older false ≡ true →
+      IsSignedUnder pass key moment
   under_older None e h = absurd (cc)
   under_older (Some root) e h = record { root = root; good = inr e; signed = h }
 
-  tested : (current : Bool) → pass.is_signed key.root ≡ current → (current || option_map_or pass.is_signed (older_root_at key.older moment) false) ≡ true → IsSignedUnder pass key moment
+  tested : (current : Bool) → pass.is_signed key.root ≡ current → (current || option_map_or pass.is_signed (older_root_at key.older moment) false) ≡ true →
+      IsSignedUnder pass key moment
   tested true e h = record { root = key.root; good = inl refl; signed = e }
   tested false e h = under_older (older_root_at key.older moment) refl h
 

@@ -11,7 +11,8 @@ returns c =
     let rows = c.args.rows.now in
     let persons = c.count_persons-persons.result in
     let charge = c.sum_charges-charge.result in
-    let totals = laid_totals-totals_text rows persons charge (eqb-false _ _ (sym c.if-is_empty.ensures)) c.count_persons-persons.ensures c.sum_charges-charge.ensures in
+    let totals =
+    laid_totals-totals_text rows persons charge (eqb-false _ _ (sym c.if-is_empty.ensures)) c.count_persons-persons.ensures c.sum_charges-charge.ensures in
     IfOk-weaker c.writeln-2.result _ _
     (λ _ h.
     let e : string_bytes c.writeln-2.new.self ≡ string_bytes c.args.text.now ++ laid_totals (length rows) persons charge = h in

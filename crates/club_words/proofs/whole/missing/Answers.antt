@@ -1,6 +1,7 @@
 use Rattle.std.proofs.Common.{arith}
 use Rattle.club_words.proofs.LengthLemmas.{room_for}
-use Rattle.club_words.proofs.WholeLemmas.{open_head, open_head_more, open_body_more, body_there}
+use Rattle.club_words.proofs.WholeLemmas.{open_head, open_head_more, open_body_more, body_there, body_then_there, refused_more}
+use Rattle.club_words.specs.Frame.{refused}
 use Rattle.club_words.proofs.whole.missing.Goals as goal
 
 pub returns-then-bytes-lt-MAX_HEAD_LEN-clause-whole : goal.returns-then-bytes-lt-MAX_HEAD_LEN-clause-whole
@@ -20,3 +21,10 @@ returns-in-Asking-clause-needed c =
 pub returns-in-Asking-clause-room : goal.returns-in-Asking-clause-room
 returns-in-Asking-clause-room c =
     rw c.saturating_sub.ensures (λ some. room_for c.args.bytes.now c.front_of.new.fields c.in-Asking.found c.in-Asking.ensures some)
+
+pub returns-in-Asking-clause-enough : goal.returns-in-Asking-clause-enough
+returns-in-Asking-clause-enough c =
+    rw c.saturating_sub.ensures (λ some more enough. body_then_there c.args.bytes.now more c.front_of.new.fields c.in-Asking.found c.in-Asking.ensures enough)
+
+pub returns-in-Refused-clause-enough : goal.returns-in-Refused-clause-enough
+returns-in-Refused-clause-enough c = λ some more none. refused (refused_more c.args.bytes.now more c.in-Refused.ensures)

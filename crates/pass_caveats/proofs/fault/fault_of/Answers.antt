@@ -8,13 +8,15 @@ pub returns-in-Some : goal.returns-in-Some
 returns-in-Some c =
     let texts = map vec_items c.args.caveats.now in
     let here = text_at c.args.caveats.now c.loop-index.index _ _ (omega arith) c.index-caveats-index.is c.deref.ensures.value in
-    first_fault_at texts c.args.ask.now c.loop-index.index _ _ (omega (arith, length-map c.args.caveats.now vec_items)) here c.loop-index.invariant c.in-Some.ensures.cases
+    first_fault_at texts c.args.ask.now c.loop-index.index _ _
+    (omega (arith, length-map c.args.caveats.now vec_items)) here c.loop-index.invariant c.in-Some.ensures.cases
 
 pub loop-index-preserved : goal.loop-index-preserved
 loop-index-preserved c =
     let texts = map vec_items c.args.caveats.now in
     let here = text_at c.args.caveats.now c.loop-index.index _ _ (omega arith) c.index-caveats-index.is c.deref.ensures.value in
-    one_more texts c.args.ask.now c.loop-index.index _ (omega (arith, length-map c.args.caveats.now vec_items)) here c.loop-index.invariant c.in_default.ensures.cases
+    one_more texts c.args.ask.now c.loop-index.index _
+    (omega (arith, length-map c.args.caveats.now vec_items)) here c.loop-index.invariant c.in_default.ensures.cases
 
 pub returns : goal.returns
 returns c =

@@ -6,10 +6,14 @@ use Rattle.pass_caveats.proofs.parts.first_part.Goals as goal
 
 pub returns-in-Some : goal.returns-in-Some
 returns-in-Some c =
-    let r = IsFirst-from_position _ _ _ (λ x. x ≡ 44) (λ x. x ≢ 44) c.in-Some.ensures.ran (YieldsList-from_slice c.args.text.now cc) (λ x q k. search (rules, tests)) (λ x q k. search (rules, tests)) in
+    let r =
+    IsFirst-from_position _ _ _ (λ x. x ≡ 44) (λ x. x ≢ 44) c.in-Some.ensures.ran (YieldsList-from_slice c.args.text.now cc)
+    (λ x q k. search (rules, tests)) (λ x q k. search (rules, tests)) in
     parts_of-comma c.args.text.now _ c.in-Some.comma r.0 r.1 r.2 (tail_is c.args.text.now c.in-Some.comma)
 
 pub returns-in-None : goal.returns-in-None
 returns-in-None c =
-    let r = IsFirst-from_position _ _ _ (λ x. x ≡ 44) (λ x. x ≢ 44) c.in-None.ensures.ran (YieldsList-from_slice c.args.text.now cc) (λ x q k. search (rules, tests)) (λ x q k. search (rules, tests)) in
+    let r =
+    IsFirst-from_position _ _ _ (λ x. x ≡ 44) (λ x. x ≢ 44) c.in-None.ensures.ran (YieldsList-from_slice c.args.text.now cc)
+    (λ x q k. search (rules, tests)) (λ x q k. search (rules, tests)) in
     parts_of-no_comma c.args.text.now r

@@ -9,4 +9,5 @@ returns-then-not-is_number c = λ n s.
 
 pub returns : goal.returns
 returns c =
-    reads_number c.args.text.now c.text_of.result.now c.parse.result c.ok.result (c.is_number.ensures.0 c.if-not-is_number.false) c.text_of.ensures c.parse.ensures.value.0 c.ok.ensures.value
+    reads_number c.args.text.now c.text_of.result.now c.parse.result c.ok.result
+    (c.is_number.ensures.0 c.if-not-is_number.false) c.text_of.ensures c.parse.ensures.value.0 c.ok.ensures.value

@@ -15,4 +15,5 @@ returns-in_default-form_of-clause-reading c = answers_as c.args.text.now (Err Ma
 pub returns-clause-reading : goal.returns-clause-reading
 unfolding unwrapped
 returns-clause-reading c =
-    answers_as c.args.text.now (Ok (c.in-Some-form_of.form, take c.in-Some.len c.decode.new.room)) (λ i. let byte = c.type_inv.text i in omega arith) (search rules)
+    answers_as c.args.text.now (Ok (c.in-Some-form_of.form, take c.in-Some.len c.decode.new.room)) (λ i. let byte = c.type_inv.text i in omega arith)
+    (search rules)

@@ -12,11 +12,14 @@ returns-in_err-body c =
 
 pub returns-in_err-checked_sub : goal.returns-in_err-checked_sub
 returns-in_err-checked_sub c =
-    rw c.from_residual-in_err-checked_sub.ensures (sym (too_short c.args.key.now c.args.bytes.now c.in_ok-len.len (sym c.in_ok-len.ensures) (omega (arith, c.in_err-checked_sub.ensures))))
+    rw c.from_residual-in_err-checked_sub.ensures
+    (sym (too_short c.args.key.now c.args.bytes.now c.in_ok-len.len (sym c.in_ok-len.ensures) (omega (arith, c.in_err-checked_sub.ensures))))
 
 pub returns-in_err-body_len : goal.returns-in_err-body_len
 returns-in_err-body_len c =
-    rw c.from_residual-in_err-body_len.ensures (sym (too_short c.args.key.now c.args.bytes.now c.in_ok-len.len (sym c.in_ok-len.ensures) (omega (arith, c.in_ok-checked_sub.ensures, c.in_err-body_len.ensures))))
+    rw c.from_residual-in_err-body_len.ensures
+    (sym (too_short c.args.key.now c.args.bytes.now c.in_ok-len.len (sym c.in_ok-len.ensures)
+    (omega (arith, c.in_ok-checked_sub.ensures, c.in_err-body_len.ensures))))
 
 pub returns-in_err-text : goal.returns-in_err-text
 returns-in_err-text c =
@@ -39,7 +42,8 @@ returns c =
     let len = c.in_ok-len.len in
     let body_len = c.in_ok-body_len.body_len in
     let all : take (length bytes - 4) (drop 4 bytes) ≡ drop 4 bytes = take_all (length bytes - 4) (drop 4 bytes) (omega (arith, length-drop 4 bytes)) in
-    let rest : take (length bytes - len) (drop len bytes) ≡ drop len bytes = take_all (length bytes - len) (drop len bytes) (omega (arith, length-drop len bytes)) in
+    let rest : take (length bytes - len) (drop len bytes) ≡ drop len bytes =
+    take_all (length bytes - len) (drop len bytes) (omega (arith, length-drop len bytes)) in
     let begins : after_prefix key (drop 4 bytes) ≡ Some body = rw all at (sym c.in_ok-body.ensures) in
     let found = packet_of_body key bytes body len body_len begins (sym c.in_ok-len.ensures)
     (omega (arith, c.in_ok-checked_sub.ensures, c.in_ok-body_len.ensures)) (omega (arith, c.if-len-bytes.false)) in

@@ -13,11 +13,13 @@ returns-clause-err c = IfErr-weaker c.write_in.result _ _ (λ fault refused. is_
 
 pub returns-clause-read_back : goal.returns-clause-read_back
 returns-clause-read_back c =
-    IfOk-weaker c.write_in.result _ _ (λ text written. reads_back v2_form c.args.pass.now _ written.room.are_bytes (is_written v2_form c.args.pass.now _ written)) c.write_in.ensures.ok
+    IfOk-weaker c.write_in.result _ _
+    (λ text written. reads_back v2_form c.args.pass.now _ written.room.are_bytes (is_written v2_form c.args.pass.now _ written)) c.write_in.ensures.ok
 
 pub returns-clause-computed : goal.returns-clause-computed
 unfolding writing_v2
 returns-clause-computed c =
     let pass = c.args.pass.now in
-    MatchResult-from_both c.write_in.result _ _ (IfOk-weaker c.write_in.result _ _ (λ text written. writes (v2_bytes pass) pass _ written) c.write_in.ensures.ok)
+    MatchResult-from_both c.write_in.result _ _
+    (IfOk-weaker c.write_in.result _ _ (λ text written. writes (v2_bytes pass) pass _ written) c.write_in.ensures.ok)
     (IfErr-weaker c.write_in.result _ _ (λ fault refused. fails (v2_bytes pass) pass fault refused) c.write_in.ensures.err)

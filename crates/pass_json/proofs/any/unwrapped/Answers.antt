@@ -24,7 +24,8 @@ returns-in_err-pass-clause-answer c =
     let told = c.in_ok-unwrapped.ensures in
     let is : unwrapped c.args.text.now ≡ Ok (c.in_ok-unwrapped.unwrapped.form, c.bytes.result.now) = rw c.bytes.ensures (sym told.value) in
     let short : length c.bytes.result.now ≤ max_text_len = rw c.bytes.ensures told.short in
-    let h = read_wrapping c.args.text.now c.in_ok-unwrapped.unwrapped.form c.bytes.result.now (Err c.in_err-pass.field-0.0) is short c.in_err-pass.ensures.answer in
+    let h =
+    read_wrapping c.args.text.now c.in_ok-unwrapped.unwrapped.form c.bytes.result.now (Err c.in_err-pass.field-0.0) is short c.in_err-pass.ensures.answer in
     search rules
 
 pub returns-in_err-pass-clause-memory : goal.returns-in_err-pass-clause-memory
@@ -35,7 +36,8 @@ returns-in_err-pass-clause-memory c =
     let p = err_from_is_err_and c.from_residual-in_err-pass.result c.from_residual-in_err-pass.ensures.1 in
     λ e.
     let fault : c.in_err-pass.field-0.0 ≡ Memory = cc (p.1, p.2) in
-    may_run_out c.args.text.now c.in_ok-unwrapped.unwrapped.form c.bytes.result.now is short (c.in_err-pass.ensures.memory (ap (λ (f : FormFault). Err f) fault))
+    may_run_out c.args.text.now c.in_ok-unwrapped.unwrapped.form c.bytes.result.now is short
+    (c.in_err-pass.ensures.memory (ap (λ (f : FormFault). Err f) fault))
 
 pub returns-clause-answer : goal.returns-clause-answer
 returns-clause-answer c =

@@ -7,7 +7,8 @@ use Rattle.pass_json.proofs.any.write_any.Goals as goal
 
 pub returns-in-V1-clause-read_back : goal.returns-in-V1-clause-read_back
 returns-in-V1-clause-read_back c =
-    rw c.in-V1.is (IfOk-weaker c.write_v1.result _ _ (λ text back. back_from_v1 (v1_bytes c.args.pass.now) c.args.pass.now (string_bytes text) back) c.write_v1.ensures.read_back)
+    rw c.in-V1.is (IfOk-weaker c.write_v1.result _ _
+    (λ text back. back_from_v1 (v1_bytes c.args.pass.now) c.args.pass.now (string_bytes text) back) c.write_v1.ensures.read_back)
 
 pub returns-in-V1-clause-computed : goal.returns-in-V1-clause-computed
 unfolding writing
@@ -16,7 +17,8 @@ returns-in-V1-clause-computed c =
 
 pub returns-in-V2-clause-read_back : goal.returns-in-V2-clause-read_back
 returns-in-V2-clause-read_back c =
-    rw c.in-V2.is (IfOk-weaker c.write_v2.result _ _ (λ text back. back_from_v2 (v2_bytes c.args.pass.now) c.args.pass.now (string_bytes text) back) c.write_v2.ensures.read_back)
+    rw c.in-V2.is (IfOk-weaker c.write_v2.result _ _
+    (λ text back. back_from_v2 (v2_bytes c.args.pass.now) c.args.pass.now (string_bytes text) back) c.write_v2.ensures.read_back)
 
 pub returns-in-V2-clause-computed : goal.returns-in-V2-clause-computed
 unfolding writing
@@ -25,7 +27,8 @@ returns-in-V2-clause-computed c =
 
 pub returns-in-Json-clause-read_back : goal.returns-in-Json-clause-read_back
 returns-in-Json-clause-read_back c =
-    rw c.in-Json.is (IfOk-weaker c.write_json.result _ _ (λ text back. back_from_json (string_bytes text) c.args.pass.now (string_bytes text) back) c.write_json.ensures.read_back)
+    rw c.in-Json.is (IfOk-weaker c.write_json.result _ _
+    (λ text back. back_from_json (string_bytes text) c.args.pass.now (string_bytes text) back) c.write_json.ensures.read_back)
 
 pub returns-in-Json-clause-computed : goal.returns-in-Json-clause-computed
 unfolding writing

@@ -9,4 +9,5 @@ use Rattle.pass_json.proofs.object.all_caveats.Given as goal
 abbrev pub invariant-loop-value : goal.invariant-loop-value
 invariant-loop-value l =
     option_map kept_caveats (caveats_of (items_view l.list))
-    ≡ with_kept (map (λ identifier. identifier.items) l.identifiers.items) l.third_party (option_map kept_caveats (caveats_of (items_view (drop l.value-index l.list))))
+    ≡ with_kept (map (λ identifier. identifier.items) l.identifiers.items) l.third_party
+    (option_map kept_caveats (caveats_of (items_view (drop l.value-index l.list))))

@@ -34,8 +34,11 @@ loop-caveat-preserved c =
     rw next (record {
       objects =
           rw c.in_ok-push.ensures.items
-          (next_object before (items c.caveat-item.result) _ _ (c.in_ok-caveat_object.ensures.value ∙ ap caveat_object c.deref.ensures.value) c.loop-caveat.invariant.objects);
-      bytes = all_push IsBytes before (items c.caveat-item.result) c.loop-caveat.invariant.bytes (subst IsBytes c.deref.ensures.value c.in_ok-caveat_object.ensures.bytes);
+          (next_object before (items c.caveat-item.result) _ _
+          (c.in_ok-caveat_object.ensures.value ∙ ap caveat_object c.deref.ensures.value) c.loop-caveat.invariant.objects);
+      bytes =
+          all_push IsBytes before (items c.caveat-item.result) c.loop-caveat.invariant.bytes
+          (subst IsBytes c.deref.ensures.value c.in_ok-caveat_object.ensures.bytes);
     })
 
 pub returns-clause-bytes : goal.returns-clause-bytes
@@ -46,4 +49,5 @@ returns-clause-bytes c =
 pub returns-clause-value : goal.returns-clause-value
 returns-clause-value c =
     let all : take c.loop-caveat.caveat-index c.args.caveats.now ≡ c.args.caveats.now = take_all c.loop-caveat.caveat-index c.args.caveats.now (omega arith) in
-    view-Array c.loop-caveat.objects ∙ ap (λ (ds : List Data). array (items_of ds)) (c.loop-caveat.invariant.objects ∙ ap (λ (vs : List (Vec ℕ Global)). map caveat_object (map items vs)) all)
+    view-Array c.loop-caveat.objects ∙ ap (λ (ds : List Data). array (items_of ds))
+    (c.loop-caveat.invariant.objects ∙ ap (λ (vs : List (Vec ℕ Global)). map caveat_object (map items vs)) all)

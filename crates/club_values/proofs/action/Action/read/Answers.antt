@@ -5,4 +5,5 @@ use Rattle.club_values.proofs.TextOfLemmas.{same_reading, reads_actions}
 use Rattle.club_values.proofs.action.Action.read.Goals as goal
 
 pub returns-clause-function : goal.returns-clause-function
-returns-clause-function c = same_reading (λ (action : Action). c.args.text.now ≡ action_text action) _ c.action_in.result (reads_actions c.args.text.now) c.action_in.ensures
+returns-clause-function c =
+    same_reading (λ (action : Action). c.args.text.now ≡ action_text action) _ c.action_in.result (reads_actions c.args.text.now) c.action_in.ensures

@@ -12,7 +12,9 @@ pub returns : goal.returns
 returns c =
     let h = c.date-date.ensures.within in
     let b = date_bounds c.args.self h in
-    let e = parts_of_day c.args.self c.date-date.result c.year.result c.month.result c.day.result h c.date-date.ensures.same c.year.ensures c.month.ensures c.day.ensures in
+    let e =
+    parts_of_day c.args.self c.date-date.result c.year.result c.month.result c.day.result h c.date-date.ensures.same c.year.ensures c.month.ensures
+    c.day.ensures in
     record {
       date = rw (e.0, e.1, e.2) (civil_date c.args.self h);
       years = rw e.0 (b.0, b.1);

@@ -12,7 +12,9 @@ returns-then-is_some c =
     let cancel = c.skip-cancel.ensures in
     let account = c.skip-account.ensures in
     let some = something_left c.skip-account.result.1 (sym c.is_some.ensures ∙ c.if-is_some.true) in
-    λ set h. no_choice action_text all_actions action_words (c.skip-view.result.0 ∷ c.skip-book.result.0 ∷ c.skip-cancel.result.0 ∷ c.skip-account.result.0 ∷ []) c.args.text.now _ some (_, view.next, view.left, (_, book.next, book.left, (_, cancel.next, cancel.left, (_, account.next, account.left, refl)))) (has_action set) h.0 h.1
+    λ set h. no_choice action_text all_actions action_words
+    (c.skip-view.result.0 ∷ c.skip-book.result.0 ∷ c.skip-cancel.result.0 ∷ c.skip-account.result.0 ∷ []) c.args.text.now _ some
+    (_, view.next, view.left, (_, book.next, book.left, (_, cancel.next, cancel.left, (_, account.next, account.left, refl)))) (has_action set) h.0 h.1
 
 pub returns : goal.returns
 returns c =
@@ -21,4 +23,5 @@ returns c =
     let cancel = c.skip-cancel.ensures in
     let account = c.skip-account.ensures in
     let end = nothing_left c.skip-account.result.1 (sym c.is_some.ensures ∙ c.if-is_some.false) in
-    reads_choice (has_action _) action_text all_actions c.args.text.now (_, view.next, view.left, (_, book.next, book.left, (_, cancel.next, cancel.left, (_, account.next, account.left, end))))
+    reads_choice (has_action _) action_text all_actions c.args.text.now
+    (_, view.next, view.left, (_, book.next, book.left, (_, cancel.next, cancel.left, (_, account.next, account.left, end))))

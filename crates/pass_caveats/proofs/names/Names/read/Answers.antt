@@ -3,7 +3,8 @@ use Rattle.pass_caveats.specs.Names.{AreNames}
 use Rattle.pass_caveats.specs.Parts.{parts_of}
 use Rattle.pass_caveats.proofs.PartLemmas.{joined-parts_of, some_part, names_are_parts}
 use Rattle.pass_caveats.proofs.names.Names.read.Goals as goal
-use Rattle.pass_caveats.proofs.names.Names.read.Goals.{else-are_all_names-via-then-are_all_names+else-count_of_parts-le-MAX_NAMES, else-are_all_names-via-else-are_all_names}
+use Rattle.pass_caveats.proofs.names.Names.read.Goals.{else-are_all_names-via-then-are_all_names+else-count_of_parts-le-MAX_NAMES}
+use Rattle.pass_caveats.proofs.names.Names.read.Goals.{else-are_all_names-via-else-are_all_names}
 
 pub invariant_of-result : goal.invariant_of-result
 invariant_of-result c =

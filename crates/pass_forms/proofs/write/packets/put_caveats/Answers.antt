@@ -8,7 +8,8 @@ use Rattle.pass_forms.proofs.write.packets.put_caveats.Goals as goal
 pub returns-in_err-put_packet : goal.returns-in_err-put_packet
 returns-in_err-put_packet c =
     let item = c.caveat-item.result in
-    let within : c.loop-caveat.caveat-index < length (map (λ caveat. caveat.items) c.args.caveats.now) = omega (arith, length-map c.args.caveats.now (λ caveat. caveat.items)) in
+    let within : c.loop-caveat.caveat-index < length (map (λ caveat. caveat.items) c.args.caveats.now) =
+    omega (arith, length-map c.args.caveats.now (λ caveat. caveat.items)) in
     let p = err_from_is_err_and c.from_residual.result c.from_residual.ensures.1 in
     let full = c.in_err-put_packet.ensures in
     rw (p.1, p.2) (
@@ -20,6 +21,7 @@ returns-in_err-put_packet c =
 pub loop-caveat-preserved : goal.loop-caveat-preserved
 loop-caveat-preserved c =
     let item = c.caveat-item.result in
-    let within : c.loop-caveat.caveat-index < length (map (λ caveat. caveat.items) c.args.caveats.now) = omega (arith, length-map c.args.caveats.now (λ caveat. caveat.items)) in
+    let within : c.loop-caveat.caveat-index < length (map (λ caveat. caveat.items) c.args.caveats.now) =
+    omega (arith, length-map c.args.caveats.now (λ caveat. caveat.items)) in
     one_put caveat_packets _ c.loop-caveat.caveat-index item.items c.loop-caveat.room _ _ within (caveat_at c.args.caveats.now _ item c.caveat-item.is)
     c.loop-caveat.invariant (rw (append-nil (packet caveat_key item.items), ← c.deref.ensures.value) c.in_ok-put_packet.ensures)

@@ -1,0 +1,9 @@
+//! Tests of the caveat language, and of the values that it speaks of.
+#![tactic(auto)]
+
+#[cfg(test)]
+mod calls;
+#[cfg(test)]
+mod caveats;
+#[cfg(test)]
+mod values;

@@ -1,0 +1,17 @@
+//! Tests of a club's rows, and of the answers to requests and orders by what they may see.
+#![tactic(auto)]
+
+#[cfg(test)]
+mod answers;
+#[cfg(test)]
+mod decisions;
+#[cfg(test)]
+mod expect;
+#[cfg(test)]
+mod fixture;
+#[cfg(test)]
+mod orders;
+#[cfg(test)]
+mod rotation;
+#[cfg(test)]
+mod rows;

@@ -1,0 +1,17 @@
+//! Tests of `passtool`'s commands.
+#![tactic(auto)]
+
+#[cfg(test)]
+mod bad_words;
+#[cfg(test)]
+mod failing;
+#[cfg(test)]
+mod forms;
+#[cfg(test)]
+mod limits;
+#[cfg(test)]
+mod runs;
+#[cfg(test)]
+mod showing;
+#[cfg(test)]
+mod verifying;

@@ -1,0 +1,131 @@
+//! The tested calls without their contracts, which the tests don't need: a test over them is proved in a fraction of the time.
+
+use pass_forms::{Field, FieldSource, FormFault, MAX_BYTES, Pass, Unwrapped, V1Fields, V2Fields};
+use pass_mac::Chain;
+use std::alloc::{AllocError, Global};
+use std::process::Abort;
+
+pub(crate) fn hmac(key: &[u8], text: &[u8]) -> [u8; 32] {
+    pass_mac::hmac(key, text)
+}
+
+pub(crate) fn same(a: &[u8; 32], b: &[u8; 32]) -> bool {
+    pass_mac::same(a, b)
+}
+
+// The signatures of a chain under a root: of the identifier, and with a caveat.
+pub(crate) fn signed_under(root: &[u8], identifier: &[u8], caveat: &[u8]) -> ([u8; 32], [u8; 32]) {
+    let mut chain = Chain::start(root, identifier);
+    let signed = chain.signature();
+    chain.add(caveat);
+    (signed, chain.signature())
+}
+
+// The signature of a resumed chain with a caveat.
+pub(crate) fn narrowed(signature: [u8; 32], caveat: &[u8]) -> [u8; 32] {
+    let mut chain = Chain::resume(signature);
+    chain.add(caveat);
+    chain.signature()
+}
+
+// The signature of a chain under the key that is derived from a root.
+pub(crate) fn signed_by_key(root: &[u8], identifier: &[u8]) -> [u8; 32] {
+    Chain::from_key(&pass_mac::derive(root), identifier).signature()
+}
+
+pub(crate) fn unwrap_text(text: &[u8], room: &mut [u8; MAX_BYTES]) -> Result<Unwrapped, FormFault> {
+    pass_forms::unwrap_text(text, room)
+}
+
+pub(crate) fn decode_base64(alloc: Global, text: &[u8]) -> Result<Option<Vec<u8>>, AllocError> {
+    pass_forms::decode_base64(alloc, text)
+}
+
+pub(crate) fn read_v1(alloc: Global, bytes: &[u8]) -> Result<Pass, FormFault> {
+    pass_forms::read_v1(alloc, bytes)
+}
+
+pub(crate) fn read_v2(alloc: Global, bytes: &[u8]) -> Result<Pass, FormFault> {
+    pass_forms::read_v2(alloc, bytes)
+}
+
+pub(crate) fn open_v1(bytes: &[u8]) -> Result<V1Fields<'_>, FormFault> {
+    V1Fields::open(bytes)
+}
+
+pub(crate) fn open_v2(bytes: &[u8]) -> Result<V2Fields<'_>, FormFault> {
+    V2Fields::open(bytes)
+}
+
+pub(crate) fn next_v1<'a>(fields: &mut V1Fields<'a>) -> Option<Field<'a>> {
+    fields.next()
+}
+
+pub(crate) fn next_v2<'a>(fields: &mut V2Fields<'a>) -> Option<Field<'a>> {
+    fields.next()
+}
+
+pub(crate) fn write_v1(alloc: Global, pass: &Pass) -> Result<String, FormFault> {
+    pass_forms::write_v1(alloc, pass)
+}
+
+pub(crate) fn write_v2(alloc: Global, pass: &Pass) -> Result<String, FormFault> {
+    pass_forms::write_v2(alloc, pass)
+}
+
+pub(crate) fn narrow(alloc: Global, pass: &mut Pass, caveat: &[u8]) -> Result<(), FormFault> {
+    pass_forms::narrow(alloc, pass, caveat)
+}
+
+pub(crate) fn mint(
+    alloc: Global,
+    root: &[u8],
+    location: &[u8],
+    identifier: &[u8],
+) -> Result<Pass, AllocError> {
+    Pass::mint(alloc, root, location, identifier)
+}
+
+pub(crate) fn new_pass(
+    location: Vec<u8>,
+    identifier: Vec<u8>,
+    caveats: Vec<Vec<u8>>,
+    signature: [u8; 32],
+) -> Pass {
+    Pass::new(location, identifier, caveats, signature)
+}
+
+pub(crate) fn is_signed(pass: &Pass, root: &[u8]) -> bool {
+    pass.is_signed(root)
+}
+
+// The pieces, one behind the other.
+pub(crate) fn joined(alloc: Global, pieces: &[&[u8]]) -> Result<Vec<u8>, AllocError> {
+    let mut bytes = Vec::new(alloc);
+    for piece in pieces {
+        bytes.extend_from_slice(piece)?;
+    }
+    Ok(bytes)
+}
+
+// Whether a pass has these fields, whatever its signature.
+pub(crate) fn has_fields(
+    pass: &Pass,
+    location: &[u8],
+    identifier: &[u8],
+    caveats: &[&[u8]],
+) -> bool {
+    pass.location() == location && pass.identifier() == identifier && has_caveats(pass, caveats)
+}
+
+pub(crate) fn has_caveats(pass: &Pass, caveats: &[&[u8]]) -> bool {
+    let mut alike = pass.caveats().len() == caveats.len();
+    for (caveat, want) in pass.caveats().iter().zip(caveats.iter()) {
+        alike = alike && caveat.as_slice() == *want;
+    }
+    alike
+}
+
+pub(crate) fn expect_bytes(rt: &impl Abort, told: &[u8], want: &[u8]) {
+    assert_eq!(rt; told, want);
+}
