@@ -171,7 +171,8 @@ cp club written
 "$walk" show written >/dev/null
 sql written "UPDATE members SET credited = credited + 5, quota = 99, used = used + 200; UPDATE keys SET revoked = 1; DELETE FROM slots;
     INSERT INTO slots VALUES ('room-1', 20574, 18, 1, 0), ('court-1', 20574, 9, 0, 0), ('court-1', 20574, 18, 0, 4);
-    INSERT INTO bookings VALUES ('amy-1', 9, 'court-1', 20574, 18, 0, 200, 0, 0, 0)"
+    INSERT INTO bookings VALUES ('amy-1', 9, 'court-1', 20574, 18, 0, 200, 0, 0, 0);
+    INSERT INTO old_roots VALUES ('amy-1', zeroblob(16), 20000000)"
 same 'what sqlite3 wrote' "$("$walk" show written)" <<'ROWS'
 member amy: credited 10005 quota 99
 facility court-1: kind court places 4 price 200 opens 8 shuts 22

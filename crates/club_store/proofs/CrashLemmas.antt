@@ -1,5 +1,5 @@
 -- What a crash leaves, and what an opening makes of it.
-use Rattle.std.proofs.Common.{◌≡◌, List, [], ◌∷◌, length, inl, inr, map, refl, sym, ap, subst, arith}
+use Rattle.std.proofs.Common.{◌≡◌, List, [], ◌∷◌, length, IsTrue, inl, inr, map, refl, sym, ap, subst, arith}
 use Rattle.std.specs.List.{AllZip}
 use Rattle.std.proofs.Math.Logic.{∥∥₁_map}
 use Rattle.sqlite_catalog.specs.Listing.{IsSound, AreListed, IsTableRow, IsIndexRow, IsViewRow, cut}
@@ -17,10 +17,13 @@ use Rattle.sqlite.specs.Held.{AreDatabases}
 use Rattle.sqlite.specs.State.{State, Opens, IsLive}
 use Rattle.sqlite.proofs.Theorems.{opens_again}
 use Rattle.club_core.specs.Club.{Club, empty_club}
-use Rattle.club_store.specs.Schema.{no_schema}
-use Rattle.club_store.specs.Tables.{HoldsClub, IsLeftOf, Stands, IsFound}
+use Rattle.club_tables.specs.Schema.{no_schema}
+use Rattle.club_tables.specs.Tables.{HoldsClub, IsLeftOf, Stands, IsFound}
 use Rattle.club_store.specs.Crash.{OneStands, HoldsOneOf, CrashLeaves}
-use Rattle.club_store.proofs.OpenLemmas.{IsSettled}
+
+-- every crash leaves what was committed last
+abbrev IsSettled : State → Type 0
+IsSettled state = IsTrue state.is_open → (trees : Trees) → state.may_leave trees → trees ≡ state.committed.trees
 
 -- trees list one schema
 pub schema_once : (one other : Schema) (trees : Trees) → IsSound one trees → IsSound other trees → one ≡ other

@@ -12,9 +12,9 @@ use Rattle.club_core.specs.Laws.{OwnBookings, HasOwnBookings}
 use Rattle.club_core.specs.Request.{number_of}
 use Rattle.club_core.specs.Basis.{view_in}
 use Rattle.club_core.specs.Sums.{booking_under, spent_under}
-use Rattle.club_store.specs.declared.row.MemberRow.{MemberRow}
+use Rattle.club_tables.specs.declared.row.MemberRow.{MemberRow}
 use Rattle.club_store.specs.Figures.{seen}
-use Rattle.club_store.specs.Stored.{member_row, fresh}
+use Rattle.club_tables.specs.Stored.{member_row, fresh}
 
 -- what is found is an element, and passes
 pub found : {X : Type 0} (p : X → Bool) (xs : List X) (x : X) → find p xs ≡ Some x → Contains xs x × (p x ≡ true)

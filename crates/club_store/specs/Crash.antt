@@ -10,7 +10,7 @@ use Rattle.sqlite.specs.Recovery.{Image}
 use Rattle.sqlite.specs.State.{State, Opens, IsLive}
 use Rattle.sqlite.specs.Files.{HoldsDatabase, over_files}
 use Rattle.club_core.specs.Club.{Club}
-use Rattle.club_store.specs.Tables.{IsLeftOf, Stands}
+use Rattle.club_tables.specs.Tables.{IsLeftOf, Stands}
 
 -- whatever a crash leaves of the store is a database of one of these clubs
 abbrev pub LeavesOneOf : {S : Type 0} → Ghosts S → S → List Club → Type 0

@@ -1,13 +1,7 @@
-pub mod Schema
-pub mod Columns
-pub mod Stored
-pub mod Tables
-pub mod Told
-pub mod Transaction
-pub mod Statements
 pub mod Crash
 pub mod Opening
-pub mod Sheet
-pub mod Use
 pub mod Figures
 pub mod Widened
+-- what the tables say and hold comes with them
+pub use Rattle.club_tables.specs.Tables
+pub use Rattle.club_tables.specs.Told

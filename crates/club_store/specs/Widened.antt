@@ -5,7 +5,7 @@ use Rattle.std.proofs.lemmas.List.Elements.{All-cons, All-head, All-tail}
 use Rattle.sqlite.specs.Tree.{Trees}
 use Rattle.sqlite.specs.State.{State}
 use Rattle.club_core.specs.Club.{Club, IsSound}
-use Rattle.club_store.specs.Tables.{IsLeftOf, Stands}
+use Rattle.club_tables.specs.Tables.{IsLeftOf, Stands}
 
 left_widened : (trees : Trees) (club other : Club) (others : List Club) → IsLeftOf trees (club ∷ others) → IsLeftOf trees (club ∷ other ∷ others)
 left_widened trees club other others (inl here) = inl here

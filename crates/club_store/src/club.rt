@@ -10,7 +10,7 @@ use sqlite::Alter;
 impl<S: Alter> ClubStore for Store<S> {
     ghost use Rattle.sqlite.specs.State.{HasCleanDisk};
     ghost use Rattle.sqlite.specs.Held.{state};
-    ghost use Rattle.club_store.specs.Told.{sound_in};
+    ghost use Rattle.club_tables.specs.Told.{sound_in};
     ghost use Rattle.club_store.specs.Widened.{sound_widened};
 
     ghost stands = { sound_in S.Store };

@@ -107,8 +107,8 @@ fn holds_booking(store: &mut Store<FileStore<Stops>>) -> Result<bool, Fail> {
     }
 }
 
-/// Whether the booking was made on a log that stops after so many calls, and none where the opening was stopped; and what is
-/// left of the files.
+/// Whether the booking was made on a log that stops after so many calls, and none where the opening
+/// was stopped; and what is left of the files.
 fn booked(alloc: Global, calls: u64, bytes: &[u8]) -> Result<(Option<bool>, Files<Stops>), Fail> {
     match opened(alloc, files(alloc, calls, bytes)?) {
         Ok(mut store) => Ok((Some(book(&mut store)?.is_ok()), given_up(store))),
@@ -167,7 +167,8 @@ fn holds_bookings(store: &mut Store<FileStore<Stops>>) -> Result<bool, Fail> {
     Ok(found == whole && court == 3 && room == 0)
 }
 
-/// Whether tables of version 1 were opened on a log that stops after so many calls, and what is left of the files.
+/// Whether tables of version 1 were opened on a log that stops after so many calls, and what is
+/// left of the files.
 fn migrated(alloc: Global, calls: u64, bytes: &[u8]) -> Result<(bool, Files<Stops>), Fail> {
     match opened(alloc, files(alloc, calls, bytes)?) {
         Ok(store) => Ok((true, given_up(store))),

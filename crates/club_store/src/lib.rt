@@ -1,18 +1,10 @@
-//! The tables of the club, over sqlite.
+//! The store of a club over the tables: opened, read, changed, and what a crash leaves of it.
 #![tactic(auto)]
 
 mod club;
 mod figures;
 pub mod laws;
-mod open;
-mod params;
-mod reads;
-mod row;
 mod store;
-mod sum;
-mod texts;
-mod transaction;
-mod writes;
 
 pub use store::Store;
 

@@ -1,45 +1,74 @@
-ghost use Rattle.std.specs.Prelude.{◌≡◌, false, List, [], ◌∷◌, All, IsTrue, IfOk, IfErr, IfSome, option_map, MatchResult, IsErrAnd, codes, Err};
-ghost use Rattle.sqlite.specs.State.{HasCleanDisk, Survives};
+ghost use Rattle.std.specs.Prelude.{
+  ◌≡◌,
+  false,
+  List,
+  [],
+  ◌∷◌,
+  All,
+  IsTrue,
+  IfOk,
+  IfErr,
+  IfSome,
+  option_map,
+  MatchResult,
+  IsErrAnd,
+  codes,
+  Err,
+};
+ghost use Rattle.sqlite.specs.State.{HasCleanDisk};
 ghost use Rattle.sqlite.specs.Held.{state};
 ghost use Rattle.club_core.specs.Club.{Club, empty_club, key_named, member_named, facility_named};
 ghost use Rattle.club_core.specs.Sheet.{AreRowsOf};
 ghost use Rattle.club_core.specs.Sums.{booking_under};
 ghost use Rattle.club_core.specs.Basis.{slot_use, view_in};
-ghost use Rattle.club_core.specs.Store.{KeepsStanding, Tells};
+ghost use Rattle.club_core.specs.Store.{KeepsStanding};
 ghost use Rattle.club_rows.specs.Rows.{IsMember, IsFacility, IsKey, IsOlderRoot, IsBooking};
-ghost use Rattle.club_core.specs.declared.change.Change.TheVariants.{InsertMember, AddCredit, InsertFacility, InsertKey, MarkRevoked, ReplaceRoot, MarkClosed, InsertBooking, MarkCancelled};
+ghost use Rattle.club_core.specs.declared.change.Change.TheVariants.{
+  InsertMember,
+  AddCredit,
+  InsertFacility,
+  InsertKey,
+  MarkRevoked,
+  ReplaceRoot,
+  MarkClosed,
+  InsertBooking,
+  MarkCancelled,
+};
 ghost use Rattle.sqlite.specs.Steps.{over_memory, IsFresh, IsEmpty};
 ghost use Rattle.sqlite.specs.View.{IsClean};
 ghost use Rattle.sqlite.specs.Files.{file_state};
 ghost use Rattle.sqlite.specs.WalFiles.{image_at};
 ghost use Rattle.club_store.specs.Crash.{LeavesOneOf, IsOpenedOn, OneStands};
-ghost use Rattle.club_store.specs.Opening.{OpensFrom, IsAccepted};
-ghost use Rattle.club_store.specs.Tables.{Stands, IsFound};
-ghost use Rattle.club_store.specs.Told.{stands_in, found_in, Changes, ChangesWhere, IsToCancel, HasNoneToCancel};
-ghost use Rattle.club_store.specs.Stored.{IsMemberRow, member_row, older_of, fresh};
-ghost use Rattle.club_store.specs.Transaction.{IsKept};
+ghost use Rattle.club_store.specs.Opening.{OpensFrom, SurvivesOpening};
+ghost use Rattle.club_tables.specs.Opening.{IsAccepted};
+ghost use Rattle.club_tables.specs.Tables.{Stands, IsFound};
+ghost use Rattle.club_tables.specs.Told.{
+  found_in,
+  ReadsClub,
+  ChangesClub,
+  ChangesClubWhere,
+  IsToCancel,
+  HasNoneToCancel,
+};
+ghost use Rattle.club_tables.specs.Stored.{IsMemberRow, member_row, older_of, fresh};
+ghost use Rattle.club_tables.specs.Transaction.{IsKept};
 ghost use Rattle.club_store.specs.Figures.{slot_state, seen, HasLimits};
 
-use crate::figures::{SlotState, account_at, booked, booking};
-use crate::open::open_tables;
-use crate::params::Rotation;
-use crate::row::{
-    MemberRow, bookings_in, facility_in, key_in, member_in, older_root_in, slot_use_of,
-};
-use crate::transaction::fault_of;
-use crate::{reads, writes};
+use crate::figures::{SlotState, account_at, booked};
 use club_core::laws::own_bookings_suffice;
 use club_core::{
     Booking, BookingNumber, Change, Facility, Key, Member, OlderRoot, Request, Root, SlotUse,
     StoreFault, View,
 };
+use club_tables::{MemberRow, Rotation, fault_of, open_tables, reads, writes};
 use pass_caveats::{Day, Moment, Name, Slot};
 use sqlite::{Alter, Connection, FileFrom, FileStore, MemStore, Start};
 use std::alloc::Global;
 use std::marker::Model;
 use std::rt::HostRuntime;
 
-/// The tables of a club over a connection, which is in no transaction between calls. Contracts see it as the connection.
+/// The tables of a club over a connection, which is in no transaction between calls. Contracts see
+/// it as the connection.
 #[derive(Drop)]
 pub struct Store<S: Alter> {
     connection: Connection<S>,
@@ -76,15 +105,17 @@ impl Store<MemStore> {
 }
 
 impl<Q: Start> Store<FileStore<FileFrom<Q>>> {
-    /// The tables in the file at a path, which is made where there is none. `start` stands for what the file and its log hold.
-    /// A refusal is as that of `adopt`; a path that names no file is Storage.
+    /// The tables in the file at a path, which is made where there is none. `start` stands for what
+    /// the file and its log hold. A refusal is as that of `adopt`; a path that names no file is
+    /// Storage.
     pub fn open_file(
         rt: &HostRuntime,
         path: &str,
         start: Q,
     ) -> Result<Store<FileStore<FileFrom<Q>>>, StoreFault>
         ensures no_file { path.now ≡ codes ":memory:" → result ≡ Err StoreFault.Storage }
-        ensures opened { IfOk result (λ store. HasCleanDisk (file_state store) → OpensFrom (image_at Q.Start) store) }
+        ensures opened { IfOk result
+            (λ store. HasCleanDisk (file_state store) → OpensFrom (image_at Q.Start) store) }
     {
         let connection = match Connection::open_from(rt, path, false, start) {
             Ok(connection) => connection,
@@ -98,21 +129,37 @@ impl<Q: Start> Store<FileStore<FileFrom<Q>>> {
 }
 
 impl<S: Alter + Drop> Store<S> {
-    /// Takes over a connection, whose database has the tables of a club, or none, and then gets those of an empty club. Tables of
-    /// version 1 get older roots as the last step. A refusal changes nothing, and hands the connection back beside the fault:
-    /// Storage for another version, other tables, or a connection in a transaction.
+    /// Takes over a connection, whose database has the tables of a club, or none, and then gets
+    /// those of an empty club. Tables of version 1 get older roots as the last step. A refusal
+    /// changes nothing, and hands the connection back beside the fault: Storage for another
+    /// version, other tables, or a connection in a transaction.
     pub fn adopt(
         alloc: Global,
         mut connection: Connection<S>,
     ) -> Result<Store<S>, (StoreFault, Connection<S>)>
-        ensures honest { MatchResult result (λ store. HasCleanDisk (state S.Store store) → HasCleanDisk (state S.Store connection)) (λ e. HasCleanDisk (state S.Store e.1) → HasCleanDisk (state S.Store connection)) }
-        ensures opened { IfOk result (λ store. HasCleanDisk (state S.Store store) → (club : Club) (others : _) → IsFound (state S.Store connection) club others → Stands (state S.Store store) club others) }
-        ensures accepted { IfOk result (λ store. HasCleanDisk (state S.Store store) → IsTrue (state S.Store store).is_open → IsAccepted S.Store connection store) }
-        ensures busy { IsTrue connection.in_transaction → IsErrAnd result (λ e. (e.0 ≡ StoreFault.Storage) × (e.1 ≡ connection)) }
-        ensures refused { IfErr result (λ e. HasCleanDisk (state S.Store e.1) → KeepsStanding (found_in S.Store) connection e.1) }
-        ensures untouched { connection.in_transaction ≡ false → IfErr result (λ e. IsKept (state S.Store connection) (state S.Store e.1)) }
-        ensures again { IfOk result (λ store. HasCleanDisk (state S.Store store) → (clubs : List Club) → IsOpenedOn (state S.Store connection) clubs → OneStands (state S.Store store) clubs) }
-        ensures empty { IfOk result (λ store. HasCleanDisk (state S.Store store) → IsEmpty (state S.Store connection) → Stands (state S.Store store) empty_club []) }
+        ensures honest { MatchResult result
+            (λ store. HasCleanDisk (state S.Store store) → HasCleanDisk (state S.Store connection))
+            (λ e. HasCleanDisk (state S.Store e.1) → HasCleanDisk (state S.Store connection)) }
+        ensures opened { IfOk result
+            (λ store. HasCleanDisk (state S.Store store) → (club : Club) (others : _) → IsFound
+            (state S.Store connection) club others → Stands (state S.Store store) club others) }
+        ensures accepted { IfOk result
+            (λ store. HasCleanDisk (state S.Store store) → IsTrue (state S.Store store).is_open →
+            IsAccepted S.Store connection store) }
+        ensures busy { IsTrue connection.in_transaction → IsErrAnd result
+            (λ e. (e.0 ≡ StoreFault.Storage) × (e.1 ≡ connection)) }
+        ensures refused { IfErr result
+            (λ e. HasCleanDisk (state S.Store e.1) → KeepsStanding
+            (found_in S.Store) connection e.1) }
+        ensures untouched { connection.in_transaction ≡ false → IfErr result
+            (λ e. IsKept (state S.Store connection) (state S.Store e.1)) }
+        ensures survives { MatchResult result (SurvivesOpening S.Store connection)
+            (λ e. SurvivesOpening S.Store connection e.1) }
+        ensures again { IfOk result (λ store. HasCleanDisk (state S.Store store) →
+            (clubs : List Club) → IsOpenedOn (state S.Store connection) clubs → OneStands
+            (state S.Store store) clubs) }
+        ensures empty { IfOk result (λ store. HasCleanDisk (state S.Store store) → IsEmpty
+            (state S.Store connection) → Stands (state S.Store store) empty_club []) }
     {
         if !connection.is_autocommit() {
             return Err((StoreFault::Storage, connection));
@@ -123,13 +170,18 @@ impl<S: Alter + Drop> Store<S> {
         }
     }
 
-    /// Gives up the connection, and hands out the store below it. Whatever a crash leaves of that is a database of the club that
-    /// stood or of one of the others. A crash in a call is a disk that fails from there on, so this speaks of it too.
+    /// Gives up the connection, and hands out the store below it. Whatever a crash leaves of that
+    /// is a database of the club that stood or of one of the others. A crash in a call is a disk
+    /// that fails from there on, so this speaks of it too.
     pub fn into_store(self) -> S
         ensures honest { IsClean (S.Store.view result) → HasCleanDisk (state S.Store self) }
-        ensures numbered { IsClean (S.Store.view result) → IsTrue (S.Store.view result).is_numbered }
-        ensures committed { IsClean (S.Store.view result) → IsTrue (S.Store.view result).is_open → IsFresh (S.Store.view result) × ((S.Store.view result).committed ≡ (state S.Store self).committed.trees) }
-        ensures left { (club : Club) (others : _) → Stands (state S.Store self) club others → LeavesOneOf S.Store result (club ∷ others) }
+        ensures numbered { IsClean (S.Store.view result) → IsTrue
+            (S.Store.view result).is_numbered }
+        ensures committed { IsClean (S.Store.view result) → IsTrue (S.Store.view result).is_open →
+            IsFresh (S.Store.view result) ×
+            ((S.Store.view result).committed ≡ (state S.Store self).committed.trees) }
+        ensures left { (club : Club) (others : _) → Stands (state S.Store self) club others →
+            LeavesOneOf S.Store result (club ∷ others) }
     {
         self.into_connection().into_store()
     }
@@ -147,12 +199,12 @@ impl<S: Alter> Store<S> {
         connection
     }
 
-    /// The key of this name; `None` where there is none. A row out of its limits is a fault of storage.
+    /// The key of this name; `None` where there is none. A row out of its limits is a fault of
+    /// storage.
     pub fn key(&mut self, name: &Name) -> Result<Option<Key>, StoreFault>
-        ensures told { HasCleanDisk (state S.Store self.new) → Tells (stands_in S.Store) self.old result (λ club key. key ≡ key_named name.now club) }
+        ensures reads { ReadsClub S.Store self.old self.new result
+            (λ club key. key ≡ key_named name.now club) }
         ensures limits { IfOk result (λ key. IfSome key IsKey) }
-        ensures kept { HasCleanDisk (state S.Store self.new) → KeepsStanding (stands_in S.Store) self.old self.new }
-        ensures survives { Survives (state S.Store self.old) (state S.Store self.new) (λ _. ⊥) }
     {
         let Some(key) = self.key_row(name)? else {
             return Ok(None);
@@ -169,44 +221,28 @@ impl<S: Alter> Store<S> {
 
     /// The key of this name, without its older root; `None` where there is none.
     fn key_row(&mut self, name: &Name) -> Result<Option<Key>, StoreFault>
-        ensures told { HasCleanDisk (state S.Store self.new) → Tells (stands_in S.Store) self.old result (λ club key. key ≡ option_map fresh (key_named name.now club)) }
+        ensures reads { ReadsClub S.Store self.old self.new result
+            (λ club key. key ≡ option_map fresh (key_named name.now club)) }
         ensures limits { IfOk result (λ key. IfSome key IsKey) }
-        ensures kept { HasCleanDisk (state S.Store self.new) → KeepsStanding (stands_in S.Store) self.old self.new }
-        ensures survives { Survives (state S.Store self.old) (state S.Store self.new) (λ _. ⊥) }
     {
-        let rows = reads::key(&mut self.connection, name)?;
-        match rows.first() {
-            None => Ok(None),
-            Some(row) => match key_in(row) {
-                Some(key) => Ok(Some(key)),
-                None => Err(StoreFault::Storage),
-            },
-        }
+        reads::key(&mut self.connection, name)
     }
 
     /// The older root of the key of this name; `None` where it was never rotated.
     fn older_root(&mut self, name: &Name) -> Result<Option<OlderRoot>, StoreFault>
-        ensures told { HasCleanDisk (state S.Store self.new) → Tells (stands_in S.Store) self.old result (λ club older. older ≡ older_of name.now club) }
+        ensures reads { ReadsClub S.Store self.old self.new result
+            (λ club older. older ≡ older_of name.now club) }
         ensures limits { IfOk result (λ older. IfSome older IsOlderRoot) }
-        ensures kept { HasCleanDisk (state S.Store self.new) → KeepsStanding (stands_in S.Store) self.old self.new }
-        ensures survives { Survives (state S.Store self.old) (state S.Store self.new) (λ _. ⊥) }
     {
-        let rows = reads::older_root(&mut self.connection, name)?;
-        match rows.first() {
-            None => Ok(None),
-            Some(row) => match older_root_in(row) {
-                Some(older) => Ok(Some(older)),
-                None => Err(StoreFault::Storage),
-            },
-        }
+        reads::older_root(&mut self.connection, name)
     }
 
-    /// The member of this name; `None` where there is none. A row out of its limits is a fault of storage.
+    /// The member of this name; `None` where there is none. A row out of its limits is a fault of
+    /// storage.
     pub fn member(&mut self, name: &Name) -> Result<Option<Member>, StoreFault>
-        ensures told { HasCleanDisk (state S.Store self.new) → Tells (stands_in S.Store) self.old result (λ club member. member ≡ member_named name.now club) }
+        ensures reads { ReadsClub S.Store self.old self.new result
+            (λ club member. member ≡ member_named name.now club) }
         ensures limits { IfOk result (λ member. IfSome member IsMember) }
-        ensures kept { HasCleanDisk (state S.Store self.new) → KeepsStanding (stands_in S.Store) self.old self.new }
-        ensures survives { Survives (state S.Store self.old) (state S.Store self.new) (λ _. ⊥) }
     {
         match self.member_row(name)? {
             Some(row) => Ok(Some(row.member)),
@@ -216,68 +252,46 @@ impl<S: Alter> Store<S> {
 
     /// The row of the member of this name; `None` where there is none.
     fn member_row(&mut self, name: &Name) -> Result<Option<MemberRow>, StoreFault>
-        ensures told { HasCleanDisk (state S.Store self.new) → Tells (stands_in S.Store) self.old result (λ club row. row ≡ option_map (member_row club) (member_named name.now club)) }
+        ensures reads { ReadsClub S.Store self.old self.new result
+            (λ club row. row ≡ option_map (member_row club) (member_named name.now club)) }
         ensures limits { IfOk result (λ row. IfSome row IsMemberRow) }
-        ensures kept { HasCleanDisk (state S.Store self.new) → KeepsStanding (stands_in S.Store) self.old self.new }
-        ensures survives { Survives (state S.Store self.old) (state S.Store self.new) (λ _. ⊥) }
     {
-        let rows = reads::member(&mut self.connection, name)?;
-        match rows.first() {
-            None => Ok(None),
-            Some(row) => match member_in(row) {
-                Some(row) => Ok(Some(row)),
-                None => Err(StoreFault::Storage),
-            },
-        }
+        reads::member(&mut self.connection, name)
     }
 
-    /// The facility of this name; `None` where there is none. A row out of its limits is a fault of storage.
+    /// The facility of this name; `None` where there is none. A row out of its limits is a fault of
+    /// storage.
     pub fn facility(&mut self, name: &Name) -> Result<Option<Facility>, StoreFault>
-        ensures told { HasCleanDisk (state S.Store self.new) → Tells (stands_in S.Store) self.old result (λ club facility. facility ≡ facility_named name.now club) }
+        ensures reads { ReadsClub S.Store self.old self.new result
+            (λ club facility. facility ≡ facility_named name.now club) }
         ensures limits { IfOk result (λ facility. IfSome facility IsFacility) }
-        ensures kept { HasCleanDisk (state S.Store self.new) → KeepsStanding (stands_in S.Store) self.old self.new }
-        ensures survives { Survives (state S.Store self.old) (state S.Store self.new) (λ _. ⊥) }
     {
-        let rows = reads::facility(&mut self.connection, name)?;
-        match rows.first() {
-            None => Ok(None),
-            Some(row) => match facility_in(row) {
-                Some(facility) => Ok(Some(facility)),
-                None => Err(StoreFault::Storage),
-            },
-        }
+        reads::facility(&mut self.connection, name)
     }
 
     /// What is taken of a slot: nothing of one that nobody booked or closed.
     pub fn slot(&mut self, slot: &Slot) -> Result<SlotUse, StoreFault>
-        ensures told { HasCleanDisk (state S.Store self.new) → Tells (stands_in S.Store) self.old result (λ club found. found ≡ slot_use club slot.now) }
-        ensures kept { HasCleanDisk (state S.Store self.new) → KeepsStanding (stands_in S.Store) self.old self.new }
-        ensures survives { Survives (state S.Store self.old) (state S.Store self.new) (λ _. ⊥) }
+        ensures reads { ReadsClub S.Store self.old self.new result
+            (λ club found. found ≡ slot_use club slot.now) }
     {
-        let rows = reads::slot(&mut self.connection, slot)?;
-        match slot_use_of(&rows) {
-            Some(found) => Ok(found),
-            None => Err(StoreFault::Storage),
-        }
+        reads::slot(&mut self.connection, slot)
     }
 
-    /// The day's bookings that aren't cancelled, in the order of the day sheet: by facility, hour, key and number.
+    /// The day's bookings that aren't cancelled, in the order of the day sheet: by facility, hour,
+    /// key and number.
     pub fn day(&mut self, day: Day) -> Result<Vec<Booking>, StoreFault>
-        ensures told { HasCleanDisk (state S.Store self.new) → Tells (stands_in S.Store) self.old result (λ club rows. AreRowsOf club day rows.items) }
+        ensures reads { ReadsClub S.Store self.old self.new result
+            (λ club rows. AreRowsOf club day rows.items) }
         ensures within { IfOk result (λ rows. All IsBooking rows.items) }
-        ensures kept { HasCleanDisk (state S.Store self.new) → KeepsStanding (stands_in S.Store) self.old self.new }
-        ensures survives { Survives (state S.Store self.old) (state S.Store self.new) (λ _. ⊥) }
     {
-        let rows = reads::day(&mut self.connection, day)?;
-        bookings_in(self.alloc, &rows)
+        reads::day(&mut self.connection, self.alloc, day)
     }
 
     /// The state of a slot, where there is one: its facility, and what is taken of it.
     fn slot_state(&mut self, slot: Option<Slot>) -> Result<SlotState, StoreFault>
-        ensures told { HasCleanDisk (state S.Store self.new) → Tells (stands_in S.Store) self.old result (λ club found. found ≡ slot_state club slot) }
+        ensures reads { ReadsClub S.Store self.old self.new result
+            (λ club found. found ≡ slot_state club slot) }
         ensures limits { IfOk result (λ found. IfSome found.facility IsFacility) }
-        ensures kept { HasCleanDisk (state S.Store self.new) → KeepsStanding (stands_in S.Store) self.old self.new }
-        ensures survives { Survives (state S.Store self.old) (state S.Store self.new) (λ _. ⊥) }
     {
         let Some(slot) = slot else {
             return Ok(SlotState {
@@ -303,10 +317,10 @@ impl<S: Alter> Store<S> {
         request: &Request,
         moment: Moment,
     ) -> Result<View, StoreFault>
-        ensures told { HasCleanDisk (state S.Store self.new) → Tells (stands_in S.Store) self.old result (λ club view. row ≡ member_row club row.member → view ≡ seen club key row.member request.now moment) }
+        ensures reads { ReadsClub S.Store self.old self.new result
+            (λ club view. row ≡ member_row club row.member →
+            view ≡ seen club key row.member request.now moment) }
         ensures limits { IsKey key → IsMember row.member → IfOk result HasLimits }
-        ensures kept { HasCleanDisk (state S.Store self.new) → KeepsStanding (stands_in S.Store) self.old self.new }
-        ensures survives { Survives (state S.Store self.old) (state S.Store self.new) (λ _. ⊥) }
     {
         let MemberRow { member, used } = row;
         let account = account_at(&mut self.connection, &key.name, &member.name, moment)?;
@@ -325,18 +339,18 @@ impl<S: Alter> Store<S> {
         })
     }
 
-    /// What a key sees of a request at a moment: its own row, what it spent, its booking of the number, its member's row, balance
-    /// and open bookings, and the state of the slot. `None` where the key is unknown. A row out of its limits is a fault of storage.
+    /// What a key sees of a request at a moment: its own row, what it spent, its booking of the
+    /// number, its member's row, balance and open bookings, and the state of the slot. `None` where
+    /// the key is unknown. A row out of its limits is a fault of storage.
     pub fn view(
         &mut self,
         key: &Name,
         request: &Request,
         moment: Moment,
     ) -> Result<Option<View>, StoreFault>
-        ensures told { HasCleanDisk (state S.Store self.new) → Tells (stands_in S.Store) self.old result (λ club view. view ≡ view_in club key.now request.now moment) }
+        ensures reads { ReadsClub S.Store self.old self.new result
+            (λ club view. view ≡ view_in club key.now request.now moment) }
         ensures limits { IfOk result (λ view. IfSome view HasLimits) }
-        ensures kept { HasCleanDisk (state S.Store self.new) → KeepsStanding (stands_in S.Store) self.old self.new }
-        ensures survives { Survives (state S.Store self.old) (state S.Store self.new) (λ _. ⊥) }
     {
         own_bookings_suffice();
         let Some(key) = self.key(key)? else {
@@ -349,10 +363,10 @@ impl<S: Alter> Store<S> {
         Ok(Some(view))
     }
 
-    /// Makes a change that fits, in one transaction. A refusal leaves the club that stood, and a crash may yet leave the changed one.
+    /// Makes a change that fits, in one transaction. A refusal leaves the club that stood, and a
+    /// crash may yet leave the changed one.
     pub fn apply(&mut self, change: &Change) -> Result<(), StoreFault>
-        ensures honest { HasCleanDisk (state S.Store self.new) → HasCleanDisk (state S.Store self.old) }
-        ensures changed { HasCleanDisk (state S.Store self.new) → Changes (stands_in S.Store) change.now self.old self.new result }
+        ensures makes { ChangesClub S.Store change.now self.old self.new result }
     {
         match change {
             Change::InsertMember(member) => self.insert_member(member),
@@ -371,10 +385,10 @@ impl<S: Alter> Store<S> {
         }
     }
 
-    /// Inserts a booking with what it costs its member and takes of its slot, in one transaction. A refusal is as that of `apply`.
+    /// Inserts a booking with what it costs its member and takes of its slot, in one transaction. A
+    /// refusal is as that of `apply`.
     fn insert_booking(&mut self, booking: &Booking) -> Result<(), StoreFault>
-        ensures honest { HasCleanDisk (state S.Store self.new) → HasCleanDisk (state S.Store self.old) }
-        ensures changed { HasCleanDisk (state S.Store self.new) → Changes (stands_in S.Store) (InsertBooking booking.now) self.old self.new result }
+        ensures makes { ChangesClub S.Store (InsertBooking booking.now) self.old self.new result }
     {
         let found = match self.key_row(&booking.key) {
             Ok(found) => found,
@@ -386,16 +400,17 @@ impl<S: Alter> Store<S> {
         }
     }
 
-    /// Marks a booking cancelled with its refund, gives the refund back to its member and its places to its slot, in one
-    /// transaction. Where none is to be marked, nothing is changed. A refusal is as that of `apply`.
+    /// Marks a booking cancelled with its refund, gives the refund back to its member and its
+    /// places to its slot, in one transaction. Where none is to be marked, nothing is changed. A
+    /// refusal is as that of `apply`.
     fn cancel_booking(
         &mut self,
         key: &Name,
         number: BookingNumber,
         refund: u32,
     ) -> Result<(), StoreFault>
-        ensures honest { HasCleanDisk (state S.Store self.new) → HasCleanDisk (state S.Store self.old) }
-        ensures changed { HasCleanDisk (state S.Store self.new) → Changes (stands_in S.Store) (MarkCancelled key.now number refund) self.old self.new result }
+        ensures makes { ChangesClub S.Store
+            (MarkCancelled key.now number refund) self.old self.new result }
     {
         let found = match self.booking_under(key, number) {
             Ok(found) => found,
@@ -413,11 +428,12 @@ impl<S: Alter> Store<S> {
         key: &Name,
         number: BookingNumber,
     ) -> Result<Option<Booking>, StoreFault>
-        ensures told { HasCleanDisk (state S.Store self.new) → Tells (stands_in S.Store) self.old result (λ club found. found ≡ booking_under key.now number club.bookings) }
-        ensures kept { HasCleanDisk (state S.Store self.new) → KeepsStanding (stands_in S.Store) self.old self.new }
-        ensures survives { Survives (state S.Store self.old) (state S.Store self.new) (λ _. ⊥) }
+        ensures reads { ReadsClub S.Store self.old self.new result
+            (λ club found. found ≡ booking_under key.now number club.bookings) }
+        ensures named { IfOk result (λ found. IfSome found
+            (λ booking. (booking.key ≡ key.now) × (booking.number ≡ number))) }
     {
-        booking(&mut self.connection, key, number)
+        reads::booking(&mut self.connection, key, number)
     }
 
     /// Marks a booking cancelled where none is to be marked: nothing is changed.
@@ -427,16 +443,16 @@ impl<S: Alter> Store<S> {
         number: BookingNumber,
         refund: u32,
     ) -> Result<(), StoreFault>
-        ensures honest { HasCleanDisk (state S.Store self.new) → HasCleanDisk (state S.Store self.old) }
-        ensures changed { HasCleanDisk (state S.Store self.new) → ChangesWhere (HasNoneToCancel key.now number) (stands_in S.Store) (MarkCancelled key.now number refund) self.old self.new result }
+        ensures makes { ChangesClubWhere S.Store (HasNoneToCancel key.now number)
+            (MarkCancelled key.now number refund) self.old self.new result }
     {
         writes::mark_cancelled(&mut self.connection, key, number, refund)
     }
 
     /// Cancels a booking that isn't cancelled, as `cancel_booking`.
     fn give_back(&mut self, booking: &Booking, refund: u32) -> Result<(), StoreFault>
-        ensures honest { HasCleanDisk (state S.Store self.new) → HasCleanDisk (state S.Store self.old) }
-        ensures changed { HasCleanDisk (state S.Store self.new) → ChangesWhere (IsToCancel booking.now) (stands_in S.Store) (MarkCancelled booking.now.key booking.now.number refund) self.old self.new result }
+        ensures makes { ChangesClubWhere S.Store (IsToCancel booking.now)
+            (MarkCancelled booking.now.key booking.now.number refund) self.old self.new result }
     {
         let found = match self.key_row(&booking.key) {
             Ok(found) => found,
@@ -452,49 +468,47 @@ impl<S: Alter> Store<S> {
 
     /// Inserts a member, in one transaction. A refusal is as that of `apply`.
     pub fn insert_member(&mut self, member: &Member) -> Result<(), StoreFault>
-        ensures honest { HasCleanDisk (state S.Store self.new) → HasCleanDisk (state S.Store self.old) }
-        ensures changed { HasCleanDisk (state S.Store self.new) → Changes (stands_in S.Store) (InsertMember member.now) self.old self.new result }
+        ensures makes { ChangesClub S.Store (InsertMember member.now) self.old self.new result }
     {
         writes::insert_member(&mut self.connection, member)
     }
 
-    /// Adds points to what a member was credited, in one transaction. A refusal is as that of `apply`.
+    /// Adds points to what a member was credited, in one transaction. A refusal is as that of
+    /// `apply`.
     pub fn add_credit(&mut self, member: &Name, points: u32) -> Result<(), StoreFault>
-        ensures honest { HasCleanDisk (state S.Store self.new) → HasCleanDisk (state S.Store self.old) }
-        ensures changed { HasCleanDisk (state S.Store self.new) → Changes (stands_in S.Store) (AddCredit member.now points) self.old self.new result }
+        ensures makes { ChangesClub S.Store (AddCredit member.now points) self.old self.new result }
     {
         writes::add_credit(&mut self.connection, member, points)
     }
 
     /// Inserts a facility, in one transaction. A refusal is as that of `apply`.
     pub fn insert_facility(&mut self, facility: &Facility) -> Result<(), StoreFault>
-        ensures honest { HasCleanDisk (state S.Store self.new) → HasCleanDisk (state S.Store self.old) }
-        ensures changed { HasCleanDisk (state S.Store self.new) → Changes (stands_in S.Store) (InsertFacility facility.now) self.old self.new result }
+        ensures makes { ChangesClub S.Store (InsertFacility facility.now) self.old self.new result }
     {
         writes::insert_facility(&mut self.connection, facility)
     }
 
-    /// Inserts a key, in one transaction. A refusal is as that of `apply`; so is a key refused that has an older root already.
+    /// Inserts a key, in one transaction. A refusal is as that of `apply`; so is a key refused that
+    /// has an older root already.
     pub fn insert_key(&mut self, key: &Key) -> Result<(), StoreFault>
-        ensures honest { HasCleanDisk (state S.Store self.new) → HasCleanDisk (state S.Store self.old) }
-        ensures changed { HasCleanDisk (state S.Store self.new) → Changes (stands_in S.Store) (InsertKey key.now) self.old self.new result }
+        ensures makes { ChangesClub S.Store (InsertKey key.now) self.old self.new result }
     {
         writes::insert_key(&mut self.connection, key)
     }
 
     /// Marks a key revoked, in one transaction. A refusal is as that of `apply`.
     pub fn revoke_key(&mut self, key: &Name) -> Result<(), StoreFault>
-        ensures honest { HasCleanDisk (state S.Store self.new) → HasCleanDisk (state S.Store self.old) }
-        ensures changed { HasCleanDisk (state S.Store self.new) → Changes (stands_in S.Store) (MarkRevoked key.now) self.old self.new result }
+        ensures makes { ChangesClub S.Store (MarkRevoked key.now) self.old self.new result }
     {
         writes::revoke_key(&mut self.connection, key)
     }
 
-    /// Gives a key a new root, in one transaction. The one that it has becomes its older root, good until the moment, in place of
-    /// one from before. A refusal is as that of `apply`; an unknown key is one of storage.
+    /// Gives a key a new root, in one transaction. The one that it has becomes its older root, good
+    /// until the moment, in place of one from before. A refusal is as that of `apply`; an unknown
+    /// key is one of storage.
     pub fn replace_root(&mut self, key: &Name, root: &Root, until: Moment) -> Result<(), StoreFault>
-        ensures honest { HasCleanDisk (state S.Store self.new) → HasCleanDisk (state S.Store self.old) }
-        ensures changed { HasCleanDisk (state S.Store self.new) → Changes (stands_in S.Store) (ReplaceRoot key.now root.now until) self.old self.new result }
+        ensures makes { ChangesClub S.Store
+            (ReplaceRoot key.now root.now until) self.old self.new result }
     {
         let found = match self.key_row(key) {
             Ok(found) => found,
@@ -518,8 +532,7 @@ impl<S: Alter> Store<S> {
 
     /// Marks a slot closed, in one transaction. A refusal is as that of `apply`.
     pub fn close_slot(&mut self, slot: &Slot) -> Result<(), StoreFault>
-        ensures honest { HasCleanDisk (state S.Store self.new) → HasCleanDisk (state S.Store self.old) }
-        ensures changed { HasCleanDisk (state S.Store self.new) → Changes (stands_in S.Store) (MarkClosed slot.now) self.old self.new result }
+        ensures makes { ChangesClub S.Store (MarkClosed slot.now) self.old self.new result }
     {
         writes::close_slot(&mut self.connection, slot)
     }

@@ -236,7 +236,8 @@ fn refuses_other_databases(rt: HostRuntime) -> Result<(), Fail> {
     Ok(())
 }
 
-/// Three bookings of 2026-05-01 in another order than the sheet's, one that is cancelled, and one of the next day.
+/// Three bookings of 2026-05-01 in another order than the sheet's, one that is cancelled, and one
+/// of the next day.
 fn book_days(store: &mut Store<MemStore>) -> Result<(), Fail> {
     let mut tomorrow = slot(b"court-1", 18)?;
     tomorrow.day = Day::from_number(20_575).ok_or("day")?;
@@ -297,7 +298,8 @@ pub(crate) fn view_of(
     Ok(store.view(&name(b"amy-1")?, request, moment)?)
 }
 
-/// Spent, balance, open bookings, persons taken, and whether the slot is closed, as `amy-1` sees them.
+/// Spent, balance, open bookings, persons taken, and whether the slot is closed, as `amy-1` sees
+/// them.
 pub(crate) fn figures(
     store: &mut Store<MemStore>,
     request: &Request,

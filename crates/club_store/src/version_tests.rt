@@ -13,16 +13,53 @@ use std::test::Fail;
 /// The tables of version 1.
 const TABLES: [&str; 8] = [
     "CREATE TABLE desk (version INTEGER NOT NULL) STRICT",
-    "CREATE TABLE members (name TEXT NOT NULL PRIMARY KEY, credited INTEGER NOT NULL CHECK (credited BETWEEN 0 AND 999999999), quota INTEGER NOT NULL CHECK (quota BETWEEN 0 AND 99), used INTEGER NOT NULL CHECK (used BETWEEN 0 AND 999999999)) STRICT",
-    "CREATE TABLE facilities (name TEXT NOT NULL PRIMARY KEY, kind TEXT NOT NULL, places INTEGER NOT NULL CHECK (places BETWEEN 1 AND 50), price INTEGER NOT NULL CHECK (price BETWEEN 0 AND 9999), opens INTEGER NOT NULL CHECK (opens BETWEEN 0 AND 23), shuts INTEGER NOT NULL CHECK (shuts BETWEEN 1 AND 24)) STRICT",
-    "CREATE TABLE keys (name TEXT NOT NULL PRIMARY KEY, member TEXT NOT NULL REFERENCES members (name), root BLOB NOT NULL, revoked INTEGER NOT NULL CHECK (revoked BETWEEN 0 AND 1)) STRICT",
-    "CREATE TABLE slots (facility TEXT NOT NULL REFERENCES facilities (name), day INTEGER NOT NULL CHECK (day BETWEEN 10957 AND 47481), hour INTEGER NOT NULL CHECK (hour BETWEEN 0 AND 23), closed INTEGER NOT NULL CHECK (closed BETWEEN 0 AND 1), taken INTEGER NOT NULL, PRIMARY KEY (facility, day, hour)) STRICT",
-    "CREATE TABLE bookings (pass_key TEXT NOT NULL REFERENCES keys (name), number INTEGER NOT NULL CHECK (number BETWEEN 1 AND 999999999), facility TEXT NOT NULL REFERENCES facilities (name), day INTEGER NOT NULL CHECK (day BETWEEN 10957 AND 47481), hour INTEGER NOT NULL CHECK (hour BETWEEN 0 AND 23), guests INTEGER NOT NULL CHECK (guests BETWEEN 0 AND 49), charge INTEGER NOT NULL CHECK (charge BETWEEN 0 AND 499950), remains INTEGER NOT NULL CHECK (remains BETWEEN 0 AND 49), cancelled INTEGER NOT NULL CHECK (cancelled BETWEEN 0 AND 1), refund INTEGER NOT NULL CHECK (refund BETWEEN 0 AND 499950), PRIMARY KEY (pass_key, number)) STRICT",
+    "CREATE TABLE members (\
+        name TEXT NOT NULL PRIMARY KEY, \
+        credited INTEGER NOT NULL CHECK (credited BETWEEN 0 AND 999999999), \
+        quota INTEGER NOT NULL CHECK (quota BETWEEN 0 AND 99), \
+        used INTEGER NOT NULL CHECK (used BETWEEN 0 AND 999999999)\
+    ) STRICT",
+    "CREATE TABLE facilities (\
+        name TEXT NOT NULL PRIMARY KEY, \
+        kind TEXT NOT NULL, \
+        places INTEGER NOT NULL CHECK (places BETWEEN 1 AND 50), \
+        price INTEGER NOT NULL CHECK (price BETWEEN 0 AND 9999), \
+        opens INTEGER NOT NULL CHECK (opens BETWEEN 0 AND 23), \
+        shuts INTEGER NOT NULL CHECK (shuts BETWEEN 1 AND 24)\
+    ) STRICT",
+    "CREATE TABLE keys (\
+        name TEXT NOT NULL PRIMARY KEY, \
+        member TEXT NOT NULL REFERENCES members (name), \
+        root BLOB NOT NULL, \
+        revoked INTEGER NOT NULL CHECK (revoked BETWEEN 0 AND 1)\
+    ) STRICT",
+    "CREATE TABLE slots (\
+        facility TEXT NOT NULL REFERENCES facilities (name), \
+        day INTEGER NOT NULL CHECK (day BETWEEN 10957 AND 47481), \
+        hour INTEGER NOT NULL CHECK (hour BETWEEN 0 AND 23), \
+        closed INTEGER NOT NULL CHECK (closed BETWEEN 0 AND 1), \
+        taken INTEGER NOT NULL, \
+        PRIMARY KEY (facility, day, hour)\
+    ) STRICT",
+    "CREATE TABLE bookings (\
+        pass_key TEXT NOT NULL REFERENCES keys (name), \
+        number INTEGER NOT NULL CHECK (number BETWEEN 1 AND 999999999), \
+        facility TEXT NOT NULL REFERENCES facilities (name), \
+        day INTEGER NOT NULL CHECK (day BETWEEN 10957 AND 47481), \
+        hour INTEGER NOT NULL CHECK (hour BETWEEN 0 AND 23), \
+        guests INTEGER NOT NULL CHECK (guests BETWEEN 0 AND 49), \
+        charge INTEGER NOT NULL CHECK (charge BETWEEN 0 AND 499950), \
+        remains INTEGER NOT NULL CHECK (remains BETWEEN 0 AND 49), \
+        cancelled INTEGER NOT NULL CHECK (cancelled BETWEEN 0 AND 1), \
+        refund INTEGER NOT NULL CHECK (refund BETWEEN 0 AND 499950), \
+        PRIMARY KEY (pass_key, number)\
+    ) STRICT",
     "CREATE INDEX keys_by_member ON keys (member)",
     "INSERT INTO desk (version) VALUES (1)",
 ];
 
-/// Booking 7 was charged 600 for three persons; booking 8 was charged 601 and is cancelled with a refund of 300.
+/// Booking 7 was charged 600 for three persons; booking 8 was charged 601 and is cancelled with a
+/// refund of 300.
 const ROWS: [&str; 8] = [
     "INSERT INTO members VALUES ('amy', 10000, 5, 901)",
     "INSERT INTO facilities VALUES ('court-1', 'court', 4, 200, 8, 22)",

@@ -1,13 +1,13 @@
-//! A club whose members book a slot after the other, in turn.
+//! A club whose members book in turn, two after another in the same slot.
 
+use anyhow::{Result, anyhow};
 use club_core::{
     Booking, BookingNumber, Change, Facility, FacilityColumns, Guests, Key, Member, Request, Root,
-    StoreFault, slot_from_columns,
+    View, slot_from_columns,
 };
 use club_store::Store;
 use pass_caveats::{Moment, Name, Slot};
 use sqlite::Alter;
-use std::ops::Range;
 
 /// How many members there are, each with one key.
 const KEYS: u32 = 1_000;
@@ -21,60 +21,72 @@ const FIRST_HOUR: u32 = 8;
 
 const HOURS_A_DAY: u32 = 14;
 
-/// Makes the court, the members and their keys in empty tables.
-pub(crate) fn fill<S: Alter>(store: &mut Store<S>) -> Result<(), StoreFault> {
-    let court = court().ok_or(StoreFault::Storage)?;
+const PLACES: u8 = 4;
+
+/// How many come with each booking.
+const PERSONS: u8 = 2;
+
+const BOOKINGS_A_SLOT: u32 = 2;
+
+/// How many others are booked between a booking and its slot. So a member has two bookings to come.
+const BOOKED_AHEAD: u32 = 2_500;
+
+/// What a booking costs: a point for each person.
+const CHARGE: u32 = 2;
+
+/// Makes the court, the members, their keys and so many bookings, where there is no court yet.
+pub(crate) fn fill<S: Alter>(store: &mut Store<S>, rows: u32) -> Result<()> {
+    let court = court().ok_or_else(|| anyhow!("a court"))?;
+    if store.facility(&court.name)?.is_some() {
+        return Ok(());
+    }
     store.insert_facility(&court)?;
     for index in 0..KEYS {
-        let member = member(index).ok_or(StoreFault::Storage)?;
+        let member = member(index).ok_or_else(|| anyhow!("a member"))?;
         store.insert_member(&member)?;
-        let key = key(index).ok_or(StoreFault::Storage)?;
+        let key = key(index).ok_or_else(|| anyhow!("a key"))?;
         store.insert_key(&key)?;
     }
-    Ok(())
-}
-
-/// Makes these bookings.
-pub(crate) fn book<S: Alter>(store: &mut Store<S>, numbers: Range<u32>) -> Result<(), StoreFault> {
-    for number in numbers {
-        let booking = booking(number).ok_or(StoreFault::Storage)?;
-        store.apply(&Change::InsertBooking(booking))?;
+    for index in 0..rows {
+        let booking = booking(index).ok_or_else(|| anyhow!("a booking"))?;
+        book(store, &booking)?;
     }
     Ok(())
 }
 
-/// Makes these bookings, and reads before each what the desk looks at.
-pub(crate) fn ask_and_book<S: Alter>(
+/// Reads what the key of a booking sees when it asks for that at a moment.
+pub(crate) fn view<S: Alter>(
     store: &mut Store<S>,
-    numbers: Range<u32>,
-) -> Result<(), StoreFault> {
-    for number in numbers {
-        let booking = booking(number).ok_or(StoreFault::Storage)?;
-        view(store, &booking)?;
-        store.apply(&Change::InsertBooking(booking))?;
-    }
-    Ok(())
-}
-
-// Reads what the key sees of the request for a booking, on the first day.
-fn view<S: Alter>(store: &mut Store<S>, booking: &Booking) -> Result<(), StoreFault> {
+    booking: &Booking,
+    moment: Moment,
+) -> Result<View> {
     let request = Request::Book {
         slot: booking.slot,
         number: booking.number,
         guests: booking.guests,
     };
-    let moment = Moment::read(b"2000-01-01T00:00").ok_or(StoreFault::Storage)?;
-    match store.view(&booking.key, &request, moment)? {
-        Some(_) => Ok(()),
-        None => Err(StoreFault::Storage),
-    }
+    let view = store.view(&booking.key, &request, moment)?;
+    view.ok_or_else(|| anyhow!("the key"))
+}
+
+pub(crate) fn book<S: Alter>(store: &mut Store<S>, booking: &Booking) -> Result<()> {
+    Ok(store.apply(&Change::InsertBooking(*booking))?)
+}
+
+/// Whether the key of the booking of this index sees what the bookings before it come to.
+pub(crate) fn is_view(view: &View, index: u32) -> bool {
+    let earlier = u64::from(index / KEYS);
+    view.spent == earlier * u64::from(CHARGE)
+        && view.open_count == earlier.min(u64::from(BOOKED_AHEAD / KEYS))
+        && view.taken == u64::from(taken(index))
+        && view.booking.is_none()
 }
 
 fn court() -> Option<Facility> {
     Facility::from_columns(&FacilityColumns {
         name: COURT,
         kind: b"court",
-        places: 4,
+        places: i64::from(PLACES),
         price: 1,
         opens: 8,
         shuts: 22,
@@ -110,22 +122,38 @@ fn name(letter: u8, number: u32) -> Option<Name> {
     ])
 }
 
-// The booking of the slot of this index, counted from 0. The keys take turns, and each counts its own bookings.
-fn booking(index: u32) -> Option<Booking> {
+/// The booking of this index, counted from 0. The keys take turns, and each counts its own bookings.
+pub(crate) fn booking(index: u32) -> Option<Booking> {
     Some(Booking {
         key: name(b'k', index % KEYS)?,
         number: BookingNumber::new(index / KEYS + 1)?,
         slot: slot(index)?,
-        guests: Guests::new(1)?,
-        charge: 2,
-        left: 2,
+        guests: Guests::new(PERSONS - 1)?,
+        charge: CHARGE,
+        left: (PLACES - PERSONS).saturating_sub(taken(index)),
         cancelled: false,
         refund: 0,
     })
 }
 
+/// When the booking of this index is made: a minute before a slot begins.
+pub(crate) fn moment(index: u32) -> Option<Moment> {
+    let next = slot(index.saturating_sub(BOOKED_AHEAD))?;
+    Moment::from_number(next.start().saturating_sub(1))
+}
+
+// The persons who are in its slot already.
+fn taken(index: u32) -> u8 {
+    if index % BOOKINGS_A_SLOT == 0 {
+        0
+    } else {
+        PERSONS
+    }
+}
+
 fn slot(index: u32) -> Option<Slot> {
-    let day = FIRST_DAY + index / HOURS_A_DAY;
-    let hour = FIRST_HOUR + index % HOURS_A_DAY;
+    let slot = index / BOOKINGS_A_SLOT;
+    let day = FIRST_DAY + slot / HOURS_A_DAY;
+    let hour = FIRST_HOUR + slot % HOURS_A_DAY;
     slot_from_columns(COURT, i64::from(day), i64::from(hour))
 }

@@ -1,74 +1,76 @@
-//! Prints how many bookings a second the tables take, in memory and in files: `store_bench FILE BOOKINGS`. The files are `FILE`
-//! with the number of rows behind it, and must not be there yet. The last column has bookings before each of which the view of
-//! its key is read, as the desk does.
+//! Prints how long a view and a booking take over the tables: `store_bench PLACE COUNT [ROWS ..]`.
+//! The view is what the desk looks at before it books. COUNT are made over each number of ROWS, and
+//! the last column is how often the first line's time both take.
+//!
+//! PLACE is `memory`, or a path, which gets the number of rows behind it. A file that isn't there
+//! yet is made with so many bookings, and one that is there is taken for what a run with COUNT 0
+//! made.
 #![tactic(auto)]
 
 mod club;
+mod times;
 
-use anyhow::{Result, anyhow};
-use club_core::StoreFault;
+use anyhow::Result;
 use club_store::Store;
-use sqlite::{Alter, Unknown};
+use sqlite::Unknown;
+use std::alloc::Global;
 use std::env;
-use std::rt::Clock;
-use std::time::{Duration, Instant};
+use times::{Times, measure};
 
 /// How many bookings are in the table before the time is taken.
 const ROWS: [u32; 3] = [100, 10_000, 100_000];
 
+const MEMORY: &str = "memory";
+
 fn main(rt: HostRuntime) -> Result<()> {
     let mut words = env::args(&rt)?.skip(1);
-    let (Some(path), Some(count)) = (words.next(), words.next()) else {
-        return Ok(println!(rt; "usage: store_bench FILE BOOKINGS")?);
+    let (Some(place), Some(count)) = (words.next(), words.next()) else {
+        return Ok(println!(rt; "usage: store_bench memory|FILE COUNT [ROWS ..]")?);
     };
-    let count = count.as_str().parse::<u16>()?;
+    let count = count.as_str().parse::<u32>()?;
+    let mut sizes = Vec::new(rt.alloc());
+    for word in words {
+        sizes.push(word.as_str().parse::<u32>()?)?;
+    }
+    let sizes = if sizes.is_empty() {
+        ROWS.as_slice()
+    } else {
+        sizes.as_slice()
+    };
+    compare(&rt, place.as_str(), count, sizes)
+}
+
+// Prints a line for each size, and the last size beside the first.
+fn compare(rt: &HostRuntime, place: &str, count: u32, sizes: &[u32]) -> Result<()> {
+    println!(rt; "microseconds, in {place}")?;
     println!(rt;
-        "{:>6} {:>8} {:>18} {:>18}",
-        "rows", "lie in", "written a second", "asked and written"
+        "{:>8} {:>8} {:>11} {:>11} {:>11} {:>11}",
+        "rows", "", "view", "booking", "both", "ratio"
     )?;
-    for rows in ROWS {
-        in_memory(&rt, rows, count)?;
-        in_file(&rt, path.as_str(), rows, count)?;
+    let mut first = None;
+    for &rows in sizes {
+        let times = if place == MEMORY {
+            in_memory(rt, rows, count)?
+        } else {
+            in_file(rt, place, rows, count)?
+        };
+        let summary = times.summary()?;
+        summary.print(rt, rows, *first.get_or_insert(summary))?;
     }
     Ok(())
 }
 
-fn in_memory(rt: &HostRuntime, rows: u32, count: u16) -> Result<()> {
-    let mut store = Store::open_in_memory(rt.alloc()).map_err(failed)?;
-    measure(rt, "memory", &mut store, rows, count)
+fn in_memory(rt: &HostRuntime, rows: u32, count: u32) -> Result<Times> {
+    let mut store = Store::open_in_memory(rt.alloc())?;
+    club::fill(&mut store, rows)?;
+    measure(rt, &mut store, rows, count)
 }
 
-fn in_file(rt: &HostRuntime, path: &str, rows: u32, count: u16) -> Result<()> {
+fn in_file(rt: &HostRuntime, path: &str, rows: u32, count: u32) -> Result<Times> {
     let path = format!(in rt.alloc(); "{path}{rows}")?;
-    let mut store = Store::open_file(rt, path.as_str(), Unknown).map_err(failed)?;
-    measure(rt, "a file", &mut store, rows, count)
-}
-
-// Makes a club with so many bookings, and prints how many more it takes in a second.
-fn measure<S: Alter>(
-    rt: &(impl Clock + Print),
-    place: &str,
-    store: &mut Store<S>,
-    rows: u32,
-    count: u16,
-) -> Result<()> {
-    club::fill(store).map_err(failed)?;
-    club::book(store, 0..rows).map_err(failed)?;
-    let middle = rows.saturating_add(u32::from(count));
-    let start = Instant::now(rt)?;
-    club::book(store, rows..middle).map_err(failed)?;
-    let written = rate(count, start.elapsed(rt)?);
-    let start = Instant::now(rt)?;
-    club::ask_and_book(store, middle..middle.saturating_add(u32::from(count))).map_err(failed)?;
-    let asked = rate(count, start.elapsed(rt)?);
-    Ok(println!(rt; "{rows:>6} {place:>8} {written:>18} {asked:>18}")?)
-}
-
-// How many a second so many in a time are.
-fn rate(count: u16, time: Duration) -> u128 {
-    u128::from(count) * 1_000_000 / time.as_micros().max(1)
-}
-
-fn failed(fault: StoreFault) -> anyhow::Error {
-    anyhow!("{fault:?}")
+    let mut store = Store::open_file(rt, path.as_str(), Unknown)?;
+    club::fill(&mut store, rows)?;
+    let times = measure(rt, &mut store, rows, count)?;
+    store.into_connection().close()?;
+    Ok(times)
 }

@@ -2,8 +2,9 @@ use Rattle.std.proofs.Common.{[], ◌∷◌, inl, inr, refl, sym, ap, ◌∙◌}
 use Rattle.sqlite.specs.Effect.{Database}
 use Rattle.sqlite.specs.Held.{state}
 use Rattle.club_core.specs.Club.{empty_club}
-use Rattle.club_store.specs.Tables.{HoldsClub}
+use Rattle.club_tables.specs.Tables.{HoldsClub}
 use Rattle.club_store.proofs.CrashLemmas.{one_stands, the_one}
+use Rattle.club_store.proofs.ReadingLemmas.{opens_nothing}
 use Rattle.club_store.proofs.store.Store.adopt.Goals as goal
 
 pub returns-in-Ok-clause-again : goal.returns-in-Ok-clause-again
@@ -20,3 +21,6 @@ returns-in-Ok-clause-empty g c clean empty =
 
 pub returns-in-Ok-clause-accepted : goal.returns-in-Ok-clause-accepted
 returns-in-Ok-clause-accepted g c clean is_open = c.in-Ok.ensures.accepted clean is_open (c.is_autocommit.ensures.settled c.if-not-is_autocommit.false)
+
+pub returns-then-not-is_autocommit-clause-survives : goal.returns-then-not-is_autocommit-clause-survives
+returns-then-not-is_autocommit-clause-survives g c = opens_nothing g.S.Store c.args.connection

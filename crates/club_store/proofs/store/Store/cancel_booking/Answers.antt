@@ -1,25 +1,39 @@
-use Rattle.std.proofs.Common.{◌≡◌, Some, [], ◌∷◌, sym, subst₂, ◌∙◌}
-use Rattle.std.specs.Prelude.{MatchResult}
-use Rattle.sqlite.specs.State.{HasCleanDisk}
-use Rattle.sqlite.specs.Held.{state}
+use Rattle.std.proofs.Common.{rules, ◌≡◌, Some, IsTrue, sym, subst, subst₂, ◌∙◌}
+use Rattle.std.specs.Prelude.{Option, IfSome}
+use Rattle.club_rows.specs.declared.booking.Booking.{Booking}
 use Rattle.club_core.specs.declared.change.Change.TheVariants.{MarkCancelled}
-use Rattle.club_core.specs.After.{after}
-use Rattle.club_core.specs.Store.{Fits}
 use Rattle.club_core.specs.Sums.{booking_under}
-use Rattle.club_store.specs.Told.{stands_in}
-use Rattle.club_store.proofs.CancelStored.{to_cancel}
+use Rattle.club_tables.specs.Told.{ChangesClubWhere, HasNoneToCancel, IsToCancel}
+use Rattle.club_store.proofs.ReadingLemmas.{change_after}
+use Rattle.club_store.proofs.store.Store.cancel_booking.Goals.{in_default-via-in-Some+else-not-booking, in_default-via-in_default}
 use Rattle.club_store.proofs.store.Store.cancel_booking.Goals as goal
 
-pub returns-in-Some-clause-changed : goal.returns-in-Some-clause-changed
-returns-in-Some-clause-changed g c clean club others stands fits =
+pub returns-in-Some : goal.returns-in-Some
+returns-in-Some g c =
     let key = c.args.key.now in
     let number = c.args.number in
     let refund = c.args.refund in
-    let now = c.give_back.new.self in
-    let earlier : HasCleanDisk (state g.S.Store c.booking_under.new.self) = c.give_back.ensures.honest clean in
-    let stood = c.in-Ok.ensures.kept earlier club others stands in
-    let told : booking_under key number club.bookings ≡ Some c.in-Some.booking = sym (c.in-Ok.ensures.told earlier club others stands) ∙ c.in-Some.is in
-    let it = to_cancel club key number c.in-Some.booking told c.if-not-booking.true in
-    let fitting = subst₂ (λ k n. Fits (MarkCancelled k n refund) club) (sym it.0) (sym it.1) fits in
-    subst₂ (λ k n. MatchResult c.give_back.result (λ _. stands_in g.S.Store now (after (MarkCancelled k n refund) club) []) (λ _. stands_in g.S.Store now club (after (MarkCancelled k n refund) club ∷ others))) it.0 it.1
-    (c.give_back.ensures.changed clean club others it.2 stood fitting)
+    let booking = c.in-Some.booking in
+    let mid = c.booking_under.new.self in
+    let new = c.give_back.new.self in
+    let named : (booking.key ≡ key) × (booking.number ≡ number) =
+    subst (λ (o : Option Booking). IfSome o (λ (b : Booking). (b.key ≡ key) × (b.number ≡ number))) c.in-Some.is c.in-Ok.ensures.named in
+    let given : ChangesClubWhere g.S.Store (IsToCancel booking) (MarkCancelled key number refund) mid new c.give_back.result =
+    subst₂ (λ k n. ChangesClubWhere g.S.Store (IsToCancel booking) (MarkCancelled k n refund) mid new c.give_back.result) named.0 named.1 c.give_back.ensures.makes in
+    record {
+      makes = change_after g.S.Store c.args.self.now mid new _ c.give_back.result _ (λ _. Unit {0}) (IsToCancel booking) (MarkCancelled key number refund) c.in-Ok.ensures.reads given (λ club before told.
+          (subst₂ (λ k n. booking_under k n club.bookings ≡ Some booking) (sym named.0) (sym named.1) (sym told ∙ c.in-Some.is), c.if-not-booking.true));
+    }
+
+pub returns-in_default : goal.returns-in_default
+returns-in_default g c =
+    let key = c.args.key.now in
+    let number = c.args.number in
+    let IsDone : Booking → Type 0 = λ b. IsTrue b.cancelled in
+    record {
+      makes = change_after g.S.Store c.args.self.now c.booking_under.new.self c.mark_cancelled.new.self _ c.mark_cancelled.result _ (λ _. Unit {0}) (HasNoneToCancel key number) (MarkCancelled key number c.args.refund) c.in-Ok.ensures.reads c.mark_cancelled.ensures.makes
+          (λ club before told. elim c.in_default.branch [
+            | in_default-via-in-Some+else-not-booking w ↦ subst (λ (o : Option Booking). IfSome o IsDone) told (subst (λ (o : Option Booking). IfSome o IsDone) (sym w.in-Some.is) w.if-not-booking.false)
+            | in_default-via-in_default w ↦ search rules
+          ]);
+    }

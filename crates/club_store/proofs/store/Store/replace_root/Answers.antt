@@ -1,15 +1,20 @@
-use Rattle.std.proofs.Common.{sym, ap, ◌∙◌}
-use Rattle.sqlite.specs.State.{HasCleanDisk}
-use Rattle.sqlite.specs.Held.{state}
+use Rattle.std.proofs.Common.{◌≡◌, Option, Result, Ok, option_map, sym, ap, ◌∙◌}
 use Rattle.club_rows.specs.declared.key.Key.{Key}
+use Rattle.club_core.specs.declared.change.Change.TheVariants.{ReplaceRoot}
+use Rattle.club_core.specs.declared.store.StoreFault.{StoreFault}
 use Rattle.club_core.specs.Club.{key_named}
-use Rattle.club_store.specs.Told.{stands_in}
+use Rattle.club_tables.specs.Stored.{fresh}
+use Rattle.club_tables.specs.Told.{HasRoot, ReadsClub}
+use Rattle.club_store.proofs.ReadingLemmas.{change_after}
 use Rattle.club_store.proofs.ViewLemmas.{of_fresh}
 use Rattle.club_store.proofs.store.Store.replace_root.Goals as goal
 
-pub returns-in-Some-clause-changed : goal.returns-in-Some-clause-changed
-returns-in-Some-clause-changed g c clean club others stands fits =
-    let earlier : HasCleanDisk (state g.S.Store c.key_row.new.self) = rw c.self.view_is at (c.replace_root.ensures.honest clean) in
-    let stood : stands_in g.S.Store c.self.inside.connection club others = rw c.self.view_is (c.key_row.ensures.kept earlier club others stands) in
-    let of = of_fresh (key_named c.args.key.now club) c.in-Some.row (sym c.in-Some.is ∙ c.in-Ok.ensures.told earlier club others stands) in
-    c.replace_root.ensures.changed clean club others (of.0, of.1, ap (λ (k : Key). k.root) (sym of.2)) stood fits
+pub returns-in-Some : goal.returns-in-Some
+returns-in-Some g c =
+    let found : Result (Option Key) StoreFault = Ok c.in-Ok.found in
+    let reads : ReadsClub g.S.Store c.args.self.now c.self.inside.connection found (λ club row. row ≡ option_map fresh (key_named c.args.key.now club)) = rw c.self.view_is c.in-Ok.ensures.reads in
+    record {
+      makes = change_after g.S.Store c.args.self.now c.self.inside.connection c.replace_root.new.conn found c.replace_root.result _ (λ _. Unit {0}) (HasRoot c.args.key.now c.in-Some.row.root) (ReplaceRoot c.args.key.now c.args.root.now c.args.until) reads c.replace_root.ensures.makes (λ club before told.
+          let of = of_fresh (key_named c.args.key.now club) c.in-Some.row (sym c.in-Some.is ∙ told) in
+          (of.0, of.1, ap (λ (k : Key). k.root) (sym of.2)));
+    }

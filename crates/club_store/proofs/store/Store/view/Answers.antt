@@ -1,24 +1,33 @@
-use Rattle.std.proofs.Common.{◌≡◌, Some, arith, sym, ◌∙◌}
-use Rattle.sqlite.specs.State.{HasCleanDisk}
-use Rattle.sqlite.specs.Held.{state}
-use Rattle.club_core.specs.Club.{key_named, member_named}
-use Rattle.club_store.proofs.StandLemmas.{survives_none}
+use Rattle.std.proofs.Common.{rules, ◌≡◌, Some, Result, Ok, sym, ◌∙◌}
+use Rattle.club_core.specs.declared.store.StoreFault.{StoreFault}
+use Rattle.club_core.specs.declared.view.View.{View}
+use Rattle.club_core.specs.Club.{Club, key_named, member_named}
+use Rattle.club_core.specs.Basis.{view_in}
+use Rattle.club_tables.specs.declared.row.MemberRow.{MemberRow}
+use Rattle.club_tables.specs.Told.{ReadsClub}
+use Rattle.club_store.proofs.ReadingLemmas.{read_then}
 use Rattle.club_store.proofs.ViewLemmas.{seen_is, of_row}
 use Rattle.club_store.proofs.store.Store.view.Goals as goal
 
-pub returns-clause-told : goal.returns-clause-told
-returns-clause-told g c clean club others stands =
-    let later : HasCleanDisk (state g.S.Store c.member_row.new.self) = omega (arith, c.seen.ensures.survives.clean) in
-    let sooner : HasCleanDisk (state g.S.Store c.key.new.self) = omega (arith, c.member_row.ensures.survives.clean) in
-    let stood = c.key.ensures.kept sooner club others stands in
-    let still = c.member_row.ensures.kept later club others stood in
-    let named : key_named c.args.key.now club ≡ Some c.in-Some.key = sym (c.in_ok-key.ensures.told sooner club others stands) ∙ c.in-Some.is in
-    let row = of_row club (member_named c.in-Some.key.member club) c.in-Some-2.member (sym c.in-Some-2.is ∙ c.in_ok-member.ensures.told later club others stood) in
-    let view = c.in_ok-view.ensures.told clean club others still row.1 in
-    let is = seen_is c.own_bookings_suffice.ensures club c.args.key.now c.in-Some.key c.in-Some-2.member.member c.args.request.now c.args.moment named row.0 in
-    cc
+pub returns-clause-reads : goal.returns-clause-reads
+returns-clause-reads g c =
+    let name = c.args.key.now in
+    let key = c.in-Some.key in
+    let view = c.in_ok-view.view in
+    let IsSeen : Club → View → Type 0 = λ club seen. key_named name club ≡ Some key → Some seen ≡ view_in club name c.args.request.now c.args.moment in
+    let found : Result View StoreFault = Ok view in
+    let rest : ReadsClub g.S.Store c.key.new.self c.seen.new.self found IsSeen =
+    read_then g.S.Store c.key.new.self c.member_row.new.self c.seen.new.self _ _ found _ _ IsSeen c.in_ok-member.ensures.reads c.in_ok-view.ensures.reads (λ club member told named.
+    let row = of_row club (member_named key.member club) c.in-Some-2.member (sym c.in-Some-2.is ∙ member) in
+    let shown = told row.1 in
+    let is = seen_is c.own_bookings_suffice.ensures club name key c.in-Some-2.member.member c.args.request.now c.args.moment named row.0 in
+    cc) in
+    read_then g.S.Store c.args.self.now c.key.new.self c.seen.new.self _ found _ _ IsSeen _ c.in_ok-key.ensures.reads rest (λ club is told. told (sym is ∙ c.in-Some.is))
 
-pub returns-clause-survives : goal.returns-clause-survives
-returns-clause-survives g c =
-    survives_none (state g.S.Store c.args.self.now) (state g.S.Store c.member_row.new.self) (state g.S.Store c.seen.new.self)
-    (survives_none _ (state g.S.Store c.key.new.self) _ c.key.ensures.survives c.member_row.ensures.survives) c.seen.ensures.survives
+pub returns-in_err-view-clause-reads : goal.returns-in_err-view-clause-reads
+returns-in_err-view-clause-reads g c =
+    let IsFound : Club → MemberRow → Type 0 = λ _ _. Unit {0} in
+    let found : Result MemberRow StoreFault = Ok c.in-Some-2.member in
+    let first : ReadsClub g.S.Store c.args.self.now c.member_row.new.self found IsFound =
+    read_then g.S.Store c.args.self.now c.key.new.self c.member_row.new.self _ _ found _ _ IsFound c.in_ok-key.ensures.reads c.in_ok-member.ensures.reads (λ club one two. tt) in
+    read_then g.S.Store c.args.self.now c.member_row.new.self c.seen.new.self found _ _ IsFound _ _ first c.in_err-view.ensures.reads (λ club both view. search rules)

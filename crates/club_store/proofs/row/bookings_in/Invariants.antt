@@ -1,6 +1,0 @@
-use Rattle.std.proofs.Common.{◌≡◌, ◌≤◌, length, take, vec_len, vec_capacity}
-use Rattle.club_store.specs.Sheet.{AreBookings}
-use Rattle.club_store.proofs.row.bookings_in.Given as goal
-
-abbrev pub invariant-loop-row : goal.invariant-loop-row
-invariant-loop-row l = AreBookings (take l.row-index l.rows) l.bookings.items × (vec_len l.bookings ≡ l.row-index) × (length l.rows ≤ vec_capacity l.bookings)

@@ -1,0 +1,91 @@
+-- What the texts of the tables mean, each over the tables before it.
+use Rattle.std.proofs.Common.{◌≡◌, ℕ, List, Ok, Some, slice_get, false, refl}
+use Rattle.std.specs.Prelude.{is_ok}
+use Rattle.sqlite_tied.specs.Compute.{everything}
+use Rattle.sqlite.specs.Schema.{Schema}
+use Rattle.sqlite.specs.Table.{Table}
+use Rattle.sqlite.specs.Compile.{table_defined_by}
+use Rattle.sqlite_resolve.specs.Compile.{index_defined_by}
+use Rattle.sqlite_schema.specs.declared.schema.Index.{Index}
+use Rattle.sqlite.specs.Change.{created}
+use Rattle.sqlite.specs.Command.TheVariants.{CreateTable, CreateIndex}
+use Rattle.sqlite.specs.Does.{lacks_sequence}
+use Rattle.sqlite.specs.Listing.{understood}
+use Rattle.sqlite.proofs.Callers.{IsPlain, command_of, statement_of}
+use Rattle.club_tables.specs.Schema.{no_schema, desk_table, members_table, facilities_table, keys_table, slots_table, bookings_table, six_tables, old_roots_table, keys_by_member, first_schema, club_schema}
+use Rattle.club_tables.specs.declared.texts.TheConstants.{MAKE_DESK, MAKE_MEMBERS, MAKE_FACILITIES, MAKE_KEYS, MAKE_SLOTS, MAKE_BOOKINGS, MAKE_KEYS_BY_MEMBER, MAKE_OLD_ROOTS}
+
+-- the text makes the table
+pub record Makes (schema : Schema) (text : List ℕ) (table : Table) : Type 0 where
+  pub plain : IsPlain (understood schema text)
+  pub is : command_of (understood schema text) ≡ CreateTable
+  pub whole : statement_of text (understood schema text) ≡ text
+  pub defined : table_defined_by text ≡ Ok table
+  pub uncounted : lacks_sequence (created schema table) ≡ false
+
+pub makes_desk : Makes no_schema MAKE_DESK.now desk_table
+unfolding understood everything
+makes_desk = record { plain = (refl, refl); is = refl; whole = refl; defined = refl; uncounted = refl }
+
+abbrev pub schema_1 : Schema
+schema_1 = created no_schema desk_table
+
+pub makes_members : Makes schema_1 MAKE_MEMBERS.now members_table
+unfolding understood everything
+makes_members = record { plain = (refl, refl); is = refl; whole = refl; defined = refl; uncounted = refl }
+
+abbrev pub schema_2 : Schema
+schema_2 = created schema_1 members_table
+
+pub makes_facilities : Makes schema_2 MAKE_FACILITIES.now facilities_table
+unfolding understood everything
+makes_facilities = record { plain = (refl, refl); is = refl; whole = refl; defined = refl; uncounted = refl }
+
+abbrev pub schema_3 : Schema
+schema_3 = created schema_2 facilities_table
+
+pub makes_keys : Makes schema_3 MAKE_KEYS.now keys_table
+unfolding understood everything
+makes_keys = record { plain = (refl, refl); is = refl; whole = refl; defined = refl; uncounted = refl }
+
+abbrev pub schema_4 : Schema
+schema_4 = created schema_3 keys_table
+
+pub makes_slots : Makes schema_4 MAKE_SLOTS.now slots_table
+unfolding understood everything
+makes_slots = record { plain = (refl, refl); is = refl; whole = refl; defined = refl; uncounted = refl }
+
+abbrev pub schema_5 : Schema
+schema_5 = created schema_4 slots_table
+
+pub makes_bookings : Makes schema_5 MAKE_BOOKINGS.now bookings_table
+unfolding understood everything
+makes_bookings = record { plain = (refl, refl); is = refl; whole = refl; defined = refl; uncounted = refl }
+
+abbrev pub keys_made : Table
+keys_made = record keys_table { tree = 5 }
+
+-- the text makes the index
+pub record MakesIndex (schema : Schema) (text : List ℕ) (at : ℕ) (table : Table) (index : Index) : Type 0 where
+  pub plain : IsPlain (understood schema text)
+  pub listed : slice_get schema.tables at ≡ Some table
+  pub is : command_of (understood schema text) ≡ CreateIndex at
+  pub whole : statement_of text (understood schema text) ≡ text
+  pub defined : index_defined_by table text ≡ Ok index
+
+pub makes_keys_by_member : MakesIndex six_tables MAKE_KEYS_BY_MEMBER.now 3 keys_made keys_by_member
+unfolding understood everything
+makes_keys_by_member = record { plain = (refl, refl); listed = refl; is = refl; whole = refl; defined = refl }
+
+pub makes_old_roots : Makes first_schema MAKE_OLD_ROOTS.now old_roots_table
+unfolding understood everything
+makes_old_roots = record { plain = (refl, refl); is = refl; whole = refl; defined = refl; uncounted = refl }
+
+-- over the club's tables the first text is refused, and over those of version 1
+pub makes_again : is_ok (understood club_schema MAKE_DESK.now) ≡ false
+unfolding understood everything
+makes_again = refl
+
+pub makes_over_first : is_ok (understood first_schema MAKE_DESK.now) ≡ false
+unfolding understood everything
+makes_over_first = refl

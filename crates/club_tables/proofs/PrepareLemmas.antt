@@ -1,0 +1,38 @@
+-- Statements that are prepared in turn.
+use Rattle.std.proofs.Common.{◌≡◌, ℕ, ◌+◌, ◌<◌, ◌≤◌, List, [], ◌∷◌, ◌++◌, length, map, take, get_or, All, Bor, refl, sym, subst, ◌∙◌, add-one, arith}
+use Rattle.std.proofs.Math.Seq.{take-suc, take_all}
+use Rattle.std.proofs.lemmas.List.{map-append}
+use Rattle.std.proofs.lemmas.List.Elements.{All-push}
+use Rattle.sqlite.specs.Effect.{Database}
+use Rattle.sqlite.specs.State.{State, HasCleanDisk}
+use Rattle.club_tables.specs.Transaction.{IsKept, IsAtRest}
+use Rattle.club_tables.specs.Opening.{IsUnderstood}
+
+abbrev pub text_at : Bor (List ℕ) → List ℕ
+text_at text = text.now
+
+pub kept_at_rest : (s : State) → IsAtRest s → IsKept s s
+kept_at_rest s rest clean is_open = (is_open, rest is_open, refl)
+
+pub kept_then : (a b c : State) → (HasCleanDisk c → HasCleanDisk b) → IsKept a b → IsKept b c → IsKept a c
+kept_then a b c earlier first next clean is_open =
+    let after = next clean is_open in
+    let before = first (earlier clean) after.0 in
+    (before.0, after.1 ∙ before.2, after.2 ∙ before.2)
+
+module _ (db : Database) (texts : List (Bor (List ℕ))) where
+  pub none_understood : All (IsUnderstood db.schema) (map text_at (take 0 texts))
+  none_understood k d low = absurd (omega arith)
+
+  -- one text more
+  pub one_understood : (at : ℕ) (d : Bor (List ℕ)) (was : Database) → was ≡ db → at < length texts → All (IsUnderstood db.schema) (map text_at (take at texts)) → IsUnderstood was.schema (get_or texts at d).now
+      → All (IsUnderstood db.schema) (map text_at (take (at + 1) texts))
+  one_understood at d was same within before one =
+      let more : map text_at (take (at + 1) texts) ≡ map text_at (take at texts) ++ (get_or texts at d).now ∷ [] =
+      rw (add-one, take-suc texts at d within, map-append text_at (take at texts) (get_or texts at d ∷ [])) in
+      let here : IsUnderstood db.schema (get_or texts at d).now = subst (λ (s : Database). IsUnderstood s.schema (get_or texts at d).now) same one in
+      subst (All (IsUnderstood db.schema)) (sym more) (All-push (IsUnderstood db.schema) (map text_at (take at texts)) (get_or texts at d).now before here)
+
+  pub all_understood : (at : ℕ) (now : Database) → now ≡ db → length texts ≤ at → All (IsUnderstood db.schema) (map text_at (take at texts)) → All (IsUnderstood now.schema) (map text_at texts)
+  all_understood at now same past before =
+      subst (λ (s : Database). All (IsUnderstood s.schema) (map text_at texts)) (sym same) (subst (λ ts. All (IsUnderstood db.schema) (map text_at ts)) (take_all at texts past) before)

@@ -1,0 +1,156 @@
+-- What a SELECT over one table gives, where the table holds a list.
+use Rattle.std.proofs.Common.{◌≡◌, ◌≤◌, ℕ, suc, ◌-◌, ◌^◌, ◌<◌, ℤ, pos, Bool, true, false, cond, ◌==◌, None, Some, List, [], ◌∷◌, ◌++◌, length, map, slice_get, refl, sym, ap, subst, ◌∙◌, arith}
+use Rattle.std.specs.Prelude.{filter, find, flat_map, AllPairs, IsPermutation, slice_index_or, nat_le, unwrap_or}
+use Rattle.std.specs.List.{AllByRecursion, AllZip, list_all}
+use Rattle.std.specs.Str.{bytes_eq}
+use Rattle.std.specs.Ordering.{is_eq, int_cmp}
+use Rattle.std.proofs.lemmas.Bool.Decides.{nat_tests}
+use Rattle.std.proofs.lemmas.Map.Text.{is_eq-slice_cmp}
+use Rattle.std.proofs.lemmas.List.Sorted.{IsPermutation-map, length_permutation}
+use Rattle.sqlite_value.specs.declared.value.Value.TheVariants.{Int, Text, Null}
+use Rattle.sqlite_value.specs.declared.keys.Collation.TheVariants.{Binary}
+use Rattle.sqlite_value.proofs.OrderLemmas.{value_cmp-Int, value_cmp-Text}
+use Rattle.sqlite_sql.specs.declared.ops.BinaryOp.TheVariants.{Compare}
+use Rattle.sqlite_sql.specs.declared.ops.CompareOp.TheVariants.{Eq}
+use Rattle.sqlite_sql.specs.Ops.{binary, is_true, from_truth}
+use Rattle.sqlite.specs.Order.{Row}
+use Rattle.sqlite.specs.Tree.{Trees}
+use Rattle.sqlite.specs.Term.{Term, Env, holds, eval_all}
+use Rattle.sqlite.specs.Query.{inner, end, IsAnswer, Output, output}
+use Rattle.sqlite.specs.Program.{overlay}
+use Rattle.sqlite.specs.Command.TheVariants.{Select}
+use Rattle.sqlite.specs.Effect.{Database, Reads, Answers}
+use Rattle.sqlite.proofs.Callers.{one_permutation}
+use Rattle.club_tables.specs.Tables.{IsRowOf, Holds}
+use Rattle.club_tables.specs.Statements.{select}
+
+-- ---- tests
+
+pub told : (b : Bool) → is_true (from_truth (Some b)) ≡ b
+told true = refl
+told false = refl
+
+-- `=` of two texts
+pub text_equal : (a b : List ℕ) → is_true (binary (Compare Eq Binary) (Text a) (Text b)) ≡ bytes_eq a b
+unfolding binary
+text_equal a b = told _ ∙ ap is_eq (value_cmp-Text a b) ∙ is_eq-slice_cmp a b
+
+int_eq : (m n : ℕ) → is_eq (int_cmp (pos m) (pos n)) ≡ (m == n)
+int_eq m n = grind (arith, nat_tests)
+
+-- `=` of two whole numbers
+pub whole_equal : (m n : ℕ) → is_true (binary (Compare Eq Binary) (Int (pos m)) (Int (pos n))) ≡ (m == n)
+unfolding binary
+whole_equal m n = told _ ∙ ap is_eq (value_cmp-Int (pos m) (pos n)) ∙ int_eq m n
+
+-- ---- lists
+
+pub pick_by_if : {A B : Type 0} (test : A → Bool) (f : A → B) (xs : List A) → flat_map (λ x. cond (test x) (f x ∷ []) []) xs ≡ map f (filter test xs)
+pick_by_if test f [] = refl
+pick_by_if {A} {B} test f (x ∷ xs) =
+    let more = pick_by_if test f xs in
+    elim (test x) as (λ b. cond b (f x ∷ []) [] ++ flat_map (λ y. cond (test y) (f y ∷ []) []) xs ≡ map f (cond b (x ∷ filter test xs) (filter test xs)))
+    [ true ↦ ap (λ ys. f x ∷ ys) more | false ↦ more ]
+
+pub find_first : {X : Type 0} (p : X → Bool) (xs : List X) → find p xs ≡ slice_get (filter p xs) 0
+find_first p [] = refl
+find_first {X} p (x ∷ xs) =
+    elim (p x) as (λ b. cond b (Some x) (find p xs) ≡ slice_get (cond b (x ∷ filter p xs) (filter p xs)) 0) [ true ↦ refl | false ↦ find_first p xs ]
+
+-- ---- a query of one table
+
+pub no_overlay : (db : Trees) (tree : ℕ) → overlay db [] tree ≡ db tree
+no_overlay db tree = elim (nat_le (2 ^ 31) tree) as (λ b. unwrap_or (cond b (slice_get (let none : List (List Row) = [] in none) (tree - 2 ^ 31)) None) (db tree) ≡ db tree) [ true ↦ refl | false ↦ refl ]
+
+module _ (params : Row) (tests : List Term) (project : List Term) where
+  abbrev pub test : Row → Bool
+  test row = list_all (holds (params ∷ row ∷ [])) tests
+
+  abbrev pub shows : Row → Row
+  shows row = eval_all project (params ∷ row ∷ [])
+
+  merge_maps : (tree : ℕ) (rows : List Row) → map (λ (o : Output). o.1) (map (output (select (inner tree end) tests project)) (map (λ (row : Row). let e : Env = params ∷ row ∷ [] in e) rows)) ≡ map shows rows
+  merge_maps tree [] = refl
+  merge_maps tree (r ∷ rows) = ap (λ ys. shows r ∷ ys) (merge_maps tree rows)
+
+  -- the answer has what is shown of each row that passes, in some order
+  pub answered : (tree : ℕ) (db : Database) (rows : List Row) → Answers db (record { lets = []; body = select (inner tree end) tests project }) params rows → IsPermutation (map shows (filter test (db.trees tree))) rows
+  answered tree db rows h =
+      let query = select (inner tree end) tests project in
+      let a : IsAnswer query (overlay db.trees []) params rows = h.answer Null in
+      let each : Row → Env = λ row. params ∷ row ∷ [] in
+      let staged : a.staged ≡ map each (filter test (db.trees tree)) =
+      a.grouped ∙ ap (flat_map (λ row. cond (test row) (each row ∷ []) [])) (no_overlay db.trees tree) ∙ pick_by_if test each (db.trees tree) in
+      let kept : a.kept ≡ map (output query) (map each (filter test (db.trees tree))) = a.distinct ∙ ap (map (output query)) staged in
+      let same = IsPermutation-map (λ (o : Output). o.1) a.kept a.ordered a.same in
+      let all : map (λ (o : Output). o.1) a.kept ≡ map shows (filter test (db.trees tree)) = ap (map (λ (o : Output). o.1)) kept ∙ merge_maps tree (filter test (db.trees tree)) in
+      subst (λ ys. IsPermutation ys rows) all (subst (IsPermutation (map (λ (o : Output). o.1) a.kept)) (sym a.shown) same)
+
+module _ {X B : Type 0} (values : X → Row) (p : X → Bool) (show : X → B) where
+  -- what is shown of the rows that pass is what is shown of the elements that do
+  pub picked : (passes : Row → Bool) (shown : Row → B) → ((id : ℤ) (x : X) → passes (Int id ∷ values x) ≡ p x) → ((id : ℤ) (x : X) → shown (Int id ∷ values x) ≡ show x)
+      → (rows : List Row) (xs : List X) → AllZip (λ row x. IsRowOf (values x) row) rows xs → map shown (filter passes rows) ≡ map show (filter p xs)
+  picked passes shown tested says [] [] h = refl
+  picked passes shown tested says [] (x ∷ xs) h = absurd h
+  picked passes shown tested says (r ∷ rows) [] h = absurd h
+  picked passes shown tested says (r ∷ rows) (x ∷ xs) h =
+      let more = picked passes shown tested says rows xs h.1 in
+      let first : passes r ≡ p x = ap passes h.0.1 ∙ tested h.0.0 x in
+      let one : shown r ≡ show x = ap shown h.0.1 ∙ says h.0.0 x in
+      let rest = filter passes rows in
+      subst (λ b. map shown (cond b (r ∷ rest) rest) ≡ map show (filter p (x ∷ xs))) (sym first)
+      (elim (p x) as (λ b. map shown (cond b (r ∷ rest) rest) ≡ map show (cond b (x ∷ filter p xs) (filter p xs)))
+      [ true ↦ cc | false ↦ more ])
+
+module _ {X : Type 0} (values : X → Row) (params : Row) (tests : List Term) (project : List Term) (p : X → Bool) (show : X → Row)
+    (tested : (id : ℤ) (x : X) → list_all (holds (params ∷ (Int id ∷ values x) ∷ [])) tests ≡ p x)
+    (shown : (id : ℤ) (x : X) → eval_all project (params ∷ (Int id ∷ values x) ∷ []) ≡ show x) where
+  -- the answer has what is shown of each element that passes, in some order
+  pub selected : (tree : ℕ) (names : List (List ℕ)) (db : Database) (xs : List X) (rows : List Row) → Holds values (db.trees tree) xs
+      → Reads (Select (record { lets = []; body = select (inner tree end) tests project }) names) db params rows → IsPermutation (map show (filter p xs)) rows
+  selected tree names db xs rows held h =
+      subst (λ ys. IsPermutation ys rows) (picked values p show (test params tests project) (shows params tests project) tested shown (db.trees tree) xs held.same)
+      (answered params tests project tree db rows h)
+
+-- ---- one element at most
+
+-- R holds of each element and each later one
+abbrev pub Apart : {X : Type 0} → (X → X → Type 0) → List X → Type 0
+Apart R [] = Unit {0}
+Apart R (x ∷ xs) = AllByRecursion (R x) xs × Apart R xs
+
+from_indexes : {X : Type 0} (P : X → Type 0) (xs : List X) → ((j : ℕ) (d : X) → j < length xs → P (slice_index_or xs j d)) → AllByRecursion P xs
+from_indexes P [] h = tt
+from_indexes P (x ∷ xs) h = (h 0 x (omega arith), from_indexes P xs (λ j d low. h (suc j) d (omega arith)))
+
+pub apart_from_pairs : {X : Type 0} (R : X → X → Type 0) (xs : List X) → AllPairs R xs → Apart R xs
+apart_from_pairs R [] h = tt
+apart_from_pairs R (x ∷ xs) h =
+    (from_indexes (R x) xs (λ j d low. h 0 (suc j) d (omega arith) (omega arith)), apart_from_pairs R xs (λ i j d less low. h (suc i) (suc j) d (omega arith) (omega arith)))
+
+pub none_pass : {X : Type 0} (p : X → Bool) (xs : List X) → AllByRecursion (λ x. p x ≡ false) xs → filter p xs ≡ []
+none_pass p [] h = refl
+none_pass p (x ∷ xs) h = rw (h.0, none_pass p xs h.1)
+
+pub fail_beside : {X : Type 0} (R : X → X → Type 0) (p : X → Bool) → ((x y : X) → p x ≡ true → p y ≡ true → ¬ R x y) → (x : X) → p x ≡ true → (xs : List X) → AllByRecursion (R x) xs → AllByRecursion (λ y. p y ≡ false) xs
+fail_beside R p same x passes [] h = tt
+fail_beside R p same x passes (y ∷ xs) h = (go (p y) refl, fail_beside R p same x passes xs h.1)
+  where
+    go : (b : Bool) → p y ≡ b → b ≡ false
+    go false is = refl
+    go true is = absurd (same x y passes is h.0)
+
+-- a test that no two of the elements pass is passed by one at most
+pub one_passes : {X : Type 0} (R : X → X → Type 0) (p : X → Bool) (xs : List X) → ((x y : X) → p x ≡ true → p y ≡ true → ¬ R x y) → Apart R xs → length (filter p xs) ≤ 1
+one_passes R p [] same apart = omega arith
+one_passes {X} R p (x ∷ xs) same apart = go (p x) refl (one_passes R p xs same apart.1)
+  where
+    go : (b : Bool) → p x ≡ b → length (filter p xs) ≤ 1 → length (cond b (x ∷ filter p xs) (filter p xs)) ≤ 1
+    go false is more = more
+    go true is more = let none : filter p xs ≡ [] = none_pass p xs (fail_beside R p same x is xs apart.0) in rw none (omega arith)
+
+pub short_permutation : {X : Type 0} (xs ys : List X) → length xs ≤ 1 → IsPermutation xs ys → ys ≡ xs
+short_permutation [] [] low h = refl
+short_permutation [] (y ∷ ys) low h = absurd (omega (arith, length_permutation [] (y ∷ ys) h))
+short_permutation (x ∷ []) ys low h = one_permutation x ys h
+short_permutation (x ∷ x' ∷ xs) ys low h = absurd (omega arith)

@@ -1,0 +1,67 @@
+-- What a crash may leave of statements in a transaction, and of readings before them.
+use Rattle.std.proofs.Common.{◌≡◌, List, inl, inr, refl, sym, ◌∙◌, arith}
+use Rattle.sqlite.specs.Store.{Ghosts}
+use Rattle.sqlite.specs.Tree.{Trees}
+use Rattle.sqlite.specs.Effect.{Database}
+use Rattle.sqlite.specs.State.{State, HasCleanDisk, Survives}
+use Rattle.sqlite.specs.Held.{Held, state}
+use Rattle.sqlite.proofs.StateLemmas.{survives_then}
+use Rattle.club_tables.specs.Transaction.{Words, Ran, IsUntouched, MayCommit}
+
+survives_as : (old new : State) (P Q : Trees → Type 0) → Survives old new P → (HasCleanDisk new → (trees : Trees) → P trees → Q trees) → Survives old new Q
+survives_as old new P Q s leaves = record {
+  clean = s.clean;
+  shield = s.shield;
+  counts = s.counts;
+  limit = s.limit;
+  closes = s.closes;
+  crash = λ clean trees may. elim (s.crash clean trees may) [ inl was ↦ inl was | inr left ↦ inr (leaves clean trees left) ];
+}
+
+pub kept_at_rest : (s : State) → IsUntouched s s
+kept_at_rest s rest clean is_open = (is_open, rest is_open, refl)
+
+pub untouched_then : (a b c : State) → (HasCleanDisk c → HasCleanDisk b) → IsUntouched a b → IsUntouched b c → IsUntouched a c
+untouched_then a b c earlier first next rest clean is_open =
+    let kept = first rest (earlier clean) in
+    let after = next (λ opened. let k = kept opened in k.1 ∙ sym k.2) clean is_open in
+    let before = kept after.0 in
+    (before.0, after.1 ∙ before.2, after.2 ∙ before.2)
+
+module _ {S : Type 0} (g : Ghosts S) where
+  -- these statements
+  pub may_commit : (all : List Words) (AreWords : List Words → Type 0) → AreWords all → (old new : Held S) → Survives (state g old) (state g new) (λ trees. (db : Database) × Ran g all old db × (trees ≡ db.trees))
+      → Survives (state g old) (state g new) (MayCommit g AreWords old)
+  may_commit all AreWords are old new survives =
+      survives_as (state g old) (state g new) (λ trees. (db : Database) × Ran g all old db × (trees ≡ db.trees)) (MayCommit g AreWords old) survives
+      (λ clean trees left. let earlier : HasCleanDisk (state g old) = omega (arith, survives.clean) in record {
+        from = old;
+        same = kept_at_rest (state g old);
+        clean = earlier;
+        words = all;
+        are = are;
+        db = left.0;
+        ran = left.1;
+        left = left.2;
+      })
+
+  -- none
+  pub commits_nothing : (AreWords : List Words → Type 0) (old new : Held S) → Survives (state g old) (state g new) (λ _. ⊥) → Survives (state g old) (state g new) (MayCommit g AreWords old)
+  commits_nothing AreWords old new survives = survives_as (state g old) (state g new) (λ _. ⊥) (MayCommit g AreWords old) survives (λ _ _ none. absurd none)
+
+  -- some, after a reading
+  pub commits_after : (AreWords : List Words → Type 0) (a b c : Held S) → IsUntouched (state g a) (state g b) → Survives (state g a) (state g b) (λ _. ⊥) → Survives (state g b) (state g c) (MayCommit g AreWords b)
+      → Survives (state g a) (state g c) (MayCommit g AreWords a)
+  commits_after AreWords a b c untouched first next =
+      let P = MayCommit g AreWords a in
+      survives_then (state g a) (state g b) (state g c) (λ _. ⊥) (MayCommit g AreWords b) P (λ _ db none. absurd none)
+      (λ clean db may. let earlier : HasCleanDisk (state g b) = omega (arith, next.clean) in let p : P db = record {
+        from = may.from;
+        same = untouched_then (state g a) (state g b) (state g may.from) (λ _. earlier) untouched may.same;
+        clean = may.clean;
+        words = may.words;
+        are = may.are;
+        db = may.db;
+        ran = may.ran;
+        left = may.left;
+      } in p) first next

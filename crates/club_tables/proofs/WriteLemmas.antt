@@ -1,0 +1,77 @@
+-- What a statement that writes leaves standing, made or refused.
+use Rattle.std.proofs.Common.{◌≡◌, ◌<◌, length, List, [], ◌∷◌, IsTrue, Result, Ok, Err, OnOk, OnErr, inl, inr, sym, subst, ◌∙◌, arith}
+use Rattle.std.specs.Prelude.{MatchResult}
+use Rattle.sqlite.specs.Store.{Ghosts}
+use Rattle.sqlite.specs.Effect.{Database}
+use Rattle.sqlite.specs.State.{HasCleanDisk, Survives}
+use Rattle.sqlite.specs.Held.{Held, state}
+use Rattle.club_core.specs.declared.change.Change.{Change}
+use Rattle.club_core.specs.After.{after}
+use Rattle.club_core.specs.Store.{Fits}
+use Rattle.club_core.specs.Club.{Club}
+use Rattle.club_tables.specs.Tables.{Tables, Stands}
+use Rattle.club_tables.specs.Told.{ChangesClubWhere}
+use Rattle.club_tables.specs.Transaction.{Words, Ran, IsKept, Commits}
+use Rattle.club_tables.specs.Words.{AreWordsOf}
+use Rattle.club_tables.proofs.OpenLemmas.{IsSettled, settles}
+use Rattle.club_tables.proofs.StandLemmas.{survives_same}
+use Rattle.club_tables.proofs.SurviveLemmas.{kept_at_rest, may_commit, commits_nothing}
+
+module _ {S : Type 0} (g : Ghosts S) (all : List Words) (some : 0 < length all) (old new : Held S) (survives : Survives (state g old) (state g new) (λ trees. (db : Database) × Ran g all old db × (trees ≡ db.trees)))
+    (clean : HasCleanDisk (state g new)) (club next : Club) (others : List Club) (stands : Stands (state g old) club others)
+    (makes : (db : Database) → Tables (state g old).now club → Ran g all old db → Tables db next) where
+  earlier : HasCleanDisk (state g old)
+  earlier = omega (arith, survives.clean)
+
+  made : (db : Database) → Ran g all old db → Tables db next
+  made db ran = makes db (subst (λ (d : Database). Tables d club) (sym (stands.settled earlier (ran.opened some))) (stands.held earlier (ran.opened some))) ran
+
+  pub written : IsSettled (state g new) → IsTrue (state g new).is_open → Ran g all old (state g new).committed → (state g new).now ≡ (state g new).committed → Stands (state g new) next []
+  written settled is_open ran same = settles (state g new) next [] (λ _ _. made (state g new).committed ran) (λ _. is_open) same settled
+
+  pub unwritten : IsKept (state g old) (state g new) → Stands (state g new) club (next ∷ others)
+  unwritten kept = record {
+    held = λ clean is_open. let k = kept clean is_open in subst (λ db. Tables db club) (sym k.2) (stands.held earlier k.0);
+    settled = λ clean is_open. let k = kept clean is_open in k.1 ∙ sym k.2;
+    left = λ clean trees may. elim (survives.crash clean trees may) [
+      | inl was ↦ elim (stands.left earlier trees was) [ inl here ↦ inl here | inr there ↦ inr (inr there) ]
+      | inr new ↦ inr (inl (new.0, sym new.2, inl (made new.0 new.1)))
+    ];
+  }
+
+  pub wrote : {E : Type 0} (r : Result (Unit {0}) E) → OnOk r (IsTrue (state g new).is_open × Ran g all old (state g new).committed × ((state g new).now ≡ (state g new).committed)) → OnErr r (IsKept (state g old) (state g new))
+      → IsSettled (state g new) → MatchResult r (λ _. Stands (state g new) next []) (λ _. Stands (state g new) club (next ∷ others))
+  wrote (Ok done) ok err settled = written settled ok.0 ok.1 ok.2
+  wrote (Err e) ok err settled = unwritten err
+
+on_err : {E : Type 0} {P Q : Type 0} (r : Result (Unit {0}) E) → OnErr r P → (P → Q) → OnErr r Q
+on_err (Ok done) p f = tt
+on_err (Err e) p f = f p
+
+pub commits_of : {S E : Type 0} (g : Ghosts S) (all : List Words) (old new : Held S) (r : Result (Unit {0}) E)
+    → (HasCleanDisk (state g new) → OnOk r (IsTrue (state g new).is_open × Ran g all old (state g new).committed × ((state g new).now ≡ (state g new).committed))) → OnErr r (IsKept (state g old) (state g new))
+    → Survives (state g old) (state g new) (λ trees. (db : Database) × Ran g all old db × (trees ≡ db.trees)) → Commits g all old new r
+commits_of g all old new r ran kept survives = record { ran = ran; kept = kept; survives = survives }
+
+-- statements that were run in a transaction of their own make the change
+pub makes : {S E : Type 0} (g : Ghosts S) (all : List Words) → 0 < length all → (old new : Held S) (r : Result (Unit {0}) E) → Commits g all old new r → IsSettled (state g new) → (IsIt : Club → Type 0) (change : Change) → AreWordsOf change all
+    → ((db : Database) (club : Club) → IsIt club → Tables (state g old).now club → Fits change club → Ran g all old db → Tables db (after change club)) → ChangesClubWhere g IsIt change old new r
+makes g all some old new r commits settled IsIt change are made = record {
+  honest = λ clean. let earlier : HasCleanDisk (state g old) = omega (arith, commits.survives.clean) in earlier;
+  changed = λ clean club others it stands fits. wrote g all some old new commits.survives clean club (after change club) others stands (λ db tables ran. made db club it tables fits ran) r (commits.ran clean) commits.kept settled;
+  untouched = on_err r commits.kept (λ kept rest. kept);
+  survives = may_commit g all (AreWordsOf change) are old new commits.survives;
+}
+
+-- a refusal before the first statement
+pub unmade : {S E : Type 0} (g : Ghosts S) (held : Held S) (IsIt : Club → Type 0) (change : Change) (e : E) → ChangesClubWhere g IsIt change held held (Err e)
+unmade g held IsIt change e = record {
+  honest = λ clean. clean;
+  changed = λ clean club others it stands fits. record {
+    held = stands.held;
+    settled = stands.settled;
+    left = λ clean trees may. elim (stands.left clean trees may) [ inl here ↦ inl here | inr there ↦ inr (inr there) ];
+  };
+  untouched = kept_at_rest (state g held);
+  survives = commits_nothing g (AreWordsOf change) held held (survives_same (state g held));
+}

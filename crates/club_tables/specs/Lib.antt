@@ -1,0 +1,11 @@
+pub mod Schema
+pub mod Columns
+pub mod Stored
+pub mod Tables
+pub mod Words
+pub mod Told
+pub mod Transaction
+pub mod Statements
+pub mod Opening
+pub mod Sheet
+pub mod Use

@@ -1,0 +1,92 @@
+-- What an opening finds, what it takes for the tables of a club, and what it makes (ours).
+use Rattle.std.specs.Prelude.{◌≡◌, ◌⊎◌, ℕ, List, [], ◌∷◌, map, All, Ok, IsTrue, is_ok, false, codes}
+use Rattle.sqlite.specs.Order.{Row}
+use Rattle.sqlite.specs.Schema.{Schema}
+use Rattle.sqlite.specs.Change.{is_used}
+use Rattle.sqlite.specs.Store.{Ghosts}
+use Rattle.sqlite.specs.Effect.{Database, Reads}
+use Rattle.sqlite.specs.Listing.{understood}
+use Rattle.sqlite.specs.State.{State}
+use Rattle.sqlite.specs.Held.{Held, state}
+use Rattle.sqlite_resolve.specs.declared.compiled.Compiled.{Compiled}
+use Rattle.club_tables.specs.declared.texts.TheConstants.{VERSION, KEY, MEMBER, FACILITY, SLOT, BOOKING, OLDER_ROOT, MAKE_DESK, MAKE_MEMBERS, MAKE_FACILITIES, MAKE_KEYS, MAKE_SLOTS, MAKE_BOOKINGS, MAKE_KEYS_BY_MEMBER, MAKE_OLD_ROOTS, ADD_VERSION, SET_VERSION}
+use Rattle.club_tables.specs.Columns.{HasValues, version_values}
+use Rattle.club_tables.specs.Transaction.{Words, Ran}
+
+-- the statements that give a row by its key, over tables of version 1 and of version 2
+abbrev pub first_texts : List (List ℕ)
+first_texts = KEY.now ∷ MEMBER.now ∷ FACILITY.now ∷ SLOT.now ∷ BOOKING.now ∷ []
+
+abbrev pub texts_by_key : List (List ℕ)
+texts_by_key = KEY.now ∷ MEMBER.now ∷ FACILITY.now ∷ SLOT.now ∷ BOOKING.now ∷ OLDER_ROOT.now ∷ []
+
+-- the batch that makes the tables, and the one that makes version 2 of version 1
+abbrev pub table_texts : List (List ℕ)
+table_texts =
+    MAKE_DESK.now ∷ MAKE_MEMBERS.now ∷ MAKE_FACILITIES.now ∷ MAKE_KEYS.now ∷ MAKE_SLOTS.now ∷ MAKE_BOOKINGS.now
+    ∷ MAKE_KEYS_BY_MEMBER.now ∷ MAKE_OLD_ROOTS.now ∷ ADD_VERSION.now ∷ []
+
+abbrev pub migration_texts : List (List ℕ)
+migration_texts = MAKE_OLD_ROOTS.now ∷ SET_VERSION.now ∷ []
+
+-- texts without parameters
+abbrev pub batch : List (List ℕ) → List Words
+batch texts = map (λ (text : List ℕ). (text, [])) texts
+
+abbrev pub table_batch : List Words
+table_batch = batch table_texts
+
+abbrev pub migration : List Words
+migration = batch migration_texts
+
+-- what an opening may run: the batch that makes the tables, or the migration
+abbrev pub IsOpeningBatch : List Words → Type 0
+IsOpeningBatch words = (words ≡ table_batch) ⊎ (words ≡ migration)
+
+-- the text is a statement over these tables
+abbrev pub IsUnderstood : Schema → List ℕ → Type 0
+IsUnderstood schema sql = IsTrue (is_ok (understood schema sql))
+
+-- nothing is called `desk`, in capitals or not, and so no version can be asked for
+pub record HasNoDesk (schema : Schema) : Type 0 where
+  pub unused : is_used schema (codes "desk") ≡ false
+  pub unasked : ¬ IsUnderstood schema VERSION.now
+
+-- the text is a query that has these rows for its answer
+abbrev pub IsAnswered : List ℕ → Database → List Row → Type 0
+IsAnswered sql db rows = (c : Compiled) × (understood db.schema sql ≡ Ok c) × Reads c.command db [] rows
+
+-- tables of a version: that is told in one row, and each row can be asked for by its key
+pub record IsReady (version : ℕ) (texts : List (List ℕ)) (db : Database) : Type 0 where
+  pub told : (row : Row) × IsAnswered VERSION.now db (row ∷ []) × HasValues row (version_values version)
+  pub by_key : All (IsUnderstood db.schema) texts
+
+-- tables of a version were there, and are as they were
+pub record FoundReady (version : ℕ) (texts : List (List ℕ)) (old new : State) : Type 0 where
+  pub ready : IsReady version texts new.committed
+  pub same : new.committed ≡ old.committed
+
+-- tables of version 1 were there, and the whole migration was run over them
+pub record Migrated {S : Type 0} (g : Ghosts S) (old new : Held S) : Type 0 where
+  pub from : Held S
+  pub found : FoundReady 1 first_texts (state g old) (state g from)
+  pub same : (state g from).now ≡ (state g old).committed
+  pub ran : Ran g migration from (state g new).committed
+
+-- what was there was understood, and the whole migration was run over it
+abbrev pub HasMigrated : {S : Type 0} → Ghosts S → Held S → Held S → Type 0
+HasMigrated {S} g old new =
+    (from : Held S) × IsTrue (state g old).is_open × (All (IsUnderstood (state g old).committed.schema) first_texts) × ((state g from).committed ≡ (state g old).committed)
+    × ((state g from).now ≡ (state g old).committed) × Ran g migration from (state g new).committed
+
+-- there was no version, and the whole batch was run over what was there
+pub record MadeAll {S : Type 0} (g : Ghosts S) (old new : Held S) : Type 0 where
+  pub from : Held S
+  pub same : (state g from).now ≡ (state g old).committed
+  pub unversioned : HasNoDesk (state g old).committed.schema
+  pub ran : Ran g table_batch from (state g new).committed
+
+-- what an opening takes: tables of version 2 that were there, those of version 1 once they are migrated, or those that the whole batch made where
+-- there was no version
+abbrev pub IsAccepted : {S : Type 0} → Ghosts S → Held S → Held S → Type 0
+IsAccepted g old new = FoundReady 2 texts_by_key (state g old) (state g new) ⊎ (Migrated g old new ⊎ MadeAll g old new)

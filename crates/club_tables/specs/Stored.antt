@@ -1,0 +1,83 @@
+-- Rows as they are stored, with their totals, and which of them are those of a club (ours).
+use Rattle.std.specs.Prelude.{◌≡◌, ◌≢◌, ◌≤◌, ℕ, false, List, map, find, sum_by, Option, option_map, option_and_then, None, if◌then◌else◌, unwrap_or, AllPairs}
+use Rattle.std.specs.Str.{bytes_eq}
+use Rattle.club_values.specs.declared.slot.Slot.{Slot}
+use Rattle.club_rows.specs.declared.member.Member.{Member}
+use Rattle.club_rows.specs.declared.facility.Facility.{Facility}
+use Rattle.club_rows.specs.declared.key.Key.{Key}
+use Rattle.club_rows.specs.declared.key.OlderRoot.{OlderRoot}
+use Rattle.club_rows.specs.declared.booking.Booking.{Booking}
+use Rattle.club_core.specs.declared.slot_use.SlotUse.{SlotUse}
+use Rattle.club_rows.specs.Booking.{same_slot, persons_of}
+use Rattle.club_core.specs.Club.{Club, bookings_of, key_named}
+use Rattle.club_rows.specs.Rows.{IsMember}
+use Rattle.club_core.specs.Basis.{slot_use}
+use Rattle.club_core.specs.Sums.{cost_of}
+use Rattle.club_tables.specs.declared.row.MemberRow.{MemberRow}
+
+-- a row of `slots`: a slot that was closed or booked, and what is taken of it
+pub record SlotRow : Type 0 where
+  pub slot : Slot
+  pub held : SlotUse
+
+-- a row of `old_roots`: the older root of the key of this name
+pub record OlderRow : Type 0 where
+  pub key : List ℕ
+  pub older : OlderRoot
+
+-- the rows of the tables
+pub record Rows : Type 0 where
+  pub members : List MemberRow
+  pub facilities : List Facility
+  pub keys : List Key
+  pub slots : List SlotRow
+  pub bookings : List Booking
+  pub olders : List OlderRow
+
+-- what the bookings of a member have cost
+abbrev pub used_by : Club → List ℕ → ℕ
+used_by club name = sum_by cost_of (bookings_of name club)
+
+abbrev pub member_row : Club → Member → MemberRow
+member_row club member = record { member = member; used = used_by club member.name }
+
+pub record IsMemberRow (row : MemberRow) : Type 0 where
+  pub member : IsMember row.member
+  pub used : row.used ≤ 999_999_999
+
+abbrev pub unused : SlotUse
+unused = record { taken = 0; closed = false }
+
+abbrev pub row_of : Slot → List SlotRow → Option SlotRow
+row_of slot rows = find (λ (row : SlotRow). same_slot row.slot slot) rows
+
+-- what is taken of a slot by these rows: nothing of one without a row
+abbrev pub use_by : Slot → List SlotRow → SlotUse
+use_by slot rows = unwrap_or (option_map (λ (row : SlotRow). row.held) (row_of slot rows)) unused
+
+-- the older root of the key of this name, where it was rotated
+abbrev pub older_of : List ℕ → Club → Option OlderRoot
+older_of name club = option_and_then (λ (key : Key). key.older) (key_named name club)
+
+-- the older root of a key by these rows: none of one without a row
+abbrev pub older_by : List ℕ → List OlderRow → Option OlderRoot
+older_by name rows = option_map (λ (row : OlderRow). row.older) (find (λ (row : OlderRow). bytes_eq row.key name) rows)
+
+-- a key's row without its older root
+abbrev pub fresh : Key → Key
+fresh key = record key { older = None }
+
+-- the rows are those of the club, and each total is the sum that it stands for; in which order slots and older roots lie isn't told
+pub record IsStoredAs (club : Club) (rows : Rows) : Type 0 where
+  pub members : rows.members ≡ map (member_row club) club.members
+  pub facilities : rows.facilities ≡ club.facilities
+  pub keys : rows.keys ≡ club.keys
+  pub bookings : rows.bookings ≡ club.bookings
+  pub slots : (slot : Slot) → use_by slot rows.slots ≡ slot_use club slot
+  pub olders : (name : List ℕ) → older_by name rows.olders ≡ older_of name club
+  pub rotated : AllPairs (λ (a : OlderRow) (b : OlderRow). a.key ≢ b.key) rows.olders
+  pub once : AllPairs (λ (a : SlotRow) (b : SlotRow). a.slot ≢ b.slot) rows.slots
+
+-- the persons that a booking takes of its slot
+abbrev pub persons_taken : Booking → ℕ
+persons_taken booking = if booking.cancelled then 0 else persons_of booking

@@ -1,0 +1,113 @@
+-- When a database holds a club, and which clubs a store stands for (ours).
+use Rattle.std.specs.Prelude.{◌≡◌, ◌⊎◌, ℕ, ℤ, List, [], ◌∷◌, IsTrue}
+use Rattle.std.specs.List.{AllZip}
+use Rattle.sqlite_value.specs.declared.value.Value.TheVariants.{Int}
+use Rattle.sqlite_value.specs.Order.{Row}
+use Rattle.sqlite_trees.specs.Tree.{Trees, IsTable}
+use Rattle.sqlite.specs.Effect.{Database, IsDatabase}
+use Rattle.sqlite.specs.State.{State, HasCleanDisk}
+use Rattle.club_core.specs.Club.{Club, IsSound, empty_club}
+use Rattle.club_tables.specs.Schema.{no_schema, first_schema, club_schema}
+use Rattle.club_tables.specs.Columns.{version_values, member_values, facility_values, key_values, slot_values, booking_values, older_values}
+use Rattle.club_tables.specs.Stored.{Rows, IsStoredAs}
+
+-- the trees of the tables
+abbrev pub desk_tree : ℕ
+desk_tree = 0
+
+abbrev pub members_tree : ℕ
+members_tree = 1
+
+abbrev pub facilities_tree : ℕ
+facilities_tree = 3
+
+abbrev pub keys_tree : ℕ
+keys_tree = 5
+
+abbrev pub slots_tree : ℕ
+slots_tree = 7
+
+abbrev pub bookings_tree : ℕ
+bookings_tree = 9
+
+abbrev pub olders_tree : ℕ
+olders_tree = 12
+
+-- the row is a rowid and these values
+abbrev pub IsRowOf : Row → Row → Type 0
+IsRowOf values row = (id : ℤ) × (row ≡ Int id ∷ values)
+
+-- the rows are those of the list, in its order, with rowids that rise
+pub record Holds {X : Type 0} (values : X → Row) (rows : List Row) (xs : List X) : Type 0 where
+  pub rising : IsTable rows
+  pub same : AllZip (λ row x. IsRowOf (values x) row) rows xs
+
+-- the tables of version 2 hold these rows and no others
+pub record Lies (db : Database) (rows : Rows) : Type 0 where
+  pub schema : db.schema ≡ club_schema
+  pub version : Holds version_values (db.trees desk_tree) (2 ∷ [])
+  pub members : Holds member_values (db.trees members_tree) rows.members
+  pub facilities : Holds facility_values (db.trees facilities_tree) rows.facilities
+  pub keys : Holds key_values (db.trees keys_tree) rows.keys
+  pub slots : Holds slot_values (db.trees slots_tree) rows.slots
+  pub bookings : Holds booking_values (db.trees bookings_tree) rows.bookings
+  pub olders : Holds older_values (db.trees olders_tree) rows.olders
+  -- the trees list this schema, and obey it
+  pub database : IsDatabase db
+
+-- the tables hold the rows of the club, which is sound, and no others
+pub record Tables (db : Database) (club : Club) : Type 0 where
+  pub rows : Rows
+  pub lies : Lies db rows
+  pub stored : IsStoredAs club rows
+  pub sound : IsSound club
+
+-- the tables of version 1 hold these rows and no others: they have none for older roots
+pub record FirstLies (db : Database) (rows : Rows) : Type 0 where
+  pub schema : db.schema ≡ first_schema
+  pub version : Holds version_values (db.trees desk_tree) (1 ∷ [])
+  pub members : Holds member_values (db.trees members_tree) rows.members
+  pub facilities : Holds facility_values (db.trees facilities_tree) rows.facilities
+  pub keys : Holds key_values (db.trees keys_tree) rows.keys
+  pub slots : Holds slot_values (db.trees slots_tree) rows.slots
+  pub bookings : Holds booking_values (db.trees bookings_tree) rows.bookings
+  pub olders : rows.olders ≡ []
+  pub database : IsDatabase db
+
+pub record FirstTables (db : Database) (club : Club) : Type 0 where
+  pub rows : Rows
+  pub lies : FirstLies db rows
+  pub stored : IsStoredAs club rows
+  pub sound : IsSound club
+
+-- a database without tables stands for the empty club
+abbrev pub IsBlank : Database → Club → Type 0
+IsBlank db club = (db.schema ≡ no_schema) × (club ≡ empty_club) × IsDatabase db
+
+-- tables of version 2, tables of version 1, or none
+abbrev pub HoldsClub : Database → Club → Type 0
+HoldsClub db club = Tables db club ⊎ (FirstTables db club ⊎ IsBlank db club)
+
+-- a crash left a database of one of these clubs
+abbrev pub IsLeftOf : Trees → List Club → Type 0
+IsLeftOf trees [] = ⊥
+IsLeftOf trees (club ∷ others) = ((db : Database) × (db.trees ≡ trees) × HoldsClub db club) ⊎ IsLeftOf trees others
+
+-- A connection at rest: what was committed holds the club, nothing else is on its way, and a crash leaves the club or one of the others.
+-- It says nothing of a connection that is shut, or whose disk has lied.
+pub record Rests (IsHeld : Database → Club → Type 0) (state : State) (club : Club) (others : List Club) : Type 0 where
+  pub held : HasCleanDisk state → IsTrue state.is_open → IsHeld state.committed club
+  pub settled : HasCleanDisk state → IsTrue state.is_open → state.now ≡ state.committed
+  pub left : HasCleanDisk state → (trees : Trees) → state.may_leave trees → IsLeftOf trees (club ∷ others)
+
+-- the tables stand
+abbrev pub Stands : State → Club → List Club → Type 0
+Stands = Rests Tables
+
+-- the tables of version 1 stand
+abbrev pub FirstStands : State → Club → List Club → Type 0
+FirstStands = Rests FirstTables
+
+-- the tables stand, or are still to be migrated or made
+abbrev pub IsFound : State → Club → List Club → Type 0
+IsFound = Rests HoldsClub

@@ -1,0 +1,18 @@
+//! The tables of a club: their schema, what lies in them, and each statement that reads or writes
+//! them, over a connection of sqlite that is in no transaction between calls.
+#![tactic(auto)]
+
+mod open;
+mod params;
+mod queries;
+pub mod reads;
+mod row;
+mod sum;
+mod texts;
+mod transaction;
+pub mod writes;
+
+pub use open::open_tables;
+pub use params::Rotation;
+pub use row::MemberRow;
+pub use transaction::fault_of;

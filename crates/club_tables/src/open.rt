@@ -1,0 +1,213 @@
+//! The tables of a database: found, migrated where they are of version 1, or made where there are
+//! none.
+
+ghost use Rattle.std.specs.Prelude.{◌≡◌, false, [], ◌∷◌, map, All, IsTrue, OnOk, OnErr};
+ghost use Rattle.sqlite.specs.State.{HasCleanDisk, Survives};
+ghost use Rattle.sqlite.specs.Held.{state};
+ghost use Rattle.club_core.specs.Club.{Club};
+ghost use Rattle.club_core.specs.Store.{KeepsStanding};
+ghost use Rattle.club_tables.specs.Told.{stands_in, first_in, found_in};
+ghost use Rattle.club_tables.specs.Columns.{version_values, HasValues};
+ghost use Rattle.club_tables.specs.Tables.{IsFound, Stands, FirstStands};
+ghost use Rattle.club_tables.specs.Transaction.{IsAtRest, IsKept, MayCommit, Ran};
+ghost use Rattle.club_tables.specs.Opening.{
+  IsAccepted,
+  IsUnderstood,
+  HasMigrated,
+  IsOpeningBatch,
+  table_batch,
+  migration,
+};
+
+use crate::row::integer_at;
+use crate::transaction::{Statement, prepare, run};
+use crate::{queries, texts};
+use club_core::StoreFault;
+use sqlite::{Alter, Connection, Row};
+
+/// The version of the tables that are made here.
+const VERSION: u8 = 2;
+
+/// The version without older roots.
+const FIRST_VERSION: u8 = 1;
+
+/// Makes the tables of an empty club, in one transaction. Where there are other tables of these
+/// names it is refused.
+fn make_tables<S: Alter>(conn: &mut Connection<S>) -> Result<(), StoreFault>
+    requires { conn.old.in_transaction ≡ false }
+    ensures idle { conn.new.in_transaction ≡ false }
+    ensures honest { HasCleanDisk (state S.Store conn.new) → HasCleanDisk (state S.Store conn.old) }
+    ensures made { HasCleanDisk (state S.Store conn.new) → OnOk result
+        ((club : Club) (others : _) → IsFound (state S.Store conn.old) club others → Stands
+        (state S.Store conn.new) club others) }
+    ensures ran { HasCleanDisk (state S.Store conn.new) → OnOk result
+        (Ran S.Store table_batch conn.old (state S.Store conn.new).committed) }
+    ensures refused { HasCleanDisk (state S.Store conn.new) → OnErr result
+        (KeepsStanding (found_in S.Store) conn.old conn.new) }
+    ensures untouched { OnErr result (IsKept (state S.Store conn.old) (state S.Store conn.new)) }
+    ensures survives { Survives (state S.Store conn.old) (state S.Store conn.new)
+        (MayCommit S.Store IsOpeningBatch conn.old) }
+{
+    run(
+        conn,
+        &[
+            Statement {
+                text: texts::MAKE_DESK,
+                params: &[],
+            },
+            Statement {
+                text: texts::MAKE_MEMBERS,
+                params: &[],
+            },
+            Statement {
+                text: texts::MAKE_FACILITIES,
+                params: &[],
+            },
+            Statement {
+                text: texts::MAKE_KEYS,
+                params: &[],
+            },
+            Statement {
+                text: texts::MAKE_SLOTS,
+                params: &[],
+            },
+            Statement {
+                text: texts::MAKE_BOOKINGS,
+                params: &[],
+            },
+            Statement {
+                text: texts::MAKE_KEYS_BY_MEMBER,
+                params: &[],
+            },
+            Statement {
+                text: texts::MAKE_OLD_ROOTS,
+                params: &[],
+            },
+            Statement {
+                text: texts::ADD_VERSION,
+                params: &[],
+            },
+        ],
+    )
+}
+
+/// Whether the rows tell this version.
+fn is_version(rows: &[Row], version: u8) -> bool
+    ensures one { rows.now ≡ version_values version ∷ [] → IsTrue result }
+    ensures only { IsTrue result → (row : _) × (rows.now ≡ row ∷ []) × HasValues row
+        (version_values version) }
+{
+    match rows {
+        [row] => integer_at(row, 0) == Some(i64::from(version)),
+        _ => false,
+    }
+}
+
+/// Whether the texts are statements over the tables. Nothing is changed.
+fn prepare_all<S: Alter>(conn: &mut Connection<S>, texts: &[&str]) -> Result<(), StoreFault>
+    requires { conn.old.in_transaction ≡ false }
+    ensures idle { conn.new.in_transaction ≡ false }
+    ensures stands { HasCleanDisk (state S.Store conn.new) → KeepsStanding
+        (stands_in S.Store) conn.old conn.new }
+    ensures found { HasCleanDisk (state S.Store conn.new) → KeepsStanding
+        (found_in S.Store) conn.old conn.new }
+    ensures same { IsAtRest (state S.Store conn.old) → IsKept (state S.Store conn.old)
+        (state S.Store conn.new) }
+    ensures understood { HasCleanDisk (state S.Store conn.new) → OnOk result
+        (IsTrue (state S.Store conn.new).is_open → IsAtRest (state S.Store conn.old) → All
+        (IsUnderstood (state S.Store conn.new).committed.schema) (map (λ text. text.now) texts.now)) }
+    ensures survives { Survives (state S.Store conn.old) (state S.Store conn.new) (λ _. ⊥) }
+{
+    for text in texts {
+        prepare(conn, text)?;
+    }
+    Ok(())
+}
+
+/// Makes tables of version 1 those of version 2, in one transaction: no key has an older root yet.
+fn add_old_roots<S: Alter>(conn: &mut Connection<S>) -> Result<(), StoreFault>
+    requires { conn.old.in_transaction ≡ false }
+    ensures idle { conn.new.in_transaction ≡ false }
+    ensures honest { HasCleanDisk (state S.Store conn.new) → HasCleanDisk (state S.Store conn.old) }
+    ensures migrated { HasCleanDisk (state S.Store conn.new) → OnOk result
+        ((club : Club) (others : _) → FirstStands (state S.Store conn.old) club others → Stands
+        (state S.Store conn.new) club others) }
+    ensures ran { HasCleanDisk (state S.Store conn.new) → OnOk result
+        (Ran S.Store migration conn.old (state S.Store conn.new).committed) }
+    ensures refused { HasCleanDisk (state S.Store conn.new) → OnErr result
+        (KeepsStanding (first_in S.Store) conn.old conn.new) }
+    ensures untouched { OnErr result (IsKept (state S.Store conn.old) (state S.Store conn.new)) }
+    ensures survives { Survives (state S.Store conn.old) (state S.Store conn.new)
+        (MayCommit S.Store IsOpeningBatch conn.old) }
+{
+    run(
+        conn,
+        &[
+            Statement {
+                text: texts::MAKE_OLD_ROOTS,
+                params: &[],
+            },
+            Statement {
+                text: texts::SET_VERSION,
+                params: &[],
+            },
+        ],
+    )
+}
+
+/// Migrates tables of version 1, once each of their rows can be asked for by its key. A refusal
+/// leaves them whole, and a crash leaves them or those of version 2.
+fn migrate<S: Alter>(conn: &mut Connection<S>) -> Result<(), StoreFault>
+    requires { conn.old.in_transaction ≡ false }
+    ensures idle { conn.new.in_transaction ≡ false }
+    ensures honest { HasCleanDisk (state S.Store conn.new) → HasCleanDisk (state S.Store conn.old) }
+    ensures migrated { HasCleanDisk (state S.Store conn.new) → OnOk result
+        (IsAtRest (state S.Store conn.old) → (club : Club) (others : _) → FirstStands
+        (state S.Store conn.old) club others → Stands (state S.Store conn.new) club others) }
+    ensures ran { HasCleanDisk (state S.Store conn.new) → OnOk result
+        (IsAtRest (state S.Store conn.old) → HasMigrated S.Store conn.old conn.new) }
+    ensures refused { HasCleanDisk (state S.Store conn.new) → OnErr result
+        (IsAtRest (state S.Store conn.old) → KeepsStanding (first_in S.Store) conn.old conn.new) }
+    ensures untouched { OnErr result
+        (IsAtRest (state S.Store conn.old) → IsKept (state S.Store conn.old)
+        (state S.Store conn.new)) }
+    ensures survives { Survives (state S.Store conn.old) (state S.Store conn.new)
+        (MayCommit S.Store IsOpeningBatch conn.old) }
+{
+    match prepare_all(conn, &texts::FIRST_ROWS_BY_KEY) {
+        Ok(()) => add_old_roots(conn),
+        Err(fault) => Err(fault),
+    }
+}
+
+/// Finds the tables, migrates those of version 1, or makes them where the version cannot be read.
+pub fn open_tables<S: Alter>(conn: &mut Connection<S>) -> Result<(), StoreFault>
+    requires { conn.old.in_transaction ≡ false }
+    ensures idle { conn.new.in_transaction ≡ false }
+    ensures honest { HasCleanDisk (state S.Store conn.new) → HasCleanDisk (state S.Store conn.old) }
+    ensures opened { HasCleanDisk (state S.Store conn.new) → OnOk result
+        ((club : Club) (others : _) → IsFound (state S.Store conn.old) club others → Stands
+        (state S.Store conn.new) club others) }
+    ensures accepted { HasCleanDisk (state S.Store conn.new) → OnOk result
+        (IsTrue (state S.Store conn.new).is_open → IsAtRest (state S.Store conn.old) →
+        IsAccepted S.Store conn.old conn.new) }
+    ensures refused { HasCleanDisk (state S.Store conn.new) → OnErr result
+        (KeepsStanding (found_in S.Store) conn.old conn.new) }
+    ensures untouched { OnErr result (IsKept (state S.Store conn.old) (state S.Store conn.new)) }
+    ensures survives { Survives (state S.Store conn.old) (state S.Store conn.new)
+        (MayCommit S.Store IsOpeningBatch conn.old) }
+{
+    let found = match queries::version(conn) {
+        Ok(found) => found,
+        Err(StoreFault::Memory) => return Err(StoreFault::Memory),
+        Err(StoreFault::Storage) => return make_tables(conn),
+    };
+    let rows = found.as_slice();
+    if is_version(rows, VERSION) {
+        return prepare_all(conn, &texts::ROWS_BY_KEY);
+    }
+    if is_version(rows, FIRST_VERSION) {
+        return migrate(conn);
+    }
+    Err(StoreFault::Storage)
+}

@@ -1,0 +1,202 @@
+//! The parameters of the statements that write.
+
+ghost use Rattle.std.specs.Prelude.{◌≡◌, [], ◌∷◌, ◌++◌, pos, neg_ℤ};
+ghost use Rattle.sqlite.specs.Values.{bound};
+ghost use Rattle.sqlite_value.specs.declared.value.Value.TheVariants.{
+  Int as IntValue,
+  Text as TextValue,
+  Blob as BlobValue,
+};
+ghost use Rattle.club_rows.specs.Booking.{persons_of};
+ghost use Rattle.club_rows.specs.Columns.{truth};
+ghost use Rattle.club_core.specs.Sums.{cost_of};
+ghost use Rattle.club_tables.specs.Stored.{persons_taken};
+ghost use Rattle.club_tables.specs.Columns.{
+  whole,
+  facility_values,
+  key_values,
+  older_root_values,
+  booking_values,
+  name_values,
+};
+
+use club_core::{Booking, BookingNumber, Facility, Key, Member, OlderRoot, Root};
+use pass_caveats::{Name, Slot};
+use sqlite::types::ValueRef;
+
+/// A truth value as a number.
+fn number_of(value: bool) -> i64
+    ensures { result ≡ pos (truth value) }
+{
+    if value { 1 } else { 0 }
+}
+
+/// The columns of a new member.
+pub(crate) fn of_member(member: &Member) -> [ValueRef<'_>; 3]
+    ensures { bound result ≡ TextValue member.now.name ∷ whole member.now.credited ∷ whole
+        member.now.quota ∷ [] }
+{
+    [
+        ValueRef::Text(member.name.as_bytes()),
+        ValueRef::Int(i64::from(member.credited)),
+        ValueRef::Int(i64::from(member.quota)),
+    ]
+}
+
+/// The columns of a facility.
+pub(crate) fn of_facility(facility: &Facility) -> [ValueRef<'_>; 6]
+    ensures { bound result ≡ facility_values facility.now }
+{
+    [
+        ValueRef::Text(facility.name.as_bytes()),
+        ValueRef::Text(facility.kind.text().as_bytes()),
+        ValueRef::Int(i64::from(facility.places)),
+        ValueRef::Int(i64::from(facility.price)),
+        ValueRef::Int(i64::from(facility.opens)),
+        ValueRef::Int(i64::from(facility.shuts)),
+    ]
+}
+
+/// The columns of a key.
+pub(crate) fn of_key(key: &Key) -> [ValueRef<'_>; 4]
+    ensures { bound result ≡ key_values key.now }
+{
+    [
+        ValueRef::Text(key.name.as_bytes()),
+        ValueRef::Text(key.member.as_bytes()),
+        ValueRef::Blob(key.root.as_bytes()),
+        ValueRef::Int(number_of(key.revoked)),
+    ]
+}
+
+/// A new root for a key, and the root that it has with the moment until which that one is good.
+#[derive(Clone, Copy)]
+pub struct Rotation {
+    pub key: Name,
+    pub root: Root,
+    pub older: OlderRoot,
+}
+
+/// A key, and its older root.
+pub(crate) fn of_older_root(rotation: &Rotation) -> [ValueRef<'_>; 3]
+    ensures { bound result ≡ TextValue rotation.now.key ∷ older_root_values rotation.now.older }
+{
+    [
+        ValueRef::Text(rotation.key.as_bytes()),
+        ValueRef::Blob(rotation.older.root.as_bytes()),
+        ValueRef::Int(i64::from(rotation.older.until.number())),
+    ]
+}
+
+/// A key, and its new root.
+pub(crate) fn of_root(rotation: &Rotation) -> [ValueRef<'_>; 2]
+    ensures { bound result ≡ TextValue rotation.now.key ∷ BlobValue rotation.now.root ∷ [] }
+{
+    [
+        ValueRef::Text(rotation.key.as_bytes()),
+        ValueRef::Blob(rotation.root.as_bytes()),
+    ]
+}
+
+/// The columns of a booking.
+pub(crate) fn of_booking(booking: &Booking) -> [ValueRef<'_>; 10]
+    ensures { bound result ≡ booking_values booking.now }
+{
+    [
+        ValueRef::Text(booking.key.as_bytes()),
+        ValueRef::Int(i64::from(booking.number.get())),
+        ValueRef::Text(booking.slot.facility.as_bytes()),
+        ValueRef::Int(i64::from(booking.slot.day.number())),
+        ValueRef::Int(i64::from(booking.slot.hour.number())),
+        ValueRef::Int(i64::from(booking.guests.get())),
+        ValueRef::Int(i64::from(booking.charge)),
+        ValueRef::Int(i64::from(booking.left)),
+        ValueRef::Int(number_of(booking.cancelled)),
+        ValueRef::Int(i64::from(booking.refund)),
+    ]
+}
+
+/// A member, and points that the member is credited.
+pub(crate) fn of_credit(member: &Name, points: u32) -> [ValueRef<'_>; 2]
+    ensures { bound result ≡ TextValue member.now ∷ whole points ∷ [] }
+{
+    of_points(member, i64::from(points))
+}
+
+/// A member, and points to be added.
+fn of_points(member: &Name, points: i64) -> [ValueRef<'_>; 2]
+    ensures { bound result ≡ TextValue member.now ∷ IntValue points ∷ [] }
+{
+    [ValueRef::Text(member.as_bytes()), ValueRef::Int(points)]
+}
+
+/// A slot.
+pub(crate) fn of_slot(slot: &Slot) -> [ValueRef<'_>; 3]
+    ensures { bound result ≡ name_values slot.now }
+{
+    [
+        ValueRef::Text(slot.facility.as_bytes()),
+        ValueRef::Int(i64::from(slot.day.number())),
+        ValueRef::Int(i64::from(slot.hour.number())),
+    ]
+}
+
+/// A member, and what a booking costs.
+pub(crate) fn of_cost<'a>(member: &'a Name, booking: &Booking) -> [ValueRef<'a>; 2]
+    ensures { bound result ≡ TextValue member.now ∷ IntValue (pos (cost_of booking.now)) ∷ [] }
+{
+    let cost = booking.charge.saturating_sub(booking.refund);
+    of_points(member, i64::from(cost))
+}
+
+/// A member, and a refund, which is taken away from what the member's bookings have cost.
+pub(crate) fn of_return(member: &Name, refund: u32) -> [ValueRef<'_>; 2]
+    ensures { bound result ≡ TextValue member.now ∷ IntValue (neg_ℤ (pos refund)) ∷ [] }
+{
+    of_points(member, -i64::from(refund))
+}
+
+/// A slot, and persons to be added.
+fn of_persons(slot: &Slot, persons: i64) -> [ValueRef<'_>; 4]
+    ensures { bound result ≡ name_values slot.now ++ IntValue persons ∷ [] }
+{
+    [
+        ValueRef::Text(slot.facility.as_bytes()),
+        ValueRef::Int(i64::from(slot.day.number())),
+        ValueRef::Int(i64::from(slot.hour.number())),
+        ValueRef::Int(persons),
+    ]
+}
+
+/// A booking's slot, and the persons that it takes: none where it is cancelled.
+pub(crate) fn of_places(booking: &Booking) -> [ValueRef<'_>; 4]
+    ensures { bound result ≡ name_values booking.now.slot ++ IntValue
+        (pos (persons_taken booking.now)) ∷ [] }
+{
+    let persons = if booking.cancelled {
+        0
+    } else {
+        booking.guests.get() + 1
+    };
+    of_persons(&booking.slot, i64::from(persons))
+}
+
+/// A booking's slot, and its persons, which are taken away.
+pub(crate) fn of_freed(booking: &Booking) -> [ValueRef<'_>; 4]
+    ensures { bound result ≡ name_values booking.now.slot ++ IntValue
+        (neg_ℤ (pos (persons_of booking.now))) ∷ [] }
+{
+    let persons = i64::from(booking.guests.get()) + 1;
+    of_persons(&booking.slot, -persons)
+}
+
+/// A key, a number of a booking, and what is given back.
+pub(crate) fn of_refund(key: &Name, number: BookingNumber, refund: u32) -> [ValueRef<'_>; 3]
+    ensures { bound result ≡ TextValue key.now ∷ whole number ∷ whole refund ∷ [] }
+{
+    [
+        ValueRef::Text(key.as_bytes()),
+        ValueRef::Int(i64::from(number.get())),
+        ValueRef::Int(i64::from(refund)),
+    ]
+}

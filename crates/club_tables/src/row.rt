@@ -1,0 +1,207 @@
+//! Rows of the tables as rows of the club: none where a value is of another kind, or out of its
+//! limits.
+
+ghost use Rattle.std.specs.Prelude.{
+  ◌≡◌,
+  ◌≤◌,
+  false,
+  true,
+  [],
+  ◌∷◌,
+  List,
+  Err,
+  None,
+  IfOk,
+  option_map,
+};
+ghost use Rattle.sqlite_value.specs.Order.{column};
+ghost use Rattle.club_values.specs.Reading.{Reads};
+ghost use Rattle.club_rows.specs.Rows.{IsFacility, IsKey, IsOlderRoot, IsBooking};
+ghost use Rattle.club_rows.specs.declared.booking.Booking.{Booking as BookingRow};
+ghost use Rattle.club_tables.specs.Sheet.{AreBookings};
+ghost use Rattle.club_tables.specs.Stored.{IsMemberRow};
+ghost use Rattle.club_tables.specs.Columns.{
+  whole,
+  HasValues,
+  text_in,
+  bytes_in,
+  integer_in,
+  member_values,
+  use_values,
+  facility_values,
+  key_values,
+  older_root_values,
+  booking_values,
+};
+
+use club_core::{
+    Booking, BookingColumns, Facility, FacilityColumns, Key, Member, OlderRoot, Root, SlotUse,
+    StoreFault,
+};
+use pass_caveats::Moment;
+use sqlite::Row;
+use sqlite::types::ValueRef;
+use std::alloc::Global;
+
+/// The most points that a member's bookings cost: no more than were credited.
+const MOST_USED: u32 = 999_999_999;
+
+/// The most persons of a slot: no facility has more places.
+const MOST_TAKEN: u32 = 50;
+
+/// A member, and what the member's bookings have cost.
+#[derive(Clone, Copy)]
+pub struct MemberRow {
+    pub member: Member,
+    /// Charges less refunds, 0 to 999,999,999.
+    pub used: u32,
+}
+
+fn text_at(row: &Row, at: usize) -> Option<&[u8]>
+    ensures { option_map (λ text. text.now) result ≡ text_in (column row.now at) }
+{
+    match row.get_ref(at) {
+        Ok(ValueRef::Text(text)) => Some(text),
+        _ => None,
+    }
+}
+
+fn bytes_at(row: &Row, at: usize) -> Option<&[u8]>
+    ensures { option_map (λ bytes. bytes.now) result ≡ bytes_in (column row.now at) }
+{
+    match row.get_ref(at) {
+        Ok(ValueRef::Blob(bytes)) => Some(bytes),
+        _ => None,
+    }
+}
+
+pub(crate) fn integer_at(row: &Row, at: usize) -> Option<i64>
+    ensures { result ≡ integer_in (column row.now at) }
+{
+    match row.get_ref(at) {
+        Ok(ValueRef::Int(number)) => Some(number),
+        _ => None,
+    }
+}
+
+/// The whole number of a column, 0 to a limit.
+pub(crate) fn number_within(row: &Row, at: usize, high: u32) -> Option<u32>
+    ensures { Reads (λ n. (n ≤ high) × (column row.now at ≡ whole n)) result }
+{
+    let number = u32::try_from(integer_at(row, at)?).ok()?;
+    if number <= high { Some(number) } else { None }
+}
+
+/// What is taken of a slot, by the columns `closed` and `taken`: at most so many persons as a
+/// facility has places.
+fn slot_use_in(row: &Row) -> Option<SlotUse>
+    ensures { Reads (λ found. (found.taken ≤ 50) × HasValues row.now (use_values found)) result }
+{
+    let closed = match number_within(row, 0, 1)? {
+        0 => false,
+        _ => true,
+    };
+    let taken = number_within(row, 1, MOST_TAKEN)?;
+    Some(SlotUse { taken, closed })
+}
+
+/// What is taken of a slot, by its rows: nothing where there is none.
+pub(crate) fn slot_use_of(rows: &[Row]) -> Option<SlotUse>
+    ensures none { rows.now ≡ [] → result ≡ Some (record { taken = 0; closed = false }) }
+    ensures one { (row : _) → rows.now ≡ row ∷ [] → Reads
+        (λ found. (found.taken ≤ 50) × HasValues row (use_values found)) result }
+{
+    match rows {
+        [] => Some(SlotUse {
+            taken: 0,
+            closed: false,
+        }),
+        [row] => slot_use_in(row),
+        _ => None,
+    }
+}
+
+/// A member's row, of the columns `name`, `credited`, `quota` and `used`.
+pub(crate) fn member_in(row: &Row) -> Option<MemberRow>
+    ensures { Reads (λ found. IsMemberRow found × HasValues row.now (member_values found)) result }
+{
+    let member = Member::from_columns(text_at(row, 0)?, integer_at(row, 1)?, integer_at(row, 2)?)?;
+    let used = number_within(row, 3, MOST_USED)?;
+    Some(MemberRow { member, used })
+}
+
+/// A key's row, which tells of no older root.
+pub(crate) fn key_in(row: &Row) -> Option<Key>
+    ensures { Reads (λ key. IsKey key × (key.older ≡ None) × HasValues row.now (key_values key))
+        result }
+{
+    Key::from_columns(
+        text_at(row, 0)?,
+        text_at(row, 1)?,
+        bytes_at(row, 2)?,
+        integer_at(row, 3)?,
+    )
+}
+
+/// The older root of a key, of the columns `root` and `until`.
+pub(crate) fn older_root_in(row: &Row) -> Option<OlderRoot>
+    ensures { Reads (λ older. IsOlderRoot older × HasValues row.now (older_root_values older))
+        result }
+{
+    let root = Root::new(bytes_at(row, 0)?)?;
+    let until = Moment::from_number(number_within(row, 1, u32::MAX)?)?;
+    Some(OlderRoot { root, until })
+}
+
+pub(crate) fn facility_in(row: &Row) -> Option<Facility>
+    ensures { Reads (λ facility. IsFacility facility × HasValues row.now (facility_values facility))
+        result }
+{
+    let columns = FacilityColumns {
+        name: text_at(row, 0)?,
+        kind: text_at(row, 1)?,
+        places: integer_at(row, 2)?,
+        price: integer_at(row, 3)?,
+        opens: integer_at(row, 4)?,
+        shuts: integer_at(row, 5)?,
+    };
+    Facility::from_columns(&columns)
+}
+
+pub(crate) fn booking_in(row: &Row) -> Option<Booking>
+    ensures { Reads (λ booking. IsBooking booking × HasValues row.now (booking_values booking))
+        result }
+{
+    let columns = BookingColumns {
+        key: text_at(row, 0)?,
+        number: integer_at(row, 1)?,
+        facility: text_at(row, 2)?,
+        day: integer_at(row, 3)?,
+        hour: integer_at(row, 4)?,
+        guests: integer_at(row, 5)?,
+        charge: integer_at(row, 6)?,
+        left: integer_at(row, 7)?,
+        cancelled: integer_at(row, 8)?,
+        refund: integer_at(row, 9)?,
+    };
+    Booking::from_columns(&columns)
+}
+
+/// The bookings of rows, in their order. A row that is out of its limits is a fault of storage.
+pub(crate) fn bookings_in(alloc: Global, rows: &[Row]) -> Result<Vec<Booking>, StoreFault>
+    ensures are { IfOk result (λ bookings. AreBookings rows.now bookings.items) }
+    ensures storage { result ≡ Err StoreFault.Storage → (bookings : List BookingRow) → ¬
+        (AreBookings rows.now bookings) }
+{
+    let mut bookings = match Vec::with_capacity(alloc, rows.len()) {
+        Ok(bookings) => bookings,
+        Err(_) => return Err(StoreFault::Memory),
+    };
+    for row in rows {
+        let Some(booking) = booking_in(row) else {
+            return Err(StoreFault::Storage);
+        };
+        bookings.push_reserved(booking);
+    }
+    Ok(bookings)
+}

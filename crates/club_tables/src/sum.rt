@@ -1,0 +1,36 @@
+//! Sums over rows, taken here. A number out of its limits is a fault of storage.
+
+ghost use Rattle.std.specs.Prelude.{◌≡◌, sum_by, All, IfOk};
+ghost use Rattle.club_values.specs.Reading.{Reads};
+ghost use Rattle.club_tables.specs.Columns.{cost_in, IsCostIn, IsCostRow};
+
+use crate::row::number_within;
+use club_core::StoreFault;
+use sqlite::Row;
+
+/// The charge of a row, at most 499,950, less its refund, at most the charge.
+fn cost_of(row: &Row) -> Option<u32>
+    ensures { Reads (IsCostIn row.now) result }
+{
+    let charge = number_within(row, 0, 499_950)?;
+    let refund = number_within(row, 1, charge)?;
+    Some(charge - refund)
+}
+
+/// The cost of rows of charge and refund.
+pub(crate) fn costs(rows: &[Row]) -> Result<u64, StoreFault>
+    ensures told { IfOk result (λ n. n ≡ sum_by cost_in rows.now) }
+    ensures limits { IfOk result (λ _. All IsCostRow rows.now) }
+{
+    let mut sum = 0u64;
+    for row in rows {
+        let Some(cost) = cost_of(row) else {
+            return Err(StoreFault::Storage);
+        };
+        let Some(next) = sum.checked_add(u64::from(cost)) else {
+            return Err(StoreFault::Storage);
+        };
+        sum = next;
+    }
+    Ok(sum)
+}

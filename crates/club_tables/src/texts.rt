@@ -1,0 +1,165 @@
+//! The texts of the tables and of the statements.
+
+/// The version of the tables, in one row.
+pub(crate) const MAKE_DESK: &str = "CREATE TABLE desk (version INTEGER NOT NULL) STRICT";
+
+pub(crate) const MAKE_MEMBERS: &str = "\
+    CREATE TABLE members (\
+        name TEXT NOT NULL PRIMARY KEY, \
+        credited INTEGER NOT NULL CHECK (credited BETWEEN 0 AND 999999999), \
+        quota INTEGER NOT NULL CHECK (quota BETWEEN 0 AND 99), \
+        used INTEGER NOT NULL CHECK (used BETWEEN 0 AND 999999999)\
+    ) STRICT";
+
+pub(crate) const MAKE_FACILITIES: &str = "\
+    CREATE TABLE facilities (\
+        name TEXT NOT NULL PRIMARY KEY, \
+        kind TEXT NOT NULL, \
+        places INTEGER NOT NULL CHECK (places BETWEEN 1 AND 50), \
+        price INTEGER NOT NULL CHECK (price BETWEEN 0 AND 9999), \
+        opens INTEGER NOT NULL CHECK (opens BETWEEN 0 AND 23), \
+        shuts INTEGER NOT NULL CHECK (shuts BETWEEN 1 AND 24)\
+    ) STRICT";
+
+pub(crate) const MAKE_KEYS: &str = "\
+    CREATE TABLE keys (\
+        name TEXT NOT NULL PRIMARY KEY, \
+        member TEXT NOT NULL REFERENCES members (name), \
+        root BLOB NOT NULL, \
+        revoked INTEGER NOT NULL CHECK (revoked BETWEEN 0 AND 1)\
+    ) STRICT";
+
+pub(crate) const MAKE_SLOTS: &str = "\
+    CREATE TABLE slots (\
+        facility TEXT NOT NULL REFERENCES facilities (name), \
+        day INTEGER NOT NULL CHECK (day BETWEEN 10957 AND 47481), \
+        hour INTEGER NOT NULL CHECK (hour BETWEEN 0 AND 23), \
+        closed INTEGER NOT NULL CHECK (closed BETWEEN 0 AND 1), \
+        taken INTEGER NOT NULL, \
+        PRIMARY KEY (facility, day, hour)\
+    ) STRICT";
+
+pub(crate) const MAKE_BOOKINGS: &str = "\
+    CREATE TABLE bookings (\
+        pass_key TEXT NOT NULL REFERENCES keys (name), \
+        number INTEGER NOT NULL CHECK (number BETWEEN 1 AND 999999999), \
+        facility TEXT NOT NULL REFERENCES facilities (name), \
+        day INTEGER NOT NULL CHECK (day BETWEEN 10957 AND 47481), \
+        hour INTEGER NOT NULL CHECK (hour BETWEEN 0 AND 23), \
+        guests INTEGER NOT NULL CHECK (guests BETWEEN 0 AND 49), \
+        charge INTEGER NOT NULL CHECK (charge BETWEEN 0 AND 499950), \
+        remains INTEGER NOT NULL CHECK (remains BETWEEN 0 AND 49), \
+        cancelled INTEGER NOT NULL CHECK (cancelled BETWEEN 0 AND 1), \
+        refund INTEGER NOT NULL CHECK (refund BETWEEN 0 AND 499950), \
+        PRIMARY KEY (pass_key, number)\
+    ) STRICT";
+
+/// The root that a key had before its last rotation.
+pub(crate) const MAKE_OLD_ROOTS: &str = "\
+    CREATE TABLE old_roots (\
+        pass_key TEXT NOT NULL PRIMARY KEY REFERENCES keys (name), \
+        root BLOB NOT NULL, \
+        until INTEGER NOT NULL CHECK (until BETWEEN 15778080 AND 68374079)\
+    ) STRICT";
+
+/// The keys of a member are found without a walk over all keys.
+pub(crate) const MAKE_KEYS_BY_MEMBER: &str = "CREATE INDEX keys_by_member ON keys (member)";
+
+pub(crate) const ADD_VERSION: &str = "INSERT INTO desk (version) VALUES (2)";
+
+/// Makes tables of version 1 those of version 2, once they have older roots.
+pub(crate) const SET_VERSION: &str = "UPDATE desk SET version = 2";
+
+pub(crate) const VERSION: &str = "SELECT version FROM desk";
+
+pub(crate) const KEY: &str = "SELECT name, member, root, revoked FROM keys WHERE name = ?1";
+
+pub(crate) const OLDER_ROOT: &str = "SELECT root, until FROM old_roots WHERE pass_key = ?1";
+
+pub(crate) const MEMBER: &str = "SELECT name, credited, quota, used FROM members WHERE name = ?1";
+
+pub(crate) const FACILITY: &str = "\
+    SELECT name, kind, places, price, opens, shuts \
+    FROM facilities \
+    WHERE name = ?1";
+
+pub(crate) const SLOT: &str = "\
+    SELECT closed, taken \
+    FROM slots \
+    WHERE facility = ?1 AND day = ?2 AND hour = ?3";
+
+pub(crate) const BOOKING: &str = "\
+    SELECT pass_key, number, facility, day, hour, guests, charge, remains, cancelled, refund \
+    FROM bookings \
+    WHERE pass_key = ?1 AND number = ?2";
+
+pub(crate) const ADD_MEMBER: &str = "\
+    INSERT INTO members (name, credited, quota, used) \
+    VALUES (?1, ?2, ?3, 0)";
+
+pub(crate) const ADD_CREDIT: &str = "UPDATE members SET credited = credited + ?2 WHERE name = ?1";
+
+/// Adds to what the bookings of a member have cost; less than nothing where points come back.
+pub(crate) const ADD_USED: &str = "UPDATE members SET used = used + ?2 WHERE name = ?1";
+
+pub(crate) const ADD_FACILITY: &str = "\
+    INSERT INTO facilities (name, kind, places, price, opens, shuts) \
+    VALUES (?1, ?2, ?3, ?4, ?5, ?6)";
+
+pub(crate) const ADD_KEY: &str = "\
+    INSERT INTO keys (name, member, root, revoked) \
+    VALUES (?1, ?2, ?3, ?4)";
+
+pub(crate) const REVOKE_KEY: &str = "UPDATE keys SET revoked = 1 WHERE name = ?1";
+
+/// Takes the place of an older root from before.
+pub(crate) const PUT_OLDER_ROOT: &str = "\
+    INSERT INTO old_roots (pass_key, root, until) \
+    VALUES (?1, ?2, ?3) \
+    ON CONFLICT (pass_key) \
+    DO UPDATE SET root = ?2, until = ?3";
+
+pub(crate) const SET_ROOT: &str = "UPDATE keys SET root = ?2 WHERE name = ?1";
+
+pub(crate) const CLOSE_SLOT: &str = "\
+    INSERT INTO slots (facility, day, hour, closed, taken) \
+    VALUES (?1, ?2, ?3, 1, 0) \
+    ON CONFLICT (facility, day, hour) \
+    DO UPDATE SET closed = 1";
+
+/// Adds to the persons of a slot, which is open where it had no row; less than nothing where a
+/// booking is cancelled.
+pub(crate) const ADD_TAKEN: &str = "\
+    INSERT INTO slots (facility, day, hour, closed, taken) \
+    VALUES (?1, ?2, ?3, 0, ?4) \
+    ON CONFLICT (facility, day, hour) \
+    DO UPDATE SET taken = taken + ?4";
+
+pub(crate) const ADD_BOOKING: &str = "\
+    INSERT INTO bookings (pass_key, number, facility, day, hour, guests, charge, remains, \
+    cancelled, refund) \
+    VALUES (?1, ?2, ?3, ?4, ?5, ?6, ?7, ?8, ?9, ?10)";
+
+pub(crate) const CANCEL_BOOKING: &str = "\
+    UPDATE bookings \
+    SET cancelled = 1, refund = ?3 \
+    WHERE pass_key = ?1 AND number = ?2 AND cancelled = 0";
+
+pub(crate) const COSTS_UNDER_KEY: &str = "SELECT charge, refund FROM bookings WHERE pass_key = ?1";
+
+pub(crate) const DAY: &str = "\
+    SELECT pass_key, number, facility, day, hour, guests, charge, remains, cancelled, refund \
+    FROM bookings \
+    WHERE day = ?1 AND cancelled = 0 \
+    ORDER BY facility, hour, pass_key, number";
+
+pub(crate) const OPEN: &str = "\
+    SELECT number \
+    FROM keys JOIN bookings ON name = pass_key \
+    WHERE member = ?1 AND cancelled = 0 AND day * 1440 + hour * 60 > ?2";
+
+/// The statements that give a row by its key over tables of version 1.
+pub(crate) const FIRST_ROWS_BY_KEY: [&str; 5] = [KEY, MEMBER, FACILITY, SLOT, BOOKING];
+
+/// The statements that give a row by its key.
+pub(crate) const ROWS_BY_KEY: [&str; 6] = [KEY, MEMBER, FACILITY, SLOT, BOOKING, OLDER_ROOT];

@@ -1,0 +1,303 @@
+//! The changes, each in a transaction of its own.
+
+ghost use Rattle.std.specs.Prelude.{◌≡◌, false, None};
+ghost use Rattle.sqlite.specs.Values.{bound};
+ghost use Rattle.club_core.specs.declared.change.Change.TheVariants.{
+  InsertMember,
+  InsertFacility,
+  InsertKey,
+  InsertBooking,
+  AddCredit,
+  MarkRevoked,
+  ReplaceRoot,
+  MarkClosed,
+  MarkCancelled,
+};
+ghost use Rattle.club_tables.specs.Transaction.{Commits};
+ghost use Rattle.club_tables.specs.Words.{
+  adding_member,
+  adding_facility,
+  adding_key,
+  adding_credit,
+  revoking,
+  closing,
+  rotating,
+  replacing_root,
+  with_totals,
+  adding_booking,
+  marking,
+  cancelling,
+};
+ghost use Rattle.club_tables.specs.Told.{
+  ChangesClub,
+  ChangesClubWhere,
+  IsOwnedBy,
+  HasRoot,
+  IsToCancel,
+  HasNoneToCancel,
+};
+
+use crate::params::Rotation;
+use crate::transaction::{Statement, run};
+use crate::{params, texts};
+use club_core::{Booking, BookingNumber, Facility, Key, Member, StoreFault};
+use pass_caveats::{Name, Slot};
+use sqlite::types::ValueRef;
+use sqlite::{Alter, Connection};
+
+/// Inserts a member, whose bookings have cost nothing.
+pub fn insert_member<S: Alter>(conn: &mut Connection<S>, member: &Member) -> Result<(), StoreFault>
+    requires { conn.old.in_transaction ≡ false }
+    ensures idle { conn.new.in_transaction ≡ false }
+    ensures commits { Commits S.Store (adding_member member.now) conn.old conn.new result }
+    ensures makes { ChangesClub S.Store (InsertMember member.now) conn.old conn.new result }
+{
+    let values = params::of_member(member);
+    run(
+        conn,
+        &[Statement {
+            text: texts::ADD_MEMBER,
+            params: &values,
+        }],
+    )
+}
+
+/// Inserts a facility.
+pub fn insert_facility<S: Alter>(
+    conn: &mut Connection<S>,
+    facility: &Facility,
+) -> Result<(), StoreFault>
+    requires { conn.old.in_transaction ≡ false }
+    ensures idle { conn.new.in_transaction ≡ false }
+    ensures commits { Commits S.Store (adding_facility facility.now) conn.old conn.new result }
+    ensures makes { ChangesClub S.Store (InsertFacility facility.now) conn.old conn.new result }
+{
+    let values = params::of_facility(facility);
+    run(
+        conn,
+        &[Statement {
+            text: texts::ADD_FACILITY,
+            params: &values,
+        }],
+    )
+}
+
+/// Inserts a key. One that has an older root is refused, and nothing is changed.
+pub fn insert_key<S: Alter>(conn: &mut Connection<S>, key: &Key) -> Result<(), StoreFault>
+    requires { conn.old.in_transaction ≡ false }
+    ensures idle { conn.new.in_transaction ≡ false }
+    ensures commits { key.now.older ≡ None → Commits S.Store (adding_key key.now)
+        conn.old conn.new result }
+    ensures makes { ChangesClub S.Store (InsertKey key.now) conn.old conn.new result }
+{
+    if key.older.is_some() {
+        return Err(StoreFault::Storage);
+    }
+    let values = params::of_key(key);
+    run(
+        conn,
+        &[Statement {
+            text: texts::ADD_KEY,
+            params: &values,
+        }],
+    )
+}
+
+/// Adds points to what a member was credited.
+pub fn add_credit<S: Alter>(
+    conn: &mut Connection<S>,
+    member: &Name,
+    points: u32,
+) -> Result<(), StoreFault>
+    requires { conn.old.in_transaction ≡ false }
+    ensures idle { conn.new.in_transaction ≡ false }
+    ensures commits { Commits S.Store (adding_credit member.now points) conn.old conn.new result }
+    ensures makes { ChangesClub S.Store (AddCredit member.now points) conn.old conn.new result }
+{
+    let values = params::of_credit(member, points);
+    run(
+        conn,
+        &[Statement {
+            text: texts::ADD_CREDIT,
+            params: &values,
+        }],
+    )
+}
+
+/// Marks a key revoked.
+pub fn revoke_key<S: Alter>(conn: &mut Connection<S>, key: &Name) -> Result<(), StoreFault>
+    requires { conn.old.in_transaction ≡ false }
+    ensures idle { conn.new.in_transaction ≡ false }
+    ensures commits { Commits S.Store (revoking key.now) conn.old conn.new result }
+    ensures makes { ChangesClub S.Store (MarkRevoked key.now) conn.old conn.new result }
+{
+    let values = [ValueRef::Text(key.as_bytes())];
+    run(
+        conn,
+        &[Statement {
+            text: texts::REVOKE_KEY,
+            params: &values,
+        }],
+    )
+}
+
+/// Gives a key a new root. The one that it has becomes its older root, in place of one from before.
+pub fn replace_root<S: Alter>(
+    conn: &mut Connection<S>,
+    rotation: &Rotation,
+) -> Result<(), StoreFault>
+    requires { conn.old.in_transaction ≡ false }
+    ensures idle { conn.new.in_transaction ≡ false }
+    ensures commits { Commits S.Store
+        (replacing_root rotation.now.key rotation.now.root rotation.now.older)
+        conn.old conn.new result }
+    ensures makes { ChangesClubWhere S.Store (HasRoot rotation.now.key rotation.now.older.root)
+        (ReplaceRoot rotation.now.key rotation.now.root rotation.now.older.until) conn.old conn.new
+        result }
+{
+    let put = params::of_older_root(rotation);
+    let set = params::of_root(rotation);
+    run_rotation(conn, &put, &set)
+}
+
+/// Puts an older root, and sets a key's root.
+fn run_rotation<S: Alter>(
+    conn: &mut Connection<S>,
+    put: &[ValueRef<'_>],
+    set: &[ValueRef<'_>],
+) -> Result<(), StoreFault>
+    requires { conn.old.in_transaction ≡ false }
+    ensures idle { conn.new.in_transaction ≡ false }
+    ensures commits { Commits S.Store (rotating (bound put.now) (bound set.now))
+        conn.old conn.new result }
+{
+    run(
+        conn,
+        &[
+            Statement {
+                text: texts::PUT_OLDER_ROOT,
+                params: put,
+            },
+            Statement {
+                text: texts::SET_ROOT,
+                params: set,
+            },
+        ],
+    )
+}
+
+/// Marks a slot closed.
+pub fn close_slot<S: Alter>(conn: &mut Connection<S>, slot: &Slot) -> Result<(), StoreFault>
+    requires { conn.old.in_transaction ≡ false }
+    ensures idle { conn.new.in_transaction ≡ false }
+    ensures commits { Commits S.Store (closing slot.now) conn.old conn.new result }
+    ensures makes { ChangesClub S.Store (MarkClosed slot.now) conn.old conn.new result }
+{
+    let values = params::of_slot(slot);
+    run(
+        conn,
+        &[Statement {
+            text: texts::CLOSE_SLOT,
+            params: &values,
+        }],
+    )
+}
+
+/// Runs a statement on a booking, adds to what its member's bookings have cost, and adds to the
+/// persons of its slot.
+fn run_with_totals<S: Alter>(
+    conn: &mut Connection<S>,
+    text: &str,
+    booking: &[ValueRef<'_>],
+    used: &[ValueRef<'_>],
+    taken: &[ValueRef<'_>],
+) -> Result<(), StoreFault>
+    requires { conn.old.in_transaction ≡ false }
+    ensures idle { conn.new.in_transaction ≡ false }
+    ensures commits { Commits S.Store
+        (with_totals text.now (bound booking.now) (bound used.now) (bound taken.now))
+        conn.old conn.new result }
+{
+    run(
+        conn,
+        &[
+            Statement {
+                text,
+                params: booking,
+            },
+            Statement {
+                text: texts::ADD_USED,
+                params: used,
+            },
+            Statement {
+                text: texts::ADD_TAKEN,
+                params: taken,
+            },
+        ],
+    )
+}
+
+/// Inserts a booking under a key of the member, adds what it costs to what the member's have cost,
+/// and its persons to those of its slot.
+pub fn insert_booking<S: Alter>(
+    conn: &mut Connection<S>,
+    booking: &Booking,
+    member: &Name,
+) -> Result<(), StoreFault>
+    requires { conn.old.in_transaction ≡ false }
+    ensures idle { conn.new.in_transaction ≡ false }
+    ensures commits { Commits S.Store (adding_booking booking.now member.now)
+        conn.old conn.new result }
+    ensures makes { ChangesClubWhere S.Store (IsOwnedBy member.now booking.now.key)
+        (InsertBooking booking.now) conn.old conn.new result }
+{
+    let row = params::of_booking(booking);
+    let used = params::of_cost(member, booking);
+    let taken = params::of_places(booking);
+    run_with_totals(conn, texts::ADD_BOOKING, &row, &used, &taken)
+}
+
+/// Marks a booking cancelled with its refund, gives that back to the member, and its places to its
+/// slot.
+pub fn cancel_booking<S: Alter>(
+    conn: &mut Connection<S>,
+    booking: &Booking,
+    member: &Name,
+    refund: u32,
+) -> Result<(), StoreFault>
+    requires { conn.old.in_transaction ≡ false }
+    ensures idle { conn.new.in_transaction ≡ false }
+    ensures commits { Commits S.Store (cancelling booking.now member.now refund)
+        conn.old conn.new result }
+    ensures makes { ChangesClubWhere S.Store
+        (λ club. IsToCancel booking.now club × IsOwnedBy member.now booking.now.key club)
+        (MarkCancelled booking.now.key booking.now.number refund) conn.old conn.new result }
+{
+    let mark = params::of_refund(&booking.key, booking.number, refund);
+    let used = params::of_return(member, refund);
+    let taken = params::of_freed(booking);
+    run_with_totals(conn, texts::CANCEL_BOOKING, &mark, &used, &taken)
+}
+
+/// Marks a booking cancelled where none is to be marked: nothing is changed.
+pub fn mark_cancelled<S: Alter>(
+    conn: &mut Connection<S>,
+    key: &Name,
+    number: BookingNumber,
+    refund: u32,
+) -> Result<(), StoreFault>
+    requires { conn.old.in_transaction ≡ false }
+    ensures idle { conn.new.in_transaction ≡ false }
+    ensures commits { Commits S.Store (marking key.now number refund) conn.old conn.new result }
+    ensures makes { ChangesClubWhere S.Store (HasNoneToCancel key.now number)
+        (MarkCancelled key.now number refund) conn.old conn.new result }
+{
+    let values = params::of_refund(key, number, refund);
+    run(
+        conn,
+        &[Statement {
+            text: texts::CANCEL_BOOKING,
+            params: &values,
+        }],
+    )
+}
