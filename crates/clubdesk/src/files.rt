@@ -16,10 +16,21 @@ pub struct Files<'a> {
 impl<'a> Databases for Files<'a> {
     type Store = Store<FileStore<FileFrom<Unknown>>>;
 
-    ghost opened = { λ files. files.tried };
+    ghost use Rattle.std.specs.Prelude.{◌≡◌};
+    ghost use Rattle.desk_server.specs.Served.{CountsOn};
+
+    ghost opens = { λ old name given new. CountsOn old.tried 1 new.tried };
+
+    ghost closes = { λ old store new. new ≡ old };
 
     fn open(&mut self, name: &str) -> Result<Store<FileStore<FileFrom<Unknown>>>, StoreFault> {
         self.tried = self.tried.saturating_add(1);
         Store::open_file(self.rt, name, Unknown)
+    }
+
+    // What was committed stands in the log beside the file until it is copied into the file, which is
+    // done here. Where that fails the log keeps it for the next opening.
+    fn close(&mut self, store: Store<FileStore<FileFrom<Unknown>>>) {
+        let _ = store.into_connection().close();
     }
 }

@@ -1,5 +1,5 @@
-//! The facilities desk of a club on the command line: `desk_commands` on the process's words, standard input and
-//! standard output, over databases in files.
+//! The facilities desk of a club on the command line: `desk_commands` on the process's words, its
+//! standard input, output and error, over databases in files.
 #![tactic(auto)]
 
 ghost use Rattle.std.specs.Prelude.{IfErr};
@@ -35,6 +35,7 @@ fn run_here(rt: &HostRuntime) -> Result<(), Fault> {
         words.as_slice(),
         &mut rt.stdin(),
         &mut rt.stdout(),
+        &mut rt.stderr(),
     )
 }
 

@@ -4,3 +4,4 @@ pub mod WordsLemmas
 pub mod NamedLemmas
 pub mod WordLaws
 pub mod RunLemmas
+pub mod ServerLemmas

@@ -1,28 +1,135 @@
--- What the words decide of a run's end.
-use Rattle.std.proofs.Common.{◌≡◌, List, [], Some, Result, Ok, Err, inl, inr, refl}
-use Rattle.std.specs.Prelude.{IsSome}
-use Rattle.clap.specs.Words.{Text}
+-- What a run ends with, and what it leaves unwritten.
+use Rattle.std.proofs.Common.{◌≡◌, ◌⊎◌, List, [], ◌∷◌, false, Option, Some, None, Result, Ok, Err, inl, inr, refl, ℕ, arith}
+use Rattle.std.proofs.lemmas.Bool.Decides.{nat_tests}
+use Rattle.std.specs.Prelude.{IsSome, IfErr}
+use Rattle.clap.specs.Words.{IsAmong, Kinds, Text}
+use Rattle.clap.specs.Walk.{is_empty}
+use Rattle.clap.specs.declared.error.kind.ErrorKind.{ErrorKind}
+use Rattle.clap.specs.declared.error.kind.ErrorKind.TheVariants as kind
+use Rattle.club_core.specs.Club.{Club}
+use Rattle.club_gate.specs.declared.event.OfficeReply.{OfficeReply}
+use Rattle.club_gate.specs.declared.event.OfficeReply.TheVariants as replies
+use Rattle.club_gate.specs.declared.fault.Fault.{Fault as DeskFault}
+use Rattle.club_gate.specs.declared.fault.Fault.TheVariants as desk
 use Rattle.desk_commands.specs.Application.{refusals}
 use Rattle.desk_commands.specs.Commanded.{Commanded}
-use Rattle.desk_commands.specs.Run.{AnswersWords, EndsFor}
-use Rattle.desk_commands.specs.Words.{ReadsWords, asked, commanded}
+use Rattle.desk_commands.specs.Office as office
+use Rattle.desk_commands.specs.Office.{IsOrderedOnce, TellsOrder, TellsSheet, WritesText, fault_of_desk}
+use Rattle.desk_commands.specs.Run.{Announces, AnswersWords, Does, EndsFor, IsOfTask, IsSilent, job_of}
+use Rattle.desk_commands.specs.Words.{AsksText, IsFaultOf, ReadsWords, asked, commanded}
 use Rattle.desk_commands.specs.declared.fault.Fault.{Fault}
 use Rattle.desk_commands.specs.declared.fault.Fault.TheVariants.{Refused, Words, BadValue, Memory, Storage, ClockOutOfRange, InputOutput}
+use Rattle.desk_commands.specs.declared.task.Task.{Task}
+use Rattle.desk_commands.specs.declared.task.Task.TheVariants.{Order, AddKey, RotateKey, Sheet, Serve}
 use Rattle.desk_commands.specs.declared.words.Asked.{Asked}
-use Rattle.desk_commands.specs.declared.words.Asked.TheVariants.{Perform, ShowHelp}
+use Rattle.desk_commands.specs.declared.words.Asked.TheVariants.{Perform, ShowText}
 
-some_asked : (words : List Text) (command : Commanded) → refusals words ≡ [] → commanded words ≡ Ok command → IsSome (asked words)
+-- ---- what the words ask for
+
+some_asked : (words : List Text) (command : Commanded) → refusals words ≡ [] → commanded words ≡ Ok command → asked words ≡ Some command
 some_asked words command clear is = rw (clear, is) refl
+
+-- words that give a fault ask for nothing
+among_some : (k : ErrorKind) (kinds : Kinds) → IsAmong k kinds → is_empty kinds ≡ false
+among_some k [] among = absurd among
+among_some k (x ∷ kinds) among = grind (arith, nat_tests)
+
+none_asked : (words : List Text) (k : ErrorKind) → IsAmong k (refusals words) → asked words ≡ None
+none_asked words k among = rw (among_some k (refusals words) among) refl
+
+no_text_asked : (words : List Text) → AsksText words → asked words ≡ None
+no_text_asked words (inl help) = none_asked words kind.DisplayHelp help
+no_text_asked words (inr version) = none_asked words kind.DisplayVersion version
+
+pub task_asked : (words : List Text) (of_words : Asked) → ReadsWords words (Ok of_words) → asked words ≡ job_of of_words
+task_asked words (ShowText text) reads = no_text_asked words reads
+task_asked words (Perform job) reads = some_asked words job reads.0 reads.1
+
+-- what was read for a task asks for that one
+pub same_job : (of_words : Asked) (job asked_for : Commanded) → of_words ≡ Perform job → job_of of_words ≡ Some asked_for → job ≡ asked_for
+same_job of_words job asked_for is wanted = let found : job_of (Perform job) ≡ Some asked_for = rw is at wanted in cc
+
+-- and so do words with a fault, memory aside
+pub nothing_asked : (words : List Text) (fault : Fault) → IsFaultOf words fault → (fault ≡ Memory) ⊎ (asked words ≡ None)
+nothing_asked words (Words error) (inl among) = inr (none_asked words _ among.0)
+nothing_asked words (Words error) (inr bad) = inr (rw (bad.0, bad.1) refl)
+nothing_asked words BadValue bad = inr (rw (bad.0, bad.1) refl)
+nothing_asked words Memory bad = inl refl
+nothing_asked words (Refused fault) bad = absurd bad
+nothing_asked words Storage bad = absurd bad
+nothing_asked words ClockOutOfRange bad = absurd bad
+nothing_asked words InputOutput bad = absurd bad
+
+some_is : (words : List Text) (command : Commanded) → asked words ≡ Some command → IsSome (asked words)
+some_is words command is = rw is refl
 
 pub run_words : (words : List Text) (of_words : Asked) (result : Result Unit Fault) → ReadsWords words (Ok of_words) → EndsFor of_words result
     → AnswersWords words result
-run_words words (ShowHelp help) (Ok done) reads ends = inr reads
-run_words words (ShowHelp help) (Err fault) reads ends = rw ends (inr reads)
-run_words words (Perform job) (Ok done) reads ends = inl (some_asked words job reads.0 reads.1)
-run_words words (Perform job) (Err (Refused fault)) reads ends = some_asked words job reads.0 reads.1
+run_words words (ShowText text) (Ok done) reads ends = inr reads
+run_words words (ShowText text) (Err fault) reads ends = rw ends (inr reads)
+run_words words (Perform job) (Ok done) reads ends = inl (some_is words job (some_asked words job reads.0 reads.1))
+run_words words (Perform job) (Err (Refused fault)) reads ends = some_is words job (some_asked words job reads.0 reads.1)
 run_words words (Perform job) (Err (Words error)) reads ends = absurd ends
 run_words words (Perform job) (Err BadValue) reads ends = absurd ends
 run_words words (Perform job) (Err Memory) reads ends = tt
-run_words words (Perform job) (Err Storage) reads ends = some_asked words job reads.0 reads.1
-run_words words (Perform job) (Err ClockOutOfRange) reads ends = some_asked words job reads.0 reads.1
-run_words words (Perform job) (Err InputOutput) reads ends = inl (some_asked words job reads.0 reads.1)
+run_words words (Perform job) (Err Storage) reads ends = some_is words job (some_asked words job reads.0 reads.1)
+run_words words (Perform job) (Err ClockOutOfRange) reads ends = some_is words job (some_asked words job reads.0 reads.1)
+run_words words (Perform job) (Err InputOutput) reads ends = inl (some_is words job (some_asked words job reads.0 reads.1))
+
+-- ---- the faults of a task
+
+-- an end that is none for its words, and after which, where it is silent, nothing was written
+pub record EndsWell (Silent : Type 0) (result : Result Unit Fault) : Type 0 where
+  pub of_task : IfErr result IsOfTask
+  pub silent : IfErr result (λ fault. IsSilent fault → Silent)
+
+of_desk : (Silent : Type 0) (fault : DeskFault) (result : Result Unit Fault) → result ≡ Err (fault_of_desk fault) → Silent → EndsWell Silent result
+of_desk Silent desk.Exists result is silent = rw is (record { of_task = tt; silent = λ s. silent })
+of_desk Silent desk.Unknown result is silent = rw is (record { of_task = tt; silent = λ s. silent })
+of_desk Silent desk.OutOfRange result is silent = rw is (record { of_task = tt; silent = λ s. silent })
+of_desk Silent desk.SlotInUse result is silent = rw is (record { of_task = tt; silent = λ s. silent })
+of_desk Silent desk.Memory result is silent = rw is (record { of_task = tt; silent = λ s. silent })
+of_desk Silent desk.Storage result is silent = rw is (record { of_task = tt; silent = λ s. silent })
+
+of_text : (Silent : Type 0) (text : List ℕ) (held held' : Option (List ℕ)) (result : Result Unit Fault) → WritesText text held held' result
+    → EndsWell Silent result
+of_text Silent text held held' (Ok done) h = record { of_task = tt; silent = tt }
+of_text Silent text held held' (Err InputOutput) h = record { of_task = tt; silent = λ s. absurd s }
+of_text Silent text held held' (Err (Refused fault)) h = absurd h
+of_text Silent text held held' (Err (Words error)) h = absurd h
+of_text Silent text held held' (Err BadValue) h = absurd h
+of_text Silent text held held' (Err Memory) h = absurd h
+of_text Silent text held held' (Err Storage) h = absurd h
+of_text Silent text held held' (Err ClockOutOfRange) h = absurd h
+
+of_order : (Silent : Type 0) (text : List ℕ) (held held' : Option (List ℕ)) (reply : OfficeReply) (result : Result Unit Fault)
+    → TellsOrder text held held' Silent reply result → EndsWell Silent result
+of_order Silent text held held' (replies.Refused fault) result h = of_desk Silent fault result h.0 h.1
+of_order Silent text held held' replies.Done result h = of_text Silent text held held' result h
+of_order Silent text held held' (replies.Key signature) result h = of_text Silent text held held' result h
+
+of_sheet : (Silent : Type 0) (held held' : Option (List ℕ)) (read : Result (List ℕ) DeskFault) (result : Result Unit Fault)
+    → TellsSheet held held' Silent read result → EndsWell Silent result
+of_sheet Silent held held' (Ok text) result h = of_text Silent text held held' result h
+of_sheet Silent held held' (Err fault) result h = of_desk Silent fault result h.0 h.1
+
+of_server : (Silent : Type 0) (held held' : Option (List ℕ)) (result : Result Unit Fault) → Announces held held' Silent result → EndsWell Silent result
+of_server Silent held held' (Ok done) h = record { of_task = tt; silent = tt }
+of_server Silent held held' (Err InputOutput) h = record { of_task = tt; silent = λ s. absurd s }
+of_server Silent held held' (Err ClockOutOfRange) h = record { of_task = tt; silent = λ s. absurd s }
+of_server Silent held held' (Err Memory) h = record { of_task = tt; silent = λ s. h }
+of_server Silent held held' (Err (Refused fault)) h = absurd h
+of_server Silent held held' (Err (Words error)) h = absurd h
+of_server Silent held held' (Err BadValue) h = absurd h
+of_server Silent held held' (Err Storage) h = absurd h
+
+module _ {S : Type 0} (Honest : S → Type 0) (Stands : S → Club → List Club → Type 0) (old new : S) (held held' : Option (List ℕ)) (Silent : Type 0)
+    (result : Result Unit Fault) where
+  pub ends_well : (task : Task) → Does Honest Stands task old new held held' Silent result → EndsWell Silent result
+  ends_well (Order given) h = of_order Silent _ held held' h.reply result h.told
+  ends_well (AddKey name member root form) (office.starved starved untouched) = rw starved (record { of_task = tt; silent = λ s. untouched.1 })
+  ends_well (AddKey name member root form) (office.ordered line made h) = of_order Silent line held held' h.reply result h.told
+  ends_well (RotateKey name root until form) (office.starved starved untouched) = rw starved (record { of_task = tt; silent = λ s. untouched.1 })
+  ends_well (RotateKey name root until form) (office.ordered line made h) = of_order Silent line held held' h.reply result h.told
+  ends_well (Sheet day) h = of_sheet Silent held held' h.1.read result h.1.told
+  ends_well (Serve service) h = of_server Silent held held' result h.1

@@ -1,5 +1,5 @@
 -- The words of each command as clap reads them.
-use Rattle.std.proofs.Common.{◌≡◌, List, [], ◌∷◌, ◌++◌, Option, Some, None, Result, Ok, refl, codes}
+use Rattle.std.proofs.Common.{◌≡◌, List, [], ◌∷◌, ◌++◌, Option, Some, None, Ok, refl, codes}
 use Rattle.clap.specs.Words.{Row, Text}
 use Rattle.clap.specs.Walk.{reading_by}
 use Rattle.clap.specs.declared.parser.matches.ValueSource.TheVariants.{CommandLine, DefaultValue}
@@ -8,10 +8,10 @@ use Rattle.jiff.proofs.OnLiterals.{jiff_on_literals}
 use Rattle.pass_forms.specs.declared.form.Form.{Form}
 use Rattle.pass_forms.specs.declared.form.Form.TheVariants.{V1, V2, Json}
 use Rattle.pass_commands.specs.FormName.{form_name, form_named}
-use Rattle.desk_commands.specs.Application.{application, refusals, subcommand, word_named}
+use Rattle.desk_commands.specs.Application.{application, log_flag, refusals, subcommand, word_named}
 use Rattle.desk_commands.specs.Commanded.{Commanded}
 use Rattle.desk_commands.specs.Laws.{AddMemberTakesItsParts, CreditTakesItsParts, AddFacilityTakesItsParts, AddKeyTakesItsParts, AddKeyTakesV2, RevokeKeyTakesItsKey, RotateKeyTakesItsParts}
-use Rattle.desk_commands.specs.Laws.{RotateKeyTakesV2, CloseSlotTakesItsSlot, SheetTakesItsDay, ServeTakesItsParts, ServeTakesUtc, ServeTakesItsMoment}
+use Rattle.desk_commands.specs.Laws.{RotateKeyTakesV2, CloseSlotTakesItsSlot, SheetTakesItsDay, ServeTakesItsParts, ServeTakesUtc, ServeTakesItsMoment, ServeTakesItsLog}
 use Rattle.desk_server.specs.Zone.{zone_of}
 use Rattle.desk_commands.specs.Words.{asked, commanded, commanded_by}
 
@@ -27,6 +27,13 @@ given id value = record { id = id; values = value ∷ []; count = None; source =
 
 abbrev left_out : Text → Text → Row
 left_out id value = record (given id value) { source = Some DefaultValue }
+
+-- what it finds of the flag `--log`
+abbrev log_given : Row
+log_given = record (given (codes "log") (codes "true")) { reading = reading_by log_flag }
+
+abbrev log_left_out : Row
+log_left_out = record (given (codes "log") (codes "false")) { source = Some DefaultValue; reading = reading_by log_flag }
 
 -- UTC is the zone of a rule
 utc_is_a_zone : zone_of (codes "UTC0") ≡ Some (codes "UTC0")
@@ -264,7 +271,11 @@ module _ (program file port count zone : Text) where
   serve_its_parts-clear = refl
 
   serve_its_parts-found : subcommand serve_its_parts-words
-      ≡ Some (codes "serve", given (codes "port") port ∷ given (codes "count") count ∷ given (codes "zone") zone ∷ given (codes "FILE") file ∷ [])
+      ≡ Some (
+        codes "serve",
+        given (codes "port") port ∷ given (codes "count") count ∷ given (codes "zone") zone ∷ given (codes "FILE") file
+            ∷ log_left_out ∷ [],
+      )
   unfolding clap_on_literals application subcommand
   serve_its_parts-found = refl
 
@@ -286,7 +297,7 @@ module _ (program file port count : Text) where
       ≡ Some (
         codes "serve",
         given (codes "port") port ∷ given (codes "count") count ∷ given (codes "FILE") file
-            ∷ left_out (codes "zone") (codes "UTC0") ∷ [],
+            ∷ left_out (codes "zone") (codes "UTC0") ∷ log_left_out ∷ [],
       )
   unfolding clap_on_literals application subcommand
   serve_utc-found = refl
@@ -309,7 +320,7 @@ module _ (program file port count fixed : Text) where
       ≡ Some (
         codes "serve",
         given (codes "port") port ∷ given (codes "count") count ∷ given (codes "at") fixed ∷ given (codes "FILE") file
-            ∷ left_out (codes "zone") (codes "UTC0") ∷ [],
+            ∷ left_out (codes "zone") (codes "UTC0") ∷ log_left_out ∷ [],
       )
   unfolding clap_on_literals application subcommand
   serve_its_moment-found = refl
@@ -318,3 +329,28 @@ pub serve_takes_its_moment : ServeTakesItsMoment
 serve_takes_its_moment program file port count fixed at many moment a b d =
     asked_is _ _ _ (serve_its_moment-clear program file port count fixed)
     (serve_its_moment-found program file port count fixed) (rw (a, b, utc_is_a_zone, d) refl)
+
+-- ---- serve_takes_its_log
+
+module _ (program file port count fixed : Text) where
+  abbrev serve_its_log-words : List Text
+  serve_its_log-words =
+      program ∷ codes "serve" ∷ (codes "--port=" ++ port) ∷ (codes "--count=" ++ count) ∷ (codes "--at=" ++ fixed) ∷ codes "--log" ∷ codes "--" ∷ file ∷ []
+
+  serve_its_log-clear : refusals serve_its_log-words ≡ []
+  unfolding clap_on_literals application refusals
+  serve_its_log-clear = refl
+
+  serve_its_log-found : subcommand serve_its_log-words
+      ≡ Some (
+        codes "serve",
+        given (codes "port") port ∷ given (codes "count") count ∷ given (codes "at") fixed ∷ log_given ∷ given (codes "FILE") file
+            ∷ left_out (codes "zone") (codes "UTC0") ∷ [],
+      )
+  unfolding clap_on_literals application subcommand
+  serve_its_log-found = refl
+
+pub serve_takes_its_log : ServeTakesItsLog
+serve_takes_its_log program file port count fixed at many moment a b d =
+    asked_is _ _ _ (serve_its_log-clear program file port count fixed)
+    (serve_its_log-found program file port count fixed) (rw (a, b, utc_is_a_zone, d) refl)

@@ -5,6 +5,7 @@ use Rattle.clap.specs.Words.{subcommand_of, with_rule, with_subcommand}
 use Rattle.clap.specs.Simple.{on_top}
 use Rattle.clap.specs.declared.builder.command.Command.{Command}
 use Rattle.clap.specs.declared.builder.command.Command.TheViews.{out-Command}
+use Rattle.clap.specs.declared.builder.action.ArgAction.TheVariants.{SetTrue}
 
 -- a word that must be there, told by its place
 abbrev pub word_named : Text → Rule
@@ -37,6 +38,10 @@ form_option = with_default (codes "v2") (option_named (codes "form"))
 abbrev pub zone_option : Rule
 zone_option = with_default (codes "UTC0") (option_named (codes "zone"))
 
+-- `--log`
+abbrev pub log_flag : Rule
+log_flag = record (new_rule (codes "log")) { long = Some (codes "log"); action = Some SetTrue }
+
 abbrev pub add_member_command : App
 add_member_command = command_of_words (codes "add-member") (codes "FILE" ∷ codes "NAME" ∷ codes "QUOTA" ∷ [])
 
@@ -66,23 +71,24 @@ close_slot_command =
 abbrev pub sheet_command : App
 sheet_command = command_of_words (codes "sheet") (codes "FILE" ∷ codes "DAY" ∷ [])
 
--- `serve FILE --port P --count N [--zone RULE] [--at MOMENT]`
+-- `serve FILE --port P --count N [--zone RULE] [--at MOMENT] [--log]`
 abbrev pub serve_command : App
 serve_command =
-    with_rule (with_rule (with_rule (with_rule (command_of_words (codes "serve") (codes "FILE" ∷ []))
+    with_rule (with_rule (with_rule (with_rule (with_rule (command_of_words (codes "serve") (codes "FILE" ∷ []))
     (required (option_named (codes "port")))) (required (option_named (codes "count"))))
-    zone_option) (option_named (codes "at"))
+    zone_option) (option_named (codes "at"))) log_flag
 
 abbrev pub with_commands : App → List App → App
 with_commands app [] = app
 with_commands app (command ∷ commands) = with_commands (with_subcommand app command.top) commands
 
-abbrev pub needs_subcommand : Shape → Shape
-needs_subcommand top = record top { subcommand_required = true }
+-- it has a version, and a command must be named
+abbrev pub as_program : Shape → Shape
+as_program top = record top { has_version = true; subcommand_required = true }
 
--- the program before its commands, of which one must be named
+-- the program before its commands
 abbrev pub top : App
-top = on_top needs_subcommand (new_app (codes "clubdesk"))
+top = on_top as_program (new_app (codes "clubdesk"))
 
 -- `clubdesk COMMAND`
 unfoldable pub application : App

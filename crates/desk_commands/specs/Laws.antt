@@ -1,5 +1,5 @@
 -- Laws of the definitions: what each command's words ask for. Behind `--` words are never options, whatever they begin with.
-use Rattle.std.specs.Prelude.{◌≡◌, ℕ, List, [], ◌∷◌, ◌++◌, Option, Some, None, codes}
+use Rattle.std.specs.Prelude.{◌≡◌, ℕ, List, [], ◌∷◌, ◌++◌, Some, codes, false, true}
 use Rattle.clap.specs.Words.{Text}
 use Rattle.club_values.specs.TextOf.{name_of_text, kind_of_text, day_of_text, hour_of_text, moment_of_text}
 use Rattle.club_values.specs.declared.kind.Kind.{Kind}
@@ -7,7 +7,6 @@ use Rattle.club_core.specs.declared.command.Command.TheVariants as order
 use Rattle.pass_forms.specs.declared.form.Form.{Form}
 use Rattle.pass_forms.specs.declared.form.Form.TheVariants.{V2}
 use Rattle.pass_commands.specs.FormName.{form_name}
-use Rattle.desk_commands.specs.Commanded.{Commanded}
 use Rattle.desk_commands.specs.Values.{count_of, number_of, port_of, root_of}
 use Rattle.desk_server.specs.Zone.{zone_of}
 use Rattle.desk_commands.specs.Words.{asked}
@@ -87,18 +86,25 @@ abbrev pub ServeTakesItsParts : Type 0
 ServeTakesItsParts = (program file port count zone : Text) (at many : ℕ) (rule : Text)
     → port_of port ≡ Some at → count_of count ≡ Some many → zone_of zone ≡ Some rule
     → Asks (program ∷ codes "serve" ∷ (codes "--port=" ++ port) ∷ (codes "--count=" ++ count) ∷ (codes "--zone=" ++ zone) ∷ codes "--" ∷ file ∷ [])
-    file (Serve (record { port = at; count = many; clock = InZone rule }))
+    file (Serve (record { port = at; count = many; clock = InZone rule; log = false }))
 
 -- the same without a zone
 abbrev pub ServeTakesUtc : Type 0
 ServeTakesUtc = (program file port count : Text) (at many : ℕ)
     → port_of port ≡ Some at → count_of count ≡ Some many
     → Asks (program ∷ codes "serve" ∷ (codes "--port=" ++ port) ∷ (codes "--count=" ++ count) ∷ codes "--" ∷ file ∷ [])
-    file (Serve (record { port = at; count = many; clock = InZone (codes "UTC0") }))
+    file (Serve (record { port = at; count = many; clock = InZone (codes "UTC0"); log = false }))
 
 -- the same with a moment for all connections
 abbrev pub ServeTakesItsMoment : Type 0
 ServeTakesItsMoment = (program file port count fixed : Text) (at many moment : ℕ)
     → port_of port ≡ Some at → count_of count ≡ Some many → moment_of_text fixed ≡ Some moment
     → Asks (program ∷ codes "serve" ∷ (codes "--port=" ++ port) ∷ (codes "--count=" ++ count) ∷ (codes "--at=" ++ fixed) ∷ codes "--" ∷ file ∷ [])
-    file (Serve (record { port = at; count = many; clock = Fixed moment }))
+    file (Serve (record { port = at; count = many; clock = Fixed moment; log = false }))
+
+-- the same with a log
+abbrev pub ServeTakesItsLog : Type 0
+ServeTakesItsLog = (program file port count fixed : Text) (at many moment : ℕ)
+    → port_of port ≡ Some at → count_of count ≡ Some many → moment_of_text fixed ≡ Some moment
+    → Asks (program ∷ codes "serve" ∷ (codes "--port=" ++ port) ∷ (codes "--count=" ++ count) ∷ (codes "--at=" ++ fixed) ∷ codes "--log" ∷ codes "--" ∷ file ∷ [])
+    file (Serve (record { port = at; count = many; clock = Fixed moment; log = true }))

@@ -1,9 +1,10 @@
 -- What the words ask for (ours).
-use Rattle.std.specs.Prelude.{◌≡◌, ◌≢◌, ◌⊎◌, ℕ, IsSomeAnd, if◌then◌else◌, List, [], Option, Some, None, Result, Ok, Err, codes}
+use Rattle.std.specs.Prelude.{◌≡◌, ◌≢◌, ◌⊎◌, ℕ, Bool, IsSomeAnd, if◌then◌else◌, List, [], Option, Some, None, Result, Ok, Err, codes}
 use Rattle.std.specs.Option.{ok_or}
 use Rattle.std.specs.Result.{result_ok}
 use Rattle.std.specs.Str.{bytes_eq}
 use Rattle.clap.specs.Words.{IsAmong, Row, Text, first_of, kind_of}
+use Rattle.clap.specs.declared.error.kind.ErrorKind.{ErrorKind}
 use Rattle.clap.specs.declared.error.kind.ErrorKind.TheVariants as kind
 use Rattle.clap.specs.Walk.{is_empty}
 use Rattle.club_values.specs.TextOf.{name_of_text, kind_of_text, day_of_text, hour_of_text, moment_of_text}
@@ -22,7 +23,7 @@ use Rattle.desk_commands.specs.declared.clock.Clock.TheVariants.{Fixed, InZone}
 use Rattle.desk_commands.specs.declared.task.Task.{Task}
 use Rattle.desk_commands.specs.declared.task.Task.TheVariants.{Order, AddKey, RotateKey, Sheet, Serve}
 use Rattle.desk_commands.specs.declared.words.Asked.{Asked}
-use Rattle.desk_commands.specs.declared.words.Asked.TheVariants.{Perform, ShowHelp}
+use Rattle.desk_commands.specs.declared.words.Asked.TheVariants.{Perform, ShowText}
 
 -- why words that clap reads ask for no command
 pub data Refusal : Type 0 where
@@ -45,6 +46,10 @@ name_in id rows = name_of_text (word_in id rows)
 
 abbrev pub number_in : Text → List Row → Option ℕ
 number_in id rows = number_of (word_in id rows)
+
+-- a flag is there, which clap tells by the text `true`
+abbrev pub is_set : Text → List Row → Bool
+is_set id rows = bytes_eq (value_in id rows) (codes "true")
 
 -- ---- the commands, each of the values that its words spell
 
@@ -114,7 +119,7 @@ serve_of rows = do
   count ← count_of (word_in (codes "count") rows)
   zone ← zone_of (word_in (codes "zone") rows)
   clock ← clock_of zone (first_of (codes "at") rows)
-  Some (Serve (record { port = port; count = count; clock = clock }))
+  Some (Serve (record { port = port; count = count; clock = clock; log = is_set (codes "log") rows }))
 
 -- ---- the words
 
@@ -170,8 +175,13 @@ commanded words = commanded_by (subcommand words)
 abbrev pub asked : List Text → Option Commanded
 asked words = if is_empty (refusals words) then result_ok (commanded words) else None
 
-abbrev pub AsksHelp : List Text → Type 0
-AsksHelp words = IsAmong kind.DisplayHelp (refusals words)
+-- words that ask for a text: help, or the version
+abbrev pub AsksText : List Text → Type 0
+AsksText words = IsAmong kind.DisplayHelp (refusals words) ⊎ IsAmong kind.DisplayVersion (refusals words)
+
+-- the kind of a fault that is no such text
+abbrev pub IsNoText : ErrorKind → Type 0
+IsNoText of_kind = (of_kind ≢ kind.DisplayHelp) × (of_kind ≢ kind.DisplayVersion)
 
 -- A call answers what is asked for, or the fault that fits, or out of memory in place of either.
 abbrev pub AnswersAsked : {A : Type 0} → Result A Refusal → Result A Fault → Type 0
@@ -190,7 +200,7 @@ AnswersForm expected (Err _) = ⊥
 
 -- The fault of the words: clap decides first, then a form, then the other values.
 abbrev pub IsFaultOf : List Text → Fault → Type 0
-IsFaultOf words (Words error) = (IsAmong (kind_of error) (refusals words) × (kind_of error ≢ kind.DisplayHelp))
+IsFaultOf words (Words error) = (IsAmong (kind_of error) (refusals words) × IsNoText (kind_of error))
     ⊎ ((refusals words ≡ []) × (commanded words ≡ Err bad_form) × (kind_of error ≡ kind.InvalidValue))
 IsFaultOf words BadValue = (refusals words ≡ []) × (commanded words ≡ Err bad_value)
 IsFaultOf words Memory = Unit {0}
@@ -198,6 +208,6 @@ IsFaultOf words _ = ⊥
 
 -- what the words may be read as
 abbrev pub ReadsWords : List Text → Result Asked Fault → Type 0
-ReadsWords words (Ok (ShowHelp text)) = AsksHelp words
+ReadsWords words (Ok (ShowText text)) = AsksText words
 ReadsWords words (Ok (Perform command)) = (refusals words ≡ []) × (commanded words ≡ Ok command)
 ReadsWords words (Err fault) = IsFaultOf words fault

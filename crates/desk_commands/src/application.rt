@@ -7,7 +7,8 @@ ghost use Rattle.desk_commands.specs.Fault.{IsOfWords};
 
 use crate::fault::Fault;
 use clap::error::ErrorKind;
-use clap::{Arg, Command};
+use clap::{Arg, ArgAction, Command};
+use pass_commands::VERSION;
 use std::alloc::{AllocError, Global};
 
 const STATUSES: &str = "Exit status:
@@ -101,6 +102,7 @@ fn make_top<'a>(alloc: Global) -> Command<'a>
     ensures { app_of result ≡ spec.top }
 {
     Command::new(alloc, "clubdesk")
+        .version(VERSION)
         .about("The desk of a club: its office, its day sheet and its server")
         .after_long_help(STATUSES)
         .subcommand_required(true)
@@ -266,7 +268,8 @@ fn make_serve<'a>(alloc: Global) -> Result<Command<'a>, AllocError>
     .arg(port.required(true))?
     .arg(count.required(true))?
     .arg(zone.default_value("UTC0"))?
-    .arg(at)
+    .arg(at)?
+    .arg(make_log(alloc))
 }
 
 // A command with the words behind its name, each of which must be there.
@@ -315,6 +318,16 @@ fn make_option<'a>(alloc: Global, name: &'a str, value: &'a str, help: &'a str) 
         .long(name)
         .value_name(value)
         .help(help)
+}
+
+fn make_log<'a>(alloc: Global) -> Arg<'a>
+    ensures rule { rule_of result ≡ spec.log_flag }
+    ensures local { result.global ≡ false }
+{
+    Arg::new(alloc, "log")
+        .long("log")
+        .action(ArgAction::SetTrue)
+        .help("Tells each connection in a line on standard error")
 }
 
 fn make_form<'a>(alloc: Global) -> Arg<'a>

@@ -5,7 +5,7 @@ ghost use Rattle.clap.specs.Words.{found_of, rows_of};
 ghost use Rattle.desk_commands.specs.Words as spec;
 
 use crate::clock::Clock;
-use crate::options::{given, name_of, number_at};
+use crate::options::{given, is_set, name_of, number_at};
 use crate::task::{Service, Task};
 use crate::values::{count_of, port_of, root_of};
 use clap::ArgMatches;
@@ -113,7 +113,7 @@ pub fn sheet<'a>(words: &ArgMatches<'a>) -> Option<Task<'a>>
     Some(Task::Sheet(day))
 }
 
-/// `serve FILE --port P --count N [--zone RULE] [--at MOMENT]`
+/// `serve FILE --port P --count N [--zone RULE] [--at MOMENT] [--log]`
 pub fn serve<'a>(words: &ArgMatches<'a>) -> Option<Task<'a>>
     ensures { result ≡ spec.serve_of (rows_of (found_of words.now)) }
 {
@@ -121,7 +121,12 @@ pub fn serve<'a>(words: &ArgMatches<'a>) -> Option<Task<'a>>
     let count = count_of(value_of(words, "count"))?;
     let zone = Zone::from_rule(value_of(words, "zone"))?;
     let clock = clock_of(zone, given(words, "at"))?;
-    Some(Task::Serve(Service { port, count, clock }))
+    Some(Task::Serve(Service {
+        port,
+        count,
+        clock,
+        log: is_set(words, "log"),
+    }))
 }
 
 // The moment that `--at` fixes, else the clock in the zone.

@@ -1,6 +1,6 @@
 //! What holds of the definitions alone: each command takes its words.
 
-ghost use Rattle.desk_commands.specs.Laws.{AddMemberTakesItsParts, CreditTakesItsParts, AddFacilityTakesItsParts, AddKeyTakesItsParts, AddKeyTakesV2, RevokeKeyTakesItsKey, RotateKeyTakesItsParts, RotateKeyTakesV2, CloseSlotTakesItsSlot, SheetTakesItsDay, ServeTakesItsParts, ServeTakesUtc, ServeTakesItsMoment};
+ghost use Rattle.desk_commands.specs.Laws.{AddMemberTakesItsParts, CreditTakesItsParts, AddFacilityTakesItsParts, AddKeyTakesItsParts, AddKeyTakesV2, RevokeKeyTakesItsKey, RotateKeyTakesItsParts, RotateKeyTakesV2, CloseSlotTakesItsSlot, SheetTakesItsDay, ServeTakesItsParts, ServeTakesUtc, ServeTakesItsMoment, ServeTakesItsLog};
 
 /// `add-member FILE NAME QUOTA` asks for a member of that name and quota.
 pub fn add_member_takes_its_parts()
@@ -65,4 +65,9 @@ pub fn serve_takes_utc()
 /// `serve` with a moment asks for that moment at all connections.
 pub fn serve_takes_its_moment()
     ensures { ServeTakesItsMoment }
+{}
+
+/// `serve` with `--log` asks for a log.
+pub fn serve_takes_its_log()
+    ensures { ServeTakesItsLog }
 {}

@@ -4,7 +4,7 @@ ghost use Rattle.std.specs.Prelude.{◌≡◌, IfOk, option_map};
 ghost use Rattle.clap.specs.Words.{first_of, found_of, kind_of, rows_of};
 ghost use Rattle.clap.specs.declared.error.kind.ErrorKind.TheVariants as kind;
 ghost use Rattle.desk_commands.specs.Fault.{IsBadForm};
-ghost use Rattle.desk_commands.specs.Words.{AnswersForm, form_in, name_in, number_in};
+ghost use Rattle.desk_commands.specs.Words.{AnswersForm, form_in, is_set, name_in, number_in};
 
 use crate::application::refusal;
 use crate::fault::Fault;
@@ -35,6 +35,13 @@ pub fn given<'a>(words: &ArgMatches<'a>, id: &str) -> Option<&'a str>
     ensures { option_map (λ text. text.now) result ≡ first_of id.now (rows_of (found_of words.now)) }
 {
     words.get_str(id)
+}
+
+/// Whether a flag is there, which clap tells by a text.
+pub fn is_set(words: &ArgMatches<'_>, id: &str) -> bool
+    ensures { result ≡ is_set id.now (rows_of (found_of words.now)) }
+{
+    value_of(words, id) == "true"
 }
 
 /// The form that `--form` names.

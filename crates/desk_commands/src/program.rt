@@ -1,8 +1,8 @@
-//! A run of the program, over words, a reader and a writer.
+//! A run of the program, over words, a reader and writers.
 
-ghost use Rattle.std.specs.Prelude.{◌≡◌, ◌⊎◌, IfErr, None, map};
-ghost use Rattle.desk_commands.specs.Run.{AnswersWords, EndsFor, IsOfTask, OpensFor};
-ghost use Rattle.desk_server.specs.Served.{CountsOn};
+ghost use Rattle.std.specs.Prelude.{◌≡◌, None, Some, IfErr, MatchResult, false, map};
+ghost use Rattle.desk_commands.specs.Commanded.{Commanded};
+ghost use Rattle.desk_commands.specs.Run.{AnswersWords, Does, EndsFor, IsOfTask, IsSilent, Performs, asks_log, job_of, logs};
 ghost use Rattle.desk_commands.specs.Words.{asked};
 
 use crate::fault::Fault;
@@ -19,80 +19,127 @@ use std::io::{Read, Write};
 pub trait Databases {
     type Store: ClubStore + Drop;
 
-    ghost use Rattle.std.specs.Prelude.{ℕ};
-    ghost use Rattle.desk_server.specs.Served.{CountsOn};
+    ghost use Rattle.std.specs.Prelude.{ℕ, List, Result};
+    ghost use Rattle.club_core.specs.declared.store.StoreFault.{StoreFault};
 
-    // how often one was opened, or tried to be
-    ghost opened: { Self → ℕ };
+    // what an opening of a name gives, with what was before and is after
+    ghost opens: { Self → List ℕ → Result Self.Store StoreFault → Self → Type 0 };
+
+    // what closing a database leaves
+    ghost closes: { Self → Self.Store → Self → Type 0 };
 
     /// Opens the database of a name; an empty one is made where there is none.
     fn open(&mut self, name: &str) -> Result<Self::Store, StoreFault>
-        ensures { CountsOn (opened self.old) 1 (opened self.new) };
+        ensures { opens self.old name.now result self.new };
+
+    /// Closes a database. What was committed stays, also where that fails.
+    fn close(&mut self, store: Self::Store)
+        ensures { closes self.old store self.new };
 }
 
 /// Runs the program on its words, of which the first is its name.
 ///
-/// The words are judged before a database is opened; it is opened once. Nothing is read. Help is
-/// written as `clap` makes it.
+/// The words are judged before a database is opened; it is opened once, and closed at the end.
+/// Nothing is read. Help and the version are written as `clap` makes them. Only `serve` with `--log`
+/// writes to `errors`.
 ///
 /// # Errors
 ///
 /// Of the words: `Words` and `BadValue`. `Refused` as the office tells; `Storage`, also where the
 /// database can't be opened; `Memory`; after these nothing was written. `ClockOutOfRange` and
 /// `InputOutput` may come after a beginning of the output.
-pub fn run<D: Databases, S: AsStr, R: Read, W: Write>(
+pub fn run<D: Databases, S: AsStr, R: Read, W: Write, E: Write>(
     rt: &HostRuntime,
     databases: &mut D,
     words: &[S],
     _reader: &mut R,
     writer: &mut W,
+    errors: &mut E,
 ) -> Result<(), Fault>
     // The fault of the words, or what they ask for.
     ensures words { AnswersWords (map S.text words.now) result }
-    // Words that ask for nothing open nothing, and others one database, once.
+    // Where they ask for a task, it was done at the database of the name that they give.
+    ensures command { (job : Commanded) → asked (map S.text words.now) ≡ Some job
+        → Performs D.opens D.closes
+        (λ store left. Does D.Store.is_honest D.Store.stands job.task store left
+        (W.contents writer.old) (W.contents writer.new) (writer.new ≡ writer.old) result)
+        job.file databases.old databases.new (writer.new ≡ writer.old) result }
+    // Where they ask for none, no database was opened.
     ensures unopened { asked (map S.text words.now) ≡ None → databases.new ≡ databases.old }
-    ensures opened { (databases.new ≡ databases.old)
-        ⊎ CountsOn (D.opened databases.old) 1 (D.opened databases.new) }
+    ensures silent { IfErr result (λ fault. IsSilent fault → writer.new ≡ writer.old) }
+    ensures unlogged { asks_log (asked (map S.text words.now)) ≡ false → errors.new ≡ errors.old }
     ensures unread { _reader.new ≡ _reader.old }
 {
     match command_of(rt.alloc(), words) {
-        Ok(asked) => answer(rt, databases, asked, writer),
+        Ok(asked) => answer(rt, databases, asked, writer, errors),
         Err(fault) => Err(fault),
     }
 }
 
-// Shows help, or opens the database and does what is asked for.
-fn answer<D: Databases, W: Write>(
+// Shows a text, or does what is asked for.
+fn answer<D: Databases, W: Write, E: Write>(
     rt: &HostRuntime,
     databases: &mut D,
     asked: Asked<'_>,
     writer: &mut W,
+    errors: &mut E,
 ) -> Result<(), Fault>
     ensures ends { EndsFor asked.entry result }
-    ensures opened { OpensFor asked.entry (CountsOn (D.opened databases.old) 1 (D.opened databases.new))
-        (databases.new ≡ databases.old) }
+    ensures command { (job : Commanded) → job_of asked.entry ≡ Some job
+        → Performs D.opens D.closes
+        (λ store left. Does D.Store.is_honest D.Store.stands job.task store left
+        (W.contents writer.old) (W.contents writer.new) (writer.new ≡ writer.old) result)
+        job.file databases.old databases.new (writer.new ≡ writer.old) result }
+    ensures unopened { job_of asked.entry ≡ None → databases.new ≡ databases.old }
+    ensures silent { IfErr result (λ fault. IsSilent fault → writer.new ≡ writer.old) }
+    ensures unlogged { asks_log (job_of asked.entry) ≡ false → errors.new ≡ errors.old }
 {
     match asked {
-        Asked::ShowHelp(help) => show(&help, writer),
-        Asked::Perform(job) => {
-            let Job { file, task } = job;
-            match databases.open(file) {
-                Ok(store) => perform(rt, &mut Desk::new(rt.alloc(), store), task, writer),
-                Err(StoreFault::Memory) => Err(Fault::Memory),
-                Err(StoreFault::Storage) => Err(Fault::Storage),
-            }
+        Asked::ShowText(text) => show(&text, writer),
+        Asked::Perform(job) => perform(rt, databases, job, writer, errors),
+    }
+}
+
+// Opens the database, does the task at it, and closes it.
+fn perform<D: Databases, W: Write, E: Write>(
+    rt: &HostRuntime,
+    databases: &mut D,
+    job: Job<'_>,
+    writer: &mut W,
+    errors: &mut E,
+) -> Result<(), Fault>
+    ensures done { Performs D.opens D.closes
+        (λ store left. Does D.Store.is_honest D.Store.stands job.entry.task store left
+        (W.contents writer.old) (W.contents writer.new) (writer.new ≡ writer.old) result)
+        job.entry.file databases.old databases.new (writer.new ≡ writer.old) result }
+    ensures of_task { IfErr result IsOfTask }
+    ensures silent { IfErr result (λ fault. IsSilent fault → writer.new ≡ writer.old) }
+    ensures unlogged { logs job.entry.task ≡ false → errors.new ≡ errors.old }
+{
+    let Job { file, task } = job;
+    match databases.open(file) {
+        Ok(store) => {
+            let mut desk = Desk::new(rt.alloc(), store);
+            let outcome = carry_out(rt, &mut desk, task, writer, errors);
+            databases.close(desk.into_store());
+            outcome
         }
+        Err(StoreFault::Memory) => Err(Fault::Memory),
+        Err(StoreFault::Storage) => Err(Fault::Storage),
     }
 }
 
 // Does a task at a desk.
-fn perform<S: ClubStore, W: Write>(
+fn carry_out<S: ClubStore, W: Write, E: Write>(
     rt: &HostRuntime,
     desk: &mut Desk<S>,
     task: Task<'_>,
     writer: &mut W,
+    errors: &mut E,
 ) -> Result<(), Fault>
-    ensures { IfErr result IsOfTask }
+    ensures done { Does S.is_honest S.stands task.entry desk.old desk.new
+        (W.contents writer.old) (W.contents writer.new) (writer.new ≡ writer.old) result }
+    ensures unlogged { logs task.entry ≡ false → errors.new ≡ errors.old }
 {
     let alloc = rt.alloc();
     match task {
@@ -116,15 +163,15 @@ fn perform<S: ClubStore, W: Write>(
             order_pass(alloc, desk, &name, &root, form, &order, writer)
         }
         Task::Sheet(day) => show_sheet(desk, day, writer),
-        Task::Serve(service) => serve(rt, desk, service, writer),
+        Task::Serve(service) => serve(rt, desk, service, writer, errors),
     }
 }
 
-// Writes the help text, whose bytes no clause states.
-fn show<W: Write>(help: &clap::Error, writer: &mut W) -> Result<(), Fault>
+// Writes help or the version, whose bytes no clause states.
+fn show<W: Write>(text: &clap::Error, writer: &mut W) -> Result<(), Fault>
     ensures { IfErr result (λ fault. fault ≡ Fault.InputOutput) }
 {
-    write!(writer, "{help}")?;
+    write!(writer, "{text}")?;
     writer.flush()?;
     Ok(())
 }

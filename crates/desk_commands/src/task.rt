@@ -41,6 +41,8 @@ pub struct Service<'a> {
     pub count: u32,
     /// Where the moments come from.
     pub clock: Clock<'a>,
+    /// Whether each connection is told in a line on standard error.
+    pub log: bool,
 }
 
 /// A task, and the file of its database.

@@ -13,9 +13,10 @@ const ROOT: &str = "000102030405060708090a0b0c0d0e0f";
 
 fn service_told(alloc: Global, service: &Service<'_>) -> Result<String, Fail> {
     let (port, count) = (service.port, service.count);
+    let log = if service.log { " with a log" } else { "" };
     match &service.clock {
-        Clock::Fixed(moment) => Ok(format!(in alloc; "serve {port} {count} at {moment}")?),
-        Clock::InZone(_) => Ok(format!(in alloc; "serve {port} {count} by the clock")?),
+        Clock::Fixed(moment) => Ok(format!(in alloc; "serve {port} {count} at {moment}{log}")?),
+        Clock::InZone(_) => Ok(format!(in alloc; "serve {port} {count} by the clock{log}")?),
     }
 }
 
@@ -65,7 +66,7 @@ fn expect(
             assert_eq!(rt; job.file, file);
             Ok(())
         }
-        Ok(Asked::ShowHelp(_)) => Err("help".into()),
+        Ok(Asked::ShowText(_)) => Err("help".into()),
         Err(fault) => Err(fault.to_string(alloc)?.into()),
     }
 }
@@ -212,6 +213,10 @@ fn servers(rt: HostRuntime) -> Result<(), Fail> {
             "serve 0 1 by the clock",
         ),
         (
+            ["serve", "F", "--log", "--port", "0", "--count", "1"].as_slice(),
+            "serve 0 1 by the clock with a log",
+        ),
+        (
             [
                 "serve",
                 "F",
@@ -270,4 +275,5 @@ fn laws_hold() {
     laws::serve_takes_its_parts();
     laws::serve_takes_utc();
     laws::serve_takes_its_moment();
+    laws::serve_takes_its_log();
 }

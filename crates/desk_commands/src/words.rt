@@ -19,8 +19,8 @@ use std::convert::AsStr;
 /// What the words ask for.
 #[derive(Drop)]
 pub enum Asked<'a> {
-    /// The help text, which `clap` made.
-    ShowHelp(clap::Error),
+    /// The help text or the version, which `clap` made.
+    ShowText(clap::Error),
     /// A task over a database.
     Perform(Job<'a>),
 }
@@ -47,7 +47,8 @@ pub fn command_of<'a, S: AsStr>(alloc: Global, words: &'a [S]) -> Result<Asked<'
             Err(fault) => Err(fault),
         },
         Err(error) => match error.kind() {
-            ErrorKind::DisplayHelp => Ok(Asked::ShowHelp(error)),
+            ErrorKind::DisplayHelp => Ok(Asked::ShowText(error)),
+            ErrorKind::DisplayVersion => Ok(Asked::ShowText(error)),
             ErrorKind::OutOfMemory => Err(Fault::Memory),
             _ => Err(Fault::Words(error)),
         },

@@ -5,7 +5,7 @@ use Rattle.club_http.specs.Exchange.{Exchanges, Replies}
 use Rattle.club_http.specs.Replied.{Asks}
 use Rattle.club_http.specs.declared.fault.AnswerFault.{AnswerFault}
 use Rattle.club_http.specs.declared.fault.AnswerFault.TheVariants.{Read, Write}
-use Rattle.desk_server.specs.Served.{AreAnswered, AreServed, CountsOn, IsExchanged, Tells}
+use Rattle.desk_server.specs.Served.{AreAnswered, AreServed, CountsOn, IsExchanged, IsStopped, Tells}
 use Rattle.desk_server.specs.Served as spec
 
 -- an exchange over any reader and writer is one of the desk
@@ -22,9 +22,22 @@ one_more waited i now new so_far more fits = let before : now ≡ waited + i = s
 
 -- behind the last
 pub all_of : {Clock Desk : Type 0} (Told : Tells Clock) (Answers : ℕ → Asks Desk) (clock : Clock) (desk : Desk) (i count : ℕ) (clock' : Clock) (desk' : Desk)
-    (waited waited' : ℕ) → i ≡ count → AreServed Told Answers clock desk i clock' desk' → CountsOn waited i waited'
-    → AreServed Told Answers clock desk count clock' desk' × CountsOn waited count waited'
-all_of Told Answers clock desk i count clock' desk' waited waited' last served counted = rw (← last) (served, counted)
+    (waited waited' told told' : ℕ) → i ≡ count → AreServed Told Answers clock desk i clock' desk' → CountsOn waited i waited' → CountsOn told i told'
+    → AreServed Told Answers clock desk count clock' desk' × CountsOn waited count waited' × CountsOn told count told'
+all_of Told Answers clock desk i count clock' desk' waited waited' told told' last served counted logged = rw (← last) (served, counted, logged)
+
+-- what is counted besides may be left out
+pub stopped_too : {Clock Desk : Type 0} (Told : Tells Clock) (Answers : ℕ → Asks Desk) (clock : Clock) (desk : Desk) (count : ℕ) (clock' : Clock) (desk' : Desk)
+    (Counted Besides : ℕ → Type 0) → IsStopped Told Answers clock desk count clock' desk' (λ n. Counted n × Besides n)
+    → IsStopped Told Answers clock desk count clock' desk' Counted
+stopped_too Told Answers clock desk count clock' desk' Counted Besides stopped = record {
+  served = stopped.served;
+  last = stopped.last;
+  fewer = stopped.fewer;
+  before = stopped.before;
+  no_moment = stopped.no_moment;
+  counted = stopped.counted.0;
+}
 
 -- what the desk did, of all that was done
 pub answered : {Clock Desk : Type 0} (Told : Tells Clock) (Answers : ℕ → Asks Desk) (clock : Clock) (desk : Desk) (n : ℕ) (clock' : Clock) (desk' : Desk)

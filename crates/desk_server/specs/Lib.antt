@@ -1,2 +1,3 @@
 pub mod Zone
 pub mod Served
+pub mod RequestLine

@@ -28,15 +28,15 @@ pub data AreServed {Clock Desk : Type 0} (Told : Tells Clock) (Answers : ℕ →
   more : (n : ℕ) (c : Clock) (d : Desk) (c' : Clock) (d' : Desk) → AreServed Told Answers clock desk n c d
       → IsServed Told Answers c d c' d' → AreServed Told Answers clock desk (n + 1) c' d'
 
--- The server stopped at a connection, before the last, at which the clock told no moment.
+-- The server stopped at a connection, before the last, at which the clock told no moment. It counts with those that were waited for.
 pub record IsStopped {Clock Desk : Type 0} (Told : Tells Clock) (Answers : ℕ → Asks Desk) (clock : Clock) (desk : Desk) (count : ℕ) (clock' : Clock) (desk' : Desk)
-    (waited waited' : ℕ) : Type 0 where
+    (Counted : ℕ → Type 0) : Type 0 where
   pub served : ℕ
   pub last : Clock
   pub fewer : served < count
   pub before : AreServed Told Answers clock desk served last desk'
   pub no_moment : Told last None clock'
-  pub waited_for : CountsOn waited (served + 1) waited'
+  pub counted : Counted (served + 1)
 
 -- the same of the desk alone: each exchange is one at some moment
 pub data AreAnswered {Desk : Type 0} (Answers : ℕ → Asks Desk) (desk : Desk) : ℕ → Desk → Type 0 where

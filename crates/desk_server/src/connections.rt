@@ -2,24 +2,25 @@
 
 ghost use Rattle.desk_server.specs.Served.{IsExchanged};
 
+use crate::request_line::RequestLine;
 use club_core::Reply;
 use club_http::{AnswerFault, Face, Inlet, Outlet, ReadInlet, Responder, WriteOutlet, answer};
 use club_values::Moment;
 use std::net::{TcpListener, TcpStream};
 
+/// An exchange that was made.
+#[derive(Clone, Copy)]
+pub struct Exchange {
+    /// How the request began.
+    pub line: RequestLine,
+    /// The reply, or the fault, of `club_http::answer`.
+    pub outcome: Result<Reply, AnswerFault>,
+}
+
 /// A connection.
 pub trait Connection {
     /// One exchange with the desk, at a moment.
-    ///
-    /// # Errors
-    ///
-    /// As `club_http::answer`.
-    fn exchange<D: Responder>(
-        &mut self,
-        face: &mut Face,
-        desk: &mut D,
-        moment: Moment,
-    ) -> Result<Reply, AnswerFault>
+    fn exchange<D: Responder>(&mut self, face: &mut Face, desk: &mut D, moment: Moment) -> Exchange
         ensures { IsExchanged (D.answers moment) desk.old desk.new };
 }
 
@@ -29,25 +30,52 @@ impl Connection for TcpStream {
         face: &mut Face,
         desk: &mut D,
         moment: Moment,
-    ) -> Result<Reply, AnswerFault> {
+    ) -> Exchange {
         let stream = &*self;
-        let mut reader = ReadInlet::new(stream);
+        let reader = ReadInlet::new(stream);
         let mut writer = WriteOutlet::new(stream);
-        exchange_over(face, desk, moment, &mut reader, &mut writer)
+        exchange_over(face, desk, moment, reader, &mut writer)
     }
 }
 
 // One exchange, over any two ends.
-pub(crate) fn exchange_over<D: Responder, R: Inlet, W: Outlet>(
+pub(crate) fn exchange_over<D: Responder, R: Inlet + Drop, W: Outlet>(
     face: &mut Face,
     desk: &mut D,
     moment: Moment,
-    reader: &mut R,
+    reader: R,
     writer: &mut W,
-) -> Result<Reply, AnswerFault>
+) -> Exchange
     ensures { IsExchanged (D.answers moment) desk.old desk.new }
 {
-    answer(face, desk, moment, reader, writer)
+    let mut noting = Noting {
+        reader,
+        line: RequestLine::new(),
+    };
+    let outcome = answer(face, desk, moment, &mut noting, writer);
+    Exchange {
+        line: noting.line,
+        outcome,
+    }
+}
+
+/// A reader, whose first bytes are kept.
+#[derive(Drop)]
+struct Noting<R> {
+    reader: R,
+    line: RequestLine,
+}
+
+impl<R: Inlet> Inlet for Noting<R> {
+    ghost to_come = { λ noting. R.to_come noting.reader };
+
+    ghost failures = { λ noting. R.failures noting.reader };
+
+    fn fill(&mut self, room: &mut [u8]) -> Option<usize> {
+        let count = self.reader.fill(room)?;
+        self.line.keep(&room[..count]);
+        Some(count)
+    }
 }
 
 /// What connections come from.

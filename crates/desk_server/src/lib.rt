@@ -3,13 +3,17 @@
 #![tactic(auto)]
 
 mod connections;
+mod log;
 mod moments;
+mod request_line;
 mod serve;
 #[cfg(test)]
 mod tests;
 mod zone;
 
-pub use connections::{Connection, Connections, Listening};
+pub use connections::{Connection, Connections, Exchange, Listening};
+pub use log::{Fate, Log, LogLines, Unlogged};
 pub use moments::{ClockIn, Fixed, Moments};
-pub use serve::{ClockOutOfRange, serve_on};
+pub use request_line::{MAX_KEPT, RequestLine};
+pub use serve::{ClockOutOfRange, serve_logged, serve_on};
 pub use zone::Zone;

@@ -4,6 +4,7 @@ ghost use Rattle.std.specs.Prelude.{◌≡◌, ◌<◌, ℕ, MatchResult};
 ghost use Rattle.desk_server.specs.Served.{AreAnswered, AreServed, CountsOn, IsServed, IsStopped};
 
 use crate::connections::{Connection, Connections};
+use crate::log::{Fate, Log, Unlogged};
 use crate::moments::Moments;
 use club_http::{Face, Responder};
 use std::error::Error;
@@ -44,14 +45,49 @@ pub fn serve_on<L: Connections, M: Moments, D: Responder>(
         (λ _. AreServed M.tells D.answers moments.old desk.old count moments.new desk.new
         × CountsOn (L.waited connections.old) count (L.waited connections.new))
         (λ _. IsStopped M.tells D.answers moments.old desk.old count moments.new desk.new
-        (L.waited connections.old) (L.waited connections.new)) }
+        (λ n. CountsOn (L.waited connections.old) n (L.waited connections.new))) }
     // Of the desk alone: it stepped by an exchange for each connection that was served.
     ensures answered { MatchResult result
         (λ _. AreAnswered D.answers desk.old count desk.new)
         (λ _. (n : ℕ) × (n < count) × AreAnswered D.answers desk.old n desk.new) }
 {
+    serve_logged(
+        connections,
+        count,
+        moments,
+        face,
+        desk,
+        &mut Unlogged::new(),
+    )
+}
+
+/// Serves connections as `serve_on`, and tells a log of each. What is served is the same whatever
+/// the log does.
+///
+/// # Errors
+///
+/// As `serve_on`.
+pub fn serve_logged<L: Connections, M: Moments, D: Responder, G: Log>(
+    connections: &mut L,
+    count: u32,
+    moments: &mut M,
+    face: &mut Face,
+    desk: &mut D,
+    log: &mut G,
+) -> Result<(), ClockOutOfRange>
+    ensures served { MatchResult result
+        (λ _. AreServed M.tells D.answers moments.old desk.old count moments.new desk.new
+        × CountsOn (L.waited connections.old) count (L.waited connections.new)
+        × CountsOn (G.told log.old) count (G.told log.new))
+        (λ _. IsStopped M.tells D.answers moments.old desk.old count moments.new desk.new
+        (λ n. CountsOn (L.waited connections.old) n (L.waited connections.new)
+        × CountsOn (G.told log.old) n (G.told log.new))) }
+    ensures answered { MatchResult result
+        (λ _. AreAnswered D.answers desk.old count desk.new)
+        (λ _. (n : ℕ) × (n < count) × AreAnswered D.answers desk.old n desk.new) }
+{
     for served in 0..count {
-        match serve_next(connections, moments, face, desk) {
+        match serve_next(connections, moments, face, desk, log) {
             Ok(()) => {}
             Err(stopped) => return Err(stopped),
         }
@@ -59,27 +95,40 @@ pub fn serve_on<L: Connections, M: Moments, D: Responder>(
     Ok(())
 }
 
-// Serves one connection.
-fn serve_next<L: Connections, M: Moments, D: Responder>(
+// Serves one connection, and tells the log of it.
+fn serve_next<L: Connections, M: Moments, D: Responder, G: Log>(
     connections: &mut L,
     moments: &mut M,
     face: &mut Face,
     desk: &mut D,
+    log: &mut G,
 ) -> Result<(), ClockOutOfRange>
     ensures waited { CountsOn (L.waited connections.old) 1 (L.waited connections.new) }
+    ensures told { CountsOn (G.told log.old) 1 (G.told log.new) }
     ensures served { MatchResult result
         (λ _. IsServed M.tells D.answers moments.old desk.old moments.new desk.new)
         (λ _. M.tells moments.old None moments.new × (desk.new ≡ desk.old)) }
 {
     match connections.accept() {
-        None => Ok(()),
-        Some(mut connection) => match moments.now() {
-            None => Err(ClockOutOfRange),
-            Some(moment) => {
-                // Whatever comes of it, the next one is served.
-                let _outcome = connection.exchange(face, desk, moment);
-                Ok(())
+        None => {
+            log.tell(&Fate::Absent);
+            Ok(())
+        }
+        Some(mut connection) => {
+            log.begin();
+            match moments.now() {
+                None => {
+                    log.tell(&Fate::Unanswered);
+                    Err(ClockOutOfRange)
+                }
+                Some(moment) => {
+                    // Whatever comes of it, the next one is served.
+                    let exchange = connection.exchange(face, desk, moment);
+                    drop(connection);
+                    log.tell(&Fate::Exchanged { moment, exchange });
+                    Ok(())
+                }
             }
-        },
+        }
     }
 }

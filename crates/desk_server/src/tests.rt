@@ -2,6 +2,7 @@
 //! another language, from the zones' own database.
 
 mod doubles;
+mod logs;
 
 use crate::{ClockIn, ClockOutOfRange, Fixed, Listening, Moments, Zone, serve_on};
 use club_http::Face;

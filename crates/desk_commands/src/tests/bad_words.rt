@@ -209,6 +209,7 @@ fn words_that_clap_refuses(rt: HostRuntime) -> Result<(), Fail> {
     for words in [
         ["frob"].as_slice(),
         ["help", "frob"].as_slice(),
+        ["add-member", "--version"].as_slice(),
         ["add-member"].as_slice(),
         ["add-member", "F", "amy"].as_slice(),
         ["add-member", "F", "amy", "5", "6"].as_slice(),
@@ -232,7 +233,7 @@ fn words_that_clap_refuses(rt: HostRuntime) -> Result<(), Fail> {
         ["serve", "F", "--port", "0"].as_slice(),
         ["serve", "F", "--count", "1"].as_slice(),
         ["serve", "--port", "0", "--count", "1"].as_slice(),
-        ["serve", "F", "--port", "0", "--count", "1", "--log"].as_slice(),
+        ["serve", "F", "--port", "0", "--count", "1", "--verbose"].as_slice(),
     ] {
         expect_refused(&rt, rt.alloc(), words, 2, "error: ")?;
     }
@@ -260,9 +261,11 @@ fn help(rt: HostRuntime) -> Result<(), Fail> {
         ["clubdesk", "help"].as_slice(),
         ["clubdesk", "help", "serve"].as_slice(),
         ["clubdesk", "add-facility", "-h"].as_slice(),
+        ["clubdesk", "--version"].as_slice(),
+        ["clubdesk", "-V"].as_slice(),
     ] {
         match command_of(alloc, words) {
-            Ok(Asked::ShowHelp(help)) => {
+            Ok(Asked::ShowText(help)) => {
                 let told = help.to_string(alloc)?;
                 assert!(rt; told.as_str().contains("clubdesk"), "{told}");
             }

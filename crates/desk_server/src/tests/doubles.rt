@@ -1,9 +1,9 @@
 //! Connections, moments and a responder over memory.
 
 use crate::connections::exchange_over;
-use crate::{Connection, Connections, Moments};
+use crate::{Connection, Connections, Exchange, Moments};
 use club_core::{Refusal, Reply};
-use club_http::{AnswerFault, Face, Inlet, ReadInlet, Responder, WriteOutlet};
+use club_http::{Face, Inlet, ReadInlet, Responder, WriteOutlet};
 use club_values::Moment;
 use club_words::Words;
 use std::io;
@@ -44,16 +44,16 @@ impl Connection for Wire<'_> {
         face: &mut Face,
         desk: &mut D,
         moment: Moment,
-    ) -> Result<Reply, AnswerFault> {
+    ) -> Exchange {
         let mut writer = WriteOutlet::new(io::sink());
         match self {
             Wire::Whole(bytes) => {
-                let mut reader = ReadInlet::new(*bytes);
-                exchange_over(face, desk, moment, &mut reader, &mut writer)
+                let reader = ReadInlet::new(*bytes);
+                exchange_over(face, desk, moment, reader, &mut writer)
             }
             _ => {
-                let mut reader = Failing { failures: 0 };
-                exchange_over(face, desk, moment, &mut reader, &mut writer)
+                let reader = Failing { failures: 0 };
+                exchange_over(face, desk, moment, reader, &mut writer)
             }
         }
     }

@@ -1,5 +1,25 @@
-use Rattle.desk_commands.proofs.RunLemmas.{run_words}
+use Rattle.std.proofs.Common.{◌≡◌, ◌∙◌, inl, inr, refl, sym, ap, None, Some, Err}
+use Rattle.desk_commands.specs.Run.{asks_log}
+use Rattle.desk_commands.specs.Run as spec
+use Rattle.desk_commands.proofs.RunLemmas.{nothing_asked, run_words, task_asked}
 use Rattle.desk_commands.proofs.program.run.Goals as goal
 
 pub returns-in-Ok-clause-words : goal.returns-in-Ok-clause-words
 returns-in-Ok-clause-words g c = run_words _ c.in-Ok.asked _ c.in-Ok.ensures c.answer.ensures.ends
+
+pub returns-in-Ok-clause-command : goal.returns-in-Ok-clause-command
+returns-in-Ok-clause-command g c = λ job is. c.answer.ensures.command job (sym (task_asked _ c.in-Ok.asked c.in-Ok.ensures) ∙ is)
+
+pub returns-in-Ok-clause-unopened : goal.returns-in-Ok-clause-unopened
+returns-in-Ok-clause-unopened g c = λ none. c.answer.ensures.unopened (sym (task_asked _ c.in-Ok.asked c.in-Ok.ensures) ∙ none)
+
+pub returns-in-Ok-clause-unlogged : goal.returns-in-Ok-clause-unlogged
+returns-in-Ok-clause-unlogged g c =
+    λ none. c.answer.ensures.unlogged (ap asks_log (sym (task_asked _ c.in-Ok.asked c.in-Ok.ensures)) ∙ none)
+
+pub returns-in-Err-clause-command : goal.returns-in-Err-clause-command
+returns-in-Err-clause-command g c =
+    λ job is. elim (nothing_asked _ c.in-Err.fault c.in-Err.ensures) [
+      | inl memory ↦ spec.starved (ap Err memory) refl refl
+      | inr none ↦ let bad : None ≡ Some job = sym none ∙ is in cc
+    ]

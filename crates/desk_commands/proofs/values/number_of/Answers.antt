@@ -1,4 +1,4 @@
-use Rattle.std.proofs.Common.{◌≡◌, ◌∙◌, ◌==◌, ◌<◌, true, false, length, inl, inr, arith, sym}
+use Rattle.std.proofs.Common.{◌≡◌, ◌∙◌, ◌<◌, true, false, length, inl, inr, arith, sym}
 use Rattle.std.proofs.lemmas.Bool.Decides.{nat_tests}
 use Rattle.desk_commands.specs.Values.{are_digits}
 use Rattle.desk_commands.proofs.ValueLemmas.{no_number, number_read}

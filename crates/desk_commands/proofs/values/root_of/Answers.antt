@@ -1,4 +1,4 @@
-use Rattle.std.proofs.Common.{◌∙◌, Some, sym}
+use Rattle.std.proofs.Common.{◌∙◌, sym}
 use Rattle.desk_commands.proofs.ValueLemmas.{root_made, root_read}
 use Rattle.desk_commands.proofs.values.root_of.Goals as goal
 

@@ -1,4 +1,4 @@
-use Rattle.std.proofs.Common.{◌∙◌, inl, sym}
+use Rattle.std.proofs.Common.{◌∙◌, inl, inr, sym}
 use Rattle.desk_commands.proofs.NamedLemmas.{words_name_a_command}
 use Rattle.desk_commands.proofs.WordsLemmas.{command_found, faulted, nothing_refused, refused_by, subcommand_found}
 use Rattle.desk_commands.proofs.words.command_of.Goals as goal
@@ -21,12 +21,17 @@ returns-in-Ok-try_get_matches_from g c =
 pub returns-in-DisplayHelp : goal.returns-in-DisplayHelp
 returns-in-DisplayHelp g c =
     let parse = c.in-Err-try_get_matches_from.ensures in
-    rw c.in-DisplayHelp.ensures (refused_by _ _ c.in-Err-try_get_matches_from.error c.kind.result c.in-Ok.ensures parse.kinds c.kind.ensures (λ e. cc))
+    inl (rw c.in-DisplayHelp.ensures (refused_by _ _ c.in-Err-try_get_matches_from.error c.kind.result c.in-Ok.ensures parse.kinds c.kind.ensures (λ e. cc)))
+
+pub returns-in-DisplayVersion : goal.returns-in-DisplayVersion
+returns-in-DisplayVersion g c =
+    let parse = c.in-Err-try_get_matches_from.ensures in
+    inr (rw c.in-DisplayVersion.ensures (refused_by _ _ c.in-Err-try_get_matches_from.error c.kind.result c.in-Ok.ensures parse.kinds c.kind.ensures (λ e. cc)))
 
 pub returns : goal.returns
 returns g c =
     let parse = c.in-Err-try_get_matches_from.ensures in
     inl (
       refused_by _ _ c.in-Err-try_get_matches_from.error c.kind.result c.in-Ok.ensures parse.kinds c.kind.ensures c.in_default.not-OutOfMemory,
-      λ e. c.in_default.not-DisplayHelp (c.kind.ensures ∙ e),
+      (λ e. c.in_default.not-DisplayHelp (c.kind.ensures ∙ e), λ e. c.in_default.not-DisplayVersion (c.kind.ensures ∙ e)),
     )

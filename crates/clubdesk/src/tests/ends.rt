@@ -1,0 +1,124 @@
+//! Ends that aren't the office's: a writer that fails, a port in use, a clock out of range.
+
+use super::clubs::Clubs;
+use super::runs::{PASS, ROOT, told_in_file, told_in_memory};
+use crate::files::Files;
+use crate::run;
+use std::io::{self, ErrorKind, Write};
+use std::net::TcpListener;
+use std::test::Fail;
+use std::{fs, process};
+
+/// Takes so many bytes, and then fails.
+#[derive(Drop)]
+struct Full {
+    room: usize,
+    taken: usize,
+}
+
+impl Write for Full {
+    fn write(&mut self, bytes: &[u8]) -> io::Result<usize> {
+        if self.room == 0 {
+            return Err(io::Error::from(ErrorKind::StorageFull));
+        }
+        let count = bytes.len().min(self.room);
+        self.room -= count;
+        self.taken = self.taken.saturating_add(count);
+        Ok(count)
+    }
+
+    fn flush(&mut self) -> io::Result<()> {
+        Ok(())
+    }
+}
+
+// Runs words over a file, to a writer with room for so many bytes, and gives the status and how many
+// were taken.
+fn status_with_room(rt: &HostRuntime, words: &[&str], room: usize) -> Result<(u8, usize), Fail> {
+    let mut files = Files { rt, tried: 0 };
+    let mut nothing: &[u8] = b"";
+    let mut full = Full { room, taken: 0 };
+    let mut errors = Vec::new(rt.alloc());
+    let outcome = run(rt, &mut files, words, &mut nothing, &mut full, &mut errors);
+    let status = match outcome {
+        Ok(()) => 0,
+        Err(fault) => fault.status(),
+    };
+    Ok((status, full.taken))
+}
+
+// A key whose pass couldn't be printed stands, and its pass can be minted.
+#[test]
+fn a_failing_writer(rt: HostRuntime) -> Result<(), Fail> {
+    let id = process::id(rt.process());
+    let path = format!(in rt.alloc(); "/tmp/clubdesk-full-{id}")?;
+    let path = path.as_str();
+    let words = ["clubdesk", "add-member", path, "amy", "5"];
+    assert_eq!(rt; status_with_room(&rt, &words, 0)?, (7, 0));
+    let words = ["clubdesk", "add-key", path, "amy-1", "amy", ROOT];
+    assert_eq!(rt; status_with_room(&rt, &words, 40)?, (7, 40));
+    let again = format!(in rt.alloc(); "add-key {path} amy-1 amy {ROOT}")?;
+    let told = told_in_file(&rt, again.as_str())?;
+    assert_eq!(rt; told.as_str(), "1 refused: exists");
+    fs::remove_file(&rt, path)?;
+    let log = format!(in rt.alloc(); "{path}-wal")?;
+    fs::remove_file(&rt, log.as_str())?;
+    Ok(())
+}
+
+#[test]
+fn a_minted_pass(rt: HostRuntime) -> Result<(), Fail> {
+    let words = [
+        "passtool",
+        "mint",
+        "--root",
+        ROOT,
+        "--id",
+        "key:amy-1",
+        "--location",
+        "club-desk",
+    ];
+    let mut nothing: &[u8] = b"";
+    let mut written = Vec::new(rt.alloc());
+    pass_commands::run(rt.alloc(), &words, &mut nothing, &mut written)?;
+    let wanted = format!(in rt.alloc(); "{PASS}\n")?;
+    assert_eq!(rt; written.as_slice(), wanted.as_bytes());
+    Ok(())
+}
+
+#[test]
+fn a_port_in_use(rt: HostRuntime) -> Result<(), Fail> {
+    let listener = TcpListener::bind(&rt, "127.0.0.1:0")?;
+    let port = listener.local_addr()?.port();
+    let line = format!(in rt.alloc(); "serve club --port {port} --count 1")?;
+    let told = told_in_memory(&rt, line.as_str())?;
+    assert_eq!(rt; told.as_str(), "1/1 7 input or output failed");
+    Ok(())
+}
+
+// A server whose first line can't be written serves nobody.
+#[test]
+fn a_server_that_tells_nothing(rt: HostRuntime) -> Result<(), Fail> {
+    let mut clubs = Clubs::new(rt.alloc());
+    let mut nothing: &[u8] = b"";
+    let mut full = Full { room: 5, taken: 0 };
+    let mut errors = Vec::new(rt.alloc());
+    let words = [
+        "clubdesk", "serve", "club", "--port", "0", "--count", "1", "--log",
+    ];
+    let outcome = run(
+        &rt,
+        &mut clubs,
+        &words,
+        &mut nothing,
+        &mut full,
+        &mut errors,
+    );
+    let status = match outcome {
+        Ok(()) => 0,
+        Err(fault) => fault.status(),
+    };
+    assert_eq!(rt; (status, full.taken), (7, 5));
+    assert!(rt; errors.is_empty());
+    Ok(())
+}

@@ -1,0 +1,77 @@
+//! Runs of the program, as texts.
+
+use super::clubs::Clubs;
+use crate::files::Files;
+use crate::run;
+use desk_commands::{Databases, Fault};
+use std::test::Fail;
+
+/// Sixteen bytes, in hexadecimal and as they are.
+pub const ROOT: &str = "00112233445566778899aabbccddeeff";
+
+pub const ROOT_BYTES: [u8; 16] = [
+    0, 17, 34, 51, 68, 85, 102, 119, 136, 153, 170, 187, 204, 221, 238, 255,
+];
+
+/// The pass of the key amy-1 under that root, by a program of another language.
+pub const PASS: &str =
+    "AgEJY2x1Yi1kZXNrAglrZXk6YW15LTEAAAYgDsU-vMVpq3Ex5_BQk6D5VX6TimC0IfCk7Dn6nv7TIJk";
+
+// The words of a line, behind the program's name.
+fn words_of<'a>(rt: &HostRuntime, line: &'a str) -> Result<Vec<&'a str>, Fail> {
+    let mut words = Vec::from_array(rt.alloc(), ["clubdesk"])?;
+    for word in line.split(' ') {
+        words.push(word)?;
+    }
+    Ok(words)
+}
+
+/// The status of a run, and what it wrote, or the line of its fault.
+fn ended(rt: &HostRuntime, outcome: Result<(), Fault>, written: &[u8]) -> Result<String, Fail> {
+    match outcome {
+        Ok(()) => {
+            let text = str::from_utf8(written).unwrap_or("no text");
+            Ok(format!(in rt.alloc(); "0 {text}")?)
+        }
+        Err(fault) => {
+            let status = fault.status();
+            Ok(format!(in rt.alloc(); "{status} {fault}")?)
+        }
+    }
+}
+
+/// Runs the program on a line of words over some databases, and tells how it ended.
+fn told_over<D: Databases>(
+    rt: &HostRuntime,
+    databases: &mut D,
+    line: &str,
+) -> Result<String, Fail> {
+    let words = words_of(rt, line)?;
+    let mut written = Vec::new(rt.alloc());
+    let mut nothing: &[u8] = b"";
+    let mut errors = Vec::new(rt.alloc());
+    let outcome = run(
+        rt,
+        databases,
+        words.as_slice(),
+        &mut nothing,
+        &mut written,
+        &mut errors,
+    );
+    ended(rt, outcome, written.as_slice())
+}
+
+/// Runs the program over a new club in memory, and tells how it ended, and how often the club was
+/// opened and closed.
+pub fn told_in_memory(rt: &HostRuntime, line: &str) -> Result<String, Fail> {
+    let mut clubs = Clubs::new(rt.alloc());
+    let told = told_over(rt, &mut clubs, line)?;
+    let (opened, closed) = (clubs.opened, clubs.closed);
+    Ok(format!(in rt.alloc(); "{opened}/{closed} {told}")?)
+}
+
+/// Runs the program over the database in a file, and tells how it ended.
+pub fn told_in_file(rt: &HostRuntime, line: &str) -> Result<String, Fail> {
+    let mut files = Files { rt, tried: 0 };
+    told_over(rt, &mut files, line)
+}
