@@ -3,3 +3,4 @@ pub mod Received
 pub mod Replied
 pub mod Exchange
 pub mod Desk
+pub mod Fault

@@ -14,6 +14,11 @@ pub enum AnswerFault {
 }
 
 impl fmt::Display for AnswerFault {
+    ghost use Rattle.std.specs.Prelude.{Some};
+    ghost use Rattle.club_http.specs.Fault.{fault_text};
+
+    ghost output = { λ fault. Some (fault_text fault) };
+
     fn fmt<W: fmt::Write>(&self, f: &mut fmt::Formatter<W>) -> fmt::Result {
         match self {
             AnswerFault::Read => write!(f, "input failed"),
