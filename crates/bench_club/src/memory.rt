@@ -1,0 +1,71 @@
+//! Exchanges over memory.
+
+ghost use Rattle.std.specs.Prelude.{◌≤◌};
+
+use crate::fault::BenchFault;
+use crate::sent::Sent;
+use club_core::{ClubStore, Reply};
+use club_http::{Desk, Face, MAX_REPLY_LEN, Outlet, ReadInlet, answer};
+
+/// Keeps the bytes that were written last, in memory.
+#[derive(Drop)]
+pub struct Kept {
+    bytes: [u8; MAX_REPLY_LEN],
+    len: usize,
+    failures: u64,
+    ghost within: { len ≤ 512 },
+}
+
+impl Kept {
+    /// Nothing was written yet.
+    pub fn new() -> Kept {
+        Kept {
+            bytes: [0; MAX_REPLY_LEN],
+            len: 0,
+            failures: 0,
+        }
+    }
+
+    /// What was written last.
+    pub fn bytes(&self) -> &[u8] {
+        &self.bytes[..self.len]
+    }
+}
+
+impl Outlet for Kept {
+    ghost use Rattle.std.specs.Prelude.{Some, take};
+
+    ghost taken = { λ writer. Some (take writer.len writer.bytes) };
+
+    ghost failures = { λ writer. writer.failures };
+
+    fn put(&mut self, bytes: &[u8]) -> Option<usize> {
+        let n = bytes.len().min(MAX_REPLY_LEN - self.len);
+        if n == 0 && !bytes.is_empty() {
+            self.failures = self.failures.saturating_add(1);
+            return None;
+        }
+        self.bytes[self.len..self.len + n].copy_from_slice(&bytes[..n]);
+        self.len += n;
+        Some(n)
+    }
+}
+
+/// One exchange over memory, whose reply is kept in place of the one before.
+///
+/// # Errors
+///
+/// The request wasn't served.
+pub fn exchange<S: ClubStore>(
+    face: &mut Face,
+    desk: &mut Desk<S>,
+    sent: &Sent,
+    kept: &mut Kept,
+) -> Result<(), BenchFault> {
+    kept.len = 0;
+    let mut reader = ReadInlet::new(sent.text.as_bytes());
+    match answer(face, desk, sent.moment, &mut reader, kept) {
+        Err(_) | Ok(Reply::Refused(_)) => Err(BenchFault::Request),
+        Ok(_) => Ok(()),
+    }
+}

@@ -1,0 +1,91 @@
+//! The parts of an exchange, each on its own, with how long it takes for all requests.
+
+use anyhow::{Result, anyhow};
+use bench_club::{Kept, Sent, exchange};
+use club_core::{ClubStore, Reply, Request};
+use club_http::{Desk, Face, MAX_REPLY_LEN, Routes, Words, reply_bytes, words_of};
+use club_words::MAX_FIELDS;
+use httparse::Status;
+use httparse::spans::{EMPTY_HEADER_SPAN, HeaderSpan, parse_request};
+use std::rt::Clock;
+use std::time::{Duration, Instant};
+
+/// Whole exchanges. The last reply is kept.
+pub(crate) fn exchanges<S: ClubStore>(
+    rt: &impl Clock,
+    face: &mut Face,
+    desk: &mut Desk<S>,
+    sent: &[Sent],
+    kept: &mut Kept,
+) -> Result<Duration> {
+    let start = Instant::now(rt)?;
+    for each in sent {
+        exchange(face, desk, each, kept)?;
+    }
+    Ok(start.elapsed(rt)?)
+}
+
+/// What the requests ask for, by their words.
+pub(crate) fn words(
+    rt: &(impl Clock + AllocGlobal),
+    routes: &Routes,
+    sent: &[Sent],
+) -> Result<(Vec<Request>, Duration)> {
+    let mut asked = Vec::with_capacity(rt.alloc(), sent.len())?;
+    let start = Instant::now(rt)?;
+    for each in sent {
+        match words_of(routes, each.text.as_bytes()) {
+            Ok(words) => asked.push(words.request)?,
+            Err(refusal) => return Err(anyhow!("a request is refused: {refusal:?}")),
+        }
+    }
+    Ok((asked, start.elapsed(rt)?))
+}
+
+/// The heads of the requests by `httparse` alone.
+pub(crate) fn heads(rt: &impl Clock, sent: &[Sent]) -> Result<Duration> {
+    let mut fields = [EMPTY_HEADER_SPAN; MAX_FIELDS];
+    let start = Instant::now(rt)?;
+    for each in sent {
+        if !has_head(each.text.as_bytes(), &mut fields) {
+            return Err(anyhow!("a request has no head"));
+        }
+    }
+    Ok(start.elapsed(rt)?)
+}
+
+fn has_head(bytes: &[u8], fields: &mut [HeaderSpan; MAX_FIELDS]) -> bool {
+    matches!(parse_request(bytes, fields), Ok(Status::Complete(_)))
+}
+
+/// What the desk replies.
+pub(crate) fn replies<S: ClubStore>(
+    rt: &(impl Clock + AllocGlobal),
+    desk: &mut Desk<S>,
+    sent: &[Sent],
+    asked: &[Request],
+) -> Result<(Vec<Reply>, Duration)> {
+    let mut replies = Vec::with_capacity(rt.alloc(), sent.len())?;
+    let start = Instant::now(rt)?;
+    for (each, request) in sent.iter().zip(asked) {
+        let words = Words {
+            pass: each.pass.as_bytes(),
+            request: *request,
+        };
+        replies.push(desk.ask(each.moment, &words))?;
+    }
+    Ok((replies, start.elapsed(rt)?))
+}
+
+/// The texts of the replies. The last one is at the front of the room.
+pub(crate) fn texts(
+    rt: &impl Clock,
+    replies: &[Reply],
+    room: &mut [u8; MAX_REPLY_LEN],
+) -> Result<Duration> {
+    let start = Instant::now(rt)?;
+    for reply in replies {
+        reply_bytes(reply, room);
+    }
+    Ok(start.elapsed(rt)?)
+}

@@ -1,0 +1,46 @@
+# Read by the scripts beside it that run the desk's server: its programs, a folder to work in, and a server at a fixed moment.
+here=$(CDPATH='' cd -P -- "$(dirname -- "$0")" && pwd)
+
+# wants COMMAND PACKAGE..: installs Debian's packages where the command is missing.
+wants() {
+    command=$1
+    shift
+    command -v "$command" >/dev/null || apt-get install -y "$@" >/dev/null || exit 2
+}
+
+# Proves and builds the programs first, where that isn't done. Then they are run themselves, so that a signal meets the server.
+for program in clubdesk passtool; do
+    "$here/../bin/$program" --help >/dev/null || exit 2
+done
+desk=$here/../crates/clubdesk/out/clubdesk
+tool=$here/../crates/passtool/out/passtool
+
+work=$(mktemp -d)
+server=
+leave() {
+    if [ -n "$server" ]; then kill "$server" 2>/dev/null || :; fi
+    rm -rf "$work"
+}
+trap leave EXIT
+cd "$work" || exit 2
+mkfifo listening
+
+# serve FILE COUNT MOMENT: starts a server, which listens at $port once this is done. `finish` waits for its end.
+serve() {
+    "$desk" serve "$1" --port 0 --count "$2" --at "$3" >listening 2>fault &
+    server=$!
+    read -r line <listening || { cat fault >&2; exit 1; }
+    port=${line##*:}
+}
+
+finish() {
+    wait "$server" || { echo "the server ended with status $?" >&2; cat fault >&2; exit 1; }
+    server=
+}
+
+# copy FILE TO: a database, with the log that belongs to it.
+copy() {
+    rm -f "$2" "$2-wal"
+    cp "$1" "$2"
+    if [ -e "$1-wal" ]; then cp "$1-wal" "$2-wal"; fi
+}
