@@ -1,0 +1,134 @@
+//! Passes in code, from their making to their test: a pass is minted for a key, narrowed by its holder, read and verified as a
+//! desk does, and its caveats are tested against what is asked. A program of your own begins like this.
+#![tactic(auto)]
+
+use anyhow::{Result, anyhow};
+use pass_caveats::{
+    Action, Ask, CaveatFault, Day, Hour, Kind, Moment, Name, Slot, allows, first_fault, read,
+};
+use pass_forms::{Form, FormFault, Pass, narrow};
+use pass_json::{read_any, write_any};
+use std::alloc::Global;
+use std::fmt;
+
+// The key's secret. Yours is random, and nobody but the office and the desk has it.
+const ROOT: &[u8] = b"\x00\x11\x22\x33\x44\x55\x66\x77\x88\x99\xaa\xbb\xcc\xdd\xee\xff";
+
+// What a desk answers to a pass.
+#[derive(Clone, Copy)]
+enum Verdict {
+    Allowed,
+    NotSigned,
+    Refused(CaveatFault),
+}
+
+impl fmt::Display for Verdict {
+    fn fmt<W: fmt::Write>(&self, f: &mut fmt::Formatter<W>) -> fmt::Result {
+        match self {
+            Verdict::Allowed => f.write_str("allowed"),
+            Verdict::NotSigned => f.write_str("not signed"),
+            Verdict::Refused(fault) => write!(f, "{fault}"),
+        }
+    }
+}
+
+fn main(rt: HostRuntime) -> Result<()> {
+    let minted = mint(rt.alloc())?;
+    println!(rt; "minted {minted}")?;
+    let caveats = ["kind = court", "spend <= 600"];
+    let narrowed = narrowed_by(rt.alloc(), minted.as_str(), &caveats)?;
+    println!(rt; "narrowed {narrowed}")?;
+
+    let court = known(booking(b"court-1", Kind::Court))?;
+    let again = Ask {
+        spent: 600,
+        ..court
+    };
+    let boat = known(booking(b"boat-1", Kind::Boat))?;
+    let stripped = without_caveats(rt.alloc(), narrowed.as_str())?;
+    let attempts = [
+        ("court-1 for 600 points", &narrowed, &court),
+        ("once more", &narrowed, &again),
+        ("boat-1", &narrowed, &boat),
+        ("boat-1, not narrowed", &minted, &boat),
+        ("boat-1, caveats taken off", &stripped, &boat),
+    ];
+    for (what, text, ask) in attempts {
+        let verdict = verdict_on(rt.alloc(), text.as_str(), ask)?;
+        println!(rt; "{what}: {verdict}")?;
+    }
+
+    for line in ["weekday = fri", "guests <= 1", "shoe = red"] {
+        println!(rt; "{line}: {}", answer_of(line, &court))?;
+    }
+    Ok(())
+}
+
+// The office: a new pass of the key, as the text that its holder gets.
+fn mint(alloc: Global) -> Result<String, FormFault> {
+    let pass = Pass::mint(alloc, ROOT, b"club-desk", b"key:amy-1")?;
+    write_any(alloc, Form::V2, &pass)
+}
+
+// Whoever holds a pass: it is narrowed without the root, and stays signed. The text may be in any form.
+fn narrowed_by(alloc: Global, text: &str, caveats: &[&str]) -> Result<String, FormFault> {
+    let (form, mut pass) = read_any(alloc, text.as_bytes())?;
+    for caveat in caveats {
+        narrow(alloc, &mut pass, caveat.as_bytes())?;
+    }
+    write_any(alloc, form, &pass)
+}
+
+// The desk: the signature comes first, then the caveats in their order.
+fn verdict_on(alloc: Global, text: &str, ask: &Ask) -> Result<Verdict, FormFault> {
+    let (_, pass) = read_any(alloc, text.as_bytes())?;
+    if !pass.is_signed(ROOT) {
+        return Ok(Verdict::NotSigned);
+    }
+    Ok(match first_fault(pass.caveats(), ask) {
+        Some(fault) => Verdict::Refused(fault),
+        None => Verdict::Allowed,
+    })
+}
+
+// What somebody might try who wants the caveats gone: the signature is still theirs.
+fn without_caveats(alloc: Global, text: &str) -> Result<String, FormFault> {
+    let (form, pass) = read_any(alloc, text.as_bytes())?;
+    let location = Vec::from_slice(alloc, pass.location())?;
+    let identifier = Vec::from_slice(alloc, pass.identifier())?;
+    let bare = Pass::new(location, identifier, Vec::new(alloc), *pass.signature());
+    write_any(alloc, form, &bare)
+}
+
+// One caveat: read as a line of the language, then tested.
+fn answer_of(line: &str, ask: &Ask) -> &'static str {
+    match read(line.as_bytes()) {
+        None => "not understood",
+        Some(caveat) if allows(&caveat, ask) => "allows",
+        Some(_) => "denies",
+    }
+}
+
+// A request, as caveats see it: to book a facility on 2026-05-01 at 18 for two guests, asked at noon of 2026-04-20, for 600
+// points. Each reader answers `None` for a text that isn't its own.
+fn booking(facility: &[u8], kind: Kind) -> Option<Ask> {
+    let slot = Slot {
+        facility: Name::read(facility)?,
+        day: Day::read(b"2026-05-01")?,
+        hour: Hour::read(b"18")?,
+    };
+    Some(Ask {
+        action: Action::Book,
+        slot: Some(slot),
+        kind: Some(kind),
+        guests: 2,
+        moment: Moment::read(b"2026-04-20T12:00")?,
+        owed: 600,
+        spent: 0,
+    })
+}
+
+// Values of the example are within their limits.
+fn known<T: Drop>(value: Option<T>) -> Result<T> {
+    value.ok_or_else(|| anyhow!("a value is out of its limits"))
+}

@@ -1,0 +1,328 @@
+#!/bin/sh
+# Holds the pages against the repository: README.md, CONTRIBUTING.md and docs/.
+# - Each ```console block is run, the blocks of a page one after the other in a folder of its own, with bin/ on the path: a line
+#   that begins with `$ ` is a command, the lines behind it are what it prints, on standard output or standard error. Empty lines
+#   and spaces at the end of a line don't count, and another port may stand for 8080.
+# - Each ```rust, ```antt and ```text block stands in a file of crates/, but for how far it is indented.
+# - Each link leads to a page, and to a heading of it. Each page of docs/ is in docs/INDEX.md.
+# - Each contract that docs/PROMISES.md names stands: the function in the section's crate, and its clause; each definition. So do
+#   the clauses of README's law.
+# - Each file that a page names is there, and each name `crate::..::name` or `Type::name` is defined.
+# - docs/MAP.md has each crate with what it stands on, as crates.txt does; LAYERS and TRUST name each.
+# - The toolchain that README.md and docs/TRUST.md name is this one, and bin/demo prints what tests/demo_tells.sh wants.
+# Programs are proved and built by bin/proved where they have to be. Installs Debian's curl where it is missing. Not part of the gate.
+#   tests/docs_hold.sh                 every page
+#   tests/docs_hold.sh docs/DESK.md    these pages
+#   tests/docs_hold.sh -n [PAGE ..]    what wants no program of ours: all but the commands and the demo
+set -u
+here=$(CDPATH='' cd -P -- "$(dirname -- "$0")" && pwd)
+root=$(dirname "$here")
+cd "$root" || exit 2
+runs=yes
+[ "${1-}" != -n ] || { runs=; shift; }
+whole=
+[ $# -gt 0 ] || { whole=yes; set -- README.md CONTRIBUTING.md docs/*.md; }
+work=$(mktemp -d) || exit 2
+trap 'rm -rf "$work"' EXIT
+trap 'exit 2' INT TERM
+faults=$work/faults
+: >"$faults"
+
+# blocks PAGE LANGUAGE: the lines of the page's blocks of a language, an empty line between two blocks.
+blocks() {
+    awk -v open="\`\`\`$2" '
+        $0 == open { inside = 1; next }
+        /^```/ { if (inside) print ""; inside = 0; next }
+        inside' "$1"
+}
+
+# The commands of a page as a script that prints each before it runs it. `$?` is that of the command before. After a command that
+# ends in `&` the script waits until something more was printed.
+script_of() {
+    blocks "$1" console | sed "s/:8080/:$port/; s/--port 8080/--port $port/" | awk '
+        function quoted(text) { gsub(/'\''/, "'\''\\'\'''\''", text); return "'\''" text "'\''" }
+        BEGIN {
+            print "trap '\''kill $(jobs -p) 2>/dev/null'\'' EXIT"
+            print "again() { return \"$1\"; }"
+        }
+        /^\$ / {
+            command = substr($0, 3)
+            print "ended=$?; printf \"%s\\n\" " quoted($0)
+            if (command ~ / &$/) print "printed=$(wc -c <\"$OUT\")"
+            print "again $ended"
+            print command
+            if (command ~ / &$/) {
+                print "for wait in $(seq 100); do [ \"$(wc -c <\"$OUT\")\" = \"$printed\" ] || break; sleep 0.1; done"
+            }
+        }'
+}
+
+# Without carriage returns, spaces at the end of a line, and empty lines.
+squeezed() {
+    tr -d '\r' | sed 's/ *$//' | grep -v '^$'
+}
+
+# Each page gets a port that nothing uses, nor used a moment ago.
+next_port() {
+    port=$((port + 1))
+    while grep -qi ":$(printf %04X "$port") " /proc/net/tcp /proc/net/tcp6 2>/dev/null; do port=$((port + 1)); done
+}
+
+run_commands() {
+    [ -n "$runs" ] || return 0
+    blocks "$1" console >"$work/wanted"
+    [ -s "$work/wanted" ] || return 0
+    sed "s/:8080/:$port/; s/--port 8080/--port $port/" "$work/wanted" | squeezed >"$work/lines"
+    script_of "$1" >"$work/script"
+    rm -rf "$work/room"
+    mkdir "$work/room"
+    # Bodies of replies end without a line feed, which a terminal shows as a prompt behind them.
+    printf 'silent\nshow-error\nnoproxy = "*"\nwrite-out = "\\n"\n' >"$work/.curlrc"
+    for program in passtool clubdesk; do
+        # It is built first, so that what its building tells isn't taken for what it prints.
+        ! grep -q "$program" "$work/lines" || "bin/$program" --help >/dev/null || exit 2
+    done
+    (cd "$work/room" && PATH=$root/bin:$PATH CURL_HOME=$work OUT=$work/out timeout 120 sh "$work/script") >"$work/out" 2>&1 </dev/null
+    squeezed <"$work/out" >"$work/told"
+    diff "$work/lines" "$work/told" >"$work/diff" || {
+        echo "$1: the page (<) and what its commands print (>) differ" >>"$faults"
+        head -n 40 "$work/diff" >>"$faults"
+    }
+    echo "$1: $(grep -c '^\$ ' "$work/lines") commands run"
+}
+
+# Quoted lines, in one piece, in some file of crates/.
+find_quotes() {
+    for language in rust antt text; do
+        blocks "$1" "$language" | sed 's/^ *//' | awk -v room="$work" -v RS='' '{ printf "%s", $0 >(room "/quote." NR); close(room "/quote." NR) }'
+        for quote in "$work"/quote.*; do
+            [ -e "$quote" ] || continue
+            awk 'FNR == 1 && NR == 1 { q = 1 } FILENAME == ARGV[1] { quote = quote $0 "\n"; next }
+                FNR == 1 { if (index(text, quote)) exit; text = "" }
+                { sub(/^ */, ""); text = text $0 "\n" }
+                END { if (!index(text, quote)) exit 1 }' "$quote" $(cat "$work/files") || {
+                echo "$1: these lines stand in no file of crates/:" >>"$faults"
+                cat "$quote" >>"$faults"
+                echo >>"$faults"
+            }
+            rm "$quote"
+        done
+    done
+}
+
+# Anchors as they are made of headings: lower case, spaces as dashes, and of the other signs only `-` and `_`.
+anchors() {
+    awk '/^```/ { inside = !inside } !inside && /^#+ / { sub(/^#+ /, ""); print tolower($0) }' "$1" | sed 's/[^a-z0-9 _-]//g; s/ /-/g'
+}
+
+follow_links() {
+    awk '/^```/ { inside = !inside } !inside' "$1" | grep -oE '\]\([^)]+\)' | sed 's/^](//; s/)$//' | grep -vE '^https?:' |
+        while read -r link; do
+            page=${link%%#*}
+            file=$(dirname "$1")/$page
+            [ -n "$page" ] || file=$1
+            if [ ! -e "$file" ]; then
+                echo "$1: no file $link"
+            elif [ "$page" != "$link" ] && ! anchors "$file" | grep -qxF "${link#*#}"; then
+                echo "$1: no heading $link"
+            fi
+        done >>"$faults"
+}
+
+# What crates/ defines, one a line: CRATE FILE KIND NAME, and for a clause CRATE FILE clause FUNCTION LABEL.
+index_names() {
+    cat "$work/files" | tr ' ' '\n' | while read -r file; do
+        crate=${file#crates/}
+        crate=${crate%%/*}
+        awk -v at="$crate $file" '
+            FILENAME ~ /\.rt$/ {
+                line = $0
+                sub(/^ *(pub(\([a-z]+\))? )?(final )?(const )?/, "", line)
+                if (line ~ /^fn /) { name = substr(line, 4); sub(/[^A-Za-z0-9_].*/, "", name); print at, "fn", name }
+                if (line ~ /^(struct|enum|trait|type|mod) /) {
+                    split(line, words, /[^A-Za-z0-9_]+/); print at, "item", words[2]
+                }
+                if ($0 ~ /^ *(pub )?const [A-Z]/) { split(line, words, /[^A-Za-z0-9_]+/); print at, "item", words[1] }
+                if (line ~ /^impl/) print at, "impl", $0
+                if (line ~ /^ensures [a-z_0-9]+ /) { split(line, words, " "); print at, "clause", name, words[2] }
+                if (line ~ /^ghost [A-Za-z_]+( =|:)/) { split(line, words, /[^A-Za-z0-9_]+/); print at, "item", words[2] }
+                if ($0 ~ /^    pub [a-z_]+: /) { split($0, words, /[^A-Za-z0-9_]+/); print at, "item", words[3] }
+                if (line ~ /^[A-Z][A-Za-z]+( \{|\(|,|$)/) { sub(/[^A-Za-z].*/, "", line); print at, "item", line }
+                next
+            }
+            {
+                line = $0
+                sub(/^ *(abbrev |unfoldable )?(pub )?(record |data )?/, "", line)
+                split(line, words, " ")
+                if (words[2] == ":" || words[2] == "where" || $0 ~ /(record|data) /) print at, "item", words[1]
+            }' "$file"
+    done >"$work/index"
+}
+
+# The second cells of a section's table: `NAME`, .. `:` `CLAUSE`, .. `by` `DEFINITION`, ..; groups end at `;`. A definition of another
+# crate than the section's stands behind that crate's name.
+cited_promises() {
+    awk '
+        /^## / { crate = $2; gsub(/`/, "", crate); next }
+        /^\|/ && !/^\|[-|]+$/ && !/^\| Promise/ {
+            gsub(/\\\|/, "/")
+            split($0, cells, "|")
+            groups = split(cells[3], group, ";")
+            for (g = 1; g <= groups; g++) {
+                pieces = split(group[g], piece, "`")
+                mode = "name"; names = 0
+                for (p = 1; p <= pieces; p++) {
+                    if (p % 2) {
+                        if (piece[p] ~ /:/) mode = "clause"
+                        if (piece[p] ~ /(^|[ ,])by /) mode = "definition"
+                                } else if (mode == "clause") {
+                        for (n = 1; n <= names; n++) print crate, mode, name[n], piece[p]
+                    } else {
+                        if (mode == "name") name[++names] = piece[p]
+                        print crate, mode, piece[p]
+                    }
+                }
+            }
+        }' docs/PROMISES.md
+}
+
+hold_promises() {
+    cited_promises >"$work/cited"
+    awk '
+        function last(path,    parts) { return parts[split(path, parts, "::")] }
+        function before(path,    parts, count) { count = split(path, parts, "::"); return count > 1 ? parts[count - 1] : "" }
+        FILENAME == ARGV[1] {
+            if ($3 == "clause") clauses[$1, $4, $5]
+            else if ($3 == "impl") impls[$1] = impls[$1] "\n" substr($0, index($0, " impl ") + 6)
+            else { defined[$1, $4]; if ($3 == "fn") { functions[$1, $4]; file = $2; sub(/.*\//, "", file); sub(/\.rt$/, "", file); homes[$1, file, $4] } }
+            next
+        }
+        function lacks(what) { print "docs/PROMISES.md: " $1 ": no " what }
+        $2 == "clause" { if (!(($1, last($3), $4) in clauses)) lacks("clause " $4 " of " $3); next }
+        $2 == "definition" {
+            count = split($3, parts, ".")
+            owner = before(parts[1])
+            if (owner == "") owner = $1
+            for (p = 1; p <= count; p++) if (!((owner, last(parts[p])) in defined)) lacks("definition " $3)
+            next
+        }
+        $4 == "for" {
+            if (impls[$1] !~ ("(^|[^A-Za-z])" $3 " for " $5 "([^A-Za-z]|$)")) lacks("impl " $3 " for " $5)
+            next
+        }
+        {
+            name = last($3); above = before($3)
+            if (!(($1, name) in functions) && !(above == "" && ($1, name) in defined)) lacks("function " $3)
+            else if (above ~ /^[a-z]/ && !(($1, above, name) in homes)) lacks("function " $3 " in its module")
+            else if (above ~ /^[A-Z]/ && !(($1, above) in defined)) lacks("type of " $3)
+        }' "$work/index" "$work/cited" >>"$faults"
+    echo "docs/PROMISES.md: $(wc -l <"$work/cited") names of contracts"
+}
+
+# Names of files, and `crate::..::name` and `Type::name`, in backticks.
+hold_names() {
+    awk '/^```/ { inside = !inside } !inside' "$1" | grep -oE '`[^` ]+`' | tr -d '`' | sort -u >"$work/words"
+    blocks "$1" sh | grep -oE '^(bin|tests)/[a-z_.]+' >"$work/scripts"
+    cat "$work/words" "$work/scripts" | grep -E '^(crates|docs|tests|bin)/' | grep -vE '[*<]|NAME|CRATE|(^|/)out(/|$)' | while read -r path; do
+        [ -e "${path%%:*}" ] || echo "$1: no file $path"
+    done >>"$faults"
+    # Promises are named within their crate, and held above.
+    [ "$1" != docs/PROMISES.md ] || return 0
+    awk -v page="$1" '
+        FILENAME == ARGV[1] { if ($3 != "clause" && $3 != "impl") { defined[$1, $4]; anywhere[$4] } crates[$1]; next }
+        /^[A-Za-z_]+(::[A-Za-z_0-9]+)+$/ {
+            count = split($0, parts, "::")
+            if (parts[1] in crates ? !((parts[1], parts[count]) in defined) : !(parts[count] in anywhere)) print page ": no " $0
+        }' "$work/index" "$work/words" >>"$faults"
+}
+
+# The lines of the law in README: behind the last colon a function and names of its clauses, or of other functions, held above.
+hold_laws() {
+    grep -E '^[0-9]+\. \*\*' README.md | sed 's/.*: `/`/' | awk '
+        FILENAME == ARGV[1] { if ($3 == "clause") clauses[$4, $5]; next }
+        {
+            count = split($0, piece, "`")
+            carrier = piece[2]
+            sub(/.*::/, "", carrier)
+            for (p = 4; p <= count; p += 2)
+                if (piece[p] !~ /::/ && !((carrier, piece[p]) in clauses)) print "README.md: no clause " piece[p] " of " carrier
+        }' "$work/index" - >>"$faults"
+}
+
+# docs/MAP.md has a row for each crate of crates.txt, with what it stands on.
+hold_map() {
+    awk '
+        function lacks(what) { print "docs/MAP.md: " what }
+        FILENAME == ARGV[1] { crate = $1; sub(/:$/, "", crate); crates[crate]; for (i = 2; i <= NF; i++) uses[crate, $i]; next }
+        /^\| `/ {
+            split($0, cells, "|")
+            crate = cells[2]
+            gsub(/[ `]/, "", crate)
+            rows[crate]
+            if (!(crate in crates)) lacks("no crate " crate)
+            if (sub(/the crates that `sqlite` stands on/, "", cells[4])) engines[crate]
+            sub(/`club_core` and below/, "`club_core` `club_rows` `club_values` `pass_caveats`", cells[4])
+            count = split(cells[4], piece, "`")
+            for (p = 2; p <= count; p += 2) {
+                said[crate, piece[p]]
+                if (!((crate, piece[p]) in uses)) lacks(crate " does not stand on " piece[p])
+            }
+        }
+        END {
+            for (crate in crates) if (!(crate in rows)) lacks("no row of " crate)
+            for (pair in uses) {
+                split(pair, part, SUBSEP)
+                if (part[1] in rows && !(pair in said) && !(part[1] in engines && part[2] ~ /^sqlite_/)) lacks(part[1] " stands on " part[2])
+            }
+        }' crates.txt docs/MAP.md >>"$faults"
+}
+
+# name_crates PAGE: the page names each crate of crates.txt.
+name_crates() {
+    sed 's/:.*//' crates.txt | while read -r crate; do
+        grep -qF "\`$crate\`" "$1" || echo "$1: does not name $crate"
+    done >>"$faults"
+}
+
+# Words of code that the glossary gives stand in some file.
+hold_glossary() {
+    grep -E '^\|' docs/GLOSSARY.md | grep -oE '`[^` ]+`' | tr -d '`' | sort -u >"$work/words"
+    tr ' ' '\n' <"$work/files" | xargs cat | grep -oE '[A-Za-z_0-9]+' | sort -u >"$work/known"
+    sed 's/.*:://' "$work/words" | grep -xE '[A-Za-z_0-9]+' | sort -u | comm -23 - "$work/known" | sed 's/^/docs\/GLOSSARY.md: no name /' >>"$faults"
+}
+
+[ -z "$runs" ] || command -v curl >/dev/null || apt-get install -y curl >/dev/null || exit 2
+find crates -path '*/out/*' -prune -o \( -path '*/src/*.rt' -o -path '*/specs/*.antt' -o -path '*/proofs/*.antt' -o -path '*.edit' \) -print |
+    tr '\n' ' ' >"$work/files"
+index_names
+port=8079
+for page; do
+    next_port
+    follow_links "$page"
+    hold_names "$page"
+    find_quotes "$page"
+    case $page in
+        docs/PROMISES.md) hold_promises ;;
+        docs/GLOSSARY.md) hold_glossary ;;
+        README.md) hold_laws ;;
+        docs/MAP.md) hold_map ;;
+        docs/LAYERS.md | docs/TRUST.md) name_crates "$page" ;;
+        docs/INDEX.md)
+            for other in docs/*.md; do
+                [ "$other" = "$page" ] || grep -qF "($(basename "$other"))" "$page" || echo "$page: doesn't name $other" >>"$faults"
+            done
+            ;;
+    esac
+    run_commands "$page"
+done
+if [ -n "$whole" ]; then
+    for page in README.md docs/TRUST.md; do
+        grep -qF "$(rt version)" "$page" || echo "$page: another toolchain than $(rt version)" >>"$faults"
+    done
+    [ -z "$runs" ] || tests/demo_tells.sh || echo 'tests/demo_tells.sh: bin/demo prints something else' >>"$faults"
+fi
+if [ -s "$faults" ]; then
+    cat "$faults" >&2
+    exit 1
+fi
+echo 'the pages hold'

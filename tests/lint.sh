@@ -1,0 +1,135 @@
+#!/bin/sh
+# Slips that a machine sees and the gate lets pass. Prints each, with its place; the status is 1 where there is one.
+# - one name that two specs modules of one crate define;
+# - lines that are too long: code and clauses past 100 columns, comments, imports, specs and proofs past 160;
+# - a number in a public docstring that says no unit (a guess: it wants a word behind the number, or a unit's word in the text);
+# - files that nothing uses: modules of specs and proofs that no file imports, files of code that no `mod` names, scripts that no
+#   page names, and edits of must-fail/ and more-edits/ whose old text doesn't stand once in its file.
+# Not part of the gate.
+#   tests/lint.sh                  every crate
+#   tests/lint.sh club_core ..     these crates
+set -u
+here=$(CDPATH='' cd -P -- "$(dirname -- "$0")" && pwd)
+cd "$here/.." || exit 2
+whole=
+[ $# -gt 0 ] || { whole=yes; set -- $(ls crates); }
+found=$(mktemp) || exit 2
+trap 'rm -f "$found"' EXIT
+LC_ALL=C.UTF-8
+export LC_ALL
+
+# Names at the top level of a specs module: what stands before its colon, or behind `record` and `data`.
+twice_defined() {
+    for file in "crates/$1"/specs/*.antt; do
+        [ -e "$file" ] || continue
+        sed -nE -e 's/^(pub )?(record|data) ([^ ]+).*/\3/p' -e 's/^((abbrev|unfoldable) )?(pub )?([^ ]+) :( .*)?$/\4/p' "$file" |
+            sort -u | sed "s|\$| ${file#crates/}|"
+    done | sort | awk '
+        { files[$1] = files[$1] " " $2; count[$1]++ }
+        END { for (name in count) if (count[name] > 1) print "defined twice: " name " in" files[name] }'
+}
+
+# A line of code is at most 100 columns long, a comment, an import or a line of specs/ or proofs/ 160. A line for each file.
+too_long() {
+    find "crates/$1/src" -name '*.rt' -exec grep -HnE '^.{101,}' {} + | grep -vE '^[^:]*:[0-9]+: *(//|ghost use)' | by_file 100
+    find "crates/$1" -path '*/out/*' -prune -o \( -name '*.rt' -o -name '*.antt' \) -exec grep -HnE '^.{161,}' {} + | by_file 160
+}
+
+# by_file COLUMNS: of lines `FILE:LINE:TEXT`, how many each file has, and where the first stands.
+by_file() {
+    awk -F : -v columns="$1" '
+        !count[$1]++ { first[$1] = $2 }
+        END { for (file in count) print "past " columns " columns: " file ":" first[file] ": " count[file] " lines" }' | sort
+}
+
+# The sentences of a docstring above a public item, joined; a number in it wants a unit.
+without_unit() {
+    find "crates/$1/src" -name '*.rt' ! -name '*tests*' -exec awk '
+        BEGIN {
+            units = "byte|bit|character|letter|digit|column|line|caveat|pass|place|person|guest|booking|point|day|hour|minute"
+            units = units "|moment|year|name|fault|status|connection|port|version|row|request|key|field|case|number|memory|count|length"
+        }
+        /^ *\/\/\/ / { text = text " " substr($0, index($0, "///") + 4); if (!start) start = FNR; next }
+        /^ *#\[/ { next }
+        {
+            if (text != "" && /^ *pub /) {
+                plain = text
+                gsub(/`[^`]*`/, "", plain)
+                gsub(/below 0|RFC [0-9]+|FIPS [0-9-]+|SHA-256|[0-9]+-[0-9]+-[0-9]+(T[0-9:]+)?|[A-Za-z-]+[0-9]+/, "", plain)
+                if (plain ~ /[0-9][0-9,]*/ && plain !~ /[0-9] [a-z-]*(bytes|hexa|decimal)/ && tolower(plain) !~ units)
+                    print "number without a unit: " FILENAME ":" start ":" text
+            }
+            text = ""; start = 0
+        }' {} \;
+}
+
+# unused_modules CRATE specs|proofs: modules that Lib.antt lists and no other file cites, and files that it does not list.
+unused_modules() {
+    library=crates/$1/$2/Lib.antt
+    [ -e "$library" ] || return 0
+    for file in "crates/$1/$2"/*.antt; do
+        module=$(basename "$file" .antt)
+        [ "$module" != Lib ] || continue
+        grep -qE "^(pub )?mod $module\$" "$library" || echo "not in Lib.antt: $file"
+        find crates -path '*/out/*' -prune -o \( -name '*.rt' -o -name '*.antt' \) ! -path "$file" -print0 |
+            xargs -0 grep -qE "($1[.]|crate::)$2(\.|::)$module([^A-Za-z0-9_]|\$)" || echo "imported nowhere: $file"
+    done
+}
+
+# Files of code that no `mod` of the file above them names.
+unused_code() {
+    find "crates/$1/src" -name '*.rt' ! -name lib.rt ! -name main.rt | while read -r file; do
+        module=$(basename "$file" .rt)
+        folder=$(dirname "$file")
+        for above in "$folder.rt" "$folder/lib.rt" "$folder/main.rt"; do
+            ! grep -qsE "^ *(pub(\([a-z]+\))? )?mod $module;" "$above" || continue 2
+        done
+        echo "no mod names: $file"
+    done
+}
+
+# An edit is pairs of lines `old:` and `new:` under a `file:`; each old text stands once in what the pairs before it made.
+stale_edits() {
+    for edit in "crates/$1"/must-fail/*.edit "crates/$1"/more-edits/*.edit; do
+        [ -e "$edit" ] || continue
+        awk -v crate="crates/$1/" -v edit="$edit" '
+            function tell(what) { print "edit doesn'\''t apply: " edit ": " what }
+            function load(name,    line) {
+                if (name in texts) return
+                texts[name] = ""
+                while ((getline line <(crate name)) > 0) texts[name] = texts[name] line "\n"
+                close(crate name)
+                if (texts[name] == "") tell("no file " name)
+            }
+            /^file: / { name = substr($0, 7); load(name) }
+            /^old: / { old = substr($0, 6) }
+            /^new: / {
+                at = index(texts[name], old)
+                if (!at) { tell("not there: " old); next }
+                rest = substr(texts[name], at + length(old))
+                if (index(rest, old)) { tell("there twice: " old); next }
+                texts[name] = substr(texts[name], 1, at - 1) substr($0, 6) rest
+            }' "$edit"
+    done
+}
+
+# Scripts that no page names.
+unnamed_scripts() {
+    for script in tests/*.sh bin/*; do
+        grep -qF "$script" README.md CONTRIBUTING.md docs/*.md 2>/dev/null || echo "no page names: $script"
+    done
+}
+
+for crate; do
+    twice_defined "$crate"
+    too_long "$crate"
+    without_unit "$crate"
+    unused_modules "$crate" specs
+    unused_modules "$crate" proofs
+    unused_code "$crate"
+    stale_edits "$crate"
+done >"$found"
+[ -z "$whole" ] || unnamed_scripts >>"$found"
+cat "$found"
+echo "$(wc -l <"$found") slips"
+[ ! -s "$found" ]
