@@ -15,7 +15,7 @@ const MAX_METHOD_LEN: usize = 7;
 /// The first bytes of a request as it was read. Contracts see it as these bytes.
 ///
 /// It tells the method and the path where they are made of the letters that the desk's own are made
-/// of. So it tells no part of a pass: the text of one begins with a capital letter or a brace.
+/// of. So it tells no pass: the text of every pass has a capital letter or a brace in it.
 #[derive(Clone, Copy)]
 pub struct RequestLine {
     bytes: [u8; MAX_KEPT],
