@@ -1,5 +1,6 @@
 -- One event more: what was followed goes on by a step.
-use Rattle.std.proofs.Common.{◌≡◌, ℕ, ◌+◌, ◌<◌, ◌∙◌, take, get_or, add-one, inl, inr, Bool, true, false, cond, List, [], ◌∷◌, ◌++◌, length, All, Contains, Option, Some, None, Result, Ok, Err, refl, sym, ap, subst, arith}
+use Rattle.std.proofs.Common.{◌≡◌, ℕ, ◌+◌, ◌<◌, ◌∙◌, take, get_or, add-one, inl, inr, Bool, true, false, cond, List, [], ◌∷◌, ◌++◌, length, All, Contains,
+    Option, Some, None, Result, Ok, Err, refl, sym, ap, subst, arith}
 use Rattle.std.proofs.Math.Seq.{take-suc}
 use Rattle.std.proofs.lemmas.List.{map-append, length-map, length-take}
 use Rattle.std.proofs.lemmas.List.Elements.{All-nil, All-cons, All-weaker, All-contains_itself, Contains-append_left, Contains-append_right}
@@ -16,7 +17,8 @@ use Rattle.club_gate.specs.Runs.{IsFollowed, MayBeLeft, Told, events_of, failed,
 use Rattle.club_gate.specs.Told.{event_of, told_by, telling}
 
 -- of some events of a list, the next one too
-pub one_more : (events : List DeskEvent) (i : ℕ) (event : DeskEvent) → i < length events → event ≡ get_or events i event → events_of (take (i + 1) events) ≡ events_of (take i events) ++ event_of event ∷ []
+pub one_more : (events : List DeskEvent) (i : ℕ) (event : DeskEvent) → i < length events → event ≡ get_or events i event
+    → events_of (take (i + 1) events) ≡ events_of (take i events) ++ event_of event ∷ []
 one_more events i event h e =
     rw (add-one, take-suc events i event)
     (map-append event_of (take i events) (get_or events i event ∷ [])
@@ -32,18 +34,21 @@ kept_by club (Ordered command) h = go (office_verdict club command) h
     go (Err fault) e = refl
 
 -- a run, and one step after it
-ran_more : (club last next : Club) (events : List Event) (told : List Told) (event : Event) (one : Told) → IsRun telling club events told last → IsStep telling last event one next → IsRun telling club (events ++ event ∷ []) (told ++ one ∷ []) next
+ran_more : (club last next : Club) (events : List Event) (told : List Told) (event : Event) (one : Told) → IsRun telling club events told last
+    → IsStep telling last event one next → IsRun telling club (events ++ event ∷ []) (told ++ one ∷ []) next
 ran_more club last next [] [] event one h s = (next, subst (λ (c : Club). IsStep telling c event one next) h s, refl)
 ran_more club last next [] (other ∷ told) event one h s = absurd h
 ran_more club last next (other ∷ events) [] event one h s = absurd h
 ran_more club last next (other ∷ events) (first ∷ told) event one h s = (h.0, h.1, ran_more h.0 last next events told event one h.2 s)
 
-one_before : (is_failed : Bool) (event : Event) (front rest : List Event) → cond is_failed (event ∷ front ++ rest) (front ++ rest) ≡ cond is_failed (event ∷ front) front ++ rest
+one_before : (is_failed : Bool) (event : Event) (front rest : List Event)
+    → cond is_failed (event ∷ front ++ rest) (front ++ rest) ≡ cond is_failed (event ∷ front) front ++ rest
 one_before true event front rest = refl
 one_before false event front rest = refl
 
 -- the failed events of a list, and of one event after it
-failed_more : (events : List Event) (told : List Told) (event : Event) (one : Told) → length told ≡ length events → failed (events ++ event ∷ []) (told ++ one ∷ []) ≡ failed events told ++ failed (event ∷ []) (one ∷ [])
+failed_more : (events : List Event) (told : List Told) (event : Event) (one : Told) → length told ≡ length events
+    → failed (events ++ event ∷ []) (told ++ one ∷ []) ≡ failed events told ++ failed (event ∷ []) (one ∷ [])
 failed_more [] [] event one e = refl
 failed_more [] (other ∷ told) event one e = absurd (omega arith)
 failed_more (other ∷ events) [] event one e = absurd (omega arith)
@@ -55,23 +60,29 @@ among_failed : (event : Event) (one : Told) → has_failed telling event one ≡
 among_failed event one h = rw h (0, omega arith, refl)
 
 -- what a crash may leave, after more events that failed
-left_with_more : (club : Club) (others : List Club) (last : Club) (refused more : List Event) (left : Club) → MayBeLeft club others last refused left → MayBeLeft club others last (refused ++ more) left
+left_with_more : (club : Club) (others : List Club) (last : Club) (refused more : List Event) (left : Club) → MayBeLeft club others last refused left
+    → MayBeLeft club others last (refused ++ more) left
 left_with_more club others last refused more left (inl h) = inl h
 left_with_more club others last refused more left (inr h) = inr (h.0, Contains-append_left refused more h.0 h.1, h.2)
 
-all_with_more : (club : Club) (others : List Club) (last : Club) (refused more all : List Event) (left : List Club) → all ≡ refused ++ more → All (MayBeLeft club others last refused) left → All (MayBeLeft club others last all) left
+all_with_more : (club : Club) (others : List Club) (last : Club) (refused more all : List Event) (left : List Club) → all ≡ refused ++ more
+    → All (MayBeLeft club others last refused) left → All (MayBeLeft club others last all) left
 all_with_more club others last refused more all left e h =
     subst (λ (events : List Event). All (MayBeLeft club others last events) left) (sym e)
     (All-weaker (MayBeLeft club others last refused) (MayBeLeft club others last (refused ++ more)) (left_with_more club others last refused more) left h)
 
 -- what it may leave after an event that was answered
-left_by_answer : (club : Club) (others : List Club) (last : Club) (all : List Event) (event : Event) (left : List Club) (change : Option Change) → change_of last event ≡ change → All (MayBeLeft club others last all) left → All (MayBeLeft club others (step last event).club all) (others_after change left)
+left_by_answer : (club : Club) (others : List Club) (last : Club) (all : List Event) (event : Event) (left : List Club) (change : Option Change)
+    → change_of last event ≡ change → All (MayBeLeft club others last all) left
+    → All (MayBeLeft club others (step last event).club all) (others_after change left)
 left_by_answer club others last all event left None e h =
     subst (λ (c : Club). All (MayBeLeft club others c all) left) (sym (kept_by last event e)) h
 left_by_answer club others last all event left (Some change) e h = All-nil (MayBeLeft club others (step last event).club all)
 
 module _ {S : Type 0} (Stands : S → Club → List Club → Type 0) where
-  answered_more : (new : S) (now : S) (club : Club) (others : List Club) (events : List Event) (told : List Told) (event : Event) (one : Told) → length told ≡ length events → (f : IsFollowed Stands now club others events told) → IsAnsweredBy Stands new f.last f.left event one → IsFollowed Stands new club others (events ++ event ∷ []) (told ++ one ∷ [])
+  answered_more : (new : S) (now : S) (club : Club) (others : List Club) (events : List Event) (told : List Told) (event : Event) (one : Told)
+      → length told ≡ length events → (f : IsFollowed Stands now club others events told) → IsAnsweredBy Stands new f.last f.left event one
+      → IsFollowed Stands new club others (events ++ event ∷ []) (told ++ one ∷ [])
   answered_more new now club others events told event one e f a =
       let refused = failed events told in
       let more = failed (event ∷ []) (one ∷ []) in
@@ -87,7 +98,9 @@ module _ {S : Type 0} (Stands : S → Club → List Club → Type 0) where
             (all_with_more club others f.last refused more all f.left (failed_more events told event one e) f.each);
       }
 
-  refused_more : (new : S) (now : S) (club : Club) (others : List Club) (events : List Event) (told : List Told) (event : Event) (one : Told) → length told ≡ length events → (f : IsFollowed Stands now club others events told) → IsRefusedBy Stands new f.last f.left event one → IsFollowed Stands new club others (events ++ event ∷ []) (told ++ one ∷ [])
+  refused_more : (new : S) (now : S) (club : Club) (others : List Club) (events : List Event) (told : List Told) (event : Event) (one : Told)
+      → length told ≡ length events → (f : IsFollowed Stands now club others events told) → IsRefusedBy Stands new f.last f.left event one
+      → IsFollowed Stands new club others (events ++ event ∷ []) (told ++ one ∷ [])
   refused_more new now club others events told event one e f r =
       let refused = failed events told in
       let more = failed (event ∷ []) (one ∷ []) in
@@ -119,14 +132,19 @@ module _ {S : Type 0} (Stands : S → Club → List Club → Type 0) where
     each = All-weaker (Contains others) (MayBeLeft club others club []) (λ left among. inl (refl, among)) others (All-contains_itself others);
   }
 
-  pub followed_more : (new : S) (now : S) (club : Club) (others : List Club) (events : List Event) (told : List Told) (event : Event) (one : Told) → length told ≡ length events → IsFollowed Stands now club others events told → Steps Stands now new event one → IsFollowed Stands new club others (events ++ event ∷ []) (told ++ one ∷ [])
+  pub followed_more : (new : S) (now : S) (club : Club) (others : List Club) (events : List Event) (told : List Told) (event : Event) (one : Told)
+      → length told ≡ length events → IsFollowed Stands now club others events told → Steps Stands now new event one
+      → IsFollowed Stands new club others (events ++ event ∷ []) (told ++ one ∷ [])
   followed_more new now club others events told event one e f steps = elim (steps f.last f.left f.stands) [
     | inl a ↦ answered_more new now club others events told event one e f a
     | inr r ↦ refused_more new now club others events told event one e f r
   ]
 
   -- one event of the desk more
-  pub followed_one : (new now : S) (club : Club) (others : List Club) (events : List DeskEvent) (i : ℕ) (event : DeskEvent) (replies all : List EventReply) (reply : EventReply) → i < length events → event ≡ get_or events i event → length replies ≡ i → all ≡ replies ++ reply ∷ [] → IsFollowed Stands now club others (events_of (take i events)) (told_all replies) → Steps Stands now new (event_of event) (told_by reply) → IsFollowed Stands new club others (events_of (take (i + 1) events)) (told_all all)
+  pub followed_one : (new now : S) (club : Club) (others : List Club) (events : List DeskEvent) (i : ℕ) (event : DeskEvent) (replies all : List EventReply)
+      (reply : EventReply) → i < length events → event ≡ get_or events i event → length replies ≡ i → all ≡ replies ++ reply ∷ []
+      → IsFollowed Stands now club others (events_of (take i events)) (told_all replies) → Steps Stands now new (event_of event) (told_by reply)
+      → IsFollowed Stands new club others (events_of (take (i + 1) events)) (told_all all)
   followed_one new now club others events i event replies all reply h e count same f steps =
       let beside : length (told_all replies) ≡ length (events_of (take i events)) = simp (length-map, length-take) (omega arith) in
       rw (one_more events i event h e, same, map-append told_by replies (reply ∷ []))

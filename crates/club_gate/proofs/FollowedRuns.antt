@@ -4,19 +4,24 @@ use Rattle.std.proofs.lemmas.List.Elements.{All-cons, All-weaker}
 use Rattle.club_core.specs.Club.{Club, empty_club, member_named, IsSound}
 use Rattle.club_core.specs.Events.{IsEvent}
 use Rattle.club_core.specs.Run.{Event, Asked, replies_of}
-use Rattle.club_laws.specs.AsTold.{ConservesPointsAsTold, SoloLawAsTold, SoloLawOfTwoAsTold, SoundAsTold, TellsAgain, TellsAgainAfterOneMore, TellsRepeatsTheSame}
+use Rattle.club_laws.specs.AsTold.{ConservesPointsAsTold, SoloLawAsTold, SoloLawOfTwoAsTold, SoundAsTold, TellsAgain, TellsAgainAfterOneMore,
+    TellsRepeatsTheSame}
 use Rattle.club_laws.specs.Conservation.{IsConserved, SoundClubsHavePlaces}
 use Rattle.club_laws.specs.Failed.{IsRun, LeavesOutFailed}
 use Rattle.club_gate.specs.declared.event.OfficeReply.{OfficeReply}
-use Rattle.club_gate.specs.Runs.{Conserves, IsAnswered, IsAsInAnother, IsFollowed, IsNeverNegative, IsNeverOverbooked, IsOnce, IsSolo, KeepsServed, LeavesStanding, MayBeLeft, Told, answered, club_left, failed}
+use Rattle.club_gate.specs.Runs.{Conserves, IsAnswered, IsAsInAnother, IsFollowed, IsNeverNegative, IsNeverOverbooked, IsOnce, IsSolo, KeepsServed,
+    LeavesStanding, MayBeLeft, Told, answered, club_left, failed}
 use Rattle.club_gate.specs.Told.{telling}
 
 -- What follows of a followed list follows of what an answer tells.
-pub of_told : {S T E : Type 0} (Stands : S → Club → List Club → Type 0) (new : S) (club : Club) (others : List Club) (events : List Event) (r : Result T E) (told : T → List Told) (P : List Told → Type 0) → OnOk r (All IsEvent events) → IfOk r (λ x. IsFollowed Stands new club others events (told x)) → ((ts : List Told) → All IsEvent events → IsFollowed Stands new club others events ts → P ts) → IfOk r (λ x. P (told x))
+pub of_told : {S T E : Type 0} (Stands : S → Club → List Club → Type 0) (new : S) (club : Club) (others : List Club) (events : List Event) (r : Result T E)
+    (told : T → List Told) (P : List Told → Type 0) → OnOk r (All IsEvent events) → IfOk r (λ x. IsFollowed Stands new club others events (told x))
+    → ((ts : List Told) → All IsEvent events → IsFollowed Stands new club others events ts → P ts) → IfOk r (λ x. P (told x))
 of_told Stands new club others events (Ok x) told P within f rule = rule (told x) within f
 of_told Stands new club others events (Err e) told P within f rule = tt
 
-module _ {S : Type 0} (Stands : S → Club → List Club → Type 0) (new : S) (club : Club) (others : List Club) (events : List Event) (told : List Told) (leaves : LeavesOutFailed OfficeReply) (f : IsFollowed Stands new club others events told) where
+module _ {S : Type 0} (Stands : S → Club → List Club → Type 0) (new : S) (club : Club) (others : List Club) (events : List Event) (told : List Told)
+    (leaves : LeavesOutFailed OfficeReply) (f : IsFollowed Stands new club others events told) where
   left_by : f.last ≡ club_left club events told
   left_by = (leaves telling club f.last events told f.ran).left
 
@@ -69,7 +74,8 @@ module _ {S : Type 0} (Stands : S → Club → List Club → Type 0) (new : S) (
 nowhere : (c : Club) → Contains [] c → ⊥
 nowhere c among = let bound : among.0 < 0 = among.1 in omega arith
 
-pub kept_served : {S : Type 0} (Stands : S → Club → List Club → Type 0) (new : S) (club : Club) (events : List Event) (told : List Told) → LeavesOutFailed OfficeReply → TellsAgainAfterOneMore OfficeReply → IsFollowed Stands new club [] events told → KeepsServed Stands new club events told
+pub kept_served : {S : Type 0} (Stands : S → Club → List Club → Type 0) (new : S) (club : Club) (events : List Event) (told : List Told)
+    → LeavesOutFailed OfficeReply → TellsAgainAfterOneMore OfficeReply → IsFollowed Stands new club [] events told → KeepsServed Stands new club events told
 kept_served Stands new club events told leaves law f =
     let last = club_left club events told in
     let s = standing Stands new club [] events told leaves f in

@@ -57,14 +57,16 @@ MayBeLeft club others last refused left =
     ⊎ ((event : machine.Event) × Contains refused event × (left ≡ (step last event).club))
 
 -- the club that the answered events leave stands, and a crash may leave no others than these
-pub record LeavesStanding {S : Type 0} (Stands : S → Club → List Club → Type 0) (new : S) (club : Club) (others : List Club) (events : List machine.Event) (told : List Told) : Type 0 where
+pub record LeavesStanding {S : Type 0} (Stands : S → Club → List Club → Type 0) (new : S) (club : Club) (others : List Club) (events : List machine.Event)
+    (told : List Told) : Type 0 where
   pub left : List Club
   pub stands : Stands new (club_left club events told) left
   pub each : All (MayBeLeft club others (club_left club events told) (failed events told)) left
 
 -- The same where a crash could leave no other club before: whichever club it leaves now, there what was served is told again, and
 -- changes nothing.
-pub record KeepsServed {S : Type 0} (Stands : S → Club → List Club → Type 0) (new : S) (club : Club) (events : List machine.Event) (told : List Told) : Type 0 where
+pub record KeepsServed {S : Type 0} (Stands : S → Club → List Club → Type 0) (new : S) (club : Club) (events : List machine.Event) (told : List Told) : Type 0
+    where
   pub left : List Club
   pub stands : Stands new (club_left club events told) left
   pub again : All (λ (c : Club). TellsAgain c events told) (club_left club events told ∷ left)
@@ -117,7 +119,8 @@ abbrev pub IsNeverOverbooked : Club → Type 0
 IsNeverOverbooked club = (slot : Slot) → HasPlaces slot club
 
 -- The desk has followed a list of events: each was answered or failed, one after the other.
-pub record IsFollowed {S : Type 0} (Stands : S → Club → List Club → Type 0) (new : S) (club : Club) (others : List Club) (events : List machine.Event) (told : List Told) : Type 0 where
+pub record IsFollowed {S : Type 0} (Stands : S → Club → List Club → Type 0) (new : S) (club : Club) (others : List Club) (events : List machine.Event)
+    (told : List Told) : Type 0 where
   pub last : Club
   pub ran : IsRun telling club events told last
   pub left : List Club

@@ -94,15 +94,21 @@ pub record Cancels (club : Club) (key : Key) (slot : Slot) (number : ℕ) (booki
 -- what is to be shown for each way
 pub record Ways (P : Verdict → Type 0) (club : Club) (words : Words) (moment : ℕ) : Type 0 where
   pub silent : (reply : Reply) → IsSilent reply → P (verdicts.told reply)
-  pub repeats_booking : (key : Key) (member : Member) (slot : Slot) (number guests : ℕ) (booking : Booking) → Knows club words key member → words.request ≡ asked.Book slot number guests → RepeatsBooking club key slot number guests booking → P (verdicts.booked_before booking)
-  pub books : (key : Key) (member : Member) (slot : Slot) (number guests : ℕ) (facility : Facility) → Knows club words key member → words.request ≡ asked.Book slot number guests → Books club key member slot number guests facility → P (verdicts.booked (written club key slot number guests facility))
-  pub cancels_recorded : (key : Key) (member : Member) (slot : Slot) (number : ℕ) (booking : Booking) → Knows club words key member → words.request ≡ asked.Cancel slot number → CancelsRecorded club key slot number booking → P (verdicts.cancelled_before booking)
-  pub cancels : (key : Key) (member : Member) (slot : Slot) (number : ℕ) (booking : Booking) → Knows club words key member → words.request ≡ asked.Cancel slot number → Cancels club key slot number booking → P (verdicts.cancelled booking (refund_at booking moment))
+  pub repeats_booking : (key : Key) (member : Member) (slot : Slot) (number guests : ℕ) (booking : Booking) → Knows club words key member
+      → words.request ≡ asked.Book slot number guests → RepeatsBooking club key slot number guests booking → P (verdicts.booked_before booking)
+  pub books : (key : Key) (member : Member) (slot : Slot) (number guests : ℕ) (facility : Facility) → Knows club words key member
+      → words.request ≡ asked.Book slot number guests → Books club key member slot number guests facility
+      → P (verdicts.booked (written club key slot number guests facility))
+  pub cancels_recorded : (key : Key) (member : Member) (slot : Slot) (number : ℕ) (booking : Booking) → Knows club words key member
+      → words.request ≡ asked.Cancel slot number → CancelsRecorded club key slot number booking → P (verdicts.cancelled_before booking)
+  pub cancels : (key : Key) (member : Member) (slot : Slot) (number : ℕ) (booking : Booking) → Knows club words key member
+      → words.request ≡ asked.Cancel slot number → Cancels club key slot number booking → P (verdicts.cancelled booking (refund_at booking moment))
 
 -- the key is one of its member's
 pub is_own_key : (club : Club) (words : Words) (key : Key) (member : Member) → Knows club words key member → is_key_of member.name club key.name ≡ true
 is_own_key club words key member k =
-    let own : member.name ≡ key.member = bytes_same member.name key.member (found_passes (λ (m : Member). bytes_eq m.name key.member) club.members member k.owned) in
+    let own : member.name ≡ key.member = bytes_same member.name key.member
+        (found_passes (λ (m : Member). bytes_eq m.name key.member) club.members member k.owned) in
     let there = found_is_there (λ (other : Key). bytes_eq other.name key.name) club.keys key k.known in
     let mine : bytes_eq key.member member.name ≡ true = rw own (same_bytes key.member) in
     any-filter (λ (other : Key). bytes_eq other.name key.name) (λ (other : Key). bytes_eq other.member member.name) club.keys
@@ -110,9 +116,11 @@ is_own_key club words key member k =
     (and_from (bytes_eq key.member member.name) (bytes_eq key.name key.name) mine (same_bytes key.name))
 
 -- what the key booked is among its member's bookings
-pub own_booking : (club : Club) (words : Words) (key : Key) (member : Member) (number : ℕ) → Knows club words key member → booking_under key.name number (bookings_of member.name club) ≡ booking_under key.name number club.bookings
+pub own_booking : (club : Club) (words : Words) (key : Key) (member : Member) (number : ℕ) → Knows club words key member
+    → booking_under key.name number (bookings_of member.name club) ≡ booking_under key.name number club.bookings
 own_booking club words key member number k =
-    find-filter (λ (booking : Booking). is_under key.name booking && booking.number == number) (λ (booking : Booking). is_key_of member.name club booking.key) club.bookings
+    find-filter (λ (booking : Booking). is_under key.name booking && booking.number == number) (λ (booking : Booking).
+        is_key_of member.name club booking.key) club.bookings
     (λ booking e. let same : booking.key ≡ key.name = bytes_same booking.key key.name (and_parts (is_under key.name booking) (booking.number == number) e).0 in
     rw same (is_own_key club words key member k))
 
@@ -131,24 +139,33 @@ module _ (P : Verdict → Type 0) (club : Club) (words : Words) (moment : ℕ) (
   form_cases ThirdParty = refused_cases refusals.ThirdPartyCaveat tt
   form_cases TooMany = refused_cases refusals.TooManyCaveats tt
 
-  new_cases : (key : Key) (member : Member) → Knows club words key member → (slot : Slot) (number guests : ℕ) → words.request ≡ asked.Book slot number guests → booking_under key.name number club.bookings ≡ None → (o : Option Facility) → facility_named slot.facility club ≡ o → P (verdicts.new_verdict (view_at club (asked.Book slot number guests) moment key member) slot number guests moment o)
+  new_cases : (key : Key) (member : Member) → Knows club words key member → (slot : Slot) (number guests : ℕ) → words.request ≡ asked.Book slot number guests
+      → booking_under key.name number club.bookings ≡ None → (o : Option Facility) → facility_named slot.facility club ≡ o
+      → P (verdicts.new_verdict (view_at club (asked.Book slot number guests) moment key member) slot number guests moment o)
   new_cases key member k slot number guests r new None at = refused_cases refusals.NoSuchFacility tt
   new_cases key member k slot number guests r new (Some facility) at =
       let view = view_at club (asked.Book slot number guests) moment key member in
       first_of_cases P (verdicts.book_lines view slot guests moment facility) (verdicts.booked (written club key slot number guests facility))
-      (refused_cases refusals.NotBookable tt, (refused_cases refusals.SlotClosed tt, (refused_cases refusals.NoPlaces tt, (refused_cases refusals.QuotaReached tt, (refused_cases refusals.BalanceTooLow tt, tt)))))
-      (λ none. w.books key member slot number guests facility k r (record { new = new; located = at; opened = none.1.0; placed = none.1.1.0; paid = none.1.1.1.1.0 }))
+      (refused_cases refusals.NotBookable tt, (refused_cases refusals.SlotClosed tt,
+          (refused_cases refusals.NoPlaces tt, (refused_cases refusals.QuotaReached tt, (refused_cases refusals.BalanceTooLow tt, tt)))))
+      (λ none. w.books key member slot number guests facility k r (record { new = new; located = at; opened = none.1.0; placed = none.1.1.0; paid =
+          none.1.1.1.1.0 }))
 
-  repeat_booking_cases : (key : Key) (member : Member) → Knows club words key member → (slot : Slot) (number guests : ℕ) → words.request ≡ asked.Book slot number guests → (booking : Booking) → booking_under key.name number club.bookings ≡ Some booking → P (verdicts.repeat_booking_verdict booking slot guests)
+  repeat_booking_cases : (key : Key) (member : Member) → Knows club words key member → (slot : Slot) (number guests : ℕ)
+      → words.request ≡ asked.Book slot number guests → (booking : Booking) → booking_under key.name number club.bookings ≡ Some booking
+      → P (verdicts.repeat_booking_verdict booking slot guests)
   repeat_booking_cases key member k slot number guests r booking found =
       cond_both (same_slot booking.slot slot && booking.guests == guests) (verdicts.booked_before booking) (verdicts.refused refusals.NumberUsed) P
       (λ same. w.repeats_booking key member slot number guests booking k r (record { found = found; same = same }))
       (λ other. refused_cases refusals.NumberUsed tt)
 
-  cancel_recorded_cases : (key : Key) (member : Member) → Knows club words key member → (slot : Slot) (number : ℕ) → words.request ≡ asked.Cancel slot number → (booking : Booking) → booking_under key.name number club.bookings ≡ Some booking → P (verdicts.cancel_recorded_verdict booking slot moment)
+  cancel_recorded_cases : (key : Key) (member : Member) → Knows club words key member → (slot : Slot) (number : ℕ) → words.request ≡ asked.Cancel slot number
+      → (booking : Booking) → booking_under key.name number club.bookings ≡ Some booking → P (verdicts.cancel_recorded_verdict booking slot moment)
   cancel_recorded_cases key member k slot number r booking found = go (same_slot booking.slot slot) refl booking.cancelled refl
     where
-      go : (b : Bool) → same_slot booking.slot slot ≡ b → (c : Bool) → booking.cancelled ≡ c → P (cond (not b) (verdicts.refused refusals.NumberUsed) (cond c (verdicts.cancelled_before booking) (cond (nat_le (start_of booking.slot) moment) (verdicts.refused refusals.SlotHasBegun) (verdicts.cancelled booking (refund_at booking moment)))))
+      go : (b : Bool) → same_slot booking.slot slot ≡ b → (c : Bool) → booking.cancelled ≡ c
+          → P (cond (not b) (verdicts.refused refusals.NumberUsed) (cond c (verdicts.cancelled_before booking)
+          (cond (nat_le (start_of booking.slot) moment) (verdicts.refused refusals.SlotHasBegun) (verdicts.cancelled booking (refund_at booking moment)))))
       go false e c h = refused_cases refusals.NumberUsed tt
       go true e true h = w.cancels_recorded key member slot number booking k r (record { found = found; same = e; before = h })
       go true e false h =
@@ -157,11 +174,17 @@ module _ (P : Verdict → Type 0) (club : Club) (words : Words) (moment : ℕ) (
           (λ early. w.cancels key member slot number booking k r (record { found = found; same = e; stood = h }))
 
   -- what is on record under the number
-  book_cases : (key : Key) (member : Member) → Knows club words key member → (slot : Slot) (number guests : ℕ) → words.request ≡ asked.Book slot number guests → (o : Option Booking) → booking_under key.name number club.bookings ≡ o → P (verdicts.recorded_or o (λ booking. verdicts.repeat_booking_verdict booking slot guests) (verdicts.new_verdict (view_at club (asked.Book slot number guests) moment key member) slot number guests moment (facility_named slot.facility club)))
+  book_cases : (key : Key) (member : Member) → Knows club words key member → (slot : Slot) (number guests : ℕ) → words.request ≡ asked.Book slot number guests
+      → (o : Option Booking) → booking_under key.name number club.bookings ≡ o
+      → P (verdicts.recorded_or o (λ booking. verdicts.repeat_booking_verdict booking slot guests)
+      (verdicts.new_verdict (view_at club (asked.Book slot number guests) moment key member) slot number guests moment (facility_named slot.facility club)))
   book_cases key member k slot number guests r None new = new_cases key member k slot number guests r new (facility_named slot.facility club) refl
   book_cases key member k slot number guests r (Some booking) found = repeat_booking_cases key member k slot number guests r booking found
 
-  cancel_cases : (key : Key) (member : Member) → Knows club words key member → (slot : Slot) (number : ℕ) → words.request ≡ asked.Cancel slot number → (o : Option Booking) → booking_under key.name number club.bookings ≡ o → P (verdicts.recorded_or o (λ booking. verdicts.cancel_recorded_verdict booking slot moment) (verdicts.unknown_verdict (facility_named slot.facility club)))
+  cancel_cases : (key : Key) (member : Member) → Knows club words key member → (slot : Slot) (number : ℕ) → words.request ≡ asked.Cancel slot number
+      → (o : Option Booking) → booking_under key.name number club.bookings ≡ o
+      → P (verdicts.recorded_or o (λ booking. verdicts.cancel_recorded_verdict booking slot moment)
+      (verdicts.unknown_verdict (facility_named slot.facility club)))
   cancel_cases key member k slot number r None new = go (facility_named slot.facility club)
     where
       go : (o : Option Facility) → P (verdicts.unknown_verdict o)
@@ -169,18 +192,22 @@ module _ (P : Verdict → Type 0) (club : Club) (words : Words) (moment : ℕ) (
       go (Some facility) = refused_cases refusals.NoSuchBooking tt
   cancel_cases key member k slot number r (Some booking) found = cancel_recorded_cases key member k slot number r booking found
 
-  verdict_cases : (key : Key) (member : Member) → Knows club words key member → (request : Request) → words.request ≡ request → P (verdicts.verdict_of (view_at club request moment key member) request moment)
+  verdict_cases : (key : Key) (member : Member) → Knows club words key member → (request : Request) → words.request ≡ request
+      → P (verdicts.verdict_of (view_at club request moment key member) request moment)
   verdict_cases key member k (asked.View slot) r = go (facility_named slot.facility club)
     where
       go : (o : Option Facility) → P (verdicts.shown_at (view_at club (asked.View slot) moment key member) slot o)
       go None = refused_cases refusals.NoSuchFacility tt
       go (Some facility) = w.silent (SlotShown slot facility.kind facility.price facility.places (taken_in slot club.bookings) (is_closed slot club)) tt
   verdict_cases key member k (asked.Book slot number guests) r =
-      let Q : Option Booking → Type 0 = λ o. P (verdicts.recorded_or o (λ booking. verdicts.repeat_booking_verdict booking slot guests) (verdicts.new_verdict (view_at club (asked.Book slot number guests) moment key member) slot number guests moment (facility_named slot.facility club))) in
+      let Q : Option Booking → Type 0 = λ o. P (verdicts.recorded_or o (λ booking.
+          verdicts.repeat_booking_verdict booking slot guests) (verdicts.new_verdict (view_at club (asked.Book slot number guests) moment key member) slot
+          number guests moment (facility_named slot.facility club))) in
       subst Q (sym (own_booking club words key member number k))
       (book_cases key member k slot number guests r (booking_under key.name number club.bookings) refl)
   verdict_cases key member k (asked.Cancel slot number) r =
-      let Q : Option Booking → Type 0 = λ o. P (verdicts.recorded_or o (λ booking. verdicts.cancel_recorded_verdict booking slot moment) (verdicts.unknown_verdict (facility_named slot.facility club))) in
+      let Q : Option Booking → Type 0 = λ o. P (verdicts.recorded_or o (λ booking.
+          verdicts.cancel_recorded_verdict booking slot moment) (verdicts.unknown_verdict (facility_named slot.facility club))) in
       subst Q (sym (own_booking club words key member number k))
       (cancel_cases key member k slot number r (booking_under key.name number club.bookings) refl)
   verdict_cases key member k asked.Account r =
@@ -192,7 +219,8 @@ module _ (P : Verdict → Type 0) (club : Club) (words : Words) (moment : ℕ) (
   caveat_cases (Some (NotUnderstood n)) verdict h = refused_cases (refusals.CaveatNotUnderstood n) tt
   caveat_cases (Some (Denied n)) verdict h = refused_cases (refusals.CaveatDenies n) tt
 
-  known_cases : (pass : Pass) (key : Key) (member : Member) → Knows club words key member → P (answer_to (Ok pass) words.request moment (Some (view_at club words.request moment key member)))
+  known_cases : (pass : Pass) (key : Key) (member : Member) → Knows club words key member
+      → P (answer_to (Ok pass) words.request moment (Some (view_at club words.request moment key member)))
   known_cases pass key member k =
       let view = view_at club words.request moment key member in
       let fault = first_fault_of pass.caveats (ask_of view words.request moment) in
@@ -201,7 +229,8 @@ module _ (P : Verdict → Type 0) (club : Club) (words : Words) (moment : ℕ) (
       (refused_cases refusals.NotVerified tt, (refused_cases refusals.KeyRevoked tt, tt))
       (λ none. caveat_cases fault verdict (verdict_cases key member k words.request refl))
 
-  text_cases : (pass : Result Pass FormFault) (basis : Option Basis) → basis_of club words ≡ basis → P (answer_to pass words.request moment (option_map (λ (b : Basis). view_of b words.request moment) basis))
+  text_cases : (pass : Result Pass FormFault) (basis : Option Basis) → basis_of club words ≡ basis
+      → P (answer_to pass words.request moment (option_map (λ (b : Basis). view_of b words.request moment) basis))
   text_cases (Err fault) basis e = form_cases fault
   text_cases (Ok pass) None e = refused_cases refusals.NotVerified tt
   text_cases (Ok pass) (Some basis) e =

@@ -27,7 +27,9 @@ pub record RestsOn (club : Club) (request : Request) (name : Option (List ℕ)) 
   pub member : member_named basis.key.member club ≡ Some basis.member
   pub whole : basis ≡ basis_with club request basis.key basis.member
 
-with_member : (club : Club) (request : Request) (key : Key) (member : Option Member) (basis : Basis) → option_map (basis_with club request key) member ≡ Some basis → (key ≡ basis.key) × (member ≡ Some basis.member) × (basis ≡ basis_with club request basis.key basis.member)
+with_member : (club : Club) (request : Request) (key : Key) (member : Option Member) (basis : Basis)
+    → option_map (basis_with club request key) member ≡ Some basis → (key ≡ basis.key) × (member ≡ Some basis.member)
+    × (basis ≡ basis_with club request basis.key basis.member)
 with_member club request key None basis e = absurd (cc)
 with_member club request key (Some member) basis e =
     let s : basis_with club request key member ≡ basis = same_Some (basis_with club request key member) basis e in
@@ -35,7 +37,8 @@ with_member club request key (Some member) basis e =
     let m : member ≡ basis.member = ap (λ (b : Basis). b.member) s in
     (k, ap Some m, sym s ∙ (ap (λ (x : Key). basis_with club request x member) k ∙ ap (λ (x : Member). basis_with club request basis.key x) m))
 
-with_key : (club : Club) (request : Request) (name : List ℕ) (key : Option Key) (basis : Basis) → key_named name club ≡ key → option_and_then (basis_under club request) key ≡ Some basis → RestsOn club request (Some name) basis
+with_key : (club : Club) (request : Request) (name : List ℕ) (key : Option Key) (basis : Basis) → key_named name club ≡ key
+    → option_and_then (basis_under club request) key ≡ Some basis → RestsOn club request (Some name) basis
 with_key club request name None basis f e = absurd (cc)
 with_key club request name (Some key) basis f e =
     let parts = with_member club request key (member_named key.member club) basis e in
@@ -48,7 +51,8 @@ with_key club request name (Some key) basis f e =
       whole = parts.2;
     }
 
-with_name : (club : Club) (request : Request) (name : Option (List ℕ)) (basis : Basis) → option_and_then (basis_under club request) (option_and_then (λ (n : List ℕ). key_named n club) name) ≡ Some basis → RestsOn club request name basis
+with_name : (club : Club) (request : Request) (name : Option (List ℕ)) (basis : Basis)
+    → option_and_then (basis_under club request) (option_and_then (λ (n : List ℕ). key_named n club) name) ≡ Some basis → RestsOn club request name basis
 with_name club request None basis e = absurd (cc)
 with_name club request (Some name) basis e = with_key club request name (key_named name club) basis refl e
 

@@ -32,7 +32,8 @@ changes_under club words moment key n =
           ∙ same_Some row.name key (sym k.named ∙ n);
     })
 
-pub answer_changes_under : (club : Club) (words : Words) (moment : ℕ) (basis : Basis) → basis_of club words ≡ Some basis → IsUnder basis.key.name (answer_of words moment (Some basis)).change
+pub answer_changes_under : (club : Club) (words : Words) (moment : ℕ) (basis : Basis) → basis_of club words ≡ Some basis
+    → IsUnder basis.key.name (answer_of words moment (Some basis)).change
 answer_changes_under club words moment basis e =
     subst (λ (b : Option Basis). IsUnder basis.key.name (answer_of words moment b).change) e
     (changes_under club words moment basis.key.name (known_rows club words basis e).named)

@@ -33,7 +33,8 @@ abbrev pub has_number : List Booking → Seen
 has_number bookings key number = list_any (is_numbered key number) bookings
 
 abbrev pub MovesCharge : (List ℕ → Bool) → List Booking → List Booking → EventReply → Type 0
-MovesCharge p bookings new_bookings reply = Moves p (charged p bookings) (charged p new_bookings) (has_number bookings) (has_number new_bookings) (charge_told reply)
+MovesCharge p bookings new_bookings reply = Moves p (charged p bookings) (charged p new_bookings) (has_number bookings) (has_number new_bookings)
+    (charge_told reply)
 
 or_nothing : (b : Bool) → (b || false) ≡ b
 or_nothing true = refl
@@ -49,13 +50,16 @@ charge_untold (Refused refusal) h = refl
 charges_stay : (p : List ℕ → Bool) (bookings : List Booking) (reply : EventReply) → charge_told reply ≡ [] → MovesCharge p bookings bookings reply
 charges_stay p bookings reply e = Stays e refl (λ key number. refl)
 
-charge_again : (p : List ℕ → Bool) (bookings : List Booking) (key : List ℕ) (number : ℕ) (booking : Booking) → find (is_numbered key number) bookings ≡ Some booking → MovesCharge p bookings bookings (Replied (Booked booking.key booking.number booking.charge booking.left))
+charge_again : (p : List ℕ → Bool) (bookings : List Booking) (key : List ℕ) (number : ℕ) (booking : Booking)
+    → find (is_numbered key number) bookings ≡ Some booking → MovesCharge p bookings bookings
+    (Replied (Booked booking.key booking.number booking.charge booking.left))
 charge_again p bookings key number booking e =
     Repeats (record { key = booking.key; number = booking.number; points = booking.charge }) refl
     (any_passes (is_numbered booking.key booking.number) bookings booking (found_is_there (is_numbered key number) bookings booking e) (self_numbered booking))
     refl (λ k n. refl)
 
-charge_new : (p : List ℕ → Bool) (bookings : List Booking) (new : Booking) → find (is_numbered new.key new.number) bookings ≡ None → MovesCharge p bookings (bookings ++ new ∷ []) (Replied (Booked new.key new.number new.charge new.left))
+charge_new : (p : List ℕ → Bool) (bookings : List Booking) (new : Booking) → find (is_numbered new.key new.number) bookings ≡ None
+    → MovesCharge p bookings (bookings ++ new ∷ []) (Replied (Booked new.key new.number new.charge new.left))
 charge_new p bookings new none =
     Adds (record { key = new.key; number = new.number; points = new.charge }) refl
     (list_any_none (is_numbered new.key new.number) bookings (none_found (is_numbered new.key new.number) bookings none))
@@ -65,19 +69,23 @@ charge_new p bookings new none =
     ∙ (ap (λ b. has_number bookings key number || b) (or_nothing (is_numbered key number new))
     ∙ ap (λ b. has_number bookings key number || b) (numbered_back key number new)))
 
-charge_cancelled : (p : List ℕ → Bool) (bookings : List Booking) (key : List ℕ) (number refund : ℕ) (reply : EventReply) → charge_told reply ≡ [] → MovesCharge p bookings (map (cancelled key number refund) bookings) reply
+charge_cancelled : (p : List ℕ → Bool) (bookings : List Booking) (key : List ℕ) (number refund : ℕ) (reply : EventReply) → charge_told reply ≡ []
+    → MovesCharge p bookings (map (cancelled key number refund) bookings) reply
 charge_cancelled p bookings key number refund reply e =
     Stays e
     (ap (λ (kept : List Booking). sum_by (λ (b : Booking). b.charge) kept) (filter-map (cancelled key number refund) (λ (b : Booking). p b.key) bookings)
     ∙ sum-map (cancelled key number refund) (λ (b : Booking). b.charge) (filter (λ (b : Booking). p b.key) bookings))
     (λ k n. any-map (cancelled key number refund) (is_numbered k n) bookings)
 
-pub charge_moves : (p : List ℕ → Bool) (club : Club) (words : Words) (moment : ℕ) → MovesCharge p club.bookings (after_change (verdict_in club words moment).change club).bookings (Replied (verdict_in club words moment).reply)
+pub charge_moves : (p : List ℕ → Bool) (club : Club) (words : Words) (moment : ℕ)
+    → MovesCharge p club.bookings (after_change (verdict_in club words moment).change club).bookings (Replied (verdict_in club words moment).reply)
 charge_moves p club words moment =
     answer_cases (λ (v : Verdict). MovesCharge p club.bookings (after_change v.change club).bookings (Replied v.reply)) club words moment (record {
       silent = λ reply h. charges_stay p club.bookings (Replied reply) (charge_untold reply h);
       repeats_booking = λ key member slot number guests booking k e b. charge_again p club.bookings key.name number booking b.found;
       books = λ key member slot number guests facility k e b. charge_new p club.bookings (written club key slot number guests facility) b.new;
-      cancels_recorded = λ key member slot number booking k e b. charges_stay p club.bookings (Replied (Cancelled booking.key booking.number booking.refund)) refl;
-      cancels = λ key member slot number booking k e c. charge_cancelled p club.bookings booking.key booking.number (refund_at booking moment) (Replied (Cancelled booking.key booking.number (refund_at booking moment))) refl;
+      cancels_recorded = λ key member slot number booking k e b. charges_stay p club.bookings (Replied (Cancelled booking.key booking.number booking.refund))
+          refl;
+      cancels = λ key member slot number booking k e c. charge_cancelled p club.bookings booking.key booking.number (refund_at booking moment)
+          (Replied (Cancelled booking.key booking.number (refund_at booking moment))) refl;
     })

@@ -45,7 +45,8 @@ pub filter-map : {X Y : Type 0} (f : X → Y) (p : Y → Bool) (xs : List X) →
 filter-map f p [] = refl
 filter-map {X} {Y} f p (x ∷ xs) = go (p (f x)) (filter-map f p xs)
   where
-    go : (b : Bool) → filter p (map f xs) ≡ map f (filter (λ y. p (f y)) xs) → cond b (f x ∷ filter p (map f xs)) (filter p (map f xs)) ≡ map f (cond b (x ∷ filter (λ y. p (f y)) xs) (filter (λ y. p (f y)) xs))
+    go : (b : Bool) → filter p (map f xs) ≡ map f (filter (λ y. p (f y)) xs)
+        → cond b (f x ∷ filter p (map f xs)) (filter p (map f xs)) ≡ map f (cond b (x ∷ filter (λ y. p (f y)) xs) (filter (λ y. p (f y)) xs))
     go true e = ap (λ (ys : List Y). f x ∷ ys) e
     go false e = e
 
@@ -54,7 +55,8 @@ pub filter-filter : {X : Type 0} (p q : X → Bool) (xs : List X) → filter p (
 filter-filter p q [] = refl
 filter-filter {X} p q (x ∷ xs) = go (p x) (q x) refl (filter-filter p q xs)
   where
-    go : (b c : Bool) → p x ≡ b → filter p (filter q xs) ≡ filter (λ y. q y && p y) xs → filter p (cond c (x ∷ filter q xs) (filter q xs)) ≡ cond (c && b) (x ∷ filter (λ y. q y && p y) xs) (filter (λ y. q y && p y) xs)
+    go : (b c : Bool) → p x ≡ b → filter p (filter q xs) ≡ filter (λ y. q y && p y) xs
+        → filter p (cond c (x ∷ filter q xs) (filter q xs)) ≡ cond (c && b) (x ∷ filter (λ y. q y && p y) xs) (filter (λ y. q y && p y) xs)
     go true true e rest = rw e (ap (λ (ys : List X). x ∷ ys) rest)
     go false true e rest = rw e rest
     go b false e rest = rest

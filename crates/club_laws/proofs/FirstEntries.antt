@@ -35,12 +35,15 @@ alike seen entry other e =
     ap (λ (key : List ℕ). seen key other.number) (bytes_same other.key entry.key parts.0) ∙ ap (seen entry.key) (eqb-true other.number entry.number parts.1)
 
 -- an entry on record adds nothing
-pub seen_adds_nothing : (p : List ℕ → Bool) (seen : Seen) (entry : Entry) (entries : List Entry) → seen entry.key entry.number ≡ true → unseen_total p seen (entry ∷ entries) ≡ unseen_total p seen entries
+pub seen_adds_nothing : (p : List ℕ → Bool) (seen : Seen) (entry : Entry) (entries : List Entry) → seen entry.key entry.number ≡ true
+    → unseen_total p seen (entry ∷ entries) ≡ unseen_total p seen entries
 seen_adds_nothing p seen entry entries e =
     let others : Entry → Bool = λ (other : Entry). not (is_entry_of entry.key entry.number other) in
     let rest : filter (counts p seen) (filter others (firsts entries)) ≡ filter (counts p seen) (firsts entries) =
-    filter-filter (counts p seen) others (firsts entries) ∙ filter_agree (λ other. others other && counts p seen other) (counts p seen) (λ other. same other) (firsts entries) in
-    ap (λ (kept : List Entry). sum_by points_of kept) (drops (p entry.key) (seen entry.key entry.number) e (filter (counts p seen) (filter others (firsts entries))) ∙ rest)
+    filter-filter (counts p seen) others (firsts entries) ∙ filter_agree (λ other. others other && counts p seen other) (counts p seen) (λ other.
+        same other) (firsts entries) in
+    ap (λ (kept : List Entry). sum_by points_of kept) (drops (p entry.key) (seen entry.key entry.number) e
+        (filter (counts p seen) (filter others (firsts entries))) ∙ rest)
   where
     drops : (b c : Bool) → c ≡ true → (kept : List Entry) → cond (b && not c) (entry ∷ kept) kept ≡ kept
     drops true true h kept = refl
@@ -57,15 +60,18 @@ seen_adds_nothing p seen entry entries e =
     same other = go (is_entry_of entry.key entry.number other) (p other.key) (seen other.key other.number) (λ h. alike seen entry other h ∙ e)
 
 -- a new one adds its points, and is on record from then on
-pub new_adds_its_points : (p : List ℕ → Bool) (seen : Seen) (entry : Entry) (entries : List Entry) → seen entry.key entry.number ≡ false → unseen_total p seen (entry ∷ entries) ≡ cond (p entry.key) entry.points 0 + unseen_total p (with_entry entry seen) entries
+pub new_adds_its_points : (p : List ℕ → Bool) (seen : Seen) (entry : Entry) (entries : List Entry) → seen entry.key entry.number ≡ false
+    → unseen_total p seen (entry ∷ entries) ≡ cond (p entry.key) entry.points 0 + unseen_total p (with_entry entry seen) entries
 new_adds_its_points p seen entry entries e =
     let others : Entry → Bool = λ (other : Entry). not (is_entry_of entry.key entry.number other) in
     let rest : filter (counts p seen) (filter others (firsts entries)) ≡ filter (counts p (with_entry entry seen)) (firsts entries) =
-    filter-filter (counts p seen) others (firsts entries) ∙ filter_agree (λ other. others other && counts p seen other) (counts p (with_entry entry seen)) (λ other. same other) (firsts entries) in
+    filter-filter (counts p seen) others (firsts entries) ∙ filter_agree (λ other. others other
+        && counts p seen other) (counts p (with_entry entry seen)) (λ other. same other) (firsts entries) in
     keeps (p entry.key) (seen entry.key entry.number) e (filter (counts p seen) (filter others (firsts entries)))
     ∙ ap (λ (kept : List Entry). cond (p entry.key) entry.points 0 + sum_by points_of kept) rest
   where
-    keeps : (b c : Bool) → c ≡ false → (kept : List Entry) → sum_by points_of (cond (b && not c) (entry ∷ kept) kept) ≡ cond b entry.points 0 + sum_by points_of kept
+    keeps : (b c : Bool) → c ≡ false → (kept : List Entry) → sum_by points_of (cond (b && not c) (entry ∷ kept) kept)
+        ≡ cond b entry.points 0 + sum_by points_of kept
     keeps true false h kept = sum_by-cons points_of entry kept
     keeps false c h kept = omega arith
     keeps true true h kept = absurd (cc)
@@ -86,15 +92,19 @@ new_adds_its_points p seen entry entries e =
 -- how a total and what is on record move with what a reply tells
 pub data Moves (p : List ℕ → Bool) (total new_total : ℕ) (seen new_seen : Seen) (told : List Entry) : Type 0 where
   Stays : told ≡ [] → new_total ≡ total → ((key : List ℕ) (number : ℕ) → new_seen key number ≡ seen key number) → Moves p total new_total seen new_seen told
-  Repeats : (entry : Entry) → told ≡ entry ∷ [] → seen entry.key entry.number ≡ true → new_total ≡ total → ((key : List ℕ) (number : ℕ) → new_seen key number ≡ seen key number) → Moves p total new_total seen new_seen told
-  Adds : (entry : Entry) → told ≡ entry ∷ [] → seen entry.key entry.number ≡ false → new_total ≡ total + cond (p entry.key) entry.points 0 → ((key : List ℕ) (number : ℕ) → new_seen key number ≡ with_entry entry seen key number) → Moves p total new_total seen new_seen told
+  Repeats : (entry : Entry) → told ≡ entry ∷ [] → seen entry.key entry.number ≡ true → new_total ≡ total
+      → ((key : List ℕ) (number : ℕ) → new_seen key number ≡ seen key number) → Moves p total new_total seen new_seen told
+  Adds : (entry : Entry) → told ≡ entry ∷ [] → seen entry.key entry.number ≡ false → new_total ≡ total + cond (p entry.key) entry.points 0
+      → ((key : List ℕ) (number : ℕ) → new_seen key number ≡ with_entry entry seen key number) → Moves p total new_total seen new_seen told
 
-same_unseen : (p : List ℕ → Bool) (seen new_seen : Seen) (entries : List Entry) → ((key : List ℕ) (number : ℕ) → new_seen key number ≡ seen key number) → unseen_total p new_seen entries ≡ unseen_total p seen entries
+same_unseen : (p : List ℕ → Bool) (seen new_seen : Seen) (entries : List Entry) → ((key : List ℕ) (number : ℕ) → new_seen key number ≡ seen key number)
+    → unseen_total p new_seen entries ≡ unseen_total p seen entries
 same_unseen p seen new_seen entries h =
     ap (λ (kept : List Entry). sum_by points_of kept)
     (filter_agree (counts p new_seen) (counts p seen) (λ entry. ap (λ b. p entry.key && not b) (h entry.key entry.number)) (firsts entries))
 
-pub moved : (p : List ℕ → Bool) (total new_total : ℕ) (seen new_seen : Seen) (told rest : List Entry) (end : ℕ) → Moves p total new_total seen new_seen told → end ≡ new_total + unseen_total p new_seen rest → end ≡ total + unseen_total p seen (told ++ rest)
+pub moved : (p : List ℕ → Bool) (total new_total : ℕ) (seen new_seen : Seen) (told rest : List Entry) (end : ℕ) → Moves p total new_total seen new_seen told
+    → end ≡ new_total + unseen_total p new_seen rest → end ≡ total + unseen_total p seen (told ++ rest)
 moved p total new_total seen new_seen told rest end (Stays none same kept) h =
     let later = same_unseen p seen new_seen rest kept in
     subst (λ (t : List Entry). end ≡ total + unseen_total p seen (t ++ rest)) (sym none) (omega arith)

@@ -29,7 +29,8 @@ use Rattle.club_laws.proofs.AnswerCases.{Books, Cancels, written, answer_cases}
 use Rattle.club_laws.proofs.FittingChanges.{FitsIfAny, FitsBooking, FitsCancellation}
 
 module _ (club : Club) (s : IsSound club) (words : Words) (key : Key) (member : Member) (k : Knows club words key member) where
-  row_of_booking : (slot : Slot) (number guests : ℕ) (facility : Facility) → IsRequest (asked.Book slot number guests) → Books club key member slot number guests facility → IsBooking (written club key slot number guests facility)
+  row_of_booking : (slot : Slot) (number guests : ℕ) (facility : Facility) → IsRequest (asked.Book slot number guests)
+      → Books club key member slot number guests facility → IsBooking (written club key slot number guests facility)
   row_of_booking slot number guests facility r b =
       let row = at_found IsFacility (λ (f : Facility). bytes_eq f.name slot.facility) club.facilities facility s.rows.facilities b.located in
       let key_row = at_found IsKey (λ (other : Key). bytes_eq other.name key.name) club.keys key s.rows.keys k.known in
@@ -47,16 +48,21 @@ module _ (club : Club) (s : IsSound club) (words : Words) (key : Key) (member : 
         kept = λ e. refl;
       }
 
-  paid_for : (slot : Slot) (number guests : ℕ) (facility : Facility) → Books club key member slot number guests facility → (other : Member) → (bytes_eq other.name key.member ≡ true → other ≡ member) → is_key_of other.name club key.name ≡ true → sum_by cost_of (bookings_of other.name club) + (charge_of facility guests - 0) ≤ other.credited
+  paid_for : (slot : Slot) (number guests : ℕ) (facility : Facility) → Books club key member slot number guests facility → (other : Member)
+      → (bytes_eq other.name key.member ≡ true → other ≡ member) → is_key_of other.name club key.name ≡ true
+      → sum_by cost_of (bookings_of other.name club) + (charge_of facility guests - 0) ≤ other.credited
   paid_for slot number guests facility b other is e =
       let own : other.name ≡ key.member = owner club s.unique.keys key k.known other.name e in
       let same : other ≡ member = is (subst (λ (n : List ℕ). bytes_eq other.name n ≡ true) own (same_bytes other.name)) in
       let enough = ltb-false (balance_of member (bookings_of member.name club)) (charge_of facility guests) b.paid in
       let covered : sum_by cost_of (bookings_of member.name club) ≤ member.credited =
-      at_found (λ (m : Member). sum_by cost_of (bookings_of m.name club) ≤ m.credited) (λ (m : Member). bytes_eq m.name key.member) club.members member s.balances k.owned in
+      at_found (λ (m : Member). sum_by cost_of (bookings_of m.name club) ≤ m.credited) (λ (m : Member).
+          bytes_eq m.name key.member) club.members member s.balances k.owned in
       subst (λ (m : Member). sum_by cost_of (bookings_of m.name club) + (charge_of facility guests - 0) ≤ m.credited) (sym same) (omega arith)
 
-  placed_in : (slot : Slot) (number guests : ℕ) (facility : Facility) → Books club key member slot number guests facility → (other : Facility) → (bytes_eq other.name slot.facility ≡ true → other ≡ facility) → (at : Slot) → at.facility ≡ other.name → same_slot slot at ≡ true → taken_in at club.bookings + (guests + 1) ≤ other.places
+  placed_in : (slot : Slot) (number guests : ℕ) (facility : Facility) → Books club key member slot number guests facility → (other : Facility)
+      → (bytes_eq other.name slot.facility ≡ true → other ≡ facility) → (at : Slot) → at.facility ≡ other.name → same_slot slot at ≡ true
+      → taken_in at club.bookings + (guests + 1) ≤ other.places
   placed_in slot number guests facility b other is at of e =
       let same : slot ≡ at = slots_same slot at e in
       let name : other.name ≡ slot.facility = sym of ∙ ap (λ (x : Slot). x.facility) (sym same) in
@@ -66,18 +72,23 @@ module _ (club : Club) (s : IsSound club) (words : Words) (key : Key) (member : 
       subst (λ (x : Slot). taken_in x club.bookings + (guests + 1) ≤ other.places) same
       (subst (λ (f : Facility). taken_in slot club.bookings + (guests + 1) ≤ f.places) (sym it) there)
 
-  fits_booking : (slot : Slot) (number guests : ℕ) (facility : Facility) → IsRequest (asked.Book slot number guests) → Books club key member slot number guests facility → FitsBooking club (written club key slot number guests facility)
+  fits_booking : (slot : Slot) (number guests : ℕ) (facility : Facility) → IsRequest (asked.Book slot number guests)
+      → Books club key member slot number guests facility → FitsBooking club (written club key slot number guests facility)
   fits_booking slot number guests facility r b = record {
     row = row_of_booking slot number guests facility r b;
     fresh =
-        All-each (λ (other : Booking). is_numbered key.name number other ≡ false) (λ (other : Booking). ¬ ((other.key ≡ key.name) × (other.number ≡ number))) club.bookings
+        All-each (λ (other : Booking). is_numbered key.name number other ≡ false) (λ (other : Booking). ¬ ((other.key ≡ key.name)
+            × (other.number ≡ number))) club.bookings
         (λ other f same. both_ways (is_numbered key.name number other) f
-        (and_from (is_under key.name other) (other.number == number) (subst (λ (n : List ℕ). bytes_eq other.key n ≡ true) same.0 (same_bytes other.key)) (eq-eqb other.number number same.1)))
+        (and_from (is_under key.name other) (other.number == number) (subst (λ (n : List ℕ). bytes_eq other.key n ≡ true) same.0 (same_bytes other.key))
+            (eq-eqb other.number number same.1)))
         (none_found (is_numbered key.name number) club.bookings b.new);
     known = Contains-map (λ (x : Key). x.name) club.keys key (found_is_there (λ (other : Key). bytes_eq other.name key.name) club.keys key k.known);
     located = named_there (λ (f : Facility). f.name) slot.facility club.facilities facility b.located;
-    paid = λ i d short. paid_for slot number guests facility b (get_or club.members i d) (only_named (λ (m : Member). m.name) key.member club.members member s.unique.members k.owned i d short);
-    placed = λ i d short at of e. placed_in slot number guests facility b (get_or club.facilities i d) (only_named (λ (f : Facility). f.name) slot.facility club.facilities facility s.unique.facilities b.located i d short) at of e;
+    paid = λ i d short. paid_for slot number guests facility b (get_or club.members i d)
+        (only_named (λ (m : Member). m.name) key.member club.members member s.unique.members k.owned i d short);
+    placed = λ i d short at of e. placed_in slot number guests facility b (get_or club.facilities i d)
+        (only_named (λ (f : Facility). f.name) slot.facility club.facilities facility s.unique.facilities b.located i d short) at of e;
   }
 
   refund_covered : (booking : Booking) (moment : ℕ) → refund_at booking moment ≤ booking.charge
@@ -87,15 +98,18 @@ module _ (club : Club) (s : IsSound club) (words : Words) (key : Key) (member : 
       go true = omega arith
       go false = omega arith
 
-  fits_cancellation : (slot : Slot) (number moment : ℕ) (booking : Booking) → Cancels club key slot number booking → FitsCancellation club booking.key booking.number (refund_at booking moment)
+  fits_cancellation : (slot : Slot) (number moment : ℕ) (booking : Booking) → Cancels club key slot number booking
+      → FitsCancellation club booking.key booking.number (refund_at booking moment)
   fits_cancellation slot number moment booking c =
       let it = numbered key.name number booking (found_passes (is_numbered key.name number) club.bookings booking c.found) in
       record {
         covered =
-            All-each (λ other. is_numbered key.name number other ≡ true → other ≡ booking) (λ other. is_marked booking.key booking.number other ≡ true → refund_at booking moment ≤ other.charge) club.bookings
+            All-each (λ other. is_numbered key.name number other ≡ true → other ≡ booking) (λ other. is_marked booking.key booking.number other ≡ true
+                → refund_at booking moment ≤ other.charge) club.bookings
             (λ other is e.
             let parts = and_parts (is_numbered booking.key booking.number other) (not other.cancelled) e in
-            let at : is_numbered key.name number other ≡ true = subst (λ (n : ℕ). is_numbered key.name n other ≡ true) it.1 (subst (λ (n : List ℕ). is_numbered n booking.number other ≡ true) it.0 parts.0) in
+            let at : is_numbered key.name number other ≡ true = subst (λ (n : ℕ). is_numbered key.name n other
+                ≡ true) it.1 (subst (λ (n : List ℕ). is_numbered n booking.number other ≡ true) it.0 parts.0) in
             subst (λ (n : ℕ). refund_at booking moment ≤ n) (sym (ap (λ (x : Booking). x.charge) (is at))) (refund_covered booking moment))
             (only_numbered key.name number club.bookings booking s.unique.bookings c.found);
       }

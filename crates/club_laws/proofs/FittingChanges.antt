@@ -8,7 +8,8 @@ use Rattle.club_rows.specs.declared.facility.Facility.{Facility}
 use Rattle.club_rows.specs.declared.key.Key.{Key}
 use Rattle.club_rows.specs.declared.booking.Booking.{Booking}
 use Rattle.club_core.specs.declared.change.Change.{Change}
-use Rattle.club_core.specs.declared.change.Change.TheVariants.{InsertMember, AddCredit, InsertFacility, InsertKey, MarkRevoked, ReplaceRoot, MarkClosed, InsertBooking, MarkCancelled}
+use Rattle.club_core.specs.declared.change.Change.TheVariants.{InsertMember, AddCredit, InsertFacility, InsertKey, MarkRevoked, ReplaceRoot, MarkClosed,
+    InsertBooking, MarkCancelled}
 use Rattle.club_values.specs.Moment.{IsMoment}
 use Rattle.club_rows.specs.Limits.{IsRoot}
 use Rattle.club_rows.specs.Rows.{IsMember, IsFacility, IsKey, IsSlot, IsBooking}
@@ -47,8 +48,10 @@ pub record FitsBooking (club : Club) (booking : Booking) : Type 0 where
   pub fresh : All (λ (other : Booking). ¬ ((other.key ≡ booking.key) × (other.number ≡ booking.number))) club.bookings
   pub known : Contains (map (λ (k : Key). k.name) club.keys) booking.key
   pub located : Contains (map (λ (f : Facility). f.name) club.facilities) booking.slot.facility
-  pub paid : All (λ (member : Member). is_key_of member.name club booking.key ≡ true → sum_by cost_of (bookings_of member.name club) + cost_of booking ≤ member.credited) club.members
-  pub placed : All (λ (facility : Facility). (slot : Slot) → slot.facility ≡ facility.name → is_in slot booking ≡ true → taken_in slot club.bookings + persons_of booking ≤ facility.places) club.facilities
+  pub paid : All (λ (member : Member). is_key_of member.name club booking.key ≡ true
+      → sum_by cost_of (bookings_of member.name club) + cost_of booking ≤ member.credited) club.members
+  pub placed : All (λ (facility : Facility). (slot : Slot) → slot.facility ≡ facility.name → is_in slot booking ≡ true
+      → taken_in slot club.bookings + persons_of booking ≤ facility.places) club.facilities
 
 pub record FitsCancellation (club : Club) (key : List ℕ) (number refund : ℕ) : Type 0 where
   pub covered : All (λ (booking : Booking). is_marked key number booking ≡ true → refund ≤ booking.charge) club.bookings

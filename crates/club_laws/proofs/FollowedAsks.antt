@@ -34,7 +34,8 @@ Follows part (OwnAsk words moment others ∷ []) reply next =
 Follows part own reply next = ⊥
 
 -- a change under a key of the member's is made in the part alike, and one under another's key leaves it
-pub under_own : (name : List ℕ) (club : Club) (key : List ℕ) (change : Option Change) (b : Bool) → HasKnownKeys club → IsUnder key change → is_key_of name club key ≡ b → part_of name (after_change change club) ≡ cond b (after_change change (part_of name club)) (part_of name club)
+pub under_own : (name : List ℕ) (club : Club) (key : List ℕ) (change : Option Change) (b : Bool) → HasKnownKeys club → IsUnder key change
+    → is_key_of name club key ≡ b → part_of name (after_change change club) ≡ cond b (after_change change (part_of name club)) (part_of name club)
 under_own name club key None true known under e = refl
 under_own name club key None false known under e = refl
 under_own name club key (Some (InsertBooking booking)) b known under e =
@@ -46,7 +47,9 @@ under_own name club key (Some (MarkCancelled other number refund)) b known under
 under_own name club key (Some change) b known under e = absurd under
 
 -- a request of the member's
-own_follows : (club : Club) (words : Words) (moment : ℕ) (basis : Basis) → IsKeyed club → basis_of club words ≡ Some basis → Follows (part_of basis.member.name club) (OwnAsk words moment (outside basis.member.name club (slot_of words.request)) ∷ []) (Replied (answer_of words moment (Some basis)).reply) (part_of basis.member.name (after_change (answer_of words moment (Some basis)).change club))
+own_follows : (club : Club) (words : Words) (moment : ℕ) (basis : Basis) → IsKeyed club → basis_of club words ≡ Some basis
+    → Follows (part_of basis.member.name club) (OwnAsk words moment (outside basis.member.name club (slot_of words.request)) ∷ [])
+    (Replied (answer_of words moment (Some basis)).reply) (part_of basis.member.name (after_change (answer_of words moment (Some basis)).change club))
 own_follows club words moment basis keyed e =
     let own = basis.member.name in
     let same : answer_of words moment (Some basis) ≡ solo_verdict (part_of own club) words moment (outside own club (slot_of words.request)) =
@@ -60,7 +63,8 @@ own_follows club words moment basis keyed e =
     )
 
 -- a request of another's
-not_own_key : (name : List ℕ) (club : Club) (words : Words) (basis : Basis) → IsKeyed club → basis_of club words ≡ Some basis → bytes_eq basis.member.name name ≡ false → is_key_of name club basis.key.name ≡ false
+not_own_key : (name : List ℕ) (club : Club) (words : Words) (basis : Basis) → IsKeyed club → basis_of club words ≡ Some basis
+    → bytes_eq basis.member.name name ≡ false → is_key_of name club basis.key.name ≡ false
 not_own_key name club words basis keyed e other =
     let rests = rests_on_name club words basis e in
     let differs : is_key_of name club basis.key.name ≢ true =
@@ -71,15 +75,20 @@ not_own_key name club words basis keyed e other =
     in
     false_from_ne_true (is_key_of name club basis.key.name) differs
 
-asked_follows : (name : List ℕ) (club : Club) (words : Words) (moment : ℕ) (basis : Basis) (b : Bool) → IsKeyed club → basis_of club words ≡ Some basis → bytes_eq basis.member.name name ≡ b → Follows (part_of name club) (cond b (OwnAsk words moment (outside name club (slot_of words.request)) ∷ []) []) (Replied (answer_of words moment (Some basis)).reply) (part_of name (after_change (answer_of words moment (Some basis)).change club))
+asked_follows : (name : List ℕ) (club : Club) (words : Words) (moment : ℕ) (basis : Basis) (b : Bool) → IsKeyed club → basis_of club words ≡ Some basis
+    → bytes_eq basis.member.name name ≡ b → Follows (part_of name club) (cond b (OwnAsk words moment (outside name club (slot_of words.request)) ∷ []) [])
+    (Replied (answer_of words moment (Some basis)).reply) (part_of name (after_change (answer_of words moment (Some basis)).change club))
 asked_follows name club words moment basis true keyed e own =
-    let family : List ℕ → Type 0 = λ n. Follows (part_of n club) (OwnAsk words moment (outside n club (slot_of words.request)) ∷ []) (Replied (answer_of words moment (Some basis)).reply) (part_of n (after_change (answer_of words moment (Some basis)).change club)) in
+    let family : List ℕ → Type 0 = λ n. Follows (part_of n club) (OwnAsk words moment (outside n club (slot_of words.request)) ∷ [])
+        (Replied (answer_of words moment (Some basis)).reply) (part_of n (after_change (answer_of words moment (Some basis)).change club)) in
     subst family (bytes_same basis.member.name name own) (own_follows club words moment basis keyed e)
 asked_follows name club words moment basis false keyed e own =
     let under = answer_changes_under club words moment basis e in
     under_own name club basis.key.name (answer_of words moment (Some basis)).change false keyed.known under (not_own_key name club words basis keyed e own)
 
-pub ask_follows : (name : List ℕ) (club : Club) (words : Words) (moment : ℕ) (basis : Option Basis) → IsKeyed club → basis_of club words ≡ basis → Follows (part_of name club) (own_ask name club words moment basis) (Replied (answer_of words moment basis).reply) (part_of name (after_change (answer_of words moment basis).change club))
+pub ask_follows : (name : List ℕ) (club : Club) (words : Words) (moment : ℕ) (basis : Option Basis) → IsKeyed club → basis_of club words ≡ basis
+    → Follows (part_of name club) (own_ask name club words moment basis) (Replied (answer_of words moment basis).reply)
+    (part_of name (after_change (answer_of words moment basis).change club))
 ask_follows name club words moment None keyed e =
     ap (λ (v : Verdict). part_of name (after_change v.change club)) (refused_blind words.pass words.request moment)
 ask_follows name club words moment (Some basis) keyed e = asked_follows name club words moment basis (bytes_eq basis.member.name name) keyed e refl

@@ -24,11 +24,13 @@ use Rattle.club_laws.proofs.NamedRows.{named_there}
 use Rattle.club_laws.proofs.FollowedAsks.{Follows, ask_follows}
 use Rattle.club_laws.proofs.OfficialChanges.{IsOfficial, official, own_of_part, official_fresh, official_known}
 
-change_follows : (part next : Club) (change : Change) (reply : EventReply) (b : Bool) → next ≡ cond b (after change part) part → Follows part (cond b (OwnChange change ∷ []) []) reply next
+change_follows : (part next : Club) (change : Change) (reply : EventReply) (b : Bool) → next ≡ cond b (after change part) part
+    → Follows part (cond b (OwnChange change ∷ []) []) reply next
 change_follows part next change reply true e = e
 change_follows part next change reply false e = e
 
-order_follows : (name : List ℕ) (club : Club) (command : Command) (verdict : Result Change OfficeFault) → IsKeyed club → IsOfficial club verdict → Follows (part_of name club) (own_change name club verdict) (ordered club command verdict).reply (part_of name (ordered club command verdict).club)
+order_follows : (name : List ℕ) (club : Club) (command : Command) (verdict : Result Change OfficeFault) → IsKeyed club → IsOfficial club verdict
+    → Follows (part_of name club) (own_change name club verdict) (ordered club command verdict).reply (part_of name (ordered club command verdict).club)
 order_follows name club command (Err fault) keyed h = refl
 order_follows name club command (Ok change) keyed h =
     change_follows (part_of name club) (part_of name (after change club)) change (ordered club command (Ok change)).reply (is_own name club change)
@@ -36,19 +38,22 @@ order_follows name club command (Ok change) keyed h =
     ∙ ap (λ (b : Bool). cond b (after change (part_of name club)) (part_of name club)) (own_of_part name club change h))
 
 -- the member's part follows each event
-pub follows : (name : List ℕ) (club : Club) (event : Event) → IsKeyed club → Follows (part_of name club) (own_part name club event) (step club event).reply (part_of name (step club event).club)
+pub follows : (name : List ℕ) (club : Club) (event : Event) → IsKeyed club
+    → Follows (part_of name club) (own_part name club event) (step club event).reply (part_of name (step club event).club)
 follows name club (Asked words moment) keyed = ask_follows name club words moment (basis_of club words) keyed refl
 follows name club (Ordered command) keyed = order_follows name club command (office_verdict club command) keyed (official club command)
 
 -- key names stay unique and known
-keyed_under : (club : Club) (key : List ℕ) (change : Option Change) → Contains (map (λ (k : Key). k.name) club.keys) key → IsUnder key change → IsKeyed club → IsKeyed (after_change change club)
+keyed_under : (club : Club) (key : List ℕ) (change : Option Change) → Contains (map (λ (k : Key). k.name) club.keys) key → IsUnder key change → IsKeyed club
+    → IsKeyed (after_change change club)
 keyed_under club key None known under keyed = keyed
 keyed_under club key (Some (InsertBooking booking)) known under keyed =
     keyed_after club (InsertBooking booking) tt (subst (λ (n : List ℕ). Contains (map (λ (k : Key). k.name) club.keys) n) (sym under) known) keyed
 keyed_under club key (Some (MarkCancelled other number refund)) known under keyed = keyed_after club (MarkCancelled other number refund) tt tt keyed
 keyed_under club key (Some change) known under keyed = absurd under
 
-keyed_asked : (club : Club) (words : Words) (moment : ℕ) (basis : Option Basis) → basis_of club words ≡ basis → IsKeyed club → IsKeyed (after_change (answer_of words moment basis).change club)
+keyed_asked : (club : Club) (words : Words) (moment : ℕ) (basis : Option Basis) → basis_of club words ≡ basis → IsKeyed club
+    → IsKeyed (after_change (answer_of words moment basis).change club)
 keyed_asked club words moment None e keyed =
     subst (λ (v : Verdict). IsKeyed (after_change v.change club)) (sym (refused_blind words.pass words.request moment)) keyed
 keyed_asked club words moment (Some basis) e keyed =
@@ -56,7 +61,8 @@ keyed_asked club words moment (Some basis) e keyed =
     (named_there (λ (k : Key). k.name) basis.key.name club.keys basis.key (known_rows club words basis e).known)
     (answer_changes_under club words moment basis e) keyed
 
-keyed_ordered : (club : Club) (command : Command) (verdict : Result Change OfficeFault) → IsOfficial club verdict → IsKeyed club → IsKeyed (ordered club command verdict).club
+keyed_ordered : (club : Club) (command : Command) (verdict : Result Change OfficeFault) → IsOfficial club verdict → IsKeyed club
+    → IsKeyed (ordered club command verdict).club
 keyed_ordered club command (Err fault) h keyed = keyed
 keyed_ordered club command (Ok change) h keyed = keyed_after club change (official_fresh club change h) (official_known club change h) keyed
 

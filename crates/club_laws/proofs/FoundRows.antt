@@ -1,5 +1,6 @@
 -- What `find` finds, and lists whose elements a test tells apart.
-use Rattle.std.proofs.Common.{◌≡◌, ℕ, zero, suc, ◌<◌, Bool, true, false, cond, ◌&&◌, ◌||◌, List, [], ◌∷◌, ◌++◌, length, get_or, map, Some, None, refl, ap, ◌∙◌, subst, arith}
+use Rattle.std.proofs.Common.{◌≡◌, ℕ, zero, suc, ◌<◌, Bool, true, false, cond, ◌&&◌, ◌||◌, List, [], ◌∷◌, ◌++◌, length, get_or, map, Some, None, refl, ap, ◌∙◌,
+    subst, arith}
 use Rattle.std.specs.Prelude.{All, AllPairs, Contains, find, filter}
 use Rattle.std.specs.List.{list_any}
 use Rattle.std.proofs.lemmas.List.Elements.{All-cons, All-head, All-tail, All-nil, All-contains, Contains-append_left, Contains-append_right, Contains-push}
@@ -59,20 +60,24 @@ AllPairs-tail R x xs h = λ i j d less short. h (suc i) (suc j) d (omega arith) 
 pub All-each : {X : Type 0} (P Q : X → Type 0) (xs : List X) → ((x : X) → P x → Q x) → All P xs → All Q xs
 All-each P Q xs f h = λ k d short. f _ (h k d short)
 
-pub AllPairs-map : {X Y : Type 0} (f : X → Y) (R : X → X → Type 0) (S : Y → Y → Type 0) → ((a b : X) → R a b → S (f a) (f b)) → (xs : List X) → AllPairs R xs → AllPairs S (map f xs)
+pub AllPairs-map : {X Y : Type 0} (f : X → Y) (R : X → X → Type 0) (S : Y → Y → Type 0) → ((a b : X) → R a b → S (f a) (f b)) → (xs : List X) → AllPairs R xs
+    → AllPairs S (map f xs)
 AllPairs-map f R S step [] h = λ i j d less short. absurd (omega arith)
-AllPairs-map {X} {Y} f R S step (x ∷ xs) h = AllPairs-cons S (f x) (map f xs) (mapped xs (AllPairs-head R x xs h)) (AllPairs-map f R S step xs (AllPairs-tail R x xs h))
+AllPairs-map {X} {Y} f R S step (x ∷ xs) h = AllPairs-cons S (f x) (map f xs) (mapped xs (AllPairs-head R x xs h))
+    (AllPairs-map f R S step xs (AllPairs-tail R x xs h))
   where
     mapped : (ys : List X) → All (R x) ys → All (S (f x)) (map f ys)
     mapped [] k = All-nil (S (f x))
     mapped (y ∷ ys) k = All-cons (S (f x)) (f y) (map f ys) (step x y (All-head (R x) y ys k)) (mapped ys (All-tail (R x) y ys k))
 
 -- where no two elements pass, whatever passes is what is found
-pub only_found : {X : Type 0} (R : X → X → Type 0) (p : X → Bool) → ((a b : X) → p a ≡ true → p b ≡ true → R a b → ⊥) → (xs : List X) (x : X) → AllPairs R xs → find p xs ≡ Some x → All (λ y. p y ≡ true → y ≡ x) xs
+pub only_found : {X : Type 0} (R : X → X → Type 0) (p : X → Bool) → ((a b : X) → p a ≡ true → p b ≡ true → R a b → ⊥) → (xs : List X) (x : X) → AllPairs R xs
+    → find p xs ≡ Some x → All (λ y. p y ≡ true → y ≡ x) xs
 only_found R p apart [] x h e = λ k d short. absurd (omega arith)
 only_found {X} R p apart (y ∷ ys) x h e = go (p y) refl (only_found R p apart ys x (AllPairs-tail R y ys h)) e
   where
-    go : (b : Bool) → p y ≡ b → (find p ys ≡ Some x → All (λ z. p z ≡ true → z ≡ x) ys) → cond b (Some y) (find p ys) ≡ Some x → All (λ z. p z ≡ true → z ≡ x) (y ∷ ys)
+    go : (b : Bool) → p y ≡ b → (find p ys ≡ Some x → All (λ z. p z ≡ true → z ≡ x) ys) → cond b (Some y) (find p ys) ≡ Some x
+        → All (λ z. p z ≡ true → z ≡ x) (y ∷ ys)
     go true t rest k =
         All-cons (λ z. p z ≡ true → z ≡ x) y ys (λ _. cc)
         (All-each (R y) (λ z. p z ≡ true → z ≡ x) ys (λ z r u. absurd (apart y z t u r)) (AllPairs-head R y ys h))
@@ -94,7 +99,8 @@ pub find_filtered : {X : Type 0} (p q : X → Bool) (xs : List X) (x : X) → fi
 find_filtered p q [] x e h = absurd (cc)
 find_filtered {X} p q (y ∷ ys) x e h = go (p y) (q y) refl refl (λ k. find_filtered p q ys x k h) e
   where
-    go : (b c : Bool) → p y ≡ b → q y ≡ c → (find p ys ≡ Some x → find p (filter q ys) ≡ Some x) → cond b (Some y) (find p ys) ≡ Some x → find p (cond c (y ∷ filter q ys) (filter q ys)) ≡ Some x
+    go : (b c : Bool) → p y ≡ b → q y ≡ c → (find p ys ≡ Some x → find p (filter q ys) ≡ Some x) → cond b (Some y) (find p ys) ≡ Some x
+        → find p (cond c (y ∷ filter q ys) (filter q ys)) ≡ Some x
     go true true f g rest k = rw f k
     go true false f g rest k = let same : y ≡ x = cc in absurd (both_ways (q y) g (ap q same ∙ h))
     go false true f g rest k = rw f (rest k)
@@ -107,7 +113,8 @@ pub any-filter : {X : Type 0} (p q : X → Bool) (xs : List X) → list_any p (f
 any-filter p q [] = refl
 any-filter p q (y ∷ ys) = go (q y) (any-filter p q ys)
   where
-    go : (b : Bool) → list_any p (filter q ys) ≡ list_any (λ x. q x && p x) ys → list_any p (cond b (y ∷ filter q ys) (filter q ys)) ≡ (b && p y || list_any (λ x. q x && p x) ys)
+    go : (b : Bool) → list_any p (filter q ys) ≡ list_any (λ x. q x && p x) ys
+        → list_any p (cond b (y ∷ filter q ys) (filter q ys)) ≡ (b && p y || list_any (λ x. q x && p x) ys)
     go true e = ap (λ r. p y || r) e
     go false e = e
 
@@ -135,10 +142,12 @@ pub found_last : {X : Type 0} (p : X → Bool) (xs : List X) (x : X) → find p 
 found_last p xs x none e = find-append p xs (x ∷ []) ∙ rw (none, e)
 
 -- an edit that the test doesn't see keeps what is found, edited
-pub found_edited : {X : Type 0} (f : X → X) (p : X → Bool) → ((x : X) → p (f x) ≡ p x) → (xs : List X) (x : X) → find p xs ≡ Some x → find p (map f xs) ≡ Some (f x)
+pub found_edited : {X : Type 0} (f : X → X) (p : X → Bool) → ((x : X) → p (f x) ≡ p x) → (xs : List X) (x : X) → find p xs ≡ Some x
+    → find p (map f xs) ≡ Some (f x)
 found_edited f p blind [] x e = absurd (cc)
 found_edited {X} f p blind (y ∷ ys) x e = rw (blind y) (go (p y) (found_edited f p blind ys x) e)
   where
-    go : (b : Bool) → (find p ys ≡ Some x → find p (map f ys) ≡ Some (f x)) → cond b (Some y) (find p ys) ≡ Some x → cond b (Some (f y)) (find p (map f ys)) ≡ Some (f x)
+    go : (b : Bool) → (find p ys ≡ Some x → find p (map f ys) ≡ Some (f x)) → cond b (Some y) (find p ys) ≡ Some x
+        → cond b (Some (f y)) (find p (map f ys)) ≡ Some (f x)
     go true rest k = let same : y ≡ x = cc in ap (λ (z : X). Some (f z)) same
     go false rest k = rest k

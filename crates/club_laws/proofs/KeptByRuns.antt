@@ -31,6 +31,8 @@ pub club_after-append : (club : Club) (front rest : List Event) → club_after c
 club_after-append club [] rest = refl
 club_after-append club (event ∷ front) rest = club_after-append (step club event).club front rest
 
-pub replies_of-append : (club : Club) (front rest : List Event) → replies_of club (front ++ rest) ≡ replies_of club front ++ replies_of (club_after club front) rest
+pub replies_of-append : (club : Club) (front rest : List Event) → replies_of club (front ++ rest) ≡ replies_of club front
+    ++ replies_of (club_after club front) rest
 replies_of-append club [] rest = refl
-replies_of-append club (event ∷ front) rest = ap (λ (replies : List EventReply). (step club event).reply ∷ replies) (replies_of-append (step club event).club front rest)
+replies_of-append club (event ∷ front) rest = ap (λ (replies : List EventReply).
+    (step club event).reply ∷ replies) (replies_of-append (step club event).club front rest)

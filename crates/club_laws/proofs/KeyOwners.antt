@@ -21,7 +21,8 @@ is_own member name key = bytes_eq key.member member && bytes_eq key.name name
 pub is_key_of-any : (member : List ℕ) (club : Club) (name : List ℕ) → is_key_of member club name ≡ list_any (is_own member name) club.keys
 is_key_of-any member club name = any-filter (λ (key : Key). bytes_eq key.name name) (λ (key : Key). bytes_eq key.member member) club.keys
 
-pub is_key_of-added : (member : List ℕ) (club : Club) (key : Key) (name : List ℕ) → is_key_of member (record club { keys = club.keys ++ key ∷ [] }) name ≡ (is_key_of member club name || is_own member name key)
+pub is_key_of-added : (member : List ℕ) (club : Club) (key : Key) (name : List ℕ)
+    → is_key_of member (record club { keys = club.keys ++ key ∷ [] }) name ≡ (is_key_of member club name || is_own member name key)
 is_key_of-added member club key name =
     is_key_of-any member (record club { keys = club.keys ++ key ∷ [] }) name
     ∙ (list_any-append (is_own member name) club.keys (key ∷ [])
@@ -36,34 +37,45 @@ is_key_of-added member club key name =
 abbrev pub edited : (Key → List ℕ) → (Key → Option OlderRoot) → (Key → Bool) → Key → Key
 edited root older is_revoked key = record key { root = root key; older = older key; revoked = is_revoked key }
 
-pub is_key_of-edited : (root : Key → List ℕ) (older : Key → Option OlderRoot) (is_revoked : Key → Bool) (member : List ℕ) (club : Club) (name : List ℕ) → is_key_of member (record club { keys = map (edited root older is_revoked) club.keys }) name ≡ is_key_of member club name
+pub is_key_of-edited : (root : Key → List ℕ) (older : Key → Option OlderRoot) (is_revoked : Key → Bool) (member : List ℕ) (club : Club) (name : List ℕ)
+    → is_key_of member (record club { keys = map (edited root older is_revoked) club.keys }) name ≡ is_key_of member club name
 is_key_of-edited root older is_revoked member club name =
     is_key_of-any member (record club { keys = map (edited root older is_revoked) club.keys }) name
     ∙ (any-map (edited root older is_revoked) (is_own member name) club.keys ∙ sym (is_key_of-any member club name))
 
 -- a key that nobody has booked under changes nobody's bookings
-pub bookings_of-added : (member : List ℕ) (club : Club) (key : Key) → All (λ (other : Key). other.name ≢ key.name) club.keys → All (λ (booking : Booking). Contains (map (λ (k : Key). k.name) club.keys) booking.key) club.bookings → bookings_of member (record club { keys = club.keys ++ key ∷ [] }) ≡ bookings_of member club
+pub bookings_of-added : (member : List ℕ) (club : Club) (key : Key) → All (λ (other : Key). other.name ≢ key.name) club.keys
+    → All (λ (booking : Booking). Contains (map (λ (k : Key). k.name) club.keys) booking.key) club.bookings
+    → bookings_of member (record club { keys = club.keys ++ key ∷ [] }) ≡ bookings_of member club
 bookings_of-added member club key fresh known =
-    filter_same (λ (booking : Booking). is_key_of member (record club { keys = club.keys ++ key ∷ [] }) booking.key) (λ (booking : Booking). is_key_of member club booking.key) club.bookings
+    filter_same (λ (booking : Booking). is_key_of member (record club { keys = club.keys ++ key ∷ [] }) booking.key) (λ (booking : Booking).
+        is_key_of member club booking.key) club.bookings
     (λ k d short. same (get_or club.bookings k d) (known k d short))
   where
     or_not : (b c : Bool) → c ≡ false → (b || c) ≡ b
     or_not true c e = refl
     or_not false c e = e
 
-    same : (booking : Booking) → Contains (map (λ (k : Key). k.name) club.keys) booking.key → is_key_of member (record club { keys = club.keys ++ key ∷ [] }) booking.key ≡ is_key_of member club booking.key
+    same : (booking : Booking) → Contains (map (λ (k : Key). k.name) club.keys) booking.key
+        → is_key_of member (record club { keys = club.keys ++ key ∷ [] }) booking.key ≡ is_key_of member club booking.key
     same booking there =
-        let other : booking.key ≢ key.name = All-contains (λ (name : List ℕ). name ≢ key.name) (map (λ (k : Key). k.name) club.keys) booking.key (All-map (λ (name : List ℕ). name ≢ key.name) (λ (k : Key). k.name) club.keys fresh) there in
-        let no_own : is_own member booking.key key ≡ false = and_right (bytes_eq key.member member) (bytes_eq key.name booking.key) (other_bytes key.name booking.key (λ e. other (sym e))) in
+        let other : booking.key ≢ key.name = All-contains (λ (name : List ℕ).
+            name ≢ key.name) (map (λ (k : Key). k.name) club.keys) booking.key
+            (All-map (λ (name : List ℕ). name ≢ key.name) (λ (k : Key). k.name) club.keys fresh) there in
+        let no_own : is_own member booking.key key ≡ false = and_right (bytes_eq key.member member) (bytes_eq key.name booking.key)
+            (other_bytes key.name booking.key (λ e. other (sym e))) in
         is_key_of-added member club key booking.key ∙ or_not (is_key_of member club booking.key) (is_own member booking.key key) no_own
 
-pub bookings_of-edited : (root : Key → List ℕ) (older : Key → Option OlderRoot) (is_revoked : Key → Bool) (member : List ℕ) (club : Club) → bookings_of member (record club { keys = map (edited root older is_revoked) club.keys }) ≡ bookings_of member club
+pub bookings_of-edited : (root : Key → List ℕ) (older : Key → Option OlderRoot) (is_revoked : Key → Bool) (member : List ℕ) (club : Club)
+    → bookings_of member (record club { keys = map (edited root older is_revoked) club.keys }) ≡ bookings_of member club
 bookings_of-edited root older is_revoked member club =
-    filter_same (λ (booking : Booking). is_key_of member (record club { keys = map (edited root older is_revoked) club.keys }) booking.key) (λ (booking : Booking). is_key_of member club booking.key) club.bookings
+    filter_same (λ (booking : Booking). is_key_of member (record club { keys = map (edited root older is_revoked) club.keys }) booking.key)
+        (λ (booking : Booking). is_key_of member club booking.key) club.bookings
     (λ k d short. is_key_of-edited root older is_revoked member club (get_or club.bookings k d).key)
 
 -- where names are unique, whoever's key it is, is the member that its row names
-pub owner : (club : Club) → AllPairs (λ (a : Key) (b : Key). a.name ≢ b.name) club.keys → (key : Key) → key_named key.name club ≡ Some key → (name : List ℕ) → is_key_of name club key.name ≡ true → name ≡ key.member
+pub owner : (club : Club) → AllPairs (λ (a : Key) (b : Key). a.name ≢ b.name) club.keys → (key : Key) → key_named key.name club ≡ Some key → (name : List ℕ)
+    → is_key_of name club key.name ≡ true → name ≡ key.member
 owner club unique key known name e =
     let any = Any-from_list_any (is_own name key.name) club.keys (sym (is_key_of-any name club key.name) ∙ e) in
     let parts = and_parts (bytes_eq any.1.member name) (bytes_eq any.1.name key.name) any.4 in

@@ -1,5 +1,6 @@
 -- Key names are unique and bookings are under known keys, before and after each change.
-use Rattle.std.proofs.Common.{◌≡◌, ◌≢◌, ℕ, suc, cond, Bool, List, [], ◌∷◌, ◌++◌, map, find, length, get_or, Option, Some, None, AllPairs, Contains, refl, sym, ap, ◌∙◌, subst, arith, length-append}
+use Rattle.std.proofs.Common.{◌≡◌, ◌≢◌, ℕ, suc, cond, Bool, List, [], ◌∷◌, ◌++◌, map, find, length, get_or, Option, Some, None, AllPairs, Contains, refl, sym,
+    ap, ◌∙◌, subst, arith, length-append}
 use Rattle.std.proofs.lemmas.List.{get_or-append-add}
 use Rattle.std.proofs.lemmas.List.Elements.{All-push, All-map}
 use Rattle.std.proofs.lemmas.List.Quantifiers.{all_pairs_push}
@@ -29,9 +30,11 @@ abbrev pub IsKnown : Club → Change → Type 0
 IsKnown club (InsertBooking booking) = Contains (map (λ (key : Key). key.name) club.keys) booking.key
 IsKnown club change = Unit {0}
 
-keyed_edited : (root : Key → List ℕ) (older : Key → Option OlderRoot) (is_revoked : Key → Bool) (club : Club) → IsKeyed club → IsKeyed (record club { keys = map (edited root older is_revoked) club.keys })
+keyed_edited : (root : Key → List ℕ) (older : Key → Option OlderRoot) (is_revoked : Key → Bool) (club : Club) → IsKeyed club
+    → IsKeyed (record club { keys = map (edited root older is_revoked) club.keys })
 keyed_edited root older is_revoked club keyed = record {
-  unique = AllPairs-map (edited root older is_revoked) (λ (a : Key) (b : Key). a.name ≢ b.name) (λ (a : Key) (b : Key). a.name ≢ b.name) (λ a b h. h) club.keys keyed.unique;
+  unique = AllPairs-map (edited root older is_revoked) (λ (a : Key) (b : Key). a.name ≢ b.name) (λ (a : Key) (b : Key). a.name ≢ b.name) (λ a b h.
+      h) club.keys keyed.unique;
   known = λ k d short. rw (map-map (λ (x : Key). x.name) (edited root older is_revoked) club.keys) (keyed.known k d short);
 }
 

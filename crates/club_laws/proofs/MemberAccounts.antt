@@ -51,27 +51,38 @@ module _ (member : List ℕ) where
   -- after the order, the member's keys are those before and the one that was given
   abbrev GivesKey : Club → List ℕ → Command → Result Change OfficeFault → Type 0
   GivesKey club key command verdict =
-      is_key_of member (ordered club command verdict).club key ≡ (is_key_of member club key || is_among (key_given member (Ordered command) (ordered club command verdict).reply) key)
+      is_key_of member (ordered club command verdict).club key ≡ (is_key_of member club key
+          || is_among (key_given member (Ordered command) (ordered club command verdict).reply) key)
 
   gives_key : (club : Club) (key : List ℕ) (command : Command) → GivesKey club key command (office_verdict club command)
   gives_key club key (AddKey name owner root) =
       order_cases (GivesKey club key (AddKey name owner root)) club (λ fault. or_nothing (is_key_of member club key)) (AddKey name owner root)
-      (λ k. is_key_of-added member club (record { name = name; member = owner; root = root; older = None; revoked = false }) key ∙ ap (λ b. is_key_of member club key || b) (go (bytes_eq owner member)))
+      (λ k. is_key_of-added member club (record { name = name; member = owner; root = root; older = None; revoked = false }) key
+          ∙ ap (λ b. is_key_of member club key || b) (go (bytes_eq owner member)))
     where
       go : (b : Bool) → (b && bytes_eq name key) ≡ is_among (cond b (name ∷ []) []) key
       go true = or_nothing (bytes_eq name key)
       go false = refl
-  gives_key club key (RevokeKey name) = order_cases (GivesKey club key (RevokeKey name)) club (λ fault. or_nothing (is_key_of member club key)) (RevokeKey name) (λ k. is_key_of-edited (λ row. row.root) (λ row. row.older) (λ row. (revoked name row).revoked) member club key ∙ or_nothing (is_key_of member club key))
-  gives_key club key (RotateKey name root until) = order_cases (GivesKey club key (RotateKey name root until)) club (λ fault. or_nothing (is_key_of member club key)) (RotateKey name root until) (λ k. is_key_of-edited (λ row. (rotated name root until row).root) (λ row. (rotated name root until row).older) (λ row. row.revoked) member club key ∙ or_nothing (is_key_of member club key))
-  gives_key club key command = order_cases (GivesKey club key command) club (λ fault. or_nothing (is_key_of member club key)) command (λ k. or_nothing (is_key_of member club key))
+  gives_key club key (RevokeKey name) = order_cases (GivesKey club key (RevokeKey name)) club (λ fault.
+      or_nothing (is_key_of member club key)) (RevokeKey name) (λ k. is_key_of-edited (λ row. row.root) (λ row. row.older) (λ row.
+      (revoked name row).revoked) member club key ∙ or_nothing (is_key_of member club key))
+  gives_key club key (RotateKey name root until) = order_cases (GivesKey club key (RotateKey name root until)) club (λ fault.
+      or_nothing (is_key_of member club key)) (RotateKey name root until) (λ k.
+      is_key_of-edited (λ row. (rotated name root until row).root) (λ row. (rotated name root until row).older) (λ row. row.revoked) member club key
+      ∙ or_nothing (is_key_of member club key))
+  gives_key club key command = order_cases (GivesKey club key command) club (λ fault. or_nothing (is_key_of member club key)) command (λ k.
+      or_nothing (is_key_of member club key))
 
-  keys_of_step : (club : Club) (key : List ℕ) (event : Event) → is_key_of member (step club event).club key ≡ (is_key_of member club key || is_among (key_given member event (step club event).reply) key)
+  keys_of_step : (club : Club) (key : List ℕ) (event : Event) → is_key_of member (step club event).club key
+      ≡ (is_key_of member club key || is_among (key_given member event (step club event).reply) key)
   keys_of_step club key (Asked words moment) =
-      ap (λ (keys : List Key). is_key_of member (record club { keys = keys }) key) (answer_keeps club words moment).keys ∙ or_nothing (is_key_of member club key)
+      ap (λ (keys : List Key). is_key_of member (record club { keys = keys }) key) (answer_keeps club words moment).keys
+          ∙ or_nothing (is_key_of member club key)
   keys_of_step club key (Ordered command) = gives_key club key command
 
   -- a member's keys after a run are those before and those that the run gave
-  pub keys_of_run : (club : Club) (key : List ℕ) (events : List Event) → is_key_of member (club_after club events) key ≡ (is_key_of member club key || is_among (keys_given member events (replies_of club events)) key)
+  pub keys_of_run : (club : Club) (key : List ℕ) (events : List Event) → is_key_of member (club_after club events) key
+      ≡ (is_key_of member club key || is_among (keys_given member events (replies_of club events)) key)
   keys_of_run club key [] = or_nothing (is_key_of member club key)
   keys_of_run club key (event ∷ events) =
       let next = step club event in
@@ -80,7 +91,8 @@ module _ (member : List ℕ) where
       keys_of_run next.club key events
       ∙ (ap (λ b. b || rest) (keys_of_step club key event)
       ∙ (or_assoc (is_key_of member club key) first rest
-      ∙ ap (λ b. is_key_of member club key || b) (sym (list_any-append (λ (k : List ℕ). bytes_eq k key) (key_given member event next.reply) (keys_given member events (replies_of next.club events))))))
+      ∙ ap (λ b. is_key_of member club key || b) (sym (list_any-append (λ (k : List ℕ).
+          bytes_eq k key) (key_given member event next.reply) (keys_given member events (replies_of next.club events))))))
     where
       or_assoc : (a b c : Bool) → ((a || b) || c) ≡ (a || (b || c))
       or_assoc true b c = refl
@@ -91,7 +103,10 @@ abbrev pub credit_of : Option Member → ℕ
 credit_of None = 0
 credit_of (Some member) = member.credited
 
-credit_grown : (name other : List ℕ) (points : ℕ) (members : List Member) → (bytes_eq other name ≡ true → is_some (find (λ (m : Member). bytes_eq m.name name) members) ≡ true) → credit_of (find (λ (m : Member). bytes_eq m.name name) (map (credited other points) members)) ≡ credit_of (find (λ (m : Member). bytes_eq m.name name) members) + cond (bytes_eq other name) points 0
+credit_grown : (name other : List ℕ) (points : ℕ) (members : List Member)
+    → (bytes_eq other name ≡ true → is_some (find (λ (m : Member). bytes_eq m.name name) members) ≡ true)
+    → credit_of (find (λ (m : Member). bytes_eq m.name name) (map (credited other points) members))
+    ≡ credit_of (find (λ (m : Member). bytes_eq m.name name) members) + cond (bytes_eq other name) points 0
 credit_grown name other points [] known = go (bytes_eq other name) known
   where
     go : (b : Bool) → (b ≡ true → false ≡ true) → 0 ≡ 0 + cond b points 0
@@ -112,14 +127,21 @@ credit_grown name other points (m ∷ members) known = go (bytes_eq m.name name)
     grown true false e = absurd (cc)
     grown false true e = absurd (cc)
 
-    go : (b : Bool) → bytes_eq m.name name ≡ b → (bytes_eq other name ≡ true → is_some (cond b (Some m) (find (λ (x : Member). bytes_eq x.name name) members)) ≡ true) → ((bytes_eq other name ≡ true → is_some (find (λ (x : Member). bytes_eq x.name name) members) ≡ true) → credit_of (find (λ (x : Member). bytes_eq x.name name) (map (credited other points) members)) ≡ credit_of (find (λ (x : Member). bytes_eq x.name name) members) + cond (bytes_eq other name) points 0) → credit_of (cond b (Some (credited other points m)) (find (λ (x : Member). bytes_eq x.name name) (map (credited other points) members))) ≡ credit_of (cond b (Some m) (find (λ (x : Member). bytes_eq x.name name) members)) + cond (bytes_eq other name) points 0
+    go : (b : Bool) → bytes_eq m.name name ≡ b → (bytes_eq other name ≡ true
+        → is_some (cond b (Some m) (find (λ (x : Member). bytes_eq x.name name) members)) ≡ true)
+        → ((bytes_eq other name ≡ true → is_some (find (λ (x : Member). bytes_eq x.name name) members) ≡ true)
+        → credit_of (find (λ (x : Member). bytes_eq x.name name) (map (credited other points) members))
+        ≡ credit_of (find (λ (x : Member). bytes_eq x.name name) members) + cond (bytes_eq other name) points 0)
+        → credit_of (cond b (Some (credited other points m)) (find (λ (x : Member). bytes_eq x.name name) (map (credited other points) members)))
+        ≡ credit_of (cond b (Some m) (find (λ (x : Member). bytes_eq x.name name) members)) + cond (bytes_eq other name) points 0
     go true e k rest = grown (bytes_eq m.name other) (bytes_eq other name) (same e)
     go false e k rest = rest k
 
 module _ (name : List ℕ) where
   abbrev Credits : Club → Command → Result Change OfficeFault → Type 0
   Credits club command verdict =
-      credit_of (member_named name (ordered club command verdict).club) ≡ credit_of (member_named name club) + credit_accepted name (Ordered command) (ordered club command verdict).reply
+      credit_of (member_named name (ordered club command verdict).club) ≡ credit_of (member_named name club) + credit_accepted name (Ordered command)
+          (ordered club command verdict).reply
 
   as_before : (club : Club) → credit_of (member_named name club) ≡ credit_of (member_named name club) + 0
   as_before club = omega arith
@@ -127,24 +149,30 @@ module _ (name : List ℕ) where
   credits : (club : Club) (command : Command) → Credits club command (office_verdict club command)
   credits club (AddMember other quota) =
       order_cases (Credits club (AddMember other quota)) club (λ fault. as_before club) (AddMember other quota)
-      (λ k. ap credit_of (find-append (λ (m : Member). bytes_eq m.name name) club.members (record { name = other; credited = 0; quota = quota } ∷ [])) ∙ go (member_named name club) (bytes_eq other name))
+      (λ k. ap credit_of (find-append (λ (m : Member). bytes_eq m.name name) club.members (record { name = other; credited = 0; quota = quota } ∷ []))
+          ∙ go (member_named name club) (bytes_eq other name))
     where
-      go : (o : Option Member) (b : Bool) → credit_of (option_or o (cond b (Some (record { name = other; credited = 0; quota = quota })) None)) ≡ credit_of o + 0
+      go : (o : Option Member) (b : Bool) → credit_of (option_or o (cond b (Some (record { name = other; credited = 0; quota = quota })) None))
+          ≡ credit_of o + 0
       go (Some member) b = omega arith
       go None true = refl
       go None false = refl
   credits club (Credit other points) =
       order_cases (Credits club (Credit other points)) club (λ fault. as_before club) (Credit other points)
-      (λ k. credit_grown name other points club.members (λ e. subst (λ (n : List ℕ). is_some (find (λ (m : Member). bytes_eq m.name n) club.members) ≡ true) (bytes_same other name e) (ap (λ (o : Option Member). is_some o) k.1)))
+      (λ k. credit_grown name other points club.members (λ e. subst (λ (n : List ℕ). is_some (find (λ (m : Member). bytes_eq m.name n) club.members)
+          ≡ true) (bytes_same other name e) (ap (λ (o : Option Member). is_some o) k.1)))
   credits club command = order_cases (Credits club command) club (λ fault. as_before club) command (λ k. as_before club)
 
-  credit_of_step : (club : Club) (event : Event) → credit_of (member_named name (step club event).club) ≡ credit_of (member_named name club) + credit_accepted name event (step club event).reply
+  credit_of_step : (club : Club) (event : Event) → credit_of (member_named name (step club event).club)
+      ≡ credit_of (member_named name club) + credit_accepted name event (step club event).reply
   credit_of_step club (Asked words moment) =
-      ap (λ (members : List Member). credit_of (member_named name (record club { members = members }))) (answer_keeps club words moment).members ∙ as_before club
+      ap (λ (members : List Member). credit_of (member_named name (record club { members = members }))) (answer_keeps club words moment).members
+          ∙ as_before club
   credit_of_step club (Ordered command) = credits club command
 
   -- a member's credit after a run is that before and what the run credited
-  pub credit_of_run : (club : Club) (events : List Event) → credit_of (member_named name (club_after club events)) ≡ credit_of (member_named name club) + credits_accepted name events (replies_of club events)
+  pub credit_of_run : (club : Club) (events : List Event) → credit_of (member_named name (club_after club events))
+      ≡ credit_of (member_named name club) + credits_accepted name events (replies_of club events)
   credit_of_run club [] = omega arith
   credit_of_run club (event ∷ events) =
       let next = step club event in

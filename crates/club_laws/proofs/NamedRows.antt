@@ -23,7 +23,8 @@ some_there (Some x) e = (x, refl)
 -- nobody has this name
 pub none_named : {X : Type 0} (name : X → List ℕ) (n : List ℕ) (xs : List X) → find (λ x. bytes_eq (name x) n) xs ≡ None → All (λ x. name x ≢ n) xs
 none_named name n xs e =
-    All-each (λ x. bytes_eq (name x) n ≡ false) (λ x. name x ≢ n) xs (λ x f h. both_ways (bytes_eq (name x) n) f (subst (λ (m : List ℕ). bytes_eq (name x) m ≡ true) h (same_bytes (name x))))
+    All-each (λ x. bytes_eq (name x) n ≡ false) (λ x. name x ≢ n) xs (λ x f h.
+        both_ways (bytes_eq (name x) n) f (subst (λ (m : List ℕ). bytes_eq (name x) m ≡ true) h (same_bytes (name x))))
     (none_found (λ x. bytes_eq (name x) n) xs e)
 
 pub named : {X : Type 0} (name : X → List ℕ) (n : List ℕ) (xs : List X) (x : X) → find (λ y. bytes_eq (name y) n) xs ≡ Some x → name x ≡ n
@@ -35,18 +36,23 @@ named_there name n xs x e =
     (Contains-map name xs x (found_is_there (λ y. bytes_eq (name y) n) xs x e))
 
 -- a name is still among them when there is one more row
-pub still_there : {X : Type 0} (name : X → List ℕ) (rows : List X) (row : X) (n : List ℕ) → Contains (map name rows) n → Contains (map name (rows ++ row ∷ [])) n
+pub still_there : {X : Type 0} (name : X → List ℕ) (rows : List X) (row : X) (n : List ℕ) → Contains (map name rows) n
+    → Contains (map name (rows ++ row ∷ [])) n
 still_there name rows row n h = rw (map-append name rows (row ∷ [])) (Contains-append_left (map name rows) (name row ∷ []) n h)
 
 -- names that are referred to stay among those of the rows
-pub still_all : {X Y : Type 0} (name : X → List ℕ) (rows new : List X) (refers : Y → List ℕ) (ys : List Y) → ((n : List ℕ) → Contains (map name rows) n → Contains (map name new) n) → All (λ y. Contains (map name rows) (refers y)) ys → All (λ y. Contains (map name new) (refers y)) ys
+pub still_all : {X Y : Type 0} (name : X → List ℕ) (rows new : List X) (refers : Y → List ℕ) (ys : List Y)
+    → ((n : List ℕ) → Contains (map name rows) n → Contains (map name new) n) → All (λ y. Contains (map name rows) (refers y)) ys
+    → All (λ y. Contains (map name new) (refers y)) ys
 still_all name rows new refers ys still h =
     All-each (λ y. Contains (map name rows) (refers y)) (λ y. Contains (map name new) (refers y)) ys (λ y. still (refers y)) h
 
 -- where names are unique, the one found is the only one of its name
-pub only_named : {X : Type 0} (name : X → List ℕ) (n : List ℕ) (xs : List X) (x : X) → AllPairs (λ a b. name a ≢ name b) xs → find (λ y. bytes_eq (name y) n) xs ≡ Some x → All (λ y. bytes_eq (name y) n ≡ true → y ≡ x) xs
+pub only_named : {X : Type 0} (name : X → List ℕ) (n : List ℕ) (xs : List X) (x : X) → AllPairs (λ a b. name a ≢ name b) xs
+    → find (λ y. bytes_eq (name y) n) xs ≡ Some x → All (λ y. bytes_eq (name y) n ≡ true → y ≡ x) xs
 only_named name n xs x unique e =
-    only_found (λ a b. name a ≢ name b) (λ y. bytes_eq (name y) n) (λ a b h k other. other (bytes_same (name a) n h ∙ sym (bytes_same (name b) n k))) xs x unique e
+    only_found (λ a b. name a ≢ name b) (λ y. bytes_eq (name y) n) (λ a b h k other.
+        other (bytes_same (name a) n h ∙ sym (bytes_same (name b) n k))) xs x unique e
 
 pub none_passes : {X : Type 0} (p : X → Bool) (xs : List X) → list_any p xs ≡ false → All (λ x. p x ≡ false) xs
 none_passes p [] e = All-nil (λ x. p x ≡ false)
@@ -77,7 +83,9 @@ numbered key number booking e =
     let parts = and_parts (is_under key booking) (booking.number == number) e in
     (bytes_same booking.key key parts.0, eqb-true booking.number number parts.1)
 
-pub only_numbered : (key : List ℕ) (number : ℕ) (bookings : List Booking) (booking : Booking) → AllPairs (λ (a : Booking) (b : Booking). ¬ ((a.key ≡ b.key) × (a.number ≡ b.number))) bookings → find (is_numbered key number) bookings ≡ Some booking → All (λ other. is_numbered key number other ≡ true → other ≡ booking) bookings
+pub only_numbered : (key : List ℕ) (number : ℕ) (bookings : List Booking) (booking : Booking)
+    → AllPairs (λ (a : Booking) (b : Booking). ¬ ((a.key ≡ b.key) × (a.number ≡ b.number))) bookings → find (is_numbered key number) bookings ≡ Some booking
+    → All (λ other. is_numbered key number other ≡ true → other ≡ booking) bookings
 only_numbered key number bookings booking unique e =
     only_found (λ (a : Booking) (b : Booking). ¬ ((a.key ≡ b.key) × (a.number ≡ b.number))) (is_numbered key number)
     (λ a b h k other. let l = numbered key number a h in let r = numbered key number b k in other (l.0 ∙ sym r.0, l.1 ∙ sym r.1)) bookings booking unique e
@@ -93,10 +101,13 @@ pub numbered_back : (key : List ℕ) (number : ℕ) (booking : Booking) → is_n
 numbered_back key number booking =
     tests_same (is_numbered key number booking) (bytes_eq key booking.key && number == booking.number)
     (λ e. let same = numbered key number booking e in
-    and_from (bytes_eq key booking.key) (number == booking.number) (subst (λ (n : List ℕ). bytes_eq n booking.key ≡ true) same.0 (same_bytes booking.key)) (eq-eqb number booking.number (sym same.1)))
+    and_from (bytes_eq key booking.key) (number == booking.number) (subst (λ (n : List ℕ). bytes_eq n booking.key ≡ true) same.0 (same_bytes booking.key))
+        (eq-eqb number booking.number (sym same.1)))
     (λ e. let parts = and_parts (bytes_eq key booking.key) (number == booking.number) e in
     let same = bytes_same key booking.key parts.0 in
-    and_from (is_under key booking) (booking.number == number) (subst (λ (n : List ℕ). bytes_eq n key ≡ true) same (same_bytes key)) (eq-eqb booking.number number (sym (eqb-true number booking.number parts.1))))
+    and_from (is_under key booking) (booking.number == number) (subst (λ (n : List ℕ). bytes_eq n key ≡ true) same (same_bytes key))
+        (eq-eqb booking.number number (sym (eqb-true number booking.number parts.1))))
 
 pub self_numbered : (booking : Booking) → is_numbered booking.key booking.number booking ≡ true
-self_numbered booking = and_from (bytes_eq booking.key booking.key) (booking.number == booking.number) (same_bytes booking.key) (eq-eqb booking.number booking.number refl)
+self_numbered booking = and_from (bytes_eq booking.key booking.key) (booking.number == booking.number) (same_bytes booking.key)
+    (eq-eqb booking.number booking.number refl)

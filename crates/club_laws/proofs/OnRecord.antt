@@ -48,16 +48,19 @@ OnRecord bookings key (asked.Cancel slot number) reply = HasCancelled bookings k
 OnRecord bookings key asked.Account reply = ⊥
 
 -- a new booking loses nothing
-stays_behind : (bookings : List Booking) (new : Booking) (key : List ℕ) (request : Request) (reply : Reply) → OnRecord bookings key request reply → OnRecord (bookings ++ new ∷ []) key request reply
+stays_behind : (bookings : List Booking) (new : Booking) (key : List ℕ) (request : Request) (reply : Reply) → OnRecord bookings key request reply
+    → OnRecord (bookings ++ new ∷ []) key request reply
 stays_behind bookings new key (asked.View slot) reply h = h
 stays_behind bookings new key (asked.Book slot number guests) reply h =
     record { booking = h.booking; found = found_before (is_numbered key number) bookings (new ∷ []) h.booking h.found; same = h.same; told = h.told }
 stays_behind bookings new key (asked.Cancel slot number) reply h =
-    record { booking = h.booking; found = found_before (is_numbered key number) bookings (new ∷ []) h.booking h.found; same = h.same; before = h.before; told = h.told }
+    record { booking = h.booking; found = found_before (is_numbered key number) bookings (new ∷ []) h.booking h.found; same = h.same; before = h.before; told =
+        h.told }
 stays_behind bookings new key asked.Account reply h = h
 
 -- nor does a cancellation, which leaves alone what was cancelled
-stays_marked : (bookings : List Booking) (name : List ℕ) (n refund : ℕ) (key : List ℕ) (request : Request) (reply : Reply) → OnRecord bookings key request reply → OnRecord (map (cancelled name n refund) bookings) key request reply
+stays_marked : (bookings : List Booking) (name : List ℕ) (n refund : ℕ) (key : List ℕ) (request : Request) (reply : Reply) → OnRecord bookings key request reply
+    → OnRecord (map (cancelled name n refund) bookings) key request reply
 stays_marked bookings name n refund key (asked.View slot) reply h = h
 stays_marked bookings name n refund key (asked.Book slot number guests) reply h =
     record {
@@ -67,7 +70,8 @@ stays_marked bookings name n refund key (asked.Book slot number guests) reply h 
       told = h.told;
     }
 stays_marked bookings name n refund key (asked.Cancel slot number) reply h =
-    let unmarked : is_marked name n h.booking ≡ false = and_right (is_numbered name n h.booking) (not h.booking.cancelled) (not_from_true h.booking.cancelled h.before) in
+    let unmarked : is_marked name n h.booking ≡ false = and_right (is_numbered name n h.booking) (not h.booking.cancelled)
+        (not_from_true h.booking.cancelled h.before) in
     record {
       booking = cancelled name n refund h.booking;
       found = found_edited (cancelled name n refund) (is_numbered key number) (λ b. refl) bookings h.booking h.found;
@@ -77,12 +81,14 @@ stays_marked bookings name n refund key (asked.Cancel slot number) reply h =
     }
 stays_marked bookings name n refund key asked.Account reply h = h
 
-stays_after : (club : Club) (change : Change) (key : List ℕ) (request : Request) (reply : Reply) → OnRecord club.bookings key request reply → OnRecord (after change club).bookings key request reply
+stays_after : (club : Club) (change : Change) (key : List ℕ) (request : Request) (reply : Reply) → OnRecord club.bookings key request reply
+    → OnRecord (after change club).bookings key request reply
 stays_after club (InsertBooking booking) key request reply h = stays_behind club.bookings booking key request reply h
 stays_after club (MarkCancelled name number refund) key request reply h = stays_marked club.bookings name number refund key request reply h
 stays_after club change key request reply h = h
 
-pub stays_on_record : (club : Club) (events : List Event) (key : List ℕ) (request : Request) (reply : Reply) → OnRecord club.bookings key request reply → OnRecord (club_after club events).bookings key request reply
+pub stays_on_record : (club : Club) (events : List Event) (key : List ℕ) (request : Request) (reply : Reply) → OnRecord club.bookings key request reply
+    → OnRecord (club_after club events).bookings key request reply
 stays_on_record club events key request reply =
     kept_by_run (λ (c : Club). OnRecord c.bookings key request reply) (λ c change. stays_after c change key request reply) club events
 
@@ -100,26 +106,34 @@ served_or_silent (AccountShown member balance quota open_count spent) h k = absu
 served_or_silent (Refused refusal) h k = absurd k
 
 module _ (club : Club) (words : Words) (moment : ℕ) where
-  as_booked : (key : List ℕ) (slot : Slot) (number guests : ℕ) (bookings : List Booking) (reply : Reply) → key_of words.pass ≡ Some key → words.request ≡ asked.Book slot number guests → HasBooked bookings key slot number guests reply → IsRecorded bookings words reply
+  as_booked : (key : List ℕ) (slot : Slot) (number guests : ℕ) (bookings : List Booking) (reply : Reply) → key_of words.pass ≡ Some key
+      → words.request ≡ asked.Book slot number guests → HasBooked bookings key slot number guests reply → IsRecorded bookings words reply
   as_booked key slot number guests bookings reply n e h =
       record { key = key; named = n; on_record = subst (λ (r : Request). OnRecord bookings key r reply) (sym e) h }
 
-  as_cancelled : (key : List ℕ) (slot : Slot) (number : ℕ) (bookings : List Booking) (reply : Reply) → key_of words.pass ≡ Some key → words.request ≡ asked.Cancel slot number → HasCancelled bookings key slot number reply → IsRecorded bookings words reply
+  as_cancelled : (key : List ℕ) (slot : Slot) (number : ℕ) (bookings : List Booking) (reply : Reply) → key_of words.pass ≡ Some key
+      → words.request ≡ asked.Cancel slot number → HasCancelled bookings key slot number reply → IsRecorded bookings words reply
   as_cancelled key slot number bookings reply n e h =
       record { key = key; named = n; on_record = subst (λ (r : Request). OnRecord bookings key r reply) (sym e) h }
 
-  new_on_record : (key : Key) (slot : Slot) (number guests charge left : ℕ) → (new : Booking) → new ≡ record { key = key.name; number = number; slot = slot; guests = guests; charge = charge; left = left; cancelled = false; refund = 0 } → booking_under key.name number club.bookings ≡ None → HasBooked (club.bookings ++ new ∷ []) key.name slot number guests (Booked new.key new.number new.charge new.left)
+  new_on_record : (key : Key) (slot : Slot) (number guests charge left : ℕ) → (new : Booking)
+      → new ≡ record { key = key.name; number = number; slot = slot; guests = guests; charge = charge; left = left; cancelled = false; refund = 0 }
+      → booking_under key.name number club.bookings ≡ None → HasBooked (club.bookings
+      ++ new ∷ []) key.name slot number guests (Booked new.key new.number new.charge new.left)
   new_on_record key slot number guests charge left new e none =
       record {
         booking = new;
-        found = found_last (is_numbered key.name number) club.bookings new none (rw e (and_from (bytes_eq key.name key.name) (number == number) (same_bytes key.name) (eq-eqb number number refl)));
+        found = found_last (is_numbered key.name number) club.bookings new none
+            (rw e (and_from (bytes_eq key.name key.name) (number == number) (same_bytes key.name) (eq-eqb number number refl)));
         same = rw e (and_from (same_slot slot slot) (guests == guests) (same_slots slot) (eq-eqb guests guests refl));
         told = refl;
       }
 
-  now_cancelled : (key : Key) (slot : Slot) (number : ℕ) (booking : Booking) (refund : ℕ) → Cancels club key slot number booking → HasCancelled (map (cancelled booking.key booking.number refund) club.bookings) key.name slot number (Cancelled booking.key booking.number refund)
+  now_cancelled : (key : Key) (slot : Slot) (number : ℕ) (booking : Booking) (refund : ℕ) → Cancels club key slot number booking
+      → HasCancelled (map (cancelled booking.key booking.number refund) club.bookings) key.name slot number (Cancelled booking.key booking.number refund)
   now_cancelled key slot number booking refund c =
-      let marked : is_marked booking.key booking.number booking ≡ true = and_from (is_numbered booking.key booking.number booking) (not booking.cancelled) (self_numbered booking) (not_from_false booking.cancelled c.stood) in
+      let marked : is_marked booking.key booking.number booking ≡ true = and_from (is_numbered booking.key booking.number booking) (not booking.cancelled)
+          (self_numbered booking) (not_from_false booking.cancelled c.stood) in
       record {
         booking = cancelled booking.key booking.number refund booking;
         found = found_edited (cancelled booking.key booking.number refund) (is_numbered key.name number) (λ b. refl) club.bookings booking c.found;
@@ -128,19 +142,23 @@ module _ (club : Club) (words : Words) (moment : ℕ) where
         told = ap (λ (b : Bool). Cancelled booking.key booking.number (cond b refund booking.refund)) (sym marked);
       }
 
-  pub recorded_when_served : IsBookedOrCancelled (verdict_in club words moment).reply → IsRecorded (after_change (verdict_in club words moment).change club).bookings words (verdict_in club words moment).reply
+  pub recorded_when_served : IsBookedOrCancelled (verdict_in club words moment).reply
+      → IsRecorded (after_change (verdict_in club words moment).change club).bookings words (verdict_in club words moment).reply
   recorded_when_served =
       answer_cases (λ (v : Verdict). IsBookedOrCancelled v.reply → IsRecorded (after_change v.change club).bookings words v.reply) club words moment (record {
         silent = λ reply h k. served_or_silent reply h k;
         repeats_booking = λ key member slot number guests booking k e b s.
-            as_booked key.name slot number guests club.bookings (Booked booking.key booking.number booking.charge booking.left) k.named e (record { booking = booking; found = b.found; same = b.same; told = refl });
+            as_booked key.name slot number guests club.bookings (Booked booking.key booking.number booking.charge booking.left) k.named e (record { booking =
+                booking; found = b.found; same = b.same; told = refl });
         books = λ key member slot number guests facility k e b s.
             let new : Booking = written club key slot number guests facility in
             as_booked key.name slot number guests (club.bookings ++ new ∷ []) (Booked new.key new.number new.charge new.left) k.named e
             (new_on_record key slot number guests new.charge new.left new refl b.new);
         cancels_recorded = λ key member slot number booking k e b s.
-            as_cancelled key.name slot number club.bookings (Cancelled booking.key booking.number booking.refund) k.named e (record { booking = booking; found = b.found; same = b.same; before = b.before; told = refl });
+            as_cancelled key.name slot number club.bookings (Cancelled booking.key booking.number booking.refund) k.named e (record { booking = booking; found =
+                b.found; same = b.same; before = b.before; told = refl });
         cancels = λ key member slot number booking k e c s.
-            as_cancelled key.name slot number (map (cancelled booking.key booking.number (refund_at booking moment)) club.bookings) (Cancelled booking.key booking.number (refund_at booking moment)) k.named e
+            as_cancelled key.name slot number (map (cancelled booking.key booking.number (refund_at booking moment)) club.bookings)
+                (Cancelled booking.key booking.number (refund_at booking moment)) k.named e
             (now_cancelled key slot number booking (refund_at booking moment) c);
       })

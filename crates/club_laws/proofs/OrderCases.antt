@@ -25,7 +25,8 @@ use Rattle.club_laws.proofs.NamedRows.{none_there, some_there}
 abbrev pub change_of : Command → Change
 change_of (AddMember name quota) = InsertMember (record { name = name; credited = 0; quota = quota })
 change_of (Credit name points) = AddCredit name points
-change_of (AddFacility name kind places price opens shuts) = InsertFacility (record { name = name; kind = kind; places = places; price = price; opens = opens; shuts = shuts })
+change_of (AddFacility name kind places price opens shuts) = InsertFacility (record { name = name; kind = kind; places = places; price = price; opens =
+    opens; shuts = shuts })
 change_of (AddKey name member root) = InsertKey (record { name = name; member = member; root = root; older = None; revoked = false })
 change_of (RevokeKey name) = MarkRevoked name
 change_of (RotateKey name root until) = ReplaceRoot name root until
@@ -42,36 +43,44 @@ OrderRestsOn club (RotateKey name root until) = (key : Key) × (key_named name c
 OrderRestsOn club (CloseSlot slot) = (facility : Facility) × (facility_named slot.facility club ≡ Some facility) × (is_closed slot club ≡ false)
 
 module _ (P : Result Change OfficeFault → Type 0) (club : Club) (fails : (fault : OfficeFault) → P (Err fault)) where
-  credit_cases : (name : List ℕ) (points : ℕ) (o : Option Member) → member_named name club ≡ o → (OrderRestsOn club (Credit name points) → P (Ok (AddCredit name points))) → P (credit_verdict name points o)
+  credit_cases : (name : List ℕ) (points : ℕ) (o : Option Member) → member_named name club ≡ o
+      → (OrderRestsOn club (Credit name points) → P (Ok (AddCredit name points))) → P (credit_verdict name points o)
   credit_cases name points None e done = fails Unknown
   credit_cases name points (Some member) e done =
       first_of_cases P (line (nat_lt 999_999_999 (member.credited + points)) (Err OutOfRange) ∷ []) (Ok (AddCredit name points)) (fails OutOfRange, tt)
       (λ none. done (member, e, ltb-false 999_999_999 (member.credited + points) none.0))
 
-  rotate_cases : (name root : List ℕ) (until : ℕ) (o : Option Key) → key_named name club ≡ o → (OrderRestsOn club (RotateKey name root until) → P (Ok (ReplaceRoot name root until))) → P (rotate_verdict name root until o)
+  rotate_cases : (name root : List ℕ) (until : ℕ) (o : Option Key) → key_named name club ≡ o
+      → (OrderRestsOn club (RotateKey name root until) → P (Ok (ReplaceRoot name root until))) → P (rotate_verdict name root until o)
   rotate_cases name root until None e done = fails Unknown
   rotate_cases name root until (Some key) e done =
       first_of_cases P (line (bytes_eq key.root root) (Err Exists) ∷ []) (Ok (ReplaceRoot name root until)) (fails Exists, tt) (λ none. done (key, e))
 
-  close_cases : (slot : Slot) (o : Option Facility) → facility_named slot.facility club ≡ o → (OrderRestsOn club (CloseSlot slot) → P (Ok (MarkClosed slot))) → P (close_verdict (slot_use club slot) slot o)
+  close_cases : (slot : Slot) (o : Option Facility) → facility_named slot.facility club ≡ o → (OrderRestsOn club (CloseSlot slot) → P (Ok (MarkClosed slot)))
+      → P (close_verdict (slot_use club slot) slot o)
   close_cases slot None e done = fails Unknown
   close_cases slot (Some facility) e done =
       first_of_cases P
-      (line (not (is_open_at facility slot.hour)) (Err OutOfRange) ∷ line (is_closed slot club) (Err Exists) ∷ line (nat_lt 0 (taken_in slot club.bookings)) (Err SlotInUse) ∷ [])
+      (line (not (is_open_at facility slot.hour)) (Err OutOfRange) ∷ line (is_closed slot club) (Err Exists)
+          ∷ line (nat_lt 0 (taken_in slot club.bookings)) (Err SlotInUse) ∷ [])
       (Ok (MarkClosed slot)) (fails OutOfRange, (fails Exists, (fails SlotInUse, tt))) (λ none. done (facility, e, none.1.0))
 
   pub order_cases : (command : Command) → (OrderRestsOn club command → P (Ok (change_of command))) → P (office_verdict club command)
   order_cases (AddMember name quota) done =
-      first_of_cases P (line (nat_lt 99 quota) (Err OutOfRange) ∷ line (is_some (member_named name club)) (Err Exists) ∷ []) (Ok (change_of (AddMember name quota))) (fails OutOfRange, (fails Exists, tt))
+      first_of_cases P (line (nat_lt 99 quota) (Err OutOfRange) ∷ line (is_some (member_named name club)) (Err Exists) ∷ [])
+          (Ok (change_of (AddMember name quota))) (fails OutOfRange, (fails Exists, tt))
       (λ none. done (ltb-false 99 quota none.0, none_there (member_named name club) none.1.0))
   order_cases (Credit name points) done =
-      first_of_cases P (line (points == 0 || nat_lt 1_000_000 points) (Err OutOfRange) ∷ []) (credit_verdict name points (member_named name club)) (fails OutOfRange, tt)
+      first_of_cases P (line (points == 0 || nat_lt 1_000_000 points) (Err OutOfRange) ∷ []) (credit_verdict name points (member_named name club))
+          (fails OutOfRange, tt)
       (λ none. credit_cases name points (member_named name club) refl done)
   order_cases (AddFacility name kind places price opens shuts) done =
-      first_of_cases P (line (not (are_limits places price opens shuts)) (Err OutOfRange) ∷ line (is_some (facility_named name club)) (Err Exists) ∷ []) (Ok (change_of (AddFacility name kind places price opens shuts))) (fails OutOfRange, (fails Exists, tt))
+      first_of_cases P (line (not (are_limits places price opens shuts)) (Err OutOfRange) ∷ line (is_some (facility_named name club)) (Err Exists) ∷ [])
+          (Ok (change_of (AddFacility name kind places price opens shuts))) (fails OutOfRange, (fails Exists, tt))
       (λ none. done (not-false (are_limits places price opens shuts) none.0, none_there (facility_named name club) none.1.0))
   order_cases (AddKey name member root) done =
-      first_of_cases P (line (not (is_some (member_named member club))) (Err Unknown) ∷ line (is_some (key_named name club)) (Err Exists) ∷ []) (Ok (change_of (AddKey name member root))) (fails Unknown, (fails Exists, tt))
+      first_of_cases P (line (not (is_some (member_named member club))) (Err Unknown) ∷ line (is_some (key_named name club)) (Err Exists) ∷ [])
+          (Ok (change_of (AddKey name member root))) (fails Unknown, (fails Exists, tt))
       (λ none.
       let owner = some_there (member_named member club) (not-false (is_some (member_named member club)) none.0) in
       done (owner.0, owner.1, none_there (key_named name club) none.1.0))

@@ -43,13 +43,18 @@ own_state name club (Some slot) =
     (sym (sum_in_parts persons_of (is_in slot) (λ (booking : Booking). is_key_of name club booking.key) club.bookings))
 
 -- the basis in the part, with what others hold, is the basis in the club
-own_basis_with : (club : Club) (request : Request) (key : Key) (member : Member) → with_others (outside member.name club (slot_of request)) (basis_with (part_of member.name club) request key member) ≡ basis_with club request key member
+own_basis_with : (club : Club) (request : Request) (key : Key) (member : Member)
+    → with_others (outside member.name club (slot_of request)) (basis_with (part_of member.name club) request key member) ≡ basis_with club request key member
 own_basis_with club request key member =
-    ap (λ (bookings : List Booking). basis_of_rows key member bookings (with_outside (outside member.name club (slot_of request)) (state_of (part_of member.name club) (slot_of request)))) (own_bookings member.name club)
+    ap (λ (bookings : List Booking). basis_of_rows key member bookings (with_outside (outside member.name club (slot_of request))
+        (state_of (part_of member.name club) (slot_of request)))) (own_bookings member.name club)
     ∙ ap (λ (state : SlotState). basis_of_rows key member (bookings_of member.name club) state) (own_state member.name club (slot_of request))
 
 -- the rows of a member's key are in the member's part
-rests_in_part : (club : Club) (request : Request) (name : Option (List ℕ)) (basis : Basis) → RestsOn club request name basis → option_and_then (basis_under (part_of basis.member.name club) request) (option_and_then (λ (n : List ℕ). key_named n (part_of basis.member.name club)) name) ≡ Some (basis_with (part_of basis.member.name club) request basis.key basis.member)
+rests_in_part : (club : Club) (request : Request) (name : Option (List ℕ)) (basis : Basis) → RestsOn club request name basis
+    → option_and_then (basis_under (part_of basis.member.name club) request)
+    (option_and_then (λ (n : List ℕ). key_named n (part_of basis.member.name club)) name)
+    ≡ Some (basis_with (part_of basis.member.name club) request basis.key basis.member)
 rests_in_part club request name basis rests =
     let own = basis.member.name in
     let part = part_of own club in
@@ -67,7 +72,8 @@ rests_in_part club request name basis rests =
     ∙ ap (λ (member : Option Member). option_map (basis_with part request basis.key) member) member_in)
 
 -- so the member's part gives the basis of a request of the member's
-pub own_basis : (club : Club) (words : Words) (basis : Basis) → basis_of club words ≡ Some basis → option_map (with_others (outside basis.member.name club (slot_of words.request))) (basis_of (part_of basis.member.name club) words) ≡ Some basis
+pub own_basis : (club : Club) (words : Words) (basis : Basis) → basis_of club words ≡ Some basis
+    → option_map (with_others (outside basis.member.name club (slot_of words.request))) (basis_of (part_of basis.member.name club) words) ≡ Some basis
 own_basis club words basis e =
     let rests = rests_on_name club words basis e in
     let others = outside basis.member.name club (slot_of words.request) in

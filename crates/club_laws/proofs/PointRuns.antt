@@ -37,7 +37,8 @@ pub record KeepsPoints (club : Club) (command : Command) (verdict : Result Chang
   pub no_refund : refund_told (ordered club command verdict).reply ≡ []
 
 order_keeps : (club : Club) (command : Command) → KeepsPoints club command (office_verdict club command)
-order_keeps club command = order_cases (KeepsPoints club command) club (λ fault. record { bookings = refl; no_charge = refl; no_refund = refl }) command (λ k. done command)
+order_keeps club command = order_cases (KeepsPoints club command) club (λ fault. record { bookings = refl; no_charge = refl; no_refund = refl }) command (λ k.
+    done command)
   where
     done : (c : Command) → KeepsPoints club c (Ok (change_of c))
     done (RevokeKey name) = record { bookings = refl; no_charge = refl; no_refund = refl }
@@ -57,22 +58,28 @@ module _ (p : List ℕ → Bool) where
       Stays k.no_refund (ap (refunded p) k.bookings) (λ key number. ap (λ (bookings : List Booking). has_cancelled bookings key number) k.bookings)
 
   -- over a run, what was charged grows by the first charges told of what was not on record
-  run_charges : (club : Club) (events : List Event) → charged p (club_after club events).bookings ≡ charged p club.bookings + unseen_total p (has_number club.bookings) (charges_told (replies_of club events))
+  run_charges : (club : Club) (events : List Event) → charged p (club_after club events).bookings
+      ≡ charged p club.bookings + unseen_total p (has_number club.bookings) (charges_told (replies_of club events))
   run_charges club [] = omega arith
   run_charges club (event ∷ events) =
       let next = step club event in
-      moved p (charged p club.bookings) (charged p next.club.bookings) (has_number club.bookings) (has_number next.club.bookings) (charge_told next.reply) (charges_told (replies_of next.club events)) (charged p (club_after next.club events).bookings)
+      moved p (charged p club.bookings) (charged p next.club.bookings) (has_number club.bookings) (has_number next.club.bookings) (charge_told next.reply)
+          (charges_told (replies_of next.club events)) (charged p (club_after next.club events).bookings)
       (step_charges club event) (run_charges next.club events)
 
-  run_refunds : (club : Club) (events : List Event) → IsSound club → All IsEvent events → refunded p (club_after club events).bookings ≡ refunded p club.bookings + unseen_total p (has_cancelled club.bookings) (refunds_told (replies_of club events))
+  run_refunds : (club : Club) (events : List Event) → IsSound club → All IsEvent events
+      → refunded p (club_after club events).bookings ≡ refunded p club.bookings + unseen_total p (has_cancelled club.bookings)
+      (refunds_told (replies_of club events))
   run_refunds club [] s h = omega arith
   run_refunds club (event ∷ events) s h =
       let next = step club event in
-      moved p (refunded p club.bookings) (refunded p next.club.bookings) (has_cancelled club.bookings) (has_cancelled next.club.bookings) (refund_told next.reply) (refunds_told (replies_of next.club events)) (refunded p (club_after next.club events).bookings)
+      moved p (refunded p club.bookings) (refunded p next.club.bookings) (has_cancelled club.bookings) (has_cancelled next.club.bookings)
+          (refund_told next.reply) (refunds_told (replies_of next.club events)) (refunded p (club_after next.club events).bookings)
       (step_refunds club event s) (run_refunds next.club events (sound_step club event s (All-head IsEvent event events h)) (All-tail IsEvent event events h))
 
 -- where nothing is on record, all first entries count
-all_count : (keys : List (List ℕ)) (seen : Seen) (entries : List Entry) → ((key : List ℕ) (number : ℕ) → seen key number ≡ false) → unseen_total (is_among keys) seen entries ≡ total_under keys entries
+all_count : (keys : List (List ℕ)) (seen : Seen) (entries : List Entry) → ((key : List ℕ) (number : ℕ) → seen key number ≡ false)
+    → unseen_total (is_among keys) seen entries ≡ total_under keys entries
 all_count keys seen entries none =
     ap (λ (kept : List Entry). sum_by points_of kept)
     (filter_agree (counts (is_among keys) seen) (λ (entry : Entry). is_among keys entry.key)
@@ -83,7 +90,8 @@ all_count keys seen entries none =
     go false = refl
 
 -- what bookings were charged is what they cost and what came back
-cost_and_refund : (bookings : List Booking) → All IsBooking bookings → sum_by (λ (b : Booking). b.charge) bookings ≡ sum_by cost_of bookings + sum_by (λ (b : Booking). b.refund) bookings
+cost_and_refund : (bookings : List Booking) → All IsBooking bookings → sum_by (λ (b : Booking). b.charge) bookings
+    ≡ sum_by cost_of bookings + sum_by (λ (b : Booking). b.refund) bookings
 cost_and_refund [] h = refl
 cost_and_refund (b ∷ bookings) h =
     let row = (All-head IsBooking b bookings h).refund in
@@ -95,14 +103,18 @@ cost_and_refund (b ∷ bookings) h =
 
 pub sound_empty : IsSound empty_club
 sound_empty = record {
-  rows = record { members = λ k d h. absurd (omega arith); facilities = λ k d h. absurd (omega arith); keys = λ k d h. absurd (omega arith); bookings = λ k d h. absurd (omega arith); closed = λ k d h. absurd (omega arith) };
-  unique = record { members = λ i j d l h. absurd (omega arith); facilities = λ i j d l h. absurd (omega arith); keys = λ i j d l h. absurd (omega arith); bookings = λ i j d l h. absurd (omega arith); closed = λ i j d l h. absurd (omega arith) };
-  references = record { keys = λ k d h. absurd (omega arith); bookings = λ k d h. absurd (omega arith); booked = λ k d h. absurd (omega arith); closed = λ k d h. absurd (omega arith) };
+  rows = record { members = λ k d h. absurd (omega arith); facilities = λ k d h. absurd (omega arith); keys = λ k d h. absurd (omega arith); bookings =
+      λ k d h. absurd (omega arith); closed = λ k d h. absurd (omega arith) };
+  unique = record { members = λ i j d l h. absurd (omega arith); facilities = λ i j d l h. absurd (omega arith); keys =
+      λ i j d l h. absurd (omega arith); bookings = λ i j d l h. absurd (omega arith); closed = λ i j d l h. absurd (omega arith) };
+  references = record { keys = λ k d h. absurd (omega arith); bookings = λ k d h. absurd (omega arith); booked = λ k d h. absurd (omega arith); closed =
+      λ k d h. absurd (omega arith) };
   balances = λ k d h. absurd (omega arith);
   places = λ k d h. absurd (omega arith);
 }
 
-pub conserved : (events : List Event) (name : List ℕ) (member : Member) → All IsEvent events → member_named name (club_after empty_club events) ≡ Some member → IsConserved (club_after empty_club events) events (replies_of empty_club events) member
+pub conserved : (events : List Event) (name : List ℕ) (member : Member) → All IsEvent events → member_named name (club_after empty_club events) ≡ Some member
+    → IsConserved (club_after empty_club events) events (replies_of empty_club events) member
 conserved events name member h e =
     let club = club_after empty_club events in
     let replies = replies_of empty_club events in
@@ -112,27 +124,35 @@ conserved events name member h e =
     let same : member.name ≡ name = named (λ (m : Member). m.name) name club.members member e in
     let found : member_named member.name club ≡ Some member = ap (λ (n : List ℕ). member_named n club) same ∙ e in
     let own : bookings_of member.name club ≡ filter (λ (b : Booking). p b.key) club.bookings =
-    filter_agree (λ (b : Booking). is_key_of member.name club b.key) (λ (b : Booking). p b.key) (λ b. keys_of_run member.name empty_club b.key events) club.bookings in
+    filter_agree (λ (b : Booking). is_key_of member.name club b.key) (λ (b : Booking). p b.key) (λ b.
+        keys_of_run member.name empty_club b.key events) club.bookings in
     let charges : charged p club.bookings ≡ 0 + unseen_total p (has_number []) (charges_told replies) = run_charges p empty_club events in
     let refunds : refunded p club.bookings ≡ 0 + unseen_total p (has_cancelled []) (refunds_told replies) = run_refunds p empty_club events sound_empty h in
     let all_charges = all_count keys (has_number []) (charges_told replies) (λ key number. refl) in
     let all_refunds = all_count keys (has_cancelled []) (refunds_told replies) (λ key number. refl) in
-    let parts = cost_and_refund (filter (λ (b : Booking). p b.key) club.bookings) (All-filter (λ (b : Booking). p b.key) IsBooking club.bookings s.rows.bookings) in
+    let parts = cost_and_refund (filter (λ (b : Booking). p b.key) club.bookings)
+        (All-filter (λ (b : Booking). p b.key) IsBooking club.bookings s.rows.bookings) in
     let credit : member.credited ≡ 0 + credits_accepted member.name events replies = sym (ap credit_of found) ∙ credit_of_run member.name empty_club events in
-    let costs : sum_by cost_of (bookings_of member.name club) ≡ sum_by cost_of (filter (λ (b : Booking). p b.key) club.bookings) = ap (λ (bookings : List Booking). sum_by cost_of bookings) own in
+    let costs : sum_by cost_of (bookings_of member.name club) ≡ sum_by cost_of (filter (λ (b : Booking). p b.key) club.bookings) =
+        ap (λ (bookings : List Booking). sum_by cost_of bookings) own in
     let covered : sum_by cost_of (bookings_of member.name club) ≤ member.credited =
     at_found (λ (m : Member). sum_by cost_of (bookings_of m.name club) ≤ m.credited) (λ (m : Member). bytes_eq m.name name) club.members member s.balances e in
     record { balanced = omega arith; covered = covered }
 
 -- who booked a slot of a sound club has a place in it
-pub has_places : (club : Club) (slot : Slot) → IsSound club → MatchOption (facility_named slot.facility club) (taken_in slot club.bookings ≡ 0) (λ (facility : Facility). taken_in slot club.bookings ≤ facility.places)
+pub has_places : (club : Club) (slot : Slot) → IsSound club → MatchOption (facility_named slot.facility club) (taken_in slot club.bookings
+    ≡ 0) (λ (facility : Facility). taken_in slot club.bookings ≤ facility.places)
 has_places club slot sound = go (facility_named slot.facility club) refl
   where
-    go : (o : Option Facility) → facility_named slot.facility club ≡ o → MatchOption o (taken_in slot club.bookings ≡ 0) (λ (facility : Facility). taken_in slot club.bookings ≤ facility.places)
+    go : (o : Option Facility) → facility_named slot.facility club ≡ o → MatchOption o (taken_in slot club.bookings ≡ 0) (λ (facility : Facility).
+        taken_in slot club.bookings ≤ facility.places)
     go None e = nobody_in club slot sound.references (none_named (λ (f : Facility). f.name) slot.facility club.facilities e)
     go (Some facility) e =
-        at_found (λ (f : Facility). (at : Slot) → at.facility ≡ f.name → taken_in at club.bookings ≤ f.places) (λ (f : Facility). bytes_eq f.name slot.facility) club.facilities facility
+        at_found (λ (f : Facility). (at : Slot) → at.facility ≡ f.name → taken_in at club.bookings ≤ f.places) (λ (f : Facility).
+            bytes_eq f.name slot.facility) club.facilities facility
         sound.places e slot (sym (named (λ (f : Facility). f.name) slot.facility club.facilities facility e))
 
-pub has_room : (events : List Event) (slot : Slot) → All IsEvent events → MatchOption (facility_named slot.facility (club_after empty_club events)) (taken_in slot (club_after empty_club events).bookings ≡ 0) (λ (facility : Facility). taken_in slot (club_after empty_club events).bookings ≤ facility.places)
+pub has_room : (events : List Event) (slot : Slot) → All IsEvent events → MatchOption (facility_named slot.facility (club_after empty_club events))
+    (taken_in slot (club_after empty_club events).bookings ≡ 0) (λ (facility : Facility).
+    taken_in slot (club_after empty_club events).bookings ≤ facility.places)
 has_room events slot h = has_places (club_after empty_club events) slot (sound_run empty_club events sound_empty h)

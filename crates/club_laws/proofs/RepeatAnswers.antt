@@ -34,52 +34,66 @@ same_lookups f g h None = refl
 same_lookups f g h (Some n) = h n
 
 -- the view of an accepted request holds the booking that the club has under the key and the number
-pub seen_booking : (club : Club) (words : Words) (moment : ℕ) (basis : Basis) (key : List ℕ) → basis_of club words ≡ Some basis → key_of words.pass ≡ Some key → (view_of basis words.request moment).booking ≡ option_and_then (λ (number : ℕ). booking_under key number club.bookings) (number_of words.request)
+pub seen_booking : (club : Club) (words : Words) (moment : ℕ) (basis : Basis) (key : List ℕ) → basis_of club words ≡ Some basis → key_of words.pass ≡ Some key
+    → (view_of basis words.request moment).booking ≡ option_and_then (λ (number : ℕ). booking_under key number club.bookings) (number_of words.request)
 seen_booking club words moment basis key is named =
     let rests = rests_on_name club words basis is in
     let same : basis.key.name ≡ key = let e : Some basis.key.name ≡ Some key = sym rests.named ∙ named in cc in
     same_lookups (λ (number : ℕ). booking_under basis.key.name number basis.bookings) (λ (number : ℕ). booking_under key number club.bookings)
     (λ number.
     ap (λ (b : Basis). booking_under basis.key.name number b.bookings) rests.whole
-    ∙ (own_booking club words basis.key basis.member number (known_rows club words basis is) ∙ ap (λ (name : List ℕ). booking_under name number club.bookings) same))
+    ∙ (own_booking club words basis.key basis.member number (known_rows club words basis is)
+        ∙ ap (λ (name : List ℕ). booking_under name number club.bookings) same))
     (number_of words.request)
 
-recorded-some : (o : Option Booking) (booking : Booking) (f : Booking → Verdict) (other : Verdict) → o ≡ Some booking → verdicts.recorded_or o f other ≡ f booking
+recorded-some : (o : Option Booking) (booking : Booking) (f : Booking → Verdict) (other : Verdict) → o ≡ Some booking
+    → verdicts.recorded_or o f other ≡ f booking
 recorded-some o booking f other e = ap (λ (x : Option Booking). verdicts.recorded_or x f other) e
 
-decides_by_record : (bookings : List Booking) (key : List ℕ) (request : Request) (reply : Reply) (view : View) (moment : ℕ) → OnRecord bookings key request reply → view.booking ≡ option_and_then (λ (number : ℕ). booking_under key number bookings) (number_of request) → verdicts.verdict_of view request moment ≡ verdicts.told reply
+decides_by_record : (bookings : List Booking) (key : List ℕ) (request : Request) (reply : Reply) (view : View) (moment : ℕ)
+    → OnRecord bookings key request reply → view.booking ≡ option_and_then (λ (number : ℕ). booking_under key number bookings) (number_of request)
+    → verdicts.verdict_of view request moment ≡ verdicts.told reply
 decides_by_record bookings key (asked.View slot) reply view moment h e = absurd h
 decides_by_record bookings key (asked.Book slot number guests) reply view moment h e =
-    recorded-some view.booking h.booking (λ booking. verdicts.repeat_booking_verdict booking slot guests) (verdicts.new_verdict view slot number guests moment view.facility) (e ∙ h.found)
+    recorded-some view.booking h.booking (λ booking. verdicts.repeat_booking_verdict booking slot guests)
+        (verdicts.new_verdict view slot number guests moment view.facility) (e ∙ h.found)
     ∙ (cond-true (same_slot h.booking.slot slot && h.booking.guests == guests) (verdicts.booked_before h.booking) (verdicts.refused refusals.NumberUsed) h.same
     ∙ ap verdicts.told (sym h.told))
 decides_by_record bookings key (asked.Cancel slot number) reply view moment h e =
-    recorded-some view.booking h.booking (λ booking. verdicts.cancel_recorded_verdict booking slot moment) (verdicts.unknown_verdict view.facility) (e ∙ h.found)
+    recorded-some view.booking h.booking (λ booking. verdicts.cancel_recorded_verdict booking slot moment) (verdicts.unknown_verdict view.facility) (e
+        ∙ h.found)
     ∙ (told_recorded h.booking h.same h.before ∙ ap verdicts.told (sym h.told))
   where
-    told_recorded : (booking : Booking) → same_slot booking.slot slot ≡ true → booking.cancelled ≡ true → verdicts.cancel_recorded_verdict booking slot moment ≡ verdicts.cancelled_before booking
+    told_recorded : (booking : Booking) → same_slot booking.slot slot ≡ true → booking.cancelled ≡ true
+        → verdicts.cancel_recorded_verdict booking slot moment ≡ verdicts.cancelled_before booking
     told_recorded booking same before =
-        let late : Verdict = cond (nat_le (start_of booking.slot) moment) (verdicts.refused refusals.SlotHasBegun) (verdicts.cancelled booking (refund_at booking moment)) in
-        cond-false (not (same_slot booking.slot slot)) (verdicts.refused refusals.NumberUsed) (cond booking.cancelled (verdicts.cancelled_before booking) late) (not_from_true (same_slot booking.slot slot) same)
+        let late : Verdict = cond (nat_le (start_of booking.slot) moment) (verdicts.refused refusals.SlotHasBegun)
+            (verdicts.cancelled booking (refund_at booking moment)) in
+        cond-false (not (same_slot booking.slot slot)) (verdicts.refused refusals.NumberUsed) (cond booking.cancelled (verdicts.cancelled_before booking) late)
+            (not_from_true (same_slot booking.slot slot) same)
         ∙ cond-true booking.cancelled (verdicts.cancelled_before booking) late before
 decides_by_record bookings key asked.Account reply view moment h e = absurd h
 
 -- an accepted request is answered by the decision
-accepted_answer : (club : Club) (words : Words) (moment : ℕ) (a : IsAcceptedIn club words moment) → verdict_in club words moment ≡ verdicts.verdict_of (view_of a.basis words.request moment) words.request moment
+accepted_answer : (club : Club) (words : Words) (moment : ℕ) (a : IsAcceptedIn club words moment)
+    → verdict_in club words moment ≡ verdicts.verdict_of (view_of a.basis words.request moment) words.request moment
 accepted_answer club words moment a =
     let seen : Option Basis → Option View = λ basis. option_map (λ (b : Basis). view_of b words.request moment) basis in
     ap (λ (pass : Result Pass FormFault). answer_to pass words.request moment (seen (basis_of club words))) a.read
     ∙ (ap (λ (basis : Option Basis). answer_to (Ok a.pass) words.request moment (seen basis)) a.known
     ∙ accepted_under a.pass words.request moment (view_of a.basis words.request moment) a.accepted)
 
-told_by_record : (club : Club) (words : Words) (moment : ℕ) (reply : Reply) → IsRecorded club.bookings words reply → IsAcceptedIn club words moment → step club (Asked words moment) ≡ record { reply = Replied reply; club = club }
+told_by_record : (club : Club) (words : Words) (moment : ℕ) (reply : Reply) → IsRecorded club.bookings words reply → IsAcceptedIn club words moment
+    → step club (Asked words moment) ≡ record { reply = Replied reply; club = club }
 told_by_record club words moment reply r a =
     ap (told_and_changed club)
     (accepted_answer club words moment a
-    ∙ decides_by_record club.bookings r.key words.request reply (view_of a.basis words.request moment) moment r.on_record (seen_booking club words moment a.basis r.key a.known r.named))
+    ∙ decides_by_record club.bookings r.key words.request reply (view_of a.basis words.request moment) moment r.on_record
+        (seen_booking club words moment a.basis r.key a.known r.named))
 
 -- what was served within a history is on record after it
-pub recorded_since : (club : Club) (history : List Event) (words : Words) (reply : Reply) → WasServed club history words reply → IsRecorded (club_after club history).bookings words reply
+pub recorded_since : (club : Club) (history : List Event) (words : Words) (reply : Reply) → WasServed club history words reply
+    → IsRecorded (club_after club history).bookings words reply
 recorded_since club history words reply w =
     let start = club_after club w.front in
     let then = (step start (Asked w.first w.moment)).club in
@@ -87,7 +101,8 @@ recorded_since club history words reply w =
     let told : verdict.reply ≡ reply = let e : Replied verdict.reply ≡ Replied reply = w.told in cc in
     let first : IsRecorded then.bookings w.first verdict.reply = recorded_when_served start w.first w.moment (subst IsBookedOrCancelled (sym told) w.served) in
     let later = stays_on_record then w.rest first.key w.first.request verdict.reply first.on_record in
-    let end : club_after club history ≡ club_after then w.rest = ap (club_after club) w.place ∙ club_after-append club w.front (Asked w.first w.moment ∷ w.rest) in
+    let end : club_after club history ≡ club_after then w.rest = ap (club_after club) w.place
+        ∙ club_after-append club w.front (Asked w.first w.moment ∷ w.rest) in
     record {
       key = first.key;
       named = w.same_key ∙ first.named;
@@ -97,10 +112,13 @@ recorded_since club history words reply w =
           (subst (λ (r : Reply). OnRecord (club_after then w.rest).bookings first.key w.first.request r) told later));
     }
 
-pub tells_the_same : (club : Club) (history : List Event) (words : Words) (moment : ℕ) (reply : Reply) → WasServed club history words reply → IsAcceptedIn (club_after club history) words moment → step (club_after club history) (Asked words moment) ≡ record { reply = Replied reply; club = club_after club history }
+pub tells_the_same : (club : Club) (history : List Event) (words : Words) (moment : ℕ) (reply : Reply) → WasServed club history words reply
+    → IsAcceptedIn (club_after club history) words moment → step (club_after club history) (Asked words moment)
+    ≡ record { reply = Replied reply; club = club_after club history }
 tells_the_same club history words moment reply w a = told_by_record (club_after club history) words moment reply (recorded_since club history words reply w) a
 
-pub left_out : (club : Club) (history : List Event) (words : Words) (moment : ℕ) (reply : Reply) (rest : List Event) → WasServed club history words reply → IsAcceptedIn (club_after club history) words moment → MayBeLeftOut club history (Asked words moment) rest (Replied reply)
+pub left_out : (club : Club) (history : List Event) (words : Words) (moment : ℕ) (reply : Reply) (rest : List Event) → WasServed club history words reply
+    → IsAcceptedIn (club_after club history) words moment → MayBeLeftOut club history (Asked words moment) rest (Replied reply)
 left_out club history words moment reply rest w a =
     let end = club_after club history in
     let again = tells_the_same club history words moment reply w a in

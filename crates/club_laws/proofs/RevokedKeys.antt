@@ -49,10 +49,12 @@ stays_revoked name club (ReplaceRoot other root until) h =
 stays_revoked name club change h = record { key = h.key; row = h.row; revoked = h.revoked }
 
 -- the office revokes known keys alone
-now_revoked : (club : Club) (name : List ℕ) → (step club (Ordered (RevokeKey name))).reply ≡ Answered Done → IsRevoked name (step club (Ordered (RevokeKey name))).club
+now_revoked : (club : Club) (name : List ℕ) → (step club (Ordered (RevokeKey name))).reply ≡ Answered Done
+    → IsRevoked name (step club (Ordered (RevokeKey name))).club
 now_revoked club name =
     let order = RevokeKey name in
-    order_cases (λ (v : Result Change OfficeFault). (ordered club order v).reply ≡ Answered Done → IsRevoked name (ordered club order v).club) club (λ fault told. absurd (cc)) order
+    order_cases (λ (v : Result Change OfficeFault). (ordered club order v).reply ≡ Answered Done
+        → IsRevoked name (ordered club order v).club) club (λ fault told. absurd (cc)) order
     (λ r told. record {
       key = revoked name r.0;
       row = found_edited (revoked name) (λ (k : Key). bytes_eq k.name name) (λ k. refl) club.keys r.0 r.1;
@@ -70,7 +72,8 @@ revoked_since club history name was =
     subst (IsRevoked name) (sym end) (kept_by_run (IsRevoked name) (stays_revoked name) then was.rest (now_revoked start name was.told))
 
 -- and what is served is served under a key that stands
-pub serves_nothing : TestsTheSet → TestsTheSignature → (club : Club) (history : List Event) (name : List ℕ) (words : Words) (moment : ℕ) → WasRevoked club history name → key_of words.pass ≡ Some name → ¬ IsServed (verdict_in (club_after club history) words moment).reply
+pub serves_nothing : TestsTheSet → TestsTheSignature → (club : Club) (history : List Event) (name : List ℕ) (words : Words) (moment : ℕ)
+    → WasRevoked club history name → key_of words.pass ≡ Some name → ¬ IsServed (verdict_in (club_after club history) words moment).reply
 serves_nothing set signature club history name words moment was named served =
     let end = club_after club history in
     let entitled = served_entitled set signature words moment end words.pass (basis_of end words) refl refl served in

@@ -13,7 +13,8 @@ sum-filter {X} f p (x ∷ xs) = go (p x) refl (sum-filter f p xs)
     g : X → ℕ
     g y = cond (p y) (f y) 0
 
-    go : (b : Bool) → p x ≡ b → sum_by f (filter p xs) ≡ sum_by (λ y. cond (p y) (f y) 0) xs → sum_by f (cond b (x ∷ filter p xs) (filter p xs)) ≡ sum_by (λ y. cond (p y) (f y) 0) (x ∷ xs)
+    go : (b : Bool) → p x ≡ b → sum_by f (filter p xs) ≡ sum_by (λ y. cond (p y) (f y) 0) xs
+        → sum_by f (cond b (x ∷ filter p xs) (filter p xs)) ≡ sum_by (λ y. cond (p y) (f y) 0) (x ∷ xs)
     go true e rest = sum_by-cons f x (filter p xs) ∙ (rw (sum_by-cons (λ y. cond (p y) (f y) 0) x xs, e) (ap (λ n. f x + n) rest))
     go false e rest = rw (sum_by-cons (λ y. cond (p y) (f y) 0) x xs, e) (omega arith)
 
@@ -36,7 +37,8 @@ sum_less f g (x ∷ xs) h =
     rw (sum_by-cons f x xs, sum_by-cons g x xs) (omega arith)
 
 -- a sum in two parts
-pub sum_in_parts : {X : Type 0} (f : X → ℕ) (q p : X → Bool) (xs : List X) → sum_by f (filter q xs) ≡ sum_by f (filter q (filter p xs)) + sum_by f (filter q (filter (λ x. not (p x)) xs))
+pub sum_in_parts : {X : Type 0} (f : X → ℕ) (q p : X → Bool) (xs : List X)
+    → sum_by f (filter q xs) ≡ sum_by f (filter q (filter p xs)) + sum_by f (filter q (filter (λ x. not (p x)) xs))
 sum_in_parts {X} f q p xs =
     let other = λ (x : X). not (p x) in
     let parts = sum_by-filter_both p other (λ _. refl) f (filter q xs) in

@@ -23,29 +23,35 @@ use Rattle.club_laws.proofs.RepeatAnswers.{tells_the_same}
 use Rattle.club_laws.proofs.SoundSteps.{sound_run}
 
 module _ {O : Type 0} (telling : Telling O) where
-  pub sound_as_told : (club last : Club) (events : List Event) (replies : List (Told O)) → IsSound club → All IsEvent events → IsRun telling club events replies last → IsSound last
+  pub sound_as_told : (club last : Club) (events : List Event) (replies : List (Told O)) → IsSound club → All IsEvent events
+      → IsRun telling club events replies last → IsSound last
   sound_as_told club last events replies s h run =
       subst IsSound (sym (run_of_answered telling club last events replies run).left)
       (sound_run club (answered_events telling events replies) s (events_left telling events replies h))
 
-  pub conserved_as_told : (last : Club) (events : List Event) (replies : List (Told O)) (name : List ℕ) (member : Member) → All IsEvent events → IsRun telling empty_club events replies last → member_named name last ≡ Some member → IsConserved last (answered_events telling events replies) (replies_of empty_club (answered_events telling events replies)) member
+  pub conserved_as_told : (last : Club) (events : List Event) (replies : List (Told O)) (name : List ℕ) (member : Member) → All IsEvent events
+      → IsRun telling empty_club events replies last → member_named name last ≡ Some member
+      → IsConserved last (answered_events telling events replies) (replies_of empty_club (answered_events telling events replies)) member
   conserved_as_told last events replies name member h run is =
       let answered = answered_events telling events replies in
       let left = (run_of_answered telling empty_club last events replies run).left in
       subst (λ (c : Club). IsConserved c answered (replies_of empty_club answered) member) (sym left)
       (conserved answered name member (events_left telling events replies h) (subst (λ (c : Club). member_named name c ≡ Some member) left is))
 
-  pub places_as_told : (last : Club) (events : List Event) (replies : List (Told O)) (slot : Slot) → All IsEvent events → IsRun telling empty_club events replies last → HasPlaces slot last
+  pub places_as_told : (last : Club) (events : List Event) (replies : List (Told O)) (slot : Slot) → All IsEvent events
+      → IsRun telling empty_club events replies last → HasPlaces slot last
   places_as_told last events replies slot h run =
       subst (HasPlaces slot) (sym (run_of_answered telling empty_club last events replies run).left)
       (has_room (answered_events telling events replies) slot (events_left telling events replies h))
 
   -- the answered events of two lists, one after the other
-  one_before : (failed : Bool) (event : Event) (front rest : List Event) → cond failed (front ++ rest) (event ∷ front ++ rest) ≡ cond failed front (event ∷ front) ++ rest
+  one_before : (failed : Bool) (event : Event) (front rest : List Event) → cond failed (front ++ rest) (event ∷ front ++ rest)
+      ≡ cond failed front (event ∷ front) ++ rest
   one_before true event front rest = refl
   one_before false event front rest = refl
 
-  answered-append : (front rest : List Event) (before since : List (Told O)) → length before ≡ length front → answered_events telling (front ++ rest) (before ++ since) ≡ answered_events telling front before ++ answered_events telling rest since
+  answered-append : (front rest : List Event) (before since : List (Told O)) → length before ≡ length front
+      → answered_events telling (front ++ rest) (before ++ since) ≡ answered_events telling front before ++ answered_events telling rest since
   answered-append [] rest [] since e = refl
   answered-append [] rest (told ∷ before) since e = absurd (omega arith)
   answered-append (event ∷ front) rest [] since e = absurd (omega arith)
@@ -58,7 +64,8 @@ module _ {O : Type 0} (telling : Telling O) where
   not_unavailable (Refused refusal) h = absurd h
   not_unavailable reply h = refl
 
-  served_by_machine : (club next : Club) (words : Words) (moment : ℕ) (reply : Reply) → is_unavailable reply ≡ false → IsStep telling club (Asked words moment) (ToMember reply) next → (step club (Asked words moment)).reply ≡ Replied reply
+  served_by_machine : (club next : Club) (words : Words) (moment : ℕ) (reply : Reply) → is_unavailable reply ≡ false
+      → IsStep telling club (Asked words moment) (ToMember reply) next → (step club (Asked words moment)).reply ≡ Replied reply
   served_by_machine club next words moment reply e (inl a) =
       let verdict = verdict_in club words moment in
       let same : ToMember reply ≡ ToMember verdict.reply = a.reply in
@@ -67,7 +74,8 @@ module _ {O : Type 0} (telling : Telling O) where
   served_by_machine club next words moment reply e (inr f) = absurd (both_ways (is_unavailable reply) e f.failed)
 
   -- what was told was served in the machine's run of the answered events
-  served_as_told : (club now : Club) (history : List Event) (before : List (Told O)) (words : Words) (reply : Reply) → IsRun telling club history before now → WasTold history before words reply → WasServed club (answered_events telling history before) words reply
+  served_as_told : (club now : Club) (history : List Event) (before : List (Told O)) (words : Words) (reply : Reply) → IsRun telling club history before now
+      → WasTold history before words reply → WasServed club (answered_events telling history before) words reply
   served_as_told club now history before words reply run w =
       let first = Asked w.first w.moment in
       let after_first = answered_events telling w.rest w.since in
@@ -96,13 +104,18 @@ module _ {O : Type 0} (telling : Telling O) where
         same_request = w.same_request;
       }
 
-  told_again : (club next : Club) (words : Words) (moment : ℕ) (told : Told O) (reply : Reply) → step club (Asked words moment) ≡ record { reply = Replied reply; club = club } → IsStep telling club (Asked words moment) told next → (has_failed telling (Asked words moment) told ≡ false → told ≡ ToMember reply) × (next ≡ club)
+  told_again : (club next : Club) (words : Words) (moment : ℕ) (told : Told O) (reply : Reply)
+      → step club (Asked words moment) ≡ record { reply = Replied reply; club = club } → IsStep telling club (Asked words moment) told next
+      → (has_failed telling (Asked words moment) told ≡ false → told ≡ ToMember reply) × (next ≡ club)
   told_again club next words moment told reply again (inl a) =
       (λ _. a.reply ∙ ap (λ (o : Outcome). told_of telling o.reply) again, a.stepped ∙ ap (λ (o : Outcome). o.club) again)
   told_again club next words moment told reply again (inr f) =
       (λ e. absurd (both_ways (has_failed telling (Asked words moment) told) e f.failed), f.kept)
 
-  pub repeat_as_told : (club last : Club) (history rest : List Event) (before since : List (Told O)) (words : Words) (moment : ℕ) (told : Told O) (reply : Reply) → length before ≡ length history → IsRun telling club (history ++ Asked words moment ∷ rest) (before ++ told ∷ since) last → WasTold history before words reply → IsAcceptedIn (club_after club (answered_events telling history before)) words moment → (has_failed telling (Asked words moment) told ≡ false → told ≡ ToMember reply) × IsRun telling club (history ++ rest) (before ++ since) last
+  pub repeat_as_told : (club last : Club) (history rest : List Event) (before since : List (Told O)) (words : Words) (moment : ℕ) (told : Told O)
+      (reply : Reply) → length before ≡ length history → IsRun telling club (history ++ Asked words moment ∷ rest) (before ++ told ∷ since) last
+      → WasTold history before words reply → IsAcceptedIn (club_after club (answered_events telling history before)) words moment
+      → (has_failed telling (Asked words moment) told ≡ false → told ≡ ToMember reply) × IsRun telling club (history ++ rest) (before ++ since) last
   repeat_as_told club last history rest before since words moment told reply beside run was accepted =
       let answered = answered_events telling history before in
       let parts = cut telling club last history (Asked words moment ∷ rest) before (told ∷ since) beside run in
@@ -119,7 +132,8 @@ module _ {O : Type 0} (telling : Telling O) where
       )
 
   -- what was served is on record after one event more
-  served_and_more : (club : Club) (history : List Event) (event : Event) (words : Words) (reply : Reply) → WasServed club history words reply → WasServed club (history ++ event ∷ []) words reply
+  served_and_more : (club : Club) (history : List Event) (event : Event) (words : Words) (reply : Reply) → WasServed club history words reply
+      → WasServed club (history ++ event ∷ []) words reply
   served_and_more club history event words reply w = record {
     front = w.front;
     first = w.first;
@@ -132,7 +146,8 @@ module _ {O : Type 0} (telling : Telling O) where
     same_request = w.same_request;
   }
 
-  pub again_as_told : (club last : Club) (events : List Event) (replies : List (Told O)) → IsRun telling club events replies last → TellsAgain last events replies × ((event : Event) → TellsAgain (step last event).club events replies)
+  pub again_as_told : (club last : Club) (events : List Event) (replies : List (Told O)) → IsRun telling club events replies last
+      → TellsAgain last events replies × ((event : Event) → TellsAgain (step last event).club events replies)
   again_as_told club last events replies run =
       let answered = answered_events telling events replies in
       let left = (run_of_answered telling club last events replies run).left in

@@ -1,5 +1,6 @@
 -- What a served request shows of its pass.
-use Rattle.std.proofs.Common.{◌≡◌, ℕ, ◌+◌, Bool, true, false, not, cond, List, [], ◌∷◌, ◌++◌, Option, Some, None, Result, Ok, Err, option_map, option_and_then, All, refl, sym, ap, ◌∙◌, subst}
+use Rattle.std.proofs.Common.{◌≡◌, ℕ, ◌+◌, Bool, true, false, not, cond, List, [], ◌∷◌, ◌++◌, Option, Some, None, Result, Ok, Err, option_map, option_and_then,
+    All, refl, sym, ap, ◌∙◌, subst}
 use Rattle.std.proofs.lemmas.Bool.{not-false, false_from_ne_true}
 use Rattle.std.proofs.lemmas.Option.{same_Some}
 use Rattle.std.proofs.lemmas.List.Elements.{All-nil, All-cons}
@@ -36,7 +37,8 @@ served_caveats (Some (NotUnderstood n)) rest h = absurd (h (CaveatNotUnderstood 
 served_caveats (Some (Denied n)) rest h = absurd (h (CaveatDenies n) refl)
 
 -- what is served is accepted
-pub served_under : (pass : Pass) (request : Request) (moment : ℕ) (view : View) → IsServed (answer_to (Ok pass) request moment (Some view)).reply → IsAccepted pass request moment view
+pub served_under : (pass : Pass) (request : Request) (moment : ℕ) (view : View) → IsServed (answer_to (Ok pass) request moment (Some view)).reply
+    → IsAccepted pass request moment view
 served_under pass request moment view h =
     let signed = is_signed_under pass view.key moment in
     let fault = first_fault_of pass.caveats (ask_of view request moment) in
@@ -46,7 +48,8 @@ served_under pass request moment view h =
     record { signed = not-false signed one.0; stands = two.0; faultless = served_caveats fault (verdict_of view request moment) two.1 }
 
 -- and what is accepted, the decision answers
-pub accepted_under : (pass : Pass) (request : Request) (moment : ℕ) (view : View) → IsAccepted pass request moment view → answer_to (Ok pass) request moment (Some view) ≡ verdict_of view request moment
+pub accepted_under : (pass : Pass) (request : Request) (moment : ℕ) (view : View) → IsAccepted pass request moment view
+    → answer_to (Ok pass) request moment (Some view) ≡ verdict_of view request moment
 accepted_under pass request moment view h =
     let verdict = verdict_of view request moment in
     let lines : Bool → Bool → Option CaveatFault → Verdict =
@@ -68,7 +71,8 @@ all_allowed tests n (Some caveat ∷ caveats) ask e =
     All-cons (IsAllowedBy ask) (Some caveat) caveats ((tests caveat ask).1 parts.0) (all_allowed tests (n + 1) caveats ask parts.1)
 
 -- a list without a fault has none with its end cut off
-pub faultless_front : (n : ℕ) (caveats more : List (Option Caveat)) (ask : Ask) → first_fault_from n (caveats ++ more) ask ≡ None → first_fault_from n caveats ask ≡ None
+pub faultless_front : (n : ℕ) (caveats more : List (Option Caveat)) (ask : Ask) → first_fault_from n (caveats ++ more) ask ≡ None
+    → first_fault_from n caveats ask ≡ None
 faultless_front n [] more ask e = refl
 faultless_front n (None ∷ caveats) more ask e = absurd (cc)
 faultless_front n (Some caveat ∷ caveats) more ask e =
@@ -77,7 +81,9 @@ faultless_front n (Some caveat ∷ caveats) more ask e =
     ap (λ (b : Bool). cond b (first_fault_from (n + 1) caveats ask) (Some (Denied n))) parts.0 ∙ rest
 
 -- so what is served is entitled
-pub served_entitled : TestsTheSet → TestsTheSignature → (words : Words) (moment : ℕ) (club : Club) (pass : Result Pass FormFault) (basis : Option Basis) → words.pass ≡ pass → basis_of club words ≡ basis → IsServed (answer_to pass words.request moment (option_map (λ (b : Basis). view_of b words.request moment) basis)).reply → IsEntitled club words moment
+pub served_entitled : TestsTheSet → TestsTheSignature → (words : Words) (moment : ℕ) (club : Club) (pass : Result Pass FormFault) (basis : Option Basis)
+    → words.pass ≡ pass → basis_of club words ≡ basis → IsServed (answer_to pass words.request moment
+    (option_map (λ (b : Basis). view_of b words.request moment) basis)).reply → IsEntitled club words moment
 served_entitled set signature words moment club (Err fault) basis e f h = absurd (h (form_refusal fault) refl)
 served_entitled set signature words moment club (Ok pass) None e f h = absurd (h NotVerified refl)
 served_entitled set signature words moment club (Ok pass) (Some basis) e f h =
@@ -101,16 +107,20 @@ refused_blind (Err fault) request moment = refl
 refused_blind (Ok pass) request moment = refl
 
 -- under a key without a signature, whether its member is known or not
-refused_unsigned : (pass : Pass) (request : Request) (moment : ℕ) (view : Option View) → ((v : View) → view ≡ Some v → is_signed_under pass v.key moment ≡ false) → answer_to (Ok pass) request moment view ≡ refused NotVerified
+refused_unsigned : (pass : Pass) (request : Request) (moment : ℕ) (view : Option View)
+    → ((v : View) → view ≡ Some v → is_signed_under pass v.key moment ≡ false) → answer_to (Ok pass) request moment view ≡ refused NotVerified
 refused_unsigned pass request moment None unsigned = refl
 refused_unsigned pass request moment (Some view) unsigned =
     let lines : Bool → Verdict =
-    λ signed. cond (not signed) (refused NotVerified) (cond view.key.revoked (refused KeyRevoked) (after_caveats (first_fault_of pass.caveats (ask_of view request moment)) (verdict_of view request moment)))
+    λ signed. cond (not signed) (refused NotVerified) (cond view.key.revoked (refused KeyRevoked)
+        (after_caveats (first_fault_of pass.caveats (ask_of view request moment)) (verdict_of view request moment)))
     in
     ap lines (unsigned view refl)
 
 -- the key of the view is the one that the pass names
-seen_key : (club : Club) (words : Words) (moment : ℕ) (key : Key) → key_of words.pass ≡ Some key.name → key_named key.name club ≡ Some key → (basis : Option Basis) → basis_of club words ≡ basis → (view : View) → option_map (λ (b : Basis). view_of b words.request moment) basis ≡ Some view → key ≡ view.key
+seen_key : (club : Club) (words : Words) (moment : ℕ) (key : Key) → key_of words.pass ≡ Some key.name → key_named key.name club ≡ Some key
+    → (basis : Option Basis) → basis_of club words ≡ basis → (view : View) → option_map (λ (b : Basis). view_of b words.request moment) basis ≡ Some view
+    → key ≡ view.key
 seen_key club words moment key n row None e view is = absurd (cc)
 seen_key club words moment key n row (Some basis) e view is =
     let rests = rests_on_name club words basis e in
@@ -118,7 +128,8 @@ seen_key club words moment key n row (Some basis) e view is =
     let found : Some key ≡ Some basis.key = sym row ∙ (ap (λ (name : List ℕ). key_named name club) named ∙ rests.row) in
     same_Some key basis.key found ∙ ap (λ (v : View). v.key) (same_Some (view_of basis words.request moment) view is)
 
-pub unsigned_in : TestsTheSignature → (words : Words) (moment : ℕ) (club : Club) (pass : Pass) (key : Key) → words.pass ≡ Ok pass → pass.key ≡ Some key.name → key_named key.name club ≡ Some key → ¬ IsSignedUnder pass key moment → verdict_in club words moment ≡ refused NotVerified
+pub unsigned_in : TestsTheSignature → (words : Words) (moment : ℕ) (club : Club) (pass : Pass) (key : Key) → words.pass ≡ Ok pass → pass.key ≡ Some key.name
+    → key_named key.name club ≡ Some key → ¬ IsSignedUnder pass key moment → verdict_in club words moment ≡ refused NotVerified
 unsigned_in signature words moment club pass key e n row unsigned =
     let view = option_map (λ (b : Basis). view_of b words.request moment) (basis_of club words) in
     let is_false : is_signed_under pass key moment ≡ false =
@@ -126,10 +137,13 @@ unsigned_in signature words moment club pass key e n row unsigned =
     in
     ap (λ (p : Result Pass FormFault). answer_to p words.request moment view) e
     ∙ refused_unsigned pass words.request moment view
-    (λ v is. subst (λ (k : Key). is_signed_under pass k moment ≡ false) (seen_key club words moment key (ap key_of e ∙ n) row (basis_of club words) refl v is) is_false)
+    (λ v is. subst (λ (k : Key). is_signed_under pass k moment ≡ false) (seen_key club words moment key (ap key_of e ∙ n) row (basis_of club words) refl v is)
+        is_false)
 
 -- a pass with more caveats, under one view
-wide_under : (wide narrow : Pass) (more : List (Option Caveat)) (request : Request) (moment : ℕ) (view : Option View) → narrow.caveats ≡ wide.caveats ++ more → ((v : View) → view ≡ Some v → is_signed_under wide v.key moment ≡ true) → IsServed (answer_to (Ok narrow) request moment view).reply → answer_to (Ok wide) request moment view ≡ answer_to (Ok narrow) request moment view
+wide_under : (wide narrow : Pass) (more : List (Option Caveat)) (request : Request) (moment : ℕ) (view : Option View) → narrow.caveats ≡ wide.caveats ++ more
+    → ((v : View) → view ≡ Some v → is_signed_under wide v.key moment ≡ true) → IsServed (answer_to (Ok narrow) request moment view).reply
+    → answer_to (Ok wide) request moment view ≡ answer_to (Ok narrow) request moment view
 wide_under wide narrow more request moment None e signed h = absurd (h NotVerified refl)
 wide_under wide narrow more request moment (Some view) e signed h =
     let accepted = served_under narrow request moment view h in
@@ -141,7 +155,10 @@ wide_under wide narrow more request moment (Some view) e signed h =
     accepted_under wide request moment view wider ∙ sym (accepted_under narrow request moment view accepted)
 
 -- the same in a club: both passes have one view, which rests on the row of their key
-pub wide_in : TestsTheSignature → (wide narrow : Pass) (more : List (Option Caveat)) (key : Key) (request : Request) (moment : ℕ) (club : Club) → wide.key ≡ Some key.name → narrow.key ≡ Some key.name → narrow.caveats ≡ wide.caveats ++ more → key_named key.name club ≡ Some key → IsSignedUnder wide key moment → IsServed (verdict_in club (words_with narrow request) moment).reply → verdict_in club (words_with wide request) moment ≡ verdict_in club (words_with narrow request) moment
+pub wide_in : TestsTheSignature → (wide narrow : Pass) (more : List (Option Caveat)) (key : Key) (request : Request) (moment : ℕ) (club : Club)
+    → wide.key ≡ Some key.name → narrow.key ≡ Some key.name → narrow.caveats ≡ wide.caveats ++ more → key_named key.name club ≡ Some key
+    → IsSignedUnder wide key moment → IsServed (verdict_in club (words_with narrow request) moment).reply
+    → verdict_in club (words_with wide request) moment ≡ verdict_in club (words_with narrow request) moment
 wide_in signature wide narrow more key request moment club w n e row signed h =
     let words = words_with narrow request in
     let seen : Option Basis → Option View = λ basis. option_map (λ (b : Basis). view_of b request moment) basis in
@@ -153,4 +170,5 @@ wide_in signature wide narrow more key request moment club w n e row signed h =
     subst (λ (k : Key). is_signed_under wide k moment ≡ true) (seen_key club words moment key n row (basis_of club words) refl v is)
     ((signature wide key moment).1 signed)
     in
-    ap (λ (b : Option Basis). answer_to (Ok wide) request moment (seen b)) same ∙ wide_under wide narrow more request moment (seen (basis_of club words)) e of_row h
+    ap (λ (b : Option Basis). answer_to (Ok wide) request moment (seen b)) same
+        ∙ wide_under wide narrow more request moment (seen (basis_of club words)) e of_row h

@@ -20,9 +20,11 @@ use Rattle.club_laws.proofs.RowSums.{sum-filter, sum-map, sum_less}
 use Rattle.club_laws.proofs.FittingChanges.{FitsBooking, FitsCancellation}
 
 -- the sum over what a test keeps, with one more element
-pub sum_one_more : {X : Type 0} (f : X → ℕ) (p : X → Bool) (xs : List X) (x : X) → sum_by f (filter p (xs ++ x ∷ [])) ≡ sum_by f (filter p xs) + cond (p x) (f x) 0
+pub sum_one_more : {X : Type 0} (f : X → ℕ) (p : X → Bool) (xs : List X) (x : X)
+    → sum_by f (filter p (xs ++ x ∷ [])) ≡ sum_by f (filter p xs) + cond (p x) (f x) 0
 sum_one_more {X} f p xs x =
-    ap (λ (ys : List X). sum_by f ys) (filter-append p xs (x ∷ [])) ∙ (sum_by-append f (filter p xs) (filter p (x ∷ [])) ∙ ap (λ n. sum_by f (filter p xs) + n) (go (p x)))
+    ap (λ (ys : List X). sum_by f ys) (filter-append p xs (x ∷ [])) ∙ (sum_by-append f (filter p xs) (filter p (x ∷ []))
+        ∙ ap (λ n. sum_by f (filter p xs) + n) (go (p x)))
   where
     go : (b : Bool) → sum_by f (cond b (x ∷ []) []) ≡ cond b (f x) 0
     go true = omega arith
@@ -32,12 +34,14 @@ covered : (b : Bool) (sum more most : ℕ) → (b ≡ true → sum + more ≤ mo
 covered true sum more most h k = h refl
 covered false sum more most h k = omega arith
 
-pub sound_booking : (club : Club) (booking : Booking) → IsSound club → FitsBooking club booking → IsSound (record club { bookings = club.bookings ++ booking ∷ [] })
+pub sound_booking : (club : Club) (booking : Booking) → IsSound club → FitsBooking club booking
+    → IsSound (record club { bookings = club.bookings ++ booking ∷ [] })
 sound_booking club booking s f =
     let limits = All-push IsBooking club.bookings booking s.rows.bookings f.row in
     let names = all_pairs_push (λ (a : Booking) (b : Booking). ¬ ((a.key ≡ b.key) × (a.number ≡ b.number))) club.bookings booking s.unique.bookings f.fresh in
     let known = All-push (λ (b : Booking). Contains (map (λ (k : Key). k.name) club.keys) b.key) club.bookings booking s.references.bookings f.known in
-    let located = All-push (λ (b : Booking). Contains (map (λ (g : Facility). g.name) club.facilities) b.slot.facility) club.bookings booking s.references.booked f.located in
+    let located = All-push (λ (b : Booking). Contains (map (λ (g : Facility). g.name) club.facilities) b.slot.facility) club.bookings booking
+        s.references.booked f.located in
     record {
       rows = record { members = s.rows.members; facilities = s.rows.facilities; keys = s.rows.keys; bookings = limits; closed = s.rows.closed };
       unique = record { members = s.unique.members; facilities = s.unique.facilities; keys = s.unique.keys; bookings = names; closed = s.unique.closed };
@@ -50,11 +54,13 @@ sound_booking club booking s f =
       places = λ k d short slot at.
           let facility = get_or club.facilities k d in
           subst (λ n. n ≤ facility.places) (sym (sum_one_more persons_of (is_in slot) club.bookings booking))
-          (covered (is_in slot booking) (taken_in slot club.bookings) (persons_of booking) facility.places (f.placed k d short slot at) (s.places k d short slot at));
+          (covered (is_in slot booking) (taken_in slot club.bookings) (persons_of booking) facility.places (f.placed k d short slot at)
+              (s.places k d short slot at));
     }
 
 -- a row that was marked, or stayed as it was
-module _ (key : List ℕ) (number refund : ℕ) (booking : Booking) (row : IsBooking booking) (small : is_marked key number booking ≡ true → refund ≤ booking.charge) where
+module _ (key : List ℕ) (number refund : ℕ) (booking : Booking) (row : IsBooking booking) (small : is_marked key number booking ≡ true
+    → refund ≤ booking.charge) where
   stood : is_marked key number booking ≡ true → booking.cancelled ≡ false
   stood e = not-true booking.cancelled (and_parts _ (not booking.cancelled) e).1
 
@@ -71,7 +77,8 @@ module _ (key : List ℕ) (number refund : ℕ) (booking : Booking) (row : IsBoo
       rw parts.1 (row.kept parts.0)
 
   pub cancelled_row : IsBooking (cancelled key number refund booking)
-  cancelled_row = record { key = row.key; number = row.number; slot = row.slot; guests = row.guests; charge = row.charge; left = row.left; refund = refund_small; kept = refund_kept }
+  cancelled_row = record { key = row.key; number = row.number; slot = row.slot; guests = row.guests; charge = row.charge; left = row.left; refund =
+      refund_small; kept = refund_kept }
 
   pub costs_no_more : cost_of (cancelled key number refund booking) ≤ cost_of booking
   costs_no_more = go (is_marked key number booking) (λ e. row.kept (stood e))
@@ -80,7 +87,8 @@ module _ (key : List ℕ) (number refund : ℕ) (booking : Booking) (row : IsBoo
       go true h = let none = h refl in omega arith
       go false h = omega arith
 
-takes_no_more : (key : List ℕ) (number refund : ℕ) (slot : Slot) (booking : Booking) → cond (is_in slot (cancelled key number refund booking)) (persons_of booking) 0 ≤ cond (is_in slot booking) (persons_of booking) 0
+takes_no_more : (key : List ℕ) (number refund : ℕ) (slot : Slot) (booking : Booking)
+    → cond (is_in slot (cancelled key number refund booking)) (persons_of booking) 0 ≤ cond (is_in slot booking) (persons_of booking) 0
 takes_no_more key number refund slot booking = go booking.cancelled (is_marked key number booking) (same_slot booking.slot slot)
   where
     go : (b c d : Bool) → cond (not (b || c) && d) (booking.guests + 1) 0 ≤ cond (not b && d) (booking.guests + 1) 0
@@ -89,12 +97,17 @@ takes_no_more key number refund slot booking = go booking.cancelled (is_marked k
     go false true false = omega arith
     go false false d = omega arith
 
-pub sound_cancellation : (club : Club) (key : List ℕ) (number refund : ℕ) → IsSound club → FitsCancellation club key number refund → IsSound (record club { bookings = map (cancelled key number refund) club.bookings })
+pub sound_cancellation : (club : Club) (key : List ℕ) (number refund : ℕ) → IsSound club → FitsCancellation club key number refund
+    → IsSound (record club { bookings = map (cancelled key number refund) club.bookings })
 sound_cancellation club key number refund s f =
-    let limits = All-map IsBooking (cancelled key number refund) club.bookings (λ k d short. cancelled_row key number refund (get_or club.bookings k d) (s.rows.bookings k d short) (f.covered k d short)) in
-    let names = AllPairs-map (cancelled key number refund) (λ (a : Booking) (b : Booking). ¬ ((a.key ≡ b.key) × (a.number ≡ b.number))) (λ (a : Booking) (b : Booking). ¬ ((a.key ≡ b.key) × (a.number ≡ b.number))) (λ a b h. h) club.bookings s.unique.bookings in
-    let known = All-map (λ (b : Booking). Contains (map (λ (k : Key). k.name) club.keys) b.key) (cancelled key number refund) club.bookings s.references.bookings in
-    let located = All-map (λ (b : Booking). Contains (map (λ (g : Facility). g.name) club.facilities) b.slot.facility) (cancelled key number refund) club.bookings s.references.booked in
+    let limits = All-map IsBooking (cancelled key number refund) club.bookings (λ k d short.
+        cancelled_row key number refund (get_or club.bookings k d) (s.rows.bookings k d short) (f.covered k d short)) in
+    let names = AllPairs-map (cancelled key number refund) (λ (a : Booking) (b : Booking). ¬ ((a.key ≡ b.key)
+        × (a.number ≡ b.number))) (λ (a : Booking) (b : Booking). ¬ ((a.key ≡ b.key) × (a.number ≡ b.number))) (λ a b h. h) club.bookings s.unique.bookings in
+    let known = All-map (λ (b : Booking). Contains (map (λ (k : Key). k.name) club.keys) b.key) (cancelled key number refund) club.bookings
+        s.references.bookings in
+    let located = All-map (λ (b : Booking). Contains (map (λ (g : Facility). g.name) club.facilities) b.slot.facility) (cancelled key number refund)
+        club.bookings s.references.booked in
     record {
       rows = record { members = s.rows.members; facilities = s.rows.facilities; keys = s.rows.keys; bookings = limits; closed = s.rows.closed };
       unique = record { members = s.unique.members; facilities = s.unique.facilities; keys = s.unique.keys; bookings = names; closed = s.unique.closed };
@@ -103,23 +116,30 @@ sound_cancellation club key number refund s f =
       places = λ k d short slot at. place (get_or club.facilities k d) slot (s.places k d short slot at);
     }
   where
-    balance : (member : Member) → sum_by cost_of (bookings_of member.name club) ≤ member.credited → sum_by cost_of (bookings_of member.name (record club { bookings = map (cancelled key number refund) club.bookings })) ≤ member.credited
+    balance : (member : Member) → sum_by cost_of (bookings_of member.name club) ≤ member.credited
+        → sum_by cost_of (bookings_of member.name (record club { bookings = map (cancelled key number refund) club.bookings })) ≤ member.credited
     balance member h =
         let own : Booking → Bool = λ (b : Booking). is_key_of member.name club b.key in
-        let now = sum-filter cost_of own (map (cancelled key number refund) club.bookings) ∙ sum-map (cancelled key number refund) (λ (b : Booking). cond (own b) (cost_of b) 0) club.bookings in
+        let now = sum-filter cost_of own (map (cancelled key number refund) club.bookings)
+            ∙ sum-map (cancelled key number refund) (λ (b : Booking). cond (own b) (cost_of b) 0) club.bookings in
         let old = sum-filter cost_of own club.bookings in
-        let less = sum_less (λ (b : Booking). cond (own b) (cost_of (cancelled key number refund b)) 0) (λ (b : Booking). cond (own b) (cost_of b) 0) club.bookings
-        (λ k d short. both (own (get_or club.bookings k d)) _ _ (costs_no_more key number refund (get_or club.bookings k d) (s.rows.bookings k d short) (f.covered k d short))) in
+        let less = sum_less (λ (b : Booking). cond (own b) (cost_of (cancelled key number refund b)) 0) (λ (b : Booking).
+            cond (own b) (cost_of b) 0) club.bookings
+        (λ k d short. both (own (get_or club.bookings k d)) _ _ (costs_no_more key number refund (get_or club.bookings k d) (s.rows.bookings k d short)
+            (f.covered k d short))) in
         omega arith
       where
         both : (b : Bool) (m n : ℕ) → m ≤ n → cond b m 0 ≤ cond b n 0
         both true m n h = h
         both false m n h = omega arith
 
-    place : (facility : Facility) (slot : Slot) → taken_in slot club.bookings ≤ facility.places → taken_in slot (map (cancelled key number refund) club.bookings) ≤ facility.places
+    place : (facility : Facility) (slot : Slot) → taken_in slot club.bookings ≤ facility.places
+        → taken_in slot (map (cancelled key number refund) club.bookings) ≤ facility.places
     place facility slot h =
-        let now = sum-filter persons_of (is_in slot) (map (cancelled key number refund) club.bookings) ∙ sum-map (cancelled key number refund) (λ (b : Booking). cond (is_in slot b) (persons_of b) 0) club.bookings in
+        let now = sum-filter persons_of (is_in slot) (map (cancelled key number refund) club.bookings)
+            ∙ sum-map (cancelled key number refund) (λ (b : Booking). cond (is_in slot b) (persons_of b) 0) club.bookings in
         let old = sum-filter persons_of (is_in slot) club.bookings in
-        let less = sum_less (λ (b : Booking). cond (is_in slot (cancelled key number refund b)) (persons_of b) 0) (λ (b : Booking). cond (is_in slot b) (persons_of b) 0) club.bookings
+        let less = sum_less (λ (b : Booking). cond (is_in slot (cancelled key number refund b)) (persons_of b) 0) (λ (b : Booking).
+            cond (is_in slot b) (persons_of b) 0) club.bookings
         (λ k d short. takes_no_more key number refund slot (get_or club.bookings k d)) in
         omega arith

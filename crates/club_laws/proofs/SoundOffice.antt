@@ -25,15 +25,18 @@ use Rattle.club_laws.proofs.NamedRows.{still_there, still_all}
 use Rattle.club_laws.proofs.KeyOwners.{edited, bookings_of-added, bookings_of-edited}
 use Rattle.club_laws.proofs.FittingChanges.{FitsMember, FitsCredit, FitsFacility, FitsKey, FitsRotation, FitsClosed}
 
-balance_kept : (club new : Club) (member : Member) → bookings_of member.name new ≡ bookings_of member.name club → sum_by cost_of (bookings_of member.name club) ≤ member.credited → sum_by cost_of (bookings_of member.name new) ≤ member.credited
+balance_kept : (club new : Club) (member : Member) → bookings_of member.name new ≡ bookings_of member.name club
+    → sum_by cost_of (bookings_of member.name club) ≤ member.credited → sum_by cost_of (bookings_of member.name new) ≤ member.credited
 balance_kept club new member e h = subst (λ (bookings : List Booking). sum_by cost_of bookings ≤ member.credited) (sym e) h
 
 -- nobody has booked for a member who isn't there
-nothing_booked : (club : Club) (member : Member) → HasReferences club → All (λ (other : Member). other.name ≢ member.name) club.members → sum_by cost_of (bookings_of member.name club) ≤ member.credited
+nothing_booked : (club : Club) (member : Member) → HasReferences club → All (λ (other : Member). other.name ≢ member.name) club.members
+    → sum_by cost_of (bookings_of member.name club) ≤ member.credited
 nothing_booked club member refs fresh =
     let names = map (λ (m : Member). m.name) club.members in
     let no_key : All (λ (key : Key). bytes_eq key.member member.name ≡ false) club.keys =
-    λ k d short. other_bytes _ member.name (All-contains (λ (name : List ℕ). name ≢ member.name) names _ (All-map (λ (name : List ℕ). name ≢ member.name) (λ (m : Member). m.name) club.members fresh) (refs.keys k d short)) in
+    λ k d short. other_bytes _ member.name (All-contains (λ (name : List ℕ).
+        name ≢ member.name) names _ (All-map (λ (name : List ℕ). name ≢ member.name) (λ (m : Member). m.name) club.members fresh) (refs.keys k d short)) in
     let no_keys : keys_of member.name club ≡ [] = filter_none (λ (key : Key). bytes_eq key.member member.name) club.keys no_key in
     let none : bookings_of member.name club ≡ [] =
     filter_none (λ (booking : Booking). is_key_of member.name club booking.key) club.bookings
@@ -44,16 +47,19 @@ pub sound_member : (club : Club) (member : Member) → IsSound club → FitsMemb
 sound_member club member s f =
     let limits = All-push IsMember club.members member s.rows.members f.row in
     let names = all_pairs_push (λ (a : Member) (b : Member). a.name ≢ b.name) club.members member s.unique.members f.fresh in
-    let known = still_all (λ (m : Member). m.name) club.members (club.members ++ member ∷ []) (λ (k : Key). k.member) club.keys (still_there (λ (m : Member). m.name) club.members member) s.references.keys in
+    let known = still_all (λ (m : Member). m.name) club.members (club.members ++ member ∷ []) (λ (k : Key).
+        k.member) club.keys (still_there (λ (m : Member). m.name) club.members member) s.references.keys in
     record {
       rows = record { members = limits; facilities = s.rows.facilities; keys = s.rows.keys; bookings = s.rows.bookings; closed = s.rows.closed };
       unique = record { members = names; facilities = s.unique.facilities; keys = s.unique.keys; bookings = s.unique.bookings; closed = s.unique.closed };
       references = record { keys = known; bookings = s.references.bookings; booked = s.references.booked; closed = s.references.closed };
-      balances = All-push (λ (m : Member). sum_by cost_of (bookings_of m.name club) ≤ m.credited) club.members member s.balances (nothing_booked club member s.references f.fresh);
+      balances = All-push (λ (m : Member). sum_by cost_of (bookings_of m.name club) ≤ m.credited) club.members member s.balances
+          (nothing_booked club member s.references f.fresh);
       places = s.places;
     }
 
-credited_row : (name : List ℕ) (points : ℕ) (member : Member) → (bytes_eq member.name name ≡ true → member.credited + points ≤ 999_999_999) → IsMember member → IsMember (credited name points member)
+credited_row : (name : List ℕ) (points : ℕ) (member : Member) → (bytes_eq member.name name ≡ true → member.credited + points ≤ 999_999_999) → IsMember member
+    → IsMember (credited name points member)
 credited_row name points member small row = record { name = row.name; credited = go (bytes_eq member.name name) small; quota = row.quota }
   where
     go : (b : Bool) → (b ≡ true → member.credited + points ≤ 999_999_999) → cond b (member.credited + points) member.credited ≤ 999_999_999
@@ -64,11 +70,15 @@ credited_more : (b : Bool) (credit points cost : ℕ) → cost ≤ credit → co
 credited_more true credit points cost h = omega arith
 credited_more false credit points cost h = h
 
-pub sound_credit : (club : Club) (name : List ℕ) (points : ℕ) → IsSound club → FitsCredit club name points → IsSound (record club { members = map (credited name points) club.members })
+pub sound_credit : (club : Club) (name : List ℕ) (points : ℕ) → IsSound club → FitsCredit club name points
+    → IsSound (record club { members = map (credited name points) club.members })
 sound_credit club name points s f =
-    let limits = All-map IsMember (credited name points) club.members (λ k d short. credited_row name points _ (f.small k d short) (s.rows.members k d short)) in
-    let names = AllPairs-map (credited name points) (λ (a : Member) (b : Member). a.name ≢ b.name) (λ (a : Member) (b : Member). a.name ≢ b.name) (λ a b h. h) club.members s.unique.members in
-    let known = still_all (λ (m : Member). m.name) club.members (map (credited name points) club.members) (λ (k : Key). k.member) club.keys (λ n h. rw (map-map (λ (m : Member). m.name) (credited name points) club.members) h) s.references.keys in
+    let limits = All-map IsMember (credited name points) club.members (λ k d short.
+        credited_row name points _ (f.small k d short) (s.rows.members k d short)) in
+    let names = AllPairs-map (credited name points) (λ (a : Member) (b : Member). a.name ≢ b.name) (λ (a : Member) (b : Member). a.name ≢ b.name) (λ a b h.
+        h) club.members s.unique.members in
+    let known = still_all (λ (m : Member). m.name) club.members (map (credited name points) club.members) (λ (k : Key). k.member) club.keys (λ n h.
+        rw (map-map (λ (m : Member). m.name) (credited name points) club.members) h) s.references.keys in
     record {
       rows = record { members = limits; facilities = s.rows.facilities; keys = s.rows.keys; bookings = s.rows.bookings; closed = s.rows.closed };
       unique = record { members = names; facilities = s.unique.facilities; keys = s.unique.keys; bookings = s.unique.bookings; closed = s.unique.closed };
@@ -80,24 +90,29 @@ sound_credit club name points s f =
     }
 
 -- nobody is in a slot of a facility that isn't there
-pub nobody_in : (club : Club) (slot : Slot) → HasReferences club → All (λ (other : Facility). other.name ≢ slot.facility) club.facilities → taken_in slot club.bookings ≡ 0
+pub nobody_in : (club : Club) (slot : Slot) → HasReferences club → All (λ (other : Facility). other.name ≢ slot.facility) club.facilities
+    → taken_in slot club.bookings ≡ 0
 nobody_in club slot refs fresh =
     ap (λ (bookings : List Booking). sum_by persons_of bookings)
     (filter_none (is_in slot) club.bookings (λ k d short. away (get_or club.bookings k d) (refs.booked k d short)))
   where
     away : (booking : Booking) → Contains (map (λ (f : Facility). f.name) club.facilities) booking.slot.facility → is_in slot booking ≡ false
     away booking there =
-        let other : booking.slot.facility ≢ slot.facility = All-contains (λ (name : List ℕ). name ≢ slot.facility) (map (λ (f : Facility). f.name) club.facilities) booking.slot.facility (All-map (λ (name : List ℕ). name ≢ slot.facility) (λ (f : Facility). f.name) club.facilities fresh) there in
+        let other : booking.slot.facility ≢ slot.facility = All-contains (λ (name : List ℕ).
+            name ≢ slot.facility) (map (λ (f : Facility). f.name) club.facilities) booking.slot.facility
+            (All-map (λ (name : List ℕ). name ≢ slot.facility) (λ (f : Facility). f.name) club.facilities fresh) there in
         and_right (not booking.cancelled) (same_slot booking.slot slot)
         (and_left (bytes_eq booking.slot.facility slot.facility && booking.slot.day == slot.day) (booking.slot.hour == slot.hour)
         (and_left (bytes_eq booking.slot.facility slot.facility) (booking.slot.day == slot.day) (other_bytes booking.slot.facility slot.facility other)))
 
-new_is_empty : (club : Club) (facility : Facility) (slot : Slot) → HasReferences club → All (λ (other : Facility). other.name ≢ facility.name) club.facilities → slot.facility ≡ facility.name → taken_in slot club.bookings ≤ facility.places
+new_is_empty : (club : Club) (facility : Facility) (slot : Slot) → HasReferences club → All (λ (other : Facility). other.name ≢ facility.name) club.facilities
+    → slot.facility ≡ facility.name → taken_in slot club.bookings ≤ facility.places
 new_is_empty club facility slot refs fresh at =
     let none = nobody_in club slot refs (subst (λ (name : List ℕ). All (λ (other : Facility). other.name ≢ name) club.facilities) (sym at) fresh) in
     omega arith
 
-pub sound_facility : (club : Club) (facility : Facility) → IsSound club → FitsFacility club facility → IsSound (record club { facilities = club.facilities ++ facility ∷ [] })
+pub sound_facility : (club : Club) (facility : Facility) → IsSound club → FitsFacility club facility
+    → IsSound (record club { facilities = club.facilities ++ facility ∷ [] })
 sound_facility club facility s f =
     let limits = All-push IsFacility club.facilities facility s.rows.facilities f.row in
     let names = all_pairs_push (λ (a : Facility) (b : Facility). a.name ≢ b.name) club.facilities facility s.unique.facilities f.fresh in
@@ -110,7 +125,8 @@ sound_facility club facility s f =
       unique = record { members = s.unique.members; facilities = names; keys = s.unique.keys; bookings = s.unique.bookings; closed = s.unique.closed };
       references = record { keys = s.references.keys; bookings = s.references.bookings; booked = booked; closed = closed };
       balances = s.balances;
-      places = All-push (λ (other : Facility). (slot : Slot) → slot.facility ≡ other.name → taken_in slot club.bookings ≤ other.places) club.facilities facility s.places (λ slot at. new_is_empty club facility slot s.references f.fresh at);
+      places = All-push (λ (other : Facility). (slot : Slot) → slot.facility ≡ other.name
+          → taken_in slot club.bookings ≤ other.places) club.facilities facility s.places (λ slot at. new_is_empty club facility slot s.references f.fresh at);
     }
 
 pub sound_key : (club : Club) (key : Key) → IsSound club → FitsKey club key → IsSound (record club { keys = club.keys ++ key ∷ [] })
@@ -126,12 +142,14 @@ sound_key club key s f =
         booked = s.references.booked;
         closed = s.references.closed;
       };
-      balances = λ k d short. balance_kept club (record club { keys = club.keys ++ key ∷ [] }) (get_or club.members k d) (bookings_of-added (get_or club.members k d).name club key f.fresh s.references.bookings) (s.balances k d short);
+      balances = λ k d short. balance_kept club (record club { keys = club.keys ++ key ∷ [] }) (get_or club.members k d)
+          (bookings_of-added (get_or club.members k d).name club key f.fresh s.references.bookings) (s.balances k d short);
       places = s.places;
     }
 
 -- an edit of the keys' rows within their limits, that keeps names and members
-sound_edited : (root : Key → List ℕ) (older : Key → Option OlderRoot) (is_revoked : Key → Bool) (club : Club) → IsSound club → All IsKey (map (edited root older is_revoked) club.keys) → IsSound (record club { keys = map (edited root older is_revoked) club.keys })
+sound_edited : (root : Key → List ℕ) (older : Key → Option OlderRoot) (is_revoked : Key → Bool) (club : Club) → IsSound club
+    → All IsKey (map (edited root older is_revoked) club.keys) → IsSound (record club { keys = map (edited root older is_revoked) club.keys })
 sound_edited root older is_revoked club s limits =
     let edit = edited root older is_revoked in
     let names = AllPairs-map edit (λ (a : Key) (b : Key). a.name ≢ b.name) (λ (a : Key) (b : Key). a.name ≢ b.name) (λ a b h. h) club.keys s.unique.keys in
@@ -144,7 +162,8 @@ sound_edited root older is_revoked club s limits =
         booked = s.references.booked;
         closed = s.references.closed;
       };
-      balances = λ k d short. balance_kept club (record club { keys = map edit club.keys }) (get_or club.members k d) (bookings_of-edited root older is_revoked (get_or club.members k d).name club) (s.balances k d short);
+      balances = λ k d short. balance_kept club (record club { keys = map edit club.keys }) (get_or club.members k d)
+          (bookings_of-edited root older is_revoked (get_or club.members k d).name club) (s.balances k d short);
       places = s.places;
     }
 
@@ -157,7 +176,8 @@ sound_revoked club name s =
     (All-map IsKey (revoked name) club.keys (λ k d short. revoked_row name _ (s.rows.keys k d short)))
 
 rotated_row : (name root : List ℕ) (until : ℕ) (key : Key) → FitsRotation root until → IsKey key → IsKey (rotated name root until key)
-rotated_row name root until key f row = record { name = row.name; member = row.member; root = new (bytes_eq key.name name); older = old (bytes_eq key.name name) }
+rotated_row name root until key f row = record { name = row.name; member = row.member; root = new (bytes_eq key.name name); older =
+    old (bytes_eq key.name name) }
   where
     new : (b : Bool) → IsRoot (cond b root key.root)
     new true = f.root
@@ -167,7 +187,8 @@ rotated_row name root until key f row = record { name = row.name; member = row.m
     old true = record { root = row.root; until = f.moment }
     old false = row.older
 
-pub sound_rotated : (club : Club) (name root : List ℕ) (until : ℕ) → IsSound club → FitsRotation root until → IsSound (record club { keys = map (rotated name root until) club.keys })
+pub sound_rotated : (club : Club) (name root : List ℕ) (until : ℕ) → IsSound club → FitsRotation root until
+    → IsSound (record club { keys = map (rotated name root until) club.keys })
 sound_rotated club name root until s f =
     sound_edited (λ key. (rotated name root until key).root) (λ key. (rotated name root until key).older) (λ key. key.revoked) club s
     (All-map IsKey (rotated name root until) club.keys (λ k d short. rotated_row name root until _ f (s.rows.keys k d short)))
@@ -176,7 +197,8 @@ pub sound_closed : (club : Club) (slot : Slot) → IsSound club → FitsClosed c
 sound_closed club slot s f =
     let limits = All-push IsSlot club.closed slot s.rows.closed f.row in
     let names = all_pairs_push (λ (a : Slot) (b : Slot). a ≢ b) club.closed slot s.unique.closed f.fresh in
-    let known = All-push (λ (other : Slot). Contains (map (λ (g : Facility). g.name) club.facilities) other.facility) club.closed slot s.references.closed f.located in
+    let known = All-push (λ (other : Slot). Contains (map (λ (g : Facility). g.name) club.facilities) other.facility) club.closed slot s.references.closed
+        f.located in
     record {
       rows = record { members = s.rows.members; facilities = s.rows.facilities; keys = s.rows.keys; bookings = s.rows.bookings; closed = limits };
       unique = record { members = s.unique.members; facilities = s.unique.facilities; keys = s.unique.keys; bookings = s.unique.bookings; closed = names };

@@ -3,7 +3,8 @@ use Rattle.std.proofs.Common.{List, [], ◌∷◌, Option, Some, None, Ok, Err}
 use Rattle.std.specs.Prelude.{Result, All}
 use Rattle.std.proofs.lemmas.List.Elements.{All-head, All-tail}
 use Rattle.club_core.specs.declared.change.Change.{Change}
-use Rattle.club_core.specs.declared.change.Change.TheVariants.{InsertMember, AddCredit, InsertFacility, InsertKey, MarkRevoked, ReplaceRoot, MarkClosed, InsertBooking, MarkCancelled}
+use Rattle.club_core.specs.declared.change.Change.TheVariants.{InsertMember, AddCredit, InsertFacility, InsertKey, MarkRevoked, ReplaceRoot, MarkClosed,
+    InsertBooking, MarkCancelled}
 use Rattle.club_core.specs.declared.command.Command.{Command}
 use Rattle.club_core.specs.declared.command.OfficeFault.{OfficeFault}
 use Rattle.club_core.specs.Club.{Club, IsSound}
@@ -33,7 +34,8 @@ sound_after_any : (club : Club) (change : Option Change) → IsSound club → Fi
 sound_after_any club None s f = s
 sound_after_any club (Some change) s f = sound_after club change s f
 
-sound_ordered : (club : Club) (command : Command) (verdict : Result Change OfficeFault) → IsSound club → FitsIfOk club verdict → IsSound (ordered club command verdict).club
+sound_ordered : (club : Club) (command : Command) (verdict : Result Change OfficeFault) → IsSound club → FitsIfOk club verdict
+    → IsSound (ordered club command verdict).club
 sound_ordered club command (Err fault) s f = s
 sound_ordered club command (Ok change) s f = sound_after club change s f
 

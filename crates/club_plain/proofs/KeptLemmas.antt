@@ -28,7 +28,8 @@ use Rattle.club_core.specs.declared.form_fault.FormFault.{FormFault}
 use Rattle.club_core.specs.Pass.{Pass, Words, is_signed_under}
 use Rattle.club_core.specs.Club.{Club, member_named, facility_named, key_named, is_key_of, bookings_of}
 use Rattle.club_core.specs.Sums.{taken_in, cost_of, is_under, spent_under, balance_of}
-use Rattle.club_core.specs.Verdict.{told, refused, booked, booked_before, cancelled, cancelled_before, new_booking, new_verdict, repeat_booking_verdict, cancel_recorded_verdict, shown_at, unknown_verdict, recorded_or, verdict_of}
+use Rattle.club_core.specs.Verdict.{told, refused, booked, booked_before, cancelled, cancelled_before, new_booking, new_verdict, repeat_booking_verdict,
+    cancel_recorded_verdict, shown_at, unknown_verdict, recorded_or, verdict_of}
 use Rattle.club_core.specs.Basis.{SlotState, Basis, state_of, view_of, basis_under, basis_of, key_of}
 use Rattle.club_core.specs.Request.{slot_of}
 use Rattle.club_core.specs.declared.slot_use.SlotUse.{SlotUse}
@@ -59,27 +60,39 @@ part_le : (a b : Bool) (n : ℕ) → (a ≡ true → b ≡ true) → cond a n 0 
 part_le true b n h = rw (h refl) (omega arith)
 part_le false b n h = omega arith
 
-spent_le : (club : Club) (name : List ℕ) (key : Key) (member : Member) → key_named name club ≡ Some key → member_named key.member club ≡ Some member → spent_under key.name club.bookings ≤ sum_by cost_of (bookings_of member.name club)
+spent_le : (club : Club) (name : List ℕ) (key : Key) (member : Member) → key_named name club ≡ Some key → member_named key.member club ≡ Some member
+    → spent_under key.name club.bookings ≤ sum_by cost_of (bookings_of member.name club)
 spent_le club name key member found owner =
-    let same : member.name ≡ key.member = bytes_eq_true member.name key.member (found_passes (λ (m : Member). bytes_eq m.name key.member) club.members member owner) in
+    let same : member.name ≡ key.member = bytes_eq_true member.name key.member
+        (found_passes (λ (m : Member). bytes_eq m.name key.member) club.members member owner) in
     let held : is_key_of member.name club key.name ≡ true =
-    found_kept (λ (k : Key). bytes_eq k.name name) (λ (k : Key). bytes_eq k.member member.name) (λ (k : Key). bytes_eq k.name key.name) club.keys key found (rw same (bytes_eq_refl key.member)) (bytes_eq_refl key.name) in
+    found_kept (λ (k : Key). bytes_eq k.name name) (λ (k : Key). bytes_eq k.member member.name) (λ (k : Key).
+        bytes_eq k.name key.name) club.keys key found (rw same (bytes_eq_refl key.member)) (bytes_eq_refl key.name) in
     let le : total cost_of (is_under key.name) club.bookings ≤ total cost_of (λ (b : Booking). is_key_of member.name club b.key) club.bookings =
     total_le cost_of (is_under key.name) (λ (b : Booking). is_key_of member.name club b.key) club.bookings (λ b.
-    part_le (is_under key.name b) (is_key_of member.name club b.key) (cost_of b) (λ e. subst (λ k. is_key_of member.name club k ≡ true) (sym (bytes_eq_true b.key key.name e)) held)) in
+    part_le (is_under key.name b) (is_key_of member.name club b.key) (cost_of b) (λ e.
+        subst (λ k. is_key_of member.name club k ≡ true) (sym (bytes_eq_true b.key key.name e)) held)) in
     rw (total_is cost_of (is_under key.name) club.bookings, total_is cost_of (λ (b : Booking). is_key_of member.name club b.key) club.bookings) le
 
 -- a booking that has place and points
-fits_booked : (club : Club) (name : List ℕ) (key : Key) (member : Member) (facility : Facility) (booking : Booking) → FitsWidths club → key_named name club ≡ Some key → member_named key.member club ≡ Some member → facility_named booking.slot.facility club ≡ Some facility → booking.key ≡ key.name → booking.refund ≡ 0 → taken_in booking.slot club.bookings + booking.guests + 1 ≤ facility.places → booking.charge ≤ balance_of member (bookings_of member.name club) → FitsWidths (after (InsertBooking booking) club)
+fits_booked : (club : Club) (name : List ℕ) (key : Key) (member : Member) (facility : Facility) (booking : Booking) → FitsWidths club
+    → key_named name club ≡ Some key → member_named key.member club ≡ Some member → facility_named booking.slot.facility club ≡ Some facility
+    → booking.key ≡ key.name → booking.refund ≡ 0 → taken_in booking.slot club.bookings + booking.guests + 1 ≤ facility.places
+    → booking.charge ≤ balance_of member (bookings_of member.name club) → FitsWidths (after (InsertBooking booking) club)
 fits_booked club name key member facility booking h found owner place under none room points =
-    let places : facility.places ≤ 50 = found_holds (λ (f : Facility). f.places ≤ 50) (λ (f : Facility). bytes_eq f.name booking.slot.facility) club.facilities facility h.places place in
-    let top : member.credited ≤ 999_999_999 = found_holds (λ (m : Member). m.credited ≤ 999_999_999) (λ (m : Member). bytes_eq m.name key.member) club.members member h.credited owner in
+    let places : facility.places ≤ 50 = found_holds (λ (f : Facility). f.places ≤ 50) (λ (f : Facility).
+        bytes_eq f.name booking.slot.facility) club.facilities facility h.places place in
+    let top : member.credited ≤ 999_999_999 = found_holds (λ (m : Member). m.credited ≤ 999_999_999) (λ (m : Member).
+        bytes_eq m.name key.member) club.members member h.credited owner in
     let le : spent_under booking.key club.bookings ≤ sum_by cost_of (bookings_of member.name club) = rw under (spent_le club name key member found owner) in
     let most : spent_under booking.key club.bookings ≤ 999_999_999 = h.spent booking.key in
     fits_insert_booking club booking h (omega arith) (omega arith) (λ _. none)
 
 -- a new booking
-keeps_new : (club : Club) (name : List ℕ) (key : Key) (member : Member) (view : View) (slot : Slot) (number guests moment : ℕ) (facility : Option Facility) → FitsWidths club → key_named name club ≡ Some key → member_named key.member club ≡ Some member → facility_named slot.facility club ≡ facility → view.key ≡ key → taken_in slot club.bookings ≤ view.taken → view.balance ≡ balance_of member (bookings_of member.name club) → Keeps club (new_verdict view slot number guests moment facility)
+keeps_new : (club : Club) (name : List ℕ) (key : Key) (member : Member) (view : View) (slot : Slot) (number guests moment : ℕ) (facility : Option Facility)
+    → FitsWidths club → key_named name club ≡ Some key → member_named key.member club ≡ Some member → facility_named slot.facility club ≡ facility
+    → view.key ≡ key → taken_in slot club.bookings ≤ view.taken → view.balance ≡ balance_of member (bookings_of member.name club)
+    → Keeps club (new_verdict view slot number guests moment facility)
 keeps_new club name key member view slot number guests moment None h found owner place same taken balance = keeps_told club _
 keeps_new club name key member view slot number guests moment (Some facility) h found owner place same taken balance =
     let booking = new_booking view slot number guests facility in
@@ -90,13 +103,15 @@ keeps_new club name key member view slot number guests moment (Some facility) h 
     keep club (nat_lt view.balance (charge_of facility guests)) (refused refusals.BalanceTooLow) (booked booking) (keeps_told club _) (λ has_points.
     let full : view.taken + guests + 1 ≤ facility.places = ltb-false facility.places (view.taken + guests + 1) has_room in
     let room : taken_in slot club.bookings + guests + 1 ≤ facility.places = omega arith in
-    let points : charge_of facility guests ≤ balance_of member (bookings_of member.name club) = rw (← balance) (ltb-false view.balance (charge_of facility guests) has_points) in
+    let points : charge_of facility guests ≤ balance_of member (bookings_of member.name club) =
+        rw (← balance) (ltb-false view.balance (charge_of facility guests) has_points) in
     let under : booking.key ≡ key.name = ap (λ (k : Key). k.name) same in
     keeps_change club _ (InsertBooking booking) (fits_booked club name key member facility booking h found owner place under refl room points))))))
 
 keeps_repeat : (club : Club) (booking : Booking) (slot : Slot) (guests : ℕ) → Keeps club (repeat_booking_verdict booking slot guests)
 keeps_repeat club booking slot guests =
-    keep club (same_slot booking.slot slot && booking.guests == guests) (booked_before booking) (refused refusals.NumberUsed) (keeps_told club _) (λ e. keeps_told club _)
+    keep club (same_slot booking.slot slot && booking.guests == guests) (booked_before booking) (refused refusals.NumberUsed) (keeps_told club _) (λ e.
+        keeps_told club _)
 
 -- a cancellation
 keeps_cancel : (club : Club) (booking : Booking) (slot : Slot) (moment : ℕ) → FitsWidths club → Keeps club (cancel_recorded_verdict booking slot moment)
@@ -104,10 +119,14 @@ keeps_cancel club booking slot moment h =
     let refund = refund_at booking moment in
     let begun = line (nat_le (start_of booking.slot) moment) (refused refusals.SlotHasBegun) in
     let again = line booking.cancelled (cancelled_before booking) in
-    keep club (not (same_slot booking.slot slot)) (refused refusals.NumberUsed) (first_of (again ∷ begun ∷ []) (cancelled booking refund)) (keeps_told club (Refused refusals.NumberUsed)) (λ e.
-    keep club booking.cancelled (cancelled_before booking) (first_of (begun ∷ []) (cancelled booking refund)) (keeps_told club (Cancelled booking.key booking.number booking.refund)) (λ f.
-    keep club (nat_le (start_of booking.slot) moment) (refused refusals.SlotHasBegun) (cancelled booking refund) (keeps_told club (Refused refusals.SlotHasBegun)) (λ g.
-    keeps_change club (Cancelled booking.key booking.number refund) (MarkCancelled booking.key booking.number refund) (fits_mark_cancelled club booking.key booking.number refund h))))
+    keep club (not (same_slot booking.slot slot)) (refused refusals.NumberUsed) (first_of (again ∷ begun ∷ []) (cancelled booking refund))
+        (keeps_told club (Refused refusals.NumberUsed)) (λ e.
+    keep club booking.cancelled (cancelled_before booking) (first_of (begun ∷ []) (cancelled booking refund))
+        (keeps_told club (Cancelled booking.key booking.number booking.refund)) (λ f.
+    keep club (nat_le (start_of booking.slot) moment) (refused refusals.SlotHasBegun) (cancelled booking refund)
+        (keeps_told club (Refused refusals.SlotHasBegun)) (λ g.
+    keeps_change club (Cancelled booking.key booking.number refund) (MarkCancelled booking.key booking.number refund)
+        (fits_mark_cancelled club booking.key booking.number refund h))))
 
 keeps_unknown : (club : Club) (facility : Option Facility) → Keeps club (unknown_verdict facility)
 keeps_unknown club None = keeps_told club _
@@ -117,7 +136,8 @@ keeps_shown : (club : Club) (view : View) (slot : Slot) (facility : Option Facil
 keeps_shown club view slot None = keeps_told club _
 keeps_shown club view slot (Some facility) = keeps_told club _
 
-keeps_recorded : (club : Club) (booking : Option Booking) (f : Booking → Verdict) (other : Verdict) → ((b : Booking) → Keeps club (f b)) → Keeps club other → Keeps club (recorded_or booking f other)
+keeps_recorded : (club : Club) (booking : Option Booking) (f : Booking → Verdict) (other : Verdict) → ((b : Booking) → Keeps club (f b)) → Keeps club other
+    → Keeps club (recorded_or booking f other)
 keeps_recorded club None f other h k = k
 keeps_recorded club (Some booking) f other h k = h booking
 
@@ -129,17 +149,21 @@ abbrev IsState : Club → Request → SlotState → Type 0
 IsState club request state =
     (slot : Slot) → slot_of request ≡ Some slot → (facility_named slot.facility club ≡ state.facility) × (taken_in slot club.bookings ≤ state.held.taken)
 
-keeps_decision : (club : Club) (name : List ℕ) (key : Key) (member : Member) (state : SlotState) (request : Request) (moment : ℕ) → FitsWidths club → key_named name club ≡ Some key → member_named key.member club ≡ Some member → IsState club request state → Keeps club (verdict_of (view_of (basis_with club key member state) request moment) request moment)
+keeps_decision : (club : Club) (name : List ℕ) (key : Key) (member : Member) (state : SlotState) (request : Request) (moment : ℕ) → FitsWidths club
+    → key_named name club ≡ Some key → member_named key.member club ≡ Some member → IsState club request state
+    → Keeps club (verdict_of (view_of (basis_with club key member state) request moment) request moment)
 keeps_decision club name key member state (asked.View slot) moment h found owner at =
     let view = view_of (basis_with club key member state) (asked.View slot) moment in
     keeps_shown club view slot view.facility
 keeps_decision club name key member state (asked.Book slot number guests) moment h found owner at =
     let view = view_of (basis_with club key member state) (asked.Book slot number guests) moment in
-    keeps_recorded club view.booking (λ b. repeat_booking_verdict b slot guests) (new_verdict view slot number guests moment view.facility) (λ b. keeps_repeat club b slot guests)
+    keeps_recorded club view.booking (λ b. repeat_booking_verdict b slot guests) (new_verdict view slot number guests moment view.facility) (λ b.
+        keeps_repeat club b slot guests)
     (keeps_new club name key member view slot number guests moment view.facility h found owner (at slot refl).0 refl (at slot refl).1 refl)
 keeps_decision club name key member state (asked.Cancel slot number) moment h found owner at =
     let view = view_of (basis_with club key member state) (asked.Cancel slot number) moment in
-    keeps_recorded club view.booking (λ b. cancel_recorded_verdict b slot moment) (unknown_verdict view.facility) (λ b. keeps_cancel club b slot moment h) (keeps_unknown club view.facility)
+    keeps_recorded club view.booking (λ b. cancel_recorded_verdict b slot moment) (unknown_verdict view.facility) (λ b.
+        keeps_cancel club b slot moment h) (keeps_unknown club view.facility)
 keeps_decision club name key member state asked.Account moment h found owner at = keeps_told club _
 
 keeps_after_caveats : (club : Club) (fault : Option CaveatFault) (verdict : Verdict) → Keeps club verdict → Keeps club (after_caveats fault verdict)
@@ -154,12 +178,15 @@ answer_text text request moment basis = answer_to text request moment (option_ma
 abbrev answer_by : Pass → Request → ℕ → Option Basis → Verdict
 answer_by pass request moment basis = answer_text (Ok pass) request moment basis
 
-keeps_accepted : (club : Club) (name : List ℕ) (pass : Pass) (request : Request) (moment : ℕ) (key : Key) (member : Member) (state : SlotState) → FitsWidths club → key_named name club ≡ Some key → member_named key.member club ≡ Some member → IsState club request state → Keeps club (answer_by pass request moment (Some (basis_with club key member state)))
+keeps_accepted : (club : Club) (name : List ℕ) (pass : Pass) (request : Request) (moment : ℕ) (key : Key) (member : Member) (state : SlotState)
+    → FitsWidths club → key_named name club ≡ Some key → member_named key.member club ≡ Some member → IsState club request state
+    → Keeps club (answer_by pass request moment (Some (basis_with club key member state)))
 keeps_accepted club name pass request moment key member state h found owner at =
     let view = view_of (basis_with club key member state) request moment in
     keep club (not (is_signed_under pass key moment)) (refused refusals.NotVerified) _ (keeps_told club _) (λ signed.
     keep club key.revoked (refused refusals.KeyRevoked) _ (keeps_told club _) (λ valid.
-    keeps_after_caveats club (first_fault_of pass.caveats (ask_of view request moment)) (verdict_of view request moment) (keeps_decision club name key member state request moment h found owner at)))
+    keeps_after_caveats club (first_fault_of pass.caveats (ask_of view request moment)) (verdict_of view request moment)
+        (keeps_decision club name key member state request moment h found owner at)))
 
 is_state : (club : Club) (request : Request) → IsState club request (state_of club (slot_of request))
 is_state club request = λ slot e.
@@ -167,12 +194,17 @@ is_state club request = λ slot e.
     (sym (ap (λ s. (state_of club s).facility) e), omega arith)
 
 -- the answer by the basis, and by the basis with what others hold
-keeps_member : (club : Club) (name : List ℕ) (pass : Pass) (request : Request) (moment : ℕ) (key : Key) (member : Option Member) → FitsWidths club → key_named name club ≡ Some key → member_named key.member club ≡ member → Keeps club (answer_by pass request moment (option_map (λ (m : Member). basis_with club key m (state_of club (slot_of request))) member))
+keeps_member : (club : Club) (name : List ℕ) (pass : Pass) (request : Request) (moment : ℕ) (key : Key) (member : Option Member) → FitsWidths club
+    → key_named name club ≡ Some key → member_named key.member club ≡ member
+    → Keeps club (answer_by pass request moment (option_map (λ (m : Member). basis_with club key m (state_of club (slot_of request))) member))
 keeps_member club name pass request moment key None h found owner = keeps_told club _
 keeps_member club name pass request moment key (Some member) h found owner =
     keeps_accepted club name pass request moment key member (state_of club (slot_of request)) h found owner (is_state club request)
 
-keeps_member_alone : (club : Club) (others : SlotUse) (name : List ℕ) (pass : Pass) (request : Request) (moment : ℕ) (key : Key) (member : Option Member) → FitsWidths club → key_named name club ≡ Some key → member_named key.member club ≡ member → Keeps club (answer_by pass request moment (option_map (with_others others) (option_map (λ (m : Member). basis_with club key m (state_of club (slot_of request))) member)))
+keeps_member_alone : (club : Club) (others : SlotUse) (name : List ℕ) (pass : Pass) (request : Request) (moment : ℕ) (key : Key) (member : Option Member)
+    → FitsWidths club → key_named name club ≡ Some key → member_named key.member club ≡ member
+    → Keeps club (answer_by pass request moment (option_map (with_others others)
+    (option_map (λ (m : Member). basis_with club key m (state_of club (slot_of request))) member)))
 keeps_member_alone club others name pass request moment key None h found owner = keeps_told club _
 keeps_member_alone club others name pass request moment key (Some member) h found owner =
     let state = state_of club (slot_of request) in
@@ -185,15 +217,18 @@ keeps_member_alone club others name pass request moment key (Some member) h foun
 abbrev key_in : Club → Option (List ℕ) → Option Key
 key_in club name = option_and_then (λ (n : List ℕ). key_named n club) name
 
-keeps_key : (club : Club) (name : List ℕ) (pass : Pass) (request : Request) (moment : ℕ) (key : Option Key) → FitsWidths club → key_named name club ≡ key → Keeps club (answer_by pass request moment (option_and_then (basis_under club request) key))
+keeps_key : (club : Club) (name : List ℕ) (pass : Pass) (request : Request) (moment : ℕ) (key : Option Key) → FitsWidths club → key_named name club ≡ key
+    → Keeps club (answer_by pass request moment (option_and_then (basis_under club request) key))
 keeps_key club name pass request moment None h found = keeps_told club _
 keeps_key club name pass request moment (Some key) h found = keeps_member club name pass request moment key (member_named key.member club) h found refl
 
-keeps_name : (club : Club) (name : Option (List ℕ)) (pass : Pass) (request : Request) (moment : ℕ) → FitsWidths club → Keeps club (answer_by pass request moment (option_and_then (basis_under club request) (key_in club name)))
+keeps_name : (club : Club) (name : Option (List ℕ)) (pass : Pass) (request : Request) (moment : ℕ) → FitsWidths club
+    → Keeps club (answer_by pass request moment (option_and_then (basis_under club request) (key_in club name)))
 keeps_name club None pass request moment h = keeps_told club _
 keeps_name club (Some name) pass request moment h = keeps_key club name pass request moment (key_named name club) h refl
 
-keeps_text : (club : Club) (text : Result Pass FormFault) (request : Request) (moment : ℕ) → FitsWidths club → Keeps club (answer_text text request moment (option_and_then (basis_under club request) (key_in club (key_of text))))
+keeps_text : (club : Club) (text : Result Pass FormFault) (request : Request) (moment : ℕ) → FitsWidths club
+    → Keeps club (answer_text text request moment (option_and_then (basis_under club request) (key_in club (key_of text))))
 keeps_text club (Err fault) request moment h = keeps_told club _
 keeps_text club (Ok pass) request moment h = keeps_name club pass.key pass request moment h
 
@@ -201,15 +236,19 @@ keeps_text club (Ok pass) request moment h = keeps_name club pass.key pass reque
 pub keeps_answer : (club : Club) (words : Words) (moment : ℕ) → FitsWidths club → Keeps club (answer_of words moment (basis_of club words))
 keeps_answer club words moment h = keeps_text club words.pass words.request moment h
 
-keeps_key_alone : (club : Club) (others : SlotUse) (name : List ℕ) (pass : Pass) (request : Request) (moment : ℕ) (key : Option Key) → FitsWidths club → key_named name club ≡ key → Keeps club (answer_by pass request moment (option_map (with_others others) (option_and_then (basis_under club request) key)))
+keeps_key_alone : (club : Club) (others : SlotUse) (name : List ℕ) (pass : Pass) (request : Request) (moment : ℕ) (key : Option Key) → FitsWidths club
+    → key_named name club ≡ key → Keeps club (answer_by pass request moment (option_map (with_others others) (option_and_then (basis_under club request) key)))
 keeps_key_alone club others name pass request moment None h found = keeps_told club _
-keeps_key_alone club others name pass request moment (Some key) h found = keeps_member_alone club others name pass request moment key (member_named key.member club) h found refl
+keeps_key_alone club others name pass request moment (Some key) h found =
+    keeps_member_alone club others name pass request moment key (member_named key.member club) h found refl
 
-keeps_name_alone : (club : Club) (others : SlotUse) (name : Option (List ℕ)) (pass : Pass) (request : Request) (moment : ℕ) → FitsWidths club → Keeps club (answer_by pass request moment (option_map (with_others others) (option_and_then (basis_under club request) (key_in club name))))
+keeps_name_alone : (club : Club) (others : SlotUse) (name : Option (List ℕ)) (pass : Pass) (request : Request) (moment : ℕ) → FitsWidths club
+    → Keeps club (answer_by pass request moment (option_map (with_others others) (option_and_then (basis_under club request) (key_in club name))))
 keeps_name_alone club others None pass request moment h = keeps_told club _
 keeps_name_alone club others (Some name) pass request moment h = keeps_key_alone club others name pass request moment (key_named name club) h refl
 
-keeps_text_alone : (club : Club) (others : SlotUse) (text : Result Pass FormFault) (request : Request) (moment : ℕ) → FitsWidths club → Keeps club (answer_text text request moment (option_map (with_others others) (option_and_then (basis_under club request) (key_in club (key_of text)))))
+keeps_text_alone : (club : Club) (others : SlotUse) (text : Result Pass FormFault) (request : Request) (moment : ℕ) → FitsWidths club
+    → Keeps club (answer_text text request moment (option_map (with_others others) (option_and_then (basis_under club request) (key_in club (key_of text)))))
 keeps_text_alone club others (Err fault) request moment h = keeps_told club _
 keeps_text_alone club others (Ok pass) request moment h = keeps_name_alone club others pass.key pass request moment h
 

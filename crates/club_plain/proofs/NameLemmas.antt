@@ -17,7 +17,8 @@ both true b e = (refl, e)
 both false b e = cc
 
 -- a row that is found passes the test
-found_at : {X : Type 0} (p : X → Bool) (b : Bool) (y x : X) (rest : Option X) → (rest ≡ Some x → p x ≡ true) → p y ≡ b → cond b (Some y) rest ≡ Some x → p x ≡ true
+found_at : {X : Type 0} (p : X → Bool) (b : Bool) (y x : X) (rest : Option X) → (rest ≡ Some x → p x ≡ true) → p y ≡ b → cond b (Some y) rest ≡ Some x
+    → p x ≡ true
 found_at p true y x rest ih t e = let same : y ≡ x = cc in ap p (sym same) ∙ t
 found_at p false y x rest ih t e = ih e
 
@@ -39,11 +40,13 @@ kept_at : {X : Type 0} (r : X → Bool) (b : Bool) (y : X) (ys : List X) → lis
 kept_at r true y ys e = elim (r y) as (λ t. (t || list_any r ys) ≡ true) [ true ↦ refl | false ↦ e ]
 kept_at r false y ys e = e
 
-first_kept : {X : Type 0} (q r : X → Bool) (a b : Bool) (y : X) (ys : List X) → r y ≡ a → a ≡ true → b ≡ true → list_any r (cond b (y ∷ filter q ys) (filter q ys)) ≡ true
+first_kept : {X : Type 0} (q r : X → Bool) (a b : Bool) (y : X) (ys : List X) → r y ≡ a → a ≡ true → b ≡ true
+    → list_any r (cond b (y ∷ filter q ys) (filter q ys)) ≡ true
 first_kept q r a true y ys t e f = rw (t, e) refl
 first_kept q r a false y ys t e f = cc
 
-found_kept_at : {X : Type 0} (q r : X → Bool) (b : Bool) (y x : X) (ys : List X) (rest : Option X) → (rest ≡ Some x → list_any r (filter q ys) ≡ true) → q x ≡ true → r x ≡ true → cond b (Some y) rest ≡ Some x → list_any r (filter q (y ∷ ys)) ≡ true
+found_kept_at : {X : Type 0} (q r : X → Bool) (b : Bool) (y x : X) (ys : List X) (rest : Option X) → (rest ≡ Some x → list_any r (filter q ys) ≡ true)
+    → q x ≡ true → r x ≡ true → cond b (Some y) rest ≡ Some x → list_any r (filter q (y ∷ ys)) ≡ true
 found_kept_at q r true y x ys rest ih t u e =
     let same : y ≡ x = cc in
     first_kept q r (r y) (q y) y ys refl (ap r same ∙ u) (ap q same ∙ t)

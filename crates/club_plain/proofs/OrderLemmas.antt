@@ -34,7 +34,8 @@ keeps_err club fault = record { kept = λ change e. cc }
 keeps_ok : (club : Club) (change : Change) → FitsWidths (after change club) → KeepsOk club (Ok change)
 keeps_ok club change h = record { kept = λ other e. let same : change ≡ other = cc in subst (λ (c : Change). FitsWidths (after c club)) same h }
 
-keep : (club : Club) (fits : Bool) (fault : OfficeFault) (y : Result Change OfficeFault) → (fits ≡ false → KeepsOk club y) → KeepsOk club (cond fits (Err fault) y)
+keep : (club : Club) (fits : Bool) (fault : OfficeFault) (y : Result Change OfficeFault) → (fits ≡ false → KeepsOk club y)
+    → KeepsOk club (cond fits (Err fault) y)
 keep club true fault y k = keeps_err club fault
 keep club false fault y k = k refl
 
@@ -53,7 +54,8 @@ few_places places price opens shuts e =
     let to_places = both (nat_le 1 places && nat_le places 50) (nat_le price 9_999) to_price.0 in
     leb-true places 50 (both (nat_le 1 places) (nat_le places 50) to_places.0).1
 
-keeps_credit : (club : Club) (name : List ℕ) (points : ℕ) (member : Option Member) → FitsWidths club → member_named name club ≡ member → KeepsOk club (credit_verdict name points member)
+keeps_credit : (club : Club) (name : List ℕ) (points : ℕ) (member : Option Member) → FitsWidths club → member_named name club ≡ member
+    → KeepsOk club (credit_verdict name points member)
 keeps_credit club name points None h found = keeps_err club _
 keeps_credit club name points (Some member) h found =
     keep club (nat_lt 999_999_999 (member.credited + points)) OutOfRange (Ok (AddCredit name points)) (λ few.
@@ -97,7 +99,8 @@ keeps_order club (commands.AddFacility name kind places price opens shuts) h =
     let known : Line (Result Change OfficeFault) = line (is_some (facility_named name club)) (Err Exists) in
     keep club (not (are_limits places price opens shuts)) OutOfRange (first_of (known ∷ []) (Ok (InsertFacility facility))) (λ limits.
     keep club (is_some (facility_named name club)) Exists (Ok (InsertFacility facility)) (λ none.
-    keeps_ok club (InsertFacility facility) (fits_insert_facility club facility h (few_places places price opens shuts (not_false (are_limits places price opens shuts) limits)))))
+    keeps_ok club (InsertFacility facility) (fits_insert_facility club facility h
+        (few_places places price opens shuts (not_false (are_limits places price opens shuts) limits)))))
 keeps_order club (commands.AddKey name member root) h =
     let key : Key = record { name = name; member = member; root = root; older = None; revoked = false } in
     let known : Line (Result Change OfficeFault) = line (is_some (key_named name club)) (Err Exists) in

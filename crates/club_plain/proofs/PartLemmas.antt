@@ -31,7 +31,8 @@ find-filter : {X : Type 0} (p : X → Bool) (xs : List X) → find p (filter p x
 find-filter p [] = refl
 find-filter p (x ∷ xs) = at p x xs (p x) refl (find-filter p xs)
   where
-    at : {Y : Type 0} (q : Y → Bool) (y : Y) (ys : List Y) (b : Bool) → q y ≡ b → find q (filter q ys) ≡ find q ys → find q (cond b (y ∷ filter q ys) (filter q ys)) ≡ cond b (Some y) (find q ys)
+    at : {Y : Type 0} (q : Y → Bool) (y : Y) (ys : List Y) (b : Bool) → q y ≡ b → find q (filter q ys) ≡ find q ys
+        → find q (cond b (y ∷ filter q ys) (filter q ys)) ≡ cond b (Some y) (find q ys)
     at q y ys true e ih = ap (λ c. cond c (Some y) (find q (filter q ys))) e
     at q y ys false e ih = ih
 

@@ -13,7 +13,8 @@ club_after_push : (club : Club) (events : List Event) (event : Event) → club_a
 club_after_push club [] event = refl
 club_after_push club (first ∷ events) event = club_after_push (step club first).club events event
 
-replies_push : (club : Club) (events : List Event) (event : Event) → replies_of club (events ++ event ∷ []) ≡ replies_of club events ++ (step (club_after club events) event).reply ∷ []
+replies_push : (club : Club) (events : List Event) (event : Event) → replies_of club (events ++ event ∷ []) ≡ replies_of club events
+    ++ (step (club_after club events) event).reply ∷ []
 replies_push club [] event = refl
 replies_push club (first ∷ events) event = ap (λ replies. (step club first).reply ∷ replies) (replies_push (step club first).club events event)
 
@@ -22,7 +23,9 @@ pub record Follows (start club : Club) (events : List EventInCode) (before : Lis
   pub replies : told ≡ before ++ replies_of start (map event_of events)
   pub stands : club ≡ club_after start (map event_of events)
 
-more_events : (start club new : Club) (events : List EventInCode) (event : EventInCode) (before : List EventReply) (told : List EventReply) (reply : EventReply) → Follows start club events before told → outcome reply new ≡ step club (event_of event) → Follows start new (events ++ event ∷ []) before (told ++ reply ∷ [])
+more_events : (start club new : Club) (events : List EventInCode) (event : EventInCode) (before : List EventReply) (told : List EventReply) (reply : EventReply)
+    → Follows start club events before told → outcome reply new ≡ step club (event_of event)
+    → Follows start new (events ++ event ∷ []) before (told ++ reply ∷ [])
 more_events start club new events event before told reply h made =
     let pushed = map_push event_of events event in
     let stepped : outcome reply new ≡ step (club_after start (map event_of events)) (event_of event) = made ∙ ap (λ c. step c (event_of event)) h.stands in
@@ -35,11 +38,14 @@ more_events start club new events event before told reply h made =
       stands = ap (λ (o : Outcome). o.club) stepped ∙ (sym (club_after_push start (map event_of events) (event_of event)) ∙ ap (club_after start) (sym pushed));
     }
 
-pub follows_more : (start club new : Club) (events : List EventInCode) (i : ℕ) (event : EventInCode) (before : List EventReply) (told after : List EventReply) (reply : EventReply) → i < length events → event ≡ get_or events i event → after ≡ told ++ reply ∷ [] → Follows start club (take i events) before told → outcome reply new ≡ step club (event_of event) → Follows start new (take (i + 1) events) before after
+pub follows_more : (start club new : Club) (events : List EventInCode) (i : ℕ) (event : EventInCode) (before : List EventReply) (told after : List EventReply)
+    (reply : EventReply) → i < length events → event ≡ get_or events i event → after ≡ told ++ reply ∷ [] → Follows start club (take i events) before told
+    → outcome reply new ≡ step club (event_of event) → Follows start new (take (i + 1) events) before after
 follows_more start club new events i event before told after reply h at pushed so_far made =
     let taken : take (i + 1) events ≡ take i events ++ event ∷ [] = take_more events i event h ∙ ap (λ e. take i events ++ e ∷ []) (sym at) in
     rw (taken, pushed) (more_events start club new (take i events) event before told reply so_far made)
 
-pub same_step : (club new new' : Club) (reply reply' : EventReply) (event event' : EventInCode) → reply ≡ reply' → new ≡ new' → event ≡ event' → outcome reply' new' ≡ step club (event_of event') → outcome reply new ≡ step club (event_of event)
+pub same_step : (club new new' : Club) (reply reply' : EventReply) (event event' : EventInCode) → reply ≡ reply' → new ≡ new' → event ≡ event'
+    → outcome reply' new' ≡ step club (event_of event') → outcome reply new ≡ step club (event_of event)
 same_step club new new' reply reply' event event' e f g h =
     ap (λ r. outcome r new) e ∙ (ap (λ c. outcome reply' c) f ∙ (h ∙ ap (λ x. step club (event_of x)) (sym g)))

@@ -42,7 +42,8 @@ rest_holds : {X : Type 0} (P : X → Type 0) (x : X) (xs : List X) → All P (x 
 rest_holds P x xs h = λ k d lt. h (suc k) d (omega arith)
 
 -- where each edited element adds no more than the element did
-pub total-map_le : {X : Type 0} (f : X → ℕ) (p : X → Bool) (h : X → X) (xs : List X) → All (λ x. part f p (h x) ≤ part f p x) xs → total f p (map h xs) ≤ total f p xs
+pub total-map_le : {X : Type 0} (f : X → ℕ) (p : X → Bool) (h : X → X) (xs : List X) → All (λ x. part f p (h x) ≤ part f p x) xs
+    → total f p (map h xs) ≤ total f p xs
 total-map_le f p h [] le = omega arith
 total-map_le f p h (x ∷ xs) le =
     let here : part f p (h x) ≤ part f p x = le zero x (omega arith) in

@@ -37,10 +37,12 @@ new_named members new none =
     ∙ (ap (λ o. option_or o (find (named new.name) (new ∷ []))) none
     ∙ ap (λ b. cond b (Some new) None) (bytes_eq_refl new.name))
 
-pub fits_insert_member : (club : Club) (member : Member) → FitsWidths club → member.credited ≤ 999_999_999 → member_named member.name club ≡ None → FitsWidths (after (InsertMember member) club)
+pub fits_insert_member : (club : Club) (member : Member) → FitsWidths club → member.credited ≤ 999_999_999 → member_named member.name club ≡ None
+    → FitsWidths (after (InsertMember member) club)
 fits_insert_member club member h few none = record {
   credited = All-push (λ (m : Member). m.credited ≤ 999_999_999) club.members member h.credited few;
-  named = All-push (IsNamed (club.members ++ member ∷ [])) club.members member (λ k d lt. still_named club.members member (get_or club.members k d) (h.named k d lt)) (new_named club.members member none);
+  named = All-push (IsNamed (club.members ++ member ∷ [])) club.members member (λ k d lt.
+      still_named club.members member (get_or club.members k d) (h.named k d lt)) (new_named club.members member none);
   places = h.places;
   taken = h.taken;
   spent = h.spent;
@@ -53,16 +55,19 @@ all_map P f xs h = λ k d lt.
     let short : k < length xs = omega (arith, length-map xs f) in
     subst P (sym (get_or-map f xs k d d short)) (h k d short)
 
-few_credited : (name : List ℕ) (points : ℕ) (member : Member) (b : Bool) → named name member ≡ b → member.credited ≤ 999_999_999 → (named name member ≡ true → member.credited + points ≤ 999_999_999) → cond b (member.credited + points) member.credited ≤ 999_999_999
+few_credited : (name : List ℕ) (points : ℕ) (member : Member) (b : Bool) → named name member ≡ b → member.credited ≤ 999_999_999
+    → (named name member ≡ true → member.credited + points ≤ 999_999_999) → cond b (member.credited + points) member.credited ≤ 999_999_999
 few_credited name points member true e few fits = fits e
 few_credited name points member false e few fits = few
 
-pub fits_add_credit : (club : Club) (name : List ℕ) (points : ℕ) (member : Member) → FitsWidths club → member_named name club ≡ Some member → member.credited + points ≤ 999_999_999 → FitsWidths (after (AddCredit name points) club)
+pub fits_add_credit : (club : Club) (name : List ℕ) (points : ℕ) (member : Member) → FitsWidths club → member_named name club ≡ Some member
+    → member.credited + points ≤ 999_999_999 → FitsWidths (after (AddCredit name points) club)
 fits_add_credit club name points member h found fits = record {
   credited = all_map (λ (m : Member). m.credited ≤ 999_999_999) (credited name points) club.members (λ k d lt.
       let row = get_or club.members k d in
       few_credited name points row (named name row) refl (h.credited k d lt) (λ e.
-      let same : find (named name) club.members ≡ Some row = subst (λ n. find (named n) club.members ≡ Some row) (bytes_eq_true row.name name e) (h.named k d lt) in
+      let same : find (named name) club.members ≡ Some row = subst (λ n. find (named n) club.members
+          ≡ Some row) (bytes_eq_true row.name name e) (h.named k d lt) in
       let row_is : member ≡ row = cc in
       subst (λ (m : Member). m.credited + points ≤ 999_999_999) row_is fits));
   named = all_map (IsNamed (map (credited name points) club.members)) (credited name points) club.members (λ k d lt.
@@ -95,13 +100,15 @@ same_slot_is a b e =
     let make : List ℕ → ℕ → ℕ → Slot = λ facility day hour. record { facility = facility; day = day; hour = hour } in
     ap (λ f. make f a.day a.hour) facility ∙ (ap (λ d. make b.facility d a.hour) day ∙ ap (λ h. make b.facility b.day h) hour)
 
-few_taken : (slot : Slot) (bookings : List Booking) (booking : Booking) (b : Bool) → is_in slot booking ≡ b → taken_in slot bookings ≤ 50 → taken_in booking.slot bookings + persons_of booking ≤ 50 → taken_in slot bookings + cond b (persons_of booking) 0 ≤ 50
+few_taken : (slot : Slot) (bookings : List Booking) (booking : Booking) (b : Bool) → is_in slot booking ≡ b → taken_in slot bookings ≤ 50
+    → taken_in booking.slot bookings + persons_of booking ≤ 50 → taken_in slot bookings + cond b (persons_of booking) 0 ≤ 50
 few_taken slot bookings booking true e few fits =
     let same : booking.slot ≡ slot = same_slot_is booking.slot slot (both (not booking.cancelled) (same_slot booking.slot slot) e).1 in
     subst (λ s. taken_in s bookings + persons_of booking ≤ 50) same fits
 few_taken slot bookings booking false e few fits = omega arith
 
-few_spent : (key : List ℕ) (bookings : List Booking) (booking : Booking) (b : Bool) → is_under key booking ≡ b → spent_under key bookings ≤ 999_999_999 → spent_under booking.key bookings + cost_of booking ≤ 999_999_999 → spent_under key bookings + cond b (cost_of booking) 0 ≤ 999_999_999
+few_spent : (key : List ℕ) (bookings : List Booking) (booking : Booking) (b : Bool) → is_under key booking ≡ b → spent_under key bookings ≤ 999_999_999
+    → spent_under booking.key bookings + cost_of booking ≤ 999_999_999 → spent_under key bookings + cond b (cost_of booking) 0 ≤ 999_999_999
 few_spent key bookings booking true e few fits =
     subst (λ k. spent_under k bookings + cost_of booking ≤ 999_999_999) (bytes_eq_true booking.key key e) fits
 few_spent key bookings booking false e few fits = omega arith
@@ -109,12 +116,15 @@ few_spent key bookings booking false e few fits = omega arith
 more : {X : Type 0} (f : X → ℕ) (p : X → Bool) (xs : List X) (y : X) → sum_by f (filter p (xs ++ y ∷ [])) ≡ sum_by f (filter p xs) + part f p y
 more f p xs y = total_is f p (xs ++ y ∷ []) ∙ (total_push f p xs y ∙ ap (λ n. n + part f p y) (sym (total_is f p xs)))
 
-pub fits_insert_booking : (club : Club) (booking : Booking) → FitsWidths club → taken_in booking.slot club.bookings + persons_of booking ≤ 50 → spent_under booking.key club.bookings + cost_of booking ≤ 999_999_999 → (booking.cancelled ≡ false → booking.refund ≡ 0) → FitsWidths (after (InsertBooking booking) club)
+pub fits_insert_booking : (club : Club) (booking : Booking) → FitsWidths club → taken_in booking.slot club.bookings + persons_of booking ≤ 50
+    → spent_under booking.key club.bookings + cost_of booking ≤ 999_999_999 → (booking.cancelled ≡ false → booking.refund ≡ 0)
+    → FitsWidths (after (InsertBooking booking) club)
 fits_insert_booking club booking h persons cost kept = record {
   credited = h.credited;
   named = h.named;
   places = h.places;
-  taken = λ slot. rw (more persons_of (is_in slot) club.bookings booking) (few_taken slot club.bookings booking (is_in slot booking) refl (h.taken slot) persons);
+  taken = λ slot. rw (more persons_of (is_in slot) club.bookings booking)
+      (few_taken slot club.bookings booking (is_in slot booking) refl (h.taken slot) persons);
   spent = λ key. rw (more cost_of (is_under key) club.bookings booking) (few_spent key club.bookings booking (is_under key booking) refl (h.spent key) cost);
   kept = All-push (λ (b : Booking). b.cancelled ≡ false → b.refund ≡ 0) club.bookings booking h.kept kept;
 }
@@ -146,8 +156,10 @@ still_kept false false old new kept e = kept refl
 pub fits_mark_cancelled : (club : Club) (key : List ℕ) (number refund : ℕ) → FitsWidths club → FitsWidths (after (MarkCancelled key number refund) club)
 fits_mark_cancelled club key number refund h =
     let edit = cancelled key number refund in
-    let none : (k : ℕ) (d : Booking) → k < length club.bookings → is_marked key number (get_or club.bookings k d) ≡ true → (get_or club.bookings k d).refund ≡ 0 =
-    λ k d lt e. h.kept k d lt (is_open_of_marked (is_under key (get_or club.bookings k d) && (get_or club.bookings k d).number == number) (get_or club.bookings k d).cancelled e) in
+    let none : (k : ℕ) (d : Booking) → k < length club.bookings → is_marked key number (get_or club.bookings k d) ≡ true
+        → (get_or club.bookings k d).refund ≡ 0 =
+    λ k d lt e. h.kept k d lt (is_open_of_marked (is_under key (get_or club.bookings k d)
+        && (get_or club.bookings k d).number == number) (get_or club.bookings k d).cancelled e) in
     record {
       credited = h.credited;
       named = h.named;

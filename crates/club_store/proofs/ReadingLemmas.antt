@@ -26,13 +26,15 @@ untouched_then a b c earlier first next rest clean is_open =
     (before.0, after.1 ∙ before.2, after.2 ∙ before.2)
 
 survives_same : (s : State) → Survives s s (λ _. ⊥)
-survives_same s = record { clean = omega arith; shield = λ h. h; counts = omega arith; limit = refl; closes = λ _ is_open. inl is_open; crash = λ _ db may. inl may }
+survives_same s = record { clean = omega arith; shield = λ h. h; counts = omega arith; limit = refl; closes = λ _ is_open. inl is_open; crash =
+    λ _ db may. inl may }
 
 survives_none : (a b c : State) → Survives a b (λ _. ⊥) → Survives b c (λ _. ⊥) → Survives a c (λ _. ⊥)
 survives_none a b c p q = survives_then a b c (λ _. ⊥) (λ _. ⊥) (λ _. ⊥) (λ _ db none. none) (λ _ db none. none) p q
 
 -- nothing is read
-pub read_nothing : {S A E : Type 0} (g : Ghosts S) (held : Held S) (result : Result A E) (IsTold : Club → A → Type 0) → ((club : Club) → IfOk result (IsTold club)) → ReadsClub g held held result IsTold
+pub read_nothing : {S A E : Type 0} (g : Ghosts S) (held : Held S) (result : Result A E) (IsTold : Club → A → Type 0)
+    → ((club : Club) → IfOk result (IsTold club)) → ReadsClub g held held result IsTold
 read_nothing g held result IsTold told = record {
   told = λ clean club others stands. told club;
   kept = λ clean club others stands. stands;
@@ -41,7 +43,8 @@ read_nothing g held result IsTold told = record {
 }
 
 -- what is made of an answer
-pub read_as : {S A B E F : Type 0} (g : Ghosts S) (old new : Held S) (first : Result A E) (result : Result B F) (IsFirst : Club → A → Type 0) (IsTold : Club → B → Type 0) → ReadsClub g old new first IsFirst
+pub read_as : {S A B E F : Type 0} (g : Ghosts S) (old new : Held S) (first : Result A E) (result : Result B F) (IsFirst : Club → A → Type 0) (IsTold : Club → B
+    → Type 0) → ReadsClub g old new first IsFirst
     → ((club : Club) → IfOk first (IsFirst club) → IfOk result (IsTold club)) → ReadsClub g old new result IsTold
 read_as g old new first result IsFirst IsTold reads makes = record {
   told = λ clean club others stands. makes club (reads.told clean club others stands);
@@ -51,12 +54,15 @@ read_as g old new first result IsFirst IsTold reads makes = record {
 }
 
 -- two readings, one after the other
-pub read_then : {S A B C E F G : Type 0} (g : Ghosts S) (a b c : Held S) (one : Result A E) (two : Result B F) (result : Result C G) (IsOne : Club → A → Type 0) (IsTwo : Club → B → Type 0) (IsTold : Club → C → Type 0)
-    → ReadsClub g a b one IsOne → ReadsClub g b c two IsTwo → ((club : Club) → IfOk one (IsOne club) → IfOk two (IsTwo club) → IfOk result (IsTold club)) → ReadsClub g a c result IsTold
+pub read_then : {S A B C E F G : Type 0} (g : Ghosts S) (a b c : Held S) (one : Result A E) (two : Result B F) (result : Result C G) (IsOne : Club → A
+    → Type 0) (IsTwo : Club → B → Type 0) (IsTold : Club → C → Type 0)
+    → ReadsClub g a b one IsOne → ReadsClub g b c two IsTwo → ((club : Club) → IfOk one (IsOne club) → IfOk two (IsTwo club) → IfOk result (IsTold club))
+        → ReadsClub g a c result IsTold
 read_then g a b c one two result IsOne IsTwo IsTold first next told =
     let earlier = λ (clean : HasCleanDisk (state g c)). let e : HasCleanDisk (state g b) = omega (arith, next.survives.clean) in e in
     record {
-      told = λ clean club others stands. told club (first.told (earlier clean) club others stands) (next.told clean club others (first.kept (earlier clean) club others stands));
+      told = λ clean club others stands. told club (first.told (earlier clean) club others stands)
+          (next.told clean club others (first.kept (earlier clean) club others stands));
       kept = λ clean club others stands. next.kept clean club others (first.kept (earlier clean) club others stands);
       untouched = untouched_then (state g a) (state g b) (state g c) earlier first.untouched next.untouched;
       survives = survives_none (state g a) (state g b) (state g c) first.survives next.survives;
@@ -67,8 +73,10 @@ on_err (Ok done) p f = tt
 on_err (Err e) p f = f p
 
 -- a change after a reading
-pub change_after : {S A E F : Type 0} (g : Ghosts S) (a b c : Held S) (first : Result A E) (result : Result (Unit {0}) F) (IsFirst : Club → A → Type 0) (IsBefore IsIt : Club → Type 0) (change : Change)
-    → ReadsClub g a b first IsFirst → ChangesClubWhere g IsIt change b c result → ((club : Club) → IsBefore club → IfOk first (IsFirst club) → IsIt club) → ChangesClubWhere g IsBefore change a c result
+pub change_after : {S A E F : Type 0} (g : Ghosts S) (a b c : Held S) (first : Result A E) (result : Result (Unit {0}) F) (IsFirst : Club → A
+    → Type 0) (IsBefore IsIt : Club → Type 0) (change : Change)
+    → ReadsClub g a b first IsFirst → ChangesClubWhere g IsIt change b c result → ((club : Club) → IsBefore club → IfOk first (IsFirst club) → IsIt club)
+        → ChangesClubWhere g IsBefore change a c result
 change_after g a b c first result IsFirst IsBefore IsIt change reads changes is =
     let earlier : HasCleanDisk (state g b) → HasCleanDisk (state g a) = λ clean. let e : HasCleanDisk (state g a) = omega (arith, reads.survives.clean) in e in
     let P = MayCommit g (AreWordsOf change) a in
@@ -93,7 +101,8 @@ change_after g a b c first result IsFirst IsBefore IsIt change reads changes is 
     }
 
 -- a refusal after a reading
-pub refuse_after : {S A E F : Type 0} (g : Ghosts S) (a b : Held S) (first : Result A E) (fault : F) (IsFirst : Club → A → Type 0) (IsIt : Club → Type 0) (change : Change)
+pub refuse_after : {S A E F : Type 0} (g : Ghosts S) (a b : Held S) (first : Result A E) (fault : F) (IsFirst : Club → A → Type 0) (IsIt : Club
+    → Type 0) (change : Change)
     → ReadsClub g a b first IsFirst → ChangesClubWhere g IsIt change a b (Err fault)
 refuse_after g a b first fault IsFirst IsIt change reads = record {
   honest = λ clean. let e : HasCleanDisk (state g a) = omega (arith, reads.survives.clean) in e;
@@ -105,12 +114,14 @@ refuse_after g a b first fault IsFirst IsIt change reads = record {
         left = λ clean trees may. elim (kept.left clean trees may) [ inl here ↦ inl here | inr there ↦ inr (inr there) ];
       };
   untouched = reads.untouched;
-  survives = survives_then (state g a) (state g b) (state g b) (λ _. ⊥) (λ _. ⊥) (MayCommit g (AreWordsOf change) a) (λ _ db none. absurd none) (λ _ db none. absurd none)
+  survives = survives_then (state g a) (state g b) (state g b) (λ _. ⊥) (λ _. ⊥) (MayCommit g (AreWordsOf change) a) (λ _ db none. absurd none) (λ _ db none.
+      absurd none)
       reads.survives (survives_same (state g b));
 }
 
 -- nothing is opened
 pub opens_nothing : {S : Type 0} (g : Ghosts S) (held : Held S) → SurvivesOpening g held held
 opens_nothing g held =
-    survives_then (state g held) (state g held) (state g held) (λ _. ⊥) (λ _. ⊥) (MayCommit g IsOpeningBatch held) (λ _ db none. absurd none) (λ _ db none. absurd none)
+    survives_then (state g held) (state g held) (state g held) (λ _. ⊥) (λ _. ⊥) (MayCommit g IsOpeningBatch held) (λ _ db none. absurd none) (λ _ db none.
+        absurd none)
     (survives_same (state g held)) (survives_same (state g held))

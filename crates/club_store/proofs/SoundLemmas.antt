@@ -10,10 +10,12 @@ use Rattle.club_core.specs.Club.{IsSound}
 use Rattle.club_tables.specs.Told.{Changes, ChangesWhere, sound_in, stands_in}
 
 -- a change of any club
-pub any_change : {S E : Type 0} (g : Ghosts S) (change : Change) (old new : Held S) (result : Result (Unit {0}) E) → ChangesWhere (λ _. Unit {0}) (stands_in g) change old new result → Changes (stands_in g) change old new result
+pub any_change : {S E : Type 0} (g : Ghosts S) (change : Change) (old new : Held S) (result : Result (Unit {0}) E)
+    → ChangesWhere (λ _. Unit {0}) (stands_in g) change old new result → Changes (stands_in g) change old new result
 any_change g change old new result changes club others stands fits = changes club others tt stands fits
 
-pub sound_changes : {S E : Type 0} (g : Ghosts S) (change : Change) (old new : Held S) (result : Result (Unit {0}) E) → Changes (stands_in g) change old new result → Changes (sound_in g) change old new result
+pub sound_changes : {S E : Type 0} (g : Ghosts S) (change : Change) (old new : Held S) (result : Result (Unit {0}) E)
+    → Changes (stands_in g) change old new result → Changes (sound_in g) change old new result
 sound_changes g change old new (Ok done) made = λ club others stands fits.
     (All-cons IsSound (after change club) [] fits (All-nil IsSound), made club others stands.1 fits)
 sound_changes g change old new (Err fault) made = λ club others stands fits. (

@@ -26,12 +26,14 @@ found {X} p (y ∷ xs) x h = go (p y) refl (λ e. found p xs x e) h
     go false fails more e = let later = more e in ((suc later.0.0, omega (arith, later.0.1), later.0.2), later.1)
 
 at_number : (club : Club) (key : Key) → HasOwnBookings club key → (number : Option ℕ)
-    → option_and_then (λ (n : ℕ). booking_under key.name n (bookings_of key.member club)) number ≡ option_and_then (λ (n : ℕ). booking_under key.name n club.bookings) number
+    → option_and_then (λ (n : ℕ). booking_under key.name n (bookings_of key.member club)) number
+        ≡ option_and_then (λ (n : ℕ). booking_under key.name n club.bookings) number
 at_number club key own None = refl
 at_number club key own (Some number) = own.booked number
 
 -- the view over all bookings of a key is that over the bookings of its member
-pub seen_is : OwnBookings → (club : Club) (name : List ℕ) (key : Key) (member : Member) (request : Request) (moment : ℕ) → key_named name club ≡ Some key → member_named key.member club ≡ Some member
+pub seen_is : OwnBookings → (club : Club) (name : List ℕ) (key : Key) (member : Member) (request : Request) (moment : ℕ) → key_named name club ≡ Some key
+    → member_named key.member club ≡ Some member
     → view_in club name request moment ≡ Some (seen club key member request moment)
 seen_is law club name key member request moment named owned =
     let there = found (λ (k : Key). bytes_eq k.name name) club.keys key named in
@@ -39,12 +41,14 @@ seen_is law club name key member request moment named owned =
     let same : key.member ≡ member.name = sym ((bytes_eq-Decides member.name key.member).0 its.1) in
     let own = law club key there.0 in
     let spent = subst (λ (m : List ℕ). spent_under key.name (bookings_of m club) ≡ spent_under key.name club.bookings) same own.spent in
-    let booked = subst (λ (m : List ℕ). option_and_then (λ (n : ℕ). booking_under key.name n (bookings_of m club)) (number_of request) ≡ option_and_then (λ (n : ℕ). booking_under key.name n club.bookings) (number_of request)) same
+    let booked = subst (λ (m : List ℕ). option_and_then (λ (n : ℕ). booking_under key.name n (bookings_of m club)) (number_of request)
+        ≡ option_and_then (λ (n : ℕ). booking_under key.name n club.bookings) (number_of request)) same
     (at_number club key own (number_of request)) in
     rw (named, owned) (cc)
 
 -- a member's row that was found is that of the member
-pub of_row : (club : Club) (found : Option Member) (row : MemberRow) → Some row ≡ option_map (member_row club) found → (found ≡ Some row.member) × (row ≡ member_row club row.member)
+pub of_row : (club : Club) (found : Option Member) (row : MemberRow) → Some row ≡ option_map (member_row club) found → (found ≡ Some row.member)
+    × (row ≡ member_row club row.member)
 of_row club None row h = absurd cc
 of_row club (Some m) row h =
     let e : row ≡ member_row club m = cc in

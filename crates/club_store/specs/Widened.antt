@@ -18,7 +18,8 @@ stands_widened state club other others stands = record {
   left = λ clean trees may. left_widened trees club other others (stands.left clean trees may);
 }
 
-pub sound_widened : (state : State) (club other : Club) (others : List Club) → All IsSound (club ∷ others) × Stands state club others → IsSound other → All IsSound (club ∷ other ∷ others) × Stands state club (other ∷ others)
+pub sound_widened : (state : State) (club other : Club) (others : List Club) → All IsSound (club ∷ others) × Stands state club others → IsSound other
+    → All IsSound (club ∷ other ∷ others) × Stands state club (other ∷ others)
 sound_widened state club other others stands sound = (
   All-cons IsSound club (other ∷ others) (All-head IsSound club others stands.0)
       (All-cons IsSound other others sound (All-tail IsSound club others stands.0)),

@@ -52,7 +52,8 @@ bookings_of_rows (a ∷ bookings) [] h = absurd h
 bookings_of_rows (a ∷ bookings) (b ∷ others) h = let first = one_booking a b h.0.1 in let more = bookings_of_rows bookings others h.1 in cc
 
 -- the bookings that were read are the day's
-pub day_of_rows : (club : Club) (day : ℕ) (rows : List Row) (bookings : List Booking) → ShowsDay club day rows → AreBookings rows bookings → AreRowsOf club day bookings
+pub day_of_rows : (club : Club) (day : ℕ) (rows : List Row) (bookings : List Booking) → ShowsDay club day rows → AreBookings rows bookings
+    → AreRowsOf club day bookings
 day_of_rows club day rows bookings shows are =
     let read = subst (λ rs. AreBookings rs bookings) shows.2 are in
     subst (AreRowsOf club day) (sym (bookings_of_rows shows.0 bookings read)) shows.1
@@ -70,20 +71,23 @@ abbrev IsOfRow : Row → Booking → Type 0
 IsOfRow row booking = IsBooking booking × HasValues row (booking_values booking)
 
 -- one row more is read
-pub bookings_more : (rows : List Row) (k : ℕ) (row : Row) (bookings : List Booking) (b : Booking) → k < length rows → row ≡ slice_index_or rows k row → AreBookings (take k rows) bookings → IsOfRow row b
+pub bookings_more : (rows : List Row) (k : ℕ) (row : Row) (bookings : List Booking) (b : Booking) → k < length rows → row ≡ slice_index_or rows k row
+    → AreBookings (take k rows) bookings → IsOfRow row b
     → AreBookings (take (k + 1) rows) (bookings ++ b ∷ [])
 bookings_more rows k row bookings b low is are of =
     let next : take (k + 1) rows ≡ take k rows ++ row ∷ [] = take_more rows k row low ∙ (λ i. take k rows ++ (sym is) i ∷ []) in
     rw next (zip_more IsOfRow (take k rows) bookings row b are of)
 
-booking_at : (rows : List Row) (bookings : List Booking) (k : ℕ) (d : Row) → AreBookings rows bookings → k < length rows → (b : Booking) × IsOfRow (slice_index_or rows k d) b
+booking_at : (rows : List Row) (bookings : List Booking) (k : ℕ) (d : Row) → AreBookings rows bookings → k < length rows → (b : Booking)
+    × IsOfRow (slice_index_or rows k d) b
 booking_at [] bookings k d are low = absurd (omega arith)
 booking_at (r ∷ rows) [] k d are low = absurd are
 booking_at (r ∷ rows) (b ∷ bookings) zero d are low = (b, are.0)
 booking_at (r ∷ rows) (b ∷ bookings) (suc k) d are low = booking_at rows bookings k d are.1 (omega arith)
 
 -- a row of no booking
-pub no_bookings : (rows : List Row) (k : ℕ) (row : Row) → k < length rows → row ≡ slice_index_or rows k row → ((b : Booking) → ¬ (IsOfRow row b)) → (bookings : List Booking) → ¬ (AreBookings rows bookings)
+pub no_bookings : (rows : List Row) (k : ℕ) (row : Row) → k < length rows → row ≡ slice_index_or rows k row → ((b : Booking) → ¬ (IsOfRow row b))
+    → (bookings : List Booking) → ¬ (AreBookings rows bookings)
 no_bookings rows k row low is none bookings are =
     let there = booking_at rows bookings k row are low in
     none there.0 (subst (λ r. IsOfRow r there.0) (sym is) there.1)

@@ -33,12 +33,15 @@ use Rattle.club_tables.specs.declared.texts.TheConstants.{MAKE_DESK, VERSION}
 abbrev compiled_of : Schema → Checked Parsed → Checked Compiled
 compiled_of schema r = and_then r (λ p. and_then (planned schema p) (λ plan. Ok (with_command p plan)))
 
-stopped : (shown : Checked (Option Returning)) (e : CompileError) (p : Parsed) (formats : _) → is_ok (and_then (and_then (and_then shown (λ s. and_then (Err e) (λ c. Ok (c, s)))) (λ found. Ok (formats, found))) (λ plan. Ok (with_command p plan))) ≡ false
+stopped : (shown : Checked (Option Returning)) (e : CompileError) (p : Parsed) (formats : _)
+    → is_ok (and_then (and_then (and_then shown (λ s. and_then (Err e) (λ c. Ok (c, s)))) (λ found. Ok (formats, found))) (λ plan. Ok (with_command p plan)))
+    ≡ false
 stopped (Ok s) e p formats = refl
 stopped (Err other) e p formats = refl
 
 -- a text whose command is refused is refused
-unplanned : (schema : Schema) (p : Parsed) (e : CompileError) → ((base : ℕ) → command schema p.formats base p.statement ≡ Err e) → is_ok (compiled_of schema (Ok p)) ≡ false
+unplanned : (schema : Schema) (p : Parsed) (e : CompileError) → ((base : ℕ) → command schema p.formats base p.statement ≡ Err e)
+    → is_ok (compiled_of schema (Ok p)) ≡ false
 unfolding planned meaning
 unplanned schema p e refused = rw (refused _) (stopped (returning schema _ p.statement) e p _)
 
@@ -123,7 +126,8 @@ makes_where kept same other =
 
 -- the text makes the table where nothing has its name
 desk_commands : (schema : Schema) (base : ℕ) → and_then (first MAKE_DESK.now) (λ p. command schema p.formats base p.statement)
-    ≡ makes_where (is_attached schema (codes "desk")) (option_or (table_named schema (codes "desk")) (view_named schema (codes "desk"))) (index_named schema (codes "desk"))
+    ≡ makes_where (is_attached schema (codes "desk")) (option_or (table_named schema (codes "desk")) (view_named schema (codes "desk")))
+        (index_named schema (codes "desk"))
 unfolding everything
 desk_commands schema base = refl
 
@@ -150,7 +154,8 @@ module _ (schema : Schema) where
     | inr unlisted ↦ rw unlisted at h
   ]
 
-  commanded : (r : Checked Parsed) (c : Checked Command) → ((base : ℕ) → and_then r (λ p. command schema p.formats base p.statement) ≡ c) → is_ok (compiled_of schema r) ≡ true → is_ok c ≡ true
+  commanded : (r : Checked Parsed) (c : Checked Command) → ((base : ℕ) → and_then r (λ p. command schema p.formats base p.statement) ≡ c)
+      → is_ok (compiled_of schema r) ≡ true → is_ok c ≡ true
   commanded r (Ok c) is h = refl
   commanded (Ok p) (Err e) is h = absurd (true≢false (sym h ∙ unplanned schema p e is))
   commanded (Err e) (Err other) is h = absurd cc

@@ -1,5 +1,6 @@
 -- An INSERT of one row, and CREATE TABLE.
-use Rattle.std.proofs.Common.{◌≡◌, ◌≢◌, ◌⊎◌, inl, inr, ℕ, ◌/◌, Bool, true, false, cond, None, Some, Ok, Err, Result, List, [], ◌∷◌, length, slice_get, refl, sym, ap, subst, ◌∙◌, append-nil}
+use Rattle.std.proofs.Common.{◌≡◌, ◌≢◌, ◌⊎◌, inl, inr, ℕ, ◌/◌, Bool, true, false, cond, None, Some, Ok, Err, Result, List, [], ◌∷◌, length, slice_get, refl,
+    sym, ap, subst, ◌∙◌, append-nil}
 use Rattle.std.specs.Prelude.{MatchBool}
 use Rattle.std.specs.List.{AllByRecursion}
 use Rattle.sqlite_value.specs.declared.value.Value.{Value}
@@ -57,9 +58,11 @@ uncounts b x Y G none h = subst (λ b. MatchBool (cond b x false) Y G) none h
 
 module _ (old new : State) (schema : Schema) (has : old.now.schema ≡ schema) (text : List ℕ) (plain : IsPlain (understood schema text)) where
   -- CREATE TABLE makes a table that is empty, and keeps the others
-  pub creates : (table : Table) → command_of (understood schema text) ≡ CreateTable → statement_of text (understood schema text) ≡ text → table_defined_by text ≡ Ok table
+  pub creates : (table : Table) → command_of (understood schema text) ≡ CreateTable → statement_of text (understood schema text) ≡ text
+      → table_defined_by text ≡ Ok table
       → lacks_sequence (created schema table) ≡ false → (count : ℕ) → Executes text [] old new (Ok count)
-      → (is_used schema table.name ≡ false) × (new.now.schema ≡ created schema table) × (new.now.trees (next_tree schema) ≡ []) × KeepsRows schema.tables old.now.trees new.now.trees
+      → (is_used schema table.name ≡ false) × (new.now.schema ≡ created schema table) × (new.now.trees (next_tree schema) ≡ [])
+          × KeepsRows schema.tables old.now.trees new.now.trees
   creates table is whole defined counts count h =
       let w = subst (λ t. Writes old new None CreateTable t [] count) whole (runs_as text [] old new schema has CreateTable is plain count h) in
       let all = went w.changed in
@@ -70,19 +73,24 @@ module _ (old new : State) (schema : Schema) (has : old.now.schema ≡ schema) (
       let after : first.0.schema ≡ created schema table = made.is ∙ ap (λ s. created s made.table) has ∙ ap (created schema) same in
       let none : lacks_sequence first.0.schema ≡ false = ap lacks_sequence after ∙ counts in
       let now : new.now ≡ first.0 = ap (λ (p : Tally × Database). p.1) (same_value all.2) ∙ same_value (rw none at first.2) in
-      let free : is_used schema table.name ≡ false = subst (λ (t : Table). is_used schema t.name ≡ false) same (subst (λ s. is_used s made.table.name ≡ false) has made.free) in (
+      let free : is_used schema table.name ≡ false = subst (λ (t : Table). is_used schema t.name
+          ≡ false) same (subst (λ s. is_used s made.table.name ≡ false) has made.free) in (
         free,
         ap (λ (d : Database). d.schema) now ∙ after,
         ap (λ (d : Database). d.trees (next_tree schema)) now ∙ subst (λ s. first.0.trees (next_tree s) ≡ []) has made.empty,
-        subst (λ (d : Database). KeepsRows schema.tables old.now.trees d.trees) (sym now) (subst (λ (s : Schema). KeepsRows s.tables old.now.trees first.0.trees) has made.others),
+        subst (λ (d : Database). KeepsRows schema.tables old.now.trees d.trees) (sym now)
+            (subst (λ (s : Schema). KeepsRows s.tables old.now.trees first.0.trees) has made.others),
       )
 
   -- CREATE INDEX keeps the rows
-  pub indexes : (at : ℕ) (table : Table) (index : Index) → slice_get schema.tables at ≡ Some table → command_of (understood schema text) ≡ CreateIndex at → statement_of text (understood schema text) ≡ text
-      → index_defined_by table text ≡ Ok index → (count : ℕ) → Executes text [] old new (Ok count) → (new.now.schema ≡ indexed schema table index) × KeepsRows schema.tables old.now.trees new.now.trees
+  pub indexes : (at : ℕ) (table : Table) (index : Index) → slice_get schema.tables at ≡ Some table → command_of (understood schema text) ≡ CreateIndex at
+      → statement_of text (understood schema text) ≡ text
+      → index_defined_by table text ≡ Ok index → (count : ℕ) → Executes text [] old new (Ok count) → (new.now.schema ≡ indexed schema table index)
+          × KeepsRows schema.tables old.now.trees new.now.trees
   indexes at table index listed is whole defined count h =
       let w = subst (λ t. Writes old new None (CreateIndex at) t [] count) whole (runs_as text [] old new schema has (CreateIndex at) is plain count h) in
-      let does = subst (λ s. Does old.step_limit (mode_of old) [] (record old.now { schema = s }) text None (CreateIndex at) (Ok (w.tally, new.now))) has w.changed in
+      let does = subst (λ s. Does old.step_limit (mode_of old) [] (record old.now { schema = s }) text None (CreateIndex at) (Ok (w.tally, new.now))) has
+          w.changed in
       let made = went (rw listed at does) in
       let it = made.1 in
       let both : Ok it.index ≡ Ok index = sym it.defined ∙ defined in
@@ -93,7 +101,8 @@ module _ (old new : State) (schema : Schema) (has : old.now.schema ≡ schema) (
       )
 
   -- INSERT puts a row at the next rowid, and keeps the other tables
-  pub inserts : (at : ℕ) (table : Table) (terms : List Term) (width : ℕ) (params values : Row) → slice_get schema.tables at ≡ Some table → command_of (understood schema text) ≡ Insert at (Values terms width)
+  pub inserts : (at : ℕ) (table : Table) (terms : List Term) (width : ℕ) (params values : Row) → slice_get schema.tables at ≡ Some table
+      → command_of (understood schema text) ≡ Insert at (Values terms width)
       → table.is_counted ≡ false → table.stamps ≡ record { places = []; terms = []; formats = [] }
       → value_rows params width (length terms / width) terms ≡ (Null ∷ values) ∷ [] → cast_row table (Null ∷ values) ≡ Null ∷ values
       → ((row : Row) → works schema Enforced 0 table.tree [] (row ∷ []) ≡ [])
@@ -105,7 +114,8 @@ module _ (old new : State) (schema : Schema) (has : old.now.schema ≡ schema) (
       let command = Insert at (Values terms width) in
       let w = runs_as text params old new schema has command is plain count h in
       let words = statement_of text (understood schema text) in
-      let does = subst (λ s. Does old.step_limit (mode_of old) params (record old.now { schema = s }) words None command (Ok (w.tally, new.now))) has w.changed in
+      let does = subst (λ s. Does old.step_limit (mode_of old) params (record old.now { schema = s }) words None command (Ok (w.tally, new.now))) has
+          w.changed in
       let done = went (rw listed at does) in
       let now = ap (λ (p : Tally × Database). p.1) (same_value (went (went done.2).2).2) in
       let given = went done.1 in
@@ -117,9 +127,11 @@ module _ (old new : State) (schema : Schema) (has : old.now.schema ≡ schema) (
       let top : Ok counted.0 ≡ Ok written.0 = uncounts table.is_counted _ _ _ uncounted counted.1 in
       let trees : done.0.trees ≡ written.0 = ap (λ (it : Written). it.trees) (same_value counted.2) ∙ same_value top in
       let edit_from : Rowids → List Row → Edit = λ rowids rows. edit_of db table [] rowids 0 rows in
-      let chosen : ActionWrites schema Enforced db (edit_from Chosen given.0) (Ok written.0) = subst (λ b. ActionWrites schema Enforced db (edit_from (cond b (Above (count_of c1.0)) Chosen) given.0) (Ok written.0)) uncounted written.1 in
+      let chosen : ActionWrites schema Enforced db (edit_from Chosen given.0) (Ok written.0) =
+          subst (λ b. ActionWrites schema Enforced db (edit_from (cond b (Above (count_of c1.0)) Chosen) given.0) (Ok written.0)) uncounted written.1 in
       let edit : Edit = record { table = table; gone = []; news = (Int (next_rowid (db table.tree)) ∷ values) ∷ [] } in
-      let wrote : ActionWrites schema Enforced db (edit_from Chosen ((Null ∷ values) ∷ [])) (Ok written.0) = subst (λ rows. ActionWrites schema Enforced db (edit_from Chosen rows) (Ok written.0)) sourced chosen in
+      let wrote : ActionWrites schema Enforced db (edit_from Chosen ((Null ∷ values) ∷ [])) (Ok written.0) =
+          subst (λ rows. ActionWrites schema Enforced db (edit_from Chosen rows) (Ok written.0)) sourced chosen in
       let as_edit : Row → Edit = λ row. record { table = table; gone = []; news = with_rowid Chosen (db table.tree) row ∷ [] } in
       let put : ActionWrites schema Enforced db edit (Ok written.0) = subst (λ row. ActionWrites schema Enforced db (as_edit row) (Ok written.0)) casts wrote in
       let applied = one_step schema Enforced db written.0 edit (still (Int (next_rowid (db table.tree)) ∷ values)) put in

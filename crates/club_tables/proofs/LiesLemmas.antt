@@ -17,7 +17,8 @@ module _ (old new : Database) (rows : Rows) (lies : Lies old rows) (schema : new
   abbrev Others : ℕ → Type 0
   Others tree = AllByRecursion (λ (t : Table). t.tree ≢ tree → new.trees t.tree ≡ old.trees t.tree) club_schema.tables
 
-  pub on_members : Others members_tree → (members : List MemberRow) → Holds member_values (new.trees members_tree) members → Lies new (record rows { members = members })
+  pub on_members : Others members_tree → (members : List MemberRow) → Holds member_values (new.trees members_tree) members
+      → Lies new (record rows { members = members })
   on_members others members held = record {
     schema = schema;
     version = subst (λ rs. Holds version_values rs (2 ∷ [])) (sym (others.0 (λ e. omega arith))) lies.version;
@@ -30,7 +31,8 @@ module _ (old new : Database) (rows : Rows) (lies : Lies old rows) (schema : new
     database = sound;
   }
 
-  pub on_facilities : Others facilities_tree → (facilities : List Facility) → Holds facility_values (new.trees facilities_tree) facilities → Lies new (record rows { facilities = facilities })
+  pub on_facilities : Others facilities_tree → (facilities : List Facility) → Holds facility_values (new.trees facilities_tree) facilities
+      → Lies new (record rows { facilities = facilities })
   on_facilities others facilities held = record {
     schema = schema;
     version = subst (λ rs. Holds version_values rs (2 ∷ [])) (sym (others.0 (λ e. omega arith))) lies.version;
@@ -69,7 +71,8 @@ module _ (old new : Database) (rows : Rows) (lies : Lies old rows) (schema : new
     database = sound;
   }
 
-  pub on_bookings : Others bookings_tree → (bookings : List Booking) → Holds booking_values (new.trees bookings_tree) bookings → Lies new (record rows { bookings = bookings })
+  pub on_bookings : Others bookings_tree → (bookings : List Booking) → Holds booking_values (new.trees bookings_tree) bookings
+      → Lies new (record rows { bookings = bookings })
   on_bookings others bookings held = record {
     schema = schema;
     version = subst (λ rs. Holds version_values rs (2 ∷ [])) (sym (others.0 (λ e. omega arith))) lies.version;

@@ -1,5 +1,6 @@
 -- What each change makes of the tables.
-use Rattle.std.proofs.Common.{◌≡◌, ◌≢◌, ℕ, zero, suc, ◌+◌, ◌-◌, ◌<◌, ◌≤◌, ◌^◌, ℤ, pos, neg_ℤ, ◌+ℤ◌, Bool, true, false, ◌||◌, cond, if◌then◌else◌, Ok, None, List, [], ◌∷◌, ◌++◌, map, Contains, refl, sym, ap, subst, ◌∙◌, arith}
+use Rattle.std.proofs.Common.{◌≡◌, ◌≢◌, ℕ, zero, suc, ◌+◌, ◌-◌, ◌<◌, ◌≤◌, ◌^◌, ℤ, pos, neg_ℤ, ◌+ℤ◌, Bool, true, false, ◌||◌, cond, if◌then◌else◌, Ok, None,
+    List, [], ◌∷◌, ◌++◌, map, Contains, refl, sym, ap, subst, ◌∙◌, arith}
 use Rattle.std.specs.Prelude.{AllPairs}
 use Rattle.std.specs.List.{AllByRecursion, list_any}
 use Rattle.std.specs.Str.{bytes_eq}
@@ -18,7 +19,8 @@ use Rattle.club_rows.specs.declared.booking.Booking.{Booking}
 use Rattle.club_rows.specs.declared.facility.Facility.{Facility}
 use Rattle.club_rows.specs.declared.key.Key.{Key}
 use Rattle.club_rows.specs.declared.member.Member.{Member}
-use Rattle.club_core.specs.declared.change.Change.TheVariants.{InsertMember, AddCredit, InsertFacility, InsertKey, MarkRevoked, ReplaceRoot, MarkClosed, InsertBooking, MarkCancelled}
+use Rattle.club_core.specs.declared.change.Change.TheVariants.{InsertMember, AddCredit, InsertFacility, InsertKey, MarkRevoked, ReplaceRoot, MarkClosed,
+    InsertBooking, MarkCancelled}
 use Rattle.club_core.specs.After.{after, credited, good_until}
 use Rattle.club_rows.specs.Booking.{same_slot, persons_of}
 use Rattle.club_core.specs.Club.{Club, IsSound, is_key_of}
@@ -27,7 +29,8 @@ use Rattle.club_core.specs.Basis.{slot_use}
 use Rattle.club_core.specs.Store.{Fits}
 use Rattle.club_core.specs.Sums.{taken_in, cost_of}
 use Rattle.club_tables.specs.declared.row.MemberRow.{MemberRow}
-use Rattle.club_tables.specs.declared.texts.TheConstants.{ADD_MEMBER, ADD_FACILITY, ADD_KEY, ADD_CREDIT, REVOKE_KEY, PUT_OLDER_ROOT, SET_ROOT, CLOSE_SLOT, ADD_BOOKING, CANCEL_BOOKING}
+use Rattle.club_tables.specs.declared.texts.TheConstants.{ADD_MEMBER, ADD_FACILITY, ADD_KEY, ADD_CREDIT, REVOKE_KEY, PUT_OLDER_ROOT, SET_ROOT, CLOSE_SLOT,
+    ADD_BOOKING, CANCEL_BOOKING}
 use Rattle.club_tables.specs.Columns.{whole, facility_values, key_values, older_root_values, booking_values, name_values}
 use Rattle.club_tables.specs.Stored.{SlotRow, Rows, member_row, used_by, unused, use_by, persons_taken}
 use Rattle.club_tables.specs.Tables.{Tables}
@@ -44,7 +47,8 @@ use Rattle.club_tables.proofs.SelectLemmas.{Apart, apart_from_pairs}
 use Rattle.club_tables.proofs.SlotRows.{AreApart, same_itself, not_same}
 use Rattle.club_tables.proofs.OlderLemmas.{put_older, older_stands}
 use Rattle.club_tables.proofs.OwnerLemmas.{all_of, all_last, owner_is}
-use Rattle.club_tables.proofs.StoredLemmas.{member_stored, credit_stored, facility_stored, key_stored, revoke_stored, rotate_stored, close_stored, booking_stored, taken_more}
+use Rattle.club_tables.proofs.StoredLemmas.{member_stored, credit_stored, facility_stored, key_stored, revoke_stored, rotate_stored, close_stored,
+    booking_stored, taken_more}
 use Rattle.club_tables.proofs.CancelStored.{there, used_back, taken_back, cancel_stored, same_stored}
 use Rattle.club_tables.proofs.UpsertLemmas.{slot_closed, slot_taken, Takes}
 
@@ -66,11 +70,13 @@ module _ {S : Type 0} (g : Ghosts S) (old : Held S) (db : Database) where
 
 -- ---- rows of members
 
-all_named : (club : Club) (name : List ℕ) (ms : List Member) → AllByRecursion (λ (m : Member). name ≢ m.name) ms → AllByRecursion (λ (row : MemberRow). name ≢ name_of row) (map (member_row club) ms)
+all_named : (club : Club) (name : List ℕ) (ms : List Member) → AllByRecursion (λ (m : Member). name ≢ m.name) ms
+    → AllByRecursion (λ (row : MemberRow). name ≢ name_of row) (map (member_row club) ms)
 all_named club name [] h = tt
 all_named club name (m ∷ ms) h = (h.0, all_named club name ms h.1)
 
-named_apart : (club : Club) (ms : List Member) → Apart (λ (a : Member) (b : Member). a.name ≢ b.name) ms → Apart (λ (a : MemberRow) (b : MemberRow). name_of a ≢ name_of b) (map (member_row club) ms)
+named_apart : (club : Club) (ms : List Member) → Apart (λ (a : Member) (b : Member). a.name ≢ b.name) ms
+    → Apart (λ (a : MemberRow) (b : MemberRow). name_of a ≢ name_of b) (map (member_row club) ms)
 named_apart club [] apart = tt
 named_apart club (m ∷ ms) apart = (all_named club m.name ms apart.0, named_apart club ms apart.1)
 
@@ -78,13 +84,15 @@ named_once : (club : Club) (rows : List MemberRow) → rows ≡ map (member_row 
 named_once club rows is sound =
     let R : MemberRow → MemberRow → Type 0 = λ a b. name_of a ≢ name_of b in
     let Q : Member → Member → Type 0 = λ a b. a.name ≢ b.name in
-    subst (AllPairs R) (sym is) (pairs_from_apart R (map (member_row club) club.members) (named_apart club club.members (apart_from_pairs Q club.members sound.unique.members)))
+    subst (AllPairs R) (sym is) (pairs_from_apart R (map (member_row club) club.members)
+        (named_apart club club.members (apart_from_pairs Q club.members sound.unique.members)))
 
 all_mapped : {X Y : Type 0} (P : Y → Type 0) (f : X → Y) (xs : List X) → AllByRecursion P (map f xs) → AllByRecursion (λ x. P (f x)) xs
 all_mapped P f [] h = tt
 all_mapped P f (x ∷ xs) h = (h.0, all_mapped P f xs h.1)
 
-credits_of : (club : Club) (name : List ℕ) (points : ℕ) (ms : List Member) → AllByRecursion (λ (m : Member). IsMember (credited name points m)) ms → AllByRecursion (Credits name points) (map (member_row club) ms)
+credits_of : (club : Club) (name : List ℕ) (points : ℕ) (ms : List Member) → AllByRecursion (λ (m : Member). IsMember (credited name points m)) ms
+    → AllByRecursion (Credits name points) (map (member_row club) ms)
 credits_of club name points [] h = tt
 credits_of club name points (m ∷ ms) h = (first, credits_of club name points ms h.1)
   where
@@ -97,11 +105,13 @@ credits_of club name points (m ∷ ms) h = (first, credits_of club name points m
 few_used : (club : Club) → IsSound club → AllByRecursion (λ (m : Member). used_by club m.name ≤ 999_999_999) club.members
 few_used club sound = each club.members (all_of _ club.members sound.balances) (all_of _ club.members sound.rows.members)
   where
-    each : (ms : List Member) → AllByRecursion (λ (m : Member). used_by club m.name ≤ m.credited) ms → AllByRecursion IsMember ms → AllByRecursion (λ (m : Member). used_by club m.name ≤ 999_999_999) ms
+    each : (ms : List Member) → AllByRecursion (λ (m : Member). used_by club m.name ≤ m.credited) ms → AllByRecursion IsMember ms
+        → AllByRecursion (λ (m : Member). used_by club m.name ≤ 999_999_999) ms
     each [] low limits = tt
     each (m ∷ ms) low limits = (omega (arith, low.0, limits.0.credited), each ms low.1 limits.1)
 
-uses_more : (club : Club) (name : List ℕ) (cost : ℕ) → cost ≤ 499_950 → (ms : List Member) → AllByRecursion (λ (m : Member). used_by club m.name ≤ 999_999_999) ms
+uses_more : (club : Club) (name : List ℕ) (cost : ℕ) → cost ≤ 499_950 → (ms : List Member)
+    → AllByRecursion (λ (m : Member). used_by club m.name ≤ 999_999_999) ms
     → AllByRecursion (Uses name (pos cost) (λ n. n + cost)) (map (member_row club) ms)
 uses_more club name cost low [] h = tt
 uses_more club name cost low (m ∷ ms) h = (λ passes. total (used_by club m.name) cost (omega (arith, h.0)), uses_more club name cost low ms h.1)
@@ -114,10 +124,12 @@ minus m r low small =
     let fits : m - r < 2 ^ 63 = omega arith in
     rw (sum, lt-ltb (m - r) (2 ^ 63) fits) refl
 
-uses_less : (club : Club) (name : List ℕ) (refund : ℕ) (ms : List Member) → AllByRecursion (λ (m : Member). used_by club m.name ≤ 999_999_999) ms → ((m : Member) → bytes_eq m.name name ≡ true → refund ≤ used_by club m.name)
+uses_less : (club : Club) (name : List ℕ) (refund : ℕ) (ms : List Member) → AllByRecursion (λ (m : Member). used_by club m.name ≤ 999_999_999) ms
+    → ((m : Member) → bytes_eq m.name name ≡ true → refund ≤ used_by club m.name)
     → AllByRecursion (Uses name (neg_ℤ (pos refund)) (λ n. n - refund)) (map (member_row club) ms)
 uses_less club name refund [] h enough = tt
-uses_less club name refund (m ∷ ms) h enough = (λ passes. minus (used_by club m.name) refund (enough m passes) (omega (arith, h.0)), uses_less club name refund ms h.1 enough)
+uses_less club name refund (m ∷ ms) h enough = (λ passes. minus (used_by club m.name) refund (enough m passes) (omega (arith, h.0)),
+    uses_less club name refund ms h.1 enough)
 
 -- ---- rows of slots
 
@@ -126,7 +138,8 @@ held_is : (rows : List SlotRow) → AreApart rows → AllByRecursion (λ (x : Sl
 held_is [] apart = tt
 held_is (x ∷ rows) apart = (rw (same_itself x.slot) refl, others rows apart.0 (held_is rows apart.1))
   where
-    others : (ys : List SlotRow) → AllByRecursion (λ (y : SlotRow). x.slot ≢ y.slot) ys → AllByRecursion (λ (y : SlotRow). use_by y.slot rows ≡ y.held) ys → AllByRecursion (λ (y : SlotRow). use_by y.slot (x ∷ rows) ≡ y.held) ys
+    others : (ys : List SlotRow) → AllByRecursion (λ (y : SlotRow). x.slot ≢ y.slot) ys → AllByRecursion (λ (y : SlotRow). use_by y.slot rows ≡ y.held) ys
+        → AllByRecursion (λ (y : SlotRow). use_by y.slot (x ∷ rows) ≡ y.held) ys
     others [] apart h = tt
     others (y ∷ ys) apart h = (rw (not_same x.slot y.slot apart.0) h.0, others ys apart.1 h.1)
 
@@ -147,15 +160,18 @@ no_row : (slot : Slot) (rows : List SlotRow) → list_any (λ (row : SlotRow). s
 no_row slot [] none = refl
 no_row slot (x ∷ rows) none = go (no_row slot rows) (same_slot x.slot slot) refl none
   where
-    go : (list_any (λ (row : SlotRow). same_slot row.slot slot) rows ≡ false → use_by slot rows ≡ unused) → (b : Bool) → same_slot x.slot slot ≡ b → (b || list_any (λ (row : SlotRow). same_slot row.slot slot) rows) ≡ false → use_by slot (x ∷ rows) ≡ unused
+    go : (list_any (λ (row : SlotRow). same_slot row.slot slot) rows ≡ false → use_by slot rows ≡ unused) → (b : Bool) → same_slot x.slot slot ≡ b
+        → (b || list_any (λ (row : SlotRow). same_slot row.slot slot) rows) ≡ false → use_by slot (x ∷ rows) ≡ unused
     go later true is h = absurd cc
     go later false is h = rw is (later h)
 
 -- no slot of a facility has more than 50 persons
-few_taken : (club : Club) → IsSound club → (slot : Slot) → Contains (map (λ (f : Facility). f.name) club.facilities) slot.facility → taken_in slot club.bookings ≤ 50
+few_taken : (club : Club) → IsSound club → (slot : Slot) → Contains (map (λ (f : Facility). f.name) club.facilities) slot.facility
+    → taken_in slot club.bookings ≤ 50
 few_taken club sound slot has = each club.facilities (all_of _ club.facilities sound.places) (all_of _ club.facilities sound.rows.facilities) has
   where
-    each : (fs : List Facility) → AllByRecursion (λ (f : Facility). (s : Slot) → s.facility ≡ f.name → taken_in s club.bookings ≤ f.places) fs → AllByRecursion IsFacility fs
+    each : (fs : List Facility) → AllByRecursion (λ (f : Facility). (s : Slot) → s.facility ≡ f.name → taken_in s club.bookings ≤ f.places) fs
+        → AllByRecursion IsFacility fs
         → Contains (map (λ (f : Facility). f.name) fs) slot.facility → taken_in slot club.bookings ≤ 50
     each [] places limits has = absurd (omega (arith, has.1))
     each (f ∷ fs) places limits (zero, low, is) = omega (arith, places.0 slot (sym is), limits.0.few_places)
@@ -164,7 +180,8 @@ few_taken club sound slot has = each club.facilities (all_of _ club.facilities s
 -- ---- the changes
 
 module _ {S : Type 0} (g : Ghosts S) (old : Held S) (db : Database) (club : Club) (tables : Tables (state g old).now club) where
-  pub member_made : (member : Member) → Fits (InsertMember member) club → Ran g ((ADD_MEMBER.now, Text member.name ∷ whole member.credited ∷ whole member.quota ∷ []) ∷ []) old db → Tables db (after (InsertMember member) club)
+  pub member_made : (member : Member) → Fits (InsertMember member) club → Ran g ((ADD_MEMBER.now,
+      Text member.name ∷ whole member.credited ∷ whole member.quota ∷ []) ∷ []) old db → Tables db (after (InsertMember member) club)
   member_made member fits ran =
       let t = one_turn g old db _ ran in
       held_by g old db _ t.mid t.left (record {
@@ -174,7 +191,8 @@ module _ {S : Type 0} (g : Ghosts S) (old : Held S) (db : Database) (club : Club
         sound = fits;
       })
 
-  pub facility_made : (facility : Facility) → Fits (InsertFacility facility) club → Ran g ((ADD_FACILITY.now, facility_values facility) ∷ []) old db → Tables db (after (InsertFacility facility) club)
+  pub facility_made : (facility : Facility) → Fits (InsertFacility facility) club → Ran g ((ADD_FACILITY.now, facility_values facility) ∷ []) old db
+      → Tables db (after (InsertFacility facility) club)
   facility_made facility fits ran =
       let t = one_turn g old db _ ran in
       held_by g old db _ t.mid t.left (record {
@@ -184,7 +202,8 @@ module _ {S : Type 0} (g : Ghosts S) (old : Held S) (db : Database) (club : Club
         sound = fits;
       })
 
-  pub key_made : (key : Key) → key.older ≡ None → Fits (InsertKey key) club → Ran g ((ADD_KEY.now, key_values key) ∷ []) old db → Tables db (after (InsertKey key) club)
+  pub key_made : (key : Key) → key.older ≡ None → Fits (InsertKey key) club → Ran g ((ADD_KEY.now, key_values key) ∷ []) old db
+      → Tables db (after (InsertKey key) club)
   key_made key new fits ran =
       let t = one_turn g old db _ ran in
       held_by g old db _ t.mid t.left (record {
@@ -194,19 +213,22 @@ module _ {S : Type 0} (g : Ghosts S) (old : Held S) (db : Database) (club : Club
         sound = fits;
       })
 
-  pub credit_made : (name : List ℕ) (points : ℕ) → Fits (AddCredit name points) club → Ran g ((ADD_CREDIT.now, Text name ∷ whole points ∷ []) ∷ []) old db → Tables db (after (AddCredit name points) club)
+  pub credit_made : (name : List ℕ) (points : ℕ) → Fits (AddCredit name points) club → Ran g ((ADD_CREDIT.now, Text name ∷ whole points ∷ []) ∷ []) old db
+      → Tables db (after (AddCredit name points) club)
   credit_made name points fits ran =
       let t = one_turn g old db _ ran in
       let within = all_mapped IsMember (credited name points) club.members (all_of IsMember (map (credited name points) club.members) fits.rows.members) in
       let sums = subst (AllByRecursion (Credits name points)) (sym tables.stored.members) (credits_of club name points club.members within) in
       held_by g old db _ t.mid t.left (record {
         rows = _;
-        lies = member_credited (state g (begun old)) (state g t.mid) tables.rows tables.lies (named_once club tables.rows.members tables.stored.members tables.sound) name points sums t.count t.ran;
+        lies = member_credited (state g (begun old)) (state g t.mid) tables.rows tables.lies
+            (named_once club tables.rows.members tables.stored.members tables.sound) name points sums t.count t.ran;
         stored = credit_stored club tables.rows tables.stored name points;
         sound = fits;
       })
 
-  pub revoke_made : (name : List ℕ) → Fits (MarkRevoked name) club → Ran g ((REVOKE_KEY.now, Text name ∷ []) ∷ []) old db → Tables db (after (MarkRevoked name) club)
+  pub revoke_made : (name : List ℕ) → Fits (MarkRevoked name) club → Ran g ((REVOKE_KEY.now, Text name ∷ []) ∷ []) old db
+      → Tables db (after (MarkRevoked name) club)
   revoke_made name fits ran =
       let t = one_turn g old db _ ran in
       let unique = subst (AllPairs (λ (a : Key) (b : Key). a.name ≢ b.name)) (sym tables.stored.keys) tables.sound.unique.keys in
@@ -218,7 +240,8 @@ module _ {S : Type 0} (g : Ghosts S) (old : Held S) (db : Database) (club : Club
       })
 
   pub rotate_made : (name root was : List ℕ) (until : ℕ) → HasRoot name was club → Fits (ReplaceRoot name root until) club
-      → Ran g ((PUT_OLDER_ROOT.now, Text name ∷ older_root_values (good_until until was)) ∷ (SET_ROOT.now, Text name ∷ Blob root ∷ []) ∷ []) old db → Tables db (after (ReplaceRoot name root until) club)
+      → Ran g ((PUT_OLDER_ROOT.now, Text name ∷ older_root_values (good_until until was)) ∷ (SET_ROOT.now, Text name ∷ Blob root ∷ []) ∷ []) old db
+          → Tables db (after (ReplaceRoot name root until) club)
   rotate_made name root was until has fits ran =
       let t1 = ran.turns in
       let t2 = t1.3 in
@@ -232,7 +255,8 @@ module _ {S : Type 0} (g : Ghosts S) (old : Held S) (db : Database) (club : Club
         sound = fits;
       })
 
-  pub close_made : (slot : Slot) → Fits (MarkClosed slot) club → Ran g ((CLOSE_SLOT.now, name_values slot) ∷ []) old db → Tables db (after (MarkClosed slot) club)
+  pub close_made : (slot : Slot) → Fits (MarkClosed slot) club → Ran g ((CLOSE_SLOT.now, name_values slot) ∷ []) old db
+      → Tables db (after (MarkClosed slot) club)
   close_made slot fits ran =
       let t = one_turn g old db _ ran in
       held_by g old db _ t.mid t.left (record {
@@ -243,7 +267,8 @@ module _ {S : Type 0} (g : Ghosts S) (old : Held S) (db : Database) (club : Club
       })
 
   bookings_once : AllPairs (λ (a : Booking) (b : Booking). ¬ ((a.key ≡ b.key) × (a.number ≡ b.number))) tables.rows.bookings
-  bookings_once = subst (AllPairs (λ (a : Booking) (b : Booking). ¬ ((a.key ≡ b.key) × (a.number ≡ b.number)))) (sym tables.stored.bookings) tables.sound.unique.bookings
+  bookings_once = subst (AllPairs (λ (a : Booking) (b : Booking). ¬ ((a.key ≡ b.key) × (a.number ≡ b.number)))) (sym tables.stored.bookings)
+      tables.sound.unique.bookings
 
   all_held : AllByRecursion (λ (x : SlotRow). use_by x.slot tables.rows.slots ≡ x.held) tables.rows.slots
   all_held = held_is tables.rows.slots (apart_from_pairs (λ (a : SlotRow) (b : SlotRow). a.slot ≢ b.slot) tables.rows.slots tables.stored.once)
@@ -260,29 +285,39 @@ module _ {S : Type 0} (g : Ghosts S) (old : Held S) (db : Database) (club : Club
       })
 
   pub booking_made : (booking : Booking) (member : List ℕ) → IsOwnedBy member booking.key club → Fits (InsertBooking booking) club
-      → Ran g (with_totals ADD_BOOKING.now (booking_values booking) (Text member ∷ Int (pos (cost_of booking)) ∷ []) (name_values booking.slot ++ Int (pos (persons_taken booking)) ∷ [])) old db → Tables db (after (InsertBooking booking) club)
+      → Ran g (with_totals ADD_BOOKING.now (booking_values booking) (Text member ∷ Int (pos (cost_of booking)) ∷ []) (name_values booking.slot
+          ++ Int (pos (persons_taken booking)) ∷ [])) old db → Tables db (after (InsertBooking booking) club)
   booking_made booking member owned fits ran =
       let t1 = ran.turns in
       let t2 = t1.3 in
       let t3 = t2.3 in
       let left : db ≡ (state g t3.0).now = ran.is ∙ ap (λ h. (state g h).now) t3.3 in
       let row : IsBooking booking = all_last IsBooking club.bookings booking (all_of IsBooking (club.bookings ++ booking ∷ []) fits.rows.bookings) in
-      let booked = all_last (λ (b : Booking). Contains (map (λ (f : Facility). f.name) club.facilities) b.slot.facility) club.bookings booking (all_of _ (club.bookings ++ booking ∷ []) fits.references.booked) in
+      let booked = all_last (λ (b : Booking). Contains (map (λ (f : Facility). f.name) club.facilities) b.slot.facility) club.bookings booking
+          (all_of _ (club.bookings ++ booking ∷ []) fits.references.booked) in
       let cost_low : cost_of booking ≤ 499_950 = omega (arith, row.charge) in
-      let uses = subst (AllByRecursion (Uses member (pos (cost_of booking)) (λ n. n + cost_of booking))) (sym tables.stored.members) (uses_more club member (cost_of booking) cost_low club.members (few_used club tables.sound)) in
+      let uses = subst (AllByRecursion (Uses member (pos (cost_of booking)) (λ n. n + cost_of booking))) (sym tables.stored.members)
+          (uses_more club member (cost_of booking) cost_low club.members (few_used club tables.sound)) in
       let few = few_taken (after (InsertBooking booking) club) fits booking.slot booked in
       let more = taken_more club booking booking.slot in
-      let here : (if same_slot booking.slot booking.slot then taken_in booking.slot club.bookings + persons_taken booking else taken_in booking.slot club.bookings) ≡ taken_in booking.slot club.bookings + persons_taken booking =
+      let here : (if same_slot booking.slot booking.slot then taken_in booking.slot club.bookings + persons_taken booking else taken_in booking.slot
+          club.bookings) ≡ taken_in booking.slot club.bookings + persons_taken booking =
       ap (λ b. if b then taken_in booking.slot club.bookings + persons_taken booking else taken_in booking.slot club.bookings) (same_itself booking.slot) in
       let sum = total (taken_in booking.slot club.bookings) (persons_taken booking) (omega (arith, few, more, here)) in
-      let takes = takes_of club tables.rows.slots tables.stored.slots booking.slot (pos (persons_taken booking)) (λ n. n + persons_taken booking) sum tables.rows.slots all_held in
+      let takes = takes_of club tables.rows.slots tables.stored.slots booking.slot (pos (persons_taken booking)) (λ n.
+          n + persons_taken booking) sum tables.rows.slots all_held in
       let first = booking_put (state g (begun old)) (state g t1.0) tables.rows tables.lies booking t1.1 t1.2 in
-      let second = member_used (state g t1.0) (state g t2.0) _ first (named_once club tables.rows.members tables.stored.members tables.sound) member (pos (cost_of booking)) (λ n. n + cost_of booking) uses t2.1 t2.2 in
-      let third = slot_taken (state g t2.0) (state g t3.0) _ second tables.stored.once booking.slot (pos (persons_taken booking)) (λ n. n + persons_taken booking) takes (λ none. let e : persons_taken booking ≡ 0 + persons_taken booking = omega arith in ap pos e) t3.1 t3.2 in
-      held_by g old db _ t3.0 left (record { rows = _; lies = third; stored = booking_stored club tables.rows tables.stored tables.sound member booking owned; sound = fits })
+      let second = member_used (state g t1.0) (state g t2.0) _ first (named_once club tables.rows.members tables.stored.members tables.sound) member
+          (pos (cost_of booking)) (λ n. n + cost_of booking) uses t2.1 t2.2 in
+      let third = slot_taken (state g t2.0) (state g t3.0) _ second tables.stored.once booking.slot (pos (persons_taken booking)) (λ n.
+          n + persons_taken booking) takes (λ none. let e : persons_taken booking ≡ 0 + persons_taken booking = omega arith in ap pos e) t3.1 t3.2 in
+      held_by g old db _ t3.0 left (record { rows = _; lies = third; stored =
+          booking_stored club tables.rows tables.stored tables.sound member booking owned; sound = fits })
 
-  pub cancel_made : (booking : Booking) (member : List ℕ) (refund : ℕ) → IsToCancel booking club → IsOwnedBy member booking.key club → Fits (MarkCancelled booking.key booking.number refund) club
-      → Ran g (with_totals CANCEL_BOOKING.now (Text booking.key ∷ whole booking.number ∷ whole refund ∷ []) (Text member ∷ Int (neg_ℤ (pos refund)) ∷ []) (name_values booking.slot ++ Int (neg_ℤ (pos (persons_of booking))) ∷ [])) old db
+  pub cancel_made : (booking : Booking) (member : List ℕ) (refund : ℕ) → IsToCancel booking club → IsOwnedBy member booking.key club
+      → Fits (MarkCancelled booking.key booking.number refund) club
+      → Ran g (with_totals CANCEL_BOOKING.now (Text booking.key ∷ whole booking.number ∷ whole refund ∷ []) (Text member ∷ Int (neg_ℤ (pos refund)) ∷ [])
+          (name_values booking.slot ++ Int (neg_ℤ (pos (persons_of booking))) ∷ [])) old db
       → Tables db (after (MarkCancelled booking.key booking.number refund) club)
   cancel_made booking member refund cancels owned fits ran =
       let t1 = ran.turns in
@@ -294,19 +329,28 @@ module _ {S : Type 0} (g : Ghosts S) (old : Held S) (db : Database) (club : Club
       let mine = owner_is club tables.sound booking.key member m.name owned ∙ passes in
       let all : (if is_key_of m.name club booking.key then refund else 0) ≡ refund = ap (λ b. if b then refund else 0) mine in
       omega (arith, back, all) in
-      let uses = subst (AllByRecursion (Uses member (neg_ℤ (pos refund)) (λ n. n - refund))) (sym tables.stored.members) (uses_less club member refund club.members (few_used club tables.sound) enough) in
+      let uses = subst (AllByRecursion (Uses member (neg_ℤ (pos refund)) (λ n. n - refund))) (sym tables.stored.members)
+          (uses_less club member refund club.members (few_used club tables.sound) enough) in
       let at = (there club tables.sound booking cancels refund fits).0 in
-      let booked = subst (λ (b : Booking). Contains (map (λ (f : Facility). f.name) club.facilities) b.slot.facility) at.2 (tables.sound.references.booked at.0 booking at.1) in
+      let booked = subst (λ (b : Booking). Contains (map (λ (f : Facility). f.name) club.facilities) b.slot.facility) at.2
+          (tables.sound.references.booked at.0 booking at.1) in
       let few = few_taken club tables.sound booking.slot booked in
       let back = taken_back club tables.sound booking cancels refund fits booking.slot in
-      let here : (if same_slot booking.slot booking.slot then persons_of booking else 0) ≡ persons_of booking = ap (λ b. if b then persons_of booking else 0) (same_itself booking.slot) in
+      let here : (if same_slot booking.slot booking.slot then persons_of booking else 0) ≡ persons_of booking =
+          ap (λ b. if b then persons_of booking else 0) (same_itself booking.slot) in
       let there_are : persons_of booking ≤ taken_in booking.slot club.bookings = omega (arith, back, here) in
       let sum = minus (taken_in booking.slot club.bookings) (persons_of booking) there_are (omega (arith, few)) in
-      let takes = takes_of club tables.rows.slots tables.stored.slots booking.slot (neg_ℤ (pos (persons_of booking))) (λ n. n - persons_of booking) sum tables.rows.slots all_held in
-      let fresh : list_any (λ (row : SlotRow). same_slot row.slot booking.slot) tables.rows.slots ≡ false → neg_ℤ (pos (persons_of booking)) ≡ pos (0 - persons_of booking) = λ none.
-      let nothing : taken_in booking.slot club.bookings ≡ 0 = ap (λ u. u.taken) (sym (tables.stored.slots booking.slot) ∙ no_row booking.slot tables.rows.slots none) in
+      let takes = takes_of club tables.rows.slots tables.stored.slots booking.slot (neg_ℤ (pos (persons_of booking))) (λ n.
+          n - persons_of booking) sum tables.rows.slots all_held in
+      let fresh : list_any (λ (row : SlotRow). same_slot row.slot booking.slot) tables.rows.slots ≡ false
+          → neg_ℤ (pos (persons_of booking)) ≡ pos (0 - persons_of booking) = λ none.
+      let nothing : taken_in booking.slot club.bookings ≡ 0 = ap (λ u. u.taken) (sym (tables.stored.slots booking.slot)
+          ∙ no_row booking.slot tables.rows.slots none) in
       absurd (omega (arith, nothing, there_are)) in
       let first = booking_cancelled (state g (begun old)) (state g t1.0) tables.rows tables.lies bookings_once booking.key booking.number refund t1.1 t1.2 in
-      let second = member_used (state g t1.0) (state g t2.0) _ first (named_once club tables.rows.members tables.stored.members tables.sound) member (neg_ℤ (pos refund)) (λ n. n - refund) uses t2.1 t2.2 in
-      let third = slot_taken (state g t2.0) (state g t3.0) _ second tables.stored.once booking.slot (neg_ℤ (pos (persons_of booking))) (λ n. n - persons_of booking) takes fresh t3.1 t3.2 in
-      held_by g old db _ t3.0 left (record { rows = _; lies = third; stored = cancel_stored club tables.sound booking cancels refund fits tables.rows tables.stored member owned; sound = fits })
+      let second = member_used (state g t1.0) (state g t2.0) _ first (named_once club tables.rows.members tables.stored.members tables.sound) member
+          (neg_ℤ (pos refund)) (λ n. n - refund) uses t2.1 t2.2 in
+      let third = slot_taken (state g t2.0) (state g t3.0) _ second tables.stored.once booking.slot (neg_ℤ (pos (persons_of booking))) (λ n.
+          n - persons_of booking) takes fresh t3.1 t3.2 in
+      held_by g old db _ t3.0 left (record { rows = _; lies = third; stored =
+          cancel_stored club tables.sound booking cancels refund fits tables.rows tables.stored member owned; sound = fits })

@@ -1,5 +1,6 @@
 -- What is asked of the bookings of all keys of a member.
-use Rattle.std.proofs.Common.{◌≡◌, ◌≢◌, ℕ, ◌+◌, ◌*◌, ◌<◌, ◌^◌, pos, ℤ, Bool, true, false, not, cond, ◌&&◌, ◌||◌, List, [], ◌∷◌, map, codes, length, refl, sym, ap, subst, ◌∙◌, arith}
+use Rattle.std.proofs.Common.{◌≡◌, ◌≢◌, ℕ, ◌+◌, ◌*◌, ◌<◌, ◌^◌, pos, ℤ, Bool, true, false, not, cond, ◌&&◌, ◌||◌, List, [], ◌∷◌, map, codes, length, refl, sym,
+    ap, subst, ◌∙◌, arith}
 use Rattle.std.specs.Prelude.{filter, flat_map, slice_index_or, nat_lt, All, AllPairs, IsPermutation}
 use Rattle.std.specs.List.{list_any}
 use Rattle.std.specs.Str.{bytes_eq}
@@ -55,10 +56,12 @@ abbrev stands_still : Term
 stands_still = op2 (Compare Eq Binary) (col 2 9) (lit (Int (pos 0)))
 
 abbrev begins_later : Term
-begins_later = op2 (Compare Gt Binary) (op2 (Arith Add) (op2 (Arith Mul) (col 2 4) (lit (Int (pos 1440)))) (op2 (Arith Mul) (col 2 5) (lit (Int (pos 60))))) (col 0 1)
+begins_later = op2 (Compare Gt Binary) (op2 (Arith Add) (op2 (Arith Mul) (col 2 4) (lit (Int (pos 1440)))) (op2 (Arith Mul) (col 2 5) (lit (Int (pos 60)))))
+    (col 0 1)
 
 open_is : command_of (understood club_schema OPEN.now)
-    ≡ Select (record { lets = []; body = select (inner keys_tree (inner bookings_tree end)) (under_it ∷ is_given 2 0 ∷ stands_still ∷ begins_later ∷ []) (col 2 2 ∷ []) }) (codes "number" ∷ [])
+    ≡ Select (record { lets = []; body = select (inner keys_tree (inner bookings_tree end)) (under_it ∷ is_given 2 0 ∷ stands_still ∷ begins_later ∷ [])
+        (col 2 2 ∷ []) }) (codes "number" ∷ [])
 unfolding understood everything
 open_is = refl
 
@@ -115,11 +118,13 @@ with_one true false c a = refl
 with_one false true c a = refl
 with_one false false c a = refl
 
-any_of : (names : Key → Bool) (o : Bool) (key : Key) (keys : List Key) → list_any names (cond o (key ∷ keys) keys) ≡ cond o (names key || list_any names keys) (list_any names keys)
+any_of : (names : Key → Bool) (o : Bool) (key : Key) (keys : List Key) → list_any names (cond o (key ∷ keys) keys)
+    ≡ cond o (names key || list_any names keys) (list_any names keys)
 any_of names true key keys = refl
 any_of names false key keys = refl
 
-pub any_owned : (names owns : Key → Bool) (b : Bool) (keys : List Key) → list_any (λ key. names key && (owns key && b)) keys ≡ (list_any names (filter owns keys) && b)
+pub any_owned : (names owns : Key → Bool) (b : Bool) (keys : List Key) → list_any (λ key. names key && (owns key && b)) keys
+    ≡ (list_any names (filter owns keys) && b)
 any_owned names owns b [] = refl
 any_owned names owns b (key ∷ keys) =
     ap (λ rest. (names key && (owns key && b)) || rest) (any_owned names owns b keys) ∙ with_one (names key) (owns key) b (list_any names (filter owns keys))
@@ -138,19 +143,24 @@ owned_rows : (member : List ℕ) (test : Booking → Bool) (club : Club) → All
 owned_rows member test club unique =
     let among : Booking → Bool = λ booking. is_key_of member club booking.key in
     let same : filter (λ booking. list_any (λ key. is_owned member test key booking) club.keys) club.bookings ≡ filter test (bookings_of member club) =
-    filter_agree _ (λ booking. among booking && test booking) (λ booking. any_owned (λ key. bytes_eq key.name booking.key) (λ key. bytes_eq key.member member) (test booking) club.keys) club.bookings
+    filter_agree _ (λ booking. among booking && test booking) (λ booking.
+        any_owned (λ key. bytes_eq key.name booking.key) (λ key. bytes_eq key.member member) (test booking) club.keys) club.bookings
     ∙ sym (filter_filter test among club.bookings) in
     subst (λ bookings. IsPermutation bookings (flat_map (λ key. filter (is_owned member test key) club.bookings) club.keys)) same
     (pairs_of (is_owned member test) club.keys club.bookings
-    (apart_from_pairs (IsElsewhere (is_owned member test)) club.keys (λ i j d less low. other_key member test (slice_index_or club.keys i d) (slice_index_or club.keys j d) (unique i j d less low))))
+    (apart_from_pairs (IsElsewhere (is_owned member test)) club.keys (λ i j d less low.
+        other_key member test (slice_index_or club.keys i d) (slice_index_or club.keys j d) (unique i j d less low))))
 
 -- what is shown of each pair of a key of the member and a booking under it is what is shown of the member's bookings
-owned_shown : (member : List ℕ) (test : Booking → Bool) (show : Booking → Row) (club : Club) (rows : List Row) → AllPairs (λ (a : Key) (b : Key). a.name ≢ b.name) club.keys
-    → IsPermutation (flat_map (λ key. map show (filter (is_owned member test key) club.bookings)) club.keys) rows → IsPermutation (map show (filter test (bookings_of member club))) rows
+owned_shown : (member : List ℕ) (test : Booking → Bool) (show : Booking → Row) (club : Club) (rows : List Row)
+    → AllPairs (λ (a : Key) (b : Key). a.name ≢ b.name) club.keys
+    → IsPermutation (flat_map (λ key. map show (filter (is_owned member test key) club.bookings)) club.keys) rows
+        → IsPermutation (map show (filter test (bookings_of member club))) rows
 owned_shown member test show club rows unique h =
     let pairs : Key → List Booking = λ key. filter (is_owned member test key) club.bookings in
     IsPermutation-trans (map show (filter test (bookings_of member club))) (flat_map (λ key. map show (pairs key)) club.keys) rows
-    (subst (IsPermutation (map show (filter test (bookings_of member club)))) (map_flat_map show pairs club.keys) (IsPermutation-map show _ _ (owned_rows member test club unique))) h
+    (subst (IsPermutation (map show (filter test (bookings_of member club)))) (map_flat_map show pairs club.keys)
+        (IsPermutation-map show _ _ (owned_rows member test club unique))) h
 
 -- ---- the statements
 
@@ -163,13 +173,15 @@ abbrev comes : ℕ → Booking → Bool
 comes moment b = not b.cancelled && is_true (binary (Compare Gt Binary) (start_value b) (whole moment))
 
 comes_is : (moment : ℕ) (b : Booking) → IsBooking b → comes moment b ≡ is_to_come moment b
-comes_is moment b row = ap (λ v. not b.cancelled && is_true (binary (Compare Gt Binary) v (whole moment))) (start_value_is b row) ∙ ap (λ t. not b.cancelled && t) (whole_above (start_of b.slot) moment)
+comes_is moment b row = ap (λ v. not b.cancelled && is_true (binary (Compare Gt Binary) v (whole moment))) (start_value_is b row)
+    ∙ ap (λ t. not b.cancelled && t) (whole_above (start_of b.slot) moment)
 
 filter_where : {X : Type 0} (P : X → Type 0) (p q : X → Bool) → ((x : X) → P x → p x ≡ q x) → (xs : List X) → All P xs → filter p xs ≡ filter q xs
 filter_where P p q same [] all = refl
 filter_where P p q same (x ∷ xs) all = let e = same x (All-head P x xs all) in let more = filter_where P p q same xs (All-tail P x xs all) in rw (e, more) refl
 
-pub open_told : {S : Type 0} (g : Ghosts S) (old : Held S) (member : List ℕ) (moment : ℕ) (rows : List Row) → HasCleanDisk (state g old) → Asked g OPEN.now (Text member ∷ whole moment ∷ []) old rows
+pub open_told : {S : Type 0} (g : Ghosts S) (old : Held S) (member : List ℕ) (moment : ℕ) (rows : List Row) → HasCleanDisk (state g old)
+    → Asked g OPEN.now (Text member ∷ whole moment ∷ []) old rows
     → (club : Club) (others : List Club) → Stands (state g old) club others → length rows ≡ count_to_come moment (bookings_of member club)
 open_told g old member moment rows clean asked club others stands =
     let tables = asked_tables g OPEN.now _ old rows asked clean club others stands in
@@ -181,11 +193,15 @@ open_told g old member moment rows clean asked club others stands =
     let t = whole_equal (truth b.cancelled) 0 ∙ no_truth b.cancelled in
     let l = and_true (is_true (binary (Compare Gt Binary) (start_value b) (whole moment))) in
     let h : (is_true (binary (Compare Eq Binary) (Text k.name) (Text b.key)) && (is_true (binary (Compare Eq Binary) (Text k.member) (Text member))
-    && (is_true (binary (Compare Eq Binary) (whole (truth b.cancelled)) (whole 0)) && (is_true (binary (Compare Gt Binary) (start_value b) (whole moment)) && true))))
+    && (is_true (binary (Compare Eq Binary) (whole (truth b.cancelled)) (whole 0))
+        && (is_true (binary (Compare Gt Binary) (start_value b) (whole moment)) && true))))
     ≡ is_owned member (comes moment) k b = cc in h in
-    let both = selected_both key_values booking_values (Text member ∷ whole moment ∷ []) (under_it ∷ is_given 2 0 ∷ stands_still ∷ begins_later ∷ []) (col 2 2 ∷ []) (is_owned member (comes moment)) number tests (λ i j k b. refl)
-    keys_tree bookings_tree (codes "number" ∷ []) (state g old).now club.keys club.bookings rows (keys_held _ club tables) (bookings_held _ club tables) reads in
+    let both = selected_both key_values booking_values (Text member ∷ whole moment ∷ []) (under_it ∷ is_given 2 0 ∷ stands_still ∷ begins_later ∷ []) (col 2 2
+        ∷ []) (is_owned member (comes moment)) number tests (λ i j k b. refl)
+    keys_tree bookings_tree (codes "number" ∷ []) (state g old).now club.keys club.bookings rows (keys_held _ club tables) (bookings_held _ club tables)
+        reads in
     let own = bookings_of member club in
     let same = owned_shown member (comes moment) number club rows tables.sound.unique.keys both in
     length_permutation (map number (filter (comes moment) own)) rows same ∙ length-map (filter (comes moment) own) number
-    ∙ ap length (filter_where IsBooking (comes moment) (is_to_come moment) (comes_is moment) own (All-filter (λ b. is_key_of member club b.key) IsBooking club.bookings tables.sound.rows.bookings))
+    ∙ ap length (filter_where IsBooking (comes moment) (is_to_come moment) (comes_is moment) own
+        (All-filter (λ b. is_key_of member club b.key) IsBooking club.bookings tables.sound.rows.bookings))

@@ -52,13 +52,16 @@ module _ {S : Type 0} (g : Ghosts S) (old : Held S) (db : Database) (ran : Ran g
       let t1 = ran.turns in
       let t2 = t1.3 in
       let mid = (state g t1.0).now in
-      let c1 = creates (state g (begun old)) (state g t1.0) first_schema lies.schema MAKE_OLD_ROOTS.now makes_old_roots.plain old_roots_table makes_old_roots.is makes_old_roots.whole makes_old_roots.defined makes_old_roots.uncounted t1.1 t1.2 in
-      let c2 = updates (state g t1.0) (state g t2.0) c1.1 SET_VERSION.now version_plain 0 version_table (select (inner desk_tree end) [] version_terms) [] refl version_is t2.1 t2.2 in
+      let c1 = creates (state g (begun old)) (state g t1.0) first_schema lies.schema MAKE_OLD_ROOTS.now makes_old_roots.plain old_roots_table makes_old_roots.is
+          makes_old_roots.whole makes_old_roots.defined makes_old_roots.uncounted t1.1 t1.2 in
+      let c2 = updates (state g t1.0) (state g t2.0) c1.1 SET_VERSION.now version_plain 0 version_table (select (inner desk_tree end) [] version_terms) [] refl
+          version_is t2.1 t2.2 in
       let next = (state g t2.0).now in
       let others = c2.4 in
       let is : db ≡ next = ran.is ∙ ap (λ h. (state g h).now) t2.3 in
       let one : Holds version_values (mid.trees desk_tree) (1 ∷ []) = subst (λ rs. Holds version_values rs (1 ∷ [])) (sym c1.3.0) lies.version in
-      let two = replaced version_values (λ _. true) (λ _. 2) (λ n fails. absurd cc) [] [] version_terms (λ id n. refl) version_table (record { schema = club_schema; trees = mid.trees }) (1 ∷ []) c2.0
+      let two = replaced version_values (λ _. true) (λ _. 2) (λ n fails. absurd cc) [] [] version_terms (λ id n.
+          refl) version_table (record { schema = club_schema; trees = mid.trees }) (1 ∷ []) c2.0
       (λ _. Unit {0}) (nothing_more {X = ℕ} (1 ∷ [])) (λ id n _ passes. refl) (λ id n. rw (cast_int id, cast_int (pos n)) refl) one (omega arith) c2.1 in
       let left : Lies next rows = record {
         schema = c2.2;
@@ -78,18 +81,21 @@ module _ {S : Type 0} (g : Ghosts S) (old : Held S) (db : Database) (ran : Ran g
 
 module _ {S : Type 0} (g : Ghosts S) (old new : Held S) where
   -- what the migration leaves holds the club that stood
-  holds_first : (db : Database) → Ran g migration old db → HasCleanDisk (state g old) → (club : Club) (others : List Club) → FirstStands (state g old) club others → Tables db club
+  holds_first : (db : Database) → Ran g migration old db → HasCleanDisk (state g old) → (club : Club) (others : List Club)
+      → FirstStands (state g old) club others → Tables db club
   holds_first db ran clean club others first =
       let is_open = ran.opened (omega arith) in
       migrated_tables g old db ran club (subst (λ (d : Database). FirstTables d club) (sym (first.settled clean is_open)) (first.held clean is_open))
 
-  pub migrated_stands : HasCleanDisk (state g old) → IsTrue (state g new).is_open → Ran g migration old (state g new).committed → (state g new).now ≡ (state g new).committed → IsSettled (state g new)
+  pub migrated_stands : HasCleanDisk (state g old) → IsTrue (state g new).is_open → Ran g migration old (state g new).committed
+      → (state g new).now ≡ (state g new).committed → IsSettled (state g new)
       → (club : Club) (others : List Club) → FirstStands (state g old) club others → Stands (state g new) club others
   migrated_stands clean is_open ran same settled club others first =
       settles (state g new) club others (λ _ _. holds_first (state g new).committed ran clean club others first) (λ _. is_open) same settled
 
   -- a migration that is refused leaves tables of version 1, and a crash those or the migrated ones
-  pub refused_first : IsKept (state g old) (state g new) → Survives (state g old) (state g new) (λ trees. (db : Database) × Ran g migration old db × (trees ≡ db.trees)) → KeepsStanding (first_in g) old new
+  pub refused_first : IsKept (state g old) (state g new) → Survives (state g old) (state g new) (λ trees. (db : Database) × Ran g migration old db
+      × (trees ≡ db.trees)) → KeepsStanding (first_in g) old new
   refused_first kept survives club others first =
       let earlier = λ (clean : HasCleanDisk (state g new)). let e : HasCleanDisk (state g old) = omega (arith, survives.clean) in e in
       record {

@@ -1,5 +1,6 @@
 -- The rows of older roots, once one is put.
-use Rattle.std.proofs.Common.{◌≡◌, ◌≢◌, ℕ, ℤ, pos, Bool, true, false, ◌||◌, cond, if◌then◌else◌, Some, None, Option, Ok, List, [], ◌∷◌, ◌++◌, map, refl, sym, ap, subst, ◌∙◌, true≢false}
+use Rattle.std.proofs.Common.{◌≡◌, ◌≢◌, ℕ, ℤ, pos, Bool, true, false, ◌||◌, cond, if◌then◌else◌, Some, None, Option, Ok, List, [], ◌∷◌, ◌++◌, map, refl, sym,
+    ap, subst, ◌∙◌, true≢false}
 use Rattle.std.specs.Prelude.{find, AllPairs, option_map}
 use Rattle.std.specs.List.{AllByRecursion, list_any}
 use Rattle.std.specs.Str.{bytes_eq}
@@ -42,7 +43,8 @@ abbrev target : Option (List ℕ)
 target = Some (1 ∷ [])
 
 -- a row conflicts with a new one where both are of one key
-olders_conflict : (id id' : ℤ) (row : OlderRow) (key : List ℕ) (older : OlderRoot) → conflicts target club_schema.indexes older_table (Int id' ∷ Text key ∷ older_root_values older) (Int id ∷ older_values row) ≡ bytes_eq row.key key
+olders_conflict : (id id' : ℤ) (row : OlderRow) (key : List ℕ) (older : OlderRoot)
+    → conflicts target club_schema.indexes older_table (Int id' ∷ Text key ∷ older_root_values older) (Int id ∷ older_values row) ≡ bytes_eq row.key key
 unfolding first_key
 olders_conflict id id' row key older = rw (text_equal row.key key) (or_false _ ∙ and_true _)
 
@@ -63,7 +65,8 @@ put_target : put_clause.target ≡ target
 unfolding understood everything
 put_target = refl
 
-put_update : put_clause.update ≡ sets_by old_roots_table.name old_roots_table.columns old_roots_table.uniques old_roots_table.checks old_roots_table.references olders_tree target 3 put_sets
+put_update : put_clause.update ≡ sets_by old_roots_table.name old_roots_table.columns old_roots_table.uniques old_roots_table.checks old_roots_table.references
+    olders_tree target 3 put_sets
 unfolding understood everything
 put_update = refl
 
@@ -87,7 +90,8 @@ module _ (key : List ℕ) (older : OlderRoot) where
 
   each_lone : (row : OlderRow) (rows : List OlderRow) → AllByRecursion (Differs row) rows → AllByRecursion (IsLone older_values is_of row) rows
   each_lone row [] apart = tt
-  each_lone row (x ∷ rows) apart = (λ both. apart.0 ((bytes_eq-Decides row.key key).0 both.0 ∙ sym ((bytes_eq-Decides x.key key).0 both.1)), each_lone row rows apart.1)
+  each_lone row (x ∷ rows) apart = (λ both. apart.0 ((bytes_eq-Decides row.key key).0 both.0 ∙ sym ((bytes_eq-Decides x.key key).0 both.1)),
+      each_lone row rows apart.1)
 
   lone : (rows : List OlderRow) → Apart Differs rows → Apart (IsLone older_values is_of) rows
   lone [] apart = tt
@@ -111,7 +115,8 @@ module _ (key : List ℕ) (older : OlderRoot) where
     where
       go : (b : Bool) → bytes_eq key name ≡ b → row.key ≡ name → bytes_eq row.key key ≡ b
       go true e same = (bytes_eq-Decides row.key key).1 (same ∙ sym ((bytes_eq-Decides key name).0 e))
-      go false e same = false_from_ne_true (bytes_eq row.key key) (λ h. true≢false (sym ((bytes_eq-Decides key name).1 (sym ((bytes_eq-Decides row.key key).0 h) ∙ same)) ∙ e))
+      go false e same = false_from_ne_true (bytes_eq row.key key) (λ h. true≢false
+          (sym ((bytes_eq-Decides key name).1 (sym ((bytes_eq-Decides row.key key).0 h) ∙ same)) ∙ e))
 
   -- a row that isn't told, and is the key's, says that the key isn't asked for
   told_other : (name : List ℕ) (row : OlderRow) → bytes_eq row.key name ≡ false → bytes_eq row.key key ≡ true → bytes_eq key name ≡ false
@@ -122,7 +127,8 @@ module _ (key : List ℕ) (older : OlderRoot) where
   on_renewed name (row ∷ rows) other = go (on_renewed name rows other) (bytes_eq row.key name) refl
     where
       go : older_by name (map renewed rows) ≡ older_by name rows → (b : Bool) → bytes_eq row.key name ≡ b
-          → shown_by (cond b (Some (renewed row)) (find (λ (x : OlderRow). bytes_eq x.key name) (map renewed rows))) ≡ shown_by (cond b (Some row) (find (λ (x : OlderRow). bytes_eq x.key name) rows))
+          → shown_by (cond b (Some (renewed row)) (find (λ (x : OlderRow). bytes_eq x.key name) (map renewed rows)))
+              ≡ shown_by (cond b (Some row) (find (λ (x : OlderRow). bytes_eq x.key name) rows))
       go more true is = ap (λ b. let told : Option OlderRoot = Some (if b then older else row.older) in told) (told_row name row is ∙ other)
       go more false is = more
 
@@ -130,9 +136,13 @@ module _ (key : List ℕ) (older : OlderRoot) where
   on_changed name [] any = absurd cc
   on_changed name (row ∷ rows) any = go (on_changed name rows) (bytes_eq row.key name) (bytes_eq row.key key) refl refl any
     where
-      go : (list_any is_of rows ≡ true → Told name (older_by name (map renewed rows)) (older_by name rows)) → (b c : Bool) → bytes_eq row.key name ≡ b → bytes_eq row.key key ≡ c → (c || list_any is_of rows) ≡ true
-          → Told name (shown_by (cond b (Some (record row { older = if c then older else row.older })) (find (λ (x : OlderRow). bytes_eq x.key name) (map renewed rows)))) (shown_by (cond b (Some row) (find (λ (x : OlderRow). bytes_eq x.key name) rows)))
-      go later true c is this h = let same : c ≡ bytes_eq key name = sym this ∙ told_row name row is in subst (λ b. Some (if c then older else row.older) ≡ (if b then Some older else Some row.older)) same (either c)
+      go : (list_any is_of rows ≡ true → Told name (older_by name (map renewed rows)) (older_by name rows)) → (b c : Bool) → bytes_eq row.key name ≡ b
+          → bytes_eq row.key key ≡ c → (c || list_any is_of rows) ≡ true
+          → Told name (shown_by (cond b (Some (record row { older = if c then older else row.older }))
+              (find (λ (x : OlderRow). bytes_eq x.key name) (map renewed rows))))
+              (shown_by (cond b (Some row) (find (λ (x : OlderRow). bytes_eq x.key name) rows)))
+      go later true c is this h = let same : c ≡ bytes_eq key name = sym this ∙ told_row name row is in
+          subst (λ b. Some (if c then older else row.older) ≡ (if b then Some older else Some row.older)) same (either c)
         where
           either : (b : Bool) → ◌≡◌ {A = Option OlderRoot} (Some (if b then older else row.older)) (if b then Some older else Some row.older)
           either true = refl
@@ -140,12 +150,16 @@ module _ (key : List ℕ) (older : OlderRoot) where
       go later false true is this h = let other = told_other name row is this in rw other (on_renewed name rows other)
       go later false false is this h = later h
 
-  on_added : (name : List ℕ) (rows : List OlderRow) → list_any is_of rows ≡ false → Told name (older_by name (rows ++ record { key = key; older = older } ∷ [])) (older_by name rows)
-  on_added name [] none = elim (bytes_eq key name) as (λ b. shown_by (cond b (Some (record { key = key; older = older })) None) ≡ (if b then Some older else None)) [ true ↦ refl | false ↦ refl ]
+  on_added : (name : List ℕ) (rows : List OlderRow) → list_any is_of rows ≡ false
+      → Told name (older_by name (rows ++ record { key = key; older = older } ∷ [])) (older_by name rows)
+  on_added name [] none = elim (bytes_eq key name) as (λ b. shown_by (cond b (Some (record { key = key; older = older })) None)
+      ≡ (if b then Some older else None)) [ true ↦ refl | false ↦ refl ]
   on_added name (row ∷ rows) none = go (on_added name rows) (bytes_eq row.key name) (bytes_eq row.key key) refl refl none
     where
-      go : (list_any is_of rows ≡ false → Told name (older_by name (rows ++ record { key = key; older = older } ∷ [])) (older_by name rows)) → (b c : Bool) → bytes_eq row.key name ≡ b → bytes_eq row.key key ≡ c → (c || list_any is_of rows) ≡ false
-          → Told name (shown_by (cond b (Some row) (find (λ (x : OlderRow). bytes_eq x.key name) (rows ++ record { key = key; older = older } ∷ [])))) (shown_by (cond b (Some row) (find (λ (x : OlderRow). bytes_eq x.key name) rows)))
+      go : (list_any is_of rows ≡ false → Told name (older_by name (rows ++ record { key = key; older = older } ∷ [])) (older_by name rows)) → (b c : Bool)
+          → bytes_eq row.key name ≡ b → bytes_eq row.key key ≡ c → (c || list_any is_of rows) ≡ false
+          → Told name (shown_by (cond b (Some row) (find (λ (x : OlderRow). bytes_eq x.key name) (rows ++ record { key = key; older = older } ∷ []))))
+              (shown_by (cond b (Some row) (find (λ (x : OlderRow). bytes_eq x.key name) rows)))
       go later b true is this h = absurd cc
       go later true false is this h = let other : bytes_eq key name ≡ false = sym (told_row name row is) ∙ this in rw other refl
       go later false false is this h = later h
@@ -153,12 +167,14 @@ module _ (key : List ℕ) (older : OlderRoot) where
   pub older_put : (name : List ℕ) (rows : List OlderRow) → older_by name (put_older rows) ≡ (if bytes_eq key name then Some older else older_by name rows)
   older_put name rows = go (list_any is_of rows) refl
     where
-      go : (b : Bool) → list_any is_of rows ≡ b → older_by name (if b then map renewed rows else rows ++ record { key = key; older = older } ∷ []) ≡ (if bytes_eq key name then Some older else older_by name rows)
+      go : (b : Bool) → list_any is_of rows ≡ b → older_by name (if b then map renewed rows else rows ++ record { key = key; older = older } ∷ [])
+          ≡ (if bytes_eq key name then Some older else older_by name rows)
       go true any = on_changed name rows any
       go false none = on_added name rows none
 
   -- and no key has two rows
-  all_renewed : (name : List ℕ) (rows : List OlderRow) → AllByRecursion (λ (x : OlderRow). name ≢ x.key) rows → AllByRecursion (λ (x : OlderRow). name ≢ x.key) (map renewed rows)
+  all_renewed : (name : List ℕ) (rows : List OlderRow) → AllByRecursion (λ (x : OlderRow). name ≢ x.key) rows
+      → AllByRecursion (λ (x : OlderRow). name ≢ x.key) (map renewed rows)
   all_renewed name [] apart = tt
   all_renewed name (x ∷ rows) apart = (apart.0, all_renewed name rows apart.1)
 
@@ -166,7 +182,8 @@ module _ (key : List ℕ) (older : OlderRoot) where
   apart_renewed [] apart = tt
   apart_renewed (x ∷ rows) apart = (all_renewed x.key rows apart.0, apart_renewed rows apart.1)
 
-  all_added : (name : List ℕ) (rows : List OlderRow) → AllByRecursion (λ (x : OlderRow). name ≢ x.key) rows → name ≢ key → AllByRecursion (λ (x : OlderRow). name ≢ x.key) (rows ++ record { key = key; older = older } ∷ [])
+  all_added : (name : List ℕ) (rows : List OlderRow) → AllByRecursion (λ (x : OlderRow). name ≢ x.key) rows → name ≢ key
+      → AllByRecursion (λ (x : OlderRow). name ≢ x.key) (rows ++ record { key = key; older = older } ∷ [])
   all_added name [] apart other = (other, tt)
   all_added name (x ∷ rows) apart other = (apart.0, all_added name rows apart.1 other)
 
@@ -174,7 +191,8 @@ module _ (key : List ℕ) (older : OlderRoot) where
   apart_added [] none apart = (tt, tt)
   apart_added (x ∷ rows) none apart = go (λ none. apart_added rows none apart.1) (bytes_eq x.key key) refl none
     where
-      go : (list_any is_of rows ≡ false → Apart Differs (rows ++ record { key = key; older = older } ∷ [])) → (b : Bool) → bytes_eq x.key key ≡ b → (b || list_any is_of rows) ≡ false → Apart Differs (x ∷ (rows ++ record { key = key; older = older } ∷ []))
+      go : (list_any is_of rows ≡ false → Apart Differs (rows ++ record { key = key; older = older } ∷ [])) → (b : Bool) → bytes_eq x.key key ≡ b
+          → (b || list_any is_of rows) ≡ false → Apart Differs (x ∷ (rows ++ record { key = key; older = older } ∷ []))
       go later true is h = absurd cc
       go later false is h = (all_added x.key rows apart.0 (λ e. true≢false (sym (ap (λ n. bytes_eq n key) e ∙ itself) ∙ is)), later h)
 
@@ -192,15 +210,21 @@ module _ (key : List ℕ) (older : OlderRoot) where
   says_each P h [] = tt
   says_each P h (x ∷ rows) = (h x, says_each P h rows)
 
-pub older_stands : (old new : State) (rows : Rows) → Lies old.now rows → AllPairs (λ (a : OlderRow) (b : OlderRow). a.key ≢ b.key) rows.olders → (key : List ℕ) (older : OlderRoot) (count : ℕ)
-    → Executes PUT_OLDER_ROOT.now (Text key ∷ older_root_values older) old new (Ok count) → Lies new.now (record rows { olders = put_older key older rows.olders })
+pub older_stands : (old new : State) (rows : Rows) → Lies old.now rows → AllPairs (λ (a : OlderRow) (b : OlderRow). a.key ≢ b.key) rows.olders
+    → (key : List ℕ) (older : OlderRoot) (count : ℕ)
+    → Executes PUT_OLDER_ROOT.now (Text key ∷ older_root_values older) old new (Ok count)
+        → Lies new.now (record rows { olders = put_older key older rows.olders })
 older_stands old new rows lies once key older count executed =
     let params = Text key ∷ older_root_values older in
     let t = old_roots_table in
-    let kept : (row : OlderRow) → is_of key older row ≡ false → renewed key older row ≡ row = λ row fails. ap (λ b. let r : OlderRow = record row { older = if b then older else row.older } in r) fails in
-    let put = row_put t.name t.columns t.uniques t.checks t.references olders_tree target 6 refl PUT_OLDER_ROOT.now put_terms put_sets 4 3 put_clause put_is put_plain put_target put_update old new lies.schema params params refl
+    let kept : (row : OlderRow) → is_of key older row ≡ false → renewed key older row ≡ row =
+        λ row fails. ap (λ b. let r : OlderRow = record row { older = if b then older else row.older } in r) fails in
+    let put = row_put t.name t.columns t.uniques t.checks t.references olders_tree target 6 refl PUT_OLDER_ROOT.now put_terms put_sets 4 3 put_clause put_is
+        put_plain put_target put_update old new lies.schema params params refl
     (rw (cast_null, cast_int (pos older.until)) refl) (λ id. rw (cast_int id, cast_int (pos older.until)) refl)
-    older_values (is_of key older) (renewed key older) kept (record { key = key; older = older }) (λ id row. olders_conflict id (next_rowid (old.now.trees olders_tree)) row key older) (casts key older) rows.olders lies.olders
+    older_values (is_of key older) (renewed key older) kept (record { key = key; older = older }) (λ id row.
+        olders_conflict id (next_rowid (old.now.trees olders_tree)) row key older) (casts key older) rows.olders lies.olders
     (lone key older rows.olders (apart_from_pairs (λ (a : OlderRow) (b : OlderRow). a.key ≢ b.key) rows.olders once))
-    (λ _. refl) (λ there. refl) (says_each key older _ (λ x id there passes. ap (λ b. Int id ∷ Int id ∷ Text x.key ∷ older_root_values (if b then older else x.older)) (sym passes)) rows.olders) count executed in
+    (λ _. refl) (λ there. refl) (says_each key older _ (λ x id there passes.
+        ap (λ b. Int id ∷ Int id ∷ Text x.key ∷ older_root_values (if b then older else x.older)) (sym passes)) rows.olders) count executed in
     on_olders old.now new.now rows lies put.0 put.3 put.2 (put_older key older rows.olders) put.1

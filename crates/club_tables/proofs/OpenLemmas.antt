@@ -34,7 +34,8 @@ abbrev pub IsSettled : State → Type 0
 IsSettled state = IsTrue state.is_open → (trees : Trees) → state.may_leave trees → trees ≡ state.committed.trees
 
 -- a store that holds the club, and of which each crash leaves what was committed
-pub settles : (now : State) (club : Club) (others : List Club) → (HasCleanDisk now → IsTrue now.is_open → Tables now.committed club) → (HasCleanDisk now → IsTrue now.is_open) → now.now ≡ now.committed → IsSettled now → Stands now club others
+pub settles : (now : State) (club : Club) (others : List Club) → (HasCleanDisk now → IsTrue now.is_open → Tables now.committed club)
+    → (HasCleanDisk now → IsTrue now.is_open) → now.now ≡ now.committed → IsSettled now → Stands now club others
 settles now club others held opens same settled = record {
   held = held;
   settled = λ clean is_open. same;
@@ -43,7 +44,8 @@ settles now club others held opens same settled = record {
 
 module _ {S : Type 0} (g : Ghosts S) (old new : Held S) where
   -- what the batch leaves holds the club that was found
-  holds_found : (db : Database) → Ran g table_batch old db → HasCleanDisk (state g old) → (club : Club) (others : List Club) → IsFound (state g old) club others → Tables db club
+  holds_found : (db : Database) → Ran g table_batch old db → HasCleanDisk (state g old) → (club : Club) (others : List Club) → IsFound (state g old) club others
+      → Tables db club
   holds_found db ran clean club others found =
       let is_open = ran.opened (omega arith) in
       let now = found.settled clean is_open in
@@ -53,12 +55,14 @@ module _ {S : Type 0} (g : Ghosts S) (old new : Held S) where
         | inr (inr blank) ↦ subst (Tables db) (sym blank.1) (made_tables g old db ran (ap (λ (d : Database). d.schema) now ∙ blank.0))
       ]
 
-  pub made_stands : HasCleanDisk (state g old) → IsTrue (state g new).is_open → Ran g table_batch old (state g new).committed → (state g new).now ≡ (state g new).committed → IsSettled (state g new)
+  pub made_stands : HasCleanDisk (state g old) → IsTrue (state g new).is_open → Ran g table_batch old (state g new).committed
+      → (state g new).now ≡ (state g new).committed → IsSettled (state g new)
       → (club : Club) (others : List Club) → IsFound (state g old) club others → Stands (state g new) club others
   made_stands clean is_open ran same settled club others found =
       settles (state g new) club others (λ _ _. holds_found (state g new).committed ran clean club others found) (λ _. is_open) same settled
 
-  pub refused_found : IsKept (state g old) (state g new) → Survives (state g old) (state g new) (λ trees. (db : Database) × Ran g table_batch old db × (trees ≡ db.trees)) → KeepsStanding (found_in g) old new
+  pub refused_found : IsKept (state g old) (state g new) → Survives (state g old) (state g new) (λ trees. (db : Database) × Ran g table_batch old db
+      × (trees ≡ db.trees)) → KeepsStanding (found_in g) old new
   refused_found kept survives club others found =
       let earlier = λ (clean : HasCleanDisk (state g new)). let e : HasCleanDisk (state g old) = omega (arith, survives.clean) in e in
       record {
@@ -75,7 +79,8 @@ no_version : is_ok (understood no_schema VERSION.now) ≡ false
 unfolding understood listing_schema everything
 no_version = refl
 
-version_is : command_of (understood club_schema VERSION.now) ≡ Select (record { lets = []; body = select (inner desk_tree end) [] (col 1 1 ∷ []) }) (codes "version" ∷ [])
+version_is : command_of (understood club_schema VERSION.now) ≡ Select (record { lets = []; body = select (inner desk_tree end) [] (col 1 1 ∷ []) })
+    (codes "version" ∷ [])
 unfolding understood everything
 version_is = refl
 
@@ -87,7 +92,8 @@ version_unlisted : reads_listing club_schema VERSION.now ≡ false
 unfolding everything
 version_unlisted = refl
 
-first_version_is : command_of (understood first_schema VERSION.now) ≡ Select (record { lets = []; body = select (inner desk_tree end) [] (col 1 1 ∷ []) }) (codes "version" ∷ [])
+first_version_is : command_of (understood first_schema VERSION.now) ≡ Select (record { lets = []; body = select (inner desk_tree end) [] (col 1 1 ∷ []) })
+    (codes "version" ∷ [])
 unfolding understood everything
 first_version_is = refl
 
@@ -101,7 +107,8 @@ first_version_unlisted = refl
 
 -- a database whose version was read has the tables of the club that was found
 pub version_told : {S : Type 0} (g : Ghosts S) (old : Held S) (rows : List Row) → HasCleanDisk (state g old) → Asked g VERSION.now [] old rows
-    → (club : Club) (others : List Club) → IsFound (state g old) club others → (Stands (state g old) club others × (rows ≡ version_values 2 ∷ [])) ⊎ (FirstStands (state g old) club others × (rows ≡ version_values 1 ∷ []))
+    → (club : Club) (others : List Club) → IsFound (state g old) club others → (Stands (state g old) club others × (rows ≡ version_values 2 ∷ []))
+        ⊎ (FirstStands (state g old) club others × (rows ≡ version_values 1 ∷ []))
 unfolding Shown
 version_told g old rows clean asked club others found =
     let is_open = asked_open g VERSION.now [] old rows asked in
@@ -111,16 +118,19 @@ version_told g old rows clean asked club others found =
           let stands : Stands (state g old) club others = record { held = λ _ _. tables; settled = found.settled; left = found.left } in
           let here = asked_tables g VERSION.now [] old rows asked clean club others stands in
           let reads = asked_reads g VERSION.now [] old rows asked here.lies.schema _ version_is version_plain version_unlisted in
-          let same = selected version_values [] [] (col 1 1 ∷ []) (λ _. true) version_values (λ id n. refl) (λ id n. refl) desk_tree (codes "version" ∷ []) (state g old).now (2 ∷ []) rows here.lies.version reads in
+          let same = selected version_values [] [] (col 1 1 ∷ []) (λ _. true) version_values (λ id n. refl) (λ id n.
+              refl) desk_tree (codes "version" ∷ []) (state g old).now (2 ∷ []) rows here.lies.version reads in
           inl (stands, short_permutation (version_values 2 ∷ []) rows (omega arith) same)
       | inr (inl first) ↦
           let stands : FirstStands (state g old) club others = record { held = λ _ _. first; settled = found.settled; left = found.left } in
           let here : FirstTables (state g old).now club = subst (λ (db : Database). FirstTables db club) (sym now) first in
           let reads = first_reads g VERSION.now [] old rows asked here.lies.schema _ first_version_is first_version_plain first_version_unlisted in
-          let same = selected version_values [] [] (col 1 1 ∷ []) (λ _. true) version_values (λ id n. refl) (λ id n. refl) desk_tree (codes "version" ∷ []) (state g old).now (1 ∷ []) rows here.lies.version reads in
+          let same = selected version_values [] [] (col 1 1 ∷ []) (λ _. true) version_values (λ id n. refl) (λ id n.
+              refl) desk_tree (codes "version" ∷ []) (state g old).now (1 ∷ []) rows here.lies.version reads in
           inr (stands, short_permutation (version_values 1 ∷ []) rows (omega arith) same)
       | inr (inr blank) ↦
-          let none : is_ok (understood (state g old).now.schema VERSION.now) ≡ false = ap (λ (d : Database). is_ok (understood d.schema VERSION.now)) now ∙ ap (λ s. is_ok (understood s VERSION.now)) blank.0 ∙ no_version in
+          let none : is_ok (understood (state g old).now.schema VERSION.now) ≡ false = ap (λ (d : Database). is_ok (understood d.schema VERSION.now)) now
+              ∙ ap (λ s. is_ok (understood s VERSION.now)) blank.0 ∙ no_version in
           absurd (true≢false (sym (ap is_ok asked.shown.1.is) ∙ none))
     ]
 
@@ -137,5 +147,6 @@ first_found s club others first = record { held = λ clean is_open. inr (inl (fi
 -- a new database in memory is found to hold the empty club
 pub empty_found : (c : Held MemStore) → IsEmpty (state over_memory c) → IsFound (state over_memory c) empty_club []
 empty_found c empty =
-    let blank : HoldsClub (state over_memory c).committed empty_club = inr (inr (ap (λ (d : Database). d.schema) (sym empty.0.clean) ∙ empty.2, refl, (empty.1 empty.0.is_open).1)) in
+    let blank : HoldsClub (state over_memory c).committed empty_club = inr (inr (ap (λ (d : Database). d.schema) (sym empty.0.clean) ∙ empty.2, refl,
+        (empty.1 empty.0.is_open).1)) in
     record { held = λ _ _. blank; settled = λ _ _. empty.0.clean; left = λ _ trees may. inl ((state over_memory c).committed, sym may, blank) }

@@ -1,5 +1,6 @@
 -- Lists, sums over parts of them, and whose a booking is.
-use Rattle.std.proofs.Common.{◌≡◌, ◌≢◌, ℕ, zero, suc, ◌+◌, Bool, true, false, ◌&&◌, ◌||◌, cond, List, [], ◌∷◌, ◌++◌, map, Some, Contains, refl, sym, ap, ◌∙◌, arith, true≢false}
+use Rattle.std.proofs.Common.{◌≡◌, ◌≢◌, ℕ, zero, suc, ◌+◌, Bool, true, false, ◌&&◌, ◌||◌, cond, List, [], ◌∷◌, ◌++◌, map, Some, Contains, refl, sym, ap, ◌∙◌,
+    arith, true≢false}
 use Rattle.std.specs.Prelude.{All, filter, find, sum_by}
 use Rattle.std.specs.List.{AllByRecursion, list_any}
 use Rattle.std.specs.Str.{bytes_eq}
@@ -88,7 +89,8 @@ module _ {X : Type 0} (p : X → Bool) (f : X → X) (kept : (x : X) → p x ≡
   sum_changed c [] x alone is = absurd cc
   sum_changed c (y ∷ xs) x alone is = go (sum_changed c xs x alone.1) (p y) refl is
     where
-      go : (find p xs ≡ Some x → sum_by c (map f xs) + c x ≡ sum_by c xs + c (f x)) → (b : Bool) → p y ≡ b → cond b (Some y) (find p xs) ≡ Some x → sum_by c (map f (y ∷ xs)) + c x ≡ sum_by c (y ∷ xs) + c (f x)
+      go : (find p xs ≡ Some x → sum_by c (map f xs) + c x ≡ sum_by c xs + c (f x)) → (b : Bool) → p y ≡ b → cond b (Some y) (find p xs) ≡ Some x
+          → sum_by c (map f (y ∷ xs)) + c x ≡ sum_by c (y ∷ xs) + c (f x)
       go later true passes e =
           let same : y ≡ x = cc in
           let rest : sum_by c (map f xs) ≡ sum_by c xs = ap (sum_by c) (none_changed xs (others_fail y passes xs alone.0)) in
@@ -119,7 +121,8 @@ module _ (names owns : Key → Bool) where
       either true = refl
       either false = refl
 
-      go : (find names keys ≡ Some row → list_any (λ key. names key && (owns key && true)) keys ≡ owns row) → (b : Bool) → names key ≡ b → cond b (Some key) (find names keys) ≡ Some row → ((b && (owns key && true)) || list_any (λ key. names key && (owns key && true)) keys) ≡ owns row
+      go : (find names keys ≡ Some row → list_any (λ key. names key && (owns key && true)) keys ≡ owns row) → (b : Bool) → names key ≡ b
+          → cond b (Some key) (find names keys) ≡ Some row → ((b && (owns key && true)) || list_any (λ key. names key && (owns key && true)) keys) ≡ owns row
       go later true named e =
           let same : key ≡ row = cc in
           let missing = fail_beside Lone names (λ a b pa pb apart. apart (pa, pb)) key named keys lone.0 in
@@ -133,11 +136,13 @@ and_true' false = refl
 pub same_name : (name a b : List ℕ) → bytes_eq a name ≡ true → bytes_eq b name ≡ true → a ≡ b
 same_name name a b p q = (bytes_eq-Decides a name).0 p ∙ sym ((bytes_eq-Decides b name).0 q)
 
-lone_keys : (name : List ℕ) (keys : List Key) → Apart (λ (a : Key) (b : Key). a.name ≢ b.name) keys → Apart (Lone (λ (key : Key). bytes_eq key.name name) (λ _. true)) keys
+lone_keys : (name : List ℕ) (keys : List Key) → Apart (λ (a : Key) (b : Key). a.name ≢ b.name) keys
+    → Apart (Lone (λ (key : Key). bytes_eq key.name name) (λ _. true)) keys
 lone_keys name [] apart = tt
 lone_keys name (key ∷ keys) apart = (each keys apart.0, lone_keys name keys apart.1)
   where
-    each : (others : List Key) → AllByRecursion (λ (other : Key). key.name ≢ other.name) others → AllByRecursion (λ (other : Key). ¬ ((bytes_eq key.name name ≡ true) × (bytes_eq other.name name ≡ true))) others
+    each : (others : List Key) → AllByRecursion (λ (other : Key). key.name ≢ other.name) others
+        → AllByRecursion (λ (other : Key). ¬ ((bytes_eq key.name name ≡ true) × (bytes_eq other.name name ≡ true))) others
     each [] apart = tt
     each (other ∷ others) apart = (λ both. apart.0 (same_name name key.name other.name both.0 both.1), each others apart.1)
 

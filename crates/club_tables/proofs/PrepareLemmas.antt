@@ -25,7 +25,8 @@ module _ (db : Database) (texts : List (Bor (List ℕ))) where
   none_understood k d low = absurd (omega arith)
 
   -- one text more
-  pub one_understood : (at : ℕ) (d : Bor (List ℕ)) (was : Database) → was ≡ db → at < length texts → All (IsUnderstood db.schema) (map text_at (take at texts)) → IsUnderstood was.schema (get_or texts at d).now
+  pub one_understood : (at : ℕ) (d : Bor (List ℕ)) (was : Database) → was ≡ db → at < length texts → All (IsUnderstood db.schema) (map text_at (take at texts))
+      → IsUnderstood was.schema (get_or texts at d).now
       → All (IsUnderstood db.schema) (map text_at (take (at + 1) texts))
   one_understood at d was same within before one =
       let more : map text_at (take (at + 1) texts) ≡ map text_at (take at texts) ++ (get_or texts at d).now ∷ [] =
@@ -33,6 +34,8 @@ module _ (db : Database) (texts : List (Bor (List ℕ))) where
       let here : IsUnderstood db.schema (get_or texts at d).now = subst (λ (s : Database). IsUnderstood s.schema (get_or texts at d).now) same one in
       subst (All (IsUnderstood db.schema)) (sym more) (All-push (IsUnderstood db.schema) (map text_at (take at texts)) (get_or texts at d).now before here)
 
-  pub all_understood : (at : ℕ) (now : Database) → now ≡ db → length texts ≤ at → All (IsUnderstood db.schema) (map text_at (take at texts)) → All (IsUnderstood now.schema) (map text_at texts)
+  pub all_understood : (at : ℕ) (now : Database) → now ≡ db → length texts ≤ at → All (IsUnderstood db.schema) (map text_at (take at texts))
+      → All (IsUnderstood now.schema) (map text_at texts)
   all_understood at now same past before =
-      subst (λ (s : Database). All (IsUnderstood s.schema) (map text_at texts)) (sym same) (subst (λ ts. All (IsUnderstood db.schema) (map text_at ts)) (take_all at texts past) before)
+      subst (λ (s : Database). All (IsUnderstood s.schema) (map text_at texts)) (sym same)
+          (subst (λ ts. All (IsUnderstood db.schema) (map text_at ts)) (take_all at texts past) before)

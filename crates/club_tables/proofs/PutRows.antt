@@ -1,5 +1,6 @@
 -- Rows of which one is put by its key: which of them the new row meets.
-use Rattle.std.proofs.Common.{◌≡◌, ◌⊎◌, inl, inr, ℤ, Bool, true, false, ◌||◌, List, [], ◌∷◌, ◌++◌, map, if◌then◌else◌, refl, sym, ap, subst, ◌∙◌, Less, true≢false}
+use Rattle.std.proofs.Common.{◌≡◌, ◌⊎◌, inl, inr, ℤ, Bool, true, false, ◌||◌, List, [], ◌∷◌, ◌++◌, map, if◌then◌else◌, refl, sym, ap, subst, ◌∙◌, Less,
+    true≢false}
 use Rattle.std.specs.List.{AllByRecursion, AllZip, list_any}
 use Rattle.std.specs.Ordering.{is_eq}
 use Rattle.std.proofs.lemmas.Bool.{false_from_ne_true}
@@ -58,7 +59,8 @@ module _ {X : Type 0} (values : X → Row) (p : X → Bool) where
     meets_one (q ∷ rows) [] same any = absurd same
     meets_one (q ∷ rows) (x ∷ xs) same any = go (meets_one rows xs same.1) (p x) refl any
       where
-        go : (list_any p xs ≡ true → (r : Row) × Has rows r × (meets r ≡ true)) → (b : Bool) → p x ≡ b → (b || list_any p xs) ≡ true → (r : Row) × Has (q ∷ rows) r × (meets r ≡ true)
+        go : (list_any p xs ≡ true → (r : Row) × Has rows r × (meets r ≡ true)) → (b : Bool) → p x ≡ b → (b || list_any p xs) ≡ true → (r : Row)
+            × Has (q ∷ rows) r × (meets r ≡ true)
         go later true is h = (q, inl refl, ap meets same.0.1 ∙ meets_is same.0.0 x ∙ is)
         go later false is h = let more = later h in (more.0, inr more.1, more.2)
 
@@ -77,7 +79,8 @@ module _ {X : Type 0} (values : X → Row) (p : X → Bool) where
         later true h = absurd cc
         later false h = h
 
-  at_above : (q : Row) (rows : List Row) (xs : List X) (id : ℤ) → AllByRecursion (λ s. value_cmp (rowid q) (rowid s) ≡ Less) rows → IsAt rows xs id → value_cmp (rowid q) (Int id) ≡ Less
+  at_above : (q : Row) (rows : List Row) (xs : List X) (id : ℤ) → AllByRecursion (λ s. value_cmp (rowid q) (rowid s) ≡ Less) rows → IsAt rows xs id
+      → value_cmp (rowid q) (Int id) ≡ Less
   at_above q [] xs id above at = absurd at
   at_above q (r ∷ rows) [] id above at = absurd at
   at_above q (r ∷ rows) (x ∷ xs) id above (inl here) = subst (λ (s : Row). value_cmp (rowid q) (rowid s) ≡ Less) here.0 above.0
@@ -89,21 +92,25 @@ module _ {X : Type 0} (values : X → Row) (p : X → Bool) where
   at_apart y (r ∷ rows) (x ∷ xs) id apart (inl here) = false_from_ne_true (p y) (λ is. apart.0 (is, here.1))
   at_apart y (r ∷ rows) (x ∷ xs) id apart (inr there) = at_apart y rows xs id apart.1 there
 
-  others_miss : (one : X) → p one ≡ true → (id : ℤ) (rows : List Row) (xs : List X) → AreRows rows xs → AllByRecursion (λ s. value_cmp (Int id) (rowid s) ≡ Less) rows → AllByRecursion (IsLone one) xs
+  others_miss : (one : X) → p one ≡ true → (id : ℤ) (rows : List Row) (xs : List X) → AreRows rows xs
+      → AllByRecursion (λ s. value_cmp (Int id) (rowid s) ≡ Less) rows → AllByRecursion (IsLone one) xs
       → AllZip (λ row x. has_id id row ≡ p x) rows xs
   others_miss one is id [] [] same above apart = tt
   others_miss one is id [] (x ∷ xs) same above apart = absurd same
   others_miss one is id (r ∷ rows) [] same above apart = absurd same
   others_miss one is id (r ∷ rows) (x ∷ xs) same above apart =
-      (ap is_eq (flipped (Int id) (rowid r) above.0) ∙ sym (false_from_ne_true (p x) (λ passes. apart.0 (is, passes))), others_miss one is id rows xs same.1 above.1 apart.1)
+      (ap is_eq (flipped (Int id) (rowid r) above.0) ∙ sym (false_from_ne_true (p x) (λ passes. apart.0 (is, passes))),
+          others_miss one is id rows xs same.1 above.1 apart.1)
 
   -- the rowid of the row that is met is that of no other
-  pub hits : (id : ℤ) (rows : List Row) (xs : List X) → IsTable rows → AreRows rows xs → Apart IsLone xs → IsAt rows xs id → AllZip (λ row x. has_id id row ≡ p x) rows xs
+  pub hits : (id : ℤ) (rows : List Row) (xs : List X) → IsTable rows → AreRows rows xs → Apart IsLone xs → IsAt rows xs id
+      → AllZip (λ row x. has_id id row ≡ p x) rows xs
   hits id [] xs table same apart at = absurd at
   hits id (r ∷ rows) [] table same apart at = absurd at
   hits id (r ∷ rows) (x ∷ xs) table same apart (inl here) =
       let mine : has_id id r ≡ true = ap (λ (s : Row). is_eq (value_cmp (rowid s) (Int id))) here.0 ∙ ap is_eq (tied_itself value_cmp_total (Int id)) in
-      let above : AllByRecursion (λ s. value_cmp (Int id) (rowid s) ≡ Less) rows = subst (λ (t : Row). AllByRecursion (λ s. value_cmp (rowid t) (rowid s) ≡ Less) rows) here.0 table.0 in
+      let above : AllByRecursion (λ s. value_cmp (Int id) (rowid s) ≡ Less) rows =
+          subst (λ (t : Row). AllByRecursion (λ s. value_cmp (rowid t) (rowid s) ≡ Less) rows) here.0 table.0 in
       (mine ∙ sym here.1, others_miss x here.1 id rows xs same.1 above apart.0)
   hits id (r ∷ rows) (x ∷ xs) table same apart (inr there) =
       (ap is_eq (at_above r rows xs id table.0 there) ∙ sym (at_apart x rows xs id apart.0 there), hits id rows xs table.1 same.1 apart.1 there)

@@ -7,11 +7,13 @@ use Rattle.club_tables.specs.Columns.{HasValues, version_values}
 use Rattle.club_tables.specs.Transaction.{IsKept, IsAtRest}
 use Rattle.club_tables.specs.Opening.{IsAnswered, IsUnderstood, FoundReady}
 
-module _ (old mid new : State) (earlier : HasCleanDisk mid) (clean : HasCleanDisk new) (is_open : IsTrue new.is_open) (rest : IsAtRest old) (read : IsKept old mid) (prepared : IsAtRest mid → IsKept mid new) where
+module _ (old mid new : State) (earlier : HasCleanDisk mid) (clean : HasCleanDisk new) (is_open : IsTrue new.is_open) (rest : IsAtRest old)
+    (read : IsKept old mid) (prepared : IsAtRest mid → IsKept mid new) where
   mid_at_rest : IsAtRest mid
   mid_at_rest opened = let k = read earlier opened in k.1 ∙ sym k.2
 
-  pub found_ready : (version : ℕ) (texts : List (List ℕ)) (rows : List Row) → (row : Row) × (rows ≡ row ∷ []) × HasValues row (version_values version) → IsAnswered VERSION.now old.now rows
+  pub found_ready : (version : ℕ) (texts : List (List ℕ)) (rows : List Row) → (row : Row) × (rows ≡ row ∷ []) × HasValues row (version_values version)
+      → IsAnswered VERSION.now old.now rows
       → (IsAtRest mid → All (IsUnderstood new.committed.schema) texts) → FoundReady version texts old new
   found_ready version texts rows one answered known =
       let after = prepared mid_at_rest clean is_open in

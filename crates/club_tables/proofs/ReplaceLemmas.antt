@@ -1,5 +1,6 @@
 -- A list whose table had one row replaced.
-use Rattle.std.proofs.Common.{◌≡◌, ◌⊎◌, inl, inr, ◌≤◌, ℤ, Bool, true, false, not, cond, List, [], ◌∷◌, length, map, refl, sym, ap, subst, ◌∙◌, arith, Less, Greater}
+use Rattle.std.proofs.Common.{◌≡◌, ◌⊎◌, inl, inr, ◌≤◌, ℤ, Bool, true, false, not, cond, List, [], ◌∷◌, length, map, refl, sym, ap, subst, ◌∙◌, arith, Less,
+    Greater}
 use Rattle.std.specs.Prelude.{filter, IsPermutation}
 use Rattle.std.specs.List.{AllByRecursion, AllZip, list_all, list_any}
 use Rattle.std.specs.Ordering.{is_eq, match_ordering, ordering_reverse}
@@ -31,11 +32,13 @@ Above r s = value_cmp (rowid r) (rowid s) ≡ Less
 
 all_filter : {A : Type 0} (P : A → Type 0) (q : A → Bool) (xs : List A) → AllByRecursion P xs → AllByRecursion P (filter q xs)
 all_filter P q [] h = tt
-all_filter P q (x ∷ xs) h = elim (q x) as (λ b. AllByRecursion P (cond b (x ∷ filter q xs) (filter q xs))) [ true ↦ (h.0, all_filter P q xs h.1) | false ↦ all_filter P q xs h.1 ]
+all_filter P q (x ∷ xs) h = elim (q x) as (λ b. AllByRecursion P (cond b (x ∷ filter q xs) (filter q xs))) [ true ↦ (h.0, all_filter P q xs h.1) | false ↦
+    all_filter P q xs h.1 ]
 
 IsTable-filter : (q : Row → Bool) (rows : List Row) → IsTable rows → IsTable (filter q rows)
 IsTable-filter q [] h = tt
-IsTable-filter q (r ∷ rows) h = elim (q r) as (λ b. IsTable (cond b (r ∷ filter q rows) (filter q rows))) [ true ↦ (all_filter (Above r) q rows h.0, IsTable-filter q rows h.1) | false ↦ IsTable-filter q rows h.1 ]
+IsTable-filter q (r ∷ rows) h = elim (q r) as (λ b. IsTable (cond b (r ∷ filter q rows) (filter q rows))) [ true ↦
+    (all_filter (Above r) q rows h.0, IsTable-filter q rows h.1) | false ↦ IsTable-filter q rows h.1 ]
 
 pub flipped : (v w : Value) → value_cmp v w ≡ Less → value_cmp w v ≡ Greater
 flipped v w h = value_cmp_total.antisymm w v ∙ ap ordering_reverse h
@@ -45,7 +48,8 @@ none_above : (id : ℤ) (rows : List Row) → AllByRecursion (λ s. value_cmp (I
 none_above id [] h = refl
 none_above id (s ∷ rows) h = or_from (has_rowid id s) (list_any (has_rowid id) rows) (ap is_eq (flipped (Int id) (rowid s) h.0)) (none_above id rows h.1)
 
-put_first : (new : Row) (id : ℤ) (rows : List Row) → rowid new ≡ Int id → AllByRecursion (λ s. value_cmp (Int id) (rowid s) ≡ Less) rows → put_row new rows ≡ new ∷ rows
+put_first : (new : Row) (id : ℤ) (rows : List Row) → rowid new ≡ Int id → AllByRecursion (λ s. value_cmp (Int id) (rowid s) ≡ Less) rows
+    → put_row new rows ≡ new ∷ rows
 put_first new id [] keyed h = refl
 put_first new id (s ∷ rows) keyed h = rw (keyed, flipped (Int id) (rowid s) h.0)
 
@@ -64,7 +68,8 @@ module _ {X : Type 0} (values : X → Row) (p : X → Bool) (change : X → X) (
       go true is some more = absurd cc
       go false is none more = let first = kept x is in let later = more none in cc
 
-  one_above : (v : Value) (rows : List Row) (xs : List X) (id : ℤ) (one : X) → AllByRecursion (λ s. value_cmp v (rowid s) ≡ Less) rows → IsOne rows xs id one → value_cmp v (Int id) ≡ Less
+  one_above : (v : Value) (rows : List Row) (xs : List X) (id : ℤ) (one : X) → AllByRecursion (λ s. value_cmp v (rowid s) ≡ Less) rows → IsOne rows xs id one
+      → value_cmp v (Int id) ≡ Less
   one_above v [] xs id one h is = absurd is
   one_above v (r ∷ rows) [] id one h is = absurd is
   one_above v (r ∷ rows) (x ∷ xs) id one h (inl here) = subst (λ (s : Row). value_cmp v (rowid s) ≡ Less) here.0 h.0
@@ -77,9 +82,11 @@ module _ {X : Type 0} (values : X → Row) (p : X → Bool) (change : X → X) (
   swapped (r ∷ rows) (x ∷ xs) id one table same (inl here) =
       let R = λ (row : Row) (x : X). IsRowOf (values x) row in
       let new = Int id ∷ values (change one) in
-      let later : AllByRecursion (λ s. value_cmp (Int id) (rowid s) ≡ Less) rows = subst (λ (t : Row). AllByRecursion (λ s. value_cmp (rowid t) (rowid s) ≡ Less) rows) here.0 table.0 in
+      let later : AllByRecursion (λ s. value_cmp (Int id) (rowid s) ≡ Less) rows =
+          subst (λ (t : Row). AllByRecursion (λ s. value_cmp (rowid t) (rowid s) ≡ Less) rows) here.0 table.0 in
       let taken : has_rowid id r ≡ true = ap (λ t. has_rowid id t) here.0 ∙ ap is_eq (tied_itself value_cmp_total (Int id)) in
-      let left : without_rowid id (r ∷ rows) ≡ rows = ap (λ b. cond (not b) (r ∷ without_rowid id rows) (without_rowid id rows)) taken ∙ none_to_drop id rows (none_above id rows later) in
+      let left : without_rowid id (r ∷ rows) ≡ rows = ap (λ b. cond (not b) (r ∷ without_rowid id rows) (without_rowid id rows)) taken
+          ∙ none_to_drop id rows (none_above id rows later) in
       let put : put_row new (without_rowid id (r ∷ rows)) ≡ new ∷ rows = ap (put_row new) left ∙ put_first new id rows refl later in
       subst (λ ys. AllZip R ys (change x ∷ map change xs)) (sym put)
       ((id, ap (λ y. Int id ∷ values (change y)) (sym here.1)), subst (AllZip R rows) (sym here.2) same.1)
@@ -90,7 +97,8 @@ module _ {X : Type 0} (values : X → Row) (p : X → Bool) (change : X → X) (
       let stays : has_rowid id r ≡ false = ap is_eq below in
       let rest = without_rowid id rows in
       let left : without_rowid id (r ∷ rows) ≡ r ∷ rest = ap (λ b. cond (not b) (r ∷ rest) rest) stays in
-      let put : put_row new (without_rowid id (r ∷ rows)) ≡ r ∷ put_row new rest = ap (put_row new) left ∙ ap (λ o. match_ordering o (r ∷ put_row new rest) (new ∷ rest) (new ∷ r ∷ rest)) below in
+      let put : put_row new (without_rowid id (r ∷ rows)) ≡ r ∷ put_row new rest = ap (put_row new) left
+          ∙ ap (λ o. match_ordering o (r ∷ put_row new rest) (new ∷ rest) (new ∷ r ∷ rest)) below in
       subst (λ ys. AllZip R ys (change x ∷ map change xs)) (sym put)
       (subst (λ y. R r y) (sym there.0) same.0, swapped rows xs id one table.1 same.1 there.1)
 
@@ -104,7 +112,8 @@ module _ {X : Type 0} (values : X → Row) (p : X → Bool) (change : X → X) (
     none_left (r ∷ rows) [] h none = absurd h
     none_left (r ∷ rows) (x ∷ xs) h none = go (p x) refl none (none_left rows xs h.1)
       where
-        go : (b : Bool) → p x ≡ b → cond b (x ∷ filter p xs) (filter p xs) ≡ [] → (filter p xs ≡ [] → filter (test params tests project) rows ≡ []) → filter (test params tests project) (r ∷ rows) ≡ []
+        go : (b : Bool) → p x ≡ b → cond b (x ∷ filter p xs) (filter p xs) ≡ [] → (filter p xs ≡ [] → filter (test params tests project) rows ≡ [])
+            → filter (test params tests project) (r ∷ rows) ≡ []
         go true is some more = absurd cc
         go false is none more =
             let fails : test params tests project r ≡ false = h.0.1 ∙ is in
@@ -131,7 +140,8 @@ module _ {X : Type 0} (values : X → Row) (p : X → Bool) (change : X → X) (
             let none : filter p xs ≡ [] = nothing_passes xs (omega arith) in
             let no_rows : filter (test params tests project) rows ≡ [] = none_left rows xs h.1 none in
             let row : r ≡ Int h.0.0.0 ∷ values x = h.0.0.1 in
-            inr (h.0.0.0, x, is, ap (λ b. cond b (r ∷ filter (test params tests project) rows) (filter (test params tests project) rows)) (passes ∙ is) ∙ cc (no_rows, row), inl (row, refl, none_change xs none))
+            inr (h.0.0.0, x, is, ap (λ b. cond b (r ∷ filter (test params tests project) rows) (filter (test params tests project) rows)) (passes ∙ is)
+                ∙ cc (no_rows, row), inl (row, refl, none_change xs none))
         go false is low more =
             let skip = ap (λ b. cond b (r ∷ filter (test params tests project) rows) (filter (test params tests project) rows)) (passes ∙ is) in
             let stays : change x ≡ x = kept x is in
@@ -147,7 +157,8 @@ module _ {X : Type 0} (values : X → Row) (p : X → Bool) (change : X → X) (
     one_has Q (r ∷ rows) (x ∷ xs) id one all (inl here) = subst Q here.1 all.0
     one_has Q (r ∷ rows) (x ∷ xs) id one all (inr there) = one_has Q rows xs id one all.1 there.1
 
-    both : (rows : List Row) (xs : List X) → AllZip (λ row x. IsRowOf (values x) row) rows xs → AllZip (λ row x. test params tests project row ≡ p x) rows xs → AllZip IsHit rows xs
+    both : (rows : List Row) (xs : List X) → AllZip (λ row x. IsRowOf (values x) row) rows xs → AllZip (λ row x. test params tests project row ≡ p x) rows xs
+        → AllZip IsHit rows xs
     both [] [] same hits = tt
     both [] (x ∷ xs) same hits = absurd same
     both (r ∷ rows) [] same hits = absurd same
@@ -158,21 +169,25 @@ module _ {X : Type 0} (values : X → Row) (p : X → Bool) (change : X → X) (
         → ((id : ℤ) (x : X) → Q x → p x ≡ true → eval_all project (params ∷ (Int id ∷ values x) ∷ []) ≡ Int id ∷ Int id ∷ values (change x))
         → ((id : ℤ) (x : X) → cast_row table (Int id ∷ values x) ≡ Int id ∷ values x)
         → AllZip (λ row x. test params tests project row ≡ p x) (db.trees table.tree) xs
-        → Holds values (db.trees table.tree) xs → length (filter p xs) ≤ 1 → Answers db (record { lets = []; body = select (inner table.tree end) tests project }) params rows
+        → Holds values (db.trees table.tree) xs → length (filter p xs) ≤ 1
+            → Answers db (record { lets = []; body = select (inner table.tree end) tests project }) params rows
         → Holds values (edited db.trees (edit_of db.trees table (ids_of rows) Given 1 rows)) (map change xs)
     replaced_where table db xs rows Q all sets casts hits held low answers =
         let before = db.trees table.tree in
         let same = answered params tests project table.tree db rows answers in
         elim (find_one before xs (both before xs held.same hits) low) [
           | inl none ↦
-              let no_rows : rows ≡ [] = short_permutation [] rows (omega arith) (subst (λ ys. IsPermutation (map (shows params tests project) ys) rows) none.0 same) in
-              subst (λ ys. Holds values (edited db.trees (edit_of db.trees table (ids_of ys) Given 1 ys)) (map change xs)) (sym no_rows) (subst (Holds values before) (sym none.1) held)
+              let no_rows : rows ≡ [] = short_permutation [] rows (omega arith)
+                  (subst (λ ys. IsPermutation (map (shows params tests project) ys) rows) none.0 same) in
+              subst (λ ys. Holds values (edited db.trees (edit_of db.trees table (ids_of ys) Given 1 ys)) (map change xs)) (sym no_rows)
+                  (subst (Holds values before) (sym none.1) held)
           | inr some ↦
               let id = some.0 in
               let one = some.1 in
               let new = Int id ∷ values (change one) in
               let single : rows ≡ shows params tests project (Int id ∷ values one) ∷ [] =
-              short_permutation (shows params tests project (Int id ∷ values one) ∷ []) rows (omega arith) (subst (λ ys. IsPermutation (map (shows params tests project) ys) rows) some.3 same) in
+              short_permutation (shows params tests project (Int id ∷ values one) ∷ []) rows (omega arith)
+                  (subst (λ ys. IsPermutation (map (shows params tests project) ys) rows) some.3 same) in
               let one_row : rows ≡ (Int id ∷ new) ∷ [] = single ∙ ap (λ row. row ∷ []) (sets id one (one_has Q before xs id one all some.4) some.2) in
               let put : Holds values (put_row new (without_rowid id before)) (map change xs) = record {
                 rising = IsTable-put_row new (without_rowid id before) (IsTable-filter (λ r. not (has_rowid id r)) before held.rising);
@@ -183,15 +198,18 @@ module _ {X : Type 0} (values : X → Row) (p : X → Bool) (change : X → X) (
         ]
 
     -- the same, where the tests see the columns alone
-    pub replaced : ((id : ℤ) (x : X) → list_all (holds (params ∷ (Int id ∷ values x) ∷ [])) tests ≡ p x) → (table : Table) (db : Database) (xs : List X) (rows : List Row) (Q : X → Type 0) → AllByRecursion Q xs
+    pub replaced : ((id : ℤ) (x : X) → list_all (holds (params ∷ (Int id ∷ values x) ∷ [])) tests ≡ p x)
+        → (table : Table) (db : Database) (xs : List X) (rows : List Row) (Q : X → Type 0) → AllByRecursion Q xs
         → ((id : ℤ) (x : X) → Q x → p x ≡ true → eval_all project (params ∷ (Int id ∷ values x) ∷ []) ≡ Int id ∷ Int id ∷ values (change x))
         → ((id : ℤ) (x : X) → cast_row table (Int id ∷ values x) ≡ Int id ∷ values x)
-        → Holds values (db.trees table.tree) xs → length (filter p xs) ≤ 1 → Answers db (record { lets = []; body = select (inner table.tree end) tests project }) params rows
+        → Holds values (db.trees table.tree) xs → length (filter p xs) ≤ 1
+            → Answers db (record { lets = []; body = select (inner table.tree end) tests project }) params rows
         → Holds values (edited db.trees (edit_of db.trees table (ids_of rows) Given 1 rows)) (map change xs)
     replaced tested table db xs rows Q all sets casts held low answers =
         replaced_where table db xs rows Q all sets casts (each (db.trees table.tree) xs held.same) held low answers
       where
-        each : (before : List Row) (elements : List X) → AllZip (λ row x. IsRowOf (values x) row) before elements → AllZip (λ row x. test params tests project row ≡ p x) before elements
+        each : (before : List Row) (elements : List X) → AllZip (λ row x. IsRowOf (values x) row) before elements
+            → AllZip (λ row x. test params tests project row ≡ p x) before elements
         each [] [] same = tt
         each [] (x ∷ elements) same = absurd same
         each (r ∷ before) [] same = absurd same

@@ -45,17 +45,20 @@ put_above new [] h = refl
 put_above new (r ∷ rows) h = rw (h.0, put_above new rows h.1)
 
 -- a row at the next rowid comes last
-pub put_last : (values : Row) (rows : List Row) → IsTable rows → AllByRecursion IsKeyed rows → put_row (Int (next_rowid rows) ∷ values) rows ≡ rows ++ (Int (next_rowid rows) ∷ values) ∷ []
+pub put_last : (values : Row) (rows : List Row) → IsTable rows → AllByRecursion IsKeyed rows
+    → put_row (Int (next_rowid rows) ∷ values) rows ≡ rows ++ (Int (next_rowid rows) ∷ values) ∷ []
 put_last values rows table keyed = put_above (Int (next_rowid rows) ∷ values) rows (all_below (pos 1) rows table keyed)
 
-pub zip_more : {X : Type 0} (R : Row → X → Type 0) (rows : List Row) (xs : List X) (row : Row) (x : X) → AllZip R rows xs → R row x → AllZip R (rows ++ row ∷ []) (xs ++ x ∷ [])
+pub zip_more : {X : Type 0} (R : Row → X → Type 0) (rows : List Row) (xs : List X) (row : Row) (x : X) → AllZip R rows xs → R row x
+    → AllZip R (rows ++ row ∷ []) (xs ++ x ∷ [])
 zip_more R [] [] row x h one = (one, tt)
 zip_more R [] (y ∷ xs) row x h one = absurd h
 zip_more R (r ∷ rows) [] row x h one = absurd h
 zip_more R (r ∷ rows) (y ∷ xs) row x h one = (h.0, zip_more R rows xs row x h.1 one)
 
 -- an inserted row
-pub holds_more : {X : Type 0} (values : X → Row) (rows : List Row) (xs : List X) (x : X) → Holds values rows xs → Holds values (put_row (Int (next_rowid rows) ∷ values x) rows) (xs ++ x ∷ [])
+pub holds_more : {X : Type 0} (values : X → Row) (rows : List Row) (xs : List X) (x : X) → Holds values rows xs
+    → Holds values (put_row (Int (next_rowid rows) ∷ values x) rows) (xs ++ x ∷ [])
 holds_more values rows xs x held =
     let new = Int (next_rowid rows) ∷ values x in
     record {

@@ -1,5 +1,6 @@
 -- What a SELECT over one table gives, where the table holds a list.
-use Rattle.std.proofs.Common.{◌≡◌, ◌≤◌, ℕ, suc, ◌-◌, ◌^◌, ◌<◌, ℤ, pos, Bool, true, false, cond, ◌==◌, None, Some, List, [], ◌∷◌, ◌++◌, length, map, slice_get, refl, sym, ap, subst, ◌∙◌, arith}
+use Rattle.std.proofs.Common.{◌≡◌, ◌≤◌, ℕ, suc, ◌-◌, ◌^◌, ◌<◌, ℤ, pos, Bool, true, false, cond, ◌==◌, None, Some, List, [], ◌∷◌, ◌++◌, length, map, slice_get,
+    refl, sym, ap, subst, ◌∙◌, arith}
 use Rattle.std.specs.Prelude.{filter, find, flat_map, AllPairs, IsPermutation, slice_index_or, nat_le, unwrap_or}
 use Rattle.std.specs.List.{AllByRecursion, AllZip, list_all}
 use Rattle.std.specs.Str.{bytes_eq}
@@ -60,7 +61,8 @@ find_first {X} p (x ∷ xs) =
 -- ---- a query of one table
 
 pub no_overlay : (db : Trees) (tree : ℕ) → overlay db [] tree ≡ db tree
-no_overlay db tree = elim (nat_le (2 ^ 31) tree) as (λ b. unwrap_or (cond b (slice_get (let none : List (List Row) = [] in none) (tree - 2 ^ 31)) None) (db tree) ≡ db tree) [ true ↦ refl | false ↦ refl ]
+no_overlay db tree = elim (nat_le (2 ^ 31) tree) as (λ b. unwrap_or (cond b (slice_get (let none : List (List Row) = [] in none) (tree - 2 ^ 31)) None)
+    (db tree) ≡ db tree) [ true ↦ refl | false ↦ refl ]
 
 module _ (params : Row) (tests : List Term) (project : List Term) where
   abbrev pub test : Row → Bool
@@ -69,12 +71,14 @@ module _ (params : Row) (tests : List Term) (project : List Term) where
   abbrev pub shows : Row → Row
   shows row = eval_all project (params ∷ row ∷ [])
 
-  merge_maps : (tree : ℕ) (rows : List Row) → map (λ (o : Output). o.1) (map (output (select (inner tree end) tests project)) (map (λ (row : Row). let e : Env = params ∷ row ∷ [] in e) rows)) ≡ map shows rows
+  merge_maps : (tree : ℕ) (rows : List Row) → map (λ (o : Output). o.1) (map (output (select (inner tree end) tests project)) (map (λ (row : Row). let e : Env =
+      params ∷ row ∷ [] in e) rows)) ≡ map shows rows
   merge_maps tree [] = refl
   merge_maps tree (r ∷ rows) = ap (λ ys. shows r ∷ ys) (merge_maps tree rows)
 
   -- the answer has what is shown of each row that passes, in some order
-  pub answered : (tree : ℕ) (db : Database) (rows : List Row) → Answers db (record { lets = []; body = select (inner tree end) tests project }) params rows → IsPermutation (map shows (filter test (db.trees tree))) rows
+  pub answered : (tree : ℕ) (db : Database) (rows : List Row) → Answers db (record { lets = []; body = select (inner tree end) tests project }) params rows
+      → IsPermutation (map shows (filter test (db.trees tree))) rows
   answered tree db rows h =
       let query = select (inner tree end) tests project in
       let a : IsAnswer query (overlay db.trees []) params rows = h.answer Null in
@@ -83,12 +87,14 @@ module _ (params : Row) (tests : List Term) (project : List Term) where
       a.grouped ∙ ap (flat_map (λ row. cond (test row) (each row ∷ []) [])) (no_overlay db.trees tree) ∙ pick_by_if test each (db.trees tree) in
       let kept : a.kept ≡ map (output query) (map each (filter test (db.trees tree))) = a.distinct ∙ ap (map (output query)) staged in
       let same = IsPermutation-map (λ (o : Output). o.1) a.kept a.ordered a.same in
-      let all : map (λ (o : Output). o.1) a.kept ≡ map shows (filter test (db.trees tree)) = ap (map (λ (o : Output). o.1)) kept ∙ merge_maps tree (filter test (db.trees tree)) in
+      let all : map (λ (o : Output). o.1) a.kept ≡ map shows (filter test (db.trees tree)) = ap (map (λ (o : Output). o.1)) kept
+          ∙ merge_maps tree (filter test (db.trees tree)) in
       subst (λ ys. IsPermutation ys rows) all (subst (IsPermutation (map (λ (o : Output). o.1) a.kept)) (sym a.shown) same)
 
 module _ {X B : Type 0} (values : X → Row) (p : X → Bool) (show : X → B) where
   -- what is shown of the rows that pass is what is shown of the elements that do
-  pub picked : (passes : Row → Bool) (shown : Row → B) → ((id : ℤ) (x : X) → passes (Int id ∷ values x) ≡ p x) → ((id : ℤ) (x : X) → shown (Int id ∷ values x) ≡ show x)
+  pub picked : (passes : Row → Bool) (shown : Row → B) → ((id : ℤ) (x : X) → passes (Int id ∷ values x) ≡ p x)
+      → ((id : ℤ) (x : X) → shown (Int id ∷ values x) ≡ show x)
       → (rows : List Row) (xs : List X) → AllZip (λ row x. IsRowOf (values x) row) rows xs → map shown (filter passes rows) ≡ map show (filter p xs)
   picked passes shown tested says [] [] h = refl
   picked passes shown tested says [] (x ∷ xs) h = absurd h
@@ -109,7 +115,8 @@ module _ {X : Type 0} (values : X → Row) (params : Row) (tests : List Term) (p
   pub selected : (tree : ℕ) (names : List (List ℕ)) (db : Database) (xs : List X) (rows : List Row) → Holds values (db.trees tree) xs
       → Reads (Select (record { lets = []; body = select (inner tree end) tests project }) names) db params rows → IsPermutation (map show (filter p xs)) rows
   selected tree names db xs rows held h =
-      subst (λ ys. IsPermutation ys rows) (picked values p show (test params tests project) (shows params tests project) tested shown (db.trees tree) xs held.same)
+      subst (λ ys. IsPermutation ys rows) (picked values p show (test params tests project) (shows params tests project) tested shown (db.trees tree) xs
+          held.same)
       (answered params tests project tree db rows h)
 
 -- ---- one element at most
@@ -126,13 +133,15 @@ from_indexes P (x ∷ xs) h = (h 0 x (omega arith), from_indexes P xs (λ j d lo
 pub apart_from_pairs : {X : Type 0} (R : X → X → Type 0) (xs : List X) → AllPairs R xs → Apart R xs
 apart_from_pairs R [] h = tt
 apart_from_pairs R (x ∷ xs) h =
-    (from_indexes (R x) xs (λ j d low. h 0 (suc j) d (omega arith) (omega arith)), apart_from_pairs R xs (λ i j d less low. h (suc i) (suc j) d (omega arith) (omega arith)))
+    (from_indexes (R x) xs (λ j d low. h 0 (suc j) d (omega arith) (omega arith)),
+        apart_from_pairs R xs (λ i j d less low. h (suc i) (suc j) d (omega arith) (omega arith)))
 
 pub none_pass : {X : Type 0} (p : X → Bool) (xs : List X) → AllByRecursion (λ x. p x ≡ false) xs → filter p xs ≡ []
 none_pass p [] h = refl
 none_pass p (x ∷ xs) h = rw (h.0, none_pass p xs h.1)
 
-pub fail_beside : {X : Type 0} (R : X → X → Type 0) (p : X → Bool) → ((x y : X) → p x ≡ true → p y ≡ true → ¬ R x y) → (x : X) → p x ≡ true → (xs : List X) → AllByRecursion (R x) xs → AllByRecursion (λ y. p y ≡ false) xs
+pub fail_beside : {X : Type 0} (R : X → X → Type 0) (p : X → Bool) → ((x y : X) → p x ≡ true → p y ≡ true → ¬ R x y) → (x : X) → p x ≡ true → (xs : List X)
+    → AllByRecursion (R x) xs → AllByRecursion (λ y. p y ≡ false) xs
 fail_beside R p same x passes [] h = tt
 fail_beside R p same x passes (y ∷ xs) h = (go (p y) refl, fail_beside R p same x passes xs h.1)
   where
@@ -141,7 +150,8 @@ fail_beside R p same x passes (y ∷ xs) h = (go (p y) refl, fail_beside R p sam
     go true is = absurd (same x y passes is h.0)
 
 -- a test that no two of the elements pass is passed by one at most
-pub one_passes : {X : Type 0} (R : X → X → Type 0) (p : X → Bool) (xs : List X) → ((x y : X) → p x ≡ true → p y ≡ true → ¬ R x y) → Apart R xs → length (filter p xs) ≤ 1
+pub one_passes : {X : Type 0} (R : X → X → Type 0) (p : X → Bool) (xs : List X) → ((x y : X) → p x ≡ true → p y ≡ true → ¬ R x y) → Apart R xs
+    → length (filter p xs) ≤ 1
 one_passes R p [] same apart = omega arith
 one_passes {X} R p (x ∷ xs) same apart = go (p x) refl (one_passes R p xs same apart.1)
   where

@@ -1,5 +1,6 @@
 -- Rows of slots: which of them a new row meets, and what is told once one is put.
-use Rattle.std.proofs.Common.{◌≡◌, ◌≢◌, ℤ, Bool, true, false, ◌||◌, ◌==◌, cond, if◌then◌else◌, None, Some, Option, List, [], ◌∷◌, ◌++◌, map, refl, sym, ap, ◌∙◌, true≢false}
+use Rattle.std.proofs.Common.{◌≡◌, ◌≢◌, ℤ, Bool, true, false, ◌||◌, ◌==◌, cond, if◌then◌else◌, None, Some, Option, List, [], ◌∷◌, ◌++◌, map, refl, sym, ap, ◌∙◌,
+    true≢false}
 use Rattle.std.specs.Prelude.{AllPairs, option_map, unwrap_or}
 use Rattle.std.specs.List.{AllByRecursion, list_any}
 use Rattle.std.specs.Str.{bytes_eq}
@@ -31,7 +32,8 @@ abbrev pub AreApart : List SlotRow → Type 0
 AreApart = Apart (λ (a : SlotRow) (b : SlotRow). a.slot ≢ b.slot)
 
 -- a row conflicts with a new one where both are of one slot
-pub slots_conflict : (id id' : ℤ) (a : SlotRow) (b : Slot) (v w : Value) → conflicts (Some (1 ∷ 2 ∷ 3 ∷ [])) club_schema.indexes slot_table (Int id' ∷ name_values b ++ v ∷ w ∷ []) (Int id ∷ slot_values a) ≡ same_slot a.slot b
+pub slots_conflict : (id id' : ℤ) (a : SlotRow) (b : Slot) (v w : Value) → conflicts (Some (1 ∷ 2 ∷ 3 ∷ [])) club_schema.indexes slot_table (Int id'
+    ∷ name_values b ++ v ∷ w ∷ []) (Int id ∷ slot_values a) ≡ same_slot a.slot b
 unfolding first_key
 slots_conflict id id' a b v w =
     rw (text_equal a.slot.facility b.facility, whole_equal a.slot.day b.day, whole_equal a.slot.hour b.hour)
@@ -55,7 +57,8 @@ module _ (slot : Slot) (change : SlotUse → SlotUse) where
 
   -- the row of the slot is changed, or made
   abbrev pub put_slot : List SlotRow → List SlotRow
-  put_slot rows = if list_any (λ (row : SlotRow). same_slot row.slot slot) rows then map changed rows else rows ++ record { slot = slot; held = change unused } ∷ []
+  put_slot rows = if list_any (λ (row : SlotRow). same_slot row.slot slot) rows then map changed rows else rows
+      ++ record { slot = slot; held = change unused } ∷ []
 
   abbrev held_of : Option SlotRow → SlotUse
   held_of found = unwrap_or (option_map (λ (row : SlotRow). row.held) found) unused
@@ -66,7 +69,8 @@ module _ (slot : Slot) (change : SlotUse → SlotUse) where
   apart_told s (y ∷ rows) other = pick (apart_told s rows other) (same_slot y.slot s) (same_slot y.slot slot) refl refl
     where
       pick : use_by s (map changed rows) ≡ use_by s rows → (b c : Bool) → same_slot y.slot s ≡ b → same_slot y.slot slot ≡ c
-          → held_of (cond b (Some (record y { held = if c then change y.held else y.held })) (row_of s (map changed rows))) ≡ held_of (cond b (Some y) (row_of s rows))
+          → held_of (cond b (Some (record y { held = if c then change y.held else y.held })) (row_of s (map changed rows)))
+              ≡ held_of (cond b (Some y) (row_of s rows))
       pick more true true is this = absurd (true≢false (sym is ∙ ap (λ a. same_slot a s) (same_slots y.slot slot this) ∙ other))
       pick more true false is this = refl
       pick more false c is this = more
@@ -77,26 +81,34 @@ module _ (slot : Slot) (change : SlotUse → SlotUse) where
   abbrev Told : Slot → SlotUse → SlotUse → Type 0
   Told s new old = new ≡ (if same_slot slot s then change old else old)
 
-  on_changed : (s : Slot) (rows : List SlotRow) → list_any (λ (row : SlotRow). same_slot row.slot slot) rows ≡ true → Told s (use_by s (map changed rows)) (use_by s rows)
+  on_changed : (s : Slot) (rows : List SlotRow) → list_any (λ (row : SlotRow). same_slot row.slot slot) rows ≡ true
+      → Told s (use_by s (map changed rows)) (use_by s rows)
   on_changed s [] any = absurd cc
   on_changed s (x ∷ rows) any = go (on_changed s rows) (same_slot x.slot s) (same_slot x.slot slot) refl refl any
     where
-      go : (list_any (λ (row : SlotRow). same_slot row.slot slot) rows ≡ true → Told s (use_by s (map changed rows)) (use_by s rows)) → (b c : Bool) → same_slot x.slot s ≡ b → same_slot x.slot slot ≡ c
+      go : (list_any (λ (row : SlotRow). same_slot row.slot slot) rows ≡ true → Told s (use_by s (map changed rows)) (use_by s rows)) → (b c : Bool)
+          → same_slot x.slot s ≡ b → same_slot x.slot slot ≡ c
           → (c || list_any (λ (row : SlotRow). same_slot row.slot slot) rows) ≡ true
-          → Told s (held_of (cond b (Some (record x { held = if c then change x.held else x.held })) (row_of s (map changed rows)))) (held_of (cond b (Some x) (row_of s rows)))
+          → Told s (held_of (cond b (Some (record x { held = if c then change x.held else x.held })) (row_of s (map changed rows))))
+              (held_of (cond b (Some x) (row_of s rows)))
       go later true true is this h = let both : same_slot slot s ≡ true = ap (λ a. same_slot a s) (sym (same_slots x.slot slot this)) ∙ is in rw both refl
       go later true false is this h = rw (differs s x is this) refl
       go later false false is this h = later h
       go later false true is this h =
           let other : same_slot slot s ≡ false = ap (λ a. same_slot a s) (sym (same_slots x.slot slot this)) ∙ is in rw other (apart_told s rows other)
 
-  on_added : (s : Slot) (rows : List SlotRow) → list_any (λ (row : SlotRow). same_slot row.slot slot) rows ≡ false → Told s (use_by s (rows ++ record { slot = slot; held = change unused } ∷ [])) (use_by s rows)
-  on_added s [] none = elim (same_slot slot s) as (λ b. held_of (cond b (Some (record { slot = slot; held = change unused })) None) ≡ (if b then change unused else unused)) [ true ↦ refl | false ↦ refl ]
+  on_added : (s : Slot) (rows : List SlotRow) → list_any (λ (row : SlotRow). same_slot row.slot slot) rows ≡ false
+      → Told s (use_by s (rows ++ record { slot = slot; held = change unused } ∷ [])) (use_by s rows)
+  on_added s [] none = elim (same_slot slot s) as (λ b. held_of (cond b (Some (record { slot = slot; held = change unused })) None)
+      ≡ (if b then change unused else unused)) [ true ↦ refl | false ↦ refl ]
   on_added s (x ∷ rows) none = go (on_added s rows) (same_slot x.slot s) (same_slot x.slot slot) refl refl none
     where
-      go : (list_any (λ (row : SlotRow). same_slot row.slot slot) rows ≡ false → Told s (use_by s (rows ++ record { slot = slot; held = change unused } ∷ [])) (use_by s rows)) → (b c : Bool) → same_slot x.slot s ≡ b → same_slot x.slot slot ≡ c
+      go : (list_any (λ (row : SlotRow). same_slot row.slot slot) rows ≡ false
+          → Told s (use_by s (rows ++ record { slot = slot; held = change unused } ∷ [])) (use_by s rows)) → (b c : Bool) → same_slot x.slot s ≡ b
+          → same_slot x.slot slot ≡ c
           → (c || list_any (λ (row : SlotRow). same_slot row.slot slot) rows) ≡ false
-          → Told s (held_of (cond b (Some x) (row_of s (rows ++ record { slot = slot; held = change unused } ∷ [])))) (held_of (cond b (Some x) (row_of s rows)))
+          → Told s (held_of (cond b (Some x) (row_of s (rows ++ record { slot = slot; held = change unused } ∷ []))))
+              (held_of (cond b (Some x) (row_of s rows)))
       go later b true is this h = absurd cc
       go later true false is this h = rw (differs s x is this) refl
       go later false false is this h = later h
@@ -106,11 +118,13 @@ module _ (slot : Slot) (change : SlotUse → SlotUse) where
   use_put s rows = go (list_any (λ (row : SlotRow). same_slot row.slot slot) rows) refl
     where
       go : (b : Bool) → list_any (λ (row : SlotRow). same_slot row.slot slot) rows ≡ b
-          → use_by s (if b then map changed rows else rows ++ record { slot = slot; held = change unused } ∷ []) ≡ (if same_slot slot s then change (use_by s rows) else use_by s rows)
+          → use_by s (if b then map changed rows else rows ++ record { slot = slot; held = change unused } ∷ [])
+              ≡ (if same_slot slot s then change (use_by s rows) else use_by s rows)
       go true any = on_changed s rows any
       go false none = on_added s rows none
 
-  all_changed : (y : Slot) (rows : List SlotRow) → AllByRecursion (λ (x : SlotRow). y ≢ x.slot) rows → AllByRecursion (λ (x : SlotRow). y ≢ x.slot) (map changed rows)
+  all_changed : (y : Slot) (rows : List SlotRow) → AllByRecursion (λ (x : SlotRow). y ≢ x.slot) rows
+      → AllByRecursion (λ (x : SlotRow). y ≢ x.slot) (map changed rows)
   all_changed y [] apart = tt
   all_changed y (x ∷ rows) apart = (apart.0, all_changed y rows apart.1)
 
@@ -118,25 +132,31 @@ module _ (slot : Slot) (change : SlotUse → SlotUse) where
   apart_changed [] apart = tt
   apart_changed (x ∷ rows) apart = (all_changed x.slot rows apart.0, apart_changed rows apart.1)
 
-  all_added : (y : Slot) (rows : List SlotRow) → AllByRecursion (λ (x : SlotRow). y ≢ x.slot) rows → y ≢ slot → AllByRecursion (λ (x : SlotRow). y ≢ x.slot) (rows ++ record { slot = slot; held = change unused } ∷ [])
+  all_added : (y : Slot) (rows : List SlotRow) → AllByRecursion (λ (x : SlotRow). y ≢ x.slot) rows → y ≢ slot
+      → AllByRecursion (λ (x : SlotRow). y ≢ x.slot) (rows ++ record { slot = slot; held = change unused } ∷ [])
   all_added y [] apart other = (other, tt)
   all_added y (x ∷ rows) apart other = (apart.0, all_added y rows apart.1 other)
 
-  apart_added : (rows : List SlotRow) → list_any (λ (row : SlotRow). same_slot row.slot slot) rows ≡ false → AreApart rows → AreApart (rows ++ record { slot = slot; held = change unused } ∷ [])
+  apart_added : (rows : List SlotRow) → list_any (λ (row : SlotRow). same_slot row.slot slot) rows ≡ false → AreApart rows
+      → AreApart (rows ++ record { slot = slot; held = change unused } ∷ [])
   apart_added [] none apart = (tt, tt)
   apart_added (x ∷ rows) none apart = go (λ none. apart_added rows none apart.1) (same_slot x.slot slot) refl none
     where
-      go : (list_any (λ (row : SlotRow). same_slot row.slot slot) rows ≡ false → AreApart (rows ++ record { slot = slot; held = change unused } ∷ [])) → (b : Bool) → same_slot x.slot slot ≡ b → (b || list_any (λ (row : SlotRow). same_slot row.slot slot) rows) ≡ false → AreApart (x ∷ (rows ++ record { slot = slot; held = change unused } ∷ []))
+      go : (list_any (λ (row : SlotRow). same_slot row.slot slot) rows ≡ false → AreApart (rows ++ record { slot = slot; held = change unused } ∷ []))
+          → (b : Bool) → same_slot x.slot slot ≡ b → (b || list_any (λ (row : SlotRow). same_slot row.slot slot) rows) ≡ false
+          → AreApart (x ∷ (rows ++ record { slot = slot; held = change unused } ∷ []))
       go later true is h = absurd cc
       go later false is h = (all_added x.slot rows apart.0 (λ e. true≢false (sym (ap (λ a. same_slot a slot) e ∙ same_itself slot) ∙ is)), later h)
 
   -- and no slot has two rows
-  pub put_once : (rows : List SlotRow) → AllPairs (λ (a : SlotRow) (b : SlotRow). a.slot ≢ b.slot) rows → AllPairs (λ (a : SlotRow) (b : SlotRow). a.slot ≢ b.slot) (put_slot rows)
+  pub put_once : (rows : List SlotRow) → AllPairs (λ (a : SlotRow) (b : SlotRow). a.slot ≢ b.slot) rows
+      → AllPairs (λ (a : SlotRow) (b : SlotRow). a.slot ≢ b.slot) (put_slot rows)
   put_once rows once = go (list_any (λ (row : SlotRow). same_slot row.slot slot) rows) refl
     where
       R : SlotRow → SlotRow → Type 0
       R a b = a.slot ≢ b.slot
 
-      go : (b : Bool) → list_any (λ (row : SlotRow). same_slot row.slot slot) rows ≡ b → AllPairs R (if b then map changed rows else rows ++ record { slot = slot; held = change unused } ∷ [])
+      go : (b : Bool) → list_any (λ (row : SlotRow). same_slot row.slot slot) rows ≡ b
+          → AllPairs R (if b then map changed rows else rows ++ record { slot = slot; held = change unused } ∷ [])
       go true any = pairs_from_apart R (map changed rows) (apart_changed rows (apart_from_pairs R rows once))
       go false none = pairs_from_apart R _ (apart_added rows none (apart_from_pairs R rows once))

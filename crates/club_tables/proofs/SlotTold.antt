@@ -20,9 +20,13 @@ one_use a b h =
     let closed = truths b.closed a.closed flags in
     λ i. record { taken = taken i; closed = closed i }
 
-pub use_is : (club : Club) (slot : Slot) (rows : List Row) (read : Option SlotUse) → (rows ≡ [] → read ≡ Some unused) → ((row : Row) → rows ≡ row ∷ [] → Reads (λ (found : SlotUse). (found.taken ≤ 50) × HasValues row (use_values found)) read)
+pub use_is : (club : Club) (slot : Slot) (rows : List Row) (read : Option SlotUse) → (rows ≡ [] → read ≡ Some unused)
+    → ((row : Row) → rows ≡ row ∷ [] → Reads (λ (found : SlotUse). (found.taken ≤ 50) × HasValues row (use_values found)) read)
     → ShowsUse club slot rows → (found : SlotUse) → read ≡ Some found → found ≡ slot_use club slot
 use_is club slot rows read none one (inl there) found is =
-    let values : Reads (λ (found : SlotUse). (found.taken ≤ 50) × HasValues (use_values (slot_use club slot)) (use_values found)) (Some found) = subst (Reads (λ (found : SlotUse). (found.taken ≤ 50) × HasValues (use_values (slot_use club slot)) (use_values found))) is (one (use_values (slot_use club slot)) there) in
+    let values : Reads (λ (found : SlotUse). (found.taken ≤ 50) × HasValues (use_values (slot_use club slot)) (use_values found)) (Some found) =
+        subst (Reads (λ (found : SlotUse). (found.taken ≤ 50) × HasValues (use_values (slot_use club slot)) (use_values found))) is
+        (one (use_values (slot_use club slot)) there) in
     one_use (slot_use club slot) found values.1
-use_is club slot rows read none one (inr absent) found is = let e : Some found ≡ Some unused = sym is ∙ none absent.0 in let same : found ≡ unused = cc in same ∙ sym absent.1
+use_is club slot rows read none one (inr absent) found is = let e : Some found ≡ Some unused = sym is ∙ none absent.0 in let same : found ≡ unused = cc in
+    same ∙ sym absent.1

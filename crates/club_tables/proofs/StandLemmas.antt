@@ -1,5 +1,6 @@
 -- What a call that changes nothing leaves standing.
-use Rattle.std.proofs.Common.{◌≡◌, ℕ, ◌+◌, ◌≤◌, List, [], ◌∷◌, IsTrue, Option, Some, None, Result, Ok, Err, IfOk, OnOk, OnErr, true, inl, inr, refl, sym, subst, ap, ◌∙◌, arith}
+use Rattle.std.proofs.Common.{◌≡◌, ℕ, ◌+◌, ◌≤◌, List, [], ◌∷◌, IsTrue, Option, Some, None, Result, Ok, Err, IfOk, OnOk, OnErr, true, inl, inr, refl, sym, subst,
+    ap, ◌∙◌, arith}
 use Rattle.sqlite.specs.Order.{Row}
 use Rattle.sqlite.specs.Store.{Ghosts}
 use Rattle.sqlite.specs.Effect.{Database, Reads}
@@ -20,7 +21,8 @@ use Rattle.club_tables.specs.Told.{stands_in, first_in, found_in}
 use Rattle.club_tables.specs.Transaction.{Asked, IsKept, begun}
 
 -- the same clubs stand, whatever is held of them
-pub rests_on : (IsHeld : Database → Club → Type 0) (old new : State) → IsKept old new → Survives old new (λ _. ⊥) → (club : Club) (others : List Club) → Rests IsHeld old club others → Rests IsHeld new club others
+pub rests_on : (IsHeld : Database → Club → Type 0) (old new : State) → IsKept old new → Survives old new (λ _. ⊥) → (club : Club) (others : List Club)
+    → Rests IsHeld old club others → Rests IsHeld new club others
 rests_on IsHeld old new kept quiet club others rests =
     let earlier = λ (clean : HasCleanDisk new). let e : HasCleanDisk old = omega (arith, quiet.clean) in e in
     record {
@@ -29,33 +31,43 @@ rests_on IsHeld old new kept quiet club others rests =
       left = λ clean trees may. elim (quiet.crash clean trees may) [ inl was ↦ rests.left (earlier clean) trees was | inr none ↦ absurd none ];
     }
 
-pub keeps_standing : {S : Type 0} (g : Ghosts S) (old new : Held S) → IsKept (state g old) (state g new) → Survives (state g old) (state g new) (λ _. ⊥) → KeepsStanding (stands_in g) old new
+pub keeps_standing : {S : Type 0} (g : Ghosts S) (old new : Held S) → IsKept (state g old) (state g new) → Survives (state g old) (state g new) (λ _. ⊥)
+    → KeepsStanding (stands_in g) old new
 keeps_standing g old new kept quiet club others stands = rests_on Tables (state g old) (state g new) kept quiet club others stands
 
-shown_open : (sql : List ℕ) (old new : State) (c : Compiled) (full : Row) (rows : List Row) (returning : Option Returning) → ShowsRows old new sql c full rows returning → IsTrue old.is_open
+shown_open : (sql : List ℕ) (old new : State) (c : Compiled) (full : Row) (rows : List Row) (returning : Option Returning)
+    → ShowsRows old new sql c full rows returning → IsTrue old.is_open
 shown_open sql old new c full rows None h = h.3.0.was_open
 shown_open sql old new c full rows (Some what) h = h.1.shown.was_open
 
 -- what was asked was asked of a connection that was open
-pub asked_open : {S : Type 0} (g : Ghosts S) (sql : List ℕ) (params : Row) (old : Held S) (rows : List Row) → Asked g sql params old rows → IsTrue (state g old).is_open
+pub asked_open : {S : Type 0} (g : Ghosts S) (sql : List ℕ) (params : Row) (old : Held S) (rows : List Row) → Asked g sql params old rows
+    → IsTrue (state g old).is_open
 unfolding Shown
 asked_open g sql params old rows asked = shown_open sql (state g (begun old)) (state g asked.mid) asked.shown.0 _ rows asked.shown.0.returning asked.shown.2
 
 -- the tables that stood as a query was asked
-pub asked_tables : {S : Type 0} (g : Ghosts S) (sql : List ℕ) (params : Row) (old : Held S) (rows : List Row) → Asked g sql params old rows → HasCleanDisk (state g old) → (club : Club) (others : List Club) → Stands (state g old) club others → Tables (state g old).now club
+pub asked_tables : {S : Type 0} (g : Ghosts S) (sql : List ℕ) (params : Row) (old : Held S) (rows : List Row) → Asked g sql params old rows
+    → HasCleanDisk (state g old) → (club : Club) (others : List Club) → Stands (state g old) club others → Tables (state g old).now club
 asked_tables g sql params old rows asked clean club others stands =
     let is_open = asked_open g sql params old rows asked in
     subst (λ (db : Database). Tables db club) (sym (stands.settled clean is_open)) (stands.held clean is_open)
 
 -- and what they answered
-pub asked_reads : {S : Type 0} (g : Ghosts S) (sql : List ℕ) (params : Row) (old : Held S) (rows : List Row) → Asked g sql params old rows → (state g old).now.schema ≡ club_schema
-    → (command : Command) → command_of (understood club_schema sql) ≡ command → IsPlain (understood club_schema sql) → reads_listing club_schema sql ≡ Rattle.std.proofs.Common.false → Reads command (state g old).now params rows
-asked_reads g sql params old rows asked schema command is plain unlisted = reads_as sql params (state g (begun old)) (state g asked.mid) club_schema schema command is plain unlisted rows asked.shown
+pub asked_reads : {S : Type 0} (g : Ghosts S) (sql : List ℕ) (params : Row) (old : Held S) (rows : List Row) → Asked g sql params old rows
+    → (state g old).now.schema ≡ club_schema
+    → (command : Command) → command_of (understood club_schema sql) ≡ command → IsPlain (understood club_schema sql)
+        → reads_listing club_schema sql ≡ Rattle.std.proofs.Common.false → Reads command (state g old).now params rows
+asked_reads g sql params old rows asked schema command is plain unlisted =
+    reads_as sql params (state g (begun old)) (state g asked.mid) club_schema schema command is plain unlisted rows asked.shown
 
 -- the same over tables of version 1
-pub first_reads : {S : Type 0} (g : Ghosts S) (sql : List ℕ) (params : Row) (old : Held S) (rows : List Row) → Asked g sql params old rows → (state g old).now.schema ≡ first_schema
-    → (command : Command) → command_of (understood first_schema sql) ≡ command → IsPlain (understood first_schema sql) → reads_listing first_schema sql ≡ Rattle.std.proofs.Common.false → Reads command (state g old).now params rows
-first_reads g sql params old rows asked schema command is plain unlisted = reads_as sql params (state g (begun old)) (state g asked.mid) first_schema schema command is plain unlisted rows asked.shown
+pub first_reads : {S : Type 0} (g : Ghosts S) (sql : List ℕ) (params : Row) (old : Held S) (rows : List Row) → Asked g sql params old rows
+    → (state g old).now.schema ≡ first_schema
+    → (command : Command) → command_of (understood first_schema sql) ≡ command → IsPlain (understood first_schema sql)
+        → reads_listing first_schema sql ≡ Rattle.std.proofs.Common.false → Reads command (state g old).now params rows
+first_reads g sql params old rows asked schema command is plain unlisted =
+    reads_as sql params (state g (begun old)) (state g asked.mid) first_schema schema command is plain unlisted rows asked.shown
 
 pub told_if : {A E : Type 0} (P Q : A → Type 0) (r : Result A E) → IfOk r P → ((x : A) → P x → Q x) → IfOk r Q
 told_if P Q (Ok x) p f = f x p
@@ -73,14 +85,17 @@ pub any_err : {A E : Type 0} {P : Type 0} (r : Result A E) → P → OnErr r P
 any_err (Ok x) p = tt
 any_err (Err e) p = p
 
-pub keeps_found : {S : Type 0} (g : Ghosts S) (old new : Held S) → IsKept (state g old) (state g new) → Survives (state g old) (state g new) (λ _. ⊥) → KeepsStanding (found_in g) old new
+pub keeps_found : {S : Type 0} (g : Ghosts S) (old new : Held S) → IsKept (state g old) (state g new) → Survives (state g old) (state g new) (λ _. ⊥)
+    → KeepsStanding (found_in g) old new
 keeps_found g old new kept quiet club others found = rests_on HoldsClub (state g old) (state g new) kept quiet club others found
 
-pub keeps_first : {S : Type 0} (g : Ghosts S) (old new : Held S) → IsKept (state g old) (state g new) → Survives (state g old) (state g new) (λ _. ⊥) → KeepsStanding (first_in g) old new
+pub keeps_first : {S : Type 0} (g : Ghosts S) (old new : Held S) → IsKept (state g old) (state g new) → Survives (state g old) (state g new) (λ _. ⊥)
+    → KeepsStanding (first_in g) old new
 keeps_first g old new kept quiet club others first = rests_on FirstTables (state g old) (state g new) kept quiet club others first
 
 pub survives_same : (s : State) → Survives s s (λ _. ⊥)
-survives_same s = record { clean = omega arith; shield = λ h. h; counts = omega arith; limit = refl; closes = λ _ is_open. inl is_open; crash = λ _ db may. inl may }
+survives_same s = record { clean = omega arith; shield = λ h. h; counts = omega arith; limit = refl; closes = λ _ is_open. inl is_open; crash =
+    λ _ db may. inl may }
 
 pub survives_none : (a b c : State) → Survives a b (λ _. ⊥) → Survives b c (λ _. ⊥) → Survives a c (λ _. ⊥)
 survives_none a b c p q = survives_then a b c (λ _. ⊥) (λ _. ⊥) (λ _. ⊥) (λ _ db none. none) (λ _ db none. none) p q

@@ -30,7 +30,8 @@ untouched_then a b c earlier first next rest clean is_open =
 
 module _ {S : Type 0} (g : Ghosts S) where
   -- these statements
-  pub may_commit : (all : List Words) (AreWords : List Words → Type 0) → AreWords all → (old new : Held S) → Survives (state g old) (state g new) (λ trees. (db : Database) × Ran g all old db × (trees ≡ db.trees))
+  pub may_commit : (all : List Words) (AreWords : List Words → Type 0) → AreWords all → (old new : Held S)
+      → Survives (state g old) (state g new) (λ trees. (db : Database) × Ran g all old db × (trees ≡ db.trees))
       → Survives (state g old) (state g new) (MayCommit g AreWords old)
   may_commit all AreWords are old new survives =
       survives_as (state g old) (state g new) (λ trees. (db : Database) × Ran g all old db × (trees ≡ db.trees)) (MayCommit g AreWords old) survives
@@ -46,11 +47,13 @@ module _ {S : Type 0} (g : Ghosts S) where
       })
 
   -- none
-  pub commits_nothing : (AreWords : List Words → Type 0) (old new : Held S) → Survives (state g old) (state g new) (λ _. ⊥) → Survives (state g old) (state g new) (MayCommit g AreWords old)
+  pub commits_nothing : (AreWords : List Words → Type 0) (old new : Held S) → Survives (state g old) (state g new) (λ _. ⊥)
+      → Survives (state g old) (state g new) (MayCommit g AreWords old)
   commits_nothing AreWords old new survives = survives_as (state g old) (state g new) (λ _. ⊥) (MayCommit g AreWords old) survives (λ _ _ none. absurd none)
 
   -- some, after a reading
-  pub commits_after : (AreWords : List Words → Type 0) (a b c : Held S) → IsUntouched (state g a) (state g b) → Survives (state g a) (state g b) (λ _. ⊥) → Survives (state g b) (state g c) (MayCommit g AreWords b)
+  pub commits_after : (AreWords : List Words → Type 0) (a b c : Held S) → IsUntouched (state g a) (state g b) → Survives (state g a) (state g b) (λ _. ⊥)
+      → Survives (state g b) (state g c) (MayCommit g AreWords b)
       → Survives (state g a) (state g c) (MayCommit g AreWords a)
   commits_after AreWords a b c untouched first next =
       let P = MayCommit g AreWords a in

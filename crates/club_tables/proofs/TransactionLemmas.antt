@@ -17,7 +17,8 @@ rolled_keeps : (old new : State) → IsRolledBack old new → Keeps old new
 rolled_keeps old new back is_open = (back.was_open is_open, (back.undone is_open).1)
 
 module _ (sql : List ℕ) (params : Row) (old new : State) where
-  shows_keeps : (c : Compiled) (full : Row) (rows : List Row) (returning : Option Returning) → old.in_transaction ≡ true → ShowsRows old new sql c full rows returning → Keeps old new
+  shows_keeps : (c : Compiled) (full : Row) (rows : List Row) (returning : Option Returning) → old.in_transaction ≡ true
+      → ShowsRows old new sql c full rows returning → Keeps old new
   shows_keeps c full rows None inside h = unchanged_keeps old new h.3
   shows_keeps c full rows (Some what) inside h = λ is_open. (h.1.shown.was_open, rw inside at h.1.shown.committed_is)
 
@@ -47,7 +48,8 @@ module _ (sql : List ℕ) (params : Row) (old new : State) where
   too_late_keeps e h = unchanged_keeps old new h.5
 
 -- the drop or the rollback of the transaction
-pub then_rolled : (old mid new : State) → Keeps old mid → IsRolledBack mid new → IsTrue new.is_open → IsTrue old.is_open × (new.now ≡ old.committed) × (new.committed ≡ old.committed)
+pub then_rolled : (old mid new : State) → Keeps old mid → IsRolledBack mid new → IsTrue new.is_open → IsTrue old.is_open × (new.now ≡ old.committed)
+    × (new.committed ≡ old.committed)
 then_rolled old mid new kept back is_open =
     let was = kept (back.was_open is_open) in
     let undone = back.undone is_open in

@@ -41,11 +41,13 @@ pub version_unlisted : is_ok (if_select (compiled listing_schema VERSION.now)) �
 unfolding listing_schema everything
 version_unlisted = refl
 
-commanded : (r : Checked Command) (formats : List (List ℕ)) (p : _) → formats ≡ [] → IsBare (and_then (and_then (and_then r (λ c. Ok (c, None))) (λ found. Ok (formats, found))) (λ plan. Ok (with_command p plan)))
+commanded : (r : Checked Command) (formats : List (List ℕ)) (p : _) → formats ≡ []
+    → IsBare (and_then (and_then (and_then r (λ c. Ok (c, None))) (λ found. Ok (formats, found))) (λ plan. Ok (with_command p plan)))
 commanded (Ok c) formats p none = (refl, none)
 commanded (Err e) formats p none = (refl, refl)
 
-parsed_bare : (schema : Schema) (r : Checked _) → r ≡ first VERSION.now → ((base : ℕ) → and_then r (λ p. returning schema base p.statement) ≡ Ok None) → and_then r (λ p. Ok (timed schema p.formats p.statement)) ≡ Ok []
+parsed_bare : (schema : Schema) (r : Checked _) → r ≡ first VERSION.now → ((base : ℕ) → and_then r (λ p. returning schema base p.statement) ≡ Ok None)
+    → and_then r (λ p. Ok (timed schema p.formats p.statement)) ≡ Ok []
     → IsBare (and_then r (λ p. and_then (planned schema p) (λ plan. Ok (with_command p plan))))
 unfolding planned meaning
 parsed_bare schema (Ok p) is returns untimed =
@@ -57,7 +59,8 @@ version_bare : (schema : Schema) → IsBare (compiled schema VERSION.now)
 unfolding compiled
 version_bare schema = parsed_bare schema (first VERSION.now) refl (version_returns schema) (version_formats schema)
 
-version_understood : (schema : Schema) (c : Compiled) → understood schema VERSION.now ≡ Ok c → (reads_listing schema VERSION.now ≡ false) × (c.returning ≡ None) × (c.formats ≡ [])
+version_understood : (schema : Schema) (c : Compiled) → understood schema VERSION.now ≡ Ok c → (reads_listing schema VERSION.now ≡ false) × (c.returning ≡ None)
+    × (c.formats ≡ [])
 unfolding understood
 version_understood schema c h = elim (cases_Bool (reads_listing schema VERSION.now)) [
   | inl listed ↦ absurd (let e : if_select (compiled listing_schema VERSION.now) ≡ Ok c = rw listed at h in true≢false (sym (ap is_ok e) ∙ version_unlisted))

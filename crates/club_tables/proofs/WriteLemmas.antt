@@ -17,7 +17,8 @@ use Rattle.club_tables.proofs.OpenLemmas.{IsSettled, settles}
 use Rattle.club_tables.proofs.StandLemmas.{survives_same}
 use Rattle.club_tables.proofs.SurviveLemmas.{kept_at_rest, may_commit, commits_nothing}
 
-module _ {S : Type 0} (g : Ghosts S) (all : List Words) (some : 0 < length all) (old new : Held S) (survives : Survives (state g old) (state g new) (λ trees. (db : Database) × Ran g all old db × (trees ≡ db.trees)))
+module _ {S : Type 0} (g : Ghosts S) (all : List Words) (some : 0 < length all) (old new : Held S)
+    (survives : Survives (state g old) (state g new) (λ trees. (db : Database) × Ran g all old db × (trees ≡ db.trees)))
     (clean : HasCleanDisk (state g new)) (club next : Club) (others : List Club) (stands : Stands (state g old) club others)
     (makes : (db : Database) → Tables (state g old).now club → Ran g all old db → Tables db next) where
   earlier : HasCleanDisk (state g old)
@@ -26,7 +27,8 @@ module _ {S : Type 0} (g : Ghosts S) (all : List Words) (some : 0 < length all) 
   made : (db : Database) → Ran g all old db → Tables db next
   made db ran = makes db (subst (λ (d : Database). Tables d club) (sym (stands.settled earlier (ran.opened some))) (stands.held earlier (ran.opened some))) ran
 
-  pub written : IsSettled (state g new) → IsTrue (state g new).is_open → Ran g all old (state g new).committed → (state g new).now ≡ (state g new).committed → Stands (state g new) next []
+  pub written : IsSettled (state g new) → IsTrue (state g new).is_open → Ran g all old (state g new).committed → (state g new).now ≡ (state g new).committed
+      → Stands (state g new) next []
   written settled is_open ran same = settles (state g new) next [] (λ _ _. made (state g new).committed ran) (λ _. is_open) same settled
 
   pub unwritten : IsKept (state g old) (state g new) → Stands (state g new) club (next ∷ others)
@@ -39,7 +41,8 @@ module _ {S : Type 0} (g : Ghosts S) (all : List Words) (some : 0 < length all) 
     ];
   }
 
-  pub wrote : {E : Type 0} (r : Result (Unit {0}) E) → OnOk r (IsTrue (state g new).is_open × Ran g all old (state g new).committed × ((state g new).now ≡ (state g new).committed)) → OnErr r (IsKept (state g old) (state g new))
+  pub wrote : {E : Type 0} (r : Result (Unit {0}) E) → OnOk r (IsTrue (state g new).is_open × Ran g all old (state g new).committed
+      × ((state g new).now ≡ (state g new).committed)) → OnErr r (IsKept (state g old) (state g new))
       → IsSettled (state g new) → MatchResult r (λ _. Stands (state g new) next []) (λ _. Stands (state g new) club (next ∷ others))
   wrote (Ok done) ok err settled = written settled ok.0 ok.1 ok.2
   wrote (Err e) ok err settled = unwritten err
@@ -49,16 +52,20 @@ on_err (Ok done) p f = tt
 on_err (Err e) p f = f p
 
 pub commits_of : {S E : Type 0} (g : Ghosts S) (all : List Words) (old new : Held S) (r : Result (Unit {0}) E)
-    → (HasCleanDisk (state g new) → OnOk r (IsTrue (state g new).is_open × Ran g all old (state g new).committed × ((state g new).now ≡ (state g new).committed))) → OnErr r (IsKept (state g old) (state g new))
+    → (HasCleanDisk (state g new) → OnOk r (IsTrue (state g new).is_open × Ran g all old (state g new).committed
+        × ((state g new).now ≡ (state g new).committed))) → OnErr r (IsKept (state g old) (state g new))
     → Survives (state g old) (state g new) (λ trees. (db : Database) × Ran g all old db × (trees ≡ db.trees)) → Commits g all old new r
 commits_of g all old new r ran kept survives = record { ran = ran; kept = kept; survives = survives }
 
 -- statements that were run in a transaction of their own make the change
-pub makes : {S E : Type 0} (g : Ghosts S) (all : List Words) → 0 < length all → (old new : Held S) (r : Result (Unit {0}) E) → Commits g all old new r → IsSettled (state g new) → (IsIt : Club → Type 0) (change : Change) → AreWordsOf change all
-    → ((db : Database) (club : Club) → IsIt club → Tables (state g old).now club → Fits change club → Ran g all old db → Tables db (after change club)) → ChangesClubWhere g IsIt change old new r
+pub makes : {S E : Type 0} (g : Ghosts S) (all : List Words) → 0 < length all → (old new : Held S) (r : Result (Unit {0}) E) → Commits g all old new r
+    → IsSettled (state g new) → (IsIt : Club → Type 0) (change : Change) → AreWordsOf change all
+    → ((db : Database) (club : Club) → IsIt club → Tables (state g old).now club → Fits change club → Ran g all old db → Tables db (after change club))
+        → ChangesClubWhere g IsIt change old new r
 makes g all some old new r commits settled IsIt change are made = record {
   honest = λ clean. let earlier : HasCleanDisk (state g old) = omega (arith, commits.survives.clean) in earlier;
-  changed = λ clean club others it stands fits. wrote g all some old new commits.survives clean club (after change club) others stands (λ db tables ran. made db club it tables fits ran) r (commits.ran clean) commits.kept settled;
+  changed = λ clean club others it stands fits. wrote g all some old new commits.survives clean club (after change club) others stands (λ db tables ran.
+      made db club it tables fits ran) r (commits.ran clean) commits.kept settled;
   untouched = on_err r commits.kept (λ kept rest. kept);
   survives = may_commit g all (AreWordsOf change) are old new commits.survives;
 }

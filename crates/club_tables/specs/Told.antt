@@ -65,7 +65,8 @@ pub record ReadsClub {S A E : Type 0} (g : Ghosts S) (old new : Held S) (result 
 
 -- A change of clubs of which this holds. One that fits is made or refused. A refusal of any change leaves a connection at rest as it was, and
 -- a crash may leave what the statements of the change left.
-pub record ChangesClubWhere {S E : Type 0} (g : Ghosts S) (IsIt : Club → Type 0) (change : Change) (old new : Held S) (result : Result (Unit {0}) E) : Type 0 where
+pub record ChangesClubWhere {S E : Type 0} (g : Ghosts S) (IsIt : Club → Type 0) (change : Change) (old new : Held S) (result : Result (Unit {0}) E) : Type 0
+    where
   pub honest : HasCleanDisk (state g new) → HasCleanDisk (state g old)
   pub changed : HasCleanDisk (state g new) → ChangesWhere IsIt (stands_in g) change old new result
   pub untouched : OnErr result (IsUntouched (state g old) (state g new))

@@ -62,7 +62,8 @@ pub record Ran {S : Type 0} (g : Ghosts S) (all : List Words) (old : Held S) (db
 
 -- Statements in a transaction of their own: all are run and committed, or what was committed stays; a crash may leave what they leave.
 pub record Commits {S E : Type 0} (g : Ghosts S) (all : List Words) (old new : Held S) (result : Result (Unit {0}) E) : Type 0 where
-  pub ran : HasCleanDisk (state g new) → OnOk result (IsTrue (state g new).is_open × Ran g all old (state g new).committed × ((state g new).now ≡ (state g new).committed))
+  pub ran : HasCleanDisk (state g new) → OnOk result (IsTrue (state g new).is_open × Ran g all old (state g new).committed
+      × ((state g new).now ≡ (state g new).committed))
   pub kept : OnErr result (IsKept (state g old) (state g new))
   pub survives : Survives (state g old) (state g new) (λ trees. (db : Database) × Ran g all old db × (trees ≡ db.trees))
 

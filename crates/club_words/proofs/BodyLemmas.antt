@@ -34,7 +34,8 @@ pub no_value : (bytes : List ℕ) (test : Bool) (found : Option Data) → is_utf
 no_value bytes true found e none = none (IsUtf8-from_is_utf8 bytes e)
 no_value bytes false found e none = refl
 
-pub refused_before : {A B : Type 0} (Wants : Type 0) (found : Option A) (f : A → Option B) (refusal : Refusal) → Refuses Wants found refusal → Refuses Wants (option_and_then f found) refusal
+pub refused_before : {A B : Type 0} (Wants : Type 0) (found : Option A) (f : A → Option B) (refusal : Refusal) → Refuses Wants found refusal
+    → Refuses Wants (option_and_then f found) refusal
 refused_before Wants found f refusal (inl memory) = inl memory
 refused_before Wants found f refusal (inr bad) = inr (bad.0, rw bad.1 refl)
 

@@ -17,7 +17,8 @@ asked_at : (piece : List ℕ) (fields : List HeaderSpan) (spans : RequestSpans) 
     → asked_length (span_bytes piece spans.method) (map (header_bytes piece) (take spans.headers fields)) ≡ asked_length head.method (fields_of head)
 asked_at piece fields spans head at = rw (at.method, at.fields) refl
 
-pub asks_nothing : (piece method : List ℕ) (fields : List HeaderSpan) (spans : RequestSpans) (head : RequestHead) → IsHeadOf piece head → IsRequestAt piece fields spans head
+pub asks_nothing : (piece method : List ℕ) (fields : List HeaderSpan) (spans : RequestSpans) (head : RequestHead) → IsHeadOf piece head
+    → IsRequestAt piece fields spans head
     → method ≡ span_bytes piece spans.method → asked_length method (map (header_bytes piece) (take spans.headers fields)) ≡ None
     → (other : RequestHead) (body_len : ℕ) → ¬ (Asks piece other body_len)
 asks_nothing piece method fields spans head is at named none other body_len asks =

@@ -6,7 +6,8 @@ use Rattle.club_words.specs.Parts.{parts_of}
 use Rattle.club_words.specs.Path.{at_slot, account_at}
 use Rattle.club_words.proofs.Segments.{first_part}
 
-pub past_number : (slot : Slot) (word number : List ℕ) (rest : Option (Bor (List ℕ))) → is_some rest ≡ true → at_slot slot (word ∷ number ∷ parts_of rest) ≡ None
+pub past_number : (slot : Slot) (word number : List ℕ) (rest : Option (Bor (List ℕ))) → is_some rest ≡ true
+    → at_slot slot (word ∷ number ∷ parts_of rest) ≡ None
 past_number slot word number None e = cc
 past_number slot word number (Some path) e = let first = first_part path.now in rw first.2 refl
 

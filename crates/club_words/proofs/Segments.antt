@@ -1,5 +1,6 @@
 -- A path, one part at a time.
-use Rattle.std.proofs.Common.{◌≡◌, ℕ, ◌+◌, ◌-◌, ◌<◌, ◌≤◌, Bool, true, false, List, [], ◌∷◌, ◌++◌, cond, eqb, length, get_or, take, drop, refl, sym, ap, ◌∙◌, append_assoc, append-nil}
+use Rattle.std.proofs.Common.{◌≡◌, ℕ, ◌+◌, ◌-◌, ◌<◌, ◌≤◌, Bool, true, false, List, [], ◌∷◌, ◌++◌, cond, eqb, length, get_or, take, drop, refl, sym, ap, ◌∙◌,
+    append_assoc, append-nil}
 use Rattle.std.proofs.Math.ListN.{drop_of_length-le}
 use Rattle.std.proofs.Math.Seq.{take-length}
 use Rattle.std.proofs.lemmas.List.{at_drop_more, length-drop, take_more, take_all}
@@ -12,7 +13,8 @@ joined-joined a b (part ∷ parts) = ap (λ (l : List ℕ). l ∷ parts) (sym (a
 -- a path has a first part
 pub first_part : (path : List ℕ) → (part : List ℕ) × (parts : List (List ℕ)) × (segments path ≡ part ∷ parts)
 first_part [] = ([], [], refl)
-first_part (byte ∷ path) = elim (eqb byte 47) as (λ b. (part : List ℕ) × (parts : List (List ℕ)) × (cond b ([] ∷ segments path) (joined (byte ∷ []) (segments path)) ≡ part ∷ parts)) [
+first_part (byte ∷ path) = elim (eqb byte 47) as (λ b. (part : List ℕ) × (parts : List (List ℕ))
+    × (cond b ([] ∷ segments path) (joined (byte ∷ []) (segments path)) ≡ part ∷ parts)) [
   | true ↦ ([], segments path, refl)
   | false ↦ let rest = first_part path in (byte ∷ rest.0, rest.1, ap (joined (byte ∷ [])) rest.2)
 ]

@@ -1,5 +1,6 @@
 -- When a request is whole, and what follows it.
-use Rattle.std.proofs.Common.{◌≡◌, ℕ, ◌-◌, ◌<◌, ◌≤◌, ◌↔◌, inl, inr, false, List, [], ◌∷◌, ◌++◌, length, take, drop, nat_eq, refl, sym, ap, ◌∙◌, arith, append_assoc, length-append}
+use Rattle.std.proofs.Common.{◌≡◌, ℕ, ◌-◌, ◌<◌, ◌≤◌, ◌↔◌, inl, inr, false, List, [], ◌∷◌, ◌++◌, length, take, drop, nat_eq, refl, sym, ap, ◌∙◌, arith,
+    append_assoc, length-append}
 use Rattle.std.specs.List.{ends_with}
 use Rattle.std.proofs.Math.Seq.{take-append_seam}
 use Rattle.std.proofs.lemmas.Bool.{cases_lt}
@@ -34,7 +35,8 @@ open_head_more bytes [] none short few whole = open_head bytes none short (rw ap
 open_head_more bytes (byte ∷ more) none short few whole = omega arith
 
 -- where the body is cut
-pub open_body : (bytes piece rest : List ℕ) (head : RequestHead) (n : ℕ) → IsPiece piece → bytes ≡ piece ++ rest → Asks piece head n → length rest < n → ¬ (IsWhole bytes)
+pub open_body : (bytes piece rest : List ℕ) (head : RequestHead) (n : ℕ) → IsPiece piece → bytes ≡ piece ++ rest → Asks piece head n → length rest < n
+    → ¬ (IsWhole bytes)
 open_body bytes piece rest head n cut parts asks short (framed other body is) =
     let same = one_piece is.piece piece (body ++ is.after) rest (sym is.parts ∙ parts) is.cut cut in
     let asked = same_asked piece head other n (length body) asks (rw same.0 at is.asks) in
@@ -45,14 +47,17 @@ open_body bytes piece rest head n cut parts asks short (refused is) =
     let same = one_piece piece is.piece rest is.rest (sym parts ∙ is.parts) cut is.cut in
     is.refused head n (rw same.0 at asks)
 
-pub open_body_more : (bytes more : List ℕ) (fields : List HeaderSpan) (found : Head) → IsHeadAt bytes fields found → length more < found.body_len - length found.rest.now
+pub open_body_more : (bytes more : List ℕ) (fields : List HeaderSpan) (found : Head) → IsHeadAt bytes fields found
+    → length more < found.body_len - length found.rest.now
     → ¬ (IsWhole (bytes ++ more))
 open_body_more bytes more fields found at few =
-    let parts : bytes ++ more ≡ found.piece.now ++ (found.rest.now ++ more) = ap (λ (l : List ℕ). l ++ more) at.parts ∙ append_assoc found.piece.now found.rest.now more in
+    let parts : bytes ++ more ≡ found.piece.now ++ (found.rest.now ++ more) = ap (λ (l : List ℕ). l ++ more) at.parts
+        ∙ append_assoc found.piece.now found.rest.now more in
     let short : length (found.rest.now ++ more) < found.body_len = simp length-append (omega arith) in
     open_body (bytes ++ more) found.piece.now (found.rest.now ++ more) at.head found.body_len at.cut parts at.asks short
 
-pub body_there : (bytes : List ℕ) (fields : List HeaderSpan) (found : Head) → IsHeadAt bytes fields found → (found.body_len - length found.rest.now ≡ 0) ↔ IsWhole bytes
+pub body_there : (bytes : List ℕ) (fields : List HeaderSpan) (found : Head) → IsHeadAt bytes fields found
+    → (found.body_len - length found.rest.now ≡ 0) ↔ IsWhole bytes
 body_there bytes fields found at = (
   λ none. framed at.head _ (whole_frame bytes fields found at (omega arith)),
   λ whole. elim (cases_lt (length found.rest.now) found.body_len) [
@@ -71,14 +76,16 @@ body_then_there bytes more fields found at enough =
       after = drop found.body_len (found.rest.now ++ more);
       cut = at.cut;
       parts =
-          rw (take-append-drop found.body_len (found.rest.now ++ more)) (ap (λ (l : List ℕ). l ++ more) at.parts ∙ append_assoc found.piece.now found.rest.now more);
+          rw (take-append-drop found.body_len (found.rest.now ++ more)) (ap (λ (l : List ℕ). l ++ more) at.parts
+              ∙ append_assoc found.piece.now found.rest.now more);
       asks = rw (length-take-le found.body_len (found.rest.now ++ more) long) at.asks;
     })
 
 same_body : (a b r s : List ℕ) → length a ≡ length b → a ++ r ≡ b ++ s → a ≡ b
 same_body a b r s len same = sym (take-append_seam a r) ∙ ap (take (length a)) same ∙ ap (λ (n : ℕ). take n (b ++ s)) len ∙ take-append_seam b s
 
-one_frame : (bytes : List ℕ) (head other : RequestHead) (body again : List ℕ) → IsFramed bytes head body → IsFramed bytes other again → (head ≡ other) × (body ≡ again)
+one_frame : (bytes : List ℕ) (head other : RequestHead) (body again : List ℕ) → IsFramed bytes head body → IsFramed bytes other again → (head ≡ other)
+    × (body ≡ again)
 one_frame bytes head other body again is and =
     let same = one_piece is.piece and.piece (body ++ is.after) (again ++ and.after) (sym is.parts ∙ and.parts) is.cut and.cut in
     let asked = same_asked and.piece head other (length body) (length again) (rw same.0 at is.asks) and.asks in

@@ -42,7 +42,8 @@ TellsOrder text held held' Silent (replies.Refused fault) result = (result ≡ E
 TellsOrder text held held' Silent reply result = WritesText text held held' result
 
 -- The desk was given an order, and what it replied was told.
-pub record IsOrdered {S : Type 0} (Stands : S → Club → List Club → Type 0) (Honest : Type 0) (old new : S) (order : Command) (Told : OfficeReply → Type 0) : Type 0 where
+pub record IsOrdered {S : Type 0} (Stands : S → Club → List Club → Type 0) (Honest : Type 0) (old new : S) (order : Command) (Told : OfficeReply
+    → Type 0) : Type 0 where
   pub reply : OfficeReply
   pub steps : Honest → Steps Stands old new (machine.Ordered order) (ToOffice reply)
   pub told : Told reply
@@ -68,7 +69,8 @@ TellsSheet held held' Silent (Ok text) result = WritesText text held held' resul
 TellsSheet held held' Silent (Err fault) result = (result ≡ Err (fault_of_desk fault)) × Silent
 
 -- The sheet of a day was read, and written.
-pub record IsSheetTold {S : Type 0} (Stands : S → Club → List Club → Type 0) (Honest : Type 0) (old : S) (day : ℕ) (Told : Result (List ℕ) DeskFault → Type 0) : Type 0 where
+pub record IsSheetTold {S : Type 0} (Stands : S → Club → List Club → Type 0) (Honest : Type 0) (old : S) (day : ℕ) (Told : Result (List ℕ) DeskFault
+    → Type 0) : Type 0 where
   pub read : Result (List ℕ) DeskFault
   pub is : Honest → Tells Stands old read (λ club text. IsSheet club day text)
   pub told : Told read

@@ -18,7 +18,8 @@ exchanged Answers before after old new Cut Same Writes (Err (Write n)) h = spec.
 
 -- one more than so many
 pub one_more : (waited i now new : ℕ) → CountsOn waited i now → CountsOn now 1 new → CountsOn waited (i + 1) new
-one_more waited i now new so_far more fits = let before : now ≡ waited + i = so_far (omega arith) in let last : new ≡ now + 1 = more (omega arith) in omega arith
+one_more waited i now new so_far more fits = let before : now ≡ waited + i = so_far (omega arith) in let last : new ≡ now + 1 = more (omega arith) in
+    omega arith
 
 -- behind the last
 pub all_of : {Clock Desk : Type 0} (Told : Tells Clock) (Answers : ℕ → Asks Desk) (clock : Clock) (desk : Desk) (i count : ℕ) (clock' : Clock) (desk' : Desk)

@@ -17,7 +17,8 @@ pub data IsExchanged {Desk : Type 0} (Answers : Asks Desk) (old new : Desk) : Ty
   replied : (bytes : List ℕ) (reply : Reply) → IsReplied Answers bytes old reply new → IsExchanged Answers old new
 
 -- One connection: it failed before it was there, or the clock told a moment and an exchange was made at it.
-pub data IsServed {Clock Desk : Type 0} (Told : Tells Clock) (Answers : ℕ → Asks Desk) (clock : Clock) (desk : Desk) (clock' : Clock) (desk' : Desk) : Type 0 where
+pub data IsServed {Clock Desk : Type 0} (Told : Tells Clock) (Answers : ℕ
+    → Asks Desk) (clock : Clock) (desk : Desk) (clock' : Clock) (desk' : Desk) : Type 0 where
   failed : clock' ≡ clock → desk' ≡ desk → IsServed Told Answers clock desk clock' desk'
   exchanged : (moment : ℕ) → Told clock (Some moment) clock' → IsExchanged (Answers moment) desk desk'
       → IsServed Told Answers clock desk clock' desk'
@@ -29,7 +30,8 @@ pub data AreServed {Clock Desk : Type 0} (Told : Tells Clock) (Answers : ℕ →
       → IsServed Told Answers c d c' d' → AreServed Told Answers clock desk (n + 1) c' d'
 
 -- The server stopped at a connection, before the last, at which the clock told no moment. It counts with those that were waited for.
-pub record IsStopped {Clock Desk : Type 0} (Told : Tells Clock) (Answers : ℕ → Asks Desk) (clock : Clock) (desk : Desk) (count : ℕ) (clock' : Clock) (desk' : Desk)
+pub record IsStopped {Clock Desk : Type 0} (Told : Tells Clock) (Answers : ℕ
+    → Asks Desk) (clock : Clock) (desk : Desk) (count : ℕ) (clock' : Clock) (desk' : Desk)
     (Counted : ℕ → Type 0) : Type 0 where
   pub served : ℕ
   pub last : Clock

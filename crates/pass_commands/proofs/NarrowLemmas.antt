@@ -1,5 +1,6 @@
 -- Lemmas on caveats that are added in turn.
-use Rattle.std.proofs.Common.{◌≡◌, ◌∙◌, ℕ, ◌+◌, ◌<◌, ◌≤◌, List, [], ◌∷◌, length, map, drop, Result, Ok, Err, IsOk, inl, inr, ap, sym, refl, append_assoc, add-one, drop-cons, arith}
+use Rattle.std.proofs.Common.{◌≡◌, ◌∙◌, ℕ, ◌+◌, ◌<◌, ◌≤◌, List, [], ◌∷◌, length, map, drop, Result, Ok, Err, IsOk, inl, inr, ap, sym, refl, append_assoc,
+    add-one, drop-cons, arith}
 use Rattle.std.proofs.lemmas.Bool.{cases_lt, le-ltb, lt-ltb}
 use Rattle.std.proofs.lemmas.List.{append-nil, length-append, length-map}
 use Rattle.std.proofs.Math.Seq.{drop-length}
@@ -14,7 +15,8 @@ use Rattle.pass_commands.specs.Answer.{narrowing, with_caveats}
 
 -- the first of some caveats, and then the others
 first_added : (caveat : List ℕ) (caveats : List (List ℕ)) (pass : Plain) → with_caveats caveats (with_caveat caveat pass) ≡ with_caveats (caveat ∷ caveats) pass
-first_added caveat caveats pass = ap (λ (all : List (List ℕ)). record (with_caveats (caveat ∷ caveats) pass) { caveats = all }) (append_assoc pass.caveats (caveat ∷ []) caveats)
+first_added caveat caveats pass = ap (λ (all : List (List ℕ)). record (with_caveats (caveat ∷ caveats) pass) { caveats = all })
+    (append_assoc pass.caveats (caveat ∷ []) caveats)
 
 -- what is left from a place on begins with what stands there
 pub left_from : {A : Type 0} (xs : List A) (i : ℕ) (d : A) → i < length xs → drop i xs ≡ slice_index_or xs i d ∷ drop (i + 1) xs

@@ -19,9 +19,12 @@ loop-statement-preserved g c =
     let one = λ (clean : HasCleanDisk (state g.S.Store now)). c.in-Ok.ensures.runs clean (inside (omega (arith, quiet.clean))).0 in
     record {
       same = search rules;
-      survives = survives_then (state g.S.Store (begun c.args.conn.now)) (state g.S.Store was) (state g.S.Store now) _ _ (λ _. ⊥) (λ _ db none. none) (λ _ db none. none) c.loop-statement.invariant.survives quiet;
-      ran = λ clean. turn_at g.S.Store c.args.statements.now c.loop-statement.statement-index _ _ was now _ c.loop-statement-test.true (c.loop-statement.invariant.ran (omega (arith, quiet.clean))) (one clean).0;
-      inside = λ clean. let before = inside (omega (arith, quiet.clean)) in ((one clean).1.mode, (one clean).1.committed_is ∙ before.1, λ is_open. before.2 (one clean).1.was_open);
+      survives = survives_then (state g.S.Store (begun c.args.conn.now)) (state g.S.Store was) (state g.S.Store now) _ _ (λ _. ⊥) (λ _ db none.
+          none) (λ _ db none. none) c.loop-statement.invariant.survives quiet;
+      ran = λ clean. turn_at g.S.Store c.args.statements.now c.loop-statement.statement-index _ _ was now _ c.loop-statement-test.true
+          (c.loop-statement.invariant.ran (omega (arith, quiet.clean))) (one clean).0;
+      inside = λ clean. let before = inside (omega (arith, quiet.clean)) in
+          ((one clean).1.mode, (one clean).1.committed_is ∙ before.1, λ is_open. before.2 (one clean).1.was_open);
       opened = λ clean some. (one clean).1.is_open;
     }
 
@@ -34,10 +37,12 @@ returns-in-Ok-commit-clause-ran g c clean =
     let late : HasCleanDisk (state g.S.Store end) = search rules in
     let earlier : HasCleanDisk (state g.S.Store mid) = omega (arith, c.commit.ensures.survives.clean) in
     let all = map words_of c.args.statements.now in
-    let turn : RanInTurn g.S.Store all (begun old) mid = turn_all g.S.Store c.args.statements.now c.loop-statement.statement-index (begun old) mid (omega arith) (c.loop-statement.invariant.ran earlier) in
+    let turn : RanInTurn g.S.Store all (begun old) mid = turn_all g.S.Store c.args.statements.now c.loop-statement.statement-index (begun old) mid (omega arith)
+        (c.loop-statement.invariant.ran earlier) in
     let ends = c.in-Ok-commit.ensures.ok late in
     let was : IsTrue (state g.S.Store old).is_open = (c.loop-statement.invariant.inside earlier).2 ends.1.was_open in
-    let P = λ (h : Held g.row.S.Denot). IsTrue (state g.S.Store h).is_open × Ran g.S.Store all old (state g.S.Store h).committed × ((state g.S.Store h).now ≡ (state g.S.Store h).committed) in
+    let P = λ (h : Held g.row.S.Denot). IsTrue (state g.S.Store h).is_open × Ran g.S.Store all old (state g.S.Store h).committed
+        × ((state g.S.Store h).now ≡ (state g.S.Store h).committed) in
     subst P same (ends.1.is_open, record { last = mid; opened = λ _. was; turns = turn; is = ends.1.committed_is }, cc (ends.1.now_is, ends.1.committed_is))
 
 pub returns-in-Ok-commit-clause-survives : goal.returns-in-Ok-commit-clause-survives
@@ -50,7 +55,8 @@ returns-in-Ok-commit-clause-survives g c =
     let P = λ (trees : Trees). (db : Database) × Ran g.S.Store all old db × (trees ≡ db.trees) in
     let made = λ (clean : HasCleanDisk (state g.S.Store end)) (db : Trees) (is : db ≡ (state g.S.Store mid).now.trees).
     let earlier : HasCleanDisk (state g.S.Store mid) = omega (arith, c.commit.ensures.survives.clean) in
-    let turn : RanInTurn g.S.Store all (begun old) mid = turn_all g.S.Store c.args.statements.now c.loop-statement.statement-index (begun old) mid (omega arith) (c.loop-statement.invariant.ran earlier) in
+    let turn : RanInTurn g.S.Store all (begun old) mid = turn_all g.S.Store c.args.statements.now c.loop-statement.statement-index (begun old) mid (omega arith)
+        (c.loop-statement.invariant.ran earlier) in
     let was = λ (some : 0 < length all). let more : 0 < length c.args.statements.now = subst (λ n. 0 < n) (length-map c.args.statements.now words_of) some in
     (c.loop-statement.invariant.inside earlier).2 (c.loop-statement.invariant.opened earlier (omega arith)) in
     let p : P db = ((state g.S.Store mid).now, record { last = mid; opened = was; turns = turn; is = refl }, is) in p in
@@ -68,7 +74,8 @@ returns-in-Err-commit-clause-survives g c =
     let P = λ (trees : Trees). (db : Database) × Ran g.S.Store all old db × (trees ≡ db.trees) in
     let made = λ (clean : HasCleanDisk (state g.S.Store end)) (db : Trees) (is : db ≡ (state g.S.Store mid).now.trees).
     let earlier : HasCleanDisk (state g.S.Store mid) = omega (arith, c.commit.ensures.survives.clean) in
-    let turn : RanInTurn g.S.Store all (begun old) mid = turn_all g.S.Store c.args.statements.now c.loop-statement.statement-index (begun old) mid (omega arith) (c.loop-statement.invariant.ran earlier) in
+    let turn : RanInTurn g.S.Store all (begun old) mid = turn_all g.S.Store c.args.statements.now c.loop-statement.statement-index (begun old) mid (omega arith)
+        (c.loop-statement.invariant.ran earlier) in
     let was = λ (some : 0 < length all). let more : 0 < length c.args.statements.now = subst (λ n. 0 < n) (length-map c.args.statements.now words_of) some in
     (c.loop-statement.invariant.inside earlier).2 (c.loop-statement.invariant.opened earlier (omega arith)) in
     let p : P db = ((state g.S.Store mid).now, record { last = mid; opened = was; turns = turn; is = refl }, is) in p in

@@ -9,7 +9,8 @@ invariant-loop-statement g l = record {
   same : l.tx.conn.ghost_name ≡ l.initial.tx.conn.ghost_name;
   survives : Survives (state g.S.Store (begun l.fn.conn)) (state g.S.Store l.tx.conn.now) (λ _. ⊥);
   ran : HasCleanDisk (state g.S.Store l.tx.conn.now) → RanInTurn g.S.Store (map words_of (take l.statement-index l.statements)) (begun l.fn.conn) l.tx.conn.now;
-  inside : HasCleanDisk (state g.S.Store l.tx.conn.now) → IsTrue l.tx.conn.now.in_transaction × ((state g.S.Store l.tx.conn.now).committed ≡ (state g.S.Store (begun l.fn.conn)).committed)
+  inside : HasCleanDisk (state g.S.Store l.tx.conn.now) → IsTrue l.tx.conn.now.in_transaction
+      × ((state g.S.Store l.tx.conn.now).committed ≡ (state g.S.Store (begun l.fn.conn)).committed)
       × (IsTrue (state g.S.Store l.tx.conn.now).is_open → IsTrue (state g.S.Store (begun l.fn.conn)).is_open);
   opened : HasCleanDisk (state g.S.Store l.tx.conn.now) → 0 < l.statement-index → IsTrue (state g.S.Store l.tx.conn.now).is_open;
 }

@@ -6,10 +6,12 @@ use Rattle.club_tables.proofs.WriteLemmas.{commits_of, makes}
 use Rattle.club_tables.proofs.writes.close_slot.Goals as goal
 
 pub returns-clause-commits : goal.returns-clause-commits
-returns-clause-commits g c = rw c.of_slot-values.ensures at (commits_of g.S.Store _ c.args.conn.now c.run.new.conn c.run.result c.run.ensures.ran c.run.ensures.kept c.run.ensures.survives)
+returns-clause-commits g c = rw c.of_slot-values.ensures at (commits_of g.S.Store _ c.args.conn.now c.run.new.conn c.run.result c.run.ensures.ran
+    c.run.ensures.kept c.run.ensures.survives)
 
 pub returns-clause-makes : goal.returns-clause-makes
 returns-clause-makes g c =
     makes g.S.Store (closing c.args.slot.now) (omega arith) c.args.conn.now c.run.new.conn c.run.result (returns-clause-commits g c)
     (λ is_open trees may. g.met.S.Store.settled c.run.new.conn.store trees is_open may)
-    (λ _. Unit {0}) (MarkClosed c.args.slot.now) (refl) (λ db club it tables fits ran. close_made g.S.Store c.args.conn.now db club tables c.args.slot.now fits ran)
+    (λ _. Unit {0}) (MarkClosed c.args.slot.now) (refl) (λ db club it tables fits ran.
+        close_made g.S.Store c.args.conn.now db club tables c.args.slot.now fits ran)

@@ -11,7 +11,8 @@ use Rattle.club_gate.specs.Runs.{Told}
 use Rattle.desk_law.specs.Crash.{StandsAgain}
 use Rattle.desk_law.proofs.crash.served_survives_a_crash.Goals as goal
 
-one_of : (state : State) (clubs : List Club) (events : List Event) (told : List Told) → All (λ (c : Club). TellsAgain c events told) clubs → OneStands state clubs → StandsAgain state clubs events told
+one_of : (state : State) (clubs : List Club) (events : List Event) (told : List Told) → All (λ (c : Club). TellsAgain c events told) clubs
+    → OneStands state clubs → StandsAgain state clubs events told
 one_of state [] events told again h = absurd h
 one_of state (club ∷ clubs) events told again (inl stands) =
     record { club = club; among = (0, omega arith, refl); stands = stands; again = All-head (λ (c : Club). TellsAgain c events told) club clubs again }

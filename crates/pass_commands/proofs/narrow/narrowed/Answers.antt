@@ -19,7 +19,8 @@ loop-caveat-preserved c =
     let room = counted_on c.narrow.result (length c.loop-caveat.pass.caveats) (rw c.in_ok-narrow.was refl) c.narrow.ensures.too_many.1 in
     let more = grown c.as_bytes.result.now c.loop-caveat.pass c.narrow.new.pass narrow.ok in
     record {
-      left = one_added c.args.caveats.now c.loop-caveat.caveat-index _ _ c.loop-caveat.pass c.narrow.new.pass (omega arith) c.as_bytes.ensures.value narrow.ok ∙ c.loop-caveat.invariant.left;
+      left = one_added c.args.caveats.now c.loop-caveat.caveat-index _ _ c.loop-caveat.pass c.narrow.new.pass (omega arith) c.as_bytes.ensures.value narrow.ok
+          ∙ c.loop-caveat.invariant.left;
       counted = omega arith;
       few = omega arith;
     }

@@ -12,11 +12,16 @@ use Rattle.club_plain.specs.Solo.{with_outside}
 use Rattle.club_plain.proofs.club.Club.answer_alone.Goals as goal
 
 -- a view with what others hold is the view of the basis with it
-same_basis : (request : Request) (moment : ℕ) (others : SlotUse) (basis : Option Basis) → option_map (with_outside others) (option_map (λ (b : Basis). view_of b request moment) basis) ≡ option_map (λ (b : Basis). view_of b request moment) (option_map (with_others others) basis)
+same_basis : (request : Request) (moment : ℕ) (others : SlotUse) (basis : Option Basis)
+    → option_map (with_outside others) (option_map (λ (b : Basis). view_of b request moment) basis)
+    ≡ option_map (λ (b : Basis). view_of b request moment) (option_map (with_others others) basis)
 same_basis request moment others None = refl
 same_basis request moment others (Some basis) = refl
 
-same_view : (club : Club) (request : Request) (moment : ℕ) (others : SlotUse) (name : Option (List ℕ)) → option_map (with_outside others) (option_and_then (λ (n : List ℕ). view_in club n request moment) name) ≡ option_map (λ (b : Basis). view_of b request moment) (option_map (with_others others) (option_and_then (basis_under club request) (option_and_then (λ (n : List ℕ). key_named n club) name)))
+same_view : (club : Club) (request : Request) (moment : ℕ) (others : SlotUse) (name : Option (List ℕ))
+    → option_map (with_outside others) (option_and_then (λ (n : List ℕ). view_in club n request moment) name)
+    ≡ option_map (λ (b : Basis). view_of b request moment) (option_map (with_others others)
+    (option_and_then (basis_under club request) (option_and_then (λ (n : List ℕ). key_named n club) name)))
 same_view club request moment others None = refl
 same_view club request moment others (Some name) = same_basis request moment others (option_and_then (basis_under club request) (key_named name club))
 

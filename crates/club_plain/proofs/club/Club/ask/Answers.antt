@@ -7,4 +7,5 @@ use Rattle.club_plain.proofs.club.Club.ask.Goals as goal
 pub apply-requires : goal.apply-requires
 apply-requires c =
     let answer = c.answer-reply in
-    (keeps_answer c.args.self.now (words_of c.args.words.now) c.args.moment answer.ensures.fits).kept c.in-Some.change (ap (λ (verdict : Verdict). verdict.change) (sym answer.ensures.value) ∙ c.in-Some.is)
+    (keeps_answer c.args.self.now (words_of c.args.words.now) c.args.moment answer.ensures.fits).kept c.in-Some.change
+        (ap (λ (verdict : Verdict). verdict.change) (sym answer.ensures.value) ∙ c.in-Some.is)

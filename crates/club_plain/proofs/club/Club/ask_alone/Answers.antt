@@ -7,4 +7,5 @@ use Rattle.club_plain.proofs.club.Club.ask_alone.Goals as goal
 pub apply-requires : goal.apply-requires
 apply-requires c =
     let answer = c.answer_alone-reply in
-    (keeps_solo c.args.self.now (words_of c.args.words.now) c.args.moment c.args.others answer.ensures.fits).kept c.in-Some.change (ap (λ (verdict : Verdict). verdict.change) (sym answer.ensures.value) ∙ c.in-Some.is)
+    (keeps_solo c.args.self.now (words_of c.args.words.now) c.args.moment c.args.others answer.ensures.fits).kept c.in-Some.change
+        (ap (λ (verdict : Verdict). verdict.change) (sym answer.ensures.value) ∙ c.in-Some.is)

@@ -10,7 +10,8 @@ use Rattle.club_plain.proofs.SumLemmas.{sum-filter_le}
 use Rattle.club_plain.proofs.club.Club.outside.Goals as goal
 
 -- others book no more of a slot than all do
-few_others : (keys : List Key) (bookings : List Booking) (member : List ℕ) (slot : Slot) → taken_in slot bookings ≤ 50 → taken_in slot (others_under keys member bookings) ≤ 50
+few_others : (keys : List Key) (bookings : List Booking) (member : List ℕ) (slot : Slot) → taken_in slot bookings ≤ 50
+    → taken_in slot (others_under keys member bookings) ≤ 50
 few_others keys bookings member slot few =
     let le : taken_in slot (others_under keys member bookings) ≤ taken_in slot bookings =
     sum-filter_le persons_of (is_in slot) (λ (booking : Booking). not (is_held keys member booking.key)) bookings in

@@ -12,7 +12,8 @@ returns-in-Ok-adopt-clause-opened g c clean =
     let early : HasCleanDisk was = c.in-Ok-adopt.ensures.honest clean in
     let opened = c.in-Ok.ensures.opened early in
     let found = c.in-Ok.ensures.found early in
-    let again = λ (clubs : List Club) (left : IsLeftOf was.committed.trees clubs). c.in-Ok-adopt.ensures.again clean clubs (record { opened = opened.0; live = opened.1; left = left }) in
+    let again = λ (clubs : List Club) (left : IsLeftOf was.committed.trees clubs).
+        c.in-Ok-adopt.ensures.again clean clubs (record { opened = opened.0; live = opened.1; left = left }) in
     record {
       was = c.in-Ok.connection;
       opened = opened;

@@ -19,9 +19,11 @@ returns-in-Some g c =
     let named : (booking.key ≡ key) × (booking.number ≡ number) =
     subst (λ (o : Option Booking). IfSome o (λ (b : Booking). (b.key ≡ key) × (b.number ≡ number))) c.in-Some.is c.in-Ok.ensures.named in
     let given : ChangesClubWhere g.S.Store (IsToCancel booking) (MarkCancelled key number refund) mid new c.give_back.result =
-    subst₂ (λ k n. ChangesClubWhere g.S.Store (IsToCancel booking) (MarkCancelled k n refund) mid new c.give_back.result) named.0 named.1 c.give_back.ensures.makes in
+    subst₂ (λ k n. ChangesClubWhere g.S.Store (IsToCancel booking) (MarkCancelled k n refund) mid new c.give_back.result) named.0 named.1
+        c.give_back.ensures.makes in
     record {
-      makes = change_after g.S.Store c.args.self.now mid new _ c.give_back.result _ (λ _. Unit {0}) (IsToCancel booking) (MarkCancelled key number refund) c.in-Ok.ensures.reads given (λ club before told.
+      makes = change_after g.S.Store c.args.self.now mid new _ c.give_back.result _ (λ _.
+          Unit {0}) (IsToCancel booking) (MarkCancelled key number refund) c.in-Ok.ensures.reads given (λ club before told.
           (subst₂ (λ k n. booking_under k n club.bookings ≡ Some booking) (sym named.0) (sym named.1) (sym told ∙ c.in-Some.is), c.if-not-booking.true));
     }
 
@@ -31,9 +33,11 @@ returns-in_default g c =
     let number = c.args.number in
     let IsDone : Booking → Type 0 = λ b. IsTrue b.cancelled in
     record {
-      makes = change_after g.S.Store c.args.self.now c.booking_under.new.self c.mark_cancelled.new.self _ c.mark_cancelled.result _ (λ _. Unit {0}) (HasNoneToCancel key number) (MarkCancelled key number c.args.refund) c.in-Ok.ensures.reads c.mark_cancelled.ensures.makes
+      makes = change_after g.S.Store c.args.self.now c.booking_under.new.self c.mark_cancelled.new.self _ c.mark_cancelled.result _ (λ _.
+          Unit {0}) (HasNoneToCancel key number) (MarkCancelled key number c.args.refund) c.in-Ok.ensures.reads c.mark_cancelled.ensures.makes
           (λ club before told. elim c.in_default.branch [
-            | in_default-via-in-Some+else-not-booking w ↦ subst (λ (o : Option Booking). IfSome o IsDone) told (subst (λ (o : Option Booking). IfSome o IsDone) (sym w.in-Some.is) w.if-not-booking.false)
+            | in_default-via-in-Some+else-not-booking w ↦ subst (λ (o : Option Booking).
+                IfSome o IsDone) told (subst (λ (o : Option Booking). IfSome o IsDone) (sym w.in-Some.is) w.if-not-booking.false)
             | in_default-via-in_default w ↦ search rules
           ]);
     }

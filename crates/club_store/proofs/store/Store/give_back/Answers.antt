@@ -12,9 +12,13 @@ use Rattle.club_store.proofs.store.Store.give_back.Goals as goal
 pub returns-in-Some : goal.returns-in-Some
 returns-in-Some g c =
     let found : Result (Option Key) StoreFault = Ok c.in-Ok.found in
-    let reads : ReadsClub g.S.Store c.args.self.now c.self.inside.connection found (λ club row. row ≡ option_map fresh (key_named c.args.booking.now.key club)) = rw c.self.view_is c.in-Ok.ensures.reads in
+    let reads : ReadsClub g.S.Store c.args.self.now c.self.inside.connection found (λ club row. row ≡ option_map fresh (key_named c.args.booking.now.key club))
+        = rw c.self.view_is c.in-Ok.ensures.reads in
     record {
-      makes = change_after g.S.Store c.args.self.now c.self.inside.connection c.cancel_booking.new.conn found c.cancel_booking.result _ (IsToCancel c.args.booking.now) (λ club. IsToCancel c.args.booking.now club × IsOwnedBy c.in-Some.key.member c.args.booking.now.key club) (MarkCancelled c.args.booking.now.key c.args.booking.now.number c.args.refund) reads c.cancel_booking.ensures.makes (λ club before told.
+      makes = change_after g.S.Store c.args.self.now c.self.inside.connection c.cancel_booking.new.conn found c.cancel_booking.result _
+          (IsToCancel c.args.booking.now) (λ club. IsToCancel c.args.booking.now club
+          × IsOwnedBy c.in-Some.key.member c.args.booking.now.key club) (MarkCancelled c.args.booking.now.key c.args.booking.now.number c.args.refund) reads
+          c.cancel_booking.ensures.makes (λ club before told.
           let of = of_fresh (key_named c.args.booking.now.key club) c.in-Some.key (sym c.in-Some.is ∙ told) in
           (before, (of.0, of.1, ap (λ (k : Key). k.member) (sym of.2))));
     }

@@ -12,9 +12,11 @@ returns-then-len-eq0 c = sym (none_by_length c.args.text.now (elim c.then-len-eq
 pub returns-in-Ok : goal.returns-in-Ok
 returns-in-Ok c =
     let len = length c.args.text.now / 2 in
-    let read = root_of_decoded c.args.text.now c.decode_to_slice.new.out _ len (Ok c.in-Ok.field-0) refl (omega arith) (omega arith) (omega arith) c.in-Ok.ensures.value in
+    let read = root_of_decoded c.args.text.now c.decode_to_slice.new.out _ len (Ok c.in-Ok.field-0) refl (omega arith) (omega arith) (omega arith)
+        c.in-Ok.ensures.value in
     ap Some (front_of len c.decode_to_slice.new.out _ read.1) ∙ sym read.0
 
 pub returns-in-Err : goal.returns-in-Err
 returns-in-Err c =
-    sym (root_of_decoded c.args.text.now c.decode_to_slice.new.out _ (length c.args.text.now / 2) (Err c.in-Err.field-0) refl (omega arith) (omega arith) (omega arith) c.in-Err.ensures.value)
+    sym (root_of_decoded c.args.text.now c.decode_to_slice.new.out _ (length c.args.text.now / 2) (Err c.in-Err.field-0) refl (omega arith) (omega arith)
+        (omega arith) c.in-Err.ensures.value)
