@@ -16,7 +16,7 @@ use Rattle.club_rows.specs.Booking.{same_slot, refund_at}
 use Rattle.club_core.specs.Lines.{Line, first_of}
 use Rattle.club_core.specs.declared.form_fault.FormFault.{FormFault}
 use Rattle.club_core.specs.Pass.{Pass, is_signed_under}
-use Rattle.club_core.specs.Verdict.{refused, booked, booked_before, cancelled, new_booking, book_lines, cancel_lines, new_verdict, repeat_booking_verdict}
+use Rattle.club_core.specs.Verdict.{refused, booked, booked_before, cancelled_now, new_booking, book_lines, cancel_lines, new_verdict, repeat_booking_verdict}
 use Rattle.club_core.specs.Verdict.{cancel_recorded_verdict, shown_at, unknown_verdict, recorded_or, verdict_of}
 use Rattle.club_core.specs.Answer.{answer_to, acceptance_lines, ask_of, after_caveats}
 use Rattle.club_core.specs.Laws.{KeepsWhereRefused}
@@ -51,7 +51,7 @@ keeps_repeat booking slot guests =
 
 keeps_cancel : (booking : Booking) (slot : Slot) (moment : ℕ) → KeepsWhereRefused (cancel_recorded_verdict booking slot moment)
 keeps_cancel booking slot moment =
-    keeps_first (cancel_lines booking slot moment) (cancelled booking (refund_at booking moment))
+    keeps_first (cancel_lines booking slot moment) (cancelled_now booking (refund_at booking moment))
     (record { kept = λ r e. refl }, (record { kept = λ r e. refl }, (record { kept = λ r e. refl }, tt)))
     (record { kept = λ r e. cc })
 

@@ -50,11 +50,11 @@ ask_with caveats request moment =
 abbrev pub ask : Request → ℕ → Event
 ask request moment = ask_with [] request moment
 
-abbrev pub booked : ℕ → ℕ → ℕ → EventReply
-booked number charge left = Replied (Booked (codes "amy-1") number charge left)
+abbrev pub served_booking : ℕ → ℕ → ℕ → EventReply
+served_booking number charge left = Replied (Booked (codes "amy-1") number charge left)
 
-abbrev pub cancelled : ℕ → ℕ → EventReply
-cancelled number refund = Replied (Cancelled (codes "amy-1") number refund)
+abbrev pub served_cancellation : ℕ → ℕ → EventReply
+served_cancellation number refund = Replied (Cancelled (codes "amy-1") number refund)
 
 abbrev pub account : ℕ → ℕ → ℕ → EventReply
 account balance count spent = Replied (AccountShown (codes "amy") balance 5 count spent)
@@ -64,7 +64,7 @@ abbrev pub BooksAndCancels : Type 0
 BooksAndCancels =
     replies_of opened_club
     (ask (asked.Book (slot_at 18) 7 2) noon ∷ ask asked.Account noon ∷ ask (asked.Cancel (slot_at 18) 7) noon ∷ [])
-    ≡ booked 7 600 1 ∷ account 9_400 1 600 ∷ cancelled 7 600 ∷ []
+    ≡ served_booking 7 600 1 ∷ account 9_400 1 600 ∷ served_cancellation 7 600 ∷ []
 
 -- a repeat is told what was told first, also after a cancellation and when the slot has begun, and nothing is charged
 abbrev pub RepeatsAfterACancellation : Type 0
@@ -76,7 +76,7 @@ RepeatsAfterACancellation =
     ∷ ask (asked.Book (slot_at 18) 7 1) noon
     ∷ ask asked.Account late
     ∷ [])
-    ≡ booked 7 600 1 ∷ cancelled 7 600 ∷ booked 7 600 1 ∷ Replied (Refused refusals.NumberUsed) ∷ account 10_000 0 0 ∷ []
+    ≡ served_booking 7 600 1 ∷ served_cancellation 7 600 ∷ served_booking 7 600 1 ∷ Replied (Refused refusals.NumberUsed) ∷ account 10_000 0 0 ∷ []
 
 -- a slot is closed once nobody has booked it, and then nobody books it
 abbrev pub ClosesASlot : Type 0
@@ -89,9 +89,9 @@ ClosesASlot =
     ∷ Ordered (CloseSlot (slot_at 18))
     ∷ ask (asked.Book (slot_at 18) 8 0) noon
     ∷ [])
-    ≡ booked 7 600 1
+    ≡ served_booking 7 600 1
     ∷ Answered (NotDone SlotInUse)
-    ∷ cancelled 7 600
+    ∷ served_cancellation 7 600
     ∷ Answered Done
     ∷ Answered (NotDone Exists)
     ∷ Replied (Refused refusals.SlotClosed)
@@ -107,4 +107,4 @@ KeepsASpendLimit =
     ∷ limited (asked.Cancel (slot_at 18) 7) noon
     ∷ limited (asked.Book (slot_at 19) 8 0) noon
     ∷ [])
-    ≡ booked 7 600 1 ∷ Replied (Refused (refusals.CaveatDenies 1)) ∷ cancelled 7 600 ∷ booked 8 200 3 ∷ []
+    ≡ served_booking 7 600 1 ∷ Replied (Refused (refusals.CaveatDenies 1)) ∷ served_cancellation 7 600 ∷ served_booking 8 200 3 ∷ []

@@ -53,8 +53,8 @@ booked booking = record {
 }
 
 -- the booking is marked cancelled with its refund
-abbrev pub cancelled : Booking → ℕ → Verdict
-cancelled booking refund = record {
+abbrev pub cancelled_now : Booking → ℕ → Verdict
+cancelled_now booking refund = record {
   reply = Cancelled booking.key booking.number refund;
   change = Some (MarkCancelled booking.key booking.number refund);
 }
@@ -104,7 +104,7 @@ cancel_lines booking slot moment =
 -- a cancellation of a number that is on record
 abbrev pub cancel_recorded_verdict : Booking → Slot → ℕ → Verdict
 cancel_recorded_verdict booking slot moment =
-    first_of (cancel_lines booking slot moment) (cancelled booking (refund_at booking moment))
+    first_of (cancel_lines booking slot moment) (cancelled_now booking (refund_at booking moment))
 
 -- a cancellation of a number that isn't on record
 abbrev pub unknown_verdict : Option Facility → Verdict

@@ -49,7 +49,7 @@ impl Verdict {
 
     /// A cancellation with this refund, which is told and written.
     pub(crate) fn cancelled(booking: &Booking, refund: u32) -> Verdict
-        ensures { result ≡ verdicts.cancelled booking.now refund }
+        ensures { result ≡ verdicts.cancelled_now booking.now refund }
     {
         let (key, number) = (booking.key, booking.number);
         Verdict {

@@ -160,11 +160,11 @@ opens_no_more serves more reads tells finds club text wide request moment bytes 
     let e = entitled.read in
     let alike : narrow ≡ entitled.pass = cc in
     let name = named_by finds n.other_pass.identifier entitled.basis.key.name n.key.name (ap (λ (p : Pass). p.key) alike ∙ entitled.named) (n.identifier
-        ∙ n.named) in
+    ∙ n.named) in
     let caveats : narrow.caveats ≡ broad.caveats ++ map caveat_of n.more =
     ap (λ (cs : List (List ℕ)). map caveat_of cs) n.caveats ∙ map-append caveat_of n.pass.caveats n.more
     in
     let wide_name : broad.key ≡ Some n.key.name = ap name_in (sym n.identifier) ∙ name in
     let same = more broad narrow (map caveat_of n.more) n.key request moment club wide_name name caveats n.row (plain_signed tells n.pass n.key moment n.signed)
-        there in
+    there in
     ap reply narrow_said ∙ (ap (λ (v : Verdict). v.reply) (sym same) ∙ sym (ap reply broad_said))

@@ -1,6 +1,6 @@
 -- One event more: what was followed goes on by a step.
-use Rattle.std.proofs.Common.{◌≡◌, ℕ, ◌+◌, ◌<◌, ◌∙◌, take, get_or, add-one, inl, inr, Bool, true, false, cond, List, [], ◌∷◌, ◌++◌, length, All, Contains,
-    Option, Some, None, Result, Ok, Err, refl, sym, ap, subst, arith}
+use Rattle.std.proofs.Common.{◌≡◌, ℕ, ◌+◌, ◌<◌, ◌∙◌, take, get_or, add-one, inl, inr, Bool, true, false, cond, List, [], ◌∷◌, ◌++◌, length, All, Contains}
+use Rattle.std.proofs.Common.{Option, Some, None, Result, Ok, Err, refl, sym, ap, subst, arith}
 use Rattle.std.proofs.Math.Seq.{take-suc}
 use Rattle.std.proofs.lemmas.List.{map-append, length-map, length-take}
 use Rattle.std.proofs.lemmas.List.Elements.{All-nil, All-cons, All-weaker, All-contains_itself, Contains-append_left, Contains-append_right}

@@ -4,13 +4,13 @@ use Rattle.std.proofs.lemmas.List.Elements.{All-cons, All-weaker}
 use Rattle.club_core.specs.Club.{Club, empty_club, member_named, IsSound}
 use Rattle.club_core.specs.Events.{IsEvent}
 use Rattle.club_core.specs.Run.{Event, Asked, replies_of}
-use Rattle.club_laws.specs.AsTold.{ConservesPointsAsTold, SoloLawAsTold, SoloLawOfTwoAsTold, SoundAsTold, TellsAgain, TellsAgainAfterOneMore,
-    TellsRepeatsTheSame}
+use Rattle.club_laws.specs.AsTold.{ConservesPointsAsTold, SoloLawAsTold, SoloLawOfTwoAsTold, SoundAsTold, TellsAgain, TellsAgainAfterOneMore}
+use Rattle.club_laws.specs.AsTold.{TellsRepeatsTheSame}
 use Rattle.club_laws.specs.Conservation.{IsConserved, SoundClubsHavePlaces}
 use Rattle.club_laws.specs.Failed.{IsRun, LeavesOutFailed}
 use Rattle.club_gate.specs.declared.event.OfficeReply.{OfficeReply}
-use Rattle.club_gate.specs.Runs.{Conserves, IsAnswered, IsAsInAnother, IsFollowed, IsNeverNegative, IsNeverOverbooked, IsOnce, IsSolo, KeepsServed,
-    LeavesStanding, MayBeLeft, Told, answered, club_left, failed}
+use Rattle.club_gate.specs.Runs.{Conserves, IsAnswered, IsAsInAnother, IsFollowed, IsNeverNegative, IsNeverOverbooked, IsOnce, IsSolo, KeepsServed}
+use Rattle.club_gate.specs.Runs.{LeavesStanding, MayBeLeft, Told, answered, club_left, failed}
 use Rattle.club_gate.specs.Told.{telling}
 
 -- What follows of a followed list follows of what an answer tells.

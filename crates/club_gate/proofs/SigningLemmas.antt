@@ -34,7 +34,7 @@ grown_by_all current (Some older) (caveat ∷ caveats) = grown_by_all (hmac curr
 signed_as : (root : List ℕ) (older : Option (List ℕ)) (pass : Plain)
     → is_one_of (fold grown (chains (chain (derived_key root) pass.identifier [])
     (option_map (λ (r : List ℕ). chain (derived_key r) pass.identifier []) older)) pass.caveats) pass.signature
-        ≡ (is_signed root pass || option_map_or (λ (r : List ℕ). is_signed r pass) older false)
+    ≡ (is_signed root pass || option_map_or (λ (r : List ℕ). is_signed r pass) older false)
 unfolding is_signed
 signed_as root None pass =
     ap (λ (s : Signing). is_one_of s pass.signature) (grown_by_all (chain (derived_key root) pass.identifier []) None pass.caveats)

@@ -1,6 +1,6 @@
 -- What a walk over the fields of a pass finds.
-use Rattle.std.proofs.Common.{Bor, ◌≡◌, ℕ, ◌+◌, ◌-◌, ◌^◌, ◌≤◌, ◌<◌, min, List, [], ◌∷◌, ◌++◌, fold, length, map, Option, Some, None, Bool, true, false, cond,
-    ◌⊎◌, inl, inr, refl, sym, ap, ◌∙◌, arith}
+use Rattle.std.proofs.Common.{Bor, ◌≡◌, ℕ, ◌+◌, ◌-◌, ◌^◌, ◌≤◌, ◌<◌, min, List, [], ◌∷◌, ◌++◌, fold, length, map, Option, Some, None, Bool, true, false, cond}
+use Rattle.std.proofs.Common.{◌⊎◌, inl, inr, refl, sym, ap, ◌∙◌, arith}
 use Rattle.std.specs.Option.{option_or}
 use Rattle.pass_caveats.specs.declared.ask.Ask.{Ask}
 use Rattle.pass_caveats.specs.declared.caveat.Caveat.{Caveat}
@@ -53,8 +53,11 @@ module _ (ask : Ask) (signature : List ℕ) where
 
   -- what is found of caveats and a signature
   pub found_all : (progress : Progress) (caveats : List (List ℕ)) → progress.number + length caveats < 2 ^ 64
-      → found_in ask progress (to_come caveats) ≡ record { is_signed = is_one_of (fold grown progress.signing caveats) signature; fault =
-          option_or progress.fault (first_fault_from progress.number (map caveat_of caveats) ask) }
+      → found_in ask progress (to_come caveats) ≡ record {
+        is_signed = is_one_of (fold grown progress.signing caveats) signature;
+        fault =
+            option_or progress.fault (first_fault_from progress.number (map caveat_of caveats) ask);
+      }
   found_all progress [] short = ap made (or_none progress.fault)
     where
       made : Option CaveatFault → Found

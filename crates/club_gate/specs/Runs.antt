@@ -66,10 +66,10 @@ pub record LeavesStanding {S : Type 0} (Stands : S → Club → List Club → Ty
 -- The same where a crash could leave no other club before: whichever club it leaves now, there what was served is told again, and
 -- changes nothing.
 pub record KeepsServed {S : Type 0} (Stands : S → Club → List Club → Type 0) (new : S) (club : Club) (events : List machine.Event) (told : List Told) : Type 0
-    where
-  pub left : List Club
-  pub stands : Stands new (club_left club events told) left
-  pub again : All (λ (c : Club). TellsAgain c events told) (club_left club events told ∷ left)
+  where
+    pub left : List Club
+    pub stands : Stands new (club_left club events told) left
+    pub again : All (λ (c : Club). TellsAgain c events told) (club_left club events told ∷ left)
 
 -- the replies to a member's requests are those that the member's part and own events give
 abbrev pub IsSolo : Club → List machine.Event → List Told → Type 0

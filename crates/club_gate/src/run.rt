@@ -4,7 +4,21 @@ ghost use Rattle.std.specs.Prelude.{◌≡◌, [], All, List, IfOk, OnOk, OnErr}
 ghost use Rattle.club_core.specs.Club.{Club};
 ghost use Rattle.club_core.specs.Events.{IsEvent};
 ghost use Rattle.club_core.specs.Store.{Tells};
-ghost use Rattle.club_gate.specs.Runs.{Conserves, IsAnswered, IsAsInAnother, IsFollowed, IsNeverNegative, IsNeverOverbooked, IsOnce, IsSolo, KeepsServed, LeavesStanding, club_left, events_of, told_all};
+ghost use Rattle.club_gate.specs.Runs.{
+  Conserves,
+  IsAnswered,
+  IsAsInAnother,
+  IsFollowed,
+  IsNeverNegative,
+  IsNeverOverbooked,
+  IsOnce,
+  IsSolo,
+  KeepsServed,
+  LeavesStanding,
+  club_left,
+  events_of,
+  told_all,
+};
 ghost use Rattle.club_gate.specs.Told.{event_of};
 
 use crate::desk::Desk;

@@ -154,8 +154,8 @@ impl<S: ClubStore> Desk<S> {
     ) -> Result<Verdict, StoreFault>
         ensures honest { S.is_honest self.new → S.is_honest self.old }
         ensures kept { S.is_honest self.new → KeepsStanding S.stands self.old self.new }
-        ensures told { S.is_honest self.new → Tells S.stands self.old result (λ club verdict. verdict
-            ≡ verdict_in club (words_read form bytes.now request.now) moment) }
+        ensures told { S.is_honest self.new → Tells S.stands self.old result (λ club verdict.
+            verdict ≡ verdict_in club (words_read form bytes.now request.now) moment) }
         ensures untouched { (fault : FaultOfForm) → reading_in_form form bytes.now ≡ Err fault
             → self.new ≡ self.old }
         ensures unchanged { (fault : FaultOfForm) → reading_in_form form bytes.now ≡ Err fault

@@ -102,13 +102,13 @@ pub record Ways (P : Verdict → Type 0) (club : Club) (words : Words) (moment :
   pub cancels_recorded : (key : Key) (member : Member) (slot : Slot) (number : ℕ) (booking : Booking) → Knows club words key member
       → words.request ≡ asked.Cancel slot number → CancelsRecorded club key slot number booking → P (verdicts.cancelled_before booking)
   pub cancels : (key : Key) (member : Member) (slot : Slot) (number : ℕ) (booking : Booking) → Knows club words key member
-      → words.request ≡ asked.Cancel slot number → Cancels club key slot number booking → P (verdicts.cancelled booking (refund_at booking moment))
+      → words.request ≡ asked.Cancel slot number → Cancels club key slot number booking → P (verdicts.cancelled_now booking (refund_at booking moment))
 
 -- the key is one of its member's
 pub is_own_key : (club : Club) (words : Words) (key : Key) (member : Member) → Knows club words key member → is_key_of member.name club key.name ≡ true
 is_own_key club words key member k =
     let own : member.name ≡ key.member = bytes_same member.name key.member
-        (found_passes (λ (m : Member). bytes_eq m.name key.member) club.members member k.owned) in
+    (found_passes (λ (m : Member). bytes_eq m.name key.member) club.members member k.owned) in
     let there = found_is_there (λ (other : Key). bytes_eq other.name key.name) club.keys key k.known in
     let mine : bytes_eq key.member member.name ≡ true = rw own (same_bytes key.member) in
     any-filter (λ (other : Key). bytes_eq other.name key.name) (λ (other : Key). bytes_eq other.member member.name) club.keys
@@ -120,7 +120,7 @@ pub own_booking : (club : Club) (words : Words) (key : Key) (member : Member) (n
     → booking_under key.name number (bookings_of member.name club) ≡ booking_under key.name number club.bookings
 own_booking club words key member number k =
     find-filter (λ (booking : Booking). is_under key.name booking && booking.number == number) (λ (booking : Booking).
-        is_key_of member.name club booking.key) club.bookings
+    is_key_of member.name club booking.key) club.bookings
     (λ booking e. let same : booking.key ≡ key.name = bytes_same booking.key key.name (and_parts (is_under key.name booking) (booking.number == number) e).0 in
     rw same (is_own_key club words key member k))
 
@@ -145,11 +145,21 @@ module _ (P : Verdict → Type 0) (club : Club) (words : Words) (moment : ℕ) (
   new_cases key member k slot number guests r new None at = refused_cases refusals.NoSuchFacility tt
   new_cases key member k slot number guests r new (Some facility) at =
       let view = view_at club (asked.Book slot number guests) moment key member in
-      first_of_cases P (verdicts.book_lines view slot guests moment facility) (verdicts.booked (written club key slot number guests facility))
-      (refused_cases refusals.NotBookable tt, (refused_cases refusals.SlotClosed tt,
-          (refused_cases refusals.NoPlaces tt, (refused_cases refusals.QuotaReached tt, (refused_cases refusals.BalanceTooLow tt, tt)))))
-      (λ none. w.books key member slot number guests facility k r (record { new = new; located = at; opened = none.1.0; placed = none.1.1.0; paid =
-          none.1.1.1.1.0 }))
+      first_of_cases P (verdicts.book_lines view slot guests moment facility) (verdicts.booked (written club key slot number guests facility)) (
+        refused_cases refusals.NotBookable tt,
+        (
+          refused_cases refusals.SlotClosed tt,
+          (refused_cases refusals.NoPlaces tt, (refused_cases refusals.QuotaReached tt, (refused_cases refusals.BalanceTooLow tt, tt))),
+        ),
+      )
+      (λ none. w.books key member slot number guests facility k r (record {
+        new = new;
+        located = at;
+        opened = none.1.0;
+        placed = none.1.1.0;
+        paid =
+            none.1.1.1.1.0;
+      }))
 
   repeat_booking_cases : (key : Key) (member : Member) → Knows club words key member → (slot : Slot) (number guests : ℕ)
       → words.request ≡ asked.Book slot number guests → (booking : Booking) → booking_under key.name number club.bookings ≡ Some booking
@@ -165,11 +175,12 @@ module _ (P : Verdict → Type 0) (club : Club) (words : Words) (moment : ℕ) (
     where
       go : (b : Bool) → same_slot booking.slot slot ≡ b → (c : Bool) → booking.cancelled ≡ c
           → P (cond (not b) (verdicts.refused refusals.NumberUsed) (cond c (verdicts.cancelled_before booking)
-          (cond (nat_le (start_of booking.slot) moment) (verdicts.refused refusals.SlotHasBegun) (verdicts.cancelled booking (refund_at booking moment)))))
+          (cond (nat_le (start_of booking.slot) moment) (verdicts.refused refusals.SlotHasBegun) (verdicts.cancelled_now booking (refund_at booking moment)))))
       go false e c h = refused_cases refusals.NumberUsed tt
       go true e true h = w.cancels_recorded key member slot number booking k r (record { found = found; same = e; before = h })
       go true e false h =
-          cond_both (nat_le (start_of booking.slot) moment) (verdicts.refused refusals.SlotHasBegun) (verdicts.cancelled booking (refund_at booking moment)) P
+          cond_both (nat_le (start_of booking.slot) moment) (verdicts.refused refusals.SlotHasBegun) (verdicts.cancelled_now booking (refund_at booking moment))
+          P
           (λ late. refused_cases refusals.SlotHasBegun tt)
           (λ early. w.cancels key member slot number booking k r (record { found = found; same = e; stood = h }))
 
@@ -201,13 +212,13 @@ module _ (P : Verdict → Type 0) (club : Club) (words : Words) (moment : ℕ) (
       go (Some facility) = w.silent (SlotShown slot facility.kind facility.price facility.places (taken_in slot club.bookings) (is_closed slot club)) tt
   verdict_cases key member k (asked.Book slot number guests) r =
       let Q : Option Booking → Type 0 = λ o. P (verdicts.recorded_or o (λ booking.
-          verdicts.repeat_booking_verdict booking slot guests) (verdicts.new_verdict (view_at club (asked.Book slot number guests) moment key member) slot
-          number guests moment (facility_named slot.facility club))) in
+      verdicts.repeat_booking_verdict booking slot guests) (verdicts.new_verdict (view_at club (asked.Book slot number guests) moment key member) slot
+      number guests moment (facility_named slot.facility club))) in
       subst Q (sym (own_booking club words key member number k))
       (book_cases key member k slot number guests r (booking_under key.name number club.bookings) refl)
   verdict_cases key member k (asked.Cancel slot number) r =
       let Q : Option Booking → Type 0 = λ o. P (verdicts.recorded_or o (λ booking.
-          verdicts.cancel_recorded_verdict booking slot moment) (verdicts.unknown_verdict (facility_named slot.facility club))) in
+      verdicts.cancel_recorded_verdict booking slot moment) (verdicts.unknown_verdict (facility_named slot.facility club))) in
       subst Q (sym (own_booking club words key member number k))
       (cancel_cases key member k slot number r (booking_under key.name number club.bookings) refl)
   verdict_cases key member k asked.Account r =

@@ -1,14 +1,14 @@
 -- What each kind of change does to a member's part.
-use Rattle.std.proofs.Common.{◌≡◌, ℕ, ◌+◌, Bool, true, false, not, ◌||◌, ◌&&◌, ◌==◌, cond, List, [], ◌∷◌, ◌++◌, map, filter, Option, Some, None, All, Contains,
-    bytes_eq, refl, ap, ◌∙◌, subst}
+use Rattle.std.proofs.Common.{◌≡◌, ℕ, ◌+◌, Bool, true, false, not, ◌||◌, ◌&&◌, ◌==◌, cond, List, [], ◌∷◌, ◌++◌, map, filter, Option, Some, None, All, Contains}
+use Rattle.std.proofs.Common.{bytes_eq, refl, ap, ◌∙◌, subst}
 use Rattle.std.specs.List.{list_any}
 use Rattle.club_rows.specs.declared.member.Member.{Member}
 use Rattle.club_rows.specs.declared.key.Key.{Key}
 use Rattle.club_rows.specs.declared.key.OlderRoot.{OlderRoot}
 use Rattle.club_rows.specs.declared.booking.Booking.{Booking}
 use Rattle.club_core.specs.declared.change.Change.{Change}
-use Rattle.club_core.specs.declared.change.Change.TheVariants.{InsertMember, AddCredit, InsertFacility, InsertKey, MarkRevoked, ReplaceRoot, MarkClosed,
-    InsertBooking, MarkCancelled}
+use Rattle.club_core.specs.declared.change.Change.TheVariants.{InsertMember, AddCredit, InsertFacility, InsertKey, MarkRevoked, ReplaceRoot, MarkClosed}
+use Rattle.club_core.specs.declared.change.Change.TheVariants.{InsertBooking, MarkCancelled}
 use Rattle.club_core.specs.Club.{Club, key_named, keys_of, is_key_of, bookings_of}
 use Rattle.club_core.specs.After.{after, credited, revoked, good_until, rotated, cancelled}
 use Rattle.club_core.specs.Solo.{part_of}
@@ -74,12 +74,12 @@ key_inserted : (name : List ℕ) (club : Club) (new : Key) (b : Bool) → HasKno
 key_inserted name club new true known fresh e =
     let members = filter (is_named name) club.members in
     ap (λ (bookings : List Booking). part_with club members (filter (is_owned name) (club.keys ++ new ∷ [])) bookings)
-        (bookings_of-added name club new (none_named (λ (key : Key). key.name) new.name club.keys fresh) known)
+    (bookings_of-added name club new (none_named (λ (key : Key). key.name) new.name club.keys fresh) known)
     ∙ ap (λ (keys : List Key). part_with club members keys (bookings_of name club)) (filter_push_true (is_owned name) club.keys new e)
 key_inserted name club new false known fresh e =
     let members = filter (is_named name) club.members in
     ap (λ (bookings : List Booking). part_with club members (filter (is_owned name) (club.keys ++ new ∷ [])) bookings)
-        (bookings_of-added name club new (none_named (λ (key : Key). key.name) new.name club.keys fresh) known)
+    (bookings_of-added name club new (none_named (λ (key : Key). key.name) new.name club.keys fresh) known)
     ∙ ap (λ (keys : List Key). part_with club members keys (bookings_of name club)) (filter_push_false (is_owned name) club.keys new e)
 
 not_revoked : (name : List ℕ) (key : Key) → bytes_eq key.name name ≡ false → revoked name key ≡ key
@@ -94,12 +94,12 @@ not_rotated name root until key e =
 key_edited : (root : Key → List ℕ) (older : Key → Option OlderRoot) (is_revoked : Key → Bool) (name : List ℕ) (club : Club) (other : List ℕ) (b : Bool)
     → ((key : Key) → bytes_eq key.name other ≡ false → edited root older is_revoked key ≡ key) → is_key_of name club other ≡ b
     → part_of name (record club { keys = map (edited root older is_revoked) club.keys })
-        ≡ cond b (record (part_of name club) { keys = map (edited root older is_revoked) (keys_of name club) }) (part_of name club)
+    ≡ cond b (record (part_of name club) { keys = map (edited root older is_revoked) (keys_of name club) }) (part_of name club)
 key_edited root older is_revoked name club other b same e =
     let edit = edited root older is_revoked in
     let members = filter (is_named name) club.members in
     ap (λ (bookings : List Booking). part_with club members (filter (is_owned name) (map edit club.keys)) bookings)
-        (bookings_of-edited root older is_revoked name club)
+    (bookings_of-edited root older is_revoked name club)
     ∙ (ap (λ (ks : List Key). part_with club members ks (bookings_of name club)) (filter-map edit (is_owned name) club.keys)
     ∙ at_keys b e)
   where
@@ -120,7 +120,7 @@ key_rotated : (name : List ℕ) (club : Club) (other root : List ℕ) (until : �
     → part_of name (after (ReplaceRoot other root until) club) ≡ cond b (after (ReplaceRoot other root until) (part_of name club)) (part_of name club)
 key_rotated name club other root until b e =
     key_edited (λ key. (rotated other root until key).root) (λ key. (rotated other root until key).older) (λ key.
-        key.revoked) name club other b (not_rotated other root until) e
+    key.revoked) name club other b (not_rotated other root until) e
 
 booking_inserted : (name : List ℕ) (club : Club) (booking : Booking) (b : Bool) → is_key_of name club booking.key ≡ b
     → part_of name (after (InsertBooking booking) club) ≡ cond b (after (InsertBooking booking) (part_of name club)) (part_of name club)

@@ -96,6 +96,8 @@ module _ {O : Type 0} (telling : Telling O) where
       → IsRun telling club events (map (told_of telling) (replies_of club events)) (club_after club events)
   run_without_failures club [] faultless = refl
   run_without_failures club (event ∷ events) faultless =
-      let outcome = step club event in
-      (outcome.club, inl (record { answered = not_failed faultless club event; reply = refl; stepped = refl }),
-          run_without_failures outcome.club events faultless)
+      let outcome = step club event in (
+        outcome.club,
+        inl (record { answered = not_failed faultless club event; reply = refl; stepped = refl }),
+        run_without_failures outcome.club events faultless,
+      )

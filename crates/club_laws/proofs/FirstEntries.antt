@@ -41,9 +41,9 @@ seen_adds_nothing p seen entry entries e =
     let others : Entry → Bool = λ (other : Entry). not (is_entry_of entry.key entry.number other) in
     let rest : filter (counts p seen) (filter others (firsts entries)) ≡ filter (counts p seen) (firsts entries) =
     filter-filter (counts p seen) others (firsts entries) ∙ filter_agree (λ other. others other && counts p seen other) (counts p seen) (λ other.
-        same other) (firsts entries) in
+    same other) (firsts entries) in
     ap (λ (kept : List Entry). sum_by points_of kept) (drops (p entry.key) (seen entry.key entry.number) e
-        (filter (counts p seen) (filter others (firsts entries))) ∙ rest)
+    (filter (counts p seen) (filter others (firsts entries))) ∙ rest)
   where
     drops : (b c : Bool) → c ≡ true → (kept : List Entry) → cond (b && not c) (entry ∷ kept) kept ≡ kept
     drops true true h kept = refl
@@ -66,7 +66,7 @@ new_adds_its_points p seen entry entries e =
     let others : Entry → Bool = λ (other : Entry). not (is_entry_of entry.key entry.number other) in
     let rest : filter (counts p seen) (filter others (firsts entries)) ≡ filter (counts p (with_entry entry seen)) (firsts entries) =
     filter-filter (counts p seen) others (firsts entries) ∙ filter_agree (λ other. others other
-        && counts p seen other) (counts p (with_entry entry seen)) (λ other. same other) (firsts entries) in
+    && counts p seen other) (counts p (with_entry entry seen)) (λ other. same other) (firsts entries) in
     keeps (p entry.key) (seen entry.key entry.number) e (filter (counts p seen) (filter others (firsts entries)))
     ∙ ap (λ (kept : List Entry). cond (p entry.key) entry.points 0 + sum_by points_of kept) rest
   where

@@ -57,7 +57,7 @@ module _ (club : Club) (s : IsSound club) (words : Words) (key : Key) (member : 
       let enough = ltb-false (balance_of member (bookings_of member.name club)) (charge_of facility guests) b.paid in
       let covered : sum_by cost_of (bookings_of member.name club) ≤ member.credited =
       at_found (λ (m : Member). sum_by cost_of (bookings_of m.name club) ≤ m.credited) (λ (m : Member).
-          bytes_eq m.name key.member) club.members member s.balances k.owned in
+      bytes_eq m.name key.member) club.members member s.balances k.owned in
       subst (λ (m : Member). sum_by cost_of (bookings_of m.name club) + (charge_of facility guests - 0) ≤ m.credited) (sym same) (omega arith)
 
   placed_in : (slot : Slot) (number guests : ℕ) (facility : Facility) → Books club key member slot number guests facility → (other : Facility)
@@ -78,10 +78,10 @@ module _ (club : Club) (s : IsSound club) (words : Words) (key : Key) (member : 
     row = row_of_booking slot number guests facility r b;
     fresh =
         All-each (λ (other : Booking). is_numbered key.name number other ≡ false) (λ (other : Booking). ¬ ((other.key ≡ key.name)
-            × (other.number ≡ number))) club.bookings
+        × (other.number ≡ number))) club.bookings
         (λ other f same. both_ways (is_numbered key.name number other) f
         (and_from (is_under key.name other) (other.number == number) (subst (λ (n : List ℕ). bytes_eq other.key n ≡ true) same.0 (same_bytes other.key))
-            (eq-eqb other.number number same.1)))
+        (eq-eqb other.number number same.1)))
         (none_found (is_numbered key.name number) club.bookings b.new);
     known = Contains-map (λ (x : Key). x.name) club.keys key (found_is_there (λ (other : Key). bytes_eq other.name key.name) club.keys key k.known);
     located = named_there (λ (f : Facility). f.name) slot.facility club.facilities facility b.located;
@@ -105,11 +105,11 @@ module _ (club : Club) (s : IsSound club) (words : Words) (key : Key) (member : 
       record {
         covered =
             All-each (λ other. is_numbered key.name number other ≡ true → other ≡ booking) (λ other. is_marked booking.key booking.number other ≡ true
-                → refund_at booking moment ≤ other.charge) club.bookings
+            → refund_at booking moment ≤ other.charge) club.bookings
             (λ other is e.
             let parts = and_parts (is_numbered booking.key booking.number other) (not other.cancelled) e in
             let at : is_numbered key.name number other ≡ true = subst (λ (n : ℕ). is_numbered key.name n other
-                ≡ true) it.1 (subst (λ (n : List ℕ). is_numbered n booking.number other ≡ true) it.0 parts.0) in
+            ≡ true) it.1 (subst (λ (n : List ℕ). is_numbered n booking.number other ≡ true) it.0 parts.0) in
             subst (λ (n : ℕ). refund_at booking moment ≤ n) (sym (ap (λ (x : Booking). x.charge) (is at))) (refund_covered booking moment))
             (only_numbered key.name number club.bookings booking s.unique.bookings c.found);
       }

@@ -32,7 +32,7 @@ fits club s (AddMember name quota) c r = record {
 fits club s (Credit name points) c r = record {
   small =
       All-each (λ (m : Member). bytes_eq m.name name ≡ true → m ≡ r.0) (λ (m : Member). bytes_eq m.name name ≡ true
-          → m.credited + points ≤ 999_999_999) club.members
+      → m.credited + points ≤ 999_999_999) club.members
       (λ m is h. subst (λ (n : ℕ). n + points ≤ 999_999_999) (sym (ap (λ (x : Member). x.credited) (is h))) r.2)
       (only_named (λ (m : Member). m.name) name club.members r.0 s.unique.members r.1);
 }

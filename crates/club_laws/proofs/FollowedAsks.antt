@@ -80,7 +80,7 @@ asked_follows : (name : List ℕ) (club : Club) (words : Words) (moment : ℕ) (
     (Replied (answer_of words moment (Some basis)).reply) (part_of name (after_change (answer_of words moment (Some basis)).change club))
 asked_follows name club words moment basis true keyed e own =
     let family : List ℕ → Type 0 = λ n. Follows (part_of n club) (OwnAsk words moment (outside n club (slot_of words.request)) ∷ [])
-        (Replied (answer_of words moment (Some basis)).reply) (part_of n (after_change (answer_of words moment (Some basis)).change club)) in
+    (Replied (answer_of words moment (Some basis)).reply) (part_of n (after_change (answer_of words moment (Some basis)).change club)) in
     subst family (bytes_same basis.member.name name own) (own_follows club words moment basis keyed e)
 asked_follows name club words moment basis false keyed e own =
     let under = answer_changes_under club words moment basis e in

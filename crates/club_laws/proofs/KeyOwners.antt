@@ -49,7 +49,7 @@ pub bookings_of-added : (member : List ℕ) (club : Club) (key : Key) → All (�
     → bookings_of member (record club { keys = club.keys ++ key ∷ [] }) ≡ bookings_of member club
 bookings_of-added member club key fresh known =
     filter_same (λ (booking : Booking). is_key_of member (record club { keys = club.keys ++ key ∷ [] }) booking.key) (λ (booking : Booking).
-        is_key_of member club booking.key) club.bookings
+    is_key_of member club booking.key) club.bookings
     (λ k d short. same (get_or club.bookings k d) (known k d short))
   where
     or_not : (b c : Bool) → c ≡ false → (b || c) ≡ b
@@ -60,17 +60,17 @@ bookings_of-added member club key fresh known =
         → is_key_of member (record club { keys = club.keys ++ key ∷ [] }) booking.key ≡ is_key_of member club booking.key
     same booking there =
         let other : booking.key ≢ key.name = All-contains (λ (name : List ℕ).
-            name ≢ key.name) (map (λ (k : Key). k.name) club.keys) booking.key
-            (All-map (λ (name : List ℕ). name ≢ key.name) (λ (k : Key). k.name) club.keys fresh) there in
+        name ≢ key.name) (map (λ (k : Key). k.name) club.keys) booking.key
+        (All-map (λ (name : List ℕ). name ≢ key.name) (λ (k : Key). k.name) club.keys fresh) there in
         let no_own : is_own member booking.key key ≡ false = and_right (bytes_eq key.member member) (bytes_eq key.name booking.key)
-            (other_bytes key.name booking.key (λ e. other (sym e))) in
+        (other_bytes key.name booking.key (λ e. other (sym e))) in
         is_key_of-added member club key booking.key ∙ or_not (is_key_of member club booking.key) (is_own member booking.key key) no_own
 
 pub bookings_of-edited : (root : Key → List ℕ) (older : Key → Option OlderRoot) (is_revoked : Key → Bool) (member : List ℕ) (club : Club)
     → bookings_of member (record club { keys = map (edited root older is_revoked) club.keys }) ≡ bookings_of member club
 bookings_of-edited root older is_revoked member club =
     filter_same (λ (booking : Booking). is_key_of member (record club { keys = map (edited root older is_revoked) club.keys }) booking.key)
-        (λ (booking : Booking). is_key_of member club booking.key) club.bookings
+    (λ (booking : Booking). is_key_of member club booking.key) club.bookings
     (λ k d short. is_key_of-edited root older is_revoked member club (get_or club.bookings k d).key)
 
 -- where names are unique, whoever's key it is, is the member that its row names

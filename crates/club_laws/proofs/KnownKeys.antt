@@ -1,6 +1,6 @@
 -- Key names are unique and bookings are under known keys, before and after each change.
-use Rattle.std.proofs.Common.{◌≡◌, ◌≢◌, ℕ, suc, cond, Bool, List, [], ◌∷◌, ◌++◌, map, find, length, get_or, Option, Some, None, AllPairs, Contains, refl, sym,
-    ap, ◌∙◌, subst, arith, length-append}
+use Rattle.std.proofs.Common.{◌≡◌, ◌≢◌, ℕ, suc, cond, Bool, List, [], ◌∷◌, ◌++◌, map, find, length, get_or, Option, Some, None, AllPairs, Contains, refl, sym}
+use Rattle.std.proofs.Common.{ap, ◌∙◌, subst, arith, length-append}
 use Rattle.std.proofs.lemmas.List.{get_or-append-add}
 use Rattle.std.proofs.lemmas.List.Elements.{All-push, All-map}
 use Rattle.std.proofs.lemmas.List.Quantifiers.{all_pairs_push}

@@ -52,13 +52,13 @@ module _ (member : List ℕ) where
   abbrev GivesKey : Club → List ℕ → Command → Result Change OfficeFault → Type 0
   GivesKey club key command verdict =
       is_key_of member (ordered club command verdict).club key ≡ (is_key_of member club key
-          || is_among (key_given member (Ordered command) (ordered club command verdict).reply) key)
+      || is_among (key_given member (Ordered command) (ordered club command verdict).reply) key)
 
   gives_key : (club : Club) (key : List ℕ) (command : Command) → GivesKey club key command (office_verdict club command)
   gives_key club key (AddKey name owner root) =
       order_cases (GivesKey club key (AddKey name owner root)) club (λ fault. or_nothing (is_key_of member club key)) (AddKey name owner root)
       (λ k. is_key_of-added member club (record { name = name; member = owner; root = root; older = None; revoked = false }) key
-          ∙ ap (λ b. is_key_of member club key || b) (go (bytes_eq owner member)))
+      ∙ ap (λ b. is_key_of member club key || b) (go (bytes_eq owner member)))
     where
       go : (b : Bool) → (b && bytes_eq name key) ≡ is_among (cond b (name ∷ []) []) key
       go true = or_nothing (bytes_eq name key)
@@ -77,7 +77,7 @@ module _ (member : List ℕ) where
       ≡ (is_key_of member club key || is_among (key_given member event (step club event).reply) key)
   keys_of_step club key (Asked words moment) =
       ap (λ (keys : List Key). is_key_of member (record club { keys = keys }) key) (answer_keeps club words moment).keys
-          ∙ or_nothing (is_key_of member club key)
+      ∙ or_nothing (is_key_of member club key)
   keys_of_step club key (Ordered command) = gives_key club key command
 
   -- a member's keys after a run are those before and those that the run gave
@@ -92,7 +92,7 @@ module _ (member : List ℕ) where
       ∙ (ap (λ b. b || rest) (keys_of_step club key event)
       ∙ (or_assoc (is_key_of member club key) first rest
       ∙ ap (λ b. is_key_of member club key || b) (sym (list_any-append (λ (k : List ℕ).
-          bytes_eq k key) (key_given member event next.reply) (keys_given member events (replies_of next.club events))))))
+      bytes_eq k key) (key_given member event next.reply) (keys_given member events (replies_of next.club events))))))
     where
       or_assoc : (a b c : Bool) → ((a || b) || c) ≡ (a || (b || c))
       or_assoc true b c = refl
@@ -141,7 +141,7 @@ module _ (name : List ℕ) where
   abbrev Credits : Club → Command → Result Change OfficeFault → Type 0
   Credits club command verdict =
       credit_of (member_named name (ordered club command verdict).club) ≡ credit_of (member_named name club) + credit_accepted name (Ordered command)
-          (ordered club command verdict).reply
+      (ordered club command verdict).reply
 
   as_before : (club : Club) → credit_of (member_named name club) ≡ credit_of (member_named name club) + 0
   as_before club = omega arith
@@ -150,7 +150,7 @@ module _ (name : List ℕ) where
   credits club (AddMember other quota) =
       order_cases (Credits club (AddMember other quota)) club (λ fault. as_before club) (AddMember other quota)
       (λ k. ap credit_of (find-append (λ (m : Member). bytes_eq m.name name) club.members (record { name = other; credited = 0; quota = quota } ∷ []))
-          ∙ go (member_named name club) (bytes_eq other name))
+      ∙ go (member_named name club) (bytes_eq other name))
     where
       go : (o : Option Member) (b : Bool) → credit_of (option_or o (cond b (Some (record { name = other; credited = 0; quota = quota })) None))
           ≡ credit_of o + 0
@@ -160,14 +160,14 @@ module _ (name : List ℕ) where
   credits club (Credit other points) =
       order_cases (Credits club (Credit other points)) club (λ fault. as_before club) (Credit other points)
       (λ k. credit_grown name other points club.members (λ e. subst (λ (n : List ℕ). is_some (find (λ (m : Member). bytes_eq m.name n) club.members)
-          ≡ true) (bytes_same other name e) (ap (λ (o : Option Member). is_some o) k.1)))
+      ≡ true) (bytes_same other name e) (ap (λ (o : Option Member). is_some o) k.1)))
   credits club command = order_cases (Credits club command) club (λ fault. as_before club) command (λ k. as_before club)
 
   credit_of_step : (club : Club) (event : Event) → credit_of (member_named name (step club event).club)
       ≡ credit_of (member_named name club) + credit_accepted name event (step club event).reply
   credit_of_step club (Asked words moment) =
       ap (λ (members : List Member). credit_of (member_named name (record club { members = members }))) (answer_keeps club words moment).members
-          ∙ as_before club
+      ∙ as_before club
   credit_of_step club (Ordered command) = credits club command
 
   -- a member's credit after a run is that before and what the run credited

@@ -24,7 +24,7 @@ some_there (Some x) e = (x, refl)
 pub none_named : {X : Type 0} (name : X → List ℕ) (n : List ℕ) (xs : List X) → find (λ x. bytes_eq (name x) n) xs ≡ None → All (λ x. name x ≢ n) xs
 none_named name n xs e =
     All-each (λ x. bytes_eq (name x) n ≡ false) (λ x. name x ≢ n) xs (λ x f h.
-        both_ways (bytes_eq (name x) n) f (subst (λ (m : List ℕ). bytes_eq (name x) m ≡ true) h (same_bytes (name x))))
+    both_ways (bytes_eq (name x) n) f (subst (λ (m : List ℕ). bytes_eq (name x) m ≡ true) h (same_bytes (name x))))
     (none_found (λ x. bytes_eq (name x) n) xs e)
 
 pub named : {X : Type 0} (name : X → List ℕ) (n : List ℕ) (xs : List X) (x : X) → find (λ y. bytes_eq (name y) n) xs ≡ Some x → name x ≡ n
@@ -52,7 +52,7 @@ pub only_named : {X : Type 0} (name : X → List ℕ) (n : List ℕ) (xs : List 
     → find (λ y. bytes_eq (name y) n) xs ≡ Some x → All (λ y. bytes_eq (name y) n ≡ true → y ≡ x) xs
 only_named name n xs x unique e =
     only_found (λ a b. name a ≢ name b) (λ y. bytes_eq (name y) n) (λ a b h k other.
-        other (bytes_same (name a) n h ∙ sym (bytes_same (name b) n k))) xs x unique e
+    other (bytes_same (name a) n h ∙ sym (bytes_same (name b) n k))) xs x unique e
 
 pub none_passes : {X : Type 0} (p : X → Bool) (xs : List X) → list_any p xs ≡ false → All (λ x. p x ≡ false) xs
 none_passes p [] e = All-nil (λ x. p x ≡ false)
@@ -102,11 +102,11 @@ numbered_back key number booking =
     tests_same (is_numbered key number booking) (bytes_eq key booking.key && number == booking.number)
     (λ e. let same = numbered key number booking e in
     and_from (bytes_eq key booking.key) (number == booking.number) (subst (λ (n : List ℕ). bytes_eq n booking.key ≡ true) same.0 (same_bytes booking.key))
-        (eq-eqb number booking.number (sym same.1)))
+    (eq-eqb number booking.number (sym same.1)))
     (λ e. let parts = and_parts (bytes_eq key booking.key) (number == booking.number) e in
     let same = bytes_same key booking.key parts.0 in
     and_from (is_under key booking) (booking.number == number) (subst (λ (n : List ℕ). bytes_eq n key ≡ true) same (same_bytes key))
-        (eq-eqb booking.number number (sym (eqb-true number booking.number parts.1))))
+    (eq-eqb booking.number number (sym (eqb-true number booking.number parts.1))))
 
 pub self_numbered : (booking : Booking) → is_numbered booking.key booking.number booking ≡ true
 self_numbered booking = and_from (bytes_eq booking.key booking.key) (booking.number == booking.number) (same_bytes booking.key)

@@ -54,8 +54,14 @@ stays_behind bookings new key (asked.View slot) reply h = h
 stays_behind bookings new key (asked.Book slot number guests) reply h =
     record { booking = h.booking; found = found_before (is_numbered key number) bookings (new ∷ []) h.booking h.found; same = h.same; told = h.told }
 stays_behind bookings new key (asked.Cancel slot number) reply h =
-    record { booking = h.booking; found = found_before (is_numbered key number) bookings (new ∷ []) h.booking h.found; same = h.same; before = h.before; told =
-        h.told }
+    record {
+      booking = h.booking;
+      found = found_before (is_numbered key number) bookings (new ∷ []) h.booking h.found;
+      same = h.same;
+      before = h.before;
+      told =
+          h.told;
+    }
 stays_behind bookings new key asked.Account reply h = h
 
 -- nor does a cancellation, which leaves alone what was cancelled
@@ -71,7 +77,7 @@ stays_marked bookings name n refund key (asked.Book slot number guests) reply h 
     }
 stays_marked bookings name n refund key (asked.Cancel slot number) reply h =
     let unmarked : is_marked name n h.booking ≡ false = and_right (is_numbered name n h.booking) (not h.booking.cancelled)
-        (not_from_true h.booking.cancelled h.before) in
+    (not_from_true h.booking.cancelled h.before) in
     record {
       booking = cancelled name n refund h.booking;
       found = found_edited (cancelled name n refund) (is_numbered key number) (λ b. refl) bookings h.booking h.found;
@@ -133,7 +139,7 @@ module _ (club : Club) (words : Words) (moment : ℕ) where
       → HasCancelled (map (cancelled booking.key booking.number refund) club.bookings) key.name slot number (Cancelled booking.key booking.number refund)
   now_cancelled key slot number booking refund c =
       let marked : is_marked booking.key booking.number booking ≡ true = and_from (is_numbered booking.key booking.number booking) (not booking.cancelled)
-          (self_numbered booking) (not_from_false booking.cancelled c.stood) in
+      (self_numbered booking) (not_from_false booking.cancelled c.stood) in
       record {
         booking = cancelled booking.key booking.number refund booking;
         found = found_edited (cancelled booking.key booking.number refund) (is_numbered key.name number) (λ b. refl) club.bookings booking c.found;
@@ -148,17 +154,28 @@ module _ (club : Club) (words : Words) (moment : ℕ) where
       answer_cases (λ (v : Verdict). IsBookedOrCancelled v.reply → IsRecorded (after_change v.change club).bookings words v.reply) club words moment (record {
         silent = λ reply h k. served_or_silent reply h k;
         repeats_booking = λ key member slot number guests booking k e b s.
-            as_booked key.name slot number guests club.bookings (Booked booking.key booking.number booking.charge booking.left) k.named e (record { booking =
-                booking; found = b.found; same = b.same; told = refl });
+            as_booked key.name slot number guests club.bookings (Booked booking.key booking.number booking.charge booking.left) k.named e (record {
+              booking =
+                  booking;
+              found = b.found;
+              same = b.same;
+              told = refl;
+            });
         books = λ key member slot number guests facility k e b s.
             let new : Booking = written club key slot number guests facility in
             as_booked key.name slot number guests (club.bookings ++ new ∷ []) (Booked new.key new.number new.charge new.left) k.named e
             (new_on_record key slot number guests new.charge new.left new refl b.new);
         cancels_recorded = λ key member slot number booking k e b s.
-            as_cancelled key.name slot number club.bookings (Cancelled booking.key booking.number booking.refund) k.named e (record { booking = booking; found =
-                b.found; same = b.same; before = b.before; told = refl });
+            as_cancelled key.name slot number club.bookings (Cancelled booking.key booking.number booking.refund) k.named e (record {
+              booking = booking;
+              found =
+                  b.found;
+              same = b.same;
+              before = b.before;
+              told = refl;
+            });
         cancels = λ key member slot number booking k e c s.
             as_cancelled key.name slot number (map (cancelled booking.key booking.number (refund_at booking moment)) club.bookings)
-                (Cancelled booking.key booking.number (refund_at booking moment)) k.named e
+            (Cancelled booking.key booking.number (refund_at booking moment)) k.named e
             (now_cancelled key slot number booking (refund_at booking moment) c);
       })

@@ -25,8 +25,15 @@ use Rattle.club_laws.proofs.NamedRows.{none_there, some_there}
 abbrev pub change_of : Command → Change
 change_of (AddMember name quota) = InsertMember (record { name = name; credited = 0; quota = quota })
 change_of (Credit name points) = AddCredit name points
-change_of (AddFacility name kind places price opens shuts) = InsertFacility (record { name = name; kind = kind; places = places; price = price; opens =
-    opens; shuts = shuts })
+change_of (AddFacility name kind places price opens shuts) = InsertFacility (record {
+  name = name;
+  kind = kind;
+  places = places;
+  price = price;
+  opens =
+      opens;
+  shuts = shuts;
+})
 change_of (AddKey name member root) = InsertKey (record { name = name; member = member; root = root; older = None; revoked = false })
 change_of (RevokeKey name) = MarkRevoked name
 change_of (RotateKey name root until) = ReplaceRoot name root until
@@ -62,25 +69,25 @@ module _ (P : Result Change OfficeFault → Type 0) (club : Club) (fails : (faul
   close_cases slot (Some facility) e done =
       first_of_cases P
       (line (not (is_open_at facility slot.hour)) (Err OutOfRange) ∷ line (is_closed slot club) (Err Exists)
-          ∷ line (nat_lt 0 (taken_in slot club.bookings)) (Err SlotInUse) ∷ [])
+      ∷ line (nat_lt 0 (taken_in slot club.bookings)) (Err SlotInUse) ∷ [])
       (Ok (MarkClosed slot)) (fails OutOfRange, (fails Exists, (fails SlotInUse, tt))) (λ none. done (facility, e, none.1.0))
 
   pub order_cases : (command : Command) → (OrderRestsOn club command → P (Ok (change_of command))) → P (office_verdict club command)
   order_cases (AddMember name quota) done =
       first_of_cases P (line (nat_lt 99 quota) (Err OutOfRange) ∷ line (is_some (member_named name club)) (Err Exists) ∷ [])
-          (Ok (change_of (AddMember name quota))) (fails OutOfRange, (fails Exists, tt))
+      (Ok (change_of (AddMember name quota))) (fails OutOfRange, (fails Exists, tt))
       (λ none. done (ltb-false 99 quota none.0, none_there (member_named name club) none.1.0))
   order_cases (Credit name points) done =
       first_of_cases P (line (points == 0 || nat_lt 1_000_000 points) (Err OutOfRange) ∷ []) (credit_verdict name points (member_named name club))
-          (fails OutOfRange, tt)
+      (fails OutOfRange, tt)
       (λ none. credit_cases name points (member_named name club) refl done)
   order_cases (AddFacility name kind places price opens shuts) done =
       first_of_cases P (line (not (are_limits places price opens shuts)) (Err OutOfRange) ∷ line (is_some (facility_named name club)) (Err Exists) ∷ [])
-          (Ok (change_of (AddFacility name kind places price opens shuts))) (fails OutOfRange, (fails Exists, tt))
+      (Ok (change_of (AddFacility name kind places price opens shuts))) (fails OutOfRange, (fails Exists, tt))
       (λ none. done (not-false (are_limits places price opens shuts) none.0, none_there (facility_named name club) none.1.0))
   order_cases (AddKey name member root) done =
       first_of_cases P (line (not (is_some (member_named member club))) (Err Unknown) ∷ line (is_some (key_named name club)) (Err Exists) ∷ [])
-          (Ok (change_of (AddKey name member root))) (fails Unknown, (fails Exists, tt))
+      (Ok (change_of (AddKey name member root))) (fails Unknown, (fails Exists, tt))
       (λ none.
       let owner = some_there (member_named member club) (not-false (is_some (member_named member club)) none.0) in
       done (owner.0, owner.1, none_there (key_named name club) none.1.0))

@@ -47,7 +47,7 @@ own_basis_with : (club : Club) (request : Request) (key : Key) (member : Member)
     → with_others (outside member.name club (slot_of request)) (basis_with (part_of member.name club) request key member) ≡ basis_with club request key member
 own_basis_with club request key member =
     ap (λ (bookings : List Booking). basis_of_rows key member bookings (with_outside (outside member.name club (slot_of request))
-        (state_of (part_of member.name club) (slot_of request)))) (own_bookings member.name club)
+    (state_of (part_of member.name club) (slot_of request)))) (own_bookings member.name club)
     ∙ ap (λ (state : SlotState). basis_of_rows key member (bookings_of member.name club) state) (own_state member.name club (slot_of request))
 
 -- the rows of a member's key are in the member's part

@@ -64,7 +64,7 @@ module _ (p : List ℕ → Bool) where
   run_charges club (event ∷ events) =
       let next = step club event in
       moved p (charged p club.bookings) (charged p next.club.bookings) (has_number club.bookings) (has_number next.club.bookings) (charge_told next.reply)
-          (charges_told (replies_of next.club events)) (charged p (club_after next.club events).bookings)
+      (charges_told (replies_of next.club events)) (charged p (club_after next.club events).bookings)
       (step_charges club event) (run_charges next.club events)
 
   run_refunds : (club : Club) (events : List Event) → IsSound club → All IsEvent events
@@ -74,7 +74,7 @@ module _ (p : List ℕ → Bool) where
   run_refunds club (event ∷ events) s h =
       let next = step club event in
       moved p (refunded p club.bookings) (refunded p next.club.bookings) (has_cancelled club.bookings) (has_cancelled next.club.bookings)
-          (refund_told next.reply) (refunds_told (replies_of next.club events)) (refunded p (club_after next.club events).bookings)
+      (refund_told next.reply) (refunds_told (replies_of next.club events)) (refunded p (club_after next.club events).bookings)
       (step_refunds club event s) (run_refunds next.club events (sound_step club event s (All-head IsEvent event events h)) (All-tail IsEvent event events h))
 
 -- where nothing is on record, all first entries count
@@ -103,12 +103,29 @@ cost_and_refund (b ∷ bookings) h =
 
 pub sound_empty : IsSound empty_club
 sound_empty = record {
-  rows = record { members = λ k d h. absurd (omega arith); facilities = λ k d h. absurd (omega arith); keys = λ k d h. absurd (omega arith); bookings =
-      λ k d h. absurd (omega arith); closed = λ k d h. absurd (omega arith) };
-  unique = record { members = λ i j d l h. absurd (omega arith); facilities = λ i j d l h. absurd (omega arith); keys =
-      λ i j d l h. absurd (omega arith); bookings = λ i j d l h. absurd (omega arith); closed = λ i j d l h. absurd (omega arith) };
-  references = record { keys = λ k d h. absurd (omega arith); bookings = λ k d h. absurd (omega arith); booked = λ k d h. absurd (omega arith); closed =
-      λ k d h. absurd (omega arith) };
+  rows = record {
+    members = λ k d h. absurd (omega arith);
+    facilities = λ k d h. absurd (omega arith);
+    keys = λ k d h. absurd (omega arith);
+    bookings =
+        λ k d h. absurd (omega arith);
+    closed = λ k d h. absurd (omega arith);
+  };
+  unique = record {
+    members = λ i j d l h. absurd (omega arith);
+    facilities = λ i j d l h. absurd (omega arith);
+    keys =
+        λ i j d l h. absurd (omega arith);
+    bookings = λ i j d l h. absurd (omega arith);
+    closed = λ i j d l h. absurd (omega arith);
+  };
+  references = record {
+    keys = λ k d h. absurd (omega arith);
+    bookings = λ k d h. absurd (omega arith);
+    booked = λ k d h. absurd (omega arith);
+    closed =
+        λ k d h. absurd (omega arith);
+  };
   balances = λ k d h. absurd (omega arith);
   places = λ k d h. absurd (omega arith);
 }
@@ -125,16 +142,16 @@ conserved events name member h e =
     let found : member_named member.name club ≡ Some member = ap (λ (n : List ℕ). member_named n club) same ∙ e in
     let own : bookings_of member.name club ≡ filter (λ (b : Booking). p b.key) club.bookings =
     filter_agree (λ (b : Booking). is_key_of member.name club b.key) (λ (b : Booking). p b.key) (λ b.
-        keys_of_run member.name empty_club b.key events) club.bookings in
+    keys_of_run member.name empty_club b.key events) club.bookings in
     let charges : charged p club.bookings ≡ 0 + unseen_total p (has_number []) (charges_told replies) = run_charges p empty_club events in
     let refunds : refunded p club.bookings ≡ 0 + unseen_total p (has_cancelled []) (refunds_told replies) = run_refunds p empty_club events sound_empty h in
     let all_charges = all_count keys (has_number []) (charges_told replies) (λ key number. refl) in
     let all_refunds = all_count keys (has_cancelled []) (refunds_told replies) (λ key number. refl) in
     let parts = cost_and_refund (filter (λ (b : Booking). p b.key) club.bookings)
-        (All-filter (λ (b : Booking). p b.key) IsBooking club.bookings s.rows.bookings) in
+    (All-filter (λ (b : Booking). p b.key) IsBooking club.bookings s.rows.bookings) in
     let credit : member.credited ≡ 0 + credits_accepted member.name events replies = sym (ap credit_of found) ∙ credit_of_run member.name empty_club events in
     let costs : sum_by cost_of (bookings_of member.name club) ≡ sum_by cost_of (filter (λ (b : Booking). p b.key) club.bookings) =
-        ap (λ (bookings : List Booking). sum_by cost_of bookings) own in
+    ap (λ (bookings : List Booking). sum_by cost_of bookings) own in
     let covered : sum_by cost_of (bookings_of member.name club) ≤ member.credited =
     at_found (λ (m : Member). sum_by cost_of (bookings_of m.name club) ≤ m.credited) (λ (m : Member). bytes_eq m.name name) club.members member s.balances e in
     record { balanced = omega arith; covered = covered }
@@ -149,7 +166,7 @@ has_places club slot sound = go (facility_named slot.facility club) refl
     go None e = nobody_in club slot sound.references (none_named (λ (f : Facility). f.name) slot.facility club.facilities e)
     go (Some facility) e =
         at_found (λ (f : Facility). (at : Slot) → at.facility ≡ f.name → taken_in at club.bookings ≤ f.places) (λ (f : Facility).
-            bytes_eq f.name slot.facility) club.facilities facility
+        bytes_eq f.name slot.facility) club.facilities facility
         sound.places e slot (sym (named (λ (f : Facility). f.name) slot.facility club.facilities facility e))
 
 pub has_room : (events : List Event) (slot : Slot) → All IsEvent events → MatchOption (facility_named slot.facility (club_after empty_club events))

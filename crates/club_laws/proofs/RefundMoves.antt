@@ -55,7 +55,7 @@ refund_booked p bookings new reply e none stands =
     Stays e
     (sum_one_more (λ (b : Booking). b.refund) (λ (b : Booking). p b.key) bookings new ∙ adds_none (p new.key))
     (λ key number. list_any-append (λ (b : Booking). is_numbered key number b && b.cancelled) bookings (new ∷ [])
-        ∙ ap (λ b. has_cancelled bookings key number || b) (uncounted key number) ∙ or_nothing (has_cancelled bookings key number))
+    ∙ ap (λ b. has_cancelled bookings key number || b) (uncounted key number) ∙ or_nothing (has_cancelled bookings key number))
   where
     adds_none : (b : Bool) → refunded p bookings + cond b new.refund 0 ≡ refunded p bookings
     adds_none true = omega arith
@@ -74,7 +74,7 @@ refund_again : (p : List ℕ → Bool) (bookings : List Booking) (key : List ℕ
 refund_again p bookings key number booking e before =
     Repeats (record { key = booking.key; number = booking.number; points = booking.refund }) refl
     (any_passes (λ (b : Booking). is_numbered booking.key booking.number b
-        && b.cancelled) bookings booking (found_is_there (is_numbered key number) bookings booking e)
+    && b.cancelled) bookings booking (found_is_there (is_numbered key number) bookings booking e)
     (and_from (is_numbered booking.key booking.number booking) booking.cancelled (self_numbered booking) before))
     refl (λ k n. refl)
 
@@ -105,7 +105,7 @@ module _ (p : List ℕ → Bool) (key : List ℕ) (number refund : ℕ) where
       let rest = sum_same back_after back_before bookings
       (All-each (λ (x : Booking). ¬ ((b.key ≡ x.key) × (b.number ≡ x.number))) (λ x. back_after x ≡ back_before x) bookings
       (λ x apart. unmarked_back x (false_from_ne_true (is_numbered key number x) (λ u. let l = numbered key number b t in let r = numbered key number x u in
-          apart (l.0 ∙ sym r.0, l.1 ∙ sym r.1))))
+      apart (l.0 ∙ sym r.0, l.1 ∙ sym r.1))))
       (AllPairs-head (λ (a : Booking) (x : Booking). ¬ ((a.key ≡ x.key) × (a.number ≡ x.number))) b bookings unique)) in
       let here = marked_back b (and_from (is_numbered key number b) (not b.cancelled) t (not_from_false b.cancelled stood)) none in
       let now = sum_by-cons back_after b bookings in
@@ -126,7 +126,7 @@ module _ (p : List ℕ → Bool) (key : List ℕ) (number refund : ℕ) where
   sum_marked (b ∷ bookings) booking unique e stood none =
       go (is_numbered key number b) refl e
       (λ k. sum_marked bookings booking (AllPairs-tail (λ (a : Booking) (x : Booking). ¬ ((a.key ≡ x.key) × (a.number ≡ x.number))) b bookings unique) k stood
-          none)
+      none)
     where
       go : (t : Bool) → is_numbered key number b ≡ t → cond t (Some b) (find (is_numbered key number) bookings) ≡ Some booking
           → (find (is_numbered key number) bookings ≡ Some booking → sum_by back_after bookings ≡ sum_by back_before bookings + cond (p booking.key) refund 0)
@@ -134,7 +134,7 @@ module _ (p : List ℕ → Bool) (key : List ℕ) (number refund : ℕ) where
       go true t k rest =
           let same : booking ≡ b = cc in
           let here = marked_first b bookings unique t (ap (λ (x : Booking). x.cancelled) (sym same) ∙ stood) (ap (λ (x : Booking). x.refund) (sym same)
-              ∙ none) in
+          ∙ none) in
           subst (λ (x : Booking). sum_by back_after (b ∷ bookings) ≡ sum_by back_before (b ∷ bookings) + cond (p x.key) refund 0) (sym same) here
       go false t k rest = marked_later b bookings (cond (p booking.key) refund 0) t (rest k)
 
@@ -163,7 +163,7 @@ module _ (bookings : List Booking) (booking : Booking) (unique : AreUnique booki
       (λ e.
       let parts = and_parts (is_numbered booking.key booking.number b) b.cancelled e in
       let at : is_numbered name n b ≡ true = subst (λ (m : ℕ). is_numbered name m b
-          ≡ true) it.1 (subst (λ (m : List ℕ). is_numbered m booking.number b ≡ true) it.0 parts.0) in
+      ≡ true) it.1 (subst (λ (m : List ℕ). is_numbered m booking.number b ≡ true) it.0 parts.0) in
       both_ways b.cancelled (ap (λ (x : Booking). x.cancelled) (is at) ∙ stood) parts.1))
       (only_numbered name n bookings booking unique found))
 
@@ -176,10 +176,10 @@ module _ (bookings : List Booking) (booking : Booking) (unique : AreUnique booki
       let parts = and_parts (is_numbered key number any.1) (is_marked booking.key booking.number any.1) any.4 in
       let mine = numbered booking.key booking.number any.1 (and_parts (is_numbered booking.key booking.number any.1) (not any.1.cancelled) parts.1).0 in
       subst (λ (k : List ℕ). (bytes_eq k key && booking.number == number)
-          ≡ true) mine.0 (subst (λ (m : ℕ). (bytes_eq any.1.key key && m == number) ≡ true) mine.1 parts.0))
+      ≡ true) mine.0 (subst (λ (m : ℕ). (bytes_eq any.1.key key && m == number) ≡ true) mine.1 parts.0))
       (λ e.
       any_passes (λ (b : Booking). is_numbered key number b && is_marked booking.key booking.number b) bookings booking
-          (found_is_there (is_numbered name n) bookings booking found)
+      (found_is_there (is_numbered name n) bookings booking found)
       (and_from (is_numbered key number booking) (is_marked booking.key booking.number booking) e
       (and_from (is_numbered booking.key booking.number booking) (not booking.cancelled) (self_numbered booking) (not_from_false booking.cancelled stood))))
       ∙ numbered_back key number booking
@@ -190,7 +190,7 @@ refund_new : (p : List ℕ → Bool) (bookings : List Booking) (name : List ℕ)
 refund_new p bookings name n refund booking unique found stood none =
     let it = numbered name n booking (found_passes (is_numbered name n) bookings booking found) in
     let self : find (is_numbered booking.key booking.number) bookings ≡ Some booking = ap (λ (k : List ℕ). find (is_numbered k booking.number) bookings) it.0
-        ∙ (ap (λ (m : ℕ). find (is_numbered name m) bookings) it.1 ∙ found) in
+    ∙ (ap (λ (m : ℕ). find (is_numbered name m) bookings) it.1 ∙ found) in
     let own : Booking → Bool = λ (b : Booking). p b.key in
     Adds (record { key = booking.key; number = booking.number; points = refund }) refl
     (none_cancelled bookings booking unique name n found stood)

@@ -43,7 +43,7 @@ seen_booking club words moment basis key is named =
     (λ number.
     ap (λ (b : Basis). booking_under basis.key.name number b.bookings) rests.whole
     ∙ (own_booking club words basis.key basis.member number (known_rows club words basis is)
-        ∙ ap (λ (name : List ℕ). booking_under name number club.bookings) same))
+    ∙ ap (λ (name : List ℕ). booking_under name number club.bookings) same))
     (number_of words.request)
 
 recorded-some : (o : Option Booking) (booking : Booking) (f : Booking → Verdict) (other : Verdict) → o ≡ Some booking
@@ -56,21 +56,21 @@ decides_by_record : (bookings : List Booking) (key : List ℕ) (request : Reques
 decides_by_record bookings key (asked.View slot) reply view moment h e = absurd h
 decides_by_record bookings key (asked.Book slot number guests) reply view moment h e =
     recorded-some view.booking h.booking (λ booking. verdicts.repeat_booking_verdict booking slot guests)
-        (verdicts.new_verdict view slot number guests moment view.facility) (e ∙ h.found)
+    (verdicts.new_verdict view slot number guests moment view.facility) (e ∙ h.found)
     ∙ (cond-true (same_slot h.booking.slot slot && h.booking.guests == guests) (verdicts.booked_before h.booking) (verdicts.refused refusals.NumberUsed) h.same
     ∙ ap verdicts.told (sym h.told))
 decides_by_record bookings key (asked.Cancel slot number) reply view moment h e =
     recorded-some view.booking h.booking (λ booking. verdicts.cancel_recorded_verdict booking slot moment) (verdicts.unknown_verdict view.facility) (e
-        ∙ h.found)
+    ∙ h.found)
     ∙ (told_recorded h.booking h.same h.before ∙ ap verdicts.told (sym h.told))
   where
     told_recorded : (booking : Booking) → same_slot booking.slot slot ≡ true → booking.cancelled ≡ true
         → verdicts.cancel_recorded_verdict booking slot moment ≡ verdicts.cancelled_before booking
     told_recorded booking same before =
         let late : Verdict = cond (nat_le (start_of booking.slot) moment) (verdicts.refused refusals.SlotHasBegun)
-            (verdicts.cancelled booking (refund_at booking moment)) in
+        (verdicts.cancelled_now booking (refund_at booking moment)) in
         cond-false (not (same_slot booking.slot slot)) (verdicts.refused refusals.NumberUsed) (cond booking.cancelled (verdicts.cancelled_before booking) late)
-            (not_from_true (same_slot booking.slot slot) same)
+        (not_from_true (same_slot booking.slot slot) same)
         ∙ cond-true booking.cancelled (verdicts.cancelled_before booking) late before
 decides_by_record bookings key asked.Account reply view moment h e = absurd h
 
@@ -89,7 +89,7 @@ told_by_record club words moment reply r a =
     ap (told_and_changed club)
     (accepted_answer club words moment a
     ∙ decides_by_record club.bookings r.key words.request reply (view_of a.basis words.request moment) moment r.on_record
-        (seen_booking club words moment a.basis r.key a.known r.named))
+    (seen_booking club words moment a.basis r.key a.known r.named))
 
 -- what was served within a history is on record after it
 pub recorded_since : (club : Club) (history : List Event) (words : Words) (reply : Reply) → WasServed club history words reply
@@ -102,7 +102,7 @@ recorded_since club history words reply w =
     let first : IsRecorded then.bookings w.first verdict.reply = recorded_when_served start w.first w.moment (subst IsBookedOrCancelled (sym told) w.served) in
     let later = stays_on_record then w.rest first.key w.first.request verdict.reply first.on_record in
     let end : club_after club history ≡ club_after then w.rest = ap (club_after club) w.place
-        ∙ club_after-append club w.front (Asked w.first w.moment ∷ w.rest) in
+    ∙ club_after-append club w.front (Asked w.first w.moment ∷ w.rest) in
     record {
       key = first.key;
       named = w.same_key ∙ first.named;

@@ -54,7 +54,7 @@ now_revoked : (club : Club) (name : List ℕ) → (step club (Ordered (RevokeKey
 now_revoked club name =
     let order = RevokeKey name in
     order_cases (λ (v : Result Change OfficeFault). (ordered club order v).reply ≡ Answered Done
-        → IsRevoked name (ordered club order v).club) club (λ fault told. absurd (cc)) order
+    → IsRevoked name (ordered club order v).club) club (λ fault told. absurd (cc)) order
     (λ r told. record {
       key = revoked name r.0;
       row = found_edited (revoked name) (λ (k : Key). bytes_eq k.name name) (λ k. refl) club.keys r.0 r.1;

@@ -1,6 +1,6 @@
 -- What a served request shows of its pass.
-use Rattle.std.proofs.Common.{◌≡◌, ℕ, ◌+◌, Bool, true, false, not, cond, List, [], ◌∷◌, ◌++◌, Option, Some, None, Result, Ok, Err, option_map, option_and_then,
-    All, refl, sym, ap, ◌∙◌, subst}
+use Rattle.std.proofs.Common.{◌≡◌, ℕ, ◌+◌, Bool, true, false, not, cond, List, [], ◌∷◌, ◌++◌, Option, Some, None, Result, Ok, Err, option_map, option_and_then}
+use Rattle.std.proofs.Common.{All, refl, sym, ap, ◌∙◌, subst}
 use Rattle.std.proofs.lemmas.Bool.{not-false, false_from_ne_true}
 use Rattle.std.proofs.lemmas.Option.{same_Some}
 use Rattle.std.proofs.lemmas.List.Elements.{All-nil, All-cons}
@@ -113,7 +113,7 @@ refused_unsigned pass request moment None unsigned = refl
 refused_unsigned pass request moment (Some view) unsigned =
     let lines : Bool → Verdict =
     λ signed. cond (not signed) (refused NotVerified) (cond view.key.revoked (refused KeyRevoked)
-        (after_caveats (first_fault_of pass.caveats (ask_of view request moment)) (verdict_of view request moment)))
+    (after_caveats (first_fault_of pass.caveats (ask_of view request moment)) (verdict_of view request moment)))
     in
     ap lines (unsigned view refl)
 
@@ -138,7 +138,7 @@ unsigned_in signature words moment club pass key e n row unsigned =
     ap (λ (p : Result Pass FormFault). answer_to p words.request moment view) e
     ∙ refused_unsigned pass words.request moment view
     (λ v is. subst (λ (k : Key). is_signed_under pass k moment ≡ false) (seen_key club words moment key (ap key_of e ∙ n) row (basis_of club words) refl v is)
-        is_false)
+    is_false)
 
 -- a pass with more caveats, under one view
 wide_under : (wide narrow : Pass) (more : List (Option Caveat)) (request : Request) (moment : ℕ) (view : Option View) → narrow.caveats ≡ wide.caveats ++ more
@@ -171,4 +171,4 @@ wide_in signature wide narrow more key request moment club w n e row signed h =
     ((signature wide key moment).1 signed)
     in
     ap (λ (b : Option Basis). answer_to (Ok wide) request moment (seen b)) same
-        ∙ wide_under wide narrow more request moment (seen (basis_of club words)) e of_row h
+    ∙ wide_under wide narrow more request moment (seen (basis_of club words)) e of_row h

@@ -21,7 +21,7 @@ one_more (OwnChange change ∷ []) part next reply rest told f e = e ∙ ap (λ 
 one_more (OwnAsk words moment others ∷ []) part next reply rest told f e =
     ap (λ (r : EventReply). r ∷ told) f.0
     ∙ ap (λ (replies : List EventReply). Replied (solo_verdict part words moment others).reply ∷ replies) (e
-        ∙ ap (λ (p : Club). map Replied (solo_replies p rest)) f.1)
+    ∙ ap (λ (p : Club). map Replied (solo_replies p rest)) f.1)
 one_more (OwnChange change ∷ other ∷ more) part next reply rest told f e = absurd f
 one_more (OwnAsk words moment others ∷ other ∷ more) part next reply rest told f e = absurd f
 
@@ -84,5 +84,5 @@ part_at_end name club [] keyed = refl
 part_at_end name club (event ∷ events) keyed =
     let next = (step club event).club in
     one_more_part (own_part name club event) (part_of name club) (part_of name next) (step club event).reply (own_events name next events)
-        (follows name club event keyed)
+    (follows name club event keyed)
     ∙ part_at_end name next events (keyed_step club event keyed)

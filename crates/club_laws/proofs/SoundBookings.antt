@@ -24,7 +24,7 @@ pub sum_one_more : {X : Type 0} (f : X → ℕ) (p : X → Bool) (xs : List X) (
     → sum_by f (filter p (xs ++ x ∷ [])) ≡ sum_by f (filter p xs) + cond (p x) (f x) 0
 sum_one_more {X} f p xs x =
     ap (λ (ys : List X). sum_by f ys) (filter-append p xs (x ∷ [])) ∙ (sum_by-append f (filter p xs) (filter p (x ∷ []))
-        ∙ ap (λ n. sum_by f (filter p xs) + n) (go (p x)))
+    ∙ ap (λ n. sum_by f (filter p xs) + n) (go (p x)))
   where
     go : (b : Bool) → sum_by f (cond b (x ∷ []) []) ≡ cond b (f x) 0
     go true = omega arith
@@ -41,7 +41,7 @@ sound_booking club booking s f =
     let names = all_pairs_push (λ (a : Booking) (b : Booking). ¬ ((a.key ≡ b.key) × (a.number ≡ b.number))) club.bookings booking s.unique.bookings f.fresh in
     let known = All-push (λ (b : Booking). Contains (map (λ (k : Key). k.name) club.keys) b.key) club.bookings booking s.references.bookings f.known in
     let located = All-push (λ (b : Booking). Contains (map (λ (g : Facility). g.name) club.facilities) b.slot.facility) club.bookings booking
-        s.references.booked f.located in
+    s.references.booked f.located in
     record {
       rows = record { members = s.rows.members; facilities = s.rows.facilities; keys = s.rows.keys; bookings = limits; closed = s.rows.closed };
       unique = record { members = s.unique.members; facilities = s.unique.facilities; keys = s.unique.keys; bookings = names; closed = s.unique.closed };
@@ -55,7 +55,7 @@ sound_booking club booking s f =
           let facility = get_or club.facilities k d in
           subst (λ n. n ≤ facility.places) (sym (sum_one_more persons_of (is_in slot) club.bookings booking))
           (covered (is_in slot booking) (taken_in slot club.bookings) (persons_of booking) facility.places (f.placed k d short slot at)
-              (s.places k d short slot at));
+          (s.places k d short slot at));
     }
 
 -- a row that was marked, or stayed as it was
@@ -77,8 +77,17 @@ module _ (key : List ℕ) (number refund : ℕ) (booking : Booking) (row : IsBoo
       rw parts.1 (row.kept parts.0)
 
   pub cancelled_row : IsBooking (cancelled key number refund booking)
-  cancelled_row = record { key = row.key; number = row.number; slot = row.slot; guests = row.guests; charge = row.charge; left = row.left; refund =
-      refund_small; kept = refund_kept }
+  cancelled_row = record {
+    key = row.key;
+    number = row.number;
+    slot = row.slot;
+    guests = row.guests;
+    charge = row.charge;
+    left = row.left;
+    refund =
+        refund_small;
+    kept = refund_kept;
+  }
 
   pub costs_no_more : cost_of (cancelled key number refund booking) ≤ cost_of booking
   costs_no_more = go (is_marked key number booking) (λ e. row.kept (stood e))
@@ -101,13 +110,13 @@ pub sound_cancellation : (club : Club) (key : List ℕ) (number refund : ℕ) �
     → IsSound (record club { bookings = map (cancelled key number refund) club.bookings })
 sound_cancellation club key number refund s f =
     let limits = All-map IsBooking (cancelled key number refund) club.bookings (λ k d short.
-        cancelled_row key number refund (get_or club.bookings k d) (s.rows.bookings k d short) (f.covered k d short)) in
+    cancelled_row key number refund (get_or club.bookings k d) (s.rows.bookings k d short) (f.covered k d short)) in
     let names = AllPairs-map (cancelled key number refund) (λ (a : Booking) (b : Booking). ¬ ((a.key ≡ b.key)
-        × (a.number ≡ b.number))) (λ (a : Booking) (b : Booking). ¬ ((a.key ≡ b.key) × (a.number ≡ b.number))) (λ a b h. h) club.bookings s.unique.bookings in
+    × (a.number ≡ b.number))) (λ (a : Booking) (b : Booking). ¬ ((a.key ≡ b.key) × (a.number ≡ b.number))) (λ a b h. h) club.bookings s.unique.bookings in
     let known = All-map (λ (b : Booking). Contains (map (λ (k : Key). k.name) club.keys) b.key) (cancelled key number refund) club.bookings
-        s.references.bookings in
+    s.references.bookings in
     let located = All-map (λ (b : Booking). Contains (map (λ (g : Facility). g.name) club.facilities) b.slot.facility) (cancelled key number refund)
-        club.bookings s.references.booked in
+    club.bookings s.references.booked in
     record {
       rows = record { members = s.rows.members; facilities = s.rows.facilities; keys = s.rows.keys; bookings = limits; closed = s.rows.closed };
       unique = record { members = s.unique.members; facilities = s.unique.facilities; keys = s.unique.keys; bookings = names; closed = s.unique.closed };
@@ -121,12 +130,12 @@ sound_cancellation club key number refund s f =
     balance member h =
         let own : Booking → Bool = λ (b : Booking). is_key_of member.name club b.key in
         let now = sum-filter cost_of own (map (cancelled key number refund) club.bookings)
-            ∙ sum-map (cancelled key number refund) (λ (b : Booking). cond (own b) (cost_of b) 0) club.bookings in
+        ∙ sum-map (cancelled key number refund) (λ (b : Booking). cond (own b) (cost_of b) 0) club.bookings in
         let old = sum-filter cost_of own club.bookings in
         let less = sum_less (λ (b : Booking). cond (own b) (cost_of (cancelled key number refund b)) 0) (λ (b : Booking).
-            cond (own b) (cost_of b) 0) club.bookings
+        cond (own b) (cost_of b) 0) club.bookings
         (λ k d short. both (own (get_or club.bookings k d)) _ _ (costs_no_more key number refund (get_or club.bookings k d) (s.rows.bookings k d short)
-            (f.covered k d short))) in
+        (f.covered k d short))) in
         omega arith
       where
         both : (b : Bool) (m n : ℕ) → m ≤ n → cond b m 0 ≤ cond b n 0
@@ -137,9 +146,9 @@ sound_cancellation club key number refund s f =
         → taken_in slot (map (cancelled key number refund) club.bookings) ≤ facility.places
     place facility slot h =
         let now = sum-filter persons_of (is_in slot) (map (cancelled key number refund) club.bookings)
-            ∙ sum-map (cancelled key number refund) (λ (b : Booking). cond (is_in slot b) (persons_of b) 0) club.bookings in
+        ∙ sum-map (cancelled key number refund) (λ (b : Booking). cond (is_in slot b) (persons_of b) 0) club.bookings in
         let old = sum-filter persons_of (is_in slot) club.bookings in
         let less = sum_less (λ (b : Booking). cond (is_in slot (cancelled key number refund b)) (persons_of b) 0) (λ (b : Booking).
-            cond (is_in slot b) (persons_of b) 0) club.bookings
+        cond (is_in slot b) (persons_of b) 0) club.bookings
         (λ k d short. takes_no_more key number refund slot (get_or club.bookings k d)) in
         omega arith

@@ -36,7 +36,7 @@ nothing_booked club member refs fresh =
     let names = map (λ (m : Member). m.name) club.members in
     let no_key : All (λ (key : Key). bytes_eq key.member member.name ≡ false) club.keys =
     λ k d short. other_bytes _ member.name (All-contains (λ (name : List ℕ).
-        name ≢ member.name) names _ (All-map (λ (name : List ℕ). name ≢ member.name) (λ (m : Member). m.name) club.members fresh) (refs.keys k d short)) in
+    name ≢ member.name) names _ (All-map (λ (name : List ℕ). name ≢ member.name) (λ (m : Member). m.name) club.members fresh) (refs.keys k d short)) in
     let no_keys : keys_of member.name club ≡ [] = filter_none (λ (key : Key). bytes_eq key.member member.name) club.keys no_key in
     let none : bookings_of member.name club ≡ [] =
     filter_none (λ (booking : Booking). is_key_of member.name club booking.key) club.bookings
@@ -48,7 +48,7 @@ sound_member club member s f =
     let limits = All-push IsMember club.members member s.rows.members f.row in
     let names = all_pairs_push (λ (a : Member) (b : Member). a.name ≢ b.name) club.members member s.unique.members f.fresh in
     let known = still_all (λ (m : Member). m.name) club.members (club.members ++ member ∷ []) (λ (k : Key).
-        k.member) club.keys (still_there (λ (m : Member). m.name) club.members member) s.references.keys in
+    k.member) club.keys (still_there (λ (m : Member). m.name) club.members member) s.references.keys in
     record {
       rows = record { members = limits; facilities = s.rows.facilities; keys = s.rows.keys; bookings = s.rows.bookings; closed = s.rows.closed };
       unique = record { members = names; facilities = s.unique.facilities; keys = s.unique.keys; bookings = s.unique.bookings; closed = s.unique.closed };
@@ -74,11 +74,11 @@ pub sound_credit : (club : Club) (name : List ℕ) (points : ℕ) → IsSound cl
     → IsSound (record club { members = map (credited name points) club.members })
 sound_credit club name points s f =
     let limits = All-map IsMember (credited name points) club.members (λ k d short.
-        credited_row name points _ (f.small k d short) (s.rows.members k d short)) in
+    credited_row name points _ (f.small k d short) (s.rows.members k d short)) in
     let names = AllPairs-map (credited name points) (λ (a : Member) (b : Member). a.name ≢ b.name) (λ (a : Member) (b : Member). a.name ≢ b.name) (λ a b h.
-        h) club.members s.unique.members in
+    h) club.members s.unique.members in
     let known = still_all (λ (m : Member). m.name) club.members (map (credited name points) club.members) (λ (k : Key). k.member) club.keys (λ n h.
-        rw (map-map (λ (m : Member). m.name) (credited name points) club.members) h) s.references.keys in
+    rw (map-map (λ (m : Member). m.name) (credited name points) club.members) h) s.references.keys in
     record {
       rows = record { members = limits; facilities = s.rows.facilities; keys = s.rows.keys; bookings = s.rows.bookings; closed = s.rows.closed };
       unique = record { members = names; facilities = s.unique.facilities; keys = s.unique.keys; bookings = s.unique.bookings; closed = s.unique.closed };
@@ -99,8 +99,8 @@ nobody_in club slot refs fresh =
     away : (booking : Booking) → Contains (map (λ (f : Facility). f.name) club.facilities) booking.slot.facility → is_in slot booking ≡ false
     away booking there =
         let other : booking.slot.facility ≢ slot.facility = All-contains (λ (name : List ℕ).
-            name ≢ slot.facility) (map (λ (f : Facility). f.name) club.facilities) booking.slot.facility
-            (All-map (λ (name : List ℕ). name ≢ slot.facility) (λ (f : Facility). f.name) club.facilities fresh) there in
+        name ≢ slot.facility) (map (λ (f : Facility). f.name) club.facilities) booking.slot.facility
+        (All-map (λ (name : List ℕ). name ≢ slot.facility) (λ (f : Facility). f.name) club.facilities fresh) there in
         and_right (not booking.cancelled) (same_slot booking.slot slot)
         (and_left (bytes_eq booking.slot.facility slot.facility && booking.slot.day == slot.day) (booking.slot.hour == slot.hour)
         (and_left (bytes_eq booking.slot.facility slot.facility) (booking.slot.day == slot.day) (other_bytes booking.slot.facility slot.facility other)))
@@ -176,8 +176,13 @@ sound_revoked club name s =
     (All-map IsKey (revoked name) club.keys (λ k d short. revoked_row name _ (s.rows.keys k d short)))
 
 rotated_row : (name root : List ℕ) (until : ℕ) (key : Key) → FitsRotation root until → IsKey key → IsKey (rotated name root until key)
-rotated_row name root until key f row = record { name = row.name; member = row.member; root = new (bytes_eq key.name name); older =
-    old (bytes_eq key.name name) }
+rotated_row name root until key f row = record {
+  name = row.name;
+  member = row.member;
+  root = new (bytes_eq key.name name);
+  older =
+      old (bytes_eq key.name name);
+}
   where
     new : (b : Bool) → IsRoot (cond b root key.root)
     new true = f.root
@@ -198,7 +203,7 @@ sound_closed club slot s f =
     let limits = All-push IsSlot club.closed slot s.rows.closed f.row in
     let names = all_pairs_push (λ (a : Slot) (b : Slot). a ≢ b) club.closed slot s.unique.closed f.fresh in
     let known = All-push (λ (other : Slot). Contains (map (λ (g : Facility). g.name) club.facilities) other.facility) club.closed slot s.references.closed
-        f.located in
+    f.located in
     record {
       rows = record { members = s.rows.members; facilities = s.rows.facilities; keys = s.rows.keys; bookings = s.rows.bookings; closed = limits };
       unique = record { members = s.unique.members; facilities = s.unique.facilities; keys = s.unique.keys; bookings = s.unique.bookings; closed = names };

@@ -4,7 +4,7 @@ use Rattle.club_core.specs.declared.command.Command.TheVariants.{AddKey}
 use Rattle.club_core.specs.declared.reply.Reply.TheVariants.{Booked, Cancelled}
 use Rattle.club_core.specs.declared.request.Request.{Request}
 use Rattle.club_core.specs.declared.request.Request.TheVariants as asked
-use Rattle.club_core.specs.Examples.{opened_club, root, slot_at, noon, late, ask, booked, account}
+use Rattle.club_core.specs.Examples.{opened_club, root, slot_at, noon, late, ask, served_booking, account}
 use Rattle.club_core.specs.declared.event.EventReply.TheVariants.{Replied, Answered}
 use Rattle.club_core.specs.declared.event.OfficeAnswer.TheVariants.{NewKey}
 use Rattle.club_core.specs.Run.{Event, Asked, Ordered, replies_of}
@@ -31,8 +31,8 @@ abbrev pub CountsOverAllKeys : Type 0
 CountsOverAllKeys =
     replies_of opened_club some_bookings
     ≡ Answered (NewKey (codes "amy-2") root)
-    ∷ booked 7 200 3
-    ∷ booked 8 200 3
+    ∷ served_booking 7 200 3
+    ∷ served_booking 8 200 3
     ∷ Replied (Booked (codes "amy-2") 7 200 3)
     ∷ Replied (Booked (codes "amy-2") 8 200 3)
     ∷ Replied (Cancelled (codes "amy-2") 8 200)

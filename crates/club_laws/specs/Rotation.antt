@@ -6,7 +6,7 @@ use Rattle.club_core.specs.declared.refusal.Refusal.TheVariants as refusals
 use Rattle.club_core.specs.declared.reply.Reply.TheVariants.{Refused}
 use Rattle.club_core.specs.declared.request.Request.{Request}
 use Rattle.club_core.specs.declared.request.Request.TheVariants as asked
-use Rattle.club_core.specs.Examples.{opened_club, root, slot_at, noon, late, booked, account}
+use Rattle.club_core.specs.Examples.{opened_club, root, slot_at, noon, late, served_booking, account}
 use Rattle.club_core.specs.declared.event.EventReply.TheVariants.{Replied, Answered}
 use Rattle.club_core.specs.declared.event.OfficeAnswer.TheVariants.{Done, NewKey}
 use Rattle.club_core.specs.Run.{Event, Asked, Ordered, replies_of}
@@ -44,11 +44,11 @@ RepeatsUnderANewRoot =
     ∷ ask_under second_root (asked.Book (slot_at 18) 7 2) late
     ∷ ask_under second_root asked.Account midnight
     ∷ [])
-    ≡ booked 7 600 1
+    ≡ served_booking 7 600 1
     ∷ Answered (NewKey (codes "amy-1") second_root)
     ∷ account 9_400 1 600
     ∷ Replied (Refused refusals.NotVerified)
-    ∷ booked 7 600 1
+    ∷ served_booking 7 600 1
     ∷ account 9_400 1 600
     ∷ []
 

@@ -6,7 +6,7 @@ use Rattle.club_core.specs.declared.request.Request.TheVariants as asked
 use Rattle.club_core.specs.Club.{empty_club}
 use Rattle.club_core.specs.declared.event.EventReply.{EventReply}
 use Rattle.club_core.specs.Run.{Event, Asked, Ordered, replies_of}
-use Rattle.club_core.specs.Examples.{opening, root, slot_at, noon, ask, booked, account, cancelled}
+use Rattle.club_core.specs.Examples.{opening, root, slot_at, noon, ask, served_booking, account, served_cancellation}
 use Rattle.club_laws.specs.SoloLaw.{replies_to}
 
 -- the replies to amy's requests in a run that begins before she is a member
@@ -26,7 +26,7 @@ amy_alone =
     opening ++ ask (asked.Book (slot_at 18) 7 2) noon ∷ ask asked.Account noon ∷ ask (asked.Cancel (slot_at 18) 7) noon ∷ []
 
 abbrev pub AnswersAmyAlone : Type 0
-AnswersAmyAlone = told_to_amy amy_alone ≡ booked 7 600 1 ∷ account 9_400 1 600 ∷ cancelled 7 600 ∷ []
+AnswersAmyAlone = told_to_amy amy_alone ≡ served_booking 7 600 1 ∷ account 9_400 1 600 ∷ served_cancellation 7 600 ∷ []
 
 -- the same where bob books other slots and hers, under her number too, leaves hers, is credited, gets a key, and has one revoked,
 -- and the office closes another slot
@@ -64,4 +64,4 @@ TellsAmyOfATakenPlace =
     ∷ ask asked.Account noon
     ∷ ask (asked.Cancel (slot_at 18) 7) noon
     ∷ [])
-    ≡ booked 7 600 0 ∷ account 9_400 1 600 ∷ cancelled 7 600 ∷ []
+    ≡ served_booking 7 600 0 ∷ account 9_400 1 600 ∷ served_cancellation 7 600 ∷ []

@@ -1,6 +1,14 @@
 //! The laws over runs in which some events failed, in what is told. `O` is what a desk tells the office.
 
-ghost use Rattle.club_laws.specs.AsTold.{ConservesPointsAsTold, NeverOverbooksAsTold, SoloLawAsTold, SoloLawOfTwoAsTold, SoundAsTold, TellsAgainAfterOneMore, TellsRepeatsTheSame};
+ghost use Rattle.club_laws.specs.AsTold.{
+  ConservesPointsAsTold,
+  NeverOverbooksAsTold,
+  SoloLawAsTold,
+  SoloLawOfTwoAsTold,
+  SoundAsTold,
+  TellsAgainAfterOneMore,
+  TellsRepeatsTheSame,
+};
 
 /// A run from a sound club leaves a sound one.
 pub fn keeps_sound<O>()

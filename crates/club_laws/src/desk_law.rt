@@ -1,6 +1,13 @@
 //! The law of the desk: what a reply depends on, and where it is served.
 
-ghost use Rattle.club_laws.specs.DeskLaw.{AnswersFormsAlike, DependsOnTheBasisAlone, MoreCaveatsNeverOpenMore, RefusesTheUnsigned, RefusesWithoutABasis, ServesOnlyTheEntitled};
+ghost use Rattle.club_laws.specs.DeskLaw.{
+  AnswersFormsAlike,
+  DependsOnTheBasisAlone,
+  MoreCaveatsNeverOpenMore,
+  RefusesTheUnsigned,
+  RefusesWithoutABasis,
+  ServesOnlyTheEntitled,
+};
 ghost use Rattle.club_laws.specs.Revoked.{ServesNoRevokedKey};
 
 use club_core::laws::tests_the_signature;

@@ -28,8 +28,8 @@ use Rattle.club_core.specs.declared.form_fault.FormFault.{FormFault}
 use Rattle.club_core.specs.Pass.{Pass, Words, is_signed_under}
 use Rattle.club_core.specs.Club.{Club, member_named, facility_named, key_named, is_key_of, bookings_of}
 use Rattle.club_core.specs.Sums.{taken_in, cost_of, is_under, spent_under, balance_of}
-use Rattle.club_core.specs.Verdict.{told, refused, booked, booked_before, cancelled, cancelled_before, new_booking, new_verdict, repeat_booking_verdict,
-    cancel_recorded_verdict, shown_at, unknown_verdict, recorded_or, verdict_of}
+use Rattle.club_core.specs.Verdict.{told, refused, booked, booked_before, cancelled_now, cancelled_before, new_booking, new_verdict, repeat_booking_verdict}
+use Rattle.club_core.specs.Verdict.{cancel_recorded_verdict, shown_at, unknown_verdict, recorded_or, verdict_of}
 use Rattle.club_core.specs.Basis.{SlotState, Basis, state_of, view_of, basis_under, basis_of, key_of}
 use Rattle.club_core.specs.Request.{slot_of}
 use Rattle.club_core.specs.declared.slot_use.SlotUse.{SlotUse}
@@ -64,14 +64,14 @@ spent_le : (club : Club) (name : List ℕ) (key : Key) (member : Member) → key
     → spent_under key.name club.bookings ≤ sum_by cost_of (bookings_of member.name club)
 spent_le club name key member found owner =
     let same : member.name ≡ key.member = bytes_eq_true member.name key.member
-        (found_passes (λ (m : Member). bytes_eq m.name key.member) club.members member owner) in
+    (found_passes (λ (m : Member). bytes_eq m.name key.member) club.members member owner) in
     let held : is_key_of member.name club key.name ≡ true =
     found_kept (λ (k : Key). bytes_eq k.name name) (λ (k : Key). bytes_eq k.member member.name) (λ (k : Key).
-        bytes_eq k.name key.name) club.keys key found (rw same (bytes_eq_refl key.member)) (bytes_eq_refl key.name) in
+    bytes_eq k.name key.name) club.keys key found (rw same (bytes_eq_refl key.member)) (bytes_eq_refl key.name) in
     let le : total cost_of (is_under key.name) club.bookings ≤ total cost_of (λ (b : Booking). is_key_of member.name club b.key) club.bookings =
     total_le cost_of (is_under key.name) (λ (b : Booking). is_key_of member.name club b.key) club.bookings (λ b.
     part_le (is_under key.name b) (is_key_of member.name club b.key) (cost_of b) (λ e.
-        subst (λ k. is_key_of member.name club k ≡ true) (sym (bytes_eq_true b.key key.name e)) held)) in
+    subst (λ k. is_key_of member.name club k ≡ true) (sym (bytes_eq_true b.key key.name e)) held)) in
     rw (total_is cost_of (is_under key.name) club.bookings, total_is cost_of (λ (b : Booking). is_key_of member.name club b.key) club.bookings) le
 
 -- a booking that has place and points
@@ -81,9 +81,9 @@ fits_booked : (club : Club) (name : List ℕ) (key : Key) (member : Member) (fac
     → booking.charge ≤ balance_of member (bookings_of member.name club) → FitsWidths (after (InsertBooking booking) club)
 fits_booked club name key member facility booking h found owner place under none room points =
     let places : facility.places ≤ 50 = found_holds (λ (f : Facility). f.places ≤ 50) (λ (f : Facility).
-        bytes_eq f.name booking.slot.facility) club.facilities facility h.places place in
+    bytes_eq f.name booking.slot.facility) club.facilities facility h.places place in
     let top : member.credited ≤ 999_999_999 = found_holds (λ (m : Member). m.credited ≤ 999_999_999) (λ (m : Member).
-        bytes_eq m.name key.member) club.members member h.credited owner in
+    bytes_eq m.name key.member) club.members member h.credited owner in
     let le : spent_under booking.key club.bookings ≤ sum_by cost_of (bookings_of member.name club) = rw under (spent_le club name key member found owner) in
     let most : spent_under booking.key club.bookings ≤ 999_999_999 = h.spent booking.key in
     fits_insert_booking club booking h (omega arith) (omega arith) (λ _. none)
@@ -104,14 +104,14 @@ keeps_new club name key member view slot number guests moment (Some facility) h 
     let full : view.taken + guests + 1 ≤ facility.places = ltb-false facility.places (view.taken + guests + 1) has_room in
     let room : taken_in slot club.bookings + guests + 1 ≤ facility.places = omega arith in
     let points : charge_of facility guests ≤ balance_of member (bookings_of member.name club) =
-        rw (← balance) (ltb-false view.balance (charge_of facility guests) has_points) in
+    rw (← balance) (ltb-false view.balance (charge_of facility guests) has_points) in
     let under : booking.key ≡ key.name = ap (λ (k : Key). k.name) same in
     keeps_change club _ (InsertBooking booking) (fits_booked club name key member facility booking h found owner place under refl room points))))))
 
 keeps_repeat : (club : Club) (booking : Booking) (slot : Slot) (guests : ℕ) → Keeps club (repeat_booking_verdict booking slot guests)
 keeps_repeat club booking slot guests =
     keep club (same_slot booking.slot slot && booking.guests == guests) (booked_before booking) (refused refusals.NumberUsed) (keeps_told club _) (λ e.
-        keeps_told club _)
+    keeps_told club _)
 
 -- a cancellation
 keeps_cancel : (club : Club) (booking : Booking) (slot : Slot) (moment : ℕ) → FitsWidths club → Keeps club (cancel_recorded_verdict booking slot moment)
@@ -119,14 +119,14 @@ keeps_cancel club booking slot moment h =
     let refund = refund_at booking moment in
     let begun = line (nat_le (start_of booking.slot) moment) (refused refusals.SlotHasBegun) in
     let again = line booking.cancelled (cancelled_before booking) in
-    keep club (not (same_slot booking.slot slot)) (refused refusals.NumberUsed) (first_of (again ∷ begun ∷ []) (cancelled booking refund))
-        (keeps_told club (Refused refusals.NumberUsed)) (λ e.
-    keep club booking.cancelled (cancelled_before booking) (first_of (begun ∷ []) (cancelled booking refund))
-        (keeps_told club (Cancelled booking.key booking.number booking.refund)) (λ f.
-    keep club (nat_le (start_of booking.slot) moment) (refused refusals.SlotHasBegun) (cancelled booking refund)
-        (keeps_told club (Refused refusals.SlotHasBegun)) (λ g.
+    keep club (not (same_slot booking.slot slot)) (refused refusals.NumberUsed) (first_of (again ∷ begun ∷ []) (cancelled_now booking refund))
+    (keeps_told club (Refused refusals.NumberUsed)) (λ e.
+    keep club booking.cancelled (cancelled_before booking) (first_of (begun ∷ []) (cancelled_now booking refund))
+    (keeps_told club (Cancelled booking.key booking.number booking.refund)) (λ f.
+    keep club (nat_le (start_of booking.slot) moment) (refused refusals.SlotHasBegun) (cancelled_now booking refund)
+    (keeps_told club (Refused refusals.SlotHasBegun)) (λ g.
     keeps_change club (Cancelled booking.key booking.number refund) (MarkCancelled booking.key booking.number refund)
-        (fits_mark_cancelled club booking.key booking.number refund h))))
+    (fits_mark_cancelled club booking.key booking.number refund h))))
 
 keeps_unknown : (club : Club) (facility : Option Facility) → Keeps club (unknown_verdict facility)
 keeps_unknown club None = keeps_told club _
@@ -158,12 +158,12 @@ keeps_decision club name key member state (asked.View slot) moment h found owner
 keeps_decision club name key member state (asked.Book slot number guests) moment h found owner at =
     let view = view_of (basis_with club key member state) (asked.Book slot number guests) moment in
     keeps_recorded club view.booking (λ b. repeat_booking_verdict b slot guests) (new_verdict view slot number guests moment view.facility) (λ b.
-        keeps_repeat club b slot guests)
+    keeps_repeat club b slot guests)
     (keeps_new club name key member view slot number guests moment view.facility h found owner (at slot refl).0 refl (at slot refl).1 refl)
 keeps_decision club name key member state (asked.Cancel slot number) moment h found owner at =
     let view = view_of (basis_with club key member state) (asked.Cancel slot number) moment in
     keeps_recorded club view.booking (λ b. cancel_recorded_verdict b slot moment) (unknown_verdict view.facility) (λ b.
-        keeps_cancel club b slot moment h) (keeps_unknown club view.facility)
+    keeps_cancel club b slot moment h) (keeps_unknown club view.facility)
 keeps_decision club name key member state asked.Account moment h found owner at = keeps_told club _
 
 keeps_after_caveats : (club : Club) (fault : Option CaveatFault) (verdict : Verdict) → Keeps club verdict → Keeps club (after_caveats fault verdict)
@@ -186,7 +186,7 @@ keeps_accepted club name pass request moment key member state h found owner at =
     keep club (not (is_signed_under pass key moment)) (refused refusals.NotVerified) _ (keeps_told club _) (λ signed.
     keep club key.revoked (refused refusals.KeyRevoked) _ (keeps_told club _) (λ valid.
     keeps_after_caveats club (first_fault_of pass.caveats (ask_of view request moment)) (verdict_of view request moment)
-        (keeps_decision club name key member state request moment h found owner at)))
+    (keeps_decision club name key member state request moment h found owner at)))
 
 is_state : (club : Club) (request : Request) → IsState club request (state_of club (slot_of request))
 is_state club request = λ slot e.

@@ -100,7 +100,7 @@ keeps_order club (commands.AddFacility name kind places price opens shuts) h =
     keep club (not (are_limits places price opens shuts)) OutOfRange (first_of (known ∷ []) (Ok (InsertFacility facility))) (λ limits.
     keep club (is_some (facility_named name club)) Exists (Ok (InsertFacility facility)) (λ none.
     keeps_ok club (InsertFacility facility) (fits_insert_facility club facility h
-        (few_places places price opens shuts (not_false (are_limits places price opens shuts) limits)))))
+    (few_places places price opens shuts (not_false (are_limits places price opens shuts) limits)))))
 keeps_order club (commands.AddKey name member root) h =
     let key : Key = record { name = name; member = member; root = root; older = None; revoked = false } in
     let known : Line (Result Change OfficeFault) = line (is_some (key_named name club)) (Err Exists) in

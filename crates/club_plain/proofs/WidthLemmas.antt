@@ -67,7 +67,7 @@ fits_add_credit club name points member h found fits = record {
       let row = get_or club.members k d in
       few_credited name points row (named name row) refl (h.credited k d lt) (λ e.
       let same : find (named name) club.members ≡ Some row = subst (λ n. find (named n) club.members
-          ≡ Some row) (bytes_eq_true row.name name e) (h.named k d lt) in
+      ≡ Some row) (bytes_eq_true row.name name e) (h.named k d lt) in
       let row_is : member ≡ row = cc in
       subst (λ (m : Member). m.credited + points ≤ 999_999_999) row_is fits));
   named = all_map (IsNamed (map (credited name points) club.members)) (credited name points) club.members (λ k d lt.
@@ -157,9 +157,9 @@ pub fits_mark_cancelled : (club : Club) (key : List ℕ) (number refund : ℕ) �
 fits_mark_cancelled club key number refund h =
     let edit = cancelled key number refund in
     let none : (k : ℕ) (d : Booking) → k < length club.bookings → is_marked key number (get_or club.bookings k d) ≡ true
-        → (get_or club.bookings k d).refund ≡ 0 =
+    → (get_or club.bookings k d).refund ≡ 0 =
     λ k d lt e. h.kept k d lt (is_open_of_marked (is_under key (get_or club.bookings k d)
-        && (get_or club.bookings k d).number == number) (get_or club.bookings k d).cancelled e) in
+    && (get_or club.bookings k d).number == number) (get_or club.bookings k d).cancelled e) in
     record {
       credited = h.credited;
       named = h.named;

@@ -18,7 +18,8 @@ use pass_caveats::{Moment, Name, Slot};
 use std::alloc::{AllocError, Global};
 
 fn members_of(alloc: Global, members: &[Member], name: &Name) -> Result<Vec<Member>, AllocError>
-    ensures { IfOk result (λ rows. rows.items ≡ filter (λ (member : MemberRow). bytes_eq member.name name.now) members.now) }
+    ensures { IfOk result (λ rows. rows.items
+        ≡ filter (λ (member : MemberRow). bytes_eq member.name name.now) members.now) }
 {
     members
         .iter()
@@ -28,7 +29,8 @@ fn members_of(alloc: Global, members: &[Member], name: &Name) -> Result<Vec<Memb
 }
 
 fn keys_of(alloc: Global, keys: &[Key], member: &Name) -> Result<Vec<Key>, AllocError>
-    ensures { IfOk result (λ rows. rows.items ≡ filter (λ (key : KeyRow). bytes_eq key.member member.now) keys.now) }
+    ensures { IfOk result (λ rows. rows.items
+        ≡ filter (λ (key : KeyRow). bytes_eq key.member member.now) keys.now) }
 {
     keys.iter()
         .filter(|key| key.member == *member)
@@ -139,10 +141,12 @@ impl Club {
         ensures reply { IfOk result (λ reply. reply
             ≡ (solo.solo_verdict self.old (words_of words.now) moment others).reply) }
         ensures part { OnOk result (self.new
-            ≡ after_change (solo.solo_verdict self.old (words_of words.now) moment others).change self.old) }
+            ≡ after_change (solo.solo_verdict self.old (words_of words.now) moment
+            others).change self.old) }
         ensures err { OnErr result (self.new ≡ self.old) }
         ensures growth { OnErr result (Grows self.old
-            (after_change (solo.solo_verdict self.old (words_of words.now) moment others).change self.old)) }
+            (after_change (solo.solo_verdict self.old (words_of words.now) moment
+            others).change self.old)) }
     {
         let Verdict { reply, change } = self.answer_alone(words, moment, others);
         match change {

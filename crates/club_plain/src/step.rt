@@ -45,7 +45,8 @@ impl Club {
         ensures outcome { IfOk result (λ reply. outcome (EventReply.Replied reply) self.new
             ≡ machine.step self.old (machine.Asked (words_of words.now) moment)) }
         ensures err { OnErr result (self.new ≡ self.old) }
-        ensures growth { OnErr result (AddsRow self.old (machine.Asked (words_of words.now) moment)) }
+        ensures growth { OnErr result (AddsRow self.old
+            (machine.Asked (words_of words.now) moment)) }
     {
         let Verdict { reply, change } = self.answer(words, moment);
         match change {

@@ -72,7 +72,8 @@ fn left_of(keys: &[Key], bookings: &[Booking], member: &Member) -> u32
 
 /// What is left of the points credited to the member.
 pub(crate) fn balance(keys: &[Key], bookings: &[Booking], member: &Member) -> u32
-    ensures { result ≡ sums.balance_of member.now (held_under keys.now member.now.name bookings.now) }
+    ensures { result ≡ sums.balance_of member.now
+        (held_under keys.now member.now.name bookings.now) }
 {
     left_of(keys, bookings, member)
 }
@@ -96,7 +97,8 @@ pub(crate) fn recorded(
     name: &Name,
     number: BookingNumber,
 ) -> Option<Booking>
-    ensures { result ≡ sums.booking_under name.now number (held_under keys.now member.now bookings.now) }
+    ensures { result ≡ sums.booking_under name.now number
+        (held_under keys.now member.now bookings.now) }
 {
     bookings
         .iter()

@@ -44,7 +44,7 @@ pub struct BookingColumns<'a> {
     pub guests: i64,
     pub charge: i64,
     pub left: i64,
-    /// 0 or 1.
+    /// The number 1 once it is cancelled, 0 before.
     pub cancelled: i64,
     pub refund: i64,
 }

@@ -72,7 +72,7 @@ pub files_hold : {D : Type 0} {g : Ghosts D} (it : FileStore D g) (clubs : List 
 files_hold it clubs left crash =
     let sound : AreDatabases (recovers it) = λ trees allowed. left_is_sound trees clubs (crash.one_of crash.clean trees allowed) in
     ∥∥₁_map (opens_again it crash.numbered sound left crash.files) (λ db. let held : HoldsOneOf left clubs = (db.0, db.2, crash.one_of crash.clean db.0 db.1) in
-        held)
+    held)
 
 lists_nothing : {X Y : Type 0} (R : X → Y → Type 0) (ys : List Y) → AllZip R [] ys → ys ≡ []
 lists_nothing R [] h = refl

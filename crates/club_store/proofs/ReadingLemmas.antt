@@ -26,8 +26,15 @@ untouched_then a b c earlier first next rest clean is_open =
     (before.0, after.1 ∙ before.2, after.2 ∙ before.2)
 
 survives_same : (s : State) → Survives s s (λ _. ⊥)
-survives_same s = record { clean = omega arith; shield = λ h. h; counts = omega arith; limit = refl; closes = λ _ is_open. inl is_open; crash =
-    λ _ db may. inl may }
+survives_same s = record {
+  clean = omega arith;
+  shield = λ h. h;
+  counts = omega arith;
+  limit = refl;
+  closes = λ _ is_open. inl is_open;
+  crash =
+      λ _ db may. inl may;
+}
 
 survives_none : (a b c : State) → Survives a b (λ _. ⊥) → Survives b c (λ _. ⊥) → Survives a c (λ _. ⊥)
 survives_none a b c p q = survives_then a b c (λ _. ⊥) (λ _. ⊥) (λ _. ⊥) (λ _ db none. none) (λ _ db none. none) p q
@@ -57,7 +64,7 @@ read_as g old new first result IsFirst IsTold reads makes = record {
 pub read_then : {S A B C E F G : Type 0} (g : Ghosts S) (a b c : Held S) (one : Result A E) (two : Result B F) (result : Result C G) (IsOne : Club → A
     → Type 0) (IsTwo : Club → B → Type 0) (IsTold : Club → C → Type 0)
     → ReadsClub g a b one IsOne → ReadsClub g b c two IsTwo → ((club : Club) → IfOk one (IsOne club) → IfOk two (IsTwo club) → IfOk result (IsTold club))
-        → ReadsClub g a c result IsTold
+    → ReadsClub g a c result IsTold
 read_then g a b c one two result IsOne IsTwo IsTold first next told =
     let earlier = λ (clean : HasCleanDisk (state g c)). let e : HasCleanDisk (state g b) = omega (arith, next.survives.clean) in e in
     record {
@@ -76,7 +83,7 @@ on_err (Err e) p f = f p
 pub change_after : {S A E F : Type 0} (g : Ghosts S) (a b c : Held S) (first : Result A E) (result : Result (Unit {0}) F) (IsFirst : Club → A
     → Type 0) (IsBefore IsIt : Club → Type 0) (change : Change)
     → ReadsClub g a b first IsFirst → ChangesClubWhere g IsIt change b c result → ((club : Club) → IsBefore club → IfOk first (IsFirst club) → IsIt club)
-        → ChangesClubWhere g IsBefore change a c result
+    → ChangesClubWhere g IsBefore change a c result
 change_after g a b c first result IsFirst IsBefore IsIt change reads changes is =
     let earlier : HasCleanDisk (state g b) → HasCleanDisk (state g a) = λ clean. let e : HasCleanDisk (state g a) = omega (arith, reads.survives.clean) in e in
     let P = MayCommit g (AreWordsOf change) a in
@@ -123,5 +130,5 @@ refuse_after g a b first fault IsFirst IsIt change reads = record {
 pub opens_nothing : {S : Type 0} (g : Ghosts S) (held : Held S) → SurvivesOpening g held held
 opens_nothing g held =
     survives_then (state g held) (state g held) (state g held) (λ _. ⊥) (λ _. ⊥) (MayCommit g IsOpeningBatch held) (λ _ db none. absurd none) (λ _ db none.
-        absurd none)
+    absurd none)
     (survives_same (state g held)) (survives_same (state g held))

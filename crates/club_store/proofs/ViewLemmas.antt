@@ -27,7 +27,7 @@ found {X} p (y ∷ xs) x h = go (p y) refl (λ e. found p xs x e) h
 
 at_number : (club : Club) (key : Key) → HasOwnBookings club key → (number : Option ℕ)
     → option_and_then (λ (n : ℕ). booking_under key.name n (bookings_of key.member club)) number
-        ≡ option_and_then (λ (n : ℕ). booking_under key.name n club.bookings) number
+    ≡ option_and_then (λ (n : ℕ). booking_under key.name n club.bookings) number
 at_number club key own None = refl
 at_number club key own (Some number) = own.booked number
 
@@ -42,7 +42,7 @@ seen_is law club name key member request moment named owned =
     let own = law club key there.0 in
     let spent = subst (λ (m : List ℕ). spent_under key.name (bookings_of m club) ≡ spent_under key.name club.bookings) same own.spent in
     let booked = subst (λ (m : List ℕ). option_and_then (λ (n : ℕ). booking_under key.name n (bookings_of m club)) (number_of request)
-        ≡ option_and_then (λ (n : ℕ). booking_under key.name n club.bookings) (number_of request)) same
+    ≡ option_and_then (λ (n : ℕ). booking_under key.name n club.bookings) (number_of request)) same
     (at_number club key own (number_of request)) in
     rw (named, owned) (cc)
 

@@ -49,11 +49,11 @@ pub member_put : (old new : State) (rows : Rows) → Lies old.now rows → (memb
     → Lies new.now (record rows { members = rows.members ++ (new_row member) ∷ [] })
 member_put old new rows lies member count ran =
     let put = inserts old new club_schema lies.schema ADD_MEMBER.now member_plain 1 member_table member_terms 5 (Text member.name ∷ whole member.credited
-        ∷ whole member.quota ∷ []) (member_values (new_row member)) refl member_is refl refl refl
+    ∷ whole member.quota ∷ []) (member_values (new_row member)) refl member_is refl refl refl
     (rw (cast_null, cast_int (pos member.credited), cast_int (pos member.quota), cast_int (pos 0))) (λ row. refl) count ran in
     on_members old.now new.now rows lies put.0 put.3 put.2 (rows.members ++ (new_row member) ∷ [])
     (subst (λ rs. Holds member_values rs (rows.members ++ (new_row member) ∷ [])) (sym put.1)
-        (holds_more member_values _ rows.members (new_row member) lies.members))
+    (holds_more member_values _ rows.members (new_row member) lies.members))
 
 -- ---- facilities
 
@@ -76,12 +76,12 @@ pub facility_put : (old new : State) (rows : Rows) → Lies old.now rows → (fa
     → Lies new.now (record rows { facilities = rows.facilities ++ facility ∷ [] })
 facility_put old new rows lies facility count ran =
     let put = inserts old new club_schema lies.schema ADD_FACILITY.now facility_plain 2 facility_table facility_terms 7 (facility_values facility)
-        (facility_values facility) refl facility_is refl refl refl
+    (facility_values facility) refl facility_is refl refl refl
     (rw (cast_null, cast_int (pos facility.places), cast_int (pos facility.price), cast_int (pos facility.opens), cast_int (pos facility.shuts))) (λ row.
-        refl) count ran in
+    refl) count ran in
     on_facilities old.now new.now rows lies put.0 put.3 put.2 (rows.facilities ++ facility ∷ [])
     (subst (λ rs. Holds facility_values rs (rows.facilities ++ facility ∷ [])) (sym put.1)
-        (holds_more facility_values _ rows.facilities facility lies.facilities))
+    (holds_more facility_values _ rows.facilities facility lies.facilities))
 
 -- ---- keys
 
@@ -128,9 +128,18 @@ pub booking_put : (old new : State) (rows : Rows) → Lies old.now rows → (boo
     → Lies new.now (record rows { bookings = rows.bookings ++ booking ∷ [] })
 booking_put old new rows lies booking count ran =
     let put = inserts old new club_schema lies.schema ADD_BOOKING.now booking_plain 5 booking_table booking_terms 11 (booking_values booking)
-        (booking_values booking) refl booking_is refl refl refl
-    (rw (cast_null, cast_int (pos booking.number), cast_int (pos booking.slot.day), cast_int (pos booking.slot.hour), cast_int (pos booking.guests),
-        cast_int (pos booking.charge), cast_int (pos booking.left), cast_int (pos (truth booking.cancelled)), cast_int (pos booking.refund))) (λ row.
-        refl) count ran in
+    (booking_values booking) refl booking_is refl refl refl
+    (rw (
+      cast_null,
+      cast_int (pos booking.number),
+      cast_int (pos booking.slot.day),
+      cast_int (pos booking.slot.hour),
+      cast_int (pos booking.guests),
+      cast_int (pos booking.charge),
+      cast_int (pos booking.left),
+      cast_int (pos (truth booking.cancelled)),
+      cast_int (pos booking.refund),
+    )) (λ row.
+    refl) count ran in
     on_bookings old.now new.now rows lies put.0 put.3 put.2 (rows.bookings ++ booking ∷ [])
     (subst (λ rs. Holds booking_values rs (rows.bookings ++ booking ∷ [])) (sym put.1) (holds_more booking_values _ rows.bookings booking lies.bookings))

@@ -1,6 +1,6 @@
 -- Rows that are asked for by slot, by key and number, and by key.
-use Rattle.std.proofs.Common.{◌≡◌, ◌≢◌, ℕ, pos, ℤ, Bool, true, false, not, ◌&&◌, ◌==◌, Option, Some, None, inl, inr, List, [], ◌∷◌, map, codes, refl, sym, ap,
-    ◌∙◌}
+use Rattle.std.proofs.Common.{◌≡◌, ◌≢◌, ℕ, pos, ℤ, Bool, true, false, not, ◌&&◌, ◌==◌, Option, Some, None, inl, inr, List, [], ◌∷◌, map, codes, refl, sym, ap}
+use Rattle.std.proofs.Common.{◌∙◌}
 use Rattle.std.specs.Prelude.{filter, option_map, unwrap_or, IsPermutation}
 use Rattle.std.specs.Option.{option_to_list}
 use Rattle.std.specs.Cmp.{unsigned_Decides}
@@ -39,8 +39,11 @@ use Rattle.club_tables.proofs.SelectLemmas.{selected, text_equal, whole_equal, a
 use Rattle.club_tables.proofs.StandLemmas.{asked_tables, asked_reads, bookings_held}
 use Rattle.club_tables.proofs.KeyLemmas.{and_true, first_told}
 
-slot_is : command_of (understood club_schema SLOT.now) ≡ Select (record { lets = []; body =
-    select (inner slots_tree end) (is_given 1 0 ∷ is_given 2 1 ∷ is_given 3 2 ∷ []) (col 1 4 ∷ col 1 5 ∷ []) }) (codes "closed" ∷ codes "taken" ∷ [])
+slot_is : command_of (understood club_schema SLOT.now) ≡ Select (record {
+  lets = [];
+  body =
+      select (inner slots_tree end) (is_given 1 0 ∷ is_given 2 1 ∷ is_given 3 2 ∷ []) (col 1 4 ∷ col 1 5 ∷ []);
+}) (codes "closed" ∷ codes "taken" ∷ [])
 unfolding understood everything
 slot_is = refl
 
@@ -85,18 +88,21 @@ slot_told g old slot rows clean asked club others stands =
     let show : SlotRow → Row = λ row. use_values row.held in
     let R : SlotRow → SlotRow → Type 0 = λ a b. a.slot ≢ b.slot in
     let tests = λ (id : ℤ) (row : SlotRow). three_tests _ _ _ _ _ _ (text_equal row.slot.facility slot.facility) (whole_equal row.slot.day slot.day)
-        (whole_equal row.slot.hour slot.hour) in
+    (whole_equal row.slot.hour slot.hour) in
     let same = selected slot_values _ (is_given 1 0 ∷ is_given 2 1 ∷ is_given 3 2 ∷ []) (col 1 4 ∷ col 1 5 ∷ []) p show tests (λ id row.
-        refl) slots_tree (codes "closed" ∷ codes "taken" ∷ []) (state g old).now tables.rows.slots rows tables.lies.slots reads in
+    refl) slots_tree (codes "closed" ∷ codes "taken" ∷ []) (state g old).now tables.rows.slots rows tables.lies.slots reads in
     let low = one_passes R p tables.rows.slots (λ x y a b apart. apart (same_slots x.slot slot a ∙ sym (same_slots y.slot slot b)))
-        (apart_from_pairs R tables.rows.slots tables.stored.once) in
+    (apart_from_pairs R tables.rows.slots tables.stored.once) in
     shows_by club slot (row_of slot tables.rows.slots) rows (first_told show p tables.rows.slots rows low same) (tables.stored.slots slot)
 
 two_tests : (a a' b b' : Bool) → a ≡ a' → b ≡ b' → (a && (b && true)) ≡ (a' && b')
 two_tests a a' b b' p q = let e = and_true b in cc
 
-booking_is : command_of (understood club_schema BOOKING.now) ≡ Select (record { lets = []; body =
-    select (inner bookings_tree end) (is_given 1 0 ∷ is_given 2 1 ∷ []) (map (col 1) (1 ∷ 2 ∷ 3 ∷ 4 ∷ 5 ∷ 6 ∷ 7 ∷ 8 ∷ 9 ∷ 10 ∷ [])) })
+booking_is : command_of (understood club_schema BOOKING.now) ≡ Select (record {
+  lets = [];
+  body =
+      select (inner bookings_tree end) (is_given 1 0 ∷ is_given 2 1 ∷ []) (map (col 1) (1 ∷ 2 ∷ 3 ∷ 4 ∷ 5 ∷ 6 ∷ 7 ∷ 8 ∷ 9 ∷ 10 ∷ []));
+})
     (map codes ("pass_key" ∷ "number" ∷ "facility" ∷ "day" ∷ "hour" ∷ "guests" ∷ "charge" ∷ "remains" ∷ "cancelled" ∷ "refund" ∷ []))
 unfolding understood everything
 booking_is = refl
@@ -112,7 +118,7 @@ booking_unlisted = refl
 pub booking_told : {S : Type 0} (g : Ghosts S) (old : Held S) (key : List ℕ) (number : ℕ) (rows : List Row) → HasCleanDisk (state g old)
     → Asked g BOOKING.now (Text key ∷ whole number ∷ []) old rows
     → (club : Club) (others : List Club) → Stands (state g old) club others
-        → rows ≡ map booking_values (option_to_list (booking_under key number club.bookings))
+    → rows ≡ map booking_values (option_to_list (booking_under key number club.bookings))
 booking_told g old key number rows clean asked club others stands =
     let tables = asked_tables g BOOKING.now _ old rows asked clean club others stands in
     let reads = asked_reads g BOOKING.now _ old rows asked tables.lies.schema _ booking_is booking_plain booking_unlisted in
@@ -121,14 +127,17 @@ booking_told g old key number rows clean asked club others stands =
     let tests = λ (id : ℤ) (b : Booking).
     two_tests _ _ _ _ (text_equal b.key key) (whole_equal b.number number) in
     let same = selected booking_values _ (is_given 1 0 ∷ is_given 2 1 ∷ []) (map (col 1) (1 ∷ 2 ∷ 3 ∷ 4 ∷ 5 ∷ 6 ∷ 7 ∷ 8 ∷ 9 ∷ 10 ∷ [])) p booking_values tests
-        (λ id b. refl) bookings_tree
+    (λ id b. refl) bookings_tree
     (map codes ("pass_key" ∷ "number" ∷ "facility" ∷ "day" ∷ "hour" ∷ "guests" ∷ "charge" ∷ "remains" ∷ "cancelled" ∷ "refund" ∷ [])) (state g old).now
-        club.bookings rows (bookings_held _ club tables) reads in
+    club.bookings rows (bookings_held _ club tables) reads in
     let low = one_passes R p club.bookings (λ x y a b apart.
     let m = and_parts _ _ a in
     let n = and_parts _ _ b in
-    apart ((bytes_eq-Decides x.key key).0 m.0 ∙ sym ((bytes_eq-Decides y.key key).0 n.0), (unsigned_Decides x.number number).0 m.1
-        ∙ sym ((unsigned_Decides y.number number).0 n.1)))
+    apart (
+      (bytes_eq-Decides x.key key).0 m.0 ∙ sym ((bytes_eq-Decides y.key key).0 n.0),
+      (unsigned_Decides x.number number).0 m.1
+          ∙ sym ((unsigned_Decides y.number number).0 n.1),
+    ))
     (apart_from_pairs R club.bookings tables.sound.unique.bookings) in
     first_told booking_values p club.bookings rows low same
 
@@ -139,8 +148,11 @@ pub no_truth : (b : Bool) → (truth b == 0) ≡ not b
 no_truth true = refl
 no_truth false = refl
 
-costs_is : command_of (understood club_schema COSTS_UNDER_KEY.now) ≡ Select (record { lets = []; body =
-    select (inner bookings_tree end) (is_given 1 0 ∷ []) (col 1 7 ∷ col 1 10 ∷ []) }) (map codes ("charge" ∷ "refund" ∷ []))
+costs_is : command_of (understood club_schema COSTS_UNDER_KEY.now) ≡ Select (record {
+  lets = [];
+  body =
+      select (inner bookings_tree end) (is_given 1 0 ∷ []) (col 1 7 ∷ col 1 10 ∷ []);
+}) (map codes ("charge" ∷ "refund" ∷ []))
 unfolding understood everything
 costs_is = refl
 
@@ -159,5 +171,5 @@ costs_told g old key rows clean asked club others stands =
     let tables = asked_tables g COSTS_UNDER_KEY.now _ old rows asked clean club others stands in
     let reads = asked_reads g COSTS_UNDER_KEY.now _ old rows asked tables.lies.schema _ costs_is costs_plain costs_unlisted in
     selected booking_values _ (is_given 1 0 ∷ []) (col 1 7 ∷ col 1 10 ∷ []) (is_under key) cost_values (λ id b. and_true _
-        ∙ text_equal b.key key) (λ id b. refl) bookings_tree (map codes ("charge" ∷ "refund" ∷ [])) (state g old).now club.bookings rows
-        (bookings_held _ club tables) reads
+    ∙ text_equal b.key key) (λ id b. refl) bookings_tree (map codes ("charge" ∷ "refund" ∷ [])) (state g old).now club.bookings rows
+    (bookings_held _ club tables) reads

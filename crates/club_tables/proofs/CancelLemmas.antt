@@ -47,8 +47,11 @@ cancel_tests = is_given 1 0 ∷ is_given 2 1 ∷ stands ∷ []
 abbrev cancel_terms : List Term
 cancel_terms = col 1 0 ∷ col 1 0 ∷ col 1 1 ∷ col 1 2 ∷ col 1 3 ∷ col 1 4 ∷ col 1 5 ∷ col 1 6 ∷ col 1 7 ∷ col 1 8 ∷ lit (Int (pos 1)) ∷ col 0 2 ∷ []
 
-cancel_is : command_of (understood club_schema CANCEL_BOOKING.now) ≡ Update 5 (record { lets = []; body =
-    select (inner bookings_tree end) cancel_tests cancel_terms })
+cancel_is : command_of (understood club_schema CANCEL_BOOKING.now) ≡ Update 5 (record {
+  lets = [];
+  body =
+      select (inner bookings_tree end) cancel_tests cancel_terms;
+})
 unfolding understood everything
 cancel_is = refl
 
@@ -77,25 +80,28 @@ one_marked key number bookings unique =
     one_passes R (is_marked key number) bookings (λ x y a b apart.
     let p = and_parts _ _ (and_parts _ _ a).0 in
     let q = and_parts _ _ (and_parts _ _ b).0 in
-    apart ((bytes_eq-Decides x.key key).0 p.0 ∙ sym ((bytes_eq-Decides y.key key).0 q.0), (unsigned_Decides x.number number).0 p.1
-        ∙ sym ((unsigned_Decides y.number number).0 q.1)))
+    apart (
+      (bytes_eq-Decides x.key key).0 p.0 ∙ sym ((bytes_eq-Decides y.key key).0 q.0),
+      (unsigned_Decides x.number number).0 p.1
+          ∙ sym ((unsigned_Decides y.number number).0 q.1),
+    ))
     (apart_from_pairs R bookings unique)
 
 pub booking_cancelled : (old new : State) (rows : Rows) → Lies old.now rows
     → AllPairs (λ (a : Booking) (b : Booking). ¬ ((a.key ≡ b.key) × (a.number ≡ b.number))) rows.bookings → (key : List ℕ) (number refund count : ℕ)
     → Executes CANCEL_BOOKING.now (Text key ∷ whole number ∷ whole refund ∷ []) old new (Ok count)
-        → Lies new.now (record rows { bookings = map (cancelled key number refund) rows.bookings })
+    → Lies new.now (record rows { bookings = map (cancelled key number refund) rows.bookings })
 booking_cancelled old new rows lies unique key number refund count ran =
     let params = Text key ∷ whole number ∷ whole refund ∷ [] in
     let p : Booking → Bool = is_marked key number in
     let change = cancelled key number refund in
     let put = updates old new lies.schema CANCEL_BOOKING.now cancel_plain 5 booking_table (select (inner bookings_tree end) cancel_tests cancel_terms) params
-        refl cancel_is count ran in
+    refl cancel_is count ran in
     let as_marked : Booking → Bool → Booking = λ booking b. record booking { cancelled = booking.cancelled || b; refund = cond b refund booking.refund } in
     let same : (booking : Booking) → p booking ≡ false → change booking ≡ booking = λ booking fails.
     ap (as_marked booking) fails ∙ ap (λ b. let k : Booking = record booking { cancelled = b } in k) (or_false booking.cancelled) in
     let shown : ℤ → Booking → Value → Value → Row = λ id b v w. Int id ∷ Int id ∷ Text b.key ∷ whole b.number ∷ Text b.slot.facility ∷ whole b.slot.day
-        ∷ whole b.slot.hour ∷ whole b.guests ∷ whole b.charge ∷ whole b.left ∷ v ∷ w ∷ [] in
+    ∷ whole b.slot.hour ∷ whole b.guests ∷ whole b.charge ∷ whole b.left ∷ v ∷ w ∷ [] in
     let tested = λ (id : ℤ) (booking : Booking).
     let key_is = text_equal booking.key key in
     let number_is = whole_equal booking.number number in
@@ -106,9 +112,17 @@ booking_cancelled old new rows lies unique key number refund count ran =
     (λ id booking _ passes.
     ap (λ v. shown id booking v (whole refund)) (sym (ap (λ b. flag (booking.cancelled || b)) passes ∙ ap flag (or_true booking.cancelled)))
     ∙ ap (λ w. shown id booking (flag (change booking).cancelled) w) (sym (ap (λ b. whole (cond b refund booking.refund)) passes)))
-    (λ id booking. rw (cast_int id, cast_int (pos booking.number), cast_int (pos booking.slot.day), cast_int (pos booking.slot.hour),
-        cast_int (pos booking.guests), cast_int (pos booking.charge), cast_int (pos booking.left), cast_int (pos (truth booking.cancelled)),
-        cast_int (pos booking.refund)))
+    (λ id booking. rw (
+      cast_int id,
+      cast_int (pos booking.number),
+      cast_int (pos booking.slot.day),
+      cast_int (pos booking.slot.hour),
+      cast_int (pos booking.guests),
+      cast_int (pos booking.charge),
+      cast_int (pos booking.left),
+      cast_int (pos (truth booking.cancelled)),
+      cast_int (pos booking.refund),
+    ))
     lies.bookings (one_marked key number rows.bookings unique) put.1 in
     on_bookings old.now new.now rows lies put.2 put.5 put.4 (map change rows.bookings)
-        (subst (λ rs. Holds booking_values rs (map change rows.bookings)) (sym put.3) bookings)
+    (subst (λ rs. Holds booking_values rs (map change rows.bookings)) (sym put.3) bookings)

@@ -1,6 +1,6 @@
 -- The rows of the club after a cancellation, as they are stored.
-use Rattle.std.proofs.Common.{◌≡◌, ℕ, zero, suc, ◌+◌, ◌-◌, ◌≤◌, ◌<◌, ◌==◌, Bool, true, false, not, ◌&&◌, ◌||◌, cond, if◌then◌else◌, List, [], ◌∷◌, length, map,
-    Some, Contains, IsTrue, refl, sym, ap, subst, subst₂, ◌∙◌, arith}
+use Rattle.std.proofs.Common.{◌≡◌, ℕ, zero, suc, ◌+◌, ◌-◌, ◌≤◌, ◌<◌, ◌==◌, Bool, true, false, not, ◌&&◌, ◌||◌, cond, if◌then◌else◌, List, [], ◌∷◌, length, map}
+use Rattle.std.proofs.Common.{Some, Contains, IsTrue, refl, sym, ap, subst, subst₂, ◌∙◌, arith}
 use Rattle.std.specs.Prelude.{filter, find, sum_by, IfSome, slice_index_or}
 use Rattle.std.specs.List.{AllByRecursion}
 use Rattle.std.specs.Str.{bytes_eq}
@@ -43,7 +43,7 @@ is_named key number booking = is_under key booking && booking.number == number
 unmarked : (key : List ℕ) (number refund : ℕ) (booking : Booking) → is_marked key number booking ≡ false → cancelled key number refund booking ≡ booking
 unmarked key number refund booking fails =
     ap (λ b. let k : Booking = record booking { cancelled = booking.cancelled || b; refund = if b then refund else booking.refund } in k) fails
-        ∙ ap (λ b. let k : Booking = record booking { cancelled = b } in k) (or_false booking.cancelled)
+    ∙ ap (λ b. let k : Booking = record booking { cancelled = b } in k) (or_false booking.cancelled)
 
 unnamed : (key : List ℕ) (number refund : ℕ) (booking : Booking) → is_named key number booking ≡ false → cancelled key number refund booking ≡ booking
 unnamed key number refund booking fails = unmarked key number refund booking (rw fails refl)
@@ -63,8 +63,11 @@ named_alone key number refund (b ∷ bookings) apart = (each bookings apart.0, n
         two both =
             let mine = and_parts _ _ both.0 in
             let its = and_parts _ _ both.1 in
-            apart.0 (same_name key b.key other.key mine.0 its.0, (unsigned_Decides b.number number).0 mine.1
-                ∙ sym ((unsigned_Decides other.number number).0 its.1))
+            apart.0 (
+              same_name key b.key other.key mine.0 its.0,
+              (unsigned_Decides b.number number).0 mine.1
+                  ∙ sym ((unsigned_Decides other.number number).0 its.1),
+            )
 
 module _ (club : Club) (sound : IsSound club) (booking : Booking) (cancels : IsToCancel booking club) (refund : ℕ)
     (fits : IsSound (after (MarkCancelled booking.key booking.number refund) club)) where
@@ -99,7 +102,7 @@ module _ (club : Club) (sound : IsSound club) (booking : Booking) (cancels : IsT
   next_row : IsBooking (change booking)
   next_row =
       let at : slice_index_or (map change club.bookings) there.0.0 (change booking) ≡ change booking =
-          index_mapped change club.bookings there.0.0 booking there.0.1 ∙ ap change there.0.2 in
+      index_mapped change club.bookings there.0.0 booking there.0.1 ∙ ap change there.0.2 in
       subst IsBooking at (fits.rows.bookings there.0.0 (change booking) (omega (arith, there.0.1, length-map club.bookings change)))
 
   nothing_back : booking.refund ≡ 0
@@ -123,7 +126,7 @@ module _ (club : Club) (sound : IsSound club) (booking : Booking) (cancels : IsT
     where
       go : (own : Booking → Bool) (b : Bool) → own booking ≡ b
           → sum_by cost_of (filter own (map change club.bookings)) + cond (own booking) (cost_of booking) 0
-              ≡ sum_by cost_of (filter own club.bookings) + cond (own booking) (cost_of (change booking)) 0
+          ≡ sum_by cost_of (filter own club.bookings) + cond (own booking) (cost_of (change booking)) 0
           → sum_by cost_of (filter own (map change club.bookings)) + (if b then refund else 0) ≡ sum_by cost_of (filter own club.bookings)
       go own true is sums =
           let before : cond (own booking) (cost_of booking) 0 ≡ booking.charge = rw is (omega (arith, nothing_back)) in
@@ -139,9 +142,9 @@ module _ (club : Club) (sound : IsSound club) (booking : Booking) (cancels : IsT
   taken_back s =
       let sums = picked_changed (is_named key number) change (unnamed key number refund) persons_of (is_in s) club.bookings booking alone cancels.0 in
       let after : cond (is_in s (change booking)) (persons_of (change booking)) 0 ≡ 0 =
-          ap (λ b. cond (not b && same_slot booking.slot s) (persons_of booking) 0) now_cancelled in
+      ap (λ b. cond (not b && same_slot booking.slot s) (persons_of booking) 0) now_cancelled in
       let before : cond (is_in s booking) (persons_of booking) 0 ≡ cond (same_slot booking.slot s) (persons_of booking) 0 =
-          ap (λ b. cond (not b && same_slot booking.slot s) (persons_of booking) 0) cancels.1 in
+      ap (λ b. cond (not b && same_slot booking.slot s) (persons_of booking) 0) cancels.1 in
       omega (arith, sums, before, after)
 
   abbrev pub cancel_rows : Rows → List ℕ → Rows
@@ -158,9 +161,9 @@ module _ (club : Club) (sound : IsSound club) (booking : Booking) (cancels : IsT
   used_less member owned m =
       let mine = owner_is club sound key member m.name owned in
       let back : used_by next m.name + (if bytes_eq m.name member then refund else 0) ≡ used_by club m.name =
-          ap (λ b. used_by next m.name + (if b then refund else 0)) (sym mine) ∙ used_back m.name in
+      ap (λ b. used_by next m.name + (if b then refund else 0)) (sym mine) ∙ used_back m.name in
       ap (λ n. let row : MemberRow = record { member = m; used = n } in row)
-          (less (bytes_eq m.name member) (used_by club m.name) (used_by next m.name) refund back)
+      (less (bytes_eq m.name member) (used_by club m.name) (used_by next m.name) refund back)
     where
       less : (b : Bool) (all left back : ℕ) → left + (if b then back else 0) ≡ all → (if b then all - back else all) ≡ left
       less true all left back is = omega (arith, is)
@@ -184,7 +187,7 @@ module _ (club : Club) (sound : IsSound club) (booking : Booking) (cancels : IsT
     slots = λ s.
         let less : ℕ → ℕ = λ n. n - persons_of booking in
         use_put booking.slot (take_use less) s rows.slots ∙ ap (λ u. let v : SlotUse = if same_slot booking.slot s then take_use less u else u in
-            v) (stored.slots s)
+        v) (stored.slots s)
         ∙ take_told club s less (same_slot booking.slot s) (taken_in s next.bookings) (taken_less s);
     olders = stored.olders;
     rotated = stored.rotated;
@@ -204,7 +207,7 @@ none_marked key number refund (b ∷ bookings) alone none = go (none_marked key 
     go later true is marked =
         let stays = unmarked key number refund b (rw (is, marked) refl) in
         let rest = none_changed (is_named key number) (cancelled key number refund) (unnamed key number refund) bookings
-            (others_fail (is_named key number) (cancelled key number refund) (unnamed key number refund) b is bookings alone.0) in cc
+        (others_fail (is_named key number) (cancelled key number refund) (unnamed key number refund) b is bookings alone.0) in cc
     go later false is more = let stays = unnamed key number refund b is in let rest = later more in cc
 
 pub same_stored : (club : Club) (rows : Rows) → IsStoredAs club rows → IsSound club → (key : List ℕ) (number refund : ℕ) → HasNoneToCancel key number club
@@ -212,7 +215,7 @@ pub same_stored : (club : Club) (rows : Rows) → IsStoredAs club rows → IsSou
 same_stored club rows stored sound key number refund none =
     let R : Booking → Booking → Type 0 = λ a b. ¬ ((a.key ≡ b.key) × (a.number ≡ b.number)) in
     let same = none_marked key number refund club.bookings (named_alone key number refund club.bookings
-        (apart_from_pairs R club.bookings sound.unique.bookings)) none in
+    (apart_from_pairs R club.bookings sound.unique.bookings)) none in
     let unmoved : IsStoredAs club (record rows { bookings = map (cancelled key number refund) rows.bookings }) = record {
       members = stored.members;
       facilities = stored.facilities;
@@ -223,5 +226,7 @@ same_stored club rows stored sound key number refund none =
       rotated = stored.rotated;
       once = stored.once;
     } in
-    subst (λ (bookings : List Booking). IsStoredAs (record club { bookings = bookings }) (record rows { bookings =
-        map (cancelled key number refund) rows.bookings })) (sym same) unmoved
+    subst (λ (bookings : List Booking). IsStoredAs (record club { bookings = bookings }) (record rows {
+      bookings =
+          map (cancelled key number refund) rows.bookings;
+    })) (sym same) unmoved

@@ -53,8 +53,11 @@ key_table = record keys_table { tree = keys_tree }
 abbrev revoke_terms : List Term
 revoke_terms = col 1 0 ∷ col 1 0 ∷ col 1 1 ∷ col 1 2 ∷ col 1 3 ∷ lit (Int (pos 1)) ∷ []
 
-revoke_is : command_of (understood club_schema REVOKE_KEY.now) ≡ Update 3 (record { lets = []; body =
-    select (inner keys_tree end) (is_given 1 0 ∷ []) revoke_terms })
+revoke_is : command_of (understood club_schema REVOKE_KEY.now) ≡ Update 3 (record {
+  lets = [];
+  body =
+      select (inner keys_tree end) (is_given 1 0 ∷ []) revoke_terms;
+})
 unfolding understood everything
 revoke_is = refl
 
@@ -69,18 +72,18 @@ key_revoked old new rows lies unique name count ran =
     let params = Text name ∷ [] in
     let p : Key → Bool = λ key. bytes_eq key.name name in
     let put = updates old new lies.schema REVOKE_KEY.now revoke_plain 3 key_table (select (inner keys_tree end) (is_given 1 0 ∷ []) revoke_terms) params refl
-        revoke_is count ran in
+    revoke_is count ran in
     let marked : (key : Key) → p key ≡ true → flag (revoked name key).revoked ≡ whole 1 = λ key passes. ap (λ b. flag (key.revoked || b)) passes
-        ∙ ap flag (or_true key.revoked) in
+    ∙ ap flag (or_true key.revoked) in
     let same : (key : Key) → p key ≡ false → revoked name key ≡ key = λ key fails.
     ap (λ b. let k : Key = record key { revoked = key.revoked || b } in k) fails
-        ∙ ap (λ b. let k : Key = record key { revoked = b } in k) (or_false key.revoked) in
+    ∙ ap (λ b. let k : Key = record key { revoked = b } in k) (or_false key.revoked) in
     let keys = replaced key_values p (revoked name) same params (is_given 1 0 ∷ []) revoke_terms (λ id key. and_true _ ∙ text_equal key.name name) key_table
     (record { schema = club_schema; trees = old.now.trees }) rows.keys put.0 (λ _. Unit {0}) (nothing_more rows.keys)
     (λ id key _ passes. ap (λ v. Int id ∷ Int id ∷ Text key.name ∷ Text key.member ∷ Blob key.root ∷ v ∷ []) (sym (marked key passes)))
     (λ id key. rw (cast_int id, cast_int (pos (truth key.revoked)))) lies.keys (one_named (λ (key : Key). key.name) name rows.keys unique) put.1 in
     on_keys old.now new.now rows lies put.2 put.5 put.4 (map (revoked name) rows.keys)
-        (subst (λ rs. Holds key_values rs (map (revoked name) rows.keys)) (sym put.3) keys)
+    (subst (λ rs. Holds key_values rs (map (revoked name) rows.keys)) (sym put.3) keys)
 
 -- ---- a key gets a new root
 
@@ -104,7 +107,7 @@ root_set old new rows lies unique name root until count ran =
     let p : Key → Bool = λ key. bytes_eq key.name name in
     let change = rotated name root until in
     let put = updates old new lies.schema SET_ROOT.now root_plain 3 key_table (select (inner keys_tree end) (is_given 1 0 ∷ []) root_terms) params refl root_is
-        count ran in
+    count ran in
     let same : (key : Key) → p key ≡ false → change key ≡ key = λ key fails.
     ap (λ b. let k : Key = record key { root = if b then root else key.root; older = if b then Some (good_until until key.root) else key.older } in k) fails in
     let keys = replaced key_values p change same params (is_given 1 0 ∷ []) root_terms (λ id key. and_true _ ∙ text_equal key.name name) key_table
@@ -131,8 +134,11 @@ used_row name next row = record row { used = if bytes_eq row.member.name name th
 abbrev credit_terms : List Term
 credit_terms = col 1 0 ∷ col 1 0 ∷ col 1 1 ∷ op2 (Arith Add) (col 1 2) (col 0 1) ∷ col 1 3 ∷ col 1 4 ∷ []
 
-credit_is : command_of (understood club_schema ADD_CREDIT.now) ≡ Update 1 (record { lets = []; body =
-    select (inner members_tree end) (is_given 1 0 ∷ []) credit_terms })
+credit_is : command_of (understood club_schema ADD_CREDIT.now) ≡ Update 1 (record {
+  lets = [];
+  body =
+      select (inner members_tree end) (is_given 1 0 ∷ []) credit_terms;
+})
 unfolding understood everything
 credit_is = refl
 
@@ -143,8 +149,11 @@ credit_plain = (refl, refl)
 abbrev used_terms : List Term
 used_terms = col 1 0 ∷ col 1 0 ∷ col 1 1 ∷ col 1 2 ∷ col 1 3 ∷ op2 (Arith Add) (col 1 4) (col 0 1) ∷ []
 
-used_is : command_of (understood club_schema ADD_USED.now) ≡ Update 1 (record { lets = []; body =
-    select (inner members_tree end) (is_given 1 0 ∷ []) used_terms })
+used_is : command_of (understood club_schema ADD_USED.now) ≡ Update 1 (record {
+  lets = [];
+  body =
+      select (inner members_tree end) (is_given 1 0 ∷ []) used_terms;
+})
 unfolding understood everything
 used_is = refl
 
@@ -169,42 +178,42 @@ Uses name points next row = bytes_eq row.member.name name ≡ true → binary (A
 pub member_credited : (old new : State) (rows : Rows) → Lies old.now rows → AreNamedOnce rows.members → (name : List ℕ) (points : ℕ)
     → AllByRecursion (Credits name points) rows.members
     → (count : ℕ) → Executes ADD_CREDIT.now (Text name ∷ whole points ∷ []) old new (Ok count)
-        → Lies new.now (record rows { members = map (credited_row name points) rows.members })
+    → Lies new.now (record rows { members = map (credited_row name points) rows.members })
 member_credited old new rows lies unique name points sums count ran =
     let params = Text name ∷ whole points ∷ [] in
     let p : MemberRow → Bool = λ row. bytes_eq row.member.name name in
     let change = credited_row name points in
     let put = updates old new lies.schema ADD_CREDIT.now credit_plain 1 member_table (select (inner members_tree end) (is_given 1 0 ∷ []) credit_terms) params
-        refl credit_is count ran in
+    refl credit_is count ran in
     let same : (row : MemberRow) → p row ≡ false → change row ≡ row = λ row fails.
     ap (λ b. let m : MemberRow = record row { member = record row.member { credited = cond b (row.member.credited + points) row.member.credited } } in
-        m) fails in
+    m) fails in
     let members = replaced member_values p change same params (is_given 1 0 ∷ []) credit_terms (λ id row. and_true _
-        ∙ text_equal row.member.name name) member_table
+    ∙ text_equal row.member.name name) member_table
     (record { schema = club_schema; trees = old.now.trees }) rows.members put.0 (Credits name points) sums
     (λ id row sum passes. ap (λ v. Int id ∷ Int id ∷ Text row.member.name ∷ v ∷ whole row.member.quota ∷ whole row.used ∷ [])
     (sum passes ∙ ap (λ b. whole (cond b (row.member.credited + points) row.member.credited)) (sym passes)))
     casts_member lies.members (one_named name_of name rows.members unique) put.1 in
     on_members old.now new.now rows lies put.2 put.5 put.4 (map change rows.members)
-        (subst (λ rs. Holds member_values rs (map change rows.members)) (sym put.3) members)
+    (subst (λ rs. Holds member_values rs (map change rows.members)) (sym put.3) members)
 
 pub member_used : (old new : State) (rows : Rows) → Lies old.now rows → AreNamedOnce rows.members → (name : List ℕ) (points : ℤ) (next : ℕ → ℕ)
     → AllByRecursion (Uses name points next) rows.members
     → (count : ℕ) → Executes ADD_USED.now (Text name ∷ Int points ∷ []) old new (Ok count)
-        → Lies new.now (record rows { members = map (used_row name next) rows.members })
+    → Lies new.now (record rows { members = map (used_row name next) rows.members })
 member_used old new rows lies unique name points next sums count ran =
     let params = Text name ∷ Int points ∷ [] in
     let p : MemberRow → Bool = λ row. bytes_eq row.member.name name in
     let change = used_row name next in
     let put = updates old new lies.schema ADD_USED.now used_plain 1 member_table (select (inner members_tree end) (is_given 1 0 ∷ []) used_terms) params refl
-        used_is count ran in
+    used_is count ran in
     let same : (row : MemberRow) → p row ≡ false → change row ≡ row = λ row fails.
-        ap (λ b. let m : MemberRow = record row { used = cond b (next row.used) row.used } in m) fails in
+    ap (λ b. let m : MemberRow = record row { used = cond b (next row.used) row.used } in m) fails in
     let members = replaced member_values p change same params (is_given 1 0 ∷ []) used_terms (λ id row. and_true _
-        ∙ text_equal row.member.name name) member_table
+    ∙ text_equal row.member.name name) member_table
     (record { schema = club_schema; trees = old.now.trees }) rows.members put.0 (Uses name points next) sums
     (λ id row sum passes. ap (λ v. Int id ∷ Int id ∷ Text row.member.name ∷ whole row.member.credited ∷ whole row.member.quota ∷ v ∷ [])
     (sum passes ∙ ap (λ b. whole (cond b (next row.used) row.used)) (sym passes)))
     casts_member lies.members (one_named name_of name rows.members unique) put.1 in
     on_members old.now new.now rows lies put.2 put.5 put.4 (map change rows.members)
-        (subst (λ rs. Holds member_values rs (map change rows.members)) (sym put.3) members)
+    (subst (λ rs. Holds member_values rs (map change rows.members)) (sym put.3) members)

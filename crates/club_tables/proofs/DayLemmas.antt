@@ -1,6 +1,6 @@
 -- The bookings of a day, as they are asked for.
-use Rattle.std.proofs.Common.{◌≡◌, ℕ, ◌<◌, ◌⊎◌, inl, inr, pos, ℤ, Bool, true, false, ◌&&◌, List, [], ◌∷◌, map, codes, refl, sym, ap, subst, ◌∙◌, arith,
-    Ordering, Less, Equal, Greater, nat_cmp, int_cmp}
+use Rattle.std.proofs.Common.{◌≡◌, ℕ, ◌<◌, ◌⊎◌, inl, inr, pos, ℤ, Bool, true, false, ◌&&◌, List, [], ◌∷◌, map, codes, refl, sym, ap, subst, ◌∙◌, arith}
+use Rattle.std.proofs.Common.{Ordering, Less, Equal, Greater, nat_cmp, int_cmp}
 use Rattle.std.specs.Prelude.{filter, IsSorted, slice_index_or}
 use Rattle.std.specs.Ordering.{on, then_cmp, is_lt, ordering_then, ordering_reverse}
 use Rattle.std.specs.Cmp.{IsTotalOrder}
@@ -115,8 +115,11 @@ booking_names = map codes ("pass_key" ∷ "number" ∷ "facility" ∷ "day" ∷ 
 abbrev day_tests : List Term
 day_tests = is_given 4 0 ∷ stands_still ∷ []
 
-day_is : command_of (understood club_schema DAY.now) ≡ Select (record { lets = []; body =
-    in_order sheet_terms (select (inner bookings_tree end) day_tests booking_terms) }) booking_names
+day_is : command_of (understood club_schema DAY.now) ≡ Select (record {
+  lets = [];
+  body =
+      in_order sheet_terms (select (inner bookings_tree end) day_tests booking_terms);
+}) booking_names
 unfolding understood everything
 day_is = refl
 
@@ -150,15 +153,21 @@ day_told g old day rows clean asked club others stands =
     let reads = asked_reads g DAY.now _ old rows asked tables.lies.schema _ day_is day_plain day_unlisted in
     let tests = λ (id : ℤ) (b : Booking). two_turned _ _ _ _ (whole_equal b.slot.day day) (whole_equal (truth b.cancelled) 0 ∙ no_truth b.cancelled) in
     let told = selected_in_order booking_values (whole day ∷ []) day_tests booking_terms (map (λ term. (term, ascending Binary)) sheet_terms) (is_on day)
-        booking_values sheet_key
+    booking_values sheet_key
     tests (λ id b. refl) (λ id b. refl) bookings_tree booking_names (state g old).now club.bookings rows (bookings_held _ club tables) reads in
     let bookings = told.ordered in
     let same_cmp : (λ (a b : Booking). key_cmp 0 (map (λ _. ascending Binary) sheet_terms) (sheet_key a) (sheet_key b)) ≡ sheet_cmp =
-        λ i a b. by_values a b i in
+    λ i a b. by_values a b i in
     let none_before = none_less sheet_cmp sheet_total bookings (subst (λ cmp. IsSorted cmp bookings) same_cmp told.sorted) in
     let unique = AllPairs-filter Differ (is_on day) club.bookings tables.sound.unique.bookings in
     let apart = apart-permutation Differ (λ a b differ same. differ (sym same.0, sym same.1)) (filter (is_on day) club.bookings) bookings told.same
-        (apart_from_pairs Differ _ unique) in
-    let differ = pairs_from_apart Differ bookings apart in
-    (bookings, record { same = told.same; sorted = λ i j d less low. strictly (slice_index_or bookings i d) (slice_index_or bookings j d)
-        (none_before i j d less low) (differ i j d less low) }, told.shown)
+    (apart_from_pairs Differ _ unique) in
+    let differ = pairs_from_apart Differ bookings apart in (
+      bookings,
+      record {
+        same = told.same;
+        sorted = λ i j d less low. strictly (slice_index_or bookings i d) (slice_index_or bookings j d)
+            (none_before i j d less low) (differ i j d less low);
+      },
+      told.shown,
+    )

@@ -127,7 +127,7 @@ makes_where kept same other =
 -- the text makes the table where nothing has its name
 desk_commands : (schema : Schema) (base : ℕ) → and_then (first MAKE_DESK.now) (λ p. command schema p.formats base p.statement)
     ≡ makes_where (is_attached schema (codes "desk")) (option_or (table_named schema (codes "desk")) (view_named schema (codes "desk")))
-        (index_named schema (codes "desk"))
+    (index_named schema (codes "desk"))
 unfolding everything
 desk_commands schema base = refl
 

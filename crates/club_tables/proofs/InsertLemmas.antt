@@ -1,6 +1,6 @@
 -- An INSERT of one row, and CREATE TABLE.
-use Rattle.std.proofs.Common.{◌≡◌, ◌≢◌, ◌⊎◌, inl, inr, ℕ, ◌/◌, Bool, true, false, cond, None, Some, Ok, Err, Result, List, [], ◌∷◌, length, slice_get, refl,
-    sym, ap, subst, ◌∙◌, append-nil}
+use Rattle.std.proofs.Common.{◌≡◌, ◌≢◌, ◌⊎◌, inl, inr, ℕ, ◌/◌, Bool, true, false, cond, None, Some, Ok, Err, Result, List, [], ◌∷◌, length, slice_get, refl}
+use Rattle.std.proofs.Common.{sym, ap, subst, ◌∙◌, append-nil}
 use Rattle.std.specs.Prelude.{MatchBool}
 use Rattle.std.specs.List.{AllByRecursion}
 use Rattle.sqlite_value.specs.declared.value.Value.{Value}
@@ -62,7 +62,7 @@ module _ (old new : State) (schema : Schema) (has : old.now.schema ≡ schema) (
       → table_defined_by text ≡ Ok table
       → lacks_sequence (created schema table) ≡ false → (count : ℕ) → Executes text [] old new (Ok count)
       → (is_used schema table.name ≡ false) × (new.now.schema ≡ created schema table) × (new.now.trees (next_tree schema) ≡ [])
-          × KeepsRows schema.tables old.now.trees new.now.trees
+      × KeepsRows schema.tables old.now.trees new.now.trees
   creates table is whole defined counts count h =
       let w = subst (λ t. Writes old new None CreateTable t [] count) whole (runs_as text [] old new schema has CreateTable is plain count h) in
       let all = went w.changed in
@@ -74,7 +74,7 @@ module _ (old new : State) (schema : Schema) (has : old.now.schema ≡ schema) (
       let none : lacks_sequence first.0.schema ≡ false = ap lacks_sequence after ∙ counts in
       let now : new.now ≡ first.0 = ap (λ (p : Tally × Database). p.1) (same_value all.2) ∙ same_value (rw none at first.2) in
       let free : is_used schema table.name ≡ false = subst (λ (t : Table). is_used schema t.name
-          ≡ false) same (subst (λ s. is_used s made.table.name ≡ false) has made.free) in (
+      ≡ false) same (subst (λ s. is_used s made.table.name ≡ false) has made.free) in (
         free,
         ap (λ (d : Database). d.schema) now ∙ after,
         ap (λ (d : Database). d.trees (next_tree schema)) now ∙ subst (λ s. first.0.trees (next_tree s) ≡ []) has made.empty,
@@ -86,11 +86,11 @@ module _ (old new : State) (schema : Schema) (has : old.now.schema ≡ schema) (
   pub indexes : (at : ℕ) (table : Table) (index : Index) → slice_get schema.tables at ≡ Some table → command_of (understood schema text) ≡ CreateIndex at
       → statement_of text (understood schema text) ≡ text
       → index_defined_by table text ≡ Ok index → (count : ℕ) → Executes text [] old new (Ok count) → (new.now.schema ≡ indexed schema table index)
-          × KeepsRows schema.tables old.now.trees new.now.trees
+      × KeepsRows schema.tables old.now.trees new.now.trees
   indexes at table index listed is whole defined count h =
       let w = subst (λ t. Writes old new None (CreateIndex at) t [] count) whole (runs_as text [] old new schema has (CreateIndex at) is plain count h) in
       let does = subst (λ s. Does old.step_limit (mode_of old) [] (record old.now { schema = s }) text None (CreateIndex at) (Ok (w.tally, new.now))) has
-          w.changed in
+      w.changed in
       let made = went (rw listed at does) in
       let it = made.1 in
       let both : Ok it.index ≡ Ok index = sym it.defined ∙ defined in
@@ -115,7 +115,7 @@ module _ (old new : State) (schema : Schema) (has : old.now.schema ≡ schema) (
       let w = runs_as text params old new schema has command is plain count h in
       let words = statement_of text (understood schema text) in
       let does = subst (λ s. Does old.step_limit (mode_of old) params (record old.now { schema = s }) words None command (Ok (w.tally, new.now))) has
-          w.changed in
+      w.changed in
       let done = went (rw listed at does) in
       let now = ap (λ (p : Tally × Database). p.1) (same_value (went (went done.2).2).2) in
       let given = went done.1 in
@@ -128,10 +128,10 @@ module _ (old new : State) (schema : Schema) (has : old.now.schema ≡ schema) (
       let trees : done.0.trees ≡ written.0 = ap (λ (it : Written). it.trees) (same_value counted.2) ∙ same_value top in
       let edit_from : Rowids → List Row → Edit = λ rowids rows. edit_of db table [] rowids 0 rows in
       let chosen : ActionWrites schema Enforced db (edit_from Chosen given.0) (Ok written.0) =
-          subst (λ b. ActionWrites schema Enforced db (edit_from (cond b (Above (count_of c1.0)) Chosen) given.0) (Ok written.0)) uncounted written.1 in
+      subst (λ b. ActionWrites schema Enforced db (edit_from (cond b (Above (count_of c1.0)) Chosen) given.0) (Ok written.0)) uncounted written.1 in
       let edit : Edit = record { table = table; gone = []; news = (Int (next_rowid (db table.tree)) ∷ values) ∷ [] } in
       let wrote : ActionWrites schema Enforced db (edit_from Chosen ((Null ∷ values) ∷ [])) (Ok written.0) =
-          subst (λ rows. ActionWrites schema Enforced db (edit_from Chosen rows) (Ok written.0)) sourced chosen in
+      subst (λ rows. ActionWrites schema Enforced db (edit_from Chosen rows) (Ok written.0)) sourced chosen in
       let as_edit : Row → Edit = λ row. record { table = table; gone = []; news = with_rowid Chosen (db table.tree) row ∷ [] } in
       let put : ActionWrites schema Enforced db edit (Ok written.0) = subst (λ row. ActionWrites schema Enforced db (as_edit row) (Ok written.0)) casts wrote in
       let applied = one_step schema Enforced db written.0 edit (still (Int (next_rowid (db table.tree)) ∷ values)) put in

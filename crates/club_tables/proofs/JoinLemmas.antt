@@ -3,8 +3,8 @@ use Rattle.std.proofs.Common.{◌≡◌, ℕ, ℤ, Bool, true, false, cond, ◌|
 use Rattle.std.specs.Prelude.{filter, flat_map, IsPermutation}
 use Rattle.std.specs.List.{AllByRecursion, AllZip, list_all, list_any}
 use Rattle.std.proofs.lemmas.List.{map-append}
-use Rattle.std.proofs.lemmas.List.Sorted.{IsPermutation-map, IsPermutation-refl, IsPermutation-sym, IsPermutation-cons, IsPermutation-trans,
-    IsPermutation-middle, IsPermutation-append_right}
+use Rattle.std.proofs.lemmas.List.Sorted.{IsPermutation-map, IsPermutation-refl, IsPermutation-sym, IsPermutation-cons, IsPermutation-trans}
+use Rattle.std.proofs.lemmas.List.Sorted.{IsPermutation-middle, IsPermutation-append_right}
 use Rattle.sqlite_value.specs.declared.value.Value.TheVariants.{Int, Null}
 use Rattle.sqlite.specs.Order.{Row}
 use Rattle.sqlite.specs.Term.{Term, Env, holds, eval_all}
@@ -34,11 +34,11 @@ pub filter_filter : {X : Type 0} (p q : X → Bool) (xs : List X) → filter p (
 filter_filter p q [] = refl
 filter_filter {X} p q (x ∷ xs) = elim (q x) as (λ b. filter p (cond b (x ∷ filter q xs) (filter q xs))
     ≡ cond (b && p x) (x ∷ filter (λ y. q y && p y) xs) (filter (λ y. q y && p y) xs)) [
-  | true ↦ elim (p x) as (λ b. cond b (x ∷ filter p (filter q xs)) (filter p (filter q xs))
-      ≡ cond b (x ∷ filter (λ y. q y && p y) xs) (filter (λ y. q y && p y) xs))
-      [ true ↦ ap (λ ys. x ∷ ys) (filter_filter p q xs) | false ↦ filter_filter p q xs ]
-  | false ↦ filter_filter p q xs
-]
+      | true ↦ elim (p x) as (λ b. cond b (x ∷ filter p (filter q xs)) (filter p (filter q xs))
+          ≡ cond b (x ∷ filter (λ y. q y && p y) xs) (filter (λ y. q y && p y) xs))
+          [ true ↦ ap (λ ys. x ∷ ys) (filter_filter p q xs) | false ↦ filter_filter p q xs ]
+      | false ↦ filter_filter p q xs
+    ]
 
 -- what passes a test passes one of two others, and never both
 pub in_two : {X : Type 0} (r p s : X → Bool) → ((x : X) → r x ≡ (p x || s x)) → ((x : X) → p x ≡ true → s x ≡ false) → (xs : List X)
@@ -55,7 +55,7 @@ in_two {X} r p s either apart (x ∷ xs) = go (p x) (s x) refl refl (in_two r p 
         let back = filter s xs in
         rw (either x, hp, hs) (IsPermutation-trans (x ∷ filter r xs) (x ∷ (front ++ back)) (front ++ x ∷ back)
         (IsPermutation-cons x (filter r xs) (front ++ back) more) (IsPermutation-sym (front
-            ++ x ∷ back) (x ∷ (front ++ back)) (IsPermutation-middle front x back)))
+        ++ x ∷ back) (x ∷ (front ++ back)) (IsPermutation-middle front x back)))
     go false false hp hs more = rw (either x, hp, hs) more
 
 -- where no two of the xs are paired with one y, the ys that are paired are those of the pairs
@@ -77,7 +77,7 @@ module _ {X Y : Type 0} (paired : X → Y → Bool) where
   pairs_of (x ∷ xs) ys apart =
       let others = λ (y : Y). list_any (λ other. paired other y) xs in
       IsPermutation-trans (filter (λ y. list_any (λ other. paired other y) (x ∷ xs)) ys) (filter (paired x) ys
-          ++ filter others ys) (flat_map (λ other. filter (paired other) ys) (x ∷ xs))
+      ++ filter others ys) (flat_map (λ other. filter (paired other) ys) (x ∷ xs))
       (in_two (λ y. list_any (λ other. paired other y) (x ∷ xs)) (paired x) others (λ y. refl) (λ y h. none_else x y h xs apart.0) ys)
       (IsPermutation-append_right (filter (paired x) ys) (filter others ys) (flat_map (λ other. filter (paired other) ys) xs) (pairs_of xs ys apart.1))
 
@@ -109,9 +109,9 @@ module _ (params : Row) (tests : List Term) (project : List Term) where
       let shown : Env → Row = λ env. (output query env).1 in
       let all : map (λ (o : Output). o.1) a.kept ≡ flat_map (λ x. map (shows_both x) (filter (joins x) (db.trees inside))) (db.trees outer) =
       ap (map (λ (o : Output). o.1)) kept ∙ map_map (λ (o : Output). o.1) (output query) (flat_map below (db.trees outer))
-          ∙ map_flat_map shown below (db.trees outer)
+      ∙ map_flat_map shown below (db.trees outer)
       ∙ flat_map_agree (λ x. map shown (below x)) (λ x. map (shows_both x) (filter (joins x) (db.trees inside))) (λ x.
-          map_map shown (pair x) (filter (joins x) (db.trees inside))) (db.trees outer) in
+      map_map shown (pair x) (filter (joins x) (db.trees inside))) (db.trees outer) in
       subst (λ ys. IsPermutation ys rows) all (subst (IsPermutation (map (λ (o : Output). o.1) a.kept)) (sym a.shown) same)
 
 module _ {X Y : Type 0} (outer_values : X → Row) (values : Y → Row) (params : Row) (tests : List Term) (project : List Term) (p : X → Y → Bool) (show : Y → Row)
@@ -120,7 +120,7 @@ module _ {X Y : Type 0} (outer_values : X → Row) (values : Y → Row) (params 
   picked_both : (inside : List Row) (ys : List Y) → AllZip (λ row y. IsRowOf (values y) row) inside ys → (outer : List Row) (xs : List X)
       → AllZip (λ row x. IsRowOf (outer_values x) row) outer xs
       → flat_map (λ a. map (shows_both params tests project a) (filter (joins params tests project a) inside)) outer
-          ≡ flat_map (λ x. map show (filter (p x) ys)) xs
+      ≡ flat_map (λ x. map show (filter (p x) ys)) xs
   picked_both inside ys same [] [] h = refl
   picked_both inside ys same [] (x ∷ xs) h = absurd h
   picked_both inside ys same (a ∷ outer) [] h = absurd h
@@ -137,7 +137,7 @@ module _ {X Y : Type 0} (outer_values : X → Row) (values : Y → Row) (params 
   pub selected_both : (outer inside : ℕ) (names : List (List ℕ)) (db : Database) (xs : List X) (ys : List Y) (rows : List Row)
       → Holds outer_values (db.trees outer) xs → Holds values (db.trees inside) ys
       → Reads (Select (record { lets = []; body = select (inner outer (inner inside end)) tests project }) names) db params rows
-          → IsPermutation (flat_map (λ x. map show (filter (p x) ys)) xs) rows
+      → IsPermutation (flat_map (λ x. map show (filter (p x) ys)) xs) rows
   selected_both outer inside names db xs ys rows held_outer held h =
       subst (λ zs. IsPermutation zs rows) (picked_both (db.trees inside) ys held.same (db.trees outer) xs held_outer.same)
-          (answered_both params tests project outer inside db rows h)
+      (answered_both params tests project outer inside db rows h)

@@ -1,6 +1,6 @@
 -- Rows that are asked for by name.
-use Rattle.std.proofs.Common.{◌≡◌, ℕ, ◌≤◌, List, [], ◌∷◌, length, map, codes, Option, Some, None, cond, subst, false, Bool, true, ◌&&◌, ◌≢◌, slice_get, refl,
-    sym, ap, ◌∙◌, arith}
+use Rattle.std.proofs.Common.{◌≡◌, ℕ, ◌≤◌, List, [], ◌∷◌, length, map, codes, Option, Some, None, cond, subst, false, Bool, true, ◌&&◌, ◌≢◌, slice_get, refl}
+use Rattle.std.proofs.Common.{sym, ap, ◌∙◌, arith}
 use Rattle.std.specs.Prelude.{filter, find, option_map, AllPairs, IsPermutation}
 use Rattle.std.proofs.lemmas.List.{length-map}
 use Rattle.std.specs.Option.{option_to_list}
@@ -44,8 +44,11 @@ find_mapped p f [] = refl
 find_mapped p f (x ∷ xs) = elim (p (f x)) as (λ b. cond b (Some (f x)) (find p (map f xs)) ≡ option_map f (cond b (Some x) (find (λ y. p (f y)) xs)))
     [ true ↦ refl | false ↦ find_mapped p f xs ]
 
-key_is : command_of (understood club_schema KEY.now) ≡ Select (record { lets = []; body =
-    select (inner keys_tree end) (is_given 1 0 ∷ []) (map (col 1) (1 ∷ 2 ∷ 3 ∷ 4 ∷ [])) }) (map codes ("name" ∷ "member" ∷ "root" ∷ "revoked" ∷ []))
+key_is : command_of (understood club_schema KEY.now) ≡ Select (record {
+  lets = [];
+  body =
+      select (inner keys_tree end) (is_given 1 0 ∷ []) (map (col 1) (1 ∷ 2 ∷ 3 ∷ 4 ∷ []));
+}) (map codes ("name" ∷ "member" ∷ "root" ∷ "revoked" ∷ []))
 unfolding understood everything
 key_is = refl
 
@@ -91,12 +94,15 @@ key_told g old name rows clean asked club others stands =
     let reads = asked_reads g KEY.now _ old rows asked tables.lies.schema _ key_is key_plain key_unlisted in
     let p : Key → Bool = λ key. bytes_eq key.name name in
     let same = selected key_values (Text name ∷ []) (is_given 1 0 ∷ []) _ p key_values (λ id key. and_true _
-        ∙ text_equal key.name name) (λ id key. refl) keys_tree
+    ∙ text_equal key.name name) (λ id key. refl) keys_tree
     (map codes ("name" ∷ "member" ∷ "root" ∷ "revoked" ∷ [])) (state g old).now club.keys rows (keys_held _ club tables) reads in
     first_told key_values p club.keys rows (one_named (λ (key : Key). key.name) name club.keys tables.sound.unique.keys) same
 
-older_is : command_of (understood club_schema OLDER_ROOT.now) ≡ Select (record { lets = []; body =
-    select (inner olders_tree end) (is_given 1 0 ∷ []) (map (col 1) (2 ∷ 3 ∷ [])) }) (map codes ("root" ∷ "until" ∷ []))
+older_is : command_of (understood club_schema OLDER_ROOT.now) ≡ Select (record {
+  lets = [];
+  body =
+      select (inner olders_tree end) (is_given 1 0 ∷ []) (map (col 1) (2 ∷ 3 ∷ []));
+}) (map codes ("root" ∷ "until" ∷ []))
 unfolding understood everything
 older_is = refl
 
@@ -127,8 +133,11 @@ older_told g old name rows clean asked club others stands =
     first_told show p olders rows (one_named (λ (row : OlderRow). row.key) name olders tables.stored.rotated) same
     ∙ shown_again (find p olders) ∙ ap (λ o. map older_root_values (option_to_list o)) (tables.stored.olders name)
 
-member_is : command_of (understood club_schema MEMBER.now) ≡ Select (record { lets = []; body =
-    select (inner members_tree end) (is_given 1 0 ∷ []) (map (col 1) (1 ∷ 2 ∷ 3 ∷ 4 ∷ [])) }) (map codes ("name" ∷ "credited" ∷ "quota" ∷ "used" ∷ []))
+member_is : command_of (understood club_schema MEMBER.now) ≡ Select (record {
+  lets = [];
+  body =
+      select (inner members_tree end) (is_given 1 0 ∷ []) (map (col 1) (1 ∷ 2 ∷ 3 ∷ 4 ∷ []));
+}) (map codes ("name" ∷ "credited" ∷ "quota" ∷ "used" ∷ []))
 unfolding understood everything
 member_is = refl
 
@@ -143,23 +152,29 @@ member_unlisted = refl
 pub member_told : {S : Type 0} (g : Ghosts S) (old : Held S) (name : List ℕ) (rows : List Row) → HasCleanDisk (state g old)
     → Asked g MEMBER.now (Text name ∷ []) old rows
     → (club : Club) (others : List Club) → Stands (state g old) club others
-        → rows ≡ map member_values (option_to_list (option_map (member_row club) (member_named name club)))
+    → rows ≡ map member_values (option_to_list (option_map (member_row club) (member_named name club)))
 member_told g old name rows clean asked club others stands =
     let tables = asked_tables g MEMBER.now _ old rows asked clean club others stands in
     let reads = asked_reads g MEMBER.now _ old rows asked tables.lies.schema _ member_is member_plain member_unlisted in
     let p : MemberRow → Bool = λ row. bytes_eq row.member.name name in
     let held = subst (Holds member_values _) tables.stored.members tables.lies.members in
     let same = selected member_values (Text name ∷ []) (is_given 1 0 ∷ []) _ p member_values (λ id row. and_true _
-        ∙ text_equal row.member.name name) (λ id row. refl) members_tree
+    ∙ text_equal row.member.name name) (λ id row. refl) members_tree
     (map codes ("name" ∷ "credited" ∷ "quota" ∷ "used" ∷ [])) (state g old).now (map (member_row club) club.members) rows held reads in
     let low = one_named (λ (member : Member). member.name) name club.members tables.sound.unique.members in
     let fewer = filter_mapped p (member_row club) club.members in
-    first_told member_values p (map (member_row club) club.members) rows (rw fewer (omega (arith, low,
-        length-map (filter (λ (m : Member). bytes_eq m.name name) club.members) (member_row club)))) same
+    first_told member_values p (map (member_row club) club.members) rows (rw fewer (omega (
+      arith,
+      low,
+      length-map (filter (λ (m : Member). bytes_eq m.name name) club.members) (member_row club),
+    ))) same
     ∙ ap (λ o. map member_values (option_to_list o)) (find_mapped p (member_row club) club.members)
 
-facility_is : command_of (understood club_schema FACILITY.now) ≡ Select (record { lets = []; body =
-    select (inner facilities_tree end) (is_given 1 0 ∷ []) (map (col 1) (1 ∷ 2 ∷ 3 ∷ 4 ∷ 5 ∷ 6 ∷ [])) })
+facility_is : command_of (understood club_schema FACILITY.now) ≡ Select (record {
+  lets = [];
+  body =
+      select (inner facilities_tree end) (is_given 1 0 ∷ []) (map (col 1) (1 ∷ 2 ∷ 3 ∷ 4 ∷ 5 ∷ 6 ∷ []));
+})
     (map codes ("name" ∷ "kind" ∷ "places" ∷ "price" ∷ "opens" ∷ "shuts" ∷ []))
 unfolding understood everything
 facility_is = refl
@@ -180,8 +195,8 @@ facility_told g old name rows clean asked club others stands =
     let reads = asked_reads g FACILITY.now _ old rows asked tables.lies.schema _ facility_is facility_plain facility_unlisted in
     let p : Facility → Bool = λ facility. bytes_eq facility.name name in
     let same = selected facility_values (Text name ∷ []) (is_given 1 0 ∷ []) _ p facility_values (λ id facility. and_true _
-        ∙ text_equal facility.name name) (λ id facility. refl) facilities_tree
+    ∙ text_equal facility.name name) (λ id facility. refl) facilities_tree
     (map codes ("name" ∷ "kind" ∷ "places" ∷ "price" ∷ "opens" ∷ "shuts" ∷ [])) (state g old).now club.facilities rows
-        (subst (Holds facility_values _) tables.stored.facilities tables.lies.facilities) reads in
+    (subst (Holds facility_values _) tables.stored.facilities tables.lies.facilities) reads in
     first_told facility_values p club.facilities rows (one_named (λ (facility : Facility). facility.name) name club.facilities tables.sound.unique.facilities)
-        same
+    same

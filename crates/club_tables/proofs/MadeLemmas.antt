@@ -1,6 +1,6 @@
 -- What each change makes of the tables.
-use Rattle.std.proofs.Common.{◌≡◌, ◌≢◌, ℕ, zero, suc, ◌+◌, ◌-◌, ◌<◌, ◌≤◌, ◌^◌, ℤ, pos, neg_ℤ, ◌+ℤ◌, Bool, true, false, ◌||◌, cond, if◌then◌else◌, Ok, None,
-    List, [], ◌∷◌, ◌++◌, map, Contains, refl, sym, ap, subst, ◌∙◌, arith}
+use Rattle.std.proofs.Common.{◌≡◌, ◌≢◌, ℕ, zero, suc, ◌+◌, ◌-◌, ◌<◌, ◌≤◌, ◌^◌, ℤ, pos, neg_ℤ, ◌+ℤ◌, Bool, true, false, ◌||◌, cond, if◌then◌else◌, Ok, None}
+use Rattle.std.proofs.Common.{List, [], ◌∷◌, ◌++◌, map, Contains, refl, sym, ap, subst, ◌∙◌, arith}
 use Rattle.std.specs.Prelude.{AllPairs}
 use Rattle.std.specs.List.{AllByRecursion, list_any}
 use Rattle.std.specs.Str.{bytes_eq}
@@ -19,8 +19,8 @@ use Rattle.club_rows.specs.declared.booking.Booking.{Booking}
 use Rattle.club_rows.specs.declared.facility.Facility.{Facility}
 use Rattle.club_rows.specs.declared.key.Key.{Key}
 use Rattle.club_rows.specs.declared.member.Member.{Member}
-use Rattle.club_core.specs.declared.change.Change.TheVariants.{InsertMember, AddCredit, InsertFacility, InsertKey, MarkRevoked, ReplaceRoot, MarkClosed,
-    InsertBooking, MarkCancelled}
+use Rattle.club_core.specs.declared.change.Change.TheVariants.{InsertMember, AddCredit, InsertFacility, InsertKey, MarkRevoked, ReplaceRoot, MarkClosed}
+use Rattle.club_core.specs.declared.change.Change.TheVariants.{InsertBooking, MarkCancelled}
 use Rattle.club_core.specs.After.{after, credited, good_until}
 use Rattle.club_rows.specs.Booking.{same_slot, persons_of}
 use Rattle.club_core.specs.Club.{Club, IsSound, is_key_of}
@@ -29,8 +29,8 @@ use Rattle.club_core.specs.Basis.{slot_use}
 use Rattle.club_core.specs.Store.{Fits}
 use Rattle.club_core.specs.Sums.{taken_in, cost_of}
 use Rattle.club_tables.specs.declared.row.MemberRow.{MemberRow}
-use Rattle.club_tables.specs.declared.texts.TheConstants.{ADD_MEMBER, ADD_FACILITY, ADD_KEY, ADD_CREDIT, REVOKE_KEY, PUT_OLDER_ROOT, SET_ROOT, CLOSE_SLOT,
-    ADD_BOOKING, CANCEL_BOOKING}
+use Rattle.club_tables.specs.declared.texts.TheConstants.{ADD_MEMBER, ADD_FACILITY, ADD_KEY, ADD_CREDIT, REVOKE_KEY, PUT_OLDER_ROOT, SET_ROOT, CLOSE_SLOT}
+use Rattle.club_tables.specs.declared.texts.TheConstants.{ADD_BOOKING, CANCEL_BOOKING}
 use Rattle.club_tables.specs.Columns.{whole, facility_values, key_values, older_root_values, booking_values, name_values}
 use Rattle.club_tables.specs.Stored.{SlotRow, Rows, member_row, used_by, unused, use_by, persons_taken}
 use Rattle.club_tables.specs.Tables.{Tables}
@@ -47,8 +47,8 @@ use Rattle.club_tables.proofs.SelectLemmas.{Apart, apart_from_pairs}
 use Rattle.club_tables.proofs.SlotRows.{AreApart, same_itself, not_same}
 use Rattle.club_tables.proofs.OlderLemmas.{put_older, older_stands}
 use Rattle.club_tables.proofs.OwnerLemmas.{all_of, all_last, owner_is}
-use Rattle.club_tables.proofs.StoredLemmas.{member_stored, credit_stored, facility_stored, key_stored, revoke_stored, rotate_stored, close_stored,
-    booking_stored, taken_more}
+use Rattle.club_tables.proofs.StoredLemmas.{member_stored, credit_stored, facility_stored, key_stored, revoke_stored, rotate_stored, close_stored}
+use Rattle.club_tables.proofs.StoredLemmas.{booking_stored, taken_more}
 use Rattle.club_tables.proofs.CancelStored.{there, used_back, taken_back, cancel_stored, same_stored}
 use Rattle.club_tables.proofs.UpsertLemmas.{slot_closed, slot_taken, Takes}
 
@@ -85,7 +85,7 @@ named_once club rows is sound =
     let R : MemberRow → MemberRow → Type 0 = λ a b. name_of a ≢ name_of b in
     let Q : Member → Member → Type 0 = λ a b. a.name ≢ b.name in
     subst (AllPairs R) (sym is) (pairs_from_apart R (map (member_row club) club.members)
-        (named_apart club club.members (apart_from_pairs Q club.members sound.unique.members)))
+    (named_apart club club.members (apart_from_pairs Q club.members sound.unique.members)))
 
 all_mapped : {X Y : Type 0} (P : Y → Type 0) (f : X → Y) (xs : List X) → AllByRecursion P (map f xs) → AllByRecursion (λ x. P (f x)) xs
 all_mapped P f [] h = tt
@@ -128,8 +128,10 @@ uses_less : (club : Club) (name : List ℕ) (refund : ℕ) (ms : List Member) �
     → ((m : Member) → bytes_eq m.name name ≡ true → refund ≤ used_by club m.name)
     → AllByRecursion (Uses name (neg_ℤ (pos refund)) (λ n. n - refund)) (map (member_row club) ms)
 uses_less club name refund [] h enough = tt
-uses_less club name refund (m ∷ ms) h enough = (λ passes. minus (used_by club m.name) refund (enough m passes) (omega (arith, h.0)),
-    uses_less club name refund ms h.1 enough)
+uses_less club name refund (m ∷ ms) h enough = (
+  λ passes. minus (used_by club m.name) refund (enough m passes) (omega (arith, h.0)),
+  uses_less club name refund ms h.1 enough,
+)
 
 -- ---- rows of slots
 
@@ -180,8 +182,10 @@ few_taken club sound slot has = each club.facilities (all_of _ club.facilities s
 -- ---- the changes
 
 module _ {S : Type 0} (g : Ghosts S) (old : Held S) (db : Database) (club : Club) (tables : Tables (state g old).now club) where
-  pub member_made : (member : Member) → Fits (InsertMember member) club → Ran g ((ADD_MEMBER.now,
-      Text member.name ∷ whole member.credited ∷ whole member.quota ∷ []) ∷ []) old db → Tables db (after (InsertMember member) club)
+  pub member_made : (member : Member) → Fits (InsertMember member) club → Ran g ((
+    ADD_MEMBER.now,
+    Text member.name ∷ whole member.credited ∷ whole member.quota ∷ [],
+  ) ∷ []) old db → Tables db (after (InsertMember member) club)
   member_made member fits ran =
       let t = one_turn g old db _ ran in
       held_by g old db _ t.mid t.left (record {
@@ -241,7 +245,7 @@ module _ {S : Type 0} (g : Ghosts S) (old : Held S) (db : Database) (club : Club
 
   pub rotate_made : (name root was : List ℕ) (until : ℕ) → HasRoot name was club → Fits (ReplaceRoot name root until) club
       → Ran g ((PUT_OLDER_ROOT.now, Text name ∷ older_root_values (good_until until was)) ∷ (SET_ROOT.now, Text name ∷ Blob root ∷ []) ∷ []) old db
-          → Tables db (after (ReplaceRoot name root until) club)
+      → Tables db (after (ReplaceRoot name root until) club)
   rotate_made name root was until has fits ran =
       let t1 = ran.turns in
       let t2 = t1.3 in
@@ -286,7 +290,7 @@ module _ {S : Type 0} (g : Ghosts S) (old : Held S) (db : Database) (club : Club
 
   pub booking_made : (booking : Booking) (member : List ℕ) → IsOwnedBy member booking.key club → Fits (InsertBooking booking) club
       → Ran g (with_totals ADD_BOOKING.now (booking_values booking) (Text member ∷ Int (pos (cost_of booking)) ∷ []) (name_values booking.slot
-          ++ Int (pos (persons_taken booking)) ∷ [])) old db → Tables db (after (InsertBooking booking) club)
+      ++ Int (pos (persons_taken booking)) ∷ [])) old db → Tables db (after (InsertBooking booking) club)
   booking_made booking member owned fits ran =
       let t1 = ran.turns in
       let t2 = t1.3 in
@@ -294,30 +298,35 @@ module _ {S : Type 0} (g : Ghosts S) (old : Held S) (db : Database) (club : Club
       let left : db ≡ (state g t3.0).now = ran.is ∙ ap (λ h. (state g h).now) t3.3 in
       let row : IsBooking booking = all_last IsBooking club.bookings booking (all_of IsBooking (club.bookings ++ booking ∷ []) fits.rows.bookings) in
       let booked = all_last (λ (b : Booking). Contains (map (λ (f : Facility). f.name) club.facilities) b.slot.facility) club.bookings booking
-          (all_of _ (club.bookings ++ booking ∷ []) fits.references.booked) in
+      (all_of _ (club.bookings ++ booking ∷ []) fits.references.booked) in
       let cost_low : cost_of booking ≤ 499_950 = omega (arith, row.charge) in
       let uses = subst (AllByRecursion (Uses member (pos (cost_of booking)) (λ n. n + cost_of booking))) (sym tables.stored.members)
-          (uses_more club member (cost_of booking) cost_low club.members (few_used club tables.sound)) in
+      (uses_more club member (cost_of booking) cost_low club.members (few_used club tables.sound)) in
       let few = few_taken (after (InsertBooking booking) club) fits booking.slot booked in
       let more = taken_more club booking booking.slot in
       let here : (if same_slot booking.slot booking.slot then taken_in booking.slot club.bookings + persons_taken booking else taken_in booking.slot
-          club.bookings) ≡ taken_in booking.slot club.bookings + persons_taken booking =
+      club.bookings) ≡ taken_in booking.slot club.bookings + persons_taken booking =
       ap (λ b. if b then taken_in booking.slot club.bookings + persons_taken booking else taken_in booking.slot club.bookings) (same_itself booking.slot) in
       let sum = total (taken_in booking.slot club.bookings) (persons_taken booking) (omega (arith, few, more, here)) in
       let takes = takes_of club tables.rows.slots tables.stored.slots booking.slot (pos (persons_taken booking)) (λ n.
-          n + persons_taken booking) sum tables.rows.slots all_held in
+      n + persons_taken booking) sum tables.rows.slots all_held in
       let first = booking_put (state g (begun old)) (state g t1.0) tables.rows tables.lies booking t1.1 t1.2 in
       let second = member_used (state g t1.0) (state g t2.0) _ first (named_once club tables.rows.members tables.stored.members tables.sound) member
-          (pos (cost_of booking)) (λ n. n + cost_of booking) uses t2.1 t2.2 in
+      (pos (cost_of booking)) (λ n. n + cost_of booking) uses t2.1 t2.2 in
       let third = slot_taken (state g t2.0) (state g t3.0) _ second tables.stored.once booking.slot (pos (persons_taken booking)) (λ n.
-          n + persons_taken booking) takes (λ none. let e : persons_taken booking ≡ 0 + persons_taken booking = omega arith in ap pos e) t3.1 t3.2 in
-      held_by g old db _ t3.0 left (record { rows = _; lies = third; stored =
-          booking_stored club tables.rows tables.stored tables.sound member booking owned; sound = fits })
+      n + persons_taken booking) takes (λ none. let e : persons_taken booking ≡ 0 + persons_taken booking = omega arith in ap pos e) t3.1 t3.2 in
+      held_by g old db _ t3.0 left (record {
+        rows = _;
+        lies = third;
+        stored =
+            booking_stored club tables.rows tables.stored tables.sound member booking owned;
+        sound = fits;
+      })
 
   pub cancel_made : (booking : Booking) (member : List ℕ) (refund : ℕ) → IsToCancel booking club → IsOwnedBy member booking.key club
       → Fits (MarkCancelled booking.key booking.number refund) club
       → Ran g (with_totals CANCEL_BOOKING.now (Text booking.key ∷ whole booking.number ∷ whole refund ∷ []) (Text member ∷ Int (neg_ℤ (pos refund)) ∷ [])
-          (name_values booking.slot ++ Int (neg_ℤ (pos (persons_of booking))) ∷ [])) old db
+      (name_values booking.slot ++ Int (neg_ℤ (pos (persons_of booking))) ∷ [])) old db
       → Tables db (after (MarkCancelled booking.key booking.number refund) club)
   cancel_made booking member refund cancels owned fits ran =
       let t1 = ran.turns in
@@ -330,27 +339,32 @@ module _ {S : Type 0} (g : Ghosts S) (old : Held S) (db : Database) (club : Club
       let all : (if is_key_of m.name club booking.key then refund else 0) ≡ refund = ap (λ b. if b then refund else 0) mine in
       omega (arith, back, all) in
       let uses = subst (AllByRecursion (Uses member (neg_ℤ (pos refund)) (λ n. n - refund))) (sym tables.stored.members)
-          (uses_less club member refund club.members (few_used club tables.sound) enough) in
+      (uses_less club member refund club.members (few_used club tables.sound) enough) in
       let at = (there club tables.sound booking cancels refund fits).0 in
       let booked = subst (λ (b : Booking). Contains (map (λ (f : Facility). f.name) club.facilities) b.slot.facility) at.2
-          (tables.sound.references.booked at.0 booking at.1) in
+      (tables.sound.references.booked at.0 booking at.1) in
       let few = few_taken club tables.sound booking.slot booked in
       let back = taken_back club tables.sound booking cancels refund fits booking.slot in
       let here : (if same_slot booking.slot booking.slot then persons_of booking else 0) ≡ persons_of booking =
-          ap (λ b. if b then persons_of booking else 0) (same_itself booking.slot) in
+      ap (λ b. if b then persons_of booking else 0) (same_itself booking.slot) in
       let there_are : persons_of booking ≤ taken_in booking.slot club.bookings = omega (arith, back, here) in
       let sum = minus (taken_in booking.slot club.bookings) (persons_of booking) there_are (omega (arith, few)) in
       let takes = takes_of club tables.rows.slots tables.stored.slots booking.slot (neg_ℤ (pos (persons_of booking))) (λ n.
-          n - persons_of booking) sum tables.rows.slots all_held in
+      n - persons_of booking) sum tables.rows.slots all_held in
       let fresh : list_any (λ (row : SlotRow). same_slot row.slot booking.slot) tables.rows.slots ≡ false
-          → neg_ℤ (pos (persons_of booking)) ≡ pos (0 - persons_of booking) = λ none.
+      → neg_ℤ (pos (persons_of booking)) ≡ pos (0 - persons_of booking) = λ none.
       let nothing : taken_in booking.slot club.bookings ≡ 0 = ap (λ u. u.taken) (sym (tables.stored.slots booking.slot)
-          ∙ no_row booking.slot tables.rows.slots none) in
+      ∙ no_row booking.slot tables.rows.slots none) in
       absurd (omega (arith, nothing, there_are)) in
       let first = booking_cancelled (state g (begun old)) (state g t1.0) tables.rows tables.lies bookings_once booking.key booking.number refund t1.1 t1.2 in
       let second = member_used (state g t1.0) (state g t2.0) _ first (named_once club tables.rows.members tables.stored.members tables.sound) member
-          (neg_ℤ (pos refund)) (λ n. n - refund) uses t2.1 t2.2 in
+      (neg_ℤ (pos refund)) (λ n. n - refund) uses t2.1 t2.2 in
       let third = slot_taken (state g t2.0) (state g t3.0) _ second tables.stored.once booking.slot (neg_ℤ (pos (persons_of booking))) (λ n.
-          n - persons_of booking) takes fresh t3.1 t3.2 in
-      held_by g old db _ t3.0 left (record { rows = _; lies = third; stored =
-          cancel_stored club tables.sound booking cancels refund fits tables.rows tables.stored member owned; sound = fits })
+      n - persons_of booking) takes fresh t3.1 t3.2 in
+      held_by g old db _ t3.0 left (record {
+        rows = _;
+        lies = third;
+        stored =
+            cancel_stored club tables.sound booking cancels refund fits tables.rows tables.stored member owned;
+        sound = fits;
+      })

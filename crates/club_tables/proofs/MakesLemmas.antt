@@ -12,10 +12,10 @@ use Rattle.sqlite.specs.Command.TheVariants.{CreateTable, CreateIndex}
 use Rattle.sqlite.specs.Does.{lacks_sequence}
 use Rattle.sqlite.specs.Listing.{understood}
 use Rattle.sqlite.proofs.Callers.{IsPlain, command_of, statement_of}
-use Rattle.club_tables.specs.Schema.{no_schema, desk_table, members_table, facilities_table, keys_table, slots_table, bookings_table, six_tables,
-    old_roots_table, keys_by_member, first_schema, club_schema}
-use Rattle.club_tables.specs.declared.texts.TheConstants.{MAKE_DESK, MAKE_MEMBERS, MAKE_FACILITIES, MAKE_KEYS, MAKE_SLOTS, MAKE_BOOKINGS, MAKE_KEYS_BY_MEMBER,
-    MAKE_OLD_ROOTS}
+use Rattle.club_tables.specs.Schema.{no_schema, desk_table, members_table, facilities_table, keys_table, slots_table, bookings_table, six_tables}
+use Rattle.club_tables.specs.Schema.{old_roots_table, keys_by_member, first_schema, club_schema}
+use Rattle.club_tables.specs.declared.texts.TheConstants.{MAKE_DESK, MAKE_MEMBERS, MAKE_FACILITIES, MAKE_KEYS, MAKE_SLOTS, MAKE_BOOKINGS, MAKE_KEYS_BY_MEMBER}
+use Rattle.club_tables.specs.declared.texts.TheConstants.{MAKE_OLD_ROOTS}
 
 -- the text makes the table
 pub record Makes (schema : Schema) (text : List ℕ) (table : Table) : Type 0 where

@@ -13,10 +13,10 @@ use Rattle.sqlite.specs.State.{ExecutesIn}
 use Rattle.sqlite.specs.Held.{Held, state}
 use Rattle.sqlite.proofs.Callers.{IsPlain, command_of}
 use Rattle.club_core.specs.Club.{IsSound, empty_club}
-use Rattle.club_tables.specs.declared.texts.TheConstants.{MAKE_DESK, MAKE_MEMBERS, MAKE_FACILITIES, MAKE_KEYS, MAKE_SLOTS, MAKE_BOOKINGS, MAKE_KEYS_BY_MEMBER,
-    MAKE_OLD_ROOTS, ADD_VERSION}
-use Rattle.club_tables.specs.Schema.{no_schema, desk_table, members_table, facilities_table, keys_table, slots_table, bookings_table, six_tables,
-    old_roots_table, keys_by_member, first_schema, club_schema}
+use Rattle.club_tables.specs.declared.texts.TheConstants.{MAKE_DESK, MAKE_MEMBERS, MAKE_FACILITIES, MAKE_KEYS, MAKE_SLOTS, MAKE_BOOKINGS, MAKE_KEYS_BY_MEMBER}
+use Rattle.club_tables.specs.declared.texts.TheConstants.{MAKE_OLD_ROOTS, ADD_VERSION}
+use Rattle.club_tables.specs.Schema.{no_schema, desk_table, members_table, facilities_table, keys_table, slots_table, bookings_table, six_tables}
+use Rattle.club_tables.specs.Schema.{old_roots_table, keys_by_member, first_schema, club_schema}
 use Rattle.club_tables.specs.Columns.{whole, version_values}
 use Rattle.club_tables.specs.Opening.{table_batch, HasNoDesk}
 use Rattle.club_tables.specs.Stored.{Rows, IsStoredAs}
@@ -25,8 +25,8 @@ use Rattle.club_tables.specs.Transaction.{Ran, begun}
 use Rattle.club_tables.proofs.DeskLemmas.{desk_made}
 use Rattle.club_tables.proofs.InsertLemmas.{creates, indexes, inserts, cast_null, cast_int}
 use Rattle.club_tables.proofs.RowLemmas.{holds_more, holds_none}
-use Rattle.club_tables.proofs.MakesLemmas.{schema_1, schema_2, schema_3, schema_4, schema_5, makes_desk, makes_members, makes_facilities, makes_keys,
-    makes_slots, makes_bookings, keys_made, makes_keys_by_member, makes_old_roots, makes_again, makes_over_first}
+use Rattle.club_tables.proofs.MakesLemmas.{schema_1, schema_2, schema_3, schema_4, schema_5, makes_desk, makes_members, makes_facilities, makes_keys}
+use Rattle.club_tables.proofs.MakesLemmas.{makes_slots, makes_bookings, keys_made, makes_keys_by_member, makes_old_roots, makes_again, makes_over_first}
 
 abbrev version_terms : List Term
 version_terms = lit Null ∷ lit (Int (pos 2)) ∷ []
@@ -41,8 +41,14 @@ version_plain = (refl, refl)
 
 pub empty_is_sound : IsSound empty_club
 empty_is_sound = record {
-  rows = record { members = λ k d low. absurd (omega arith); facilities = λ k d low. absurd (omega arith); keys = λ k d low. absurd (omega arith); bookings =
-      λ k d low. absurd (omega arith); closed = λ k d low. absurd (omega arith) };
+  rows = record {
+    members = λ k d low. absurd (omega arith);
+    facilities = λ k d low. absurd (omega arith);
+    keys = λ k d low. absurd (omega arith);
+    bookings =
+        λ k d low. absurd (omega arith);
+    closed = λ k d low. absurd (omega arith);
+  };
   unique = record {
     members = λ i j d less low. absurd (omega arith);
     facilities = λ i j d less low. absurd (omega arith);
@@ -50,8 +56,13 @@ empty_is_sound = record {
     bookings = λ i j d less low. absurd (omega arith);
     closed = λ i j d less low. absurd (omega arith);
   };
-  references = record { keys = λ k d low. absurd (omega arith); bookings = λ k d low. absurd (omega arith); booked = λ k d low. absurd (omega arith); closed =
-      λ k d low. absurd (omega arith) };
+  references = record {
+    keys = λ k d low. absurd (omega arith);
+    bookings = λ k d low. absurd (omega arith);
+    booked = λ k d low. absurd (omega arith);
+    closed =
+        λ k d low. absurd (omega arith);
+  };
   balances = λ k d low. absurd (omega arith);
   places = λ k d low. absurd (omega arith);
 }
@@ -60,8 +71,17 @@ abbrev no_rows : Rows
 no_rows = record { members = []; facilities = []; keys = []; slots = []; bookings = []; olders = [] }
 
 empty_is_stored : IsStoredAs empty_club no_rows
-empty_is_stored = record { members = refl; facilities = refl; keys = refl; bookings = refl; slots = λ slot. refl; once =
-    λ i j d less low. absurd (omega arith); olders = λ name. refl; rotated = λ i j d less low. absurd (omega arith) }
+empty_is_stored = record {
+  members = refl;
+  facilities = refl;
+  keys = refl;
+  bookings = refl;
+  slots = λ slot. refl;
+  once =
+      λ i j d less low. absurd (omega arith);
+  olders = λ name. refl;
+  rotated = λ i j d less low. absurd (omega arith);
+}
 
 module _ {S : Type 0} (g : Ghosts S) (old : Held S) (db : Database) (ran : Ran g table_batch old db) where
   -- over no tables it makes those of the empty club
@@ -77,23 +97,23 @@ module _ {S : Type 0} (g : Ghosts S) (old : Held S) (db : Database) (ran : Ran g
       let t8 = t7.3 in
       let t9 = t8.3 in
       let c1 = creates (state g (begun old)) (state g t1.0) no_schema has MAKE_DESK.now makes_desk.plain desk_table makes_desk.is makes_desk.whole
-          makes_desk.defined makes_desk.uncounted t1.1 t1.2 in
+      makes_desk.defined makes_desk.uncounted t1.1 t1.2 in
       let c2 = creates (state g t1.0) (state g t2.0) schema_1 c1.1 MAKE_MEMBERS.now makes_members.plain members_table makes_members.is makes_members.whole
-          makes_members.defined makes_members.uncounted t2.1 t2.2 in
+      makes_members.defined makes_members.uncounted t2.1 t2.2 in
       let c3 = creates (state g t2.0) (state g t3.0) schema_2 c2.1 MAKE_FACILITIES.now makes_facilities.plain facilities_table makes_facilities.is
-          makes_facilities.whole makes_facilities.defined makes_facilities.uncounted t3.1 t3.2 in
+      makes_facilities.whole makes_facilities.defined makes_facilities.uncounted t3.1 t3.2 in
       let c4 = creates (state g t3.0) (state g t4.0) schema_3 c3.1 MAKE_KEYS.now makes_keys.plain keys_table makes_keys.is makes_keys.whole makes_keys.defined
-          makes_keys.uncounted t4.1 t4.2 in
+      makes_keys.uncounted t4.1 t4.2 in
       let c5 = creates (state g t4.0) (state g t5.0) schema_4 c4.1 MAKE_SLOTS.now makes_slots.plain slots_table makes_slots.is makes_slots.whole
-          makes_slots.defined makes_slots.uncounted t5.1 t5.2 in
+      makes_slots.defined makes_slots.uncounted t5.1 t5.2 in
       let c6 = creates (state g t5.0) (state g t6.0) schema_5 c5.1 MAKE_BOOKINGS.now makes_bookings.plain bookings_table makes_bookings.is makes_bookings.whole
-          makes_bookings.defined makes_bookings.uncounted t6.1 t6.2 in
+      makes_bookings.defined makes_bookings.uncounted t6.1 t6.2 in
       let c7 = indexes (state g t6.0) (state g t7.0) six_tables c6.1 MAKE_KEYS_BY_MEMBER.now makes_keys_by_member.plain 3 keys_made keys_by_member
-          makes_keys_by_member.listed makes_keys_by_member.is makes_keys_by_member.whole makes_keys_by_member.defined t7.1 t7.2 in
+      makes_keys_by_member.listed makes_keys_by_member.is makes_keys_by_member.whole makes_keys_by_member.defined t7.1 t7.2 in
       let c8 = creates (state g t7.0) (state g t8.0) first_schema c7.0 MAKE_OLD_ROOTS.now makes_old_roots.plain old_roots_table makes_old_roots.is
-          makes_old_roots.whole makes_old_roots.defined makes_old_roots.uncounted t8.1 t8.2 in
+      makes_old_roots.whole makes_old_roots.defined makes_old_roots.uncounted t8.1 t8.2 in
       let c9 = inserts (state g t8.0) (state g t9.0) club_schema c8.1 ADD_VERSION.now version_plain 0 desk_table version_terms 2 [] (whole 2 ∷ []) refl
-          version_is refl refl refl (rw (cast_null, cast_int (pos 2))) (λ row. refl) t9.1 t9.2 in
+      version_is refl refl refl (rw (cast_null, cast_int (pos 2))) (λ row. refl) t9.1 t9.2 in
       let desk : (state g t8.0).now.trees 0 ≡ [] = c8.3.0 ∙ c7.1.0 ∙ c6.3.0 ∙ c5.3.0 ∙ c4.3.0 ∙ c3.3.0 ∙ c2.3.0 ∙ c1.2 in
       let members : (state g t8.0).now.trees 1 ≡ [] = c8.3.1.0 ∙ c7.1.1.0 ∙ c6.3.1.0 ∙ c5.3.1.0 ∙ c4.3.1.0 ∙ c3.3.1.0 ∙ c2.2 in
       let facilities : (state g t8.0).now.trees 3 ≡ [] = c8.3.1.1.0 ∙ c7.1.1.1.0 ∙ c6.3.1.1.0 ∙ c5.3.1.1.0 ∙ c4.3.1.1.0 ∙ c3.2 in

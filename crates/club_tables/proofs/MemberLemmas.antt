@@ -1,6 +1,6 @@
 -- What is asked of the bookings of all keys of a member.
-use Rattle.std.proofs.Common.{◌≡◌, ◌≢◌, ℕ, ◌+◌, ◌*◌, ◌<◌, ◌^◌, pos, ℤ, Bool, true, false, not, cond, ◌&&◌, ◌||◌, List, [], ◌∷◌, map, codes, length, refl, sym,
-    ap, subst, ◌∙◌, arith}
+use Rattle.std.proofs.Common.{◌≡◌, ◌≢◌, ℕ, ◌+◌, ◌*◌, ◌<◌, ◌^◌, pos, ℤ, Bool, true, false, not, cond, ◌&&◌, ◌||◌, List, [], ◌∷◌, map, codes, length, refl, sym}
+use Rattle.std.proofs.Common.{ap, subst, ◌∙◌, arith}
 use Rattle.std.specs.Prelude.{filter, flat_map, slice_index_or, nat_lt, All, AllPairs, IsPermutation}
 use Rattle.std.specs.List.{list_any}
 use Rattle.std.specs.Str.{bytes_eq}
@@ -60,8 +60,11 @@ begins_later = op2 (Compare Gt Binary) (op2 (Arith Add) (op2 (Arith Mul) (col 2 
     (col 0 1)
 
 open_is : command_of (understood club_schema OPEN.now)
-    ≡ Select (record { lets = []; body = select (inner keys_tree (inner bookings_tree end)) (under_it ∷ is_given 2 0 ∷ stands_still ∷ begins_later ∷ [])
-        (col 2 2 ∷ []) }) (codes "number" ∷ [])
+    ≡ Select (record {
+      lets = [];
+      body = select (inner keys_tree (inner bookings_tree end)) (under_it ∷ is_given 2 0 ∷ stands_still ∷ begins_later ∷ [])
+          (col 2 2 ∷ []);
+    }) (codes "number" ∷ [])
 unfolding understood everything
 open_is = refl
 
@@ -144,23 +147,23 @@ owned_rows member test club unique =
     let among : Booking → Bool = λ booking. is_key_of member club booking.key in
     let same : filter (λ booking. list_any (λ key. is_owned member test key booking) club.keys) club.bookings ≡ filter test (bookings_of member club) =
     filter_agree _ (λ booking. among booking && test booking) (λ booking.
-        any_owned (λ key. bytes_eq key.name booking.key) (λ key. bytes_eq key.member member) (test booking) club.keys) club.bookings
+    any_owned (λ key. bytes_eq key.name booking.key) (λ key. bytes_eq key.member member) (test booking) club.keys) club.bookings
     ∙ sym (filter_filter test among club.bookings) in
     subst (λ bookings. IsPermutation bookings (flat_map (λ key. filter (is_owned member test key) club.bookings) club.keys)) same
     (pairs_of (is_owned member test) club.keys club.bookings
     (apart_from_pairs (IsElsewhere (is_owned member test)) club.keys (λ i j d less low.
-        other_key member test (slice_index_or club.keys i d) (slice_index_or club.keys j d) (unique i j d less low))))
+    other_key member test (slice_index_or club.keys i d) (slice_index_or club.keys j d) (unique i j d less low))))
 
 -- what is shown of each pair of a key of the member and a booking under it is what is shown of the member's bookings
 owned_shown : (member : List ℕ) (test : Booking → Bool) (show : Booking → Row) (club : Club) (rows : List Row)
     → AllPairs (λ (a : Key) (b : Key). a.name ≢ b.name) club.keys
     → IsPermutation (flat_map (λ key. map show (filter (is_owned member test key) club.bookings)) club.keys) rows
-        → IsPermutation (map show (filter test (bookings_of member club))) rows
+    → IsPermutation (map show (filter test (bookings_of member club))) rows
 owned_shown member test show club rows unique h =
     let pairs : Key → List Booking = λ key. filter (is_owned member test key) club.bookings in
     IsPermutation-trans (map show (filter test (bookings_of member club))) (flat_map (λ key. map show (pairs key)) club.keys) rows
     (subst (IsPermutation (map show (filter test (bookings_of member club)))) (map_flat_map show pairs club.keys)
-        (IsPermutation-map show _ _ (owned_rows member test club unique))) h
+    (IsPermutation-map show _ _ (owned_rows member test club unique))) h
 
 -- ---- the statements
 
@@ -194,14 +197,14 @@ open_told g old member moment rows clean asked club others stands =
     let l = and_true (is_true (binary (Compare Gt Binary) (start_value b) (whole moment))) in
     let h : (is_true (binary (Compare Eq Binary) (Text k.name) (Text b.key)) && (is_true (binary (Compare Eq Binary) (Text k.member) (Text member))
     && (is_true (binary (Compare Eq Binary) (whole (truth b.cancelled)) (whole 0))
-        && (is_true (binary (Compare Gt Binary) (start_value b) (whole moment)) && true))))
+    && (is_true (binary (Compare Gt Binary) (start_value b) (whole moment)) && true))))
     ≡ is_owned member (comes moment) k b = cc in h in
     let both = selected_both key_values booking_values (Text member ∷ whole moment ∷ []) (under_it ∷ is_given 2 0 ∷ stands_still ∷ begins_later ∷ []) (col 2 2
-        ∷ []) (is_owned member (comes moment)) number tests (λ i j k b. refl)
+    ∷ []) (is_owned member (comes moment)) number tests (λ i j k b. refl)
     keys_tree bookings_tree (codes "number" ∷ []) (state g old).now club.keys club.bookings rows (keys_held _ club tables) (bookings_held _ club tables)
-        reads in
+    reads in
     let own = bookings_of member club in
     let same = owned_shown member (comes moment) number club rows tables.sound.unique.keys both in
     length_permutation (map number (filter (comes moment) own)) rows same ∙ length-map (filter (comes moment) own) number
     ∙ ap length (filter_where IsBooking (comes moment) (is_to_come moment) (comes_is moment) own
-        (All-filter (λ b. is_key_of member club b.key) IsBooking club.bookings tables.sound.rows.bookings))
+    (All-filter (λ b. is_key_of member club b.key) IsBooking club.bookings tables.sound.rows.bookings))

@@ -53,15 +53,15 @@ module _ {S : Type 0} (g : Ghosts S) (old : Held S) (db : Database) (ran : Ran g
       let t2 = t1.3 in
       let mid = (state g t1.0).now in
       let c1 = creates (state g (begun old)) (state g t1.0) first_schema lies.schema MAKE_OLD_ROOTS.now makes_old_roots.plain old_roots_table makes_old_roots.is
-          makes_old_roots.whole makes_old_roots.defined makes_old_roots.uncounted t1.1 t1.2 in
+      makes_old_roots.whole makes_old_roots.defined makes_old_roots.uncounted t1.1 t1.2 in
       let c2 = updates (state g t1.0) (state g t2.0) c1.1 SET_VERSION.now version_plain 0 version_table (select (inner desk_tree end) [] version_terms) [] refl
-          version_is t2.1 t2.2 in
+      version_is t2.1 t2.2 in
       let next = (state g t2.0).now in
       let others = c2.4 in
       let is : db ≡ next = ran.is ∙ ap (λ h. (state g h).now) t2.3 in
       let one : Holds version_values (mid.trees desk_tree) (1 ∷ []) = subst (λ rs. Holds version_values rs (1 ∷ [])) (sym c1.3.0) lies.version in
       let two = replaced version_values (λ _. true) (λ _. 2) (λ n fails. absurd cc) [] [] version_terms (λ id n.
-          refl) version_table (record { schema = club_schema; trees = mid.trees }) (1 ∷ []) c2.0
+      refl) version_table (record { schema = club_schema; trees = mid.trees }) (1 ∷ []) c2.0
       (λ _. Unit {0}) (nothing_more {X = ℕ} (1 ∷ [])) (λ id n _ passes. refl) (λ id n. rw (cast_int id, cast_int (pos n)) refl) one (omega arith) c2.1 in
       let left : Lies next rows = record {
         schema = c2.2;

@@ -1,6 +1,6 @@
 -- The rows of older roots, once one is put.
-use Rattle.std.proofs.Common.{◌≡◌, ◌≢◌, ℕ, ℤ, pos, Bool, true, false, ◌||◌, cond, if◌then◌else◌, Some, None, Option, Ok, List, [], ◌∷◌, ◌++◌, map, refl, sym,
-    ap, subst, ◌∙◌, true≢false}
+use Rattle.std.proofs.Common.{◌≡◌, ◌≢◌, ℕ, ℤ, pos, Bool, true, false, ◌||◌, cond, if◌then◌else◌, Some, None, Option, Ok, List, [], ◌∷◌, ◌++◌, map, refl, sym}
+use Rattle.std.proofs.Common.{ap, subst, ◌∙◌, true≢false}
 use Rattle.std.specs.Prelude.{find, AllPairs, option_map}
 use Rattle.std.specs.List.{AllByRecursion, list_any}
 use Rattle.std.specs.Str.{bytes_eq}
@@ -90,8 +90,10 @@ module _ (key : List ℕ) (older : OlderRoot) where
 
   each_lone : (row : OlderRow) (rows : List OlderRow) → AllByRecursion (Differs row) rows → AllByRecursion (IsLone older_values is_of row) rows
   each_lone row [] apart = tt
-  each_lone row (x ∷ rows) apart = (λ both. apart.0 ((bytes_eq-Decides row.key key).0 both.0 ∙ sym ((bytes_eq-Decides x.key key).0 both.1)),
-      each_lone row rows apart.1)
+  each_lone row (x ∷ rows) apart = (
+    λ both. apart.0 ((bytes_eq-Decides row.key key).0 both.0 ∙ sym ((bytes_eq-Decides x.key key).0 both.1)),
+    each_lone row rows apart.1,
+  )
 
   lone : (rows : List OlderRow) → Apart Differs rows → Apart (IsLone older_values is_of) rows
   lone [] apart = tt
@@ -128,7 +130,7 @@ module _ (key : List ℕ) (older : OlderRoot) where
     where
       go : older_by name (map renewed rows) ≡ older_by name rows → (b : Bool) → bytes_eq row.key name ≡ b
           → shown_by (cond b (Some (renewed row)) (find (λ (x : OlderRow). bytes_eq x.key name) (map renewed rows)))
-              ≡ shown_by (cond b (Some row) (find (λ (x : OlderRow). bytes_eq x.key name) rows))
+          ≡ shown_by (cond b (Some row) (find (λ (x : OlderRow). bytes_eq x.key name) rows))
       go more true is = ap (λ b. let told : Option OlderRoot = Some (if b then older else row.older) in told) (told_row name row is ∙ other)
       go more false is = more
 
@@ -139,8 +141,8 @@ module _ (key : List ℕ) (older : OlderRoot) where
       go : (list_any is_of rows ≡ true → Told name (older_by name (map renewed rows)) (older_by name rows)) → (b c : Bool) → bytes_eq row.key name ≡ b
           → bytes_eq row.key key ≡ c → (c || list_any is_of rows) ≡ true
           → Told name (shown_by (cond b (Some (record row { older = if c then older else row.older }))
-              (find (λ (x : OlderRow). bytes_eq x.key name) (map renewed rows))))
-              (shown_by (cond b (Some row) (find (λ (x : OlderRow). bytes_eq x.key name) rows)))
+          (find (λ (x : OlderRow). bytes_eq x.key name) (map renewed rows))))
+          (shown_by (cond b (Some row) (find (λ (x : OlderRow). bytes_eq x.key name) rows)))
       go later true c is this h = let same : c ≡ bytes_eq key name = sym this ∙ told_row name row is in
           subst (λ b. Some (if c then older else row.older) ≡ (if b then Some older else Some row.older)) same (either c)
         where
@@ -159,7 +161,7 @@ module _ (key : List ℕ) (older : OlderRoot) where
       go : (list_any is_of rows ≡ false → Told name (older_by name (rows ++ record { key = key; older = older } ∷ [])) (older_by name rows)) → (b c : Bool)
           → bytes_eq row.key name ≡ b → bytes_eq row.key key ≡ c → (c || list_any is_of rows) ≡ false
           → Told name (shown_by (cond b (Some row) (find (λ (x : OlderRow). bytes_eq x.key name) (rows ++ record { key = key; older = older } ∷ []))))
-              (shown_by (cond b (Some row) (find (λ (x : OlderRow). bytes_eq x.key name) rows)))
+          (shown_by (cond b (Some row) (find (λ (x : OlderRow). bytes_eq x.key name) rows)))
       go later b true is this h = absurd cc
       go later true false is this h = let other : bytes_eq key name ≡ false = sym (told_row name row is) ∙ this in rw other refl
       go later false false is this h = later h
@@ -213,18 +215,18 @@ module _ (key : List ℕ) (older : OlderRoot) where
 pub older_stands : (old new : State) (rows : Rows) → Lies old.now rows → AllPairs (λ (a : OlderRow) (b : OlderRow). a.key ≢ b.key) rows.olders
     → (key : List ℕ) (older : OlderRoot) (count : ℕ)
     → Executes PUT_OLDER_ROOT.now (Text key ∷ older_root_values older) old new (Ok count)
-        → Lies new.now (record rows { olders = put_older key older rows.olders })
+    → Lies new.now (record rows { olders = put_older key older rows.olders })
 older_stands old new rows lies once key older count executed =
     let params = Text key ∷ older_root_values older in
     let t = old_roots_table in
     let kept : (row : OlderRow) → is_of key older row ≡ false → renewed key older row ≡ row =
-        λ row fails. ap (λ b. let r : OlderRow = record row { older = if b then older else row.older } in r) fails in
+    λ row fails. ap (λ b. let r : OlderRow = record row { older = if b then older else row.older } in r) fails in
     let put = row_put t.name t.columns t.uniques t.checks t.references olders_tree target 6 refl PUT_OLDER_ROOT.now put_terms put_sets 4 3 put_clause put_is
-        put_plain put_target put_update old new lies.schema params params refl
+    put_plain put_target put_update old new lies.schema params params refl
     (rw (cast_null, cast_int (pos older.until)) refl) (λ id. rw (cast_int id, cast_int (pos older.until)) refl)
     older_values (is_of key older) (renewed key older) kept (record { key = key; older = older }) (λ id row.
-        olders_conflict id (next_rowid (old.now.trees olders_tree)) row key older) (casts key older) rows.olders lies.olders
+    olders_conflict id (next_rowid (old.now.trees olders_tree)) row key older) (casts key older) rows.olders lies.olders
     (lone key older rows.olders (apart_from_pairs (λ (a : OlderRow) (b : OlderRow). a.key ≢ b.key) rows.olders once))
     (λ _. refl) (λ there. refl) (says_each key older _ (λ x id there passes.
-        ap (λ b. Int id ∷ Int id ∷ Text x.key ∷ older_root_values (if b then older else x.older)) (sym passes)) rows.olders) count executed in
+    ap (λ b. Int id ∷ Int id ∷ Text x.key ∷ older_root_values (if b then older else x.older)) (sym passes)) rows.olders) count executed in
     on_olders old.now new.now rows lies put.0 put.3 put.2 (put_older key older rows.olders) put.1

@@ -108,7 +108,7 @@ first_version_unlisted = refl
 -- a database whose version was read has the tables of the club that was found
 pub version_told : {S : Type 0} (g : Ghosts S) (old : Held S) (rows : List Row) → HasCleanDisk (state g old) → Asked g VERSION.now [] old rows
     → (club : Club) (others : List Club) → IsFound (state g old) club others → (Stands (state g old) club others × (rows ≡ version_values 2 ∷ []))
-        ⊎ (FirstStands (state g old) club others × (rows ≡ version_values 1 ∷ []))
+    ⊎ (FirstStands (state g old) club others × (rows ≡ version_values 1 ∷ []))
 unfolding Shown
 version_told g old rows clean asked club others found =
     let is_open = asked_open g VERSION.now [] old rows asked in
@@ -119,18 +119,18 @@ version_told g old rows clean asked club others found =
           let here = asked_tables g VERSION.now [] old rows asked clean club others stands in
           let reads = asked_reads g VERSION.now [] old rows asked here.lies.schema _ version_is version_plain version_unlisted in
           let same = selected version_values [] [] (col 1 1 ∷ []) (λ _. true) version_values (λ id n. refl) (λ id n.
-              refl) desk_tree (codes "version" ∷ []) (state g old).now (2 ∷ []) rows here.lies.version reads in
+          refl) desk_tree (codes "version" ∷ []) (state g old).now (2 ∷ []) rows here.lies.version reads in
           inl (stands, short_permutation (version_values 2 ∷ []) rows (omega arith) same)
       | inr (inl first) ↦
           let stands : FirstStands (state g old) club others = record { held = λ _ _. first; settled = found.settled; left = found.left } in
           let here : FirstTables (state g old).now club = subst (λ (db : Database). FirstTables db club) (sym now) first in
           let reads = first_reads g VERSION.now [] old rows asked here.lies.schema _ first_version_is first_version_plain first_version_unlisted in
           let same = selected version_values [] [] (col 1 1 ∷ []) (λ _. true) version_values (λ id n. refl) (λ id n.
-              refl) desk_tree (codes "version" ∷ []) (state g old).now (1 ∷ []) rows here.lies.version reads in
+          refl) desk_tree (codes "version" ∷ []) (state g old).now (1 ∷ []) rows here.lies.version reads in
           inr (stands, short_permutation (version_values 1 ∷ []) rows (omega arith) same)
       | inr (inr blank) ↦
           let none : is_ok (understood (state g old).now.schema VERSION.now) ≡ false = ap (λ (d : Database). is_ok (understood d.schema VERSION.now)) now
-              ∙ ap (λ s. is_ok (understood s VERSION.now)) blank.0 ∙ no_version in
+          ∙ ap (λ s. is_ok (understood s VERSION.now)) blank.0 ∙ no_version in
           absurd (true≢false (sym (ap is_ok asked.shown.1.is) ∙ none))
     ]
 
@@ -147,6 +147,9 @@ first_found s club others first = record { held = λ clean is_open. inr (inl (fi
 -- a new database in memory is found to hold the empty club
 pub empty_found : (c : Held MemStore) → IsEmpty (state over_memory c) → IsFound (state over_memory c) empty_club []
 empty_found c empty =
-    let blank : HoldsClub (state over_memory c).committed empty_club = inr (inr (ap (λ (d : Database). d.schema) (sym empty.0.clean) ∙ empty.2, refl,
-        (empty.1 empty.0.is_open).1)) in
+    let blank : HoldsClub (state over_memory c).committed empty_club = inr (inr (
+      ap (λ (d : Database). d.schema) (sym empty.0.clean) ∙ empty.2,
+      refl,
+      (empty.1 empty.0.is_open).1,
+    )) in
     record { held = λ _ _. blank; settled = λ _ _. empty.0.clean; left = λ _ trees may. inl ((state over_memory c).committed, sym may, blank) }

@@ -38,4 +38,4 @@ module _ (db : Database) (texts : List (Bor (List ℕ))) where
       → All (IsUnderstood now.schema) (map text_at texts)
   all_understood at now same past before =
       subst (λ (s : Database). All (IsUnderstood s.schema) (map text_at texts)) (sym same)
-          (subst (λ ts. All (IsUnderstood db.schema) (map text_at ts)) (take_all at texts past) before)
+      (subst (λ ts. All (IsUnderstood db.schema) (map text_at ts)) (take_all at texts past) before)

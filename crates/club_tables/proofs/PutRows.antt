@@ -1,6 +1,6 @@
 -- Rows of which one is put by its key: which of them the new row meets.
-use Rattle.std.proofs.Common.{◌≡◌, ◌⊎◌, inl, inr, ℤ, Bool, true, false, ◌||◌, List, [], ◌∷◌, ◌++◌, map, if◌then◌else◌, refl, sym, ap, subst, ◌∙◌, Less,
-    true≢false}
+use Rattle.std.proofs.Common.{◌≡◌, ◌⊎◌, inl, inr, ℤ, Bool, true, false, ◌||◌, List, [], ◌∷◌, ◌++◌, map, if◌then◌else◌, refl, sym, ap, subst, ◌∙◌, Less}
+use Rattle.std.proofs.Common.{true≢false}
 use Rattle.std.specs.List.{AllByRecursion, AllZip, list_any}
 use Rattle.std.specs.Ordering.{is_eq}
 use Rattle.std.proofs.lemmas.Bool.{false_from_ne_true}
@@ -98,9 +98,10 @@ module _ {X : Type 0} (values : X → Row) (p : X → Bool) where
   others_miss one is id [] [] same above apart = tt
   others_miss one is id [] (x ∷ xs) same above apart = absurd same
   others_miss one is id (r ∷ rows) [] same above apart = absurd same
-  others_miss one is id (r ∷ rows) (x ∷ xs) same above apart =
-      (ap is_eq (flipped (Int id) (rowid r) above.0) ∙ sym (false_from_ne_true (p x) (λ passes. apart.0 (is, passes))),
-          others_miss one is id rows xs same.1 above.1 apart.1)
+  others_miss one is id (r ∷ rows) (x ∷ xs) same above apart = (
+    ap is_eq (flipped (Int id) (rowid r) above.0) ∙ sym (false_from_ne_true (p x) (λ passes. apart.0 (is, passes))),
+    others_miss one is id rows xs same.1 above.1 apart.1,
+  )
 
   -- the rowid of the row that is met is that of no other
   pub hits : (id : ℤ) (rows : List Row) (xs : List X) → IsTable rows → AreRows rows xs → Apart IsLone xs → IsAt rows xs id
@@ -110,7 +111,7 @@ module _ {X : Type 0} (values : X → Row) (p : X → Bool) where
   hits id (r ∷ rows) (x ∷ xs) table same apart (inl here) =
       let mine : has_id id r ≡ true = ap (λ (s : Row). is_eq (value_cmp (rowid s) (Int id))) here.0 ∙ ap is_eq (tied_itself value_cmp_total (Int id)) in
       let above : AllByRecursion (λ s. value_cmp (Int id) (rowid s) ≡ Less) rows =
-          subst (λ (t : Row). AllByRecursion (λ s. value_cmp (rowid t) (rowid s) ≡ Less) rows) here.0 table.0 in
+      subst (λ (t : Row). AllByRecursion (λ s. value_cmp (rowid t) (rowid s) ≡ Less) rows) here.0 table.0 in
       (mine ∙ sym here.1, others_miss x here.1 id rows xs same.1 above apart.0)
   hits id (r ∷ rows) (x ∷ xs) table same apart (inr there) =
       (ap is_eq (at_above r rows xs id table.0 there) ∙ sym (at_apart x rows xs id apart.0 there), hits id rows xs table.1 same.1 apart.1 there)

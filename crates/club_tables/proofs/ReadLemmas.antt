@@ -13,7 +13,7 @@ use Rattle.club_tables.proofs.StandLemmas.{keeps_standing}
 pub read_by : {S A E : Type 0} (g : Ghosts S) (old new : Held S) (result : Result A E) (IsTold : Club → A → Type 0) → IsKept (state g old) (state g new)
     → Survives (state g old) (state g new) (λ _. ⊥)
     → (HasCleanDisk (state g new) → HasCleanDisk (state g old) → (club : Club) (others : List Club) → Stands (state g old) club others
-        → IfOk result (IsTold club)) → ReadsClub g old new result IsTold
+    → IfOk result (IsTold club)) → ReadsClub g old new result IsTold
 read_by g old new result IsTold kept quiet told = record {
   told = λ clean. let earlier : HasCleanDisk (state g old) = omega (arith, quiet.clean) in told clean earlier;
   kept = λ clean. keeps_standing g old new kept quiet;

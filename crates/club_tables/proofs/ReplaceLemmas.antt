@@ -1,6 +1,6 @@
 -- A list whose table had one row replaced.
-use Rattle.std.proofs.Common.{◌≡◌, ◌⊎◌, inl, inr, ◌≤◌, ℤ, Bool, true, false, not, cond, List, [], ◌∷◌, length, map, refl, sym, ap, subst, ◌∙◌, arith, Less,
-    Greater}
+use Rattle.std.proofs.Common.{◌≡◌, ◌⊎◌, inl, inr, ◌≤◌, ℤ, Bool, true, false, not, cond, List, [], ◌∷◌, length, map, refl, sym, ap, subst, ◌∙◌, arith, Less}
+use Rattle.std.proofs.Common.{Greater}
 use Rattle.std.specs.Prelude.{filter, IsPermutation}
 use Rattle.std.specs.List.{AllByRecursion, AllZip, list_all, list_any}
 use Rattle.std.specs.Ordering.{is_eq, match_ordering, ordering_reverse}
@@ -32,13 +32,19 @@ Above r s = value_cmp (rowid r) (rowid s) ≡ Less
 
 all_filter : {A : Type 0} (P : A → Type 0) (q : A → Bool) (xs : List A) → AllByRecursion P xs → AllByRecursion P (filter q xs)
 all_filter P q [] h = tt
-all_filter P q (x ∷ xs) h = elim (q x) as (λ b. AllByRecursion P (cond b (x ∷ filter q xs) (filter q xs))) [ true ↦ (h.0, all_filter P q xs h.1) | false ↦
-    all_filter P q xs h.1 ]
+all_filter P q (x ∷ xs) h = elim (q x) as (λ b. AllByRecursion P (cond b (x ∷ filter q xs) (filter q xs))) [
+  | true ↦ (h.0, all_filter P q xs h.1)
+  | false ↦
+      all_filter P q xs h.1
+]
 
 IsTable-filter : (q : Row → Bool) (rows : List Row) → IsTable rows → IsTable (filter q rows)
 IsTable-filter q [] h = tt
-IsTable-filter q (r ∷ rows) h = elim (q r) as (λ b. IsTable (cond b (r ∷ filter q rows) (filter q rows))) [ true ↦
-    (all_filter (Above r) q rows h.0, IsTable-filter q rows h.1) | false ↦ IsTable-filter q rows h.1 ]
+IsTable-filter q (r ∷ rows) h = elim (q r) as (λ b. IsTable (cond b (r ∷ filter q rows) (filter q rows))) [
+  | true ↦
+      (all_filter (Above r) q rows h.0, IsTable-filter q rows h.1)
+  | false ↦ IsTable-filter q rows h.1
+]
 
 pub flipped : (v w : Value) → value_cmp v w ≡ Less → value_cmp w v ≡ Greater
 flipped v w h = value_cmp_total.antisymm w v ∙ ap ordering_reverse h
@@ -83,10 +89,10 @@ module _ {X : Type 0} (values : X → Row) (p : X → Bool) (change : X → X) (
       let R = λ (row : Row) (x : X). IsRowOf (values x) row in
       let new = Int id ∷ values (change one) in
       let later : AllByRecursion (λ s. value_cmp (Int id) (rowid s) ≡ Less) rows =
-          subst (λ (t : Row). AllByRecursion (λ s. value_cmp (rowid t) (rowid s) ≡ Less) rows) here.0 table.0 in
+      subst (λ (t : Row). AllByRecursion (λ s. value_cmp (rowid t) (rowid s) ≡ Less) rows) here.0 table.0 in
       let taken : has_rowid id r ≡ true = ap (λ t. has_rowid id t) here.0 ∙ ap is_eq (tied_itself value_cmp_total (Int id)) in
       let left : without_rowid id (r ∷ rows) ≡ rows = ap (λ b. cond (not b) (r ∷ without_rowid id rows) (without_rowid id rows)) taken
-          ∙ none_to_drop id rows (none_above id rows later) in
+      ∙ none_to_drop id rows (none_above id rows later) in
       let put : put_row new (without_rowid id (r ∷ rows)) ≡ new ∷ rows = ap (put_row new) left ∙ put_first new id rows refl later in
       subst (λ ys. AllZip R ys (change x ∷ map change xs)) (sym put)
       ((id, ap (λ y. Int id ∷ values (change y)) (sym here.1)), subst (AllZip R rows) (sym here.2) same.1)
@@ -98,7 +104,7 @@ module _ {X : Type 0} (values : X → Row) (p : X → Bool) (change : X → X) (
       let rest = without_rowid id rows in
       let left : without_rowid id (r ∷ rows) ≡ r ∷ rest = ap (λ b. cond (not b) (r ∷ rest) rest) stays in
       let put : put_row new (without_rowid id (r ∷ rows)) ≡ r ∷ put_row new rest = ap (put_row new) left
-          ∙ ap (λ o. match_ordering o (r ∷ put_row new rest) (new ∷ rest) (new ∷ r ∷ rest)) below in
+      ∙ ap (λ o. match_ordering o (r ∷ put_row new rest) (new ∷ rest) (new ∷ r ∷ rest)) below in
       subst (λ ys. AllZip R ys (change x ∷ map change xs)) (sym put)
       (subst (λ y. R r y) (sym there.0) same.0, swapped rows xs id one table.1 same.1 there.1)
 
@@ -140,8 +146,14 @@ module _ {X : Type 0} (values : X → Row) (p : X → Bool) (change : X → X) (
             let none : filter p xs ≡ [] = nothing_passes xs (omega arith) in
             let no_rows : filter (test params tests project) rows ≡ [] = none_left rows xs h.1 none in
             let row : r ≡ Int h.0.0.0 ∷ values x = h.0.0.1 in
-            inr (h.0.0.0, x, is, ap (λ b. cond b (r ∷ filter (test params tests project) rows) (filter (test params tests project) rows)) (passes ∙ is)
-                ∙ cc (no_rows, row), inl (row, refl, none_change xs none))
+            inr (
+              h.0.0.0,
+              x,
+              is,
+              ap (λ b. cond b (r ∷ filter (test params tests project) rows) (filter (test params tests project) rows)) (passes ∙ is)
+                  ∙ cc (no_rows, row),
+              inl (row, refl, none_change xs none),
+            )
         go false is low more =
             let skip = ap (λ b. cond b (r ∷ filter (test params tests project) rows) (filter (test params tests project) rows)) (passes ∙ is) in
             let stays : change x ≡ x = kept x is in
@@ -170,7 +182,7 @@ module _ {X : Type 0} (values : X → Row) (p : X → Bool) (change : X → X) (
         → ((id : ℤ) (x : X) → cast_row table (Int id ∷ values x) ≡ Int id ∷ values x)
         → AllZip (λ row x. test params tests project row ≡ p x) (db.trees table.tree) xs
         → Holds values (db.trees table.tree) xs → length (filter p xs) ≤ 1
-            → Answers db (record { lets = []; body = select (inner table.tree end) tests project }) params rows
+        → Answers db (record { lets = []; body = select (inner table.tree end) tests project }) params rows
         → Holds values (edited db.trees (edit_of db.trees table (ids_of rows) Given 1 rows)) (map change xs)
     replaced_where table db xs rows Q all sets casts hits held low answers =
         let before = db.trees table.tree in
@@ -178,16 +190,16 @@ module _ {X : Type 0} (values : X → Row) (p : X → Bool) (change : X → X) (
         elim (find_one before xs (both before xs held.same hits) low) [
           | inl none ↦
               let no_rows : rows ≡ [] = short_permutation [] rows (omega arith)
-                  (subst (λ ys. IsPermutation (map (shows params tests project) ys) rows) none.0 same) in
+              (subst (λ ys. IsPermutation (map (shows params tests project) ys) rows) none.0 same) in
               subst (λ ys. Holds values (edited db.trees (edit_of db.trees table (ids_of ys) Given 1 ys)) (map change xs)) (sym no_rows)
-                  (subst (Holds values before) (sym none.1) held)
+              (subst (Holds values before) (sym none.1) held)
           | inr some ↦
               let id = some.0 in
               let one = some.1 in
               let new = Int id ∷ values (change one) in
               let single : rows ≡ shows params tests project (Int id ∷ values one) ∷ [] =
               short_permutation (shows params tests project (Int id ∷ values one) ∷ []) rows (omega arith)
-                  (subst (λ ys. IsPermutation (map (shows params tests project) ys) rows) some.3 same) in
+              (subst (λ ys. IsPermutation (map (shows params tests project) ys) rows) some.3 same) in
               let one_row : rows ≡ (Int id ∷ new) ∷ [] = single ∙ ap (λ row. row ∷ []) (sets id one (one_has Q before xs id one all some.4) some.2) in
               let put : Holds values (put_row new (without_rowid id before)) (map change xs) = record {
                 rising = IsTable-put_row new (without_rowid id before) (IsTable-filter (λ r. not (has_rowid id r)) before held.rising);
@@ -203,7 +215,7 @@ module _ {X : Type 0} (values : X → Row) (p : X → Bool) (change : X → X) (
         → ((id : ℤ) (x : X) → Q x → p x ≡ true → eval_all project (params ∷ (Int id ∷ values x) ∷ []) ≡ Int id ∷ Int id ∷ values (change x))
         → ((id : ℤ) (x : X) → cast_row table (Int id ∷ values x) ≡ Int id ∷ values x)
         → Holds values (db.trees table.tree) xs → length (filter p xs) ≤ 1
-            → Answers db (record { lets = []; body = select (inner table.tree end) tests project }) params rows
+        → Answers db (record { lets = []; body = select (inner table.tree end) tests project }) params rows
         → Holds values (edited db.trees (edit_of db.trees table (ids_of rows) Given 1 rows)) (map change xs)
     replaced tested table db xs rows Q all sets casts held low answers =
         replaced_where table db xs rows Q all sets casts (each (db.trees table.tree) xs held.same) held low answers

@@ -1,6 +1,6 @@
 -- What a SELECT over one table gives, where the table holds a list.
-use Rattle.std.proofs.Common.{◌≡◌, ◌≤◌, ℕ, suc, ◌-◌, ◌^◌, ◌<◌, ℤ, pos, Bool, true, false, cond, ◌==◌, None, Some, List, [], ◌∷◌, ◌++◌, length, map, slice_get,
-    refl, sym, ap, subst, ◌∙◌, arith}
+use Rattle.std.proofs.Common.{◌≡◌, ◌≤◌, ℕ, suc, ◌-◌, ◌^◌, ◌<◌, ℤ, pos, Bool, true, false, cond, ◌==◌, None, Some, List, [], ◌∷◌, ◌++◌, length, map, slice_get}
+use Rattle.std.proofs.Common.{refl, sym, ap, subst, ◌∙◌, arith}
 use Rattle.std.specs.Prelude.{filter, find, flat_map, AllPairs, IsPermutation, slice_index_or, nat_le, unwrap_or}
 use Rattle.std.specs.List.{AllByRecursion, AllZip, list_all}
 use Rattle.std.specs.Str.{bytes_eq}
@@ -88,7 +88,7 @@ module _ (params : Row) (tests : List Term) (project : List Term) where
       let kept : a.kept ≡ map (output query) (map each (filter test (db.trees tree))) = a.distinct ∙ ap (map (output query)) staged in
       let same = IsPermutation-map (λ (o : Output). o.1) a.kept a.ordered a.same in
       let all : map (λ (o : Output). o.1) a.kept ≡ map shows (filter test (db.trees tree)) = ap (map (λ (o : Output). o.1)) kept
-          ∙ merge_maps tree (filter test (db.trees tree)) in
+      ∙ merge_maps tree (filter test (db.trees tree)) in
       subst (λ ys. IsPermutation ys rows) all (subst (IsPermutation (map (λ (o : Output). o.1) a.kept)) (sym a.shown) same)
 
 module _ {X B : Type 0} (values : X → Row) (p : X → Bool) (show : X → B) where
@@ -116,7 +116,7 @@ module _ {X : Type 0} (values : X → Row) (params : Row) (tests : List Term) (p
       → Reads (Select (record { lets = []; body = select (inner tree end) tests project }) names) db params rows → IsPermutation (map show (filter p xs)) rows
   selected tree names db xs rows held h =
       subst (λ ys. IsPermutation ys rows) (picked values p show (test params tests project) (shows params tests project) tested shown (db.trees tree) xs
-          held.same)
+      held.same)
       (answered params tests project tree db rows h)
 
 -- ---- one element at most
@@ -132,9 +132,10 @@ from_indexes P (x ∷ xs) h = (h 0 x (omega arith), from_indexes P xs (λ j d lo
 
 pub apart_from_pairs : {X : Type 0} (R : X → X → Type 0) (xs : List X) → AllPairs R xs → Apart R xs
 apart_from_pairs R [] h = tt
-apart_from_pairs R (x ∷ xs) h =
-    (from_indexes (R x) xs (λ j d low. h 0 (suc j) d (omega arith) (omega arith)),
-        apart_from_pairs R xs (λ i j d less low. h (suc i) (suc j) d (omega arith) (omega arith)))
+apart_from_pairs R (x ∷ xs) h = (
+  from_indexes (R x) xs (λ j d low. h 0 (suc j) d (omega arith) (omega arith)),
+  apart_from_pairs R xs (λ i j d less low. h (suc i) (suc j) d (omega arith) (omega arith)),
+)
 
 pub none_pass : {X : Type 0} (p : X → Bool) (xs : List X) → AllByRecursion (λ x. p x ≡ false) xs → filter p xs ≡ []
 none_pass p [] h = refl

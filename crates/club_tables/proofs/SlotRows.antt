@@ -1,6 +1,6 @@
 -- Rows of slots: which of them a new row meets, and what is told once one is put.
-use Rattle.std.proofs.Common.{◌≡◌, ◌≢◌, ℤ, Bool, true, false, ◌||◌, ◌==◌, cond, if◌then◌else◌, None, Some, Option, List, [], ◌∷◌, ◌++◌, map, refl, sym, ap, ◌∙◌,
-    true≢false}
+use Rattle.std.proofs.Common.{◌≡◌, ◌≢◌, ℤ, Bool, true, false, ◌||◌, ◌==◌, cond, if◌then◌else◌, None, Some, Option, List, [], ◌∷◌, ◌++◌, map, refl, sym, ap, ◌∙◌}
+use Rattle.std.proofs.Common.{true≢false}
 use Rattle.std.specs.Prelude.{AllPairs, option_map, unwrap_or}
 use Rattle.std.specs.List.{AllByRecursion, list_any}
 use Rattle.std.specs.Str.{bytes_eq}
@@ -70,7 +70,7 @@ module _ (slot : Slot) (change : SlotUse → SlotUse) where
     where
       pick : use_by s (map changed rows) ≡ use_by s rows → (b c : Bool) → same_slot y.slot s ≡ b → same_slot y.slot slot ≡ c
           → held_of (cond b (Some (record y { held = if c then change y.held else y.held })) (row_of s (map changed rows)))
-              ≡ held_of (cond b (Some y) (row_of s rows))
+          ≡ held_of (cond b (Some y) (row_of s rows))
       pick more true true is this = absurd (true≢false (sym is ∙ ap (λ a. same_slot a s) (same_slots y.slot slot this) ∙ other))
       pick more true false is this = refl
       pick more false c is this = more
@@ -90,7 +90,7 @@ module _ (slot : Slot) (change : SlotUse → SlotUse) where
           → same_slot x.slot s ≡ b → same_slot x.slot slot ≡ c
           → (c || list_any (λ (row : SlotRow). same_slot row.slot slot) rows) ≡ true
           → Told s (held_of (cond b (Some (record x { held = if c then change x.held else x.held })) (row_of s (map changed rows))))
-              (held_of (cond b (Some x) (row_of s rows)))
+          (held_of (cond b (Some x) (row_of s rows)))
       go later true true is this h = let both : same_slot slot s ≡ true = ap (λ a. same_slot a s) (sym (same_slots x.slot slot this)) ∙ is in rw both refl
       go later true false is this h = rw (differs s x is this) refl
       go later false false is this h = later h
@@ -108,7 +108,7 @@ module _ (slot : Slot) (change : SlotUse → SlotUse) where
           → same_slot x.slot slot ≡ c
           → (c || list_any (λ (row : SlotRow). same_slot row.slot slot) rows) ≡ false
           → Told s (held_of (cond b (Some x) (row_of s (rows ++ record { slot = slot; held = change unused } ∷ []))))
-              (held_of (cond b (Some x) (row_of s rows)))
+          (held_of (cond b (Some x) (row_of s rows)))
       go later b true is this h = absurd cc
       go later true false is this h = rw (differs s x is this) refl
       go later false false is this h = later h
@@ -119,7 +119,7 @@ module _ (slot : Slot) (change : SlotUse → SlotUse) where
     where
       go : (b : Bool) → list_any (λ (row : SlotRow). same_slot row.slot slot) rows ≡ b
           → use_by s (if b then map changed rows else rows ++ record { slot = slot; held = change unused } ∷ [])
-              ≡ (if same_slot slot s then change (use_by s rows) else use_by s rows)
+          ≡ (if same_slot slot s then change (use_by s rows) else use_by s rows)
       go true any = on_changed s rows any
       go false none = on_added s rows none
 

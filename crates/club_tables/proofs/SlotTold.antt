@@ -25,8 +25,8 @@ pub use_is : (club : Club) (slot : Slot) (rows : List Row) (read : Option SlotUs
     → ShowsUse club slot rows → (found : SlotUse) → read ≡ Some found → found ≡ slot_use club slot
 use_is club slot rows read none one (inl there) found is =
     let values : Reads (λ (found : SlotUse). (found.taken ≤ 50) × HasValues (use_values (slot_use club slot)) (use_values found)) (Some found) =
-        subst (Reads (λ (found : SlotUse). (found.taken ≤ 50) × HasValues (use_values (slot_use club slot)) (use_values found))) is
-        (one (use_values (slot_use club slot)) there) in
+    subst (Reads (λ (found : SlotUse). (found.taken ≤ 50) × HasValues (use_values (slot_use club slot)) (use_values found))) is
+    (one (use_values (slot_use club slot)) there) in
     one_use (slot_use club slot) found values.1
 use_is club slot rows read none one (inr absent) found is = let e : Some found ≡ Some unused = sym is ∙ none absent.0 in let same : found ≡ unused = cc in
     same ∙ sym absent.1

@@ -1,6 +1,6 @@
 -- What a call that changes nothing leaves standing.
-use Rattle.std.proofs.Common.{◌≡◌, ℕ, ◌+◌, ◌≤◌, List, [], ◌∷◌, IsTrue, Option, Some, None, Result, Ok, Err, IfOk, OnOk, OnErr, true, inl, inr, refl, sym, subst,
-    ap, ◌∙◌, arith}
+use Rattle.std.proofs.Common.{◌≡◌, ℕ, ◌+◌, ◌≤◌, List, [], ◌∷◌, IsTrue, Option, Some, None, Result, Ok, Err, IfOk, OnOk, OnErr, true, inl, inr, refl, sym, subst}
+use Rattle.std.proofs.Common.{ap, ◌∙◌, arith}
 use Rattle.sqlite.specs.Order.{Row}
 use Rattle.sqlite.specs.Store.{Ghosts}
 use Rattle.sqlite.specs.Effect.{Database, Reads}
@@ -57,7 +57,7 @@ asked_tables g sql params old rows asked clean club others stands =
 pub asked_reads : {S : Type 0} (g : Ghosts S) (sql : List ℕ) (params : Row) (old : Held S) (rows : List Row) → Asked g sql params old rows
     → (state g old).now.schema ≡ club_schema
     → (command : Command) → command_of (understood club_schema sql) ≡ command → IsPlain (understood club_schema sql)
-        → reads_listing club_schema sql ≡ Rattle.std.proofs.Common.false → Reads command (state g old).now params rows
+    → reads_listing club_schema sql ≡ Rattle.std.proofs.Common.false → Reads command (state g old).now params rows
 asked_reads g sql params old rows asked schema command is plain unlisted =
     reads_as sql params (state g (begun old)) (state g asked.mid) club_schema schema command is plain unlisted rows asked.shown
 
@@ -65,7 +65,7 @@ asked_reads g sql params old rows asked schema command is plain unlisted =
 pub first_reads : {S : Type 0} (g : Ghosts S) (sql : List ℕ) (params : Row) (old : Held S) (rows : List Row) → Asked g sql params old rows
     → (state g old).now.schema ≡ first_schema
     → (command : Command) → command_of (understood first_schema sql) ≡ command → IsPlain (understood first_schema sql)
-        → reads_listing first_schema sql ≡ Rattle.std.proofs.Common.false → Reads command (state g old).now params rows
+    → reads_listing first_schema sql ≡ Rattle.std.proofs.Common.false → Reads command (state g old).now params rows
 first_reads g sql params old rows asked schema command is plain unlisted =
     reads_as sql params (state g (begun old)) (state g asked.mid) first_schema schema command is plain unlisted rows asked.shown
 
@@ -94,8 +94,15 @@ pub keeps_first : {S : Type 0} (g : Ghosts S) (old new : Held S) → IsKept (sta
 keeps_first g old new kept quiet club others first = rests_on FirstTables (state g old) (state g new) kept quiet club others first
 
 pub survives_same : (s : State) → Survives s s (λ _. ⊥)
-survives_same s = record { clean = omega arith; shield = λ h. h; counts = omega arith; limit = refl; closes = λ _ is_open. inl is_open; crash =
-    λ _ db may. inl may }
+survives_same s = record {
+  clean = omega arith;
+  shield = λ h. h;
+  counts = omega arith;
+  limit = refl;
+  closes = λ _ is_open. inl is_open;
+  crash =
+      λ _ db may. inl may;
+}
 
 pub survives_none : (a b c : State) → Survives a b (λ _. ⊥) → Survives b c (λ _. ⊥) → Survives a c (λ _. ⊥)
 survives_none a b c p q = survives_then a b c (λ _. ⊥) (λ _. ⊥) (λ _. ⊥) (λ _ db none. none) (λ _ db none. none) p q

@@ -1,6 +1,6 @@
 -- The rows of the club after each change, as they are stored.
-use Rattle.std.proofs.Common.{◌≡◌, ◌≢◌, ℕ, ◌+◌, Bool, true, false, not, ◌&&◌, ◌||◌, cond, if◌then◌else◌, List, [], ◌∷◌, ◌++◌, map, Option, Some, None, Contains,
-    refl, sym, ap, subst, ◌∙◌, arith, true≢false}
+use Rattle.std.proofs.Common.{◌≡◌, ◌≢◌, ℕ, ◌+◌, Bool, true, false, not, ◌&&◌, ◌||◌, cond, if◌then◌else◌, List, [], ◌∷◌, ◌++◌, map, Option, Some, None, Contains}
+use Rattle.std.proofs.Common.{refl, sym, ap, subst, ◌∙◌, arith, true≢false}
 use Rattle.std.specs.Prelude.{filter, find, sum_by, IfSome, option_and_then}
 use Rattle.std.specs.List.{AllByRecursion, list_any}
 use Rattle.std.specs.Str.{bytes_eq}
@@ -15,8 +15,8 @@ use Rattle.club_rows.specs.declared.key.Key.{Key}
 use Rattle.club_rows.specs.declared.key.OlderRoot.{OlderRoot}
 use Rattle.club_rows.specs.declared.member.Member.{Member}
 use Rattle.club_core.specs.declared.slot_use.SlotUse.{SlotUse}
-use Rattle.club_core.specs.declared.change.Change.TheVariants.{InsertMember, AddCredit, InsertFacility, InsertKey, MarkRevoked, ReplaceRoot, MarkClosed,
-    InsertBooking}
+use Rattle.club_core.specs.declared.change.Change.TheVariants.{InsertMember, AddCredit, InsertFacility, InsertKey, MarkRevoked, ReplaceRoot, MarkClosed}
+use Rattle.club_core.specs.declared.change.Change.TheVariants.{InsertBooking}
 use Rattle.club_core.specs.After.{after, credited, revoked, good_until, rotated}
 use Rattle.club_rows.specs.Booking.{same_slot, persons_of}
 use Rattle.club_core.specs.Club.{Club, IsSound, key_named, is_key_of, is_closed}
@@ -42,7 +42,7 @@ used_none club name none =
     let owns : Key → Bool = λ key. bytes_eq key.member name in
     let no_keys : filter owns club.keys ≡ [] = none_pass owns club.keys none in
     ap (λ keys. sum_by cost_of (filter (λ (booking : Booking). list_any (λ (key : Key). bytes_eq key.name booking.key) keys) club.bookings)) no_keys
-        ∙ ap (sum_by cost_of) (none_of club.bookings)
+    ∙ ap (sum_by cost_of) (none_of club.bookings)
 
 keys_of_none : (club : Club) → IsSound club → (name : List ℕ) → AllByRecursion (λ (m : Member). m.name ≢ name) club.members
     → AllByRecursion (λ (key : Key). bytes_eq key.member name ≡ false) club.keys
@@ -51,9 +51,11 @@ keys_of_none club sound name apart = each club.keys (all_of _ club.keys sound.re
     each : (keys : List Key) → AllByRecursion (λ (key : Key). Contains (map (λ (m : Member). m.name) club.members) key.member) keys
         → AllByRecursion (λ (key : Key). bytes_eq key.member name ≡ false) keys
     each [] h = tt
-    each (key ∷ keys) h =
-        (unequal key.member name (λ e. not_among (λ (m : Member). m.name) club.members name apart
-            (subst (Contains (map (λ (m : Member). m.name) club.members)) e h.0)), each keys h.1)
+    each (key ∷ keys) h = (
+      unequal key.member name (λ e. not_among (λ (m : Member). m.name) club.members name apart
+          (subst (Contains (map (λ (m : Member). m.name) club.members)) e h.0)),
+      each keys h.1,
+    )
 
 pub member_stored : (club : Club) (rows : Rows) → IsStoredAs club rows → IsSound club → (member : Member) → IsSound (after (InsertMember member) club)
     → IsStoredAs (after (InsertMember member) club) (record rows { members = rows.members ++ new_row member ∷ [] })
@@ -103,7 +105,7 @@ facility_stored club rows stored facility = record {
 -- where each booking's key has the owners that it had, each member's bookings have cost what they had
 used_same : (club : Club) (keys : List Key) (name : List ℕ)
     → AllByRecursion (λ (b : Booking). list_any (λ (key : Key). bytes_eq key.name b.key) (filter (λ (key : Key). bytes_eq key.member name) keys)
-        ≡ is_key_of name club b.key) club.bookings
+    ≡ is_key_of name club b.key) club.bookings
     → used_by (record club { keys = keys }) name ≡ used_by club name
 used_same club keys name same = ap (sum_by cost_of) (filter_same _ _ club.bookings same)
 
@@ -112,29 +114,32 @@ owned_more : (names owns : Key → Bool) (keys : List Key) (key : Key) → names
 owned_more names owns [] key other = elim (owns key) as (λ b. list_any names (cond b (key ∷ []) []) ≡ false) [ true ↦ rw other refl | false ↦ refl ]
 owned_more names owns (k ∷ keys) key other =
     elim (owns k) as (λ b. list_any names (cond b (k ∷ filter owns (keys ++ key ∷ [])) (filter owns (keys ++ key ∷ [])))
-        ≡ list_any names (cond b (k ∷ filter owns keys) (filter owns keys)))
+    ≡ list_any names (cond b (k ∷ filter owns keys) (filter owns keys)))
     [ true ↦ ap (λ b. names k || b) (owned_more names owns keys key other) | false ↦ owned_more names owns keys key other ]
 
 -- a key without an older root, and rows that keep their names and their older roots, change none
 older_pushed : (name : List ℕ) (keys : List Key) (key : Key) → key.older ≡ None
     → option_and_then (λ (k : Key). k.older) (find (λ (k : Key). bytes_eq k.name name) (keys ++ key ∷ []))
-        ≡ option_and_then (λ (k : Key). k.older) (find (λ (k : Key). bytes_eq k.name name) keys)
-older_pushed name [] key new = elim (bytes_eq key.name name) as (λ b. option_and_then (λ (k : Key). k.older) (cond b (Some key) None) ≡ None) [ true ↦
-    new | false ↦ refl ]
+    ≡ option_and_then (λ (k : Key). k.older) (find (λ (k : Key). bytes_eq k.name name) keys)
+older_pushed name [] key new = elim (bytes_eq key.name name) as (λ b. option_and_then (λ (k : Key). k.older) (cond b (Some key) None) ≡ None) [
+  | true ↦
+      new
+  | false ↦ refl
+]
 older_pushed name (k ∷ keys) key new =
     elim (bytes_eq k.name name) as (λ b. option_and_then (λ (j : Key). j.older) (cond b (Some k) (find (λ (j : Key). bytes_eq j.name name) (keys ++ key ∷ [])))
-        ≡ option_and_then (λ (j : Key). j.older) (cond b (Some k) (find (λ (j : Key). bytes_eq j.name name) keys)))
+    ≡ option_and_then (λ (j : Key). j.older) (cond b (Some k) (find (λ (j : Key). bytes_eq j.name name) keys)))
     [ true ↦ refl | false ↦ older_pushed name keys key new ]
 
 older_mapped : (f : Key → Key) → ((key : Key) → (f key).name ≡ key.name) → ((key : Key) → (f key).older ≡ key.older) → (name : List ℕ) (keys : List Key)
     → option_and_then (λ (k : Key). k.older) (find (λ (k : Key). bytes_eq k.name name) (map f keys))
-        ≡ option_and_then (λ (k : Key). k.older) (find (λ (k : Key). bytes_eq k.name name) keys)
+    ≡ option_and_then (λ (k : Key). k.older) (find (λ (k : Key). bytes_eq k.name name) keys)
 older_mapped f named same name [] = refl
 older_mapped f named same name (k ∷ keys) =
     let more = older_mapped f named same name keys in
     ap (λ n. option_and_then (λ (j : Key). j.older) (cond (bytes_eq n name) (Some (f k)) (find (λ (j : Key). bytes_eq j.name name) (map f keys)))) (named k)
     ∙ (elim (bytes_eq k.name name) as (λ b. option_and_then (λ (j : Key). j.older) (cond b (Some (f k)) (find (λ (j : Key). bytes_eq j.name name) (map f keys)))
-        ≡ option_and_then (λ (j : Key). j.older) (cond b (Some k) (find (λ (j : Key). bytes_eq j.name name) keys)))
+    ≡ option_and_then (λ (j : Key). j.older) (cond b (Some k) (find (λ (j : Key). bytes_eq j.name name) keys)))
     [ true ↦ same k | false ↦ more ])
 
 pub key_stored : (club : Club) (rows : Rows) → IsStoredAs club rows → IsSound club → (key : Key) → key.older ≡ None → IsSound (after (InsertKey key) club)
@@ -157,11 +162,11 @@ key_stored club rows stored sound key new fits = record {
 
     each : (name : List ℕ) (bookings : List Booking) → AllByRecursion (λ (b : Booking). Contains (map (λ (k : Key). k.name) club.keys) b.key) bookings
         → AllByRecursion (λ (b : Booking). list_any (λ (k : Key). bytes_eq k.name b.key) (filter (λ (k : Key). bytes_eq k.member name) (club.keys ++ key ∷ []))
-            ≡ is_key_of name club b.key) bookings
+        ≡ is_key_of name club b.key) bookings
     each name [] h = tt
     each name (b ∷ bookings) h =
         let other : bytes_eq key.name b.key ≡ false = unequal key.name b.key (λ e.
-            not_among (λ (k : Key). k.name) club.keys key.name apart (subst (Contains (map (λ (k : Key). k.name) club.keys)) (sym e) h.0)) in
+        not_among (λ (k : Key). k.name) club.keys key.name apart (subst (Contains (map (λ (k : Key). k.name) club.keys)) (sym e) h.0)) in
         (owned_more (λ (k : Key). bytes_eq k.name b.key) (λ (k : Key). bytes_eq k.member name) club.keys key other, each name bookings h.1)
 
 owned_mapped : (names owns : Key → Bool) (f : Key → Key) → ((key : Key) → names (f key) ≡ names key) → ((key : Key) → owns (f key) ≡ owns key)
@@ -171,7 +176,7 @@ owned_mapped names owns f named owned (k ∷ keys) =
     let more = owned_mapped names owns f named owned keys in
     ap (λ b. list_any names (cond b (f k ∷ filter owns (map f keys)) (filter owns (map f keys)))) (owned k)
     ∙ (elim (owns k) as (λ b. list_any names (cond b (f k ∷ filter owns (map f keys)) (filter owns (map f keys)))
-        ≡ list_any names (cond b (k ∷ filter owns keys) (filter owns keys)))
+    ≡ list_any names (cond b (k ∷ filter owns keys) (filter owns keys)))
     [ true ↦ let e = named k in cc | false ↦ more ])
 
 pub revoke_stored : (club : Club) (rows : Rows) → IsStoredAs club rows → (name : List ℕ)
@@ -193,8 +198,11 @@ revoke_stored club rows stored name = record {
         list_any (λ (k : Key). bytes_eq k.name b.key) (filter (λ (k : Key). bytes_eq k.member owner) (map (revoked name) club.keys))
         ≡ is_key_of owner club b.key) bookings
     each owner [] = tt
-    each owner (b ∷ bookings) = (owned_mapped (λ (k : Key). bytes_eq k.name b.key) (λ (k : Key). bytes_eq k.member owner) (revoked name) (λ k. refl) (λ k.
-        refl) club.keys, each owner bookings)
+    each owner (b ∷ bookings) = (
+      owned_mapped (λ (k : Key). bytes_eq k.name b.key) (λ (k : Key). bytes_eq k.member owner) (revoked name) (λ k. refl) (λ k.
+          refl) club.keys,
+      each owner bookings,
+    )
 
 -- the older roots that are told after a rotation
 older_rotated : (name root : List ℕ) (until : ℕ) (n : List ℕ) (keys : List Key)
@@ -204,7 +212,7 @@ older_rotated name root until n [] = refl
 older_rotated name root until n (k ∷ keys) =
     let older : Key → Option OlderRoot = λ key. if bytes_eq key.name name then Some (good_until until key.root) else key.older in
     elim (bytes_eq k.name n) as (λ b. option_and_then (λ (j : Key). j.older)
-        (cond b (Some (rotated name root until k)) (find (λ (j : Key). bytes_eq j.name n) (map (rotated name root until) keys)))
+    (cond b (Some (rotated name root until k)) (find (λ (j : Key). bytes_eq j.name n) (map (rotated name root until) keys)))
     ≡ option_and_then older (cond b (Some k) (find (λ (j : Key). bytes_eq j.name n) keys)))
     [ true ↦ refl | false ↦ older_rotated name root until n keys ]
 
@@ -227,16 +235,19 @@ named_so name root n until (Some k) is has = go (bytes_eq name n) refl
         let here : it.0 ≡ k = let e : Some it.0 ≡ Some k = sym it.1 in cc in
         let rooted : k.root ≡ root = ap (λ (j : Key). j.root) (sym here) ∙ it.2 in
         let named : bytes_eq k.name name ≡ true = (bytes_eq-Decides k.name name).1 ((bytes_eq-Decides k.name n).0 is
-            ∙ sym ((bytes_eq-Decides name n).0 same)) in
+        ∙ sym ((bytes_eq-Decides name n).0 same)) in
         rw (named, rooted) refl
     go false other =
         let differs : bytes_eq k.name name ≡ false = false_from_ne_true (bytes_eq k.name name) (λ e.
-            true≢false (sym ((bytes_eq-Decides name n).1 (sym ((bytes_eq-Decides k.name name).0 e) ∙ (bytes_eq-Decides k.name n).0 is)) ∙ other)) in
+        true≢false (sym ((bytes_eq-Decides name n).1 (sym ((bytes_eq-Decides k.name name).0 e) ∙ (bytes_eq-Decides k.name n).0 is)) ∙ other)) in
         rw differs refl
 
 pub rotate_stored : (club : Club) (rows : Rows) → IsStoredAs club rows → (name root was : List ℕ) (until : ℕ) → HasRoot name was club
-    → IsStoredAs (after (ReplaceRoot name root until) club) (record rows { keys = map (rotated name root until) rows.keys; olders =
-        put_older name (good_until until was) rows.olders })
+    → IsStoredAs (after (ReplaceRoot name root until) club) (record rows {
+      keys = map (rotated name root until) rows.keys;
+      olders =
+          put_older name (good_until until was) rows.olders;
+    })
 rotate_stored club rows stored name root was until has = record {
   members = stored.members ∙ map_agree (member_row club) (member_row (after (ReplaceRoot name root until) club)) (λ (m : Member).
       ap (λ n. let row : MemberRow = record { member = m; used = n } in row)
@@ -248,7 +259,7 @@ rotate_stored club rows stored name root was until has = record {
   once = stored.once;
   olders = λ n.
       older_put name (good_until until was) n rows.olders ∙ ap (λ o. let told : Option OlderRoot = if bytes_eq name n then Some (good_until until was) else o in
-          told) (stored.olders n)
+      told) (stored.olders n)
       ∙ sym (named_so name was n until (key_named n club) (found_named n) (of_name n)) ∙ sym (older_rotated name root until n club.keys);
   rotated = olders_once name (good_until until was) rows.olders stored.rotated;
 }
@@ -257,8 +268,11 @@ rotate_stored club rows stored name root was until has = record {
         list_any (λ (k : Key). bytes_eq k.name b.key) (filter (λ (k : Key). bytes_eq k.member owner) (map (rotated name root until) club.keys))
         ≡ is_key_of owner club b.key) bookings
     each owner [] = tt
-    each owner (b ∷ bookings) = (owned_mapped (λ (k : Key). bytes_eq k.name b.key) (λ (k : Key). bytes_eq k.member owner) (rotated name root until) (λ k.
-        refl) (λ k. refl) club.keys, each owner bookings)
+    each owner (b ∷ bookings) = (
+      owned_mapped (λ (k : Key). bytes_eq k.name b.key) (λ (k : Key). bytes_eq k.member owner) (rotated name root until) (λ k.
+          refl) (λ k. refl) club.keys,
+      each owner bookings,
+    )
 
     found_named : (n : List ℕ) → IfSome (key_named n club) (λ (k : Key). bytes_eq k.name n ≡ true)
     found_named n = go (key_named n club) refl
@@ -286,9 +300,9 @@ close_stored club rows stored slot = record {
   bookings = stored.bookings;
   slots = λ s.
       use_put slot close_use s rows.slots ∙ ap (λ u. let v : SlotUse = if same_slot slot s then close_use u else u in v) (stored.slots s)
-          ∙ close_told club s (same_slot slot s)
+      ∙ close_told club s (same_slot slot s)
       ∙ ap (λ c. let u : SlotUse = record { taken = taken_in s club.bookings; closed = c } in
-          u) (sym (list_any-append (λ other. same_slot other s) club.closed (slot ∷ [])));
+      u) (sym (list_any-append (λ other. same_slot other s) club.closed (slot ∷ [])));
   olders = stored.olders;
   rotated = stored.rotated;
   once = put_once slot close_use rows.slots stored.once;
@@ -361,7 +375,7 @@ booking_stored club rows stored sound member booking owned = record {
   slots = λ s.
       let next : ℕ → ℕ = λ n. n + persons_taken booking in
       use_put booking.slot (take_use next) s rows.slots ∙ ap (λ u. let v : SlotUse = if same_slot booking.slot s then take_use next u else u in
-          v) (stored.slots s)
+      v) (stored.slots s)
       ∙ take_told club s next (same_slot booking.slot s) (taken_in s (club.bookings ++ booking ∷ [])) (taken_more club booking s);
   olders = stored.olders;
   rotated = stored.rotated;

@@ -18,7 +18,7 @@ module _ {S : Type 0} (g : Ghosts S) where
   pub turn_at : (statements : List Statement) (at : ℕ) (d : Statement) (a b c : Held S) (count : ℕ) → at < length statements
       → RanInTurn g (map words_of (take at statements)) a b
       → Executes (words_of (get_or statements at d)).0 (words_of (get_or statements at d)).1 (state g b) (state g c) (Ok count)
-          → RanInTurn g (map words_of (take (at + 1) statements)) a c
+      → RanInTurn g (map words_of (take (at + 1) statements)) a c
   turn_at statements at d a b c count within before one =
       let front = map words_of (take at statements) in
       let more : map words_of (take (at + 1) statements) ≡ front ++ words_of (get_or statements at d) ∷ [] =

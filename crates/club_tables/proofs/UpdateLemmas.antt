@@ -27,7 +27,7 @@ use Rattle.club_tables.proofs.InsertLemmas.{went, same_value}
 pub no_works : (tree : ℕ) (olds news : List Row) → works club_schema Enforced 0 tree olds news ≡ []
 no_works tree olds news =
     elim (length news == 0) as (λ b. flat_map (λ child. filter_map (λ ref.
-        work_by 0 tree (pairs olds news) child ref (deed_for Enforced b ref) (parent_key club_schema.tables ref)) child.references) club_schema.tables ≡ [])
+    work_by 0 tree (pairs olds news) child ref (deed_for Enforced b ref) (parent_key club_schema.tables ref)) child.references) club_schema.tables ≡ [])
     [ true ↦ refl | false ↦ refl ]
 
 module _ (old new : State) (has : old.now.schema ≡ club_schema) (text : List ℕ) (plain : IsPlain (understood club_schema text)) where
@@ -36,7 +36,7 @@ module _ (old new : State) (has : old.now.schema ≡ club_schema) (text : List �
       → command_of (understood club_schema text) ≡ Update at (record { lets = []; body = query })
       → (count : ℕ) → Executes text params old new (Ok count)
       → (rows : List Row) × Answers (record { schema = club_schema; trees = old.now.trees }) (record { lets = []; body = query }) params rows
-          × (new.now.schema ≡ club_schema)
+      × (new.now.schema ≡ club_schema)
       × (new.now.trees table.tree ≡ edited old.now.trees (edit_of old.now.trees table (ids_of rows) Given 1 rows))
       × AllByRecursion (λ t. t.tree ≢ table.tree → new.now.trees t.tree ≡ old.now.trees t.tree) club_schema.tables × IsDatabase new.now
   updates at table query params listed is count h =
@@ -45,7 +45,7 @@ module _ (old new : State) (has : old.now.schema ≡ club_schema) (text : List �
       let w = runs_as text params old new club_schema has command is plain count h in
       let words = statement_of text (understood club_schema text) in
       let does = subst (λ s. Does old.step_limit (mode_of old) params (record old.now { schema = s }) words None command (Ok (w.tally, new.now))) has
-          w.changed in
+      w.changed in
       let done = went (rw listed at does) in
       let now = ap (λ (p : Tally × Database). p.1) (same_value (went (went done.2).2).2) in
       let asked = went done.1 in

@@ -67,9 +67,9 @@ module _ (text : List ℕ) (terms sets : List Term) (at : ℕ) (clause : Upsert)
     ≡ InsertOr 4 Abort (Values terms 6) (clause ∷ [])) (plain : IsPlain (understood club_schema text))
     (aims : clause.target ≡ target) (by : clause.update ≡ sets_by at sets)
     (old new : State) (rows : Rows) (lies : Lies old.now rows) (once : AllPairs (λ (a : SlotRow) (b : SlotRow). a.slot ≢ b.slot) rows.slots) (slot : Slot)
-        (params : Row) (closed taken : Value)
+    (params : Row) (closed taken : Value)
     (gives : value_rows params 6 (length terms / 6) terms ≡ (Null ∷ name_values slot ++ closed ∷ taken ∷ []) ∷ []) (casts_closed : cast Integer closed
-        ≡ closed) (casts_taken : cast Integer taken ≡ taken) (change : SlotUse → SlotUse) where
+    ≡ closed) (casts_taken : cast Integer taken ≡ taken) (change : SlotUse → SlotUse) where
   abbrev new_row : Row
   new_row = Int (next_rowid (old.now.trees slots_tree)) ∷ name_values slot ++ closed ∷ taken ∷ []
 
@@ -93,17 +93,17 @@ module _ (text : List ℕ) (terms sets : List Term) (at : ℕ) (clause : Upsert)
   slot_put : (list_any (λ (row : SlotRow). same_slot row.slot slot) rows.slots ≡ false → closed ∷ taken ∷ [] ≡ use_values (change unused))
       → ((there : Row) → column (params ++ rowid there ∷ shown slot_table new_row) at ≡ rowid there)
       → AllByRecursion SaysUse rows.slots → (count : ℕ) → Executes text params old new (Ok count)
-          → Lies new.now (record rows { slots = put_slot slot change rows.slots })
+      → Lies new.now (record rows { slots = put_slot slot change rows.slots })
   slot_put values ids says count executed =
       let t = slots_table in
       let kept : (x : SlotRow) → same_slot x.slot slot ≡ false → changed slot change x ≡ x =
-          λ x fails. ap (λ b. let y : SlotRow = record x { held = if b then change x.held else x.held } in y) fails in
+      λ x fails. ap (λ b. let y : SlotRow = record x { held = if b then change x.held else x.held } in y) fails in
       let left = row_put t.name t.columns t.uniques t.checks t.references slots_tree target 4 refl text terms sets 6 at clause is plain aims by old new
-          lies.schema params (name_values slot ++ closed ∷ taken ∷ []) gives
+      lies.schema params (name_values slot ++ closed ∷ taken ∷ []) gives
       (rw (cast_null, cast_int (pos slot.day), cast_int (pos slot.hour), casts_closed, casts_taken) refl) (λ id.
-          rw (cast_int id, cast_int (pos slot.day), cast_int (pos slot.hour), casts_closed, casts_taken) refl)
+      rw (cast_int id, cast_int (pos slot.day), cast_int (pos slot.hour), casts_closed, casts_taken) refl)
       slot_values (is_of slot) (changed slot change) kept (record { slot = slot; held = change unused }) (λ id x.
-          slots_conflict id (next_rowid (old.now.trees slots_tree)) x slot closed taken)
+      slots_conflict id (next_rowid (old.now.trees slots_tree)) x slot closed taken)
       (λ id x. rw (cast_int id, cast_int (pos x.slot.day), cast_int (pos x.slot.hour), cast_int (pos (truth x.held.closed)), cast_int (pos x.held.taken)) refl)
       rows.slots lies.slots (lone slot rows.slots (apart_from_pairs (λ (a : SlotRow) (b : SlotRow). a.slot ≢ b.slot) rows.slots once))
       (λ none. ap (λ vs. name_values slot ++ vs) (values none)) ids (each_says rows.slots says) count executed in
@@ -148,7 +148,7 @@ pub slot_closed : (old new : State) (rows : Rows) → Lies old.now rows → AllP
     → Executes CLOSE_SLOT.now (name_values slot) old new (Ok count) → Lies new.now (record rows { slots = put_slot slot close_use rows.slots })
 slot_closed old new rows lies once slot count executed =
     slot_put CLOSE_SLOT.now close_terms close_sets 3 close_clause close_is close_plain close_target close_update old new rows lies once slot (name_values slot)
-        (whole 1) (whole 0) refl (cast_int (pos 1)) (cast_int (pos 0))
+    (whole 1) (whole 0) refl (cast_int (pos 1)) (cast_int (pos 0))
     close_use (λ _. refl) (λ there. refl) (each_slot _ (λ x id there same. refl) rows.slots) count executed
 
 -- ---- persons are added to a slot
@@ -187,21 +187,23 @@ Takes slot persons next row = same_slot row.slot slot ≡ true → binary (Arith
 
 says_there : (slot : Slot) (persons : ℤ) (next : ℕ → ℕ) (row : Row) (xs : List SlotRow) → AllByRecursion (Takes slot persons next) xs
     → AllByRecursion (λ (x : SlotRow). (id : ℤ) (there : Row) → same_slot x.slot slot ≡ true
-        → eval_all taken_sets (((name_values slot ++ Int persons ∷ []) ++ rowid there ∷ shown slot_table row) ∷ (Int id ∷ slot_values x) ∷ [])
-        ≡ Int id ∷ Int id ∷ name_values x.slot ++ use_values (take_use next x.held)) xs
+    → eval_all taken_sets (((name_values slot ++ Int persons ∷ []) ++ rowid there ∷ shown slot_table row) ∷ (Int id ∷ slot_values x) ∷ [])
+    ≡ Int id ∷ Int id ∷ name_values x.slot ++ use_values (take_use next x.held)) xs
 says_there slot persons next row [] h = tt
-says_there slot persons next row (x ∷ xs) h = (λ id there same. ap (λ v. Int id ∷ Int id ∷ name_values x.slot ++ flag x.held.closed ∷ v ∷ []) (h.0 same),
-    says_there slot persons next row xs h.1)
+says_there slot persons next row (x ∷ xs) h = (
+  λ id there same. ap (λ v. Int id ∷ Int id ∷ name_values x.slot ++ flag x.held.closed ∷ v ∷ []) (h.0 same),
+  says_there slot persons next row xs h.1,
+)
 
 pub slot_taken : (old new : State) (rows : Rows) → Lies old.now rows → AllPairs (λ (a : SlotRow) (b : SlotRow). a.slot ≢ b.slot) rows.slots
     → (slot : Slot) (persons : ℤ) (next : ℕ → ℕ)
     → AllByRecursion (Takes slot persons next) rows.slots → (list_any (λ (row : SlotRow). same_slot row.slot slot) rows.slots ≡ false → persons ≡ pos (next 0))
-        → (count : ℕ)
+    → (count : ℕ)
     → Executes ADD_TAKEN.now (name_values slot ++ Int persons ∷ []) old new (Ok count)
-        → Lies new.now (record rows { slots = put_slot slot (take_use next) rows.slots })
+    → Lies new.now (record rows { slots = put_slot slot (take_use next) rows.slots })
 slot_taken old new rows lies once slot persons next sums fresh count executed =
     slot_put ADD_TAKEN.now taken_terms taken_sets 4 taken_clause taken_is taken_plain taken_target taken_update old new rows lies once slot (name_values slot
-        ++ Int persons ∷ []) (whole 0) (Int persons) refl (cast_int (pos 0)) (cast_int persons)
+    ++ Int persons ∷ []) (whole 0) (Int persons) refl (cast_int (pos 0)) (cast_int persons)
     (take_use next) (λ none. ap (λ n. whole 0 ∷ Int n ∷ []) (fresh none)) (λ there.
-        refl) (says_there slot persons next (Int (next_rowid (old.now.trees slots_tree)) ∷ name_values slot ++ whole 0 ∷ Int persons ∷ []) rows.slots sums)
-        count executed
+    refl) (says_there slot persons next (Int (next_rowid (old.now.trees slots_tree)) ∷ name_values slot ++ whole 0 ∷ Int persons ∷ []) rows.slots sums)
+    count executed

@@ -53,7 +53,7 @@ on_err (Err e) p f = f p
 
 pub commits_of : {S E : Type 0} (g : Ghosts S) (all : List Words) (old new : Held S) (r : Result (Unit {0}) E)
     → (HasCleanDisk (state g new) → OnOk r (IsTrue (state g new).is_open × Ran g all old (state g new).committed
-        × ((state g new).now ≡ (state g new).committed))) → OnErr r (IsKept (state g old) (state g new))
+    × ((state g new).now ≡ (state g new).committed))) → OnErr r (IsKept (state g old) (state g new))
     → Survives (state g old) (state g new) (λ trees. (db : Database) × Ran g all old db × (trees ≡ db.trees)) → Commits g all old new r
 commits_of g all old new r ran kept survives = record { ran = ran; kept = kept; survives = survives }
 
@@ -61,7 +61,7 @@ commits_of g all old new r ran kept survives = record { ran = ran; kept = kept; 
 pub makes : {S E : Type 0} (g : Ghosts S) (all : List Words) → 0 < length all → (old new : Held S) (r : Result (Unit {0}) E) → Commits g all old new r
     → IsSettled (state g new) → (IsIt : Club → Type 0) (change : Change) → AreWordsOf change all
     → ((db : Database) (club : Club) → IsIt club → Tables (state g old).now club → Fits change club → Ran g all old db → Tables db (after change club))
-        → ChangesClubWhere g IsIt change old new r
+    → ChangesClubWhere g IsIt change old new r
 makes g all some old new r commits settled IsIt change are made = record {
   honest = λ clean. let earlier : HasCleanDisk (state g old) = omega (arith, commits.survives.clean) in earlier;
   changed = λ clean club others it stands fits. wrote g all some old new commits.survives clean club (after change club) others stands (λ db tables ran.

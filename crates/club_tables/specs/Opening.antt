@@ -9,8 +9,8 @@ use Rattle.sqlite.specs.Listing.{understood}
 use Rattle.sqlite.specs.State.{State}
 use Rattle.sqlite.specs.Held.{Held, state}
 use Rattle.sqlite_resolve.specs.declared.compiled.Compiled.{Compiled}
-use Rattle.club_tables.specs.declared.texts.TheConstants.{VERSION, KEY, MEMBER, FACILITY, SLOT, BOOKING, OLDER_ROOT, MAKE_DESK, MAKE_MEMBERS, MAKE_FACILITIES,
-    MAKE_KEYS, MAKE_SLOTS, MAKE_BOOKINGS, MAKE_KEYS_BY_MEMBER, MAKE_OLD_ROOTS, ADD_VERSION, SET_VERSION}
+use Rattle.club_tables.specs.declared.texts.TheConstants.{VERSION, KEY, MEMBER, FACILITY, SLOT, BOOKING, OLDER_ROOT, MAKE_DESK, MAKE_MEMBERS, MAKE_FACILITIES}
+use Rattle.club_tables.specs.declared.texts.TheConstants.{MAKE_KEYS, MAKE_SLOTS, MAKE_BOOKINGS, MAKE_KEYS_BY_MEMBER, MAKE_OLD_ROOTS, ADD_VERSION, SET_VERSION}
 use Rattle.club_tables.specs.Columns.{HasValues, version_values}
 use Rattle.club_tables.specs.Transaction.{Words, Ran}
 
@@ -78,7 +78,7 @@ pub record Migrated {S : Type 0} (g : Ghosts S) (old new : Held S) : Type 0 wher
 abbrev pub HasMigrated : {S : Type 0} → Ghosts S → Held S → Held S → Type 0
 HasMigrated {S} g old new =
     (from : Held S) × IsTrue (state g old).is_open × (All (IsUnderstood (state g old).committed.schema) first_texts)
-        × ((state g from).committed ≡ (state g old).committed)
+    × ((state g from).committed ≡ (state g old).committed)
     × ((state g from).now ≡ (state g old).committed) × Ran g migration from (state g new).committed
 
 -- there was no version, and the whole batch was run over what was there

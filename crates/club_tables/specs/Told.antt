@@ -66,11 +66,11 @@ pub record ReadsClub {S A E : Type 0} (g : Ghosts S) (old new : Held S) (result 
 -- A change of clubs of which this holds. One that fits is made or refused. A refusal of any change leaves a connection at rest as it was, and
 -- a crash may leave what the statements of the change left.
 pub record ChangesClubWhere {S E : Type 0} (g : Ghosts S) (IsIt : Club → Type 0) (change : Change) (old new : Held S) (result : Result (Unit {0}) E) : Type 0
-    where
-  pub honest : HasCleanDisk (state g new) → HasCleanDisk (state g old)
-  pub changed : HasCleanDisk (state g new) → ChangesWhere IsIt (stands_in g) change old new result
-  pub untouched : OnErr result (IsUntouched (state g old) (state g new))
-  pub survives : Survives (state g old) (state g new) (MayCommit g (AreWordsOf change) old)
+  where
+    pub honest : HasCleanDisk (state g new) → HasCleanDisk (state g old)
+    pub changed : HasCleanDisk (state g new) → ChangesWhere IsIt (stands_in g) change old new result
+    pub untouched : OnErr result (IsUntouched (state g old) (state g new))
+    pub survives : Survives (state g old) (state g new) (MayCommit g (AreWordsOf change) old)
 
 -- the same of any club
 abbrev pub ChangesClub : {S E : Type 0} → Ghosts S → Change → Held S → Held S → Result (Unit {0}) E → Type 0

@@ -10,11 +10,11 @@ use Rattle.club_rows.specs.declared.key.OlderRoot.{OlderRoot}
 use Rattle.club_rows.specs.declared.booking.Booking.{Booking}
 use Rattle.club_rows.specs.Booking.{persons_of}
 use Rattle.club_core.specs.declared.change.Change.{Change}
-use Rattle.club_core.specs.declared.change.Change.TheVariants.{InsertMember, AddCredit, InsertFacility, InsertKey, MarkRevoked, ReplaceRoot, MarkClosed,
-    InsertBooking, MarkCancelled}
+use Rattle.club_core.specs.declared.change.Change.TheVariants.{InsertMember, AddCredit, InsertFacility, InsertKey, MarkRevoked, ReplaceRoot, MarkClosed}
+use Rattle.club_core.specs.declared.change.Change.TheVariants.{InsertBooking, MarkCancelled}
 use Rattle.club_core.specs.Sums.{cost_of}
-use Rattle.club_tables.specs.declared.texts.TheConstants.{ADD_MEMBER, ADD_CREDIT, ADD_FACILITY, ADD_KEY, REVOKE_KEY, PUT_OLDER_ROOT, SET_ROOT, CLOSE_SLOT,
-    ADD_BOOKING, CANCEL_BOOKING, ADD_USED, ADD_TAKEN}
+use Rattle.club_tables.specs.declared.texts.TheConstants.{ADD_MEMBER, ADD_CREDIT, ADD_FACILITY, ADD_KEY, REVOKE_KEY, PUT_OLDER_ROOT, SET_ROOT, CLOSE_SLOT}
+use Rattle.club_tables.specs.declared.texts.TheConstants.{ADD_BOOKING, CANCEL_BOOKING, ADD_USED, ADD_TAKEN}
 use Rattle.club_tables.specs.Columns.{whole, facility_values, key_values, older_root_values, booking_values, name_values}
 use Rattle.club_tables.specs.Stored.{persons_taken}
 use Rattle.club_tables.specs.Transaction.{Words}

@@ -115,7 +115,8 @@ fn prepare_all<S: Alter>(conn: &mut Connection<S>, texts: &[&str]) -> Result<(),
         (state S.Store conn.new) }
     ensures understood { HasCleanDisk (state S.Store conn.new) → OnOk result
         (IsTrue (state S.Store conn.new).is_open → IsAtRest (state S.Store conn.old) → All
-        (IsUnderstood (state S.Store conn.new).committed.schema) (map (λ text. text.now) texts.now)) }
+        (IsUnderstood (state S.Store conn.new).committed.schema)
+        (map (λ text. text.now) texts.now)) }
     ensures survives { Survives (state S.Store conn.old) (state S.Store conn.new) (λ _. ⊥) }
 {
     for text in texts {

@@ -53,7 +53,7 @@ const MOST_TAKEN: u32 = 50;
 #[derive(Clone, Copy)]
 pub struct MemberRow {
     pub member: Member,
-    /// Charges less refunds, 0 to 999,999,999.
+    /// Charges less refunds, 0 to 999,999,999 points.
     pub used: u32,
 }
 

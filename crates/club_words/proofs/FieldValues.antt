@@ -20,7 +20,7 @@ value_at head fields i = (header_bytes head (get_or fields i no_field)).1
 
 values_at : (head name : List ℕ) (fields : List HeaderSpan) (i : ℕ) (same : Bool) → i < length fields → same_word (name_at head fields i) name ≡ same
     → values_in head name (drop i fields) ≡ cond same (value_at head fields i ∷ values_in head name (drop (i + 1) fields))
-        (values_in head name (drop (i + 1) fields))
+    (values_in head name (drop (i + 1) fields))
 values_at head name fields i same h e =
     at_drop_more (values_in head name) fields i no_field h
     ∙ ap (λ (b : Bool). cond b (value_at head fields i ∷ values_in head name (drop (i + 1) fields)) (values_in head name (drop (i + 1) fields))) e

@@ -1,6 +1,6 @@
 -- No head asks for more than 256 bytes.
-use Rattle.std.proofs.Common.{◌≡◌, ℕ, ◌+◌, ◌-◌, ◌<◌, ◌≤◌, ◌&&◌, ◌||◌, refl, Bool, true, false, cond, eqb, leb, ltb, List, [], ◌∷◌, length, Option, Some, None,
-    arith, rules, tests, length-append, codes}
+use Rattle.std.proofs.Common.{◌≡◌, ℕ, ◌+◌, ◌-◌, ◌<◌, ◌≤◌, ◌&&◌, ◌||◌, refl, Bool, true, false, cond, eqb, leb, ltb, List, [], ◌∷◌, length, Option, Some, None}
+use Rattle.std.proofs.Common.{arith, rules, tests, length-append, codes}
 use Rattle.std.specs.Char.{is_ascii_digit}
 use Rattle.std.specs.List.{list_all}
 use Rattle.std.specs.Str.{bytes_eq}
@@ -23,9 +23,9 @@ both_true false b e = absurd cc
 few_digits : (value : List ℕ) (n : ℕ) → length_in value ≡ Some n → n ≤ 256
 few_digits value n e =
     let is = some_of (ltb 0 (length value) && leb (length value) 4 && list_all is_ascii_digit value
-        && leb (digits_value 10 value) 256) (digits_value 10 value) n e in
+    && leb (digits_value 10 value) 256) (digits_value 10 value) n e in
     let small : leb (digits_value 10 value) 256 ≡ true = both_true (ltb 0 (length value) && leb (length value) 4
-        && list_all is_ascii_digit value) (leb (digits_value 10 value) 256) is.0 in
+    && list_all is_ascii_digit value) (leb (digits_value 10 value) 256) is.0 in
     let le : digits_value 10 value ≤ 256 = search (rules, tests) in
     omega (arith, is.1)
 

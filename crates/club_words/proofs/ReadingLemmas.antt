@@ -30,14 +30,14 @@ said_at bytes fields found at body = rw (at.spans.method, at.spans.path, at.span
 pub reading_at : (bytes : List ℕ) (fields : List HeaderSpan) (found : Head) → IsHeadAt bytes fields found → found.body_len ≤ length found.rest.now
     → (result : Result Words Refusal)
     → UnlessMemory (WantsMemory (span_bytes found.piece.now found.spans.method) (take found.body_len found.rest.now)) (λ answer.
-        said_in (span_bytes found.piece.now found.spans.method) (span_bytes found.piece.now found.spans.path)
+    said_in (span_bytes found.piece.now found.spans.method) (span_bytes found.piece.now found.spans.path)
     (map (header_bytes found.piece.now) (take found.spans.headers fields)) (take found.body_len found.rest.now) ≡ answer) result
     → UnlessMemory (HoldsBody bytes) (IsReading bytes) result
 reading_at bytes fields found at long (Ok words) told =
     framed at.head (take found.body_len found.rest.now) (whole_frame bytes fields found at long) (sym told
-        ∙ said_at bytes fields found at (take found.body_len found.rest.now))
+    ∙ said_at bytes fields found at (take found.body_len found.rest.now))
 reading_at bytes fields found at long (Err refusal) (inl memory) =
     inl (memory.0, (at.head, take found.body_len found.rest.now, whole_frame bytes fields found at long, rw (← at.spans.method) memory.1))
 reading_at bytes fields found at long (Err refusal) (inr told) =
     inr (framed at.head (take found.body_len found.rest.now) (whole_frame bytes fields found at long) (sym told
-        ∙ said_at bytes fields found at (take found.body_len found.rest.now)))
+    ∙ said_at bytes fields found at (take found.body_len found.rest.now)))

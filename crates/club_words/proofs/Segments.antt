@@ -1,6 +1,6 @@
 -- A path, one part at a time.
-use Rattle.std.proofs.Common.{◌≡◌, ℕ, ◌+◌, ◌-◌, ◌<◌, ◌≤◌, Bool, true, false, List, [], ◌∷◌, ◌++◌, cond, eqb, length, get_or, take, drop, refl, sym, ap, ◌∙◌,
-    append_assoc, append-nil}
+use Rattle.std.proofs.Common.{◌≡◌, ℕ, ◌+◌, ◌-◌, ◌<◌, ◌≤◌, Bool, true, false, List, [], ◌∷◌, ◌++◌, cond, eqb, length, get_or, take, drop, refl, sym, ap, ◌∙◌}
+use Rattle.std.proofs.Common.{append_assoc, append-nil}
 use Rattle.std.proofs.Math.ListN.{drop_of_length-le}
 use Rattle.std.proofs.Math.Seq.{take-length}
 use Rattle.std.proofs.lemmas.List.{at_drop_more, length-drop, take_more, take_all}
@@ -15,9 +15,9 @@ pub first_part : (path : List ℕ) → (part : List ℕ) × (parts : List (List 
 first_part [] = ([], [], refl)
 first_part (byte ∷ path) = elim (eqb byte 47) as (λ b. (part : List ℕ) × (parts : List (List ℕ))
     × (cond b ([] ∷ segments path) (joined (byte ∷ []) (segments path)) ≡ part ∷ parts)) [
-  | true ↦ ([], segments path, refl)
-  | false ↦ let rest = first_part path in (byte ∷ rest.0, rest.1, ap (joined (byte ∷ [])) rest.2)
-]
+      | true ↦ ([], segments path, refl)
+      | false ↦ let rest = first_part path in (byte ∷ rest.0, rest.1, ap (joined (byte ∷ [])) rest.2)
+    ]
 
 pub from_the_front : (path : List ℕ) → segments path ≡ joined [] (segments path)
 from_the_front path = let first = first_part path in first.2 ∙ sym (ap (joined []) first.2)

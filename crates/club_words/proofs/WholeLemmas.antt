@@ -1,6 +1,6 @@
 -- When a request is whole, and what follows it.
-use Rattle.std.proofs.Common.{◌≡◌, ℕ, ◌-◌, ◌<◌, ◌≤◌, ◌↔◌, inl, inr, false, List, [], ◌∷◌, ◌++◌, length, take, drop, nat_eq, refl, sym, ap, ◌∙◌, arith,
-    append_assoc, length-append}
+use Rattle.std.proofs.Common.{◌≡◌, ℕ, ◌-◌, ◌<◌, ◌≤◌, ◌↔◌, inl, inr, false, List, [], ◌∷◌, ◌++◌, length, take, drop, nat_eq, refl, sym, ap, ◌∙◌, arith}
+use Rattle.std.proofs.Common.{append_assoc, length-append}
 use Rattle.std.specs.List.{ends_with}
 use Rattle.std.proofs.Math.Seq.{take-append_seam}
 use Rattle.std.proofs.lemmas.Bool.{cases_lt}
@@ -52,7 +52,7 @@ pub open_body_more : (bytes more : List ℕ) (fields : List HeaderSpan) (found :
     → ¬ (IsWhole (bytes ++ more))
 open_body_more bytes more fields found at few =
     let parts : bytes ++ more ≡ found.piece.now ++ (found.rest.now ++ more) = ap (λ (l : List ℕ). l ++ more) at.parts
-        ∙ append_assoc found.piece.now found.rest.now more in
+    ∙ append_assoc found.piece.now found.rest.now more in
     let short : length (found.rest.now ++ more) < found.body_len = simp length-append (omega arith) in
     open_body (bytes ++ more) found.piece.now (found.rest.now ++ more) at.head found.body_len at.cut parts at.asks short
 
@@ -77,7 +77,7 @@ body_then_there bytes more fields found at enough =
       cut = at.cut;
       parts =
           rw (take-append-drop found.body_len (found.rest.now ++ more)) (ap (λ (l : List ℕ). l ++ more) at.parts
-              ∙ append_assoc found.piece.now found.rest.now more);
+          ∙ append_assoc found.piece.now found.rest.now more);
       asks = rw (length-take-le found.body_len (found.rest.now ++ more) long) at.asks;
     })
 

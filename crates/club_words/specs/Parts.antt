@@ -1,6 +1,6 @@
 -- The parts of a path, and what they spell.
-use Rattle.std.specs.Prelude.{◌≡◌, ℕ, ◌==◌, ◌&&◌, not, List, [], ◌∷◌, ◌++◌, length, slice_index, nat_lt, nat_le, if◌then◌else◌, Option, Some, None,
-    option_and_then}
+use Rattle.std.specs.Prelude.{◌≡◌, ℕ, ◌==◌, ◌&&◌, not, List, [], ◌∷◌, ◌++◌, length, slice_index, nat_lt, nat_le, if◌then◌else◌, Option, Some, None}
+use Rattle.std.specs.Prelude.{option_and_then}
 use Rattle.std.specs.Borrow.{Bor}
 use Rattle.std.specs.Char.{is_ascii_digit}
 use Rattle.std.specs.List.{list_all}

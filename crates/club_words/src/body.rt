@@ -29,7 +29,8 @@ fn has_only_guests(value: &Value) -> bool
 }
 
 fn are_guests(members: &Map<String, Value>) -> bool
-    ensures { result ≡ list_all (λ key. bytes_eq (string_bytes key) (codes "guests")) (keys members.now) }
+    ensures { result
+        ≡ list_all (λ key. bytes_eq (string_bytes key) (codes "guests")) (keys members.now) }
 {
     members.keys().all(|key| key.as_str() == "guests")
 }
@@ -77,7 +78,8 @@ fn value_of(alloc: Global, bytes: &[u8]) -> Result<Value, Refusal>
 
 /// The guests that a body tells.
 pub(crate) fn guests_in(alloc: Global, body: &[u8]) -> Result<Guests, Refusal>
-    ensures { MatchResult result (λ guests. spec.guests_in body.now ≡ Some guests) (Refuses (0 < length body.now) (spec.guests_in body.now)) }
+    ensures { MatchResult result (λ guests. spec.guests_in body.now ≡ Some guests)
+        (Refuses (0 < length body.now) (spec.guests_in body.now)) }
 {
     match value_of(alloc, body) {
         Ok(value) => guests_told(&value).ok_or(Refusal::BadRequest),

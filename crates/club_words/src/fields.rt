@@ -30,7 +30,8 @@ fn next_value<'a, 'b>(
     requires { All (IsHeaderWithin (length head.now)) fields.now }
     ensures { MatchOption result
         (values_in head.now name.now fields.now ≡ [])
-        (λ found. (values_in head.now name.now fields.now ≡ found.0.now ∷ values_in head.now name.now found.1.now)
+        (λ found. (values_in head.now name.now fields.now
+        ≡ found.0.now ∷ values_in head.now name.now found.1.now)
         × All (IsHeaderWithin (length head.now)) found.1.now) }
 {
     for (i, field) in fields.iter().enumerate() {

@@ -35,7 +35,8 @@ pub(crate) fn read_head(piece: &[u8], fields: &mut [HeaderSpan; MAX_FIELDS]) -> 
     ensures { MatchOption result
         ((head : RequestHead) → ¬ (IsHeadOf piece.now head))
         (λ spans. IsRequestWithin piece.now fields.new spans
-        × ((head : RequestHead) × IsHeadOf piece.now head × IsRequestAt piece.now fields.new spans head)) }
+        × ((head : RequestHead) × IsHeadOf piece.now head
+        × IsRequestAt piece.now fields.new spans head)) }
 {
     match parse_request(piece, fields) {
         Ok(Status::Complete(spans)) if spans.len == piece.len() => Some(spans),

@@ -28,7 +28,8 @@ fn bearer_text(value: &[u8]) -> Option<&[u8]>
 /// The text of the pass, where exactly one field has one.
 pub(crate) fn pass_of<'a>(head: &'a [u8], fields: &[HeaderSpan]) -> Option<&'a [u8]>
     requires { All (IsHeaderWithin (length head.now)) fields.now }
-    ensures { option_map (λ text. text.now) result ≡ spec.pass_of (map (header_bytes head.now) fields.now) }
+    ensures { option_map (λ text. text.now) result
+        ≡ spec.pass_of (map (header_bytes head.now) fields.now) }
 {
     match values_of(head, fields, b"authorization") {
         Values::One(value) => bearer_text(value),

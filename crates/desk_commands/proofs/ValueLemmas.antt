@@ -1,6 +1,6 @@
 -- What words spell, as the code reads them.
-use Rattle.std.proofs.Common.{◌≡◌, ◌⊎◌, ◌↔◌, ℕ, cond, ◌<◌, ◌≤◌, ◌&&◌, nat_le, Bool, true, false, List, length, Option, Some, None, Result, Ok, Err, inl, inr,
-    refl, sym, arith, rules}
+use Rattle.std.proofs.Common.{◌≡◌, ◌⊎◌, ◌↔◌, ℕ, cond, ◌<◌, ◌≤◌, ◌&&◌, nat_le, Bool, true, false, List, length, Option, Some, None, Result, Ok, Err, inl, inr}
+use Rattle.std.proofs.Common.{refl, sym, arith, rules}
 use Rattle.std.specs.Prelude.{MatchOption, IsSome, IfSome}
 use Rattle.std.specs.Result.{result_ok}
 use Rattle.std.specs.Str.Parse.{digits_value, ParsesUnsigned}

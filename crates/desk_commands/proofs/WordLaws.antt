@@ -10,10 +10,10 @@ use Rattle.pass_forms.specs.declared.form.Form.TheVariants.{V1, V2, Json}
 use Rattle.pass_commands.specs.FormName.{form_name, form_named}
 use Rattle.desk_commands.specs.Application.{application, log_flag, refusals, subcommand, word_named}
 use Rattle.desk_commands.specs.Commanded.{Commanded}
-use Rattle.desk_commands.specs.Laws.{AddMemberTakesItsParts, CreditTakesItsParts, AddFacilityTakesItsParts, AddKeyTakesItsParts, AddKeyTakesV2,
-    RevokeKeyTakesItsKey, RotateKeyTakesItsParts}
-use Rattle.desk_commands.specs.Laws.{RotateKeyTakesV2, CloseSlotTakesItsSlot, SheetTakesItsDay, ServeTakesItsParts, ServeTakesUtc, ServeTakesItsMoment,
-    ServeTakesItsLog}
+use Rattle.desk_commands.specs.Laws.{AddMemberTakesItsParts, CreditTakesItsParts, AddFacilityTakesItsParts, AddKeyTakesItsParts, AddKeyTakesV2}
+use Rattle.desk_commands.specs.Laws.{RevokeKeyTakesItsKey, RotateKeyTakesItsParts}
+use Rattle.desk_commands.specs.Laws.{RotateKeyTakesV2, CloseSlotTakesItsSlot, SheetTakesItsDay, ServeTakesItsParts, ServeTakesUtc, ServeTakesItsMoment}
+use Rattle.desk_commands.specs.Laws.{ServeTakesItsLog}
 use Rattle.desk_server.specs.Zone.{zone_of}
 use Rattle.desk_commands.specs.Words.{asked, commanded, commanded_by}
 

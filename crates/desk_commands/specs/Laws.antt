@@ -107,5 +107,5 @@ abbrev pub ServeTakesItsLog : Type 0
 ServeTakesItsLog = (program file port count fixed : Text) (at many moment : ℕ)
     → port_of port ≡ Some at → count_of count ≡ Some many → moment_of_text fixed ≡ Some moment
     → Asks (program ∷ codes "serve" ∷ (codes "--port=" ++ port) ∷ (codes "--count=" ++ count) ∷ (codes "--at=" ++ fixed) ∷ codes "--log" ∷ codes "--" ∷ file
-        ∷ [])
+    ∷ [])
     file (Serve (record { port = at; count = many; clock = Fixed moment; log = true }))

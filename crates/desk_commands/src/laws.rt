@@ -1,6 +1,21 @@
 //! What holds of the definitions alone: each command takes its words.
 
-ghost use Rattle.desk_commands.specs.Laws.{AddMemberTakesItsParts, CreditTakesItsParts, AddFacilityTakesItsParts, AddKeyTakesItsParts, AddKeyTakesV2, RevokeKeyTakesItsKey, RotateKeyTakesItsParts, RotateKeyTakesV2, CloseSlotTakesItsSlot, SheetTakesItsDay, ServeTakesItsParts, ServeTakesUtc, ServeTakesItsMoment, ServeTakesItsLog};
+ghost use Rattle.desk_commands.specs.Laws.{
+  AddMemberTakesItsParts,
+  CreditTakesItsParts,
+  AddFacilityTakesItsParts,
+  AddKeyTakesItsParts,
+  AddKeyTakesV2,
+  RevokeKeyTakesItsKey,
+  RotateKeyTakesItsParts,
+  RotateKeyTakesV2,
+  CloseSlotTakesItsSlot,
+  SheetTakesItsDay,
+  ServeTakesItsParts,
+  ServeTakesUtc,
+  ServeTakesItsMoment,
+  ServeTakesItsLog,
+};
 
 /// `add-member FILE NAME QUOTA` asks for a member of that name and quota.
 pub fn add_member_takes_its_parts()

@@ -32,7 +32,8 @@ pub fn number_at(words: &ArgMatches<'_>, id: &str) -> Option<u32>
 
 /// The value of an option, where it is there.
 pub fn given<'a>(words: &ArgMatches<'a>, id: &str) -> Option<&'a str>
-    ensures { option_map (λ text. text.now) result ≡ first_of id.now (rows_of (found_of words.now)) }
+    ensures { option_map (λ text. text.now) result
+        ≡ first_of id.now (rows_of (found_of words.now)) }
 {
     words.get_str(id)
 }

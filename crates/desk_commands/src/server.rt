@@ -35,7 +35,8 @@ pub fn serve<S: ClubStore, W: Write, E: Write>(
     writer: &mut W,
     errors: &mut E,
 ) -> Result<(), Fault>
-    ensures served { Serves (AnswersBy S.is_honest S.stands) service.entry.count desk.old desk.new result }
+    ensures served { Serves (AnswersBy S.is_honest S.stands) service.entry.count
+        desk.old desk.new result }
     ensures announced { Announces (W.contents writer.old) (W.contents writer.new)
         (writer.new ≡ writer.old) result }
     ensures unlogged { service.entry.log ≡ false → errors.new ≡ errors.old }

@@ -3,7 +3,18 @@
 ghost use Rattle.std.specs.Prelude.{◌≡◌, IfOk};
 ghost use Rattle.club_core.specs.Acceptance.{IsServed};
 ghost use Rattle.club_core.specs.Club.{empty_club};
-ghost use Rattle.club_gate.specs.Runs.{Conserves, IsAnswered, IsAsInAnother, IsNeverNegative, IsNeverOverbooked, IsOnce, IsSolo, club_left, events_of, told_all};
+ghost use Rattle.club_gate.specs.Runs.{
+  Conserves,
+  IsAnswered,
+  IsAsInAnother,
+  IsNeverNegative,
+  IsNeverOverbooked,
+  IsOnce,
+  IsSolo,
+  club_left,
+  events_of,
+  told_all,
+};
 ghost use Rattle.club_gate.specs.Served.{AnswersItsForms, DependsOnTheBasis, EntitlesTo, IsBlind, IsToldItsFault, OpensNoMore};
 
 use club_core::{Reply, StoreFault};

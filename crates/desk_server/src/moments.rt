@@ -56,7 +56,8 @@ impl<'z, 'c, C: Clock> Moments for ClockIn<'z, 'c, C> {
     ghost use Rattle.desk_server.specs.Zone.{IsShown};
 
     // that of some instant, or none where the clock can't be read
-    ghost tells = { λ old told new. ((instant : ℤ) × IsShown old.zone instant told) ⊎ (told ≡ None) };
+    ghost tells = { λ old told new.
+        ((instant : ℤ) × IsShown old.zone instant told) ⊎ (told ≡ None) };
 
     fn now(&mut self) -> Option<Moment> {
         let instant = Timestamp::now(self.clock).ok()?;

@@ -55,7 +55,8 @@ fn a_booking_has_133_bytes(rt: HostRuntime) {
 fn not_verified_has_159_bytes(rt: HostRuntime) {
     let text =
         b"HTTP/1.1 401 Unauthorized\r\nContent-Type: application/json\r\nContent-Length: 33\r\n\
-        WWW-Authenticate: Bearer\r\nConnection: close\r\n\r\n{\"fault\":9,\"text\":\"not verified\"}";
+        WWW-Authenticate: Bearer\r\nConnection: close\r\n\r\n\
+        {\"fault\":9,\"text\":\"not verified\"}";
     assert_eq!(&rt; text.len(), 159);
     writes(&rt, Some(Reply::Refused(Refusal::NotVerified)), text);
 }

@@ -1,14 +1,14 @@
 -- Words that clap reads name one of the program's commands.
-use Rattle.std.proofs.Common.{◌≡◌, ◌⊎◌, ◌∙◌, inl, inr, ℕ, Bool, true, false, List, [], ◌∷◌, Option, Some, None, is_some, refl, sym, ap, codes, cond, find, fold,
-    not, option_map, IsSomeAnd, ◌&&◌, ◌||◌, ◌++◌}
+use Rattle.std.proofs.Common.{◌≡◌, ◌⊎◌, ◌∙◌, inl, inr, ℕ, Bool, true, false, List, [], ◌∷◌, Option, Some, None, is_some, refl, sym, ap, codes, cond, find, fold}
+use Rattle.std.proofs.Common.{not, option_map, IsSomeAnd, ◌&&◌, ◌||◌, ◌++◌}
 use Rattle.std.specs.Str.{bytes_eq}
 use Rattle.std.proofs.lemmas.Slice.Eq.{bytes_eq-Decides}
 use Rattle.clap.specs.Words.{App, Kinds, Row, Rule, Shape, Text, built}
 use Rattle.clap.specs.Kinds.{check_kinds, or_else}
 use Rattle.clap.specs.Simple.{argument_words, entered, help_shape, label_of, names_of, rows_at}
-use Rattle.clap.specs.Walk.{Held, Names, Outcome, Step, Waiting, Walk, after_flag, after_step, answers_to, done, idle, long_or_other, next, nothing_held,
-    option, plain, plain_word, positional, refused, short_or_plain, stop_after, subcommand_met, subcommand_or_other, to_positional, trailing, value, waits,
-    walk, walk_from, walked, word_met}
+use Rattle.clap.specs.Walk.{Held, Names, Outcome, Step, Waiting, Walk, after_flag, after_step, answers_to, done, idle, long_or_other, next, nothing_held}
+use Rattle.clap.specs.Walk.{option, plain, plain_word, positional, refused, short_or_plain, stop_after, subcommand_met, subcommand_or_other, to_positional}
+use Rattle.clap.specs.Walk.{trailing, value, waits, walk, walk_from, walked, word_met}
 use Rattle.clap.specs.Walk.{subcommand as enters}
 use Rattle.clap.specs.Walk.{arg_by_index, finished, settled, walked_from}
 use Rattle.clap.specs.Lexer.{long_of}

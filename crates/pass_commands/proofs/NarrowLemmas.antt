@@ -1,6 +1,6 @@
 -- Lemmas on caveats that are added in turn.
-use Rattle.std.proofs.Common.{◌≡◌, ◌∙◌, ℕ, ◌+◌, ◌<◌, ◌≤◌, List, [], ◌∷◌, length, map, drop, Result, Ok, Err, IsOk, inl, inr, ap, sym, refl, append_assoc,
-    add-one, drop-cons, arith}
+use Rattle.std.proofs.Common.{◌≡◌, ◌∙◌, ℕ, ◌+◌, ◌<◌, ◌≤◌, List, [], ◌∷◌, length, map, drop, Result, Ok, Err, IsOk, inl, inr, ap, sym, refl, append_assoc}
+use Rattle.std.proofs.Common.{add-one, drop-cons, arith}
 use Rattle.std.proofs.lemmas.Bool.{cases_lt, le-ltb, lt-ltb}
 use Rattle.std.proofs.lemmas.List.{append-nil, length-append, length-map}
 use Rattle.std.proofs.Math.Seq.{drop-length}

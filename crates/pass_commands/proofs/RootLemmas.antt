@@ -1,6 +1,6 @@
 -- Lemmas on `root_of`.
-use Rattle.std.proofs.Common.{◌≡◌, ◌⊎◌, ◌∙◌, ℕ, ◌*◌, ◌/◌, ◌%◌, ◌<◌, ◌≤◌, List, length, take, ◌++◌, Some, None, Result, Ok, Err, MatchResult, length-take-le,
-    inl, inr, refl, sym, ap, arith}
+use Rattle.std.proofs.Common.{◌≡◌, ◌⊎◌, ◌∙◌, ℕ, ◌*◌, ◌/◌, ◌%◌, ◌<◌, ◌≤◌, List, length, take, ◌++◌, Some, None, Result, Ok, Err, MatchResult, length-take-le}
+use Rattle.std.proofs.Common.{inl, inr, refl, sym, ap, arith}
 use Rattle.std.proofs.lemmas.Bool.{cases_eq}
 use Rattle.std.proofs.lemmas.Bool.Decides.{nat_tests}
 use lib.Seq.{take-append_seam}

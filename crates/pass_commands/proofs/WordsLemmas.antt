@@ -9,8 +9,8 @@ use Rattle.clap.specs.declared.parser.matches.ArgMatches.{ArgMatches}
 use Rattle.pass_commands.specs.Application.{application, refusals, subcommand}
 use Rattle.pass_commands.specs.Words.{AnswersAsked, IsFaultOf, Refusal, asked_by, command_of}
 use Rattle.pass_commands.specs.declared.answer.Fault.{Fault}
-use Rattle.pass_commands.specs.declared.answer.Fault.TheVariants.{Words, TooLong, Malformed, ThirdParty, TooMany, Memory, CaveatNotUnderstood, BadRoot,
-    InputOutput}
+use Rattle.pass_commands.specs.declared.answer.Fault.TheVariants.{Words, TooLong, Malformed, ThirdParty, TooMany, Memory, CaveatNotUnderstood, BadRoot}
+use Rattle.pass_commands.specs.declared.answer.Fault.TheVariants.{InputOutput}
 use Rattle.pass_commands.specs.declared.command.Command.{Command}
 
 -- clap gives the matches of the application as a function of the words

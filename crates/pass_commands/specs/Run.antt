@@ -9,8 +9,8 @@ use Rattle.pass_commands.specs.Fault.{of_form}
 use Rattle.pass_commands.specs.Input.{Reads}
 use Rattle.pass_commands.specs.Words.{AsksText, IsFaultOf, asked}
 use Rattle.pass_commands.specs.declared.answer.Fault.{Fault}
-use Rattle.pass_commands.specs.declared.answer.Fault.TheVariants.{Words, TooLong, Malformed, ThirdParty, TooMany, Memory, BadRoot, CaveatNotUnderstood,
-    InputOutput}
+use Rattle.pass_commands.specs.declared.answer.Fault.TheVariants.{Words, TooLong, Malformed, ThirdParty, TooMany, Memory, BadRoot, CaveatNotUnderstood}
+use Rattle.pass_commands.specs.declared.answer.Fault.TheVariants.{InputOutput}
 use Rattle.pass_commands.specs.declared.answer.Outcome.{Outcome}
 use Rattle.pass_commands.specs.declared.answer.Outcome.TheVariants.{Done, NotSigned}
 use Rattle.pass_commands.specs.declared.command.Command.{Command}

@@ -1,6 +1,6 @@
 -- What the words ask for (ours).
-use Rattle.std.specs.Prelude.{◌≡◌, ◌≢◌, ◌⊎◌, ℕ, ◌+◌, Bool, not, IsSomeAnd, if◌then◌else◌, List, [], Option, Some, None, is_some, Result, Ok, Err, codes,
-    position}
+use Rattle.std.specs.Prelude.{◌≡◌, ◌≢◌, ◌⊎◌, ℕ, ◌+◌, Bool, not, IsSomeAnd, if◌then◌else◌, List, [], Option, Some, None, is_some, Result, Ok, Err, codes}
+use Rattle.std.specs.Prelude.{position}
 use Rattle.std.specs.Prelude.{unwrap_or}
 use Rattle.std.specs.Option.{ok_or}
 use Rattle.std.specs.Result.{result_ok}

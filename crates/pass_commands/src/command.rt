@@ -157,7 +157,8 @@ impl<'a> Command<'a> {
     // Reads the input where the command has one, and gives the number of bytes read.
     fn read_input<R: Read>(&self, reader: &mut R, room: &mut [u8; MOST_READ]) -> io::Result<usize>
         ensures bytes { IfOk result (λ count. (count ≤ length room.new)
-            × ReadsInput (spec.reads_input self.now) (R.remaining reader.old) (R.remaining reader.new) (take count room.new)) }
+            × ReadsInput (spec.reads_input self.now) (R.remaining reader.old)
+            (R.remaining reader.new) (take count room.new)) }
         ensures unread { spec.reads_input self.now ≡ false → reader.new ≡ reader.old }
     {
         if self.reads_input() {

@@ -1,6 +1,18 @@
 //! What holds of the definitions alone.
 
-ghost use Rattle.pass_commands.specs.Laws.{ConvertTakesItsForm, MintSigns, MintTakesDefaults, MintTakesItsParts, NarrowTakesItsCaveats, NarrowingKeepsSigned, ShowTakesNothing, VerifyTakesItsRoot, VerifyTellsSigned, WordsEnterACommand, WordsNameACommand};
+ghost use Rattle.pass_commands.specs.Laws.{
+  ConvertTakesItsForm,
+  MintSigns,
+  MintTakesDefaults,
+  MintTakesItsParts,
+  NarrowTakesItsCaveats,
+  NarrowingKeepsSigned,
+  ShowTakesNothing,
+  VerifyTakesItsRoot,
+  VerifyTellsSigned,
+  WordsEnterACommand,
+  WordsNameACommand,
+};
 
 /// Words that `clap` reads of any application that needs a command enter one of its own.
 pub fn words_enter_a_command()

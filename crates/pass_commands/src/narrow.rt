@@ -25,7 +25,8 @@ pub fn narrow(alloc: Global, caveats: &Caveats<'_>, bytes: &[u8]) -> Result<Answ
 /// A pass with caveats added in turn. A pass that was read or made has few enough itself.
 pub fn narrowed(alloc: Global, mut pass: Pass, caveats: &[&str]) -> Result<Pass, FormFault>
     requires { length pass.caveats ≤ max_caveats }
-    ensures { UnlessMemory (λ answer. spec.narrowing (map (λ caveat. caveat.now) caveats.now) pass ≡ answer) result }
+    ensures { UnlessMemory
+        (λ answer. spec.narrowing (map (λ caveat. caveat.now) caveats.now) pass ≡ answer) result }
 {
     for caveat in caveats {
         pass_forms::narrow(alloc, &mut pass, caveat.as_bytes())?;

@@ -51,7 +51,8 @@ fn push_caveats(alloc: Global, text: &mut String, caveats: &[Vec<u8>]) -> Result
 
 // A name, a space and a value.
 fn push_line(alloc: Global, text: &mut String, name: &str, value: &[u8]) -> Result<(), AllocError>
-    ensures { OnOk result (string_bytes text.new ≡ string_bytes text.old ++ spec.value_line name.now value.now) }
+    ensures { OnOk result
+        (string_bytes text.new ≡ string_bytes text.old ++ spec.value_line name.now value.now) }
 {
     text.push_str(name)?;
     text.push(' ')?;
@@ -60,7 +61,8 @@ fn push_line(alloc: Global, text: &mut String, name: &str, value: &[u8]) -> Resu
 }
 
 fn push_escaped(alloc: Global, text: &mut String, bytes: &[u8]) -> Result<(), AllocError>
-    ensures { OnOk result (string_bytes text.new ≡ string_bytes text.old ++ spec.escaped bytes.now) }
+    ensures { OnOk result
+        (string_bytes text.new ≡ string_bytes text.old ++ spec.escaped bytes.now) }
 {
     for byte in bytes {
         push_byte(alloc, text, *byte)?;
@@ -70,7 +72,8 @@ fn push_escaped(alloc: Global, text: &mut String, bytes: &[u8]) -> Result<(), Al
 
 #[tactic(auto, unfolding(crate::specs::Shown::escaped_byte))]
 fn push_byte(alloc: Global, text: &mut String, byte: u8) -> Result<(), AllocError>
-    ensures { OnOk result (string_bytes text.new ≡ string_bytes text.old ++ spec.escaped_byte byte) }
+    ensures { OnOk result
+        (string_bytes text.new ≡ string_bytes text.old ++ spec.escaped_byte byte) }
 {
     match byte {
         b'\\' => text.push_str("\\\\"),

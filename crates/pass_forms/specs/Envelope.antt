@@ -86,9 +86,9 @@ abbrev pub told_bytes : Unwrapped → List ℕ → List ℕ → List ℕ
 told_bytes unwrapping text room = if unwrapping.plain then text else take unwrapping.len room
 
 -- the form and the bytes, or the fault
-abbrev pub told : Result Unwrapped FormFault → List ℕ → List ℕ → Result (Form × List ℕ) FormFault
-told (Ok unwrapping) text room = Ok (unwrapping.form, told_bytes unwrapping text room)
-told (Err fault) text room = Err fault
+abbrev pub told_unwrapping : Result Unwrapped FormFault → List ℕ → List ℕ → Result (Form × List ℕ) FormFault
+told_unwrapping (Ok unwrapping) text room = Ok (unwrapping.form, told_bytes unwrapping text room)
+told_unwrapping (Err fault) text room = Err fault
 
 -- Laws.
 

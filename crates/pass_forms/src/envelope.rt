@@ -8,7 +8,7 @@ ghost use Rattle.pass_forms.specs.Envelope.{
   form_of,
   from_base64,
   starts_with_brace,
-  told,
+  told_unwrapping,
   told_bytes,
   unwrapped,
 };
@@ -61,9 +61,9 @@ impl Unwrapped {
 /// comes.
 #[tactic(auto, unfolding(crate::specs::Envelope::unwrapped))]
 pub fn unwrap_text(text: &[u8], room: &mut [u8; MAX_BYTES]) -> Result<Unwrapped, FormFault>
-    ensures reading { IsUnwrapped text.now (told result text.now room.new) }
+    ensures reading { IsUnwrapped text.now (told_unwrapping result text.now room.new) }
     // The same, as a function of the text.
-    ensures value { told result text.now room.new ≡ unwrapped text.now }
+    ensures value { told_unwrapping result text.now room.new ≡ unwrapped text.now }
     ensures plain { IfOk result (λ unwrapping. unwrapping.plain ≡ starts_with_brace text.now) }
     ensures len { IfOk result (λ unwrapping.
         unwrapping.len ≡ length (told_bytes unwrapping text.now room.new)) }

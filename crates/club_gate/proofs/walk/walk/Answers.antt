@@ -6,7 +6,7 @@ returns-in-Signature g c = λ caveats signature e short.
     walked c.args.ask.now signature c.args.signing (g.F.FieldSource.left c.args.source.now) c.loop-field.progress
     (g.F.FieldSource.left c.loop-field.source) caveats c.ended.result
     (signature_comes c.args.ask.now c.loop-field.progress (g.F.FieldSource.left c.loop-field.source) _ _ _ c.ended.result c.in-Some.ensures.some
-        c.in-Signature.is c.ended.ensures)
+    c.in-Signature.is c.ended.ensures)
     c.loop-field.invariant e short
 
 pub returns-in-Location : goal.returns-in-Location

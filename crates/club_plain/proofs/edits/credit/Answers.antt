@@ -7,9 +7,9 @@ use Rattle.club_plain.proofs.edits.credit.Goals as goal
 pub loop-member-preserved : goal.loop-member-preserved
 loop-member-preserved c =
     edited_more (after.credited c.args.name.now c.args.points) c.loop-member.member-index c.args.members.now c.loop-member.members c.member-item.result
-        c.credited.result (omega arith) c.loop-member.invariant c.credited.ensures
+    c.credited.result (omega arith) c.loop-member.invariant c.credited.ensures
 
 pub credited-requires : goal.credited-requires
 credited-requires c =
     holds_next (λ (member : Member). member.credited ≤ 999_999_999) (after.credited c.args.name.now c.args.points) c.loop-member.member-index c.args.members.now
-        c.loop-member.members c.member-item.result (omega arith) c.loop-member.invariant c.requires
+    c.loop-member.members c.member-item.result (omega arith) c.loop-member.invariant c.requires

@@ -11,7 +11,7 @@ pub returns : goal.returns
 returns c =
     c.copied.ensures
     ∙ find_from_yields_List (λ (booking : Booking). bytes_eq booking.key c.args.name.now
-        && booking.number == c.args.number) _ _ c.find.result c.find.ensures.ran
+    && booking.number == c.args.number) _ _ c.find.result c.find.ensures.ran
     (YieldsList-from_filter _ (λ (booking : Booking). is_held c.args.keys.now c.args.member.now booking.key) (YieldsList-from_slice c.args.bookings.now cc)
-        c.filter.ensures.closure (λ x b q k. search (rules, tests)))
+    c.filter.ensures.closure (λ x b q k. search (rules, tests)))
     (λ x b q k. search (rules, tests))

@@ -4,4 +4,4 @@ use Rattle.club_store.proofs.figures.account_at.Goals as goal
 pub returns-clause-reads : goal.returns-clause-reads
 returns-clause-reads g c =
     read_then g.S.Store c.args.conn.now c.spent.new.conn c.open_count.new.conn _ _ _ _ _ _ c.in_ok-spent.ensures.reads c.in_ok-open_count.ensures.reads
-        (λ club spent open_count. cc)
+    (λ club spent open_count. cc)

@@ -13,7 +13,7 @@ returns-clause-migrated g c clean =
     let new = c.run.new.conn in
     let earlier : HasCleanDisk (state g.S.Store old) = omega (arith, c.run.ensures.survives.clean) in
     on_ok c.run.result (c.run.ensures.ran clean) (λ ran. migrated_stands g.S.Store old new earlier ran.0 ran.1 ran.2 (λ is_open trees may.
-        g.met.S.Store.settled new.store trees is_open may))
+    g.met.S.Store.settled new.store trees is_open may))
 
 pub returns-clause-refused : goal.returns-clause-refused
 returns-clause-refused g c clean =

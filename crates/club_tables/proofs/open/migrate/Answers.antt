@@ -36,7 +36,7 @@ pub returns-in-Ok-clause-untouched : goal.returns-in-Ok-clause-untouched
 returns-in-Ok-clause-untouched g c =
     on_err c.add_old_roots.result c.add_old_roots.ensures.untouched (λ kept rest.
     kept_then (state g.S.Store c.args.conn.now) (state g.S.Store c.prepare_all.new.conn) (state g.S.Store c.add_old_roots.new.conn)
-        c.add_old_roots.ensures.honest (c.prepare_all.ensures.same rest) kept)
+    c.add_old_roots.ensures.honest (c.prepare_all.ensures.same rest) kept)
 
 pub returns-in-Err-clause-refused : goal.returns-in-Err-clause-refused
 returns-in-Err-clause-refused g c clean rest club others first =
@@ -45,7 +45,7 @@ returns-in-Err-clause-refused g c clean rest club others first =
 pub returns-in-Ok-clause-survives : goal.returns-in-Ok-clause-survives
 returns-in-Ok-clause-survives g c =
     commits_after g.S.Store IsOpeningBatch c.args.conn.now c.prepare_all.new.conn c.add_old_roots.new.conn c.prepare_all.ensures.same
-        c.prepare_all.ensures.survives c.add_old_roots.ensures.survives
+    c.prepare_all.ensures.survives c.add_old_roots.ensures.survives
 
 pub returns-in-Err-clause-survives : goal.returns-in-Err-clause-survives
 returns-in-Err-clause-survives g c = commits_nothing g.S.Store IsOpeningBatch c.args.conn.now c.prepare_all.new.conn c.prepare_all.ensures.survives

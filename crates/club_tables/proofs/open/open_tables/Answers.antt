@@ -21,7 +21,7 @@ returns-then-is_version-clause-accepted g c clean =
     let one = rw c.as_slice-rows.ensures.value at (c.is_version.ensures.only c.if-is_version.true) in
     on_ok c.prepare_all.result (c.prepare_all.ensures.understood clean) (λ known is_open rest.
     inl (found_ready old mid new earlier clean is_open rest c.version.ensures.same c.prepare_all.ensures.same 2 texts_by_key c.in-Ok.found.items one
-        (c.in-Ok.ensures.answered earlier) (known is_open)))
+    (c.in-Ok.ensures.answered earlier) (known is_open)))
 
 pub returns-in-Err-Storage-clause-accepted : goal.returns-in-Err-Storage-clause-accepted
 returns-in-Err-Storage-clause-accepted g c clean =
@@ -29,7 +29,7 @@ returns-in-Err-Storage-clause-accepted g c clean =
     on_ok c.make_tables.result (c.make_tables.ensures.ran clean) (λ ran is_open rest.
     let same = (c.version.ensures.same earlier (ran.opened (omega arith))).1 in
     let unversioned = subst (λ (db : Database). HasNoDesk db.schema) same
-        (makes_free g.S.Store c.version.new.conn (state g.S.Store c.make_tables.new.conn).committed ran) in
+    (makes_free g.S.Store c.version.new.conn (state g.S.Store c.make_tables.new.conn).committed ran) in
     inr (inr (record { from = c.version.new.conn; same = same; unversioned = unversioned; ran = ran })))
 
 pub returns-then-is_version-2-clause-opened : goal.returns-then-is_version-2-clause-opened
@@ -57,7 +57,7 @@ returns-then-is_version-2-clause-accepted g c clean =
     let same = it.3 ∙ kept.2 in
     let here = rest kept.0 ∙ sym same in
     let answered = subst (λ db. IsAnswered VERSION.now db (one.0 ∷ [])) here
-        (subst (IsAnswered VERSION.now old.now) one.1 (c.in-Ok.ensures.answered earlier)) in
+    (subst (IsAnswered VERSION.now old.now) one.1 (c.in-Ok.ensures.answered earlier)) in
     inr (inl (record {
       from = it.0;
       found = record {
@@ -86,18 +86,18 @@ returns-in-Err-Memory-clause-survives g c = commits_nothing g.S.Store IsOpeningB
 pub returns-in-Err-Storage-clause-survives : goal.returns-in-Err-Storage-clause-survives
 returns-in-Err-Storage-clause-survives g c =
     commits_after g.S.Store IsOpeningBatch c.args.conn.now c.version.new.conn c.make_tables.new.conn (λ _.
-        c.version.ensures.same) c.version.ensures.survives c.make_tables.ensures.survives
+    c.version.ensures.same) c.version.ensures.survives c.make_tables.ensures.survives
 
 pub returns-then-is_version-clause-survives : goal.returns-then-is_version-clause-survives
 returns-then-is_version-clause-survives g c =
     commits_nothing g.S.Store IsOpeningBatch c.args.conn.now c.prepare_all.new.conn
     (survives_none (state g.S.Store c.args.conn.now) (state g.S.Store c.version.new.conn) (state g.S.Store c.prepare_all.new.conn) c.version.ensures.survives
-        c.prepare_all.ensures.survives)
+    c.prepare_all.ensures.survives)
 
 pub returns-then-is_version-2-clause-survives : goal.returns-then-is_version-2-clause-survives
 returns-then-is_version-2-clause-survives g c =
     commits_after g.S.Store IsOpeningBatch c.args.conn.now c.version.new.conn c.migrate.new.conn (λ _.
-        c.version.ensures.same) c.version.ensures.survives c.migrate.ensures.survives
+    c.version.ensures.same) c.version.ensures.survives c.migrate.ensures.survives
 
 pub returns-clause-survives : goal.returns-clause-survives
 returns-clause-survives g c = commits_nothing g.S.Store IsOpeningBatch c.args.conn.now c.version.new.conn c.version.ensures.survives

@@ -32,7 +32,7 @@ loop-text-preserved g c =
           let opened = (c.prepare.ensures.kept clean is_open).0 in
           one_understood (state g.S.Store c.args.conn.now).committed c.args.texts.now c.loop-text.text-index _ (state g.S.Store was).now
           (c.loop-text.invariant.kept rest (earlier clean) opened).1 c.loop-text-test.true (c.loop-text.invariant.known rest (earlier clean) opened)
-              (c.in_ok-prepare.ensures.understood clean);
+          (c.in_ok-prepare.ensures.understood clean);
       found = λ clean club others found. keeps_found g.S.Store was now c.prepare.ensures.kept quiet club others
           (c.loop-text.invariant.found (earlier clean) club others found);
     }
@@ -42,7 +42,7 @@ returns-in_err-prepare-clause-same g c rest =
     let was = c.loop-text.conn in
     let now = c.prepare.new.conn in
     let earlier = λ (clean : HasCleanDisk (state g.S.Store now)). let e : HasCleanDisk (state g.S.Store was) =
-        omega (arith, c.prepare.ensures.survives.clean) in e in
+    omega (arith, c.prepare.ensures.survives.clean) in e in
     kept_then (state g.S.Store c.args.conn.now) (state g.S.Store was) (state g.S.Store now) earlier (c.loop-text.invariant.kept rest) c.prepare.ensures.kept
 
 pub returns-in_err-prepare-clause-survives : goal.returns-in_err-prepare-clause-survives
@@ -53,13 +53,13 @@ pub returns-in_err-prepare-clause-stands : goal.returns-in_err-prepare-clause-st
 returns-in_err-prepare-clause-stands g c clean club others stands =
     let earlier : HasCleanDisk (state g.S.Store c.loop-text.conn) = omega (arith, c.prepare.ensures.survives.clean) in
     keeps_standing g.S.Store c.loop-text.conn c.prepare.new.conn c.prepare.ensures.kept c.prepare.ensures.survives club others
-        (c.loop-text.invariant.stands earlier club others stands)
+    (c.loop-text.invariant.stands earlier club others stands)
 
 pub returns-in_err-prepare-clause-found : goal.returns-in_err-prepare-clause-found
 returns-in_err-prepare-clause-found g c clean club others found =
     let earlier : HasCleanDisk (state g.S.Store c.loop-text.conn) = omega (arith, c.prepare.ensures.survives.clean) in
     keeps_found g.S.Store c.loop-text.conn c.prepare.new.conn c.prepare.ensures.kept c.prepare.ensures.survives club others
-        (c.loop-text.invariant.found earlier club others found)
+    (c.loop-text.invariant.found earlier club others found)
 
 pub returns-clause-understood : goal.returns-clause-understood
 returns-clause-understood g c clean is_open rest =

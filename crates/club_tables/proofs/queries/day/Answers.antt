@@ -6,5 +6,8 @@ use Rattle.club_tables.proofs.queries.day.Goals as goal
 pub returns-clause-reads : goal.returns-clause-reads
 returns-clause-reads g c =
     read_by g.S.Store c.args.conn.now c.ask.new.conn c.ask.result _ c.ask.ensures.kept c.ask.ensures.survives (λ clean earlier club others stands.
-    told_if _ _ c.ask.result c.ask.ensures.asked (λ rows asked. day_told g.S.Store c.args.conn.now c.args.day rows.items earlier (rw (c.params-to_sql.ensures,
-        c.from.ensures, c.number.ensures.value) at (asked clean)) club others stands))
+    told_if _ _ c.ask.result c.ask.ensures.asked (λ rows asked. day_told g.S.Store c.args.conn.now c.args.day rows.items earlier (rw (
+      c.params-to_sql.ensures,
+      c.from.ensures,
+      c.number.ensures.value,
+    ) at (asked clean)) club others stands))

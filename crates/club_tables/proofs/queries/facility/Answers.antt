@@ -7,4 +7,4 @@ pub returns-clause-reads : goal.returns-clause-reads
 returns-clause-reads g c =
     read_by g.S.Store c.args.conn.now c.ask.new.conn c.ask.result _ c.ask.ensures.kept c.ask.ensures.survives (λ clean earlier club others stands.
     told_if _ _ c.ask.result c.ask.ensures.asked (λ rows asked. facility_told g.S.Store c.args.conn.now c.args.name.now rows.items earlier
-        (rw c.as_bytes.ensures.value at (asked clean)) club others stands))
+    (rw c.as_bytes.ensures.value at (asked clean)) club others stands))

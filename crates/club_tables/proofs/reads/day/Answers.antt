@@ -7,7 +7,7 @@ pub returns-clause-reads : goal.returns-clause-reads
 returns-clause-reads g c =
     read_as g.S.Store c.args.conn.now c.day.new.conn _ c.bookings_in.result _ _ c.in_ok-rows.ensures.reads (λ club shows.
     told_if _ _ c.bookings_in.result (rw c.deref.ensures.value at c.bookings_in.ensures.are) (λ rows are.
-        day_of_rows club c.args.day c.in_ok-rows.rows.items rows.items shows are))
+    day_of_rows club c.args.day c.in_ok-rows.rows.items rows.items shows are))
 
 pub returns-clause-limits : goal.returns-clause-limits
 returns-clause-limits g c =

@@ -9,5 +9,5 @@ pub loop-row-preserved : goal.loop-row-preserved
 loop-row-preserved c =
     let bookings = c.loop-row.bookings.items in
     let more = bookings_more c.args.rows.now c.loop-row.row-index c.row-item.result bookings c.in-Some.booking (omega arith) c.row-item.is
-        c.loop-row.invariant.0 c.in-Some.ensures in
+    c.loop-row.invariant.0 c.in-Some.ensures in
     (rw c.push_reserved.ensures.items more, omega arith, omega arith)

@@ -12,10 +12,18 @@ loop-row-preserved c =
     let low = c.loop-row-test.true in
     let cost : IsCostIn row c.in-Some.cost = c.in-Some.ensures in
     record {
-      told = omega (arith, sum_by_more cost_in c.args.rows.now c.loop-row.row-index row low, ap cost_in c.row-item.is, cost_in_is row c.in-Some.cost cost,
-          c.in-Some-checked_add.ensures, c.from.ensures);
-      limits = All-more IsCostRow c.args.rows.now c.loop-row.row-index row low c.loop-row.invariant.limits (subst IsCostRow c.row-item.is (c.in-Some.cost,
-          cost));
+      told = omega (
+        arith,
+        sum_by_more cost_in c.args.rows.now c.loop-row.row-index row low,
+        ap cost_in c.row-item.is,
+        cost_in_is row c.in-Some.cost cost,
+        c.in-Some-checked_add.ensures,
+        c.from.ensures,
+      );
+      limits = All-more IsCostRow c.args.rows.now c.loop-row.row-index row low c.loop-row.invariant.limits (subst IsCostRow c.row-item.is (
+        c.in-Some.cost,
+        cost,
+      ));
     }
 
 pub returns-clause-limits : goal.returns-clause-limits

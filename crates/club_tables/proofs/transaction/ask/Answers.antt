@@ -41,5 +41,5 @@ returns-clause-kept g c =
     let earlier : HasCleanDisk mid = omega (arith, c.rollback.ensures.survives.clean) in
     let shown = rw c.transaction-tx.ensures.begun at (c.in-Ok.ensures.ok earlier) in
     then_rolled old mid (state g.S.Store end) (shown_keeps c.args.sql.now (bound c.args.params.now) old mid _ refl shown) (c.rollback.ensures.undone clean)
-        is_open in
+    is_open in
     subst (λ h. IsKept old (state g.S.Store h)) same kept

@@ -38,11 +38,11 @@ returns-in-Ok-commit-clause-ran g c clean =
     let earlier : HasCleanDisk (state g.S.Store mid) = omega (arith, c.commit.ensures.survives.clean) in
     let all = map words_of c.args.statements.now in
     let turn : RanInTurn g.S.Store all (begun old) mid = turn_all g.S.Store c.args.statements.now c.loop-statement.statement-index (begun old) mid (omega arith)
-        (c.loop-statement.invariant.ran earlier) in
+    (c.loop-statement.invariant.ran earlier) in
     let ends = c.in-Ok-commit.ensures.ok late in
     let was : IsTrue (state g.S.Store old).is_open = (c.loop-statement.invariant.inside earlier).2 ends.1.was_open in
     let P = λ (h : Held g.row.S.Denot). IsTrue (state g.S.Store h).is_open × Ran g.S.Store all old (state g.S.Store h).committed
-        × ((state g.S.Store h).now ≡ (state g.S.Store h).committed) in
+    × ((state g.S.Store h).now ≡ (state g.S.Store h).committed) in
     subst P same (ends.1.is_open, record { last = mid; opened = λ _. was; turns = turn; is = ends.1.committed_is }, cc (ends.1.now_is, ends.1.committed_is))
 
 pub returns-in-Ok-commit-clause-survives : goal.returns-in-Ok-commit-clause-survives
@@ -56,7 +56,7 @@ returns-in-Ok-commit-clause-survives g c =
     let made = λ (clean : HasCleanDisk (state g.S.Store end)) (db : Trees) (is : db ≡ (state g.S.Store mid).now.trees).
     let earlier : HasCleanDisk (state g.S.Store mid) = omega (arith, c.commit.ensures.survives.clean) in
     let turn : RanInTurn g.S.Store all (begun old) mid = turn_all g.S.Store c.args.statements.now c.loop-statement.statement-index (begun old) mid (omega arith)
-        (c.loop-statement.invariant.ran earlier) in
+    (c.loop-statement.invariant.ran earlier) in
     let was = λ (some : 0 < length all). let more : 0 < length c.args.statements.now = subst (λ n. 0 < n) (length-map c.args.statements.now words_of) some in
     (c.loop-statement.invariant.inside earlier).2 (c.loop-statement.invariant.opened earlier (omega arith)) in
     let p : P db = ((state g.S.Store mid).now, record { last = mid; opened = was; turns = turn; is = refl }, is) in p in
@@ -75,7 +75,7 @@ returns-in-Err-commit-clause-survives g c =
     let made = λ (clean : HasCleanDisk (state g.S.Store end)) (db : Trees) (is : db ≡ (state g.S.Store mid).now.trees).
     let earlier : HasCleanDisk (state g.S.Store mid) = omega (arith, c.commit.ensures.survives.clean) in
     let turn : RanInTurn g.S.Store all (begun old) mid = turn_all g.S.Store c.args.statements.now c.loop-statement.statement-index (begun old) mid (omega arith)
-        (c.loop-statement.invariant.ran earlier) in
+    (c.loop-statement.invariant.ran earlier) in
     let was = λ (some : 0 < length all). let more : 0 < length c.args.statements.now = subst (λ n. 0 < n) (length-map c.args.statements.now words_of) some in
     (c.loop-statement.invariant.inside earlier).2 (c.loop-statement.invariant.opened earlier (omega arith)) in
     let p : P db = ((state g.S.Store mid).now, record { last = mid; opened = was; turns = turn; is = refl }, is) in p in

@@ -14,4 +14,4 @@ returns-clause-makes g c =
     makes g.S.Store (closing c.args.slot.now) (omega arith) c.args.conn.now c.run.new.conn c.run.result (returns-clause-commits g c)
     (λ is_open trees may. g.met.S.Store.settled c.run.new.conn.store trees is_open may)
     (λ _. Unit {0}) (MarkClosed c.args.slot.now) (refl) (λ db club it tables fits ran.
-        close_made g.S.Store c.args.conn.now db club tables c.args.slot.now fits ran)
+    close_made g.S.Store c.args.conn.now db club tables c.args.slot.now fits ran)

@@ -14,4 +14,4 @@ returns-clause-makes g c =
     makes g.S.Store (adding_facility c.args.facility.now) (omega arith) c.args.conn.now c.run.new.conn c.run.result (returns-clause-commits g c)
     (λ is_open trees may. g.met.S.Store.settled c.run.new.conn.store trees is_open may)
     (λ _. Unit {0}) (InsertFacility c.args.facility.now) (refl) (λ db club it tables fits ran.
-        facility_made g.S.Store c.args.conn.now db club tables c.args.facility.now fits ran)
+    facility_made g.S.Store c.args.conn.now db club tables c.args.facility.now fits ran)

@@ -18,10 +18,10 @@ returns-clause-commits g c none = rw c.of_key-values.ensures at (commits_of g.S.
 pub returns-clause-makes : goal.returns-clause-makes
 returns-clause-makes g c =
     makes g.S.Store (adding_key c.args.key.now) (omega arith) c.args.conn.now c.run.new.conn c.run.result
-        (returns-clause-commits g c (not_older c.args.key.now.older (sym c.is_some.ensures ∙ c.if-is_some.false)))
+    (returns-clause-commits g c (not_older c.args.key.now.older (sym c.is_some.ensures ∙ c.if-is_some.false)))
     (λ is_open trees may. g.met.S.Store.settled c.run.new.conn.store trees is_open may)
     (λ _. Unit {0}) (InsertKey c.args.key.now) (refl) (λ db club it tables fits ran.
-        key_made g.S.Store c.args.conn.now db club tables c.args.key.now (not_older c.args.key.now.older (sym c.is_some.ensures ∙ c.if-is_some.false)) fits ran)
+    key_made g.S.Store c.args.conn.now db club tables c.args.key.now (not_older c.args.key.now.older (sym c.is_some.ensures ∙ c.if-is_some.false)) fits ran)
 
 pub returns-then-is_some-clause-makes : goal.returns-then-is_some-clause-makes
 returns-then-is_some-clause-makes g c = unmade g.S.Store c.args.conn.now _ (InsertKey c.args.key.now) Storage

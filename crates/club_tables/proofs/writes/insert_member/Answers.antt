@@ -14,4 +14,4 @@ returns-clause-makes g c =
     makes g.S.Store (adding_member c.args.member.now) (omega arith) c.args.conn.now c.run.new.conn c.run.result (returns-clause-commits g c)
     (λ is_open trees may. g.met.S.Store.settled c.run.new.conn.store trees is_open may)
     (λ _. Unit {0}) (InsertMember c.args.member.now) (refl) (λ db club it tables fits ran.
-        member_made g.S.Store c.args.conn.now db club tables c.args.member.now fits ran)
+    member_made g.S.Store c.args.conn.now db club tables c.args.member.now fits ran)

@@ -15,4 +15,4 @@ returns-clause-makes g c =
     makes g.S.Store (marking c.args.key.now c.args.number c.args.refund) (omega arith) c.args.conn.now c.run.new.conn c.run.result (returns-clause-commits g c)
     (λ is_open trees may. g.met.S.Store.settled c.run.new.conn.store trees is_open may)
     (HasNoneToCancel c.args.key.now c.args.number) (MarkCancelled c.args.key.now c.args.number c.args.refund) (inl refl) (λ db club it tables fits ran.
-        nothing_made g.S.Store c.args.conn.now db club tables c.args.key.now c.args.number c.args.refund it fits ran)
+    nothing_made g.S.Store c.args.conn.now db club tables c.args.key.now c.args.number c.args.refund it fits ran)

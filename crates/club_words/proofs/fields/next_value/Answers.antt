@@ -9,7 +9,7 @@ returns-then-is_named c =
     let fields = c.args.fields.now in
     let value : c.of.result.now ≡ value_at c.args.head.now fields c.loop-i.i = c.of.ensures in
     let found = found_at c.args.head.now c.args.name.now fields c.loop-i.i c.loop-i-test.true (sym c.is_named.ensures
-        ∙ c.if-is_named.true) c.loop-i.invariant in (
+    ∙ c.if-is_named.true) c.loop-i.invariant in (
       rw value found,
       All-same (IsHeaderWithin (length c.args.head.now)) _ _ (rest_of fields (c.loop-i.i + 1))
           (All-drop (IsHeaderWithin (length c.args.head.now)) (c.loop-i.i + 1) fields c.requires),

@@ -3,6 +3,8 @@ use Rattle.club_words.proofs.Pieces.{piece_at}
 use Rattle.club_words.proofs.head.piece_len.Goals as goal
 
 pub returns-then-ends_with : goal.returns-then-ends_with
-returns-then-ends_with c =
-    (omega arith, piece_at c.args.bytes.now c.loop-end.end (omega arith) (omega arith) (sym c.ends_with.ensures.value
-        ∙ c.if-ends_with.true) c.loop-end.invariant)
+returns-then-ends_with c = (
+  omega arith,
+  piece_at c.args.bytes.now c.loop-end.end (omega arith) (omega arith) (sym c.ends_with.ensures.value
+      ∙ c.if-ends_with.true) c.loop-end.invariant,
+)

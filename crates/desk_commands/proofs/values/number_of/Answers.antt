@@ -3,8 +3,8 @@ use Rattle.std.proofs.lemmas.Bool.Decides.{nat_tests}
 use Rattle.desk_commands.specs.Values.{are_digits}
 use Rattle.desk_commands.proofs.ValueLemmas.{no_number, number_read}
 use Rattle.desk_commands.proofs.values.number_of.Goals as goal
-use Rattle.desk_commands.proofs.values.number_of.Goals.{then-is_empty-via-then-is_empty, then-is_empty-via-else-is_empty+then-text-gt-MAX_DIGITS,
-    then-is_empty-via-else-is_empty+else-text-gt-MAX_DIGITS+then-not-are_digits}
+use Rattle.desk_commands.proofs.values.number_of.Goals.{then-is_empty-via-then-is_empty, then-is_empty-via-else-is_empty+then-text-gt-MAX_DIGITS}
+use Rattle.desk_commands.proofs.values.number_of.Goals.{then-is_empty-via-else-is_empty+else-text-gt-MAX_DIGITS+then-not-are_digits}
 
 pub returns-then-is_empty : goal.returns-then-is_empty
 returns-then-is_empty c = sym (no_number c.args.text.now (elim c.then-is_empty.branch [

@@ -7,7 +7,7 @@ pub job_from-requires : goal.job_from-requires
 job_from-requires g c =
     let parse = c.in-Ok-try_get_matches_from.ensures in
     rw (subcommand_found _ _ _ c.in-Ok.ensures parse.matches) (words_name_a_command c.words_enter_a_command.ensures _
-        (nothing_refused _ _ c.in-Ok.ensures parse.kinds))
+    (nothing_refused _ _ c.in-Ok.ensures parse.kinds))
 
 pub returns-in-Ok-job_from : goal.returns-in-Ok-job_from
 returns-in-Ok-job_from g c =

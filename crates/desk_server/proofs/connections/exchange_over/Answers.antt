@@ -10,5 +10,5 @@ returns g c =
     let after = g.R.Inlet.to_come c.answer-outcome.new.reader.reader in
     exchanged (g.D.Responder.answers c.args.moment) before after c.args.desk.now c.answer-outcome.new.desk (IsCutOff before after)
     (c.answer-outcome.new.writer ≡ c.args.writer.now) (Appends (g.W.Outlet.taken c.args.writer.now) (g.W.Outlet.taken c.answer-outcome.new.writer))
-        c.answer-outcome.result
+    c.answer-outcome.result
     c.answer-outcome.ensures.exchanged

@@ -32,7 +32,7 @@ returns-in_ok-settle-in-Ok-clause-steps g c = λ honest club others stands.
     let sound = All-head IsSound club others (g.met.S.ClubStore.sound c.args.self.now club others stands) in
     let fits = order_fits c.steps_keep_sound.ensures club command change sound c.within.ensures decided in
     let told = subst (λ (answer : OfficeAnswer). IsAnsweredBy g.S.ClubStore.stands c.settle.new.self club others (Ordered command) (ToOffice (shown answer)))
-        (sym c.done.ensures)
+    (sym c.done.ensures)
     (order_done g.S.ClubStore.stands c.settle.new.self club others command change decided
     (c.in_ok-settle-in-Ok.ensures.settled honest club others (c.order_view.ensures.kept before club others stands) fits))
     in

@@ -11,10 +11,10 @@ returns-in-Ok-clause-served g c = λ honest club others stands served.
     let request = c.args.words.now.request in
     let words = words_said text request in
     let told = told_reply g.S.ClubStore.stands c.reply_to.new.self club others words c.args.moment c.in-Ok.reply
-        (c.in-Ok.ensures.steps honest club others stands) in
+    (c.in-Ok.ensures.steps honest club others stands) in
     let same = served_reply club words c.args.moment c.in-Ok.reply told served in
     served_text c.serves_only_the_entitled.ensures c.reads_any_form_exactly.ensures c.tells_signed.ensures c.finds_names.ensures
-        c.reads_what_is_understood.ensures
+    c.reads_what_is_understood.ensures
     club text request c.args.moment c.are_bytes.ensures (subst (λ (reply : Reply). IsServed reply) same served)
 
 pub returns-in-Ok-clause-forms : goal.returns-in-Ok-clause-forms
@@ -22,7 +22,7 @@ returns-in-Ok-clause-forms g c = λ honest club others stands.
     let text = c.args.words.now.pass.now in
     let request = c.args.words.now.request in
     let told = told_reply g.S.ClubStore.stands c.reply_to.new.self club others (words_said text request) c.args.moment c.in-Ok.reply
-        (c.in-Ok.ensures.steps honest club others stands) in
+    (c.in-Ok.ensures.steps honest club others stands) in
     answers_forms c.reads_any_form_exactly.ensures club text request c.args.moment c.in-Ok.reply c.are_bytes.ensures told
 
 pub returns-in-Ok-clause-less : goal.returns-in-Ok-clause-less
@@ -31,11 +31,11 @@ returns-in-Ok-clause-less g c = λ honest club others stands wide bytes narrowed
     let request = c.args.words.now.request in
     let words = words_said text request in
     let told = told_reply g.S.ClubStore.stands c.reply_to.new.self club others words c.args.moment c.in-Ok.reply
-        (c.in-Ok.ensures.steps honest club others stands) in
+    (c.in-Ok.ensures.steps honest club others stands) in
     let same = served_reply club words c.args.moment c.in-Ok.reply told served in
     same
     ∙ opens_no_more c.serves_only_the_entitled.ensures c.more_caveats_never_open_more.ensures c.reads_any_form_exactly.ensures c.tells_signed.ensures
-        c.finds_names.ensures
+    c.finds_names.ensures
     club text wide request c.args.moment c.are_bytes.ensures bytes narrowed (subst (λ (reply : Reply). IsServed reply) same served)
 
 pub returns-in-Ok-clause-untouched : goal.returns-in-Ok-clause-untouched

@@ -1,10 +1,10 @@
 use Rattle.std.proofs.Common.{[]}
 use Rattle.std.proofs.lemmas.List.Elements.{All-head}
 use Rattle.club_core.specs.Club.{IsSound}
-use Rattle.club_gate.specs.Runs.{Conserves, IsAnswered, IsAsInAnother, IsNeverNegative, IsNeverOverbooked, IsOnce, IsSolo, KeepsServed, LeavesStanding,
-    club_left, events_of, told_all}
-use Rattle.club_gate.proofs.FollowedRuns.{answered_by, standing, solo_by, as_in_another, once_by, conserved_by, never_negative_by, never_overbooked_by,
-    kept_served, of_told}
+use Rattle.club_gate.specs.Runs.{Conserves, IsAnswered, IsAsInAnother, IsNeverNegative, IsNeverOverbooked, IsOnce, IsSolo, KeepsServed, LeavesStanding}
+use Rattle.club_gate.specs.Runs.{club_left, events_of, told_all}
+use Rattle.club_gate.proofs.FollowedRuns.{answered_by, standing, solo_by, as_in_another, once_by, conserved_by, never_negative_by, never_overbooked_by}
+use Rattle.club_gate.proofs.FollowedRuns.{kept_served, of_told}
 use Rattle.club_gate.proofs.desk.Desk.run.Goals as goal
 
 pub returns-clause-answered : goal.returns-clause-answered
@@ -22,7 +22,7 @@ returns-clause-stands g c = λ h club others s.
     let new = c.follow.new.self in
     let events = events_of c.args.events.now in
     of_told Stands new club others events c.follow.result (λ replies. told_all replies.items) (LeavesStanding Stands new club others events)
-        c.follow.ensures.within
+    c.follow.ensures.within
     (c.follow.ensures.followed h club others s)
     (λ told within f. standing Stands new club others events told c.leaves_out_failed.ensures f)
 
@@ -71,7 +71,7 @@ returns-clause-never_negative g c = λ h club others s.
     let events = events_of c.args.events.now in
     let sound = All-head IsSound club others (g.met.S.ClubStore.sound c.args.self.now club others s) in
     of_told Stands new club others events c.follow.result (λ replies. told_all replies.items) (λ told.
-        IsNeverNegative (club_left club events told)) c.follow.ensures.within
+    IsNeverNegative (club_left club events told)) c.follow.ensures.within
     (c.follow.ensures.followed h club others s)
     (λ told within f. never_negative_by Stands new club others events told c.leaves_out_failed.ensures f c.keeps_sound.ensures within sound)
 
@@ -82,10 +82,10 @@ returns-clause-never_overbooked g c = λ h club others s.
     let events = events_of c.args.events.now in
     let sound = All-head IsSound club others (g.met.S.ClubStore.sound c.args.self.now club others s) in
     of_told Stands new club others events c.follow.result (λ replies. told_all replies.items) (λ told.
-        IsNeverOverbooked (club_left club events told)) c.follow.ensures.within
+    IsNeverOverbooked (club_left club events told)) c.follow.ensures.within
     (c.follow.ensures.followed h club others s)
     (λ told within f. never_overbooked_by Stands new club others events told c.leaves_out_failed.ensures f c.keeps_sound.ensures
-        c.sound_clubs_have_places.ensures within sound)
+    c.sound_clubs_have_places.ensures within sound)
 
 pub returns-clause-crash : goal.returns-clause-crash
 returns-clause-crash g c = λ h club s.

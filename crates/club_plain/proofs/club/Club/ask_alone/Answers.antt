@@ -8,4 +8,4 @@ pub apply-requires : goal.apply-requires
 apply-requires c =
     let answer = c.answer_alone-reply in
     (keeps_solo c.args.self.now (words_of c.args.words.now) c.args.moment c.args.others answer.ensures.fits).kept c.in-Some.change
-        (ap (λ (verdict : Verdict). verdict.change) (sym answer.ensures.value) ∙ c.in-Some.is)
+    (ap (λ (verdict : Verdict). verdict.change) (sym answer.ensures.value) ∙ c.in-Some.is)

@@ -12,5 +12,5 @@ pub returns : goal.returns
 returns c =
     let found : option_copied c.find.result ≡ find (λ (row : Member). bytes_eq row.name c.args.name.now) c.self.inside.members.items =
     find_from_yields_List (λ (row : Member). bytes_eq row.name c.args.name.now) _ _ c.find.result c.find.ensures.ran
-        (YieldsList-from_slice c.self.inside.members.items cc) (λ x b q k. search (rules, tests)) in
+    (YieldsList-from_slice c.self.inside.members.items cc) (λ x b q k. search (rules, tests)) in
     c.copied.ensures ∙ (found ∙ ap (λ (club : Rows). member_named c.args.name.now club) c.self.view_is)

@@ -18,5 +18,5 @@ invariant_of-result c =
     (c.in_ok-members.ensures ∙ ap (λ (rows : List Member). filter (λ (m : Member). bytes_eq m.name name) rows) c.deref.ensures.value)
     c.in_ok-facilities.ensures
     (c.in_ok-bookings.ensures ∙ (ap keys c.deref-3.ensures.value ∙ ap (λ (rows : List Booking).
-        held_under c.self.inside.keys.items name rows) c.deref-4.ensures.value))
+    held_under c.self.inside.keys.items name rows) c.deref-4.ensures.value))
     (fits_part name (rows_of c.self.inside) c.self.invariant)

@@ -13,7 +13,7 @@ returns-in-Ok-adopt-clause-opened g c clean =
     let opened = c.in-Ok.ensures.opened early in
     let found = c.in-Ok.ensures.found early in
     let again = λ (clubs : List Club) (left : IsLeftOf was.committed.trees clubs).
-        c.in-Ok-adopt.ensures.again clean clubs (record { opened = opened.0; live = opened.1; left = left }) in
+    c.in-Ok-adopt.ensures.again clean clubs (record { opened = opened.0; live = opened.1; left = left }) in
     record {
       was = c.in-Ok.connection;
       opened = opened;

@@ -11,15 +11,18 @@ pub returns-in-Ok-clause-again : goal.returns-in-Ok-clause-again
 returns-in-Ok-clause-again g c clean clubs on =
     let was = c.args.connection in
     one_stands (state g.S.Store was) on.opened on.live (λ is_open trees may.
-        g.met.S.Store.settled was.store trees is_open may) _ (c.in-Ok.ensures.opened clean) clubs on.left
+    g.met.S.Store.settled was.store trees is_open may) _ (c.in-Ok.ensures.opened clean) clubs on.left
 
 pub returns-in-Ok-clause-empty : goal.returns-in-Ok-clause-empty
 returns-in-Ok-clause-empty g c clean empty =
     let was = c.args.connection in
-    let blank : HoldsClub (state g.S.Store was).committed empty_club = inr (inr (ap (λ (d : Database). d.schema) (sym empty.0.clean) ∙ empty.2, refl,
-        (empty.1 empty.0.is_open).1)) in
+    let blank : HoldsClub (state g.S.Store was).committed empty_club = inr (inr (
+      ap (λ (d : Database). d.schema) (sym empty.0.clean) ∙ empty.2,
+      refl,
+      (empty.1 empty.0.is_open).1,
+    )) in
     the_one _ empty_club (one_stands (state g.S.Store was) empty.0 empty.1 (λ is_open trees may.
-        g.met.S.Store.settled was.store trees is_open may) _ (c.in-Ok.ensures.opened clean)
+    g.met.S.Store.settled was.store trees is_open may) _ (c.in-Ok.ensures.opened clean)
     (empty_club ∷ []) (inl ((state g.S.Store was).committed, refl, blank)))
 
 pub returns-in-Ok-clause-accepted : goal.returns-in-Ok-clause-accepted

@@ -20,7 +20,7 @@ returns-in-Some g c =
     subst (λ (o : Option Booking). IfSome o (λ (b : Booking). (b.key ≡ key) × (b.number ≡ number))) c.in-Some.is c.in-Ok.ensures.named in
     let given : ChangesClubWhere g.S.Store (IsToCancel booking) (MarkCancelled key number refund) mid new c.give_back.result =
     subst₂ (λ k n. ChangesClubWhere g.S.Store (IsToCancel booking) (MarkCancelled k n refund) mid new c.give_back.result) named.0 named.1
-        c.give_back.ensures.makes in
+    c.give_back.ensures.makes in
     record {
       makes = change_after g.S.Store c.args.self.now mid new _ c.give_back.result _ (λ _.
           Unit {0}) (IsToCancel booking) (MarkCancelled key number refund) c.in-Ok.ensures.reads given (λ club before told.

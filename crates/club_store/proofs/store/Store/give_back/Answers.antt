@@ -13,7 +13,7 @@ pub returns-in-Some : goal.returns-in-Some
 returns-in-Some g c =
     let found : Result (Option Key) StoreFault = Ok c.in-Ok.found in
     let reads : ReadsClub g.S.Store c.args.self.now c.self.inside.connection found (λ club row. row ≡ option_map fresh (key_named c.args.booking.now.key club))
-        = rw c.self.view_is c.in-Ok.ensures.reads in
+    = rw c.self.view_is c.in-Ok.ensures.reads in
     record {
       makes = change_after g.S.Store c.args.self.now c.self.inside.connection c.cancel_booking.new.conn found c.cancel_booking.result _
           (IsToCancel c.args.booking.now) (λ club. IsToCancel c.args.booking.now club

@@ -13,7 +13,7 @@ pub returns-in-Some : goal.returns-in-Some
 returns-in-Some g c =
     let found : Result (Option Key) StoreFault = Ok c.in-Ok.found in
     let reads : ReadsClub g.S.Store c.args.self.now c.self.inside.connection found (λ club row. row ≡ option_map fresh (key_named c.args.booking.now.key club))
-        = rw c.self.view_is c.in-Ok.ensures.reads in
+    = rw c.self.view_is c.in-Ok.ensures.reads in
     record {
       makes = change_after g.S.Store c.args.self.now c.self.inside.connection c.insert_booking.new.conn found c.insert_booking.result _ (λ _.
           Unit {0}) (IsOwnedBy c.in-Some.key.member c.args.booking.now.key) (InsertBooking c.args.booking.now) reads c.insert_booking.ensures.makes

@@ -13,7 +13,7 @@ pub returns-in-Some : goal.returns-in-Some
 returns-in-Some g c =
     let found : Result (Option Key) StoreFault = Ok c.in-Ok.found in
     let reads : ReadsClub g.S.Store c.args.self.now c.self.inside.connection found (λ club row. row ≡ option_map fresh (key_named c.args.key.now club)) =
-        rw c.self.view_is c.in-Ok.ensures.reads in
+    rw c.self.view_is c.in-Ok.ensures.reads in
     record {
       makes = change_after g.S.Store c.args.self.now c.self.inside.connection c.replace_root.new.conn found c.replace_root.result _ (λ _.
           Unit {0}) (HasRoot c.args.key.now c.in-Some.row.root) (ReplaceRoot c.args.key.now c.args.root.now c.args.until) reads c.replace_root.ensures.makes

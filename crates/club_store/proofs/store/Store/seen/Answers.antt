@@ -19,12 +19,12 @@ returns-in_err-slot-clause-reads g c =
     let account = c.in_ok-account.account in
     let found : Result (Option Booking) StoreFault = Ok c.in_ok-booking.booking in
     let AreBoth : Club → Option Booking → Type 0 = λ club booking. (account ≡ account_of club key member c.args.moment)
-        × (booking ≡ booked_under club key c.number.result) in
+    × (booking ≡ booked_under club key c.number.result) in
     let first : ReadsClub g.S.Store c.args.self.now c.booked.new.conn found AreBoth =
     read_then g.S.Store c.args.self.now c.account_at.new.conn c.booked.new.conn _ found found _ _ AreBoth (rw c.self.view_is at c.in_ok-account.ensures.reads)
-        c.in_ok-booking.ensures.reads (λ club one two. (one, two)) in
+    c.in_ok-booking.ensures.reads (λ club one two. (one, two)) in
     read_then g.S.Store c.args.self.now c.booked.new.conn c.slot_state.new.self found _ _ AreBoth _ _ first c.in_err-slot.ensures.reads (λ club both slot.
-        search rules)
+    search rules)
 
 pub returns-clause-reads : goal.returns-clause-reads
 returns-clause-reads g c =
@@ -36,17 +36,17 @@ returns-clause-reads g c =
     let slot = c.in_ok-slot.slot in
     let found : Result (Option Booking) StoreFault = Ok booking in
     let AreBoth : Club → Option Booking → Type 0 = λ club it. (account ≡ account_of club key member.name c.args.moment)
-        × (it ≡ booked_under club key c.number.result) in
+    × (it ≡ booked_under club key c.number.result) in
     let first : ReadsClub g.S.Store c.args.self.now c.booked.new.conn found AreBoth =
     read_then g.S.Store c.args.self.now c.account_at.new.conn c.booked.new.conn _ found found _ _ AreBoth (rw c.self.view_is at c.in_ok-account.ensures.reads)
-        c.in_ok-booking.ensures.reads (λ club one two. (one, two)) in
+    c.in_ok-booking.ensures.reads (λ club one two. (one, two)) in
     read_then g.S.Store c.args.self.now c.booked.new.conn c.slot_state.new.self found _ _ AreBoth _ _ first c.in_ok-slot.ensures.reads (λ club both state row.
     let spent : account.spent ≡ spent_under key club.bookings = ap (λ (a : Account). a.spent) both.0 in
     let open_count : account.open_count ≡ count_to_come c.args.moment (bookings_of member.name club) = ap (λ (a : Account). a.open_count) both.0 in
     let booked : booking ≡ booked_under club key (number_of request) = both.1 ∙ ap (λ n. booked_under club key n) c.number.ensures in
     let at : slot ≡ slot_state club (slot_of request) = state ∙ ap (λ s. slot_state club s) c.slot.ensures in
     let balance : c.saturating_sub.result ≡ balance_of member (bookings_of member.name club) = c.saturating_sub.ensures
-        ∙ ap (λ (r : MemberRow). member.credited - r.used) row in
+    ∙ ap (λ (r : MemberRow). member.credited - r.used) row in
     let facility = ap (λ (s : SlotState). s.facility) at in
     let taken : c.from.result ≡ (slot_state club (slot_of request)).taken = c.from.ensures ∙ ap (λ (s : SlotState). s.taken) at in
     let closed = ap (λ (s : SlotState). s.closed) at in

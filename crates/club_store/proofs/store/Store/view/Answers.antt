@@ -18,13 +18,13 @@ returns-clause-reads g c =
     let found : Result View StoreFault = Ok view in
     let rest : ReadsClub g.S.Store c.key.new.self c.seen.new.self found IsSeen =
     read_then g.S.Store c.key.new.self c.member_row.new.self c.seen.new.self _ _ found _ _ IsSeen c.in_ok-member.ensures.reads c.in_ok-view.ensures.reads
-        (λ club member told named.
+    (λ club member told named.
     let row = of_row club (member_named key.member club) c.in-Some-2.member (sym c.in-Some-2.is ∙ member) in
     let shown = told row.1 in
     let is = seen_is c.own_bookings_suffice.ensures club name key c.in-Some-2.member.member c.args.request.now c.args.moment named row.0 in
     cc) in
     read_then g.S.Store c.args.self.now c.key.new.self c.seen.new.self _ found _ _ IsSeen _ c.in_ok-key.ensures.reads rest (λ club is told.
-        told (sym is ∙ c.in-Some.is))
+    told (sym is ∙ c.in-Some.is))
 
 pub returns-in_err-view-clause-reads : goal.returns-in_err-view-clause-reads
 returns-in_err-view-clause-reads g c =
@@ -32,6 +32,6 @@ returns-in_err-view-clause-reads g c =
     let found : Result MemberRow StoreFault = Ok c.in-Some-2.member in
     let first : ReadsClub g.S.Store c.args.self.now c.member_row.new.self found IsFound =
     read_then g.S.Store c.args.self.now c.key.new.self c.member_row.new.self _ _ found _ _ IsFound c.in_ok-key.ensures.reads c.in_ok-member.ensures.reads
-        (λ club one two. tt) in
+    (λ club one two. tt) in
     read_then g.S.Store c.args.self.now c.member_row.new.self c.seen.new.self found _ _ IsFound _ _ first c.in_err-view.ensures.reads (λ club both view.
-        search rules)
+    search rules)

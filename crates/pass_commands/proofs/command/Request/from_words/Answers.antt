@@ -10,9 +10,11 @@ from_matches-requires g c =
 
 pub returns-in-Ok-from_matches : goal.returns-in-Ok-from_matches
 returns-in-Ok-from_matches g c =
-    let parse = c.in-Ok-try_get_matches_from.ensures in
-    (nothing_refused _ _ c.in-Ok.ensures parse.kinds, command_found _ _ _ (subcommand_found _ _ _ c.in-Ok.ensures parse.matches)
-        (sym c.in-Ok-from_matches.ensures))
+    let parse = c.in-Ok-try_get_matches_from.ensures in (
+      nothing_refused _ _ c.in-Ok.ensures parse.kinds,
+      command_found _ _ _ (subcommand_found _ _ _ c.in-Ok.ensures parse.matches)
+          (sym c.in-Ok-from_matches.ensures),
+    )
 
 pub returns-in-Ok-try_get_matches_from : goal.returns-in-Ok-try_get_matches_from
 returns-in-Ok-try_get_matches_from g c =

@@ -13,10 +13,10 @@ pub returns-in-Ok : goal.returns-in-Ok
 returns-in-Ok c =
     let len = length c.args.text.now / 2 in
     let read = root_of_decoded c.args.text.now c.decode_to_slice.new.out _ len (Ok c.in-Ok.field-0) refl (omega arith) (omega arith) (omega arith)
-        c.in-Ok.ensures.value in
+    c.in-Ok.ensures.value in
     ap Some (front_of len c.decode_to_slice.new.out _ read.1) ∙ sym read.0
 
 pub returns-in-Err : goal.returns-in-Err
 returns-in-Err c =
     sym (root_of_decoded c.args.text.now c.decode_to_slice.new.out _ (length c.args.text.now / 2) (Err c.in-Err.field-0) refl (omega arith) (omega arith)
-        (omega arith) c.in-Err.ensures.value)
+    (omega arith) c.in-Err.ensures.value)
