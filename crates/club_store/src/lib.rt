@@ -7,10 +7,3 @@ pub mod laws;
 mod store;
 
 pub use store::Store;
-
-#[cfg(test)]
-mod crash_tests;
-#[cfg(test)]
-mod tests;
-#[cfg(test)]
-mod version_tests;

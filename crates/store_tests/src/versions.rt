@@ -1,10 +1,10 @@
 //! Tables of version 1, and the older roots of version 2.
 
-use crate::Store;
-use crate::tests::{
+use crate::store::{
     booking, figures, key, key_of, name, reopened, slot, store_with_bookings, view_of,
 };
 use club_core::{Booking, BookingNumber, Change, Key, OlderRoot, Request, Root, StoreFault};
+use club_store::Store;
 use pass_caveats::Moment;
 use sqlite::{Alter, Connection, MemStore};
 use std::alloc::Global;

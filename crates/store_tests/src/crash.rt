@@ -1,9 +1,9 @@
 //! A disk that stops in a booking's commit, and what is found by a store that is opened again.
 
-use crate::Store;
-use crate::tests::{amy, booking, facility, key, name, slot};
-use crate::version_tests::fill;
+use crate::store::{amy, booking, facility, key, name, slot};
+use crate::versions::fill;
 use club_core::{Change, StoreFault};
+use club_store::Store;
 use pass_caveats::Kind;
 use sqlite::{Connection, FileStore, Files, Options};
 use sqlite_disk::{Crash, Disk, Fuse, Memory};

@@ -1,8 +1,8 @@
-use crate::Store;
 use club_core::{
     Booking, BookingNumber, Change, ClubStore, Facility, Guests, Key, Member, Request, Root,
     StoreFault, View, sheet_text,
 };
+use club_store::Store;
 use pass_caveats::{Day, Hour, Kind, Moment, Name, Slot};
 use sqlite::{Connection, MemStore};
 use std::alloc::Global;
