@@ -1,5 +1,6 @@
 //! A disk that stops in a booking's commit, and what is found by a store that is opened again.
 
+use crate::expect::expect_eq;
 use crate::store::{amy, booking, facility, key, name, slot};
 use crate::versions::fill;
 use club_core::{Change, StoreFault};
@@ -141,10 +142,10 @@ fn holds_a_booking_whole_or_not_at_all(rt: HostRuntime) -> Result<(), Fail> {
     let bytes = club_file(rt.alloc())?;
     let calls = calls_too_few(rt.alloc(), &bytes)?;
     let (stopped, left) = booked(rt.alloc(), calls, &bytes)?;
-    assert_eq!(rt; stopped, Some(false));
+    expect_eq(&rt, &stopped, &Some(false));
     let _either = held(rt.alloc(), left)?;
     let (made, left) = booked(rt.alloc(), calls.saturating_add(1), &bytes)?;
-    assert_eq!(rt; made, Some(true));
+    expect_eq(&rt, &made, &Some(true));
     assert!(rt; held(rt.alloc(), left)?);
     Ok(())
 }

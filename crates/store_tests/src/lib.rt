@@ -4,6 +4,8 @@
 #[cfg(test)]
 mod crash;
 #[cfg(test)]
+mod expect;
+#[cfg(test)]
 mod store;
 #[cfg(test)]
 mod versions;

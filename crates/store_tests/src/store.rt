@@ -1,3 +1,4 @@
+use crate::expect::expect_eq;
 use club_core::{
     Booking, BookingNumber, Change, ClubStore, Facility, Guests, Key, Member, Request, Root,
     StoreFault, View, sheet_text,
@@ -159,13 +160,14 @@ pub(crate) fn reopened(alloc: Global, store: Store<MemStore>) -> Result<Store<Me
 #[test]
 fn reads_what_was_written(rt: HostRuntime) -> Result<(), Fail> {
     let mut store = open(rt.alloc())?;
-    assert_eq!(rt; member_of(&mut store)?, None);
+    expect_eq(&rt, &member_of(&mut store)?, &None);
     add_rows(&mut store)?;
-    assert_eq!(rt; member_of(&mut store)?, Some(amy()?));
-    assert_eq!(rt; key_of(&mut store)?, Some(key()?));
-    assert_eq!(rt;
-        facility_of(&mut store)?,
-        Some(facility(b"room-1", Kind::Room, 1, 601)?)
+    expect_eq(&rt, &member_of(&mut store)?, &Some(amy()?));
+    expect_eq(&rt, &key_of(&mut store)?, &Some(key()?));
+    expect_eq(
+        &rt,
+        &facility_of(&mut store)?,
+        &Some(facility(b"room-1", Kind::Room, 1, 601)?),
     );
     Ok(())
 }
@@ -176,10 +178,10 @@ fn changes_rows(rt: HostRuntime) -> Result<(), Fail> {
     add_rows(&mut store)?;
     credit(&mut store)?;
     let credited = member_of(&mut store)?.ok_or("amy")?.credited;
-    assert_eq!(rt; credited, 10_000);
+    expect_eq(&rt, &credited, &10_000);
     revoke(&mut store)?;
     let revoked = key_of(&mut store)?.ok_or("amy-1")?.revoked;
-    assert_eq!(rt; revoked, true);
+    expect_eq(&rt, &revoked, &true);
     Ok(())
 }
 
@@ -188,11 +190,19 @@ fn counts_the_persons_of_a_slot(rt: HostRuntime) -> Result<(), Fail> {
     let mut store = open(rt.alloc())?;
     add_rows(&mut store)?;
     book(&mut store)?;
-    assert_eq!(rt; taken(&mut store, &slot(b"court-1", 18)?)?, (3, false));
-    assert_eq!(rt; taken(&mut store, &slot(b"room-1", 18)?)?, (1, false));
+    expect_eq(
+        &rt,
+        &taken(&mut store, &slot(b"court-1", 18)?)?,
+        &(3, false),
+    );
+    expect_eq(&rt, &taken(&mut store, &slot(b"room-1", 18)?)?, &(1, false));
     cancel(&mut store)?;
-    assert_eq!(rt; taken(&mut store, &slot(b"court-1", 18)?)?, (3, false));
-    assert_eq!(rt; taken(&mut store, &slot(b"room-1", 18)?)?, (0, false));
+    expect_eq(
+        &rt,
+        &taken(&mut store, &slot(b"court-1", 18)?)?,
+        &(3, false),
+    );
+    expect_eq(&rt, &taken(&mut store, &slot(b"room-1", 18)?)?, &(0, false));
     Ok(())
 }
 
@@ -201,8 +211,12 @@ fn closes_a_slot(rt: HostRuntime) -> Result<(), Fail> {
     let mut store = open(rt.alloc())?;
     add_rows(&mut store)?;
     apply(&mut store, &Change::MarkClosed(slot(b"court-1", 9)?))?;
-    assert_eq!(rt; taken(&mut store, &slot(b"court-1", 9)?)?, (0, true));
-    assert_eq!(rt; taken(&mut store, &slot(b"court-1", 10)?)?, (0, false));
+    expect_eq(&rt, &taken(&mut store, &slot(b"court-1", 9)?)?, &(0, true));
+    expect_eq(
+        &rt,
+        &taken(&mut store, &slot(b"court-1", 10)?)?,
+        &(0, false),
+    );
     Ok(())
 }
 
@@ -211,7 +225,7 @@ fn keeps_tables_that_hold_a_club(rt: HostRuntime) -> Result<(), Fail> {
     let mut store = open(rt.alloc())?;
     add_rows(&mut store)?;
     let mut again = reopened(rt.alloc(), store)?;
-    assert_eq!(rt; member_of(&mut again)?, Some(amy()?));
+    expect_eq(&rt, &member_of(&mut again)?, &Some(amy()?));
     Ok(())
 }
 
@@ -219,20 +233,23 @@ fn keeps_tables_that_hold_a_club(rt: HostRuntime) -> Result<(), Fail> {
 fn refuses_other_databases(rt: HostRuntime) -> Result<(), Fail> {
     let storage = Some(StoreFault::Storage);
     let desk = "CREATE TABLE desk (version INTEGER NOT NULL) STRICT";
-    assert_eq!(rt; fault_over(rt.alloc(), &[])?, None);
-    assert_eq!(rt;
-        fault_over(rt.alloc(), &[desk, "INSERT INTO desk (version) VALUES (9)"])?,
-        storage
+    expect_eq(&rt, &fault_over(rt.alloc(), &[])?, &None);
+    expect_eq(
+        &rt,
+        &fault_over(rt.alloc(), &[desk, "INSERT INTO desk (version) VALUES (9)"])?,
+        &storage,
     );
-    assert_eq!(rt;
-        fault_over(rt.alloc(), &[desk, "INSERT INTO desk (version) VALUES (1)"])?,
-        storage
+    expect_eq(
+        &rt,
+        &fault_over(rt.alloc(), &[desk, "INSERT INTO desk (version) VALUES (1)"])?,
+        &storage,
     );
-    assert_eq!(rt;
-        fault_over(rt.alloc(), &["CREATE TABLE keys (name TEXT) STRICT"])?,
-        storage
+    expect_eq(
+        &rt,
+        &fault_over(rt.alloc(), &["CREATE TABLE keys (name TEXT) STRICT"])?,
+        &storage,
     );
-    assert_eq!(rt; fault_over(rt.alloc(), &["BEGIN"])?, storage);
+    expect_eq(&rt, &fault_over(rt.alloc(), &["BEGIN"])?, &storage);
     Ok(())
 }
 
@@ -341,9 +358,9 @@ fn shows_what_a_key_sees(rt: HostRuntime) -> Result<(), Fail> {
         slot: slot(b"room-1", 18)?,
     };
     let of_court = figures(&mut store, &court)?;
-    assert_eq!(rt; of_court, (901, 9_099, 1, 3, false));
+    expect_eq(&rt, &of_court, &(901, 9_099, 1, 3, false));
     let of_room = figures(&mut store, &room)?;
-    assert_eq!(rt; of_room, (901, 9_099, 1, 0, false));
+    expect_eq(&rt, &of_room, &(901, 9_099, 1, 0, false));
     Ok(())
 }
 
@@ -352,7 +369,7 @@ fn shows_an_account(rt: HostRuntime) -> Result<(), Fail> {
     let mut store = store_with_bookings(rt.alloc())?;
     let account = Request::Account;
     let of_account = figures(&mut store, &account)?;
-    assert_eq!(rt; of_account, (901, 9_099, 1, 0, false));
+    expect_eq(&rt, &of_account, &(901, 9_099, 1, 0, false));
     Ok(())
 }
 
@@ -360,8 +377,8 @@ fn shows_an_account(rt: HostRuntime) -> Result<(), Fail> {
 fn shows_the_booking_that_is_asked_for(rt: HostRuntime) -> Result<(), Fail> {
     let mut store = store_with_bookings(rt.alloc())?;
     let court = booking(7, slot(b"court-1", 18)?, 2, 600, 1)?;
-    assert_eq!(rt; booked(&mut store, 7)?, Some(court));
-    assert_eq!(rt; booked(&mut store, 9)?, None);
+    expect_eq(&rt, &booked(&mut store, 7)?, &Some(court));
+    expect_eq(&rt, &booked(&mut store, 9)?, &None);
     Ok(())
 }
 
@@ -402,14 +419,14 @@ fn credited_to<C: ClubStore>(store: &mut C) -> Result<u32, Fail> {
 fn makes_the_writes_of_the_office(rt: HostRuntime) -> Result<(), Fail> {
     let mut store = open(rt.alloc())?;
     enroll(&mut store)?;
-    assert_eq!(rt; member_of(&mut store)?, Some(amy()?));
+    expect_eq(&rt, &member_of(&mut store)?, &Some(amy()?));
     credit_at_the_office(&mut store, 9_000)?;
     credit_at_the_office(&mut store, 99)?;
     let credited = member_of(&mut store)?.ok_or("amy")?.credited;
-    assert_eq!(rt; credited, 9_099);
+    expect_eq(&rt, &credited, &9_099);
     add_room(&mut store)?;
     let room = facility(b"room-1", Kind::Room, 1, 601)?;
-    assert_eq!(rt; facility_of(&mut store)?, Some(room));
+    expect_eq(&rt, &facility_of(&mut store)?, &Some(room));
     Ok(())
 }
 
@@ -420,13 +437,13 @@ fn makes_the_writes_of_keys_and_slots(rt: HostRuntime) -> Result<(), Fail> {
     add_room(&mut store)?;
     let key = key()?;
     add_key(&mut store, &key)?;
-    assert_eq!(rt; key_of(&mut store)?, Some(key));
+    expect_eq(&rt, &key_of(&mut store)?, &Some(key));
     revoke_at_the_office(&mut store)?;
     let revoked = key_of(&mut store)?.ok_or("amy-1")?.revoked;
-    assert_eq!(rt; revoked, true);
+    expect_eq(&rt, &revoked, &true);
     close_at_the_office(&mut store)?;
-    assert_eq!(rt; taken(&mut store, &slot(b"room-1", 9)?)?, (0, true));
-    assert_eq!(rt; taken(&mut store, &slot(b"room-1", 10)?)?, (0, false));
+    expect_eq(&rt, &taken(&mut store, &slot(b"room-1", 9)?)?, &(0, true));
+    expect_eq(&rt, &taken(&mut store, &slot(b"room-1", 10)?)?, &(0, false));
     Ok(())
 }
 
@@ -434,8 +451,12 @@ fn makes_the_writes_of_keys_and_slots(rt: HostRuntime) -> Result<(), Fail> {
 fn refuses_what_the_tables_have(rt: HostRuntime) -> Result<(), Fail> {
     let mut store = open(rt.alloc())?;
     enroll(&mut store)?;
-    assert_eq!(rt; store.insert_member(&amy()?), Err(StoreFault::Storage));
-    assert_eq!(rt; member_of(&mut store)?, Some(amy()?));
+    expect_eq(
+        &rt,
+        &store.insert_member(&amy()?),
+        &Err(StoreFault::Storage),
+    );
+    expect_eq(&rt, &member_of(&mut store)?, &Some(amy()?));
     Ok(())
 }
 
@@ -443,6 +464,6 @@ fn refuses_what_the_tables_have(rt: HostRuntime) -> Result<(), Fail> {
 fn is_the_store_of_a_club(rt: HostRuntime) -> Result<(), Fail> {
     let mut store = open(rt.alloc())?;
     enroll(&mut store)?;
-    assert_eq!(rt; credited_to(&mut store)?, 5);
+    expect_eq(&rt, &credited_to(&mut store)?, &5);
     Ok(())
 }

@@ -1,5 +1,6 @@
 //! Tables of version 1, and the older roots of version 2.
 
+use crate::expect::expect_eq;
 use crate::store::{
     booking, figures, key, key_of, name, reopened, slot, store_with_bookings, view_of,
 };
@@ -154,10 +155,10 @@ fn migrates_tables_of_version_1(rt: HostRuntime) -> Result<(), Fail> {
     let mut store = migrated(rt.alloc())?;
     let account = Request::Account;
     let of_account = figures(&mut store, &account)?;
-    assert_eq!(rt; of_account, (901, 9_099, 1, 0, false));
+    expect_eq(&rt, &of_account, &(901, 9_099, 1, 0, false));
     let court = booking(7, slot(b"court-1", 18)?, 2, 600, 1)?;
-    assert_eq!(rt; booked(&mut store, 7)?, court);
-    assert_eq!(rt; booked(&mut store, 8)?, cancelled()?);
+    expect_eq(&rt, &booked(&mut store, 7)?, &court);
+    expect_eq(&rt, &booked(&mut store, 8)?, &cancelled()?);
     Ok(())
 }
 
@@ -166,10 +167,10 @@ fn has_no_older_root_once_migrated(rt: HostRuntime) -> Result<(), Fail> {
     let mut store = migrated(rt.alloc())?;
     let found = key_of(&mut store)?.ok_or("amy-1")?;
     let whole = key()?;
-    assert_eq!(rt; found, whole);
+    expect_eq(&rt, &found, &whole);
     let mut again = reopened(rt.alloc(), store)?;
     let found = key_of(&mut again)?.ok_or("amy-1")?;
-    assert_eq!(rt; found, whole);
+    expect_eq(&rt, &found, &whole);
     Ok(())
 }
 
@@ -182,7 +183,7 @@ fn rotates_a_key_once_migrated(rt: HostRuntime) -> Result<(), Fail> {
     let mut again = reopened(rt.alloc(), store)?;
     let found = key_of(&mut again)?.ok_or("amy-1")?;
     let whole = rotated(root(8)?, OlderRoot { root: first, until })?;
-    assert_eq!(rt; found, whole);
+    expect_eq(&rt, &found, &whole);
     Ok(())
 }
 
@@ -199,10 +200,10 @@ fn rotates_a_key_twice(rt: HostRuntime) -> Result<(), Fail> {
         until,
     };
     let whole = rotated(root(9)?, older)?;
-    assert_eq!(rt; found, whole);
+    expect_eq(&rt, &found, &whole);
     let account = Request::Account;
     let of_account = figures(&mut store, &account)?;
-    assert_eq!(rt; of_account, (901, 9_099, 1, 0, false));
+    expect_eq(&rt, &of_account, &(901, 9_099, 1, 0, false));
     Ok(())
 }
 
@@ -214,9 +215,9 @@ fn replaces_a_root(rt: HostRuntime) -> Result<(), Fail> {
     let (amy_1, amy_2) = (name(b"amy-1")?, name(b"amy-2")?);
     store.replace_root(&amy_1, &root(8)?, until)?;
     let found = key_of(&mut store)?.ok_or("amy-1")?.root;
-    assert_eq!(rt; found, root(8)?);
+    expect_eq(&rt, &found, &root(8)?);
     let unknown = store.replace_root(&amy_2, &root(8)?, until);
-    assert_eq!(rt; unknown, Err(StoreFault::Storage));
+    expect_eq(&rt, &unknown, &Err(StoreFault::Storage));
     Ok(())
 }
 
@@ -232,7 +233,7 @@ fn version_left(alloc: Global, connection: Connection<MemStore>) -> Result<i64, 
 fn leaves_another_version_as_it_was(rt: HostRuntime) -> Result<(), Fail> {
     let mut connection = first_version(rt.alloc())?;
     connection.execute("UPDATE desk SET version = 9", &[])?;
-    assert_eq!(rt; version_left(rt.alloc(), connection)?, 9);
+    expect_eq(&rt, &version_left(rt.alloc(), connection)?, &9);
     Ok(())
 }
 
@@ -241,6 +242,6 @@ fn leaves_another_version_as_it_was(rt: HostRuntime) -> Result<(), Fail> {
 fn migrates_no_other_tables(rt: HostRuntime) -> Result<(), Fail> {
     let mut connection = first_version(rt.alloc())?;
     connection.execute("DROP TABLE slots", &[])?;
-    assert_eq!(rt; version_left(rt.alloc(), connection)?, 1);
+    expect_eq(&rt, &version_left(rt.alloc(), connection)?, &1);
     Ok(())
 }
