@@ -4,6 +4,7 @@ use crate::calls::{
     answer, day_numbered, fault_at, first_fault, is_understood, read_day, read_hour, read_moment,
     read_name,
 };
+use crate::expect::expect_eq;
 use pass_caveats::{Action, Ask, CaveatFault, Hour, Kind, Slot};
 use std::alloc::{AllocError, Global};
 use std::process::Abort;
@@ -99,9 +100,9 @@ fn hours_and_moments(rt: HostRuntime) -> Result<(), Fail> {
     }
     let mut ask = booking().ok_or("a request")?;
     ask.moment = read_moment(b"2026-05-01T17:59").ok_or("a moment")?;
-    assert_eq!(rt; answer("until < 2026-05-01T18:00", &ask), Some(true));
+    expect_eq(&rt, &answer("until < 2026-05-01T18:00", &ask), &Some(true));
     ask.moment = read_moment(b"2026-05-01T18:00").ok_or("a moment")?;
-    assert_eq!(rt; answer("until < 2026-05-01T18:00", &ask), Some(false));
+    expect_eq(&rt, &answer("until < 2026-05-01T18:00", &ask), &Some(false));
     Ok(())
 }
 
@@ -123,7 +124,7 @@ fn days_and_weekdays(rt: HostRuntime) -> Result<(), Fail> {
     }
     let account = account().ok_or("a request")?;
     let every_day = "weekday = mon,tue,wed,thu,fri,sat,sun";
-    assert_eq!(rt; answer(every_day, &account), Some(false));
+    expect_eq(&rt, &answer(every_day, &account), &Some(false));
     for text in [
         "weekday = tue,mon",
         "weekday = mon,mon",
@@ -162,11 +163,11 @@ fn other_requests(rt: HostRuntime) -> Result<(), Fail> {
     }
     let mut ask = booking().ok_or("a request")?;
     ask.kind = None;
-    assert_eq!(rt; answer("kind = court", &ask), Some(false));
+    expect_eq(&rt, &answer("kind = court", &ask), &Some(false));
     ask.spent = 1;
-    assert_eq!(rt; answer("spend <= 600", &ask), Some(false));
+    expect_eq(&rt, &answer("spend <= 600", &ask), &Some(false));
     ask.spent = u64::MAX;
-    assert_eq!(rt; answer("spend <= 999999999", &ask), Some(false));
+    expect_eq(&rt, &answer("spend <= 999999999", &ask), &Some(false));
     Ok(())
 }
 
@@ -240,7 +241,7 @@ fn expect_first(
     want: Option<CaveatFault>,
 ) -> Result<(), AllocError> {
     let pass = texts(rt.alloc(), lines)?;
-    assert_eq!(rt; first_fault(&pass, ask), want);
+    expect_eq(rt, &first_fault(&pass, ask), &want);
     Ok(())
 }
 
@@ -267,8 +268,8 @@ fn faults_at_a_place(rt: HostRuntime) -> Result<(), Fail> {
     let mut ask = booking().ok_or("a request")?;
     ask.guests = 0;
     let unread = CaveatFault::NotUnderstood(2);
-    assert_eq!(rt; fault_at(b"shoe = red", 2, &ask), Some(unread));
-    assert_eq!(rt; fault_at(b"weekday = fri", 2, &ask), None);
+    expect_eq(&rt, &fault_at(b"shoe = red", 2, &ask), &Some(unread));
+    expect_eq(&rt, &fault_at(b"weekday = fri", 2, &ask), &None);
     assert!(rt; is_printed(rt.alloc(), unread, "caveat 2 not understood")?);
     assert!(rt; is_printed(rt.alloc(), CaveatFault::Denied(2), "caveat 2 denies")?);
     Ok(())

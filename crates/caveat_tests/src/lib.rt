@@ -6,4 +6,6 @@ mod calls;
 #[cfg(test)]
 mod caveats;
 #[cfg(test)]
+mod expect;
+#[cfg(test)]
 mod values;

@@ -4,6 +4,7 @@ use crate::calls::{
     day_numbered, hour_numbered, is_name, moment_at, moment_numbered, read_action, read_day,
     read_hour, read_kind, read_moment, read_name,
 };
+use crate::expect::expect_eq;
 use club_values::ascii::text_of;
 use club_values::digits::{read_two, two_digits};
 use club_values::{Day, Slot, Weekday};
@@ -71,9 +72,9 @@ fn days(rt: HostRuntime) -> Result<(), Fail> {
         assert_eq!(rt; comes_again(text), want.map(|_| true), "{text}");
     }
     let last = day_numbered(47_481).ok_or("a day")?;
-    assert_eq!(rt; last.year_month_day(), (2099, 12, 31));
-    assert_eq!(rt; day_numbered(10_956), None);
-    assert_eq!(rt; day_numbered(47_482), None);
+    expect_eq(&rt, &last.year_month_day(), &(2099, 12, 31));
+    expect_eq(&rt, &day_numbered(10_956), &None);
+    expect_eq(&rt, &day_numbered(47_482), &None);
     Ok(())
 }
 
@@ -130,11 +131,11 @@ fn moments(rt: HostRuntime) -> Result<(), Fail> {
         assert_eq!(rt; moment_number(text), want, "{text}");
         assert_eq!(rt; moment_again(text), want.map(|_| true), "{text}");
     }
-    assert_eq!(rt; moment_numbered(15_778_079), None);
-    assert_eq!(rt; moment_numbered(68_374_080), None);
+    expect_eq(&rt, &moment_numbered(15_778_079), &None);
+    expect_eq(&rt, &moment_numbered(68_374_080), &None);
     let day = day_numbered(20_574).ok_or("a day")?;
-    assert_eq!(rt; moment_at(day, 1440), None);
-    assert_eq!(rt; slot().ok_or("a slot")?.start(), 29_627_640);
+    expect_eq(&rt, &moment_at(day, 1440), &None);
+    expect_eq(&rt, &slot().ok_or("a slot")?.start(), &29_627_640);
     Ok(())
 }
 
@@ -156,8 +157,8 @@ fn kinds_and_actions(rt: HostRuntime) -> Result<(), Fail> {
     for text in ["view", "book", "cancel", "account"] {
         assert!(rt; action_again(rt.alloc(), text)?, "{text}");
     }
-    assert_eq!(rt; read_kind(b"Court"), None);
-    assert_eq!(rt; read_action(b"books"), None);
+    expect_eq(&rt, &read_kind(b"Court"), &None);
+    expect_eq(&rt, &read_action(b"books"), &None);
     Ok(())
 }
 
@@ -176,26 +177,26 @@ fn hours(rt: HostRuntime) {
     ] {
         assert_eq!(rt; hour_number(text), want, "{text}");
     }
-    assert_eq!(rt; hour_numbered(24), None);
+    expect_eq(&rt, &hour_numbered(24), &None);
 }
 
 #[test]
 fn printed(rt: HostRuntime) -> Result<(), Fail> {
     let slot = slot().ok_or("a slot")?;
     let text = format!(in rt.alloc(); "{} {} {}", slot.facility, slot.day, slot.hour)?;
-    assert_eq!(rt; text.as_str(), "court-1 2026-05-01 18");
+    expect_eq(&rt, &text.as_str(), &"court-1 2026-05-01 18");
     let moment = read_moment(b"2026-05-01T18:05").ok_or("a moment")?;
     let text = format!(in rt.alloc(); "{moment}")?;
-    assert_eq!(rt; text.as_str(), "2026-05-01T18:05");
+    expect_eq(&rt, &text.as_str(), &"2026-05-01T18:05");
     Ok(())
 }
 
 #[test]
 fn digits_of_a_fixed_width(rt: HostRuntime) {
-    assert_eq!(rt; read_two(b'0', b'7'), Some(7));
-    assert_eq!(rt; read_two(b'9', b'9'), Some(99));
-    assert_eq!(rt; read_two(b' ', b'7'), None);
-    assert_eq!(rt; read_two(b'7', b':'), None);
-    assert_eq!(rt; two_digits(7), *b"07");
-    assert_eq!(rt; text_of(b"07"), "07");
+    expect_eq(&rt, &read_two(b'0', b'7'), &Some(7));
+    expect_eq(&rt, &read_two(b'9', b'9'), &Some(99));
+    expect_eq(&rt, &read_two(b' ', b'7'), &None);
+    expect_eq(&rt, &read_two(b'7', b':'), &None);
+    expect_eq(&rt, &two_digits(7), b"07");
+    expect_eq(&rt, &text_of(b"07"), &"07");
 }
