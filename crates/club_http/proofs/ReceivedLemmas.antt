@@ -1,11 +1,10 @@
 -- A request, received in pieces.
-use Rattle.std.proofs.Common.{append-nil, [], ◌∷◌, ◌≡◌, ℕ, ◌+◌, ◌-◌, ◌<◌, ◌≤◌, inl, inr, List, ◌++◌, length, take, sym, ap, ◌∙◌, arith, length-append}
-use Rattle.std.proofs.Math.Seq.{take-append-add}
+use Rattle.std.proofs.Common.{◌≡◌, ℕ, ◌+◌, ◌-◌, ◌<◌, ◌≤◌, inl, inr, List, ◌++◌, length, take, sym, ap, ◌∙◌, arith, length-append}
+use Rattle.std.proofs.Math.Seq.{take-append-add, take-length}
 use Rattle.std.proofs.lemmas.Bool.{cases_lt}
 use Rattle.std.proofs.lemmas.List.{take-append-le, length-take, length-take-le}
 use Rattle.club_http.specs.Received.{IsWanted, AwaitsHead, NoHeadBefore}
-use Rattle.club_words.specs.Laws.{OpenHeadIsNotWhole}
-use Rattle.club_words.specs.Frame.{IsWhole}
+use Rattle.club_words.specs.Frame.{IsWhole, HasNoPiece}
 use borrow.Rule.Slice.PartMut.{put_mid}
 
 -- the bytes behind the seam
@@ -32,13 +31,17 @@ filled room part len n k within few =
     ∙ take-append-add (take len room) _ n
     ∙ ap (λ (l : List ℕ). take len room ++ l) (take-append-le n part _ few)
 
-pub not_whole_more : (bytes : List ℕ) → OpenHeadIsNotWhole → AwaitsHead bytes → (more : List ℕ) → length more < 1 → ¬ (IsWhole (bytes ++ more))
-not_whole_more bytes law awaits [] few whole = law bytes awaits.0 awaits.1 (rw append-nil at whole)
-not_whole_more bytes law awaits (byte ∷ more) few whole = omega arith
-
-pub no_head_more : (bytes more : List ℕ) → AwaitsHead bytes → length more ≤ 1 → NoHeadBefore (bytes ++ more)
-no_head_more bytes more awaits few n short =
+-- as many bytes more as a head's end lacks at least, or fewer
+pub no_head_more : (bytes more : List ℕ) (lacks : ℕ) → AwaitsHead bytes → (0 < lacks → length bytes + lacks ≤ 16384)
+    → ((next : List ℕ) → length next < lacks → HasNoPiece (bytes ++ next)) → length more ≤ lacks → NoHeadBefore (bytes ++ more)
+no_head_more bytes more lacks awaits room needed few n short =
     let inside : n < length bytes + length more = rw (← length-append bytes more) short in
-    let le : n ≤ length bytes = omega arith in
-    let below : length bytes < 16384 = awaits.1 in
-    rw (take-append-le n bytes more le) (awaits.0 n le (omega arith))
+    elim (cases_lt n (length bytes)) [
+      | inl before ↦ rw (take-append-le n bytes more (omega arith)) (awaits.0 n (omega arith) (omega (arith, awaits.1)))
+      | inr behind ↦
+          let next = take (n - length bytes) more in
+          let fewer : length next < lacks = rw (length-take (n - length bytes) more) (omega arith) in
+          let whole : length (bytes ++ next) ≤ 16384 = rw (length-append bytes next) (omega (arith, room (omega arith))) in
+          let headless = needed next fewer (length (bytes ++ next)) (omega arith) whole in
+          rw (take_behind bytes more n behind) (rw (take-length (bytes ++ next)) at headless)
+    ]

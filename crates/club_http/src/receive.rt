@@ -8,7 +8,7 @@ ghost use Rattle.club_http.specs.Received.{Receives, IsCutOff, AwaitsHead, NoHea
 
 use crate::ends::Inlet;
 use club_words::laws::open_head_is_not_whole;
-use club_words::{MAX_HEAD_LEN, missing};
+use club_words::{MAX_HEAD_LEN, missing, missing_of_head};
 
 /// Whether a head has ended, or can't any more. Only the end of the bytes is looked at: `before`
 /// tells whether one had ended before it.
@@ -19,16 +19,22 @@ fn has_head(bytes: &[u8], before: bool) -> bool
     before || bytes.len() >= MAX_HEAD_LEN || bytes.ends_with(b"\r\n\r\n")
 }
 
-/// How many bytes are read next: one, till a head has ended, and then what is missing.
+/// How many bytes are read next: till a head has ended so many as its end lacks at least, and then
+/// what is missing.
 fn wanted(bytes: &[u8], has_head: bool) -> usize
     requires { has_head ≡ false → AwaitsHead bytes.now }
     ensures whole { (result ≡ 0) ↔ IsWhole bytes.now }
     ensures room { 0 < result → length bytes.now + result ≤ 16640 }
     ensures needed { (more : List ℕ) → length more < result → ¬ (IsWhole (bytes.now ++ more)) }
-    ensures step { has_head ≡ false → result ≡ 1 }
+    ensures headless { has_head ≡ false → (more : List ℕ) → length more ≤ result
+        → NoHeadBefore (bytes.now ++ more) }
 {
     open_head_is_not_whole();
-    if has_head { missing(bytes) } else { 1 }
+    if has_head {
+        missing(bytes)
+    } else {
+        missing_of_head(bytes)
+    }
 }
 
 /// Reads a request into the room, till it is whole or the input ends, and answers how many bytes it

@@ -14,6 +14,8 @@ use std::test::*;
 const BOOKING: &str = "PUT /slots/court-1/2026-05-01/18/bookings/7 HTTP/1.1\r\nHost: club\r\n\
     Authorization: Bearer AgEJ\r\nContent-Length: 12\r\n\r\n{\"guests\":2}";
 
+const BODY: &str = "{\"guests\":2}";
+
 const BOOKED: &str = "HTTP/1.1 200 OK\r\nContent-Type: application/json\r\nContent-Length: 43\r\n\
     Connection: close\r\n\r\n{\"booking\":\"amy-1/7\",\"charge\":600,\"left\":1}";
 
@@ -79,10 +81,12 @@ fn reads_no_byte_past_the_request(rt: HostRuntime) {
     assert_eq!(&rt; writer.written(), BOOKED.as_bytes());
     assert_eq!(&rt; BOOKED.len(), 133);
 
+    // A head of 116 bytes, four a call, and a body of 12.
     let mut reader = Pieces::failing(bytes, 600);
     let mut writer = Narrow::new(512);
     assert!(rt; exchanged(&rt, &mut reader, &mut writer, 1).ok() == booked());
     assert!(rt; reader.left.is_empty());
+    assert_eq!(&rt; reader.calls, 30);
     assert_eq!(&rt; writer.written(), BOOKED.as_bytes());
 }
 
@@ -94,6 +98,59 @@ fn leaves_what_follows(rt: HostRuntime) -> Result<(), Fail> {
     let mut writer = Narrow::new(512);
     assert!(rt; exchanged(&rt, &mut reader, &mut writer, 1).ok() == booked());
     assert!(rt; reader.left == b"GET /account HTTP/1.1\r\n\r\n".as_slice());
+    Ok(())
+}
+
+/// An exchange where a call gives so many bytes. What follows the request, `GET /`, stays.
+fn leaving_the_rest(
+    rt: &(impl Abort + AllocGlobal),
+    bytes: &[u8],
+    step: usize,
+    asked: u64,
+) -> Result<Reply, AnswerFault> {
+    let mut reader = Pieces::new(bytes, step);
+    let mut writer = Narrow::new(512);
+    let outcome = exchanged(rt, &mut reader, &mut writer, asked);
+    assert!(rt; reader.left == b"GET /".as_slice(), "{step}");
+    outcome
+}
+
+/// Wherever the calls split the end of a head, no byte is taken behind the request.
+#[test]
+fn splits_the_end_of_a_head(rt: HostRuntime) -> Result<(), Fail> {
+    // So many bytes more that the end stands at each place of four.
+    for field in ["", "A: \r\n", "A: b\r\n", "A: bc\r\n"] {
+        let text = format!(in rt.alloc();
+            "PUT /slots/court-1/2026-05-01/18/bookings/7 HTTP/1.1\r\n{field}\
+            Authorization: Bearer AgEJ\r\nContent-Length: 12\r\n\r\n{BODY}GET /"
+        )?;
+        for step in 1..6 {
+            assert!(rt; leaving_the_rest(&rt, text.as_bytes(), step, 1).ok() == booked());
+        }
+    }
+    Ok(())
+}
+
+/// Parts of a head's end before its end: the first CR LF CR LF is the end, and what stands before it
+/// is no head.
+#[test]
+fn begins_the_end_of_a_head_again(rt: HostRuntime) -> Result<(), Fail> {
+    let heads = [
+        "",
+        "\r",
+        "\r\n\r",
+        "\r\n\n",
+        "\n",
+        "GET /\r\r",
+        "GET /\r\n\r\r",
+    ];
+    for head in heads {
+        let text = format!(in rt.alloc(); "{head}\r\n\r\nGET /")?;
+        for step in 1..6 {
+            let outcome = leaving_the_rest(&rt, text.as_bytes(), step, 0);
+            assert!(rt; outcome == Ok(Reply::Refused(Refusal::BadRequest)));
+        }
+    }
     Ok(())
 }
 
@@ -146,11 +203,13 @@ fn short_writes(rt: HostRuntime) {
 #[test]
 fn endless_head(rt: HostRuntime) -> Result<(), Fail> {
     let bytes = vec![in rt.alloc(); b'x'; 20_000]?;
-    let mut reader = Pieces::new(&bytes, 600);
-    let mut writer = Narrow::new(512);
-    let outcome = exchanged(&rt, &mut reader, &mut writer, 0);
-    assert!(rt; outcome == Ok(Reply::Refused(Refusal::BadRequest)));
-    assert_eq!(&rt; reader.left.len(), 20_000 - 16_384);
+    for step in [3, 600] {
+        let mut reader = Pieces::new(&bytes, step);
+        let mut writer = Narrow::new(512);
+        let outcome = exchanged(&rt, &mut reader, &mut writer, 0);
+        assert!(rt; outcome == Ok(Reply::Refused(Refusal::BadRequest)));
+        assert_eq!(&rt; reader.left.len(), 20_000 - 16_384);
+    }
     Ok(())
 }
 

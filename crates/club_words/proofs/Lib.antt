@@ -1,4 +1,5 @@
 mod Pieces
+mod HeadEnds
 mod FieldValues
 mod DigitLemmas
 mod Segments

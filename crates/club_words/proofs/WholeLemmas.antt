@@ -1,10 +1,10 @@
 -- When a request is whole, and what follows it.
-use Rattle.std.proofs.Common.{◌≡◌, ℕ, ◌-◌, ◌<◌, ◌≤◌, ◌↔◌, inl, inr, false, List, [], ◌∷◌, ◌++◌, length, take, drop, nat_eq, refl, sym, ap, ◌∙◌, arith}
+use Rattle.std.proofs.Common.{◌≡◌, ℕ, ◌+◌, ◌-◌, ◌<◌, ◌≤◌, ◌↔◌, inl, inr, false, List, ◌++◌, length, take, drop, nat_eq, refl, sym, ap, ◌∙◌, arith}
 use Rattle.std.proofs.Common.{append_assoc, length-append}
 use Rattle.std.specs.List.{ends_with}
 use Rattle.std.proofs.Math.Seq.{take-append_seam}
 use Rattle.std.proofs.lemmas.Bool.{cases_lt}
-use Rattle.std.proofs.lemmas.List.{take-append-le, take-append-drop, length-take-le, append-nil}
+use Rattle.std.proofs.lemmas.List.{take-append-le, take-append-drop, length-take-le}
 use Rattle.httparse.specs.declared.spans.HeaderSpan.{HeaderSpan}
 use Rattle.httparse.specs.Grammar.{RequestHead}
 use Rattle.club_words.specs.declared.front.Head.{Head}
@@ -30,9 +30,16 @@ open_head bytes none short (framed head body is) = no_frame bytes none head body
 open_head bytes none short (endless empty long) = omega arith
 open_head bytes none short (refused is) = no_piece bytes is.piece is.rest is.cut is.parts none
 
-pub open_head_more : (bytes more : List ℕ) → HasNoPiece bytes → length bytes < 16384 → length more < 1 → ¬ (IsWhole (bytes ++ more))
-open_head_more bytes [] none short few whole = open_head bytes none short (rw append-nil at whole)
-open_head_more bytes (byte ∷ more) none short few whole = omega arith
+-- no bytes are missing where none can come
+pub head_whole : (bytes : List ℕ) (missing : ℕ) → HasNoPiece bytes → (missing ≡ 0) ↔ (16384 ≤ length bytes) → (missing ≡ 0) ↔ IsWhole bytes
+head_whole bytes missing none full = (
+  λ is. endless none (full.0 is),
+  λ whole. elim (cases_lt (length bytes) 16384) [ inl short ↦ absurd (open_head bytes none short whole) | inr long ↦ full.1 long ],
+)
+
+pub open_head_more : (bytes more : List ℕ) (missing : ℕ) → HasNoPiece (bytes ++ more) → length bytes + missing ≤ 16384 → length more < missing
+    → ¬ (IsWhole (bytes ++ more))
+open_head_more bytes more missing none room few = open_head (bytes ++ more) none (simp length-append (omega arith))
 
 -- where the body is cut
 pub open_body : (bytes piece rest : List ℕ) (head : RequestHead) (n : ℕ) → IsPiece piece → bytes ≡ piece ++ rest → Asks piece head n → length rest < n

@@ -1,9 +1,11 @@
 //! The head of a request.
 
-ghost use Rattle.std.specs.Prelude.{◌≡◌, ◌≤◌, length, take, MatchOption};
+ghost use Rattle.std.specs.Prelude.{◌≡◌, ℕ, ◌<◌, ◌≤◌, List, ◌++◌, length, take, nat_eq};
+ghost use Rattle.std.specs.Prelude.{true, false, MatchOption};
+ghost use Rattle.std.specs.List.{ends_with};
 ghost use Rattle.httparse.specs.Grammar.{RequestHead};
 ghost use Rattle.httparse.specs.Spans.{IsRequestWithin, IsRequestAt};
-ghost use Rattle.club_words.specs.Head.{IsPiece, IsHeadOf};
+ghost use Rattle.club_words.specs.Head.{empty_line, IsPiece, IsHeadOf};
 ghost use Rattle.club_words.specs.Frame.{HasNoPiece};
 
 use httparse::Status;
@@ -28,6 +30,26 @@ pub(crate) fn piece_len(bytes: &[u8]) -> Option<usize>
         }
     }
     None
+}
+
+/// How many bytes are missing at least behind the bytes till they end with CR LF CR LF: four less
+/// those of it with which they end.
+pub(crate) fn missing_of_line(bytes: &[u8]) -> usize
+    ensures some { 0 < result }
+    ensures needed { (more : List ℕ) → 0 < length more → length more < result
+        → ends_with nat_eq (bytes.now ++ more) empty_line ≡ false }
+    ensures reached { (more : List ℕ) × (length more ≡ result)
+        × (ends_with nat_eq (bytes.now ++ more) empty_line ≡ true) }
+{
+    if bytes.ends_with(b"\r\n\r") {
+        1
+    } else if bytes.ends_with(b"\r\n") {
+        2
+    } else if bytes.ends_with(b"\r") {
+        3
+    } else {
+        4
+    }
 }
 
 /// Where the parts of a head are that the piece is, whole.

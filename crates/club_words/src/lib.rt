@@ -19,4 +19,4 @@ pub use club_core::SentWords as Words;
 pub use head::{MAX_FIELDS, MAX_HEAD_LEN};
 pub use length::MAX_BODY_LEN;
 pub use routes::{Routes, words_of};
-pub use whole::{MAX_REQUEST_LEN, missing};
+pub use whole::{MAX_REQUEST_LEN, missing, missing_of_head};

@@ -2,7 +2,7 @@
 
 use crate::expect::expect_eq;
 use club_core::{BookingNumber, Guests, Methods, Refusal, Request};
-use club_words::{Routes, missing, words_of};
+use club_words::{Routes, missing, missing_of_head, words_of};
 use pass_caveats::{Day, Hour, Name, Slot};
 use std::alloc::AllocError;
 use std::process::Abort;
@@ -65,6 +65,27 @@ fn cut(rt: HostRuntime) {
         let more = missing(&bytes[..len]);
         assert!(rt; 0 < more && more <= bytes.len() - len);
     }
+}
+
+fn lacking(bytes: &[u8]) -> usize {
+    missing_of_head(bytes)
+}
+
+/// Four less those of CR LF CR LF that came last, and no more than up to 16,384 bytes.
+#[test]
+fn ends_of_heads(rt: HostRuntime) {
+    expect_eq(&rt, &lacking(b""), &4);
+    expect_eq(&rt, &lacking(b"GET"), &4);
+    expect_eq(&rt, &lacking(b"GET\r"), &3);
+    expect_eq(&rt, &lacking(b"GET\r\n"), &2);
+    expect_eq(&rt, &lacking(b"GET\r\n\r"), &1);
+    expect_eq(&rt, &lacking(b"GET\r\n\r\r"), &3);
+    expect_eq(&rt, &lacking(b"GET\r\n\n"), &4);
+    let bytes = [b'a'; 16_385];
+    expect_eq(&rt, &lacking(&bytes[..16_380]), &4);
+    expect_eq(&rt, &lacking(&bytes[..16_381]), &3);
+    expect_eq(&rt, &lacking(&bytes[..16_384]), &0);
+    expect_eq(&rt, &lacking(&bytes), &0);
 }
 
 /// A request for the account with this line and these fields.

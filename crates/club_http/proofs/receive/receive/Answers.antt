@@ -2,7 +2,7 @@ use Rattle.std.proofs.Common.{◌≡◌, ◌<◌, ◌≤◌, ◌+◌, ◌-◌, [
 use Rattle.std.proofs.lemmas.Grind.{common_steps}
 use Rattle.std.proofs.lemmas.Slice.{take-put_mid_below}
 use Rattle.club_http.proofs.Known.{consumes_kept, consumes_more, consumes_none_more}
-use Rattle.club_http.proofs.ReceivedLemmas.{wanted_more, no_head_more, filled}
+use Rattle.club_http.proofs.ReceivedLemmas.{wanted_more, filled}
 use Rattle.club_http.proofs.receive.receive.Goals as goal
 
 pub returns-then-more-eq0-clause-received : goal.returns-then-more-eq0-clause-received
@@ -46,6 +46,6 @@ loop-len-preserved g c =
       within = grind (arith, common_steps);
       came = consumes_more _ _ _ _ _ inv.came more.0;
       wanted = wanted_more _ _ c.wanted-more.result inv.wanted needed few;
-      headless = λ none. no_head_more _ _ (c.has_head-head.ensures none) (rw (c.wanted-more.ensures.step none) at few);
+      headless = λ none. c.wanted-more.ensures.headless none _ few;
       counted = grind (arith, common_steps);
     })

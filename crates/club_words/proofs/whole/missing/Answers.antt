@@ -1,15 +1,16 @@
 use Rattle.std.proofs.Common.{arith}
 use Rattle.club_words.proofs.LengthLemmas.{room_for}
-use Rattle.club_words.proofs.WholeLemmas.{open_head, open_head_more, open_body_more, body_there, body_then_there, refused_more}
+use Rattle.club_words.proofs.WholeLemmas.{head_whole, open_head_more, open_body_more, body_there, body_then_there, refused_more}
 use Rattle.club_words.specs.Frame.{refused}
 use Rattle.club_words.proofs.whole.missing.Goals as goal
 
-pub returns-then-bytes-lt-MAX_HEAD_LEN-clause-whole : goal.returns-then-bytes-lt-MAX_HEAD_LEN-clause-whole
-returns-then-bytes-lt-MAX_HEAD_LEN-clause-whole c =
-    (λ one. absurd (omega arith), λ whole. absurd (open_head c.args.bytes.now c.in-NoPiece.ensures c.if-bytes-lt-MAX_HEAD_LEN.true whole))
+pub returns-in-NoPiece-clause-whole : goal.returns-in-NoPiece-clause-whole
+returns-in-NoPiece-clause-whole c = head_whole c.args.bytes.now c.missing_of_head.result c.in-NoPiece.ensures c.missing_of_head.ensures.full
 
-pub returns-then-bytes-lt-MAX_HEAD_LEN-clause-needed : goal.returns-then-bytes-lt-MAX_HEAD_LEN-clause-needed
-returns-then-bytes-lt-MAX_HEAD_LEN-clause-needed c = λ more few. open_head_more c.args.bytes.now more c.in-NoPiece.ensures c.if-bytes-lt-MAX_HEAD_LEN.true few
+pub returns-in-NoPiece-clause-needed : goal.returns-in-NoPiece-clause-needed
+returns-in-NoPiece-clause-needed c = λ more few.
+    let missing = c.missing_of_head.ensures in
+    open_head_more c.args.bytes.now more c.missing_of_head.result (missing.needed c.in-NoPiece.ensures more few) (missing.room (omega arith)) few
 
 pub returns-in-Asking-clause-whole : goal.returns-in-Asking-clause-whole
 returns-in-Asking-clause-whole c = rw c.saturating_sub.ensures (body_there c.args.bytes.now c.front_of.new.fields c.in-Asking.found c.in-Asking.ensures)
