@@ -1,0 +1,24 @@
+//! Tests of whole exchanges: bytes of a request, a desk over the tables in memory, and bytes of its
+//! reply.
+#![tactic(auto)]
+
+#[cfg(test)]
+mod bad_requests;
+#[cfg(test)]
+mod ends;
+#[cfg(test)]
+mod expect;
+#[cfg(test)]
+mod failing_ends;
+#[cfg(test)]
+mod front;
+#[cfg(test)]
+mod office;
+#[cfg(test)]
+mod passes;
+#[cfg(test)]
+mod refused_memory;
+#[cfg(test)]
+mod rows;
+#[cfg(test)]
+mod said;

@@ -1,0 +1,172 @@
+//! What is asked, and what is told.
+
+use crate::office::Order;
+use crate::passes::{AMY, Texts};
+use club_gate::Fault;
+use std::alloc::{AllocError, Global};
+
+pub(crate) const NOON: &str = "2026-04-20T12:00";
+
+/// A request: its line without the version, and its body.
+#[derive(Clone, Copy)]
+pub(crate) struct Asked<'a> {
+    pub line: &'a str,
+    pub body: &'a str,
+}
+
+/// A reply: its status and phrase, the field that goes with them, and its body of so many bytes.
+#[derive(Clone, Copy)]
+pub(crate) struct Told<'a> {
+    pub status: &'a str,
+    pub field: &'a str,
+    pub len: usize,
+    pub body: &'a str,
+}
+
+/// A step of a worked row.
+#[derive(Clone, Copy)]
+pub(crate) enum Step {
+    /// At a moment, under a pass, this is asked, and this is told.
+    Asks(&'static str, Texts, Asked<'static>, Told<'static>),
+    /// The office orders this, which is done, or refused so.
+    Orders(Order, Option<Fault>),
+}
+
+impl Asked<'_> {
+    /// The bytes of the request with a pass.
+    pub fn text(&self, alloc: Global, pass: &str) -> Result<String, AllocError> {
+        let (line, body) = (self.line, self.body);
+        let len = body.len();
+        format!(in alloc;
+            "{line} HTTP/1.1\r\nHost: club\r\nAuthorization: Bearer {pass}\r\n\
+                Content-Length: {len}\r\n\r\n{body}"
+        )
+    }
+}
+
+impl Told<'_> {
+    /// The bytes of the reply.
+    pub fn text(&self, alloc: Global) -> Result<String, AllocError> {
+        let (status, field) = (self.status, self.field);
+        let (len, body) = (self.len, self.body);
+        format!(in alloc;
+            "HTTP/1.1 {status}\r\nContent-Type: application/json\r\nContent-Length: {len}\r\n\
+                {field}Connection: close\r\n\r\n{body}"
+        )
+    }
+}
+
+pub(crate) const ACCOUNT: Asked<'static> = Asked {
+    line: "GET /account",
+    body: "",
+};
+
+/// The slot of `court-1` on 2026-05-01 at 18.
+pub(crate) const VIEW: Asked<'static> = Asked {
+    line: "GET /slots/court-1/2026-05-01/18",
+    body: "",
+};
+
+/// Bookings of that slot, under number 7.
+pub(crate) const PUT_7: &str = "PUT /slots/court-1/2026-05-01/18/bookings/7";
+
+pub(crate) const TWO_GUESTS: &str = "{\"guests\":2}";
+
+pub(crate) const BOOK_7: Asked<'static> = Asked {
+    line: PUT_7,
+    body: TWO_GUESTS,
+};
+
+pub(crate) const CANCEL_7: Asked<'static> = Asked {
+    line: "DELETE /slots/court-1/2026-05-01/18/bookings/7",
+    body: "",
+};
+
+pub(crate) const BOOKED_7: Told<'static> = Told {
+    status: "200 OK",
+    field: "",
+    len: 43,
+    body: "{\"booking\":\"amy-1/7\",\"charge\":600,\"left\":1}",
+};
+
+pub(crate) const CANCELLED_7: Told<'static> = Told {
+    status: "200 OK",
+    field: "",
+    len: 34,
+    body: "{\"booking\":\"amy-1/7\",\"refund\":600}",
+};
+
+/// The slot while nobody booked it, and with that booking.
+pub(crate) const FREE: Told<'static> = Told {
+    status: "200 OK",
+    field: "",
+    len: 114,
+    body: "{\"facility\":\"court-1\",\"day\":\"2026-05-01\",\"hour\":18,\"kind\":\"court\",\
+        \"price\":200,\"places\":4,\"taken\":0,\"closed\":false}",
+};
+
+pub(crate) const TAKEN: Told<'static> = Told {
+    status: "200 OK",
+    field: "",
+    len: 114,
+    body: "{\"facility\":\"court-1\",\"day\":\"2026-05-01\",\"hour\":18,\"kind\":\"court\",\
+        \"price\":200,\"places\":4,\"taken\":3,\"closed\":false}",
+};
+
+/// Amy's account before any booking, and with that booking.
+pub(crate) const ACCOUNT_BEFORE: Told<'static> = Told {
+    status: "200 OK",
+    field: "",
+    len: 61,
+    body: "{\"member\":\"amy\",\"balance\":10000,\"quota\":5,\"open\":0,\"spent\":0}",
+};
+
+pub(crate) const ACCOUNT_AFTER: Told<'static> = Told {
+    status: "200 OK",
+    field: "",
+    len: 62,
+    body: "{\"member\":\"amy\",\"balance\":9400,\"quota\":5,\"open\":1,\"spent\":600}",
+};
+
+pub(crate) const BAD_REQUEST: Told<'static> = Told {
+    status: "400 Bad Request",
+    field: "",
+    len: 32,
+    body: "{\"fault\":1,\"text\":\"bad request\"}",
+};
+
+pub(crate) const PASS_MALFORMED: Told<'static> = Told {
+    status: "400 Bad Request",
+    field: "",
+    len: 35,
+    body: "{\"fault\":6,\"text\":\"pass malformed\"}",
+};
+
+pub(crate) const THIRD_PARTY_CAVEAT: Told<'static> = Told {
+    status: "400 Bad Request",
+    field: "",
+    len: 39,
+    body: "{\"fault\":7,\"text\":\"third-party caveat\"}",
+};
+
+pub(crate) const NOT_VERIFIED: Told<'static> = Told {
+    status: "401 Unauthorized",
+    field: "WWW-Authenticate: Bearer\r\n",
+    len: 33,
+    body: "{\"fault\":9,\"text\":\"not verified\"}",
+};
+
+pub(crate) const DENIED_1: Told<'static> = Told {
+    status: "403 Forbidden",
+    field: "",
+    len: 46,
+    body: "{\"fault\":12,\"text\":\"caveat denies\",\"caveat\":1}",
+};
+
+/// Nobody has booked, and then amy does.
+pub(crate) static NOT_YET: [Step; 4] = [
+    Step::Asks(NOON, AMY, ACCOUNT, ACCOUNT_BEFORE),
+    Step::Asks(NOON, AMY, VIEW, FREE),
+    Step::Asks(NOON, AMY, BOOK_7, BOOKED_7),
+    Step::Asks(NOON, AMY, ACCOUNT, ACCOUNT_AFTER),
+];
