@@ -123,7 +123,7 @@ module _ (program file key member hex : Text) (form : Form) where
       ≡ Some (
         codes "add-key",
         given (codes "form") (form_name form) ∷ given (codes "FILE") file ∷ given (codes "KEY") key
-            ∷ given (codes "MEMBER") member ∷ given (codes "HEX") hex ∷ [],
+            ∷ given (codes "MEMBER") member ∷ given (codes "ROOT") hex ∷ [],
       )
   unfolding clap_on_literals application subcommand
   add_key_its_parts-found = refl
@@ -146,7 +146,7 @@ module _ (program file key member hex : Text) where
   add_key_v2-found : subcommand add_key_v2-words
       ≡ Some (
         codes "add-key",
-        given (codes "FILE") file ∷ given (codes "KEY") key ∷ given (codes "MEMBER") member ∷ given (codes "HEX") hex
+        given (codes "FILE") file ∷ given (codes "KEY") key ∷ given (codes "MEMBER") member ∷ given (codes "ROOT") hex
             ∷ left_out (codes "form") (codes "v2") ∷ [],
       )
   unfolding clap_on_literals application subcommand
@@ -188,7 +188,7 @@ module _ (program file key hex moment : Text) (form : Form) where
       ≡ Some (
         codes "rotate-key",
         given (codes "form") (form_name form) ∷ given (codes "FILE") file ∷ given (codes "KEY") key
-            ∷ given (codes "HEX") hex ∷ given (codes "MOMENT") moment ∷ [],
+            ∷ given (codes "ROOT") hex ∷ given (codes "MOMENT") moment ∷ [],
       )
   unfolding clap_on_literals application subcommand
   rotate_key_its_parts-found = refl
@@ -211,7 +211,7 @@ module _ (program file key hex moment : Text) where
   rotate_key_v2-found : subcommand rotate_key_v2-words
       ≡ Some (
         codes "rotate-key",
-        given (codes "FILE") file ∷ given (codes "KEY") key ∷ given (codes "HEX") hex ∷ given (codes "MOMENT") moment
+        given (codes "FILE") file ∷ given (codes "KEY") key ∷ given (codes "ROOT") hex ∷ given (codes "MOMENT") moment
             ∷ left_out (codes "form") (codes "v2") ∷ [],
       )
   unfolding clap_on_literals application subcommand

@@ -30,7 +30,7 @@ required rule = record rule { required = true }
 abbrev pub with_default : Text → Rule → Rule
 with_default value rule = record rule { defaults = value ∷ [] }
 
--- `[--form F]`, V2 where it is left out
+-- `[--form FORM]`, V2 where it is left out
 abbrev pub form_option : Rule
 form_option = with_default (codes "v2") (option_named (codes "form"))
 
@@ -55,14 +55,14 @@ add_facility_command =
 
 abbrev pub add_key_command : App
 add_key_command =
-    with_rule (command_of_words (codes "add-key") (codes "FILE" ∷ codes "KEY" ∷ codes "MEMBER" ∷ codes "HEX" ∷ [])) form_option
+    with_rule (command_of_words (codes "add-key") (codes "FILE" ∷ codes "KEY" ∷ codes "MEMBER" ∷ codes "ROOT" ∷ [])) form_option
 
 abbrev pub revoke_key_command : App
 revoke_key_command = command_of_words (codes "revoke-key") (codes "FILE" ∷ codes "KEY" ∷ [])
 
 abbrev pub rotate_key_command : App
 rotate_key_command =
-    with_rule (command_of_words (codes "rotate-key") (codes "FILE" ∷ codes "KEY" ∷ codes "HEX" ∷ codes "MOMENT" ∷ [])) form_option
+    with_rule (command_of_words (codes "rotate-key") (codes "FILE" ∷ codes "KEY" ∷ codes "ROOT" ∷ codes "MOMENT" ∷ [])) form_option
 
 abbrev pub close_slot_command : App
 close_slot_command =

@@ -38,7 +38,7 @@ AddFacilityTakesItsParts = (program file name kind places price opens shuts : Te
     → Asks (program ∷ codes "add-facility" ∷ codes "--" ∷ file ∷ name ∷ kind ∷ places ∷ price ∷ opens ∷ shuts ∷ [])
     file (Order (order.AddFacility what of_kind p q o s))
 
--- `add-key --form=F -- FILE KEY MEMBER HEX`
+-- `add-key --form=FORM -- FILE KEY MEMBER ROOT`
 abbrev pub AddKeyTakesItsParts : Type 0
 AddKeyTakesItsParts = (program file key member hex : Text) (form : Form) (what who root : Text)
     → name_of_text key ≡ Some what → name_of_text member ≡ Some who → root_of hex ≡ Some root
@@ -56,7 +56,7 @@ abbrev pub RevokeKeyTakesItsKey : Type 0
 RevokeKeyTakesItsKey = (program file key : Text) (what : Text) → name_of_text key ≡ Some what
     → Asks (program ∷ codes "revoke-key" ∷ codes "--" ∷ file ∷ key ∷ []) file (Order (order.RevokeKey what))
 
--- `rotate-key --form=F -- FILE KEY HEX MOMENT`
+-- `rotate-key --form=FORM -- FILE KEY ROOT MOMENT`
 abbrev pub RotateKeyTakesItsParts : Type 0
 RotateKeyTakesItsParts = (program file key hex moment : Text) (form : Form) (what root : Text) (until : ℕ)
     → name_of_text key ≡ Some what → root_of hex ≡ Some root → moment_of_text moment ≡ Some until

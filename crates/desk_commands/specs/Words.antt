@@ -79,7 +79,7 @@ abbrev pub add_key_of : Form → List Row → Option Task
 add_key_of form rows = do
   key ← name_in (codes "KEY") rows
   member ← name_in (codes "MEMBER") rows
-  root ← root_of (word_in (codes "HEX") rows)
+  root ← root_of (word_in (codes "ROOT") rows)
   Some (AddKey key member root form)
 
 abbrev pub revoke_key_of : List Row → Option Task
@@ -90,7 +90,7 @@ revoke_key_of rows = do
 abbrev pub rotate_key_of : Form → List Row → Option Task
 rotate_key_of form rows = do
   key ← name_in (codes "KEY") rows
-  root ← root_of (word_in (codes "HEX") rows)
+  root ← root_of (word_in (codes "ROOT") rows)
   until ← moment_of_text (word_in (codes "MOMENT") rows)
   Some (RotateKey key root until form)
 

@@ -38,7 +38,7 @@ one place for an hour, 0 to 9999; it OPENS and SHUTS at full hours, 0 to 24.
 Example:
   clubdesk add-facility club.db court-1 court 4 200 8 22";
 
-const ADD_KEY_HELP: &str = "HEX is the key's root, 16 to 64 bytes in hexadecimal; other users may
+const ADD_KEY_HELP: &str = "ROOT is the key's root, 16 to 64 bytes in hexadecimal; other users may
 see it in the list of processes. The pass of the key is printed.
 
 Example:
@@ -49,7 +49,7 @@ const REVOKE_KEY_HELP: &str = "No pass of a revoked key is served any more.
 Example:
   clubdesk revoke-key club.db amy-1";
 
-const ROTATE_KEY_HELP: &str = "HEX is the key's new root. Passes under the root that it has are
+const ROTATE_KEY_HELP: &str = "ROOT is the key's new root. Passes under the root that it has are
 served until MOMENT, and not from it on. The new pass is printed.
 
 Example:
@@ -192,7 +192,7 @@ fn make_add_key<'a>(alloc: Global) -> Result<Command<'a>, AllocError>
         "add-key",
         "Adds a key of a member",
         ADD_KEY_HELP,
-        &["FILE", "KEY", "MEMBER", "HEX"],
+        &["FILE", "KEY", "MEMBER", "ROOT"],
     )?
     .arg(make_form(alloc))
 }
@@ -217,7 +217,7 @@ fn make_rotate_key<'a>(alloc: Global) -> Result<Command<'a>, AllocError>
         "rotate-key",
         "Gives a key a new root",
         ROTATE_KEY_HELP,
-        &["FILE", "KEY", "HEX", "MOMENT"],
+        &["FILE", "KEY", "ROOT", "MOMENT"],
     )?
     .arg(make_form(alloc))
 }

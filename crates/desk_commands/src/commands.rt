@@ -53,13 +53,13 @@ pub fn add_facility<'a>(words: &ArgMatches<'a>) -> Option<Task<'a>>
     }))
 }
 
-/// `add-key FILE KEY MEMBER HEX [--form F]`
+/// `add-key FILE KEY MEMBER ROOT [--form FORM]`
 pub fn add_key<'a>(words: &ArgMatches<'a>, form: Form) -> Option<Task<'a>>
     ensures { result ≡ spec.add_key_of form (rows_of (found_of words.now)) }
 {
     let name = name_of(words, "KEY")?;
     let member = name_of(words, "MEMBER")?;
-    let root = root_of(value_of(words, "HEX"))?;
+    let root = root_of(value_of(words, "ROOT"))?;
     Some(Task::AddKey {
         name,
         member,
@@ -76,12 +76,12 @@ pub fn revoke_key<'a>(words: &ArgMatches<'a>) -> Option<Task<'a>>
     Some(Task::Order(Command::RevokeKey { name }))
 }
 
-/// `rotate-key FILE KEY HEX MOMENT [--form F]`
+/// `rotate-key FILE KEY ROOT MOMENT [--form FORM]`
 pub fn rotate_key<'a>(words: &ArgMatches<'a>, form: Form) -> Option<Task<'a>>
     ensures { result ≡ spec.rotate_key_of form (rows_of (found_of words.now)) }
 {
     let name = name_of(words, "KEY")?;
-    let root = root_of(value_of(words, "HEX"))?;
+    let root = root_of(value_of(words, "ROOT"))?;
     let until = Moment::read(value_of(words, "MOMENT").as_bytes())?;
     Some(Task::RotateKey {
         name,

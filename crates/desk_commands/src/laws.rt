@@ -32,7 +32,7 @@ pub fn add_facility_takes_its_parts()
     ensures { AddFacilityTakesItsParts }
 {}
 
-/// `add-key FILE KEY MEMBER HEX` with a form asks for the key of these, and its pass in that form.
+/// `add-key FILE KEY MEMBER ROOT` with a form asks for the key of these, and its pass in that form.
 pub fn add_key_takes_its_parts()
     ensures { AddKeyTakesItsParts }
 {}
@@ -47,7 +47,7 @@ pub fn revoke_key_takes_its_key()
     ensures { RevokeKeyTakesItsKey }
 {}
 
-/// `rotate-key FILE KEY HEX MOMENT` with a form asks for that root of the key, its older one good until the moment.
+/// `rotate-key FILE KEY ROOT MOMENT` with a form asks for that root of the key, its older one good until the moment.
 pub fn rotate_key_takes_its_parts()
     ensures { RotateKeyTakesItsParts }
 {}

@@ -49,7 +49,7 @@ pub fn convert_takes_its_form()
     ensures { ConvertTakesItsForm }
 {}
 
-/// `verify --root HEX` asks for `verify` under the root that HEX spells.
+/// `verify --root ROOT` asks for `verify` under the root that ROOT spells.
 pub fn verify_takes_its_root()
     ensures { VerifyTakesItsRoot }
 {}

@@ -1,13 +1,13 @@
 //! Ends that aren't the office's: a writer that fails, a port in use, a clock out of range.
 
 use super::clubs::Clubs;
-use super::runs::{PASS, ROOT, told_in_file, told_in_memory};
+use super::runs::{PASS, ROOT, new_path, told_in_file, told_in_memory};
 use crate::files::Files;
 use crate::run;
+use std::fs;
 use std::io::{self, ErrorKind, Write};
 use std::net::TcpListener;
 use std::test::Fail;
-use std::{fs, process};
 
 /// Takes so many bytes, and then fails.
 #[derive(Drop)]
@@ -50,8 +50,7 @@ fn status_with_room(rt: &HostRuntime, words: &[&str], room: usize) -> Result<(u8
 // A key whose pass couldn't be printed stands, and its pass can be minted.
 #[test]
 fn a_failing_writer(rt: HostRuntime) -> Result<(), Fail> {
-    let id = process::id(rt.process());
-    let path = format!(in rt.alloc(); "/tmp/clubdesk-full-{id}")?;
+    let path = new_path(&rt, "full")?;
     let path = path.as_str();
     let words = ["clubdesk", "add-member", path, "amy", "5"];
     assert_eq!(rt; status_with_room(&rt, &words, 0)?, (7, 0));

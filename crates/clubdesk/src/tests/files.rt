@@ -1,6 +1,6 @@
 //! Runs of the program over files, one after the other, and a server between them.
 
-use super::runs::{PASS, ROOT, told_in_file};
+use super::runs::{PASS, ROOT, new_path, told_in_file};
 use crate::files::Files;
 use club_http::{Desk, Face};
 use club_values::Moment;
@@ -10,19 +10,13 @@ use sqlite::Connection;
 use std::io::{Read, Write};
 use std::net::{TcpListener, TcpStream};
 use std::test::Fail;
-use std::{fs, process};
+use std::{env, fs};
 
 // The key bob-1 has this pass under another root, by a program of another language.
 const BOB_ROOT: &str = "ffeeddccbbaa99887766554433221100";
 
 const BOB_PASS: &str =
     "AgEJY2x1Yi1kZXNrAglrZXk6Ym9iLTEAAAYg2v03bJ3dkpTK_55Gekd3fd1QAXdMJSSXQKup64pSALs";
-
-// A path of this process alone, for a file that isn't there yet.
-fn new_path(rt: &HostRuntime, name: &str) -> Result<String, Fail> {
-    let id = process::id(rt.process());
-    Ok(format!(in rt.alloc(); "/tmp/clubdesk-{name}-{id}")?)
-}
 
 // Removes a database, of which the log may be gone already.
 fn remove(rt: &HostRuntime, path: &str) -> Result<(), Fail> {
@@ -240,7 +234,8 @@ fn files_of_another_version(rt: HostRuntime) -> Result<(), Fail> {
 
 #[test]
 fn files_that_cannot_be(rt: HostRuntime) -> Result<(), Fail> {
-    for path in ["/tmp", "/nowhere/club", ":memory:"] {
+    let folder = env::temp_dir(&rt)?;
+    for path in [folder.as_str(), "/nowhere/club", ":memory:"] {
         expect(&rt, "sheet", path, "2026-05-01", "5 storage failed")?;
     }
     Ok(())

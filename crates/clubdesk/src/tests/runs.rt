@@ -5,6 +5,7 @@ use crate::files::Files;
 use crate::run;
 use desk_commands::{Databases, Fault};
 use std::test::Fail;
+use std::{env, process};
 
 /// Sixteen bytes, in hexadecimal and as they are.
 pub const ROOT: &str = "00112233445566778899aabbccddeeff";
@@ -16,6 +17,14 @@ pub const ROOT_BYTES: [u8; 16] = [
 /// The pass of the key amy-1 under that root, by a program of another language.
 pub const PASS: &str =
     "AgEJY2x1Yi1kZXNrAglrZXk6YW15LTEAAAYgDsU-vMVpq3Ex5_BQk6D5VX6TimC0IfCk7Dn6nv7TIJk";
+
+/// A path of this process alone, for a file that isn't there yet.
+pub fn new_path(rt: &HostRuntime, name: &str) -> Result<String, Fail> {
+    let folder = env::temp_dir(rt)?;
+    let folder = folder.as_str();
+    let id = process::id(rt.process());
+    Ok(format!(in rt.alloc(); "{folder}/clubdesk-{name}-{id}")?)
+}
 
 // The words of a line, behind the program's name.
 fn words_of<'a>(rt: &HostRuntime, line: &'a str) -> Result<Vec<&'a str>, Fail> {
