@@ -1,19 +1,20 @@
 -- Readings in turn, and a change after a reading.
-use Rattle.std.proofs.Common.{List, [], ◌∷◌, Result, Ok, Err, IfOk, OnErr, refl, inl, inr, sym, ◌∙◌, arith}
+use Rattle.std.proofs.Common.{◌≡◌, Result, Ok, Err, IfOk, IfErr, IsErrAnd, OnErr, subst, refl, inl, inr, sym, ◌∙◌, arith}
 use Rattle.sqlite.specs.Store.{Ghosts}
-use Rattle.sqlite.specs.Tree.{Trees}
 use Rattle.sqlite.specs.State.{State, HasCleanDisk, Survives}
 use Rattle.sqlite.specs.Held.{Held, state}
 use Rattle.sqlite.proofs.StateLemmas.{survives_then}
 use Rattle.club_core.specs.declared.change.Change.{Change}
 use Rattle.club_core.specs.After.{after}
 use Rattle.club_core.specs.Club.{Club}
-use Rattle.club_tables.specs.Tables.{Stands}
-use Rattle.club_tables.specs.Transaction.{IsKept, IsUntouched, MayCommit}
+use Rattle.club_core.specs.declared.store.StoreFault.{StoreFault}
+use Rattle.club_core.specs.declared.store.StoreFault.TheVariants.{Storage}
+use Rattle.club_tables.specs.Transaction.{IsUntouched, MayCommit}
+use Rattle.club_tables.specs.Answers.{IsAfterReadings, IsReadFault}
 use Rattle.club_tables.specs.Opening.{IsOpeningBatch}
 use Rattle.club_tables.specs.Words.{AreWordsOf}
 use Rattle.club_store.specs.Opening.{SurvivesOpening}
-use Rattle.club_tables.specs.Told.{ReadsClub, ChangesClubWhere}
+use Rattle.club_tables.specs.Told.{ReadsClub, ChangesClubWhere, IsChangeFault, IsRefused}
 
 kept_at_rest : (s : State) → IsUntouched s s
 kept_at_rest s rest clean is_open = (is_open, rest is_open, refl)
@@ -39,33 +40,30 @@ survives_same s = record {
 survives_none : (a b c : State) → Survives a b (λ _. ⊥) → Survives b c (λ _. ⊥) → Survives a c (λ _. ⊥)
 survives_none a b c p q = survives_then a b c (λ _. ⊥) (λ _. ⊥) (λ _. ⊥) (λ _ db none. none) (λ _ db none. none) p q
 
--- nothing is read
-pub read_nothing : {S A E : Type 0} (g : Ghosts S) (held : Held S) (result : Result A E) (IsTold : Club → A → Type 0)
-    → ((club : Club) → IfOk result (IsTold club)) → ReadsClub g held held result IsTold
-read_nothing g held result IsTold told = record {
-  told = λ clean club others stands. told club;
-  kept = λ clean club others stands. stands;
-  untouched = kept_at_rest (state g held);
-  survives = survives_same (state g held);
+fault_if : {A E : Type 0} (P Q : E → Type 0) (r : Result A E) → IfErr r P → ((e : E) → P e → Q e) → IfErr r Q
+fault_if P Q (Ok x) p f = tt
+fault_if P Q (Err e) p f = f e p
+
+-- readings after a reading
+after_reading : {S A : Type 0} (g : Ghosts S) (a b c : Held S) (first : Result A StoreFault) (IsFirst : Club → A → Type 0) → HasCleanDisk (state g b)
+    → ReadsClub g a b first IsFirst → IsAfterReadings g b c → IsAfterReadings g a c
+after_reading g a b c first IsFirst clean reads after = record {
+  same = untouched_then (state g a) (state g b) (state g c) (λ _. clean) reads.untouched after.same;
+  clean = after.clean;
+  counted = omega (arith, reads.survives.counts, after.counted);
 }
 
--- what is made of an answer
-pub read_as : {S A B E F : Type 0} (g : Ghosts S) (old new : Held S) (first : Result A E) (result : Result B F) (IsFirst : Club → A → Type 0) (IsTold : Club → B
-    → Type 0) → ReadsClub g old new first IsFirst
-    → ((club : Club) → IfOk first (IsFirst club) → IfOk result (IsTold club)) → ReadsClub g old new result IsTold
-read_as g old new first result IsFirst IsTold reads makes = record {
-  told = λ clean club others stands. makes club (reads.told clean club others stands);
-  kept = reads.kept;
-  untouched = reads.untouched;
-  survives = reads.survives;
-}
+later_fault : {S A : Type 0} (g : Ghosts S) (a b c : Held S) (first : Result A StoreFault) (IsFirst : Club → A → Type 0) (fault : StoreFault)
+    → HasCleanDisk (state g b) → ReadsClub g a b first IsFirst → IsReadFault g b c fault → IsReadFault g a c fault
+later_fault g a b c first IsFirst fault clean reads it =
+    record { from = it.from; after = after_reading g a b it.from first IsFirst clean reads it.after; reading = it.reading; failed = it.failed }
 
--- two readings, one after the other
-pub read_then : {S A B C E F G : Type 0} (g : Ghosts S) (a b c : Held S) (one : Result A E) (two : Result B F) (result : Result C G) (IsOne : Club → A
-    → Type 0) (IsTwo : Club → B → Type 0) (IsTold : Club → C → Type 0)
+-- two readings, one after the other; a fault of the second is passed on
+pub read_then : {S A B C : Type 0} (g : Ghosts S) (a b c : Held S) (one : Result A StoreFault) (two : Result B StoreFault) (result : Result C StoreFault)
+    (IsOne : Club → A → Type 0) (IsTwo : Club → B → Type 0) (IsTold : Club → C → Type 0)
     → ReadsClub g a b one IsOne → ReadsClub g b c two IsTwo → ((club : Club) → IfOk one (IsOne club) → IfOk two (IsTwo club) → IfOk result (IsTold club))
-    → ReadsClub g a c result IsTold
-read_then g a b c one two result IsOne IsTwo IsTold first next told =
+    → ((P : StoreFault → Type 0) → IfErr two P → IfErr result P) → ReadsClub g a c result IsTold
+read_then g a b c one two result IsOne IsTwo IsTold first next told passes =
     let earlier = λ (clean : HasCleanDisk (state g c)). let e : HasCleanDisk (state g b) = omega (arith, next.survives.clean) in e in
     record {
       told = λ clean club others stands. told club (first.told (earlier clean) club others stands)
@@ -73,58 +71,111 @@ read_then g a b c one two result IsOne IsTwo IsTold first next told =
       kept = λ clean club others stands. next.kept clean club others (first.kept (earlier clean) club others stands);
       untouched = untouched_then (state g a) (state g b) (state g c) earlier first.untouched next.untouched;
       survives = survives_none (state g a) (state g b) (state g c) first.survives next.survives;
+      fault = λ clean. passes (IsReadFault g a c) (fault_if (IsReadFault g b c) (IsReadFault g a c) two (next.fault clean) (λ fault it.
+          later_fault g a b c one IsOne fault (earlier clean) first it));
     }
+
+nothing_told : {C : Type 0} (result : Result C StoreFault) (P : StoreFault → Type 0) (Q : C → Type 0) → IsErrAnd result P → IfOk result Q
+nothing_told (Ok x) P Q is = absurd is
+nothing_told (Err fault) P Q is = tt
+
+passed_on : {C : Type 0} (fault : StoreFault) (result : Result C StoreFault) (P : StoreFault → Type 0) → IsErrAnd result (λ other. other ≡ fault) → P fault
+    → IfErr result P
+passed_on fault (Ok x) P is p = absurd is
+passed_on fault (Err other) P is p = subst P (sym is) p
+
+-- a reading that failed after another; its fault is passed on
+pub read_failed : {S A B C : Type 0} (g : Ghosts S) (a b c : Held S) (one : Result A StoreFault) (fault : StoreFault) (result : Result C StoreFault)
+    (IsOne : Club → A → Type 0) (IsTwo : Club → B → Type 0) (IsTold : Club → C → Type 0)
+    → ReadsClub g a b one IsOne → ReadsClub g b c (Err fault) IsTwo → IsErrAnd result (λ other. other ≡ fault) → ReadsClub g a c result IsTold
+read_failed g a b c one fault result IsOne IsTwo IsTold first next is =
+    read_then g a b c one (Err fault) result IsOne IsTwo IsTold first next (λ club was none. nothing_told result (λ other. other ≡ fault) (IsTold club) is)
+    (λ P p. passed_on fault result P is p)
 
 on_err : {E : Type 0} {P Q : Type 0} (r : Result (Unit {0}) E) → OnErr r P → (P → Q) → OnErr r Q
 on_err (Ok done) p f = tt
 on_err (Err e) p f = f p
 
--- a change after a reading
-pub change_after : {S A E F : Type 0} (g : Ghosts S) (a b c : Held S) (first : Result A E) (result : Result (Unit {0}) F) (IsFirst : Club → A
-    → Type 0) (IsBefore IsIt : Club → Type 0) (change : Change)
-    → ReadsClub g a b first IsFirst → ChangesClubWhere g IsIt change b c result → ((club : Club) → IsBefore club → IfOk first (IsFirst club) → IsIt club)
-    → ChangesClubWhere g IsBefore change a c result
-change_after g a b c first result IsFirst IsBefore IsIt change reads changes is =
-    let earlier : HasCleanDisk (state g b) → HasCleanDisk (state g a) = λ clean. let e : HasCleanDisk (state g a) = omega (arith, reads.survives.clean) in e in
-    let P = MayCommit g (AreWordsOf change) a in
-    record {
-      honest = λ clean. earlier (changes.honest clean);
-      changed = λ clean club others before stands fits.
-          let mid = changes.honest clean in
-          changes.changed clean club others (is club before (reads.told mid club others stands)) (reads.kept mid club others stands) fits;
-      untouched = on_err result changes.untouched (λ un. untouched_then (state g a) (state g b) (state g c) changes.honest reads.untouched un);
-      survives = survives_then (state g a) (state g b) (state g c) (λ _. ⊥) (MayCommit g (AreWordsOf change) b) P (λ _ db none. absurd none)
-          (λ clean db may. let p : P db = record {
-            from = may.from;
-            same = untouched_then (state g a) (state g b) (state g may.from) (λ _. changes.honest clean) reads.untouched may.same;
-            clean = may.clean;
-            words = may.words;
-            are = may.are;
-            db = may.db;
-            ran = may.ran;
-            left = may.left;
-          } in p)
-          reads.survives changes.survives;
-    }
+module _ {S A : Type 0} (g : Ghosts S) (a b : Held S) (first : Result A StoreFault) (IsFirst : Club → A → Type 0) (reads : ReadsClub g a b first IsFirst) where
+  change_fault : (c : Held S) (IsBefore IsIt : Club → Type 0) (change : Change) (fault : StoreFault) → HasCleanDisk (state g b)
+      → ((club : Club) → IsBefore club → IfOk first (IsFirst club) → IsIt club)
+      → IsChangeFault g IsIt change b c fault → IsChangeFault g IsBefore change a c fault
+  change_fault c IsBefore IsIt change fault clean is (inl read) = inl (later_fault g a b c first IsFirst fault clean reads read)
+  change_fault c IsBefore IsIt change fault clean is (inr (inl run)) = inr (inl (record {
+    from = run.from;
+    after = after_reading g a b run.from first IsFirst clean reads run.after;
+    words = run.words;
+    are = run.are;
+    failed = run.failed;
+  }))
+  change_fault c IsBefore IsIt change fault clean is (inr (inr refusal)) = inr (inr (record {
+    refused = λ club others before stands. refusal.refused club others (is club before (reads.told clean club others stands))
+        (reads.kept clean club others stands);
+    told = refusal.told;
+  }))
 
--- a refusal after a reading
-pub refuse_after : {S A E F : Type 0} (g : Ghosts S) (a b : Held S) (first : Result A E) (fault : F) (IsFirst : Club → A → Type 0) (IsIt : Club
-    → Type 0) (change : Change)
-    → ReadsClub g a b first IsFirst → ChangesClubWhere g IsIt change a b (Err fault)
-refuse_after g a b first fault IsFirst IsIt change reads = record {
-  honest = λ clean. let e : HasCleanDisk (state g a) = omega (arith, reads.survives.clean) in e;
-  changed = λ clean club others it stands fits.
-      let kept = reads.kept clean club others stands in
+  -- a change after a reading
+  pub change_after : (c : Held S) (result : Result (Unit {0}) StoreFault) (IsBefore IsIt : Club → Type 0) (change : Change)
+      → ChangesClubWhere g IsIt change b c result → ((club : Club) → IsBefore club → IfOk first (IsFirst club) → IsIt club)
+      → ChangesClubWhere g IsBefore change a c result
+  change_after c result IsBefore IsIt change changes is =
+      let earlier : HasCleanDisk (state g b) → HasCleanDisk (state g a) = λ clean. let e : HasCleanDisk (state g a) =
+      omega (arith, reads.survives.clean) in e in
+      let P = MayCommit g (AreWordsOf change) a in
       record {
-        held = kept.held;
-        settled = kept.settled;
-        left = λ clean trees may. elim (kept.left clean trees may) [ inl here ↦ inl here | inr there ↦ inr (inr there) ];
-      };
-  untouched = reads.untouched;
-  survives = survives_then (state g a) (state g b) (state g b) (λ _. ⊥) (λ _. ⊥) (MayCommit g (AreWordsOf change) a) (λ _ db none. absurd none) (λ _ db none.
-      absurd none)
-      reads.survives (survives_same (state g b));
-}
+        honest = λ clean. earlier (changes.honest clean);
+        changed = λ clean club others before stands fits.
+            let mid = changes.honest clean in
+            changes.changed clean club others (is club before (reads.told mid club others stands)) (reads.kept mid club others stands) fits;
+        untouched = on_err result changes.untouched (λ un. untouched_then (state g a) (state g b) (state g c) changes.honest reads.untouched un);
+        survives = survives_then (state g a) (state g b) (state g c) (λ _. ⊥) (MayCommit g (AreWordsOf change) b) P (λ _ db none. absurd none)
+            (λ clean db may. let p : P db = record {
+              from = may.from;
+              same = untouched_then (state g a) (state g b) (state g may.from) (λ _. changes.honest clean) reads.untouched may.same;
+              clean = may.clean;
+              words = may.words;
+              are = may.are;
+              db = may.db;
+              ran = may.ran;
+              left = may.left;
+            } in p)
+            reads.survives changes.survives;
+        fault = λ clean. fault_if (IsChangeFault g IsIt change b c) (IsChangeFault g IsBefore change a c) result (changes.fault clean) (λ fault it.
+            change_fault c IsBefore IsIt change fault (changes.honest clean) is it);
+      }
+
+  -- a refusal after a reading
+  refuse_after : (fault : StoreFault) (IsIt : Club → Type 0) (change : Change) → (HasCleanDisk (state g b) → IsChangeFault g IsIt change a b fault)
+      → ChangesClubWhere g IsIt change a b (Err fault)
+  refuse_after fault IsIt change fails = record {
+    honest = λ clean. let e : HasCleanDisk (state g a) = omega (arith, reads.survives.clean) in e;
+    changed = λ clean club others it stands fits.
+        let kept = reads.kept clean club others stands in
+        record {
+          held = kept.held;
+          settled = kept.settled;
+          left = λ clean trees may. elim (kept.left clean trees may) [ inl here ↦ inl here | inr there ↦ inr (inr there) ];
+        };
+    untouched = reads.untouched;
+    survives = survives_then (state g a) (state g b) (state g b) (λ _. ⊥) (λ _. ⊥) (MayCommit g (AreWordsOf change) a) (λ _ db none. absurd none) (λ _ db none.
+        absurd none)
+        reads.survives (survives_same (state g b));
+    fault = fails;
+  }
+
+  -- where the reading failed
+  pub refuse_unread : (fault : StoreFault) (IsIt : Club → Type 0) (change : Change) → first ≡ Err fault → ChangesClubWhere g IsIt change a b (Err fault)
+  refuse_unread fault IsIt change is =
+      refuse_after fault IsIt change (λ clean. inl (let failed = rw is at (reads.fault clean) in failed))
+
+  -- where it told that the change is none to be made
+  pub refuse_told : (IsIt : Club → Type 0) (change : Change) → ((club : Club) → IsIt club → IfOk first (IsFirst club) → IsRefused change club)
+      → ChangesClubWhere g IsIt change a b (Err Storage)
+  refuse_told IsIt change refused =
+      refuse_after Storage IsIt change (λ clean. inr (inr (record {
+        refused = λ club others it stands. refused club it (reads.told clean club others stands);
+        told = refl;
+      })))
 
 -- nothing is opened
 pub opens_nothing : {S : Type 0} (g : Ghosts S) (held : Held S) → SurvivesOpening g held held

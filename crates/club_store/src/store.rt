@@ -39,8 +39,8 @@ ghost use Rattle.sqlite.specs.View.{IsClean};
 ghost use Rattle.sqlite.specs.Files.{file_state};
 ghost use Rattle.sqlite.specs.WalFiles.{image_at};
 ghost use Rattle.club_store.specs.Crash.{LeavesOneOf, IsOpenedOn, OneStands};
-ghost use Rattle.club_store.specs.Opening.{OpensFrom, SurvivesOpening};
-ghost use Rattle.club_tables.specs.Opening.{IsAccepted};
+ghost use Rattle.club_store.specs.Opening.{FailsFrom, IsMemoryFault, OpensFrom, SurvivesOpening};
+ghost use Rattle.club_tables.specs.Opening.{IsAccepted, IsOpeningFault};
 ghost use Rattle.club_tables.specs.Tables.{Stands, IsFound};
 ghost use Rattle.club_tables.specs.Told.{
   found_in,
@@ -91,7 +91,8 @@ impl<S: Alter> Model for Store<S> {
 impl Store<MemStore> {
     /// A new database in memory, with the tables of an empty club.
     pub fn open_in_memory(alloc: Global) -> Result<Store<MemStore>, StoreFault>
-        ensures { IfOk result (λ store. Stands (state over_memory store) empty_club []) }
+        ensures opened { IfOk result (λ store. Stands (state over_memory store) empty_club []) }
+        ensures fault { IfErr result IsMemoryFault }
     {
         let connection = match Connection::open_in_memory(alloc) {
             Ok(connection) => connection,
@@ -99,7 +100,7 @@ impl Store<MemStore> {
         };
         match Store::adopt(alloc, connection) {
             Ok(store) => Ok(store),
-            Err((fault, _)) => Err(fault),
+            Err((fault, _connection)) => Err(fault),
         }
     }
 }
@@ -116,14 +117,15 @@ impl<Q: Start> Store<FileStore<FileFrom<Q>>> {
         ensures no_file { path.now ≡ codes ":memory:" → result ≡ Err StoreFault.Storage }
         ensures opened { IfOk result
             (λ store. HasCleanDisk (file_state store) → OpensFrom (image_at Q.Start) store) }
+        ensures fault { FailsFrom (image_at Q.Start) result }
     {
         let connection = match Connection::open_from(rt, path, false, start) {
             Ok(connection) => connection,
-            Err((error, _)) => return Err(fault_of(error)),
+            Err((error, _left)) => return Err(fault_of(error)),
         };
         match Store::adopt(rt.alloc(), connection) {
             Ok(store) => Ok(store),
-            Err((fault, _)) => Err(fault),
+            Err((fault, _connection)) => Err(fault),
         }
     }
 }
@@ -153,6 +155,9 @@ impl<S: Alter + Drop> Store<S> {
             (found_in S.Store) connection e.1) }
         ensures untouched { connection.in_transaction ≡ false → IfErr result
             (λ e. IsKept (state S.Store connection) (state S.Store e.1)) }
+        ensures fault { connection.in_transaction ≡ false → IfErr result
+            (λ e. HasCleanDisk (state S.Store e.1) →
+            IsOpeningFault S.Store connection e.1 e.0) }
         ensures survives { MatchResult result (SurvivesOpening S.Store connection)
             (λ e. SurvivesOpening S.Store connection e.1) }
         ensures again { IfOk result (λ store. HasCleanDisk (state S.Store store) →

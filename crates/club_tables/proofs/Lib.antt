@@ -39,4 +39,5 @@ pub mod MigrateLemmas
 pub mod OlderLemmas
 pub mod FindLemmas
 pub mod ReadLemmas
+pub mod FirstLemmas
 pub mod SurviveLemmas

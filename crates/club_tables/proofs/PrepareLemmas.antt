@@ -1,12 +1,13 @@
 -- Statements that are prepared in turn.
-use Rattle.std.proofs.Common.{◌≡◌, ℕ, ◌+◌, ◌<◌, ◌≤◌, List, [], ◌∷◌, ◌++◌, length, map, take, get_or, All, Bor, refl, sym, subst, ◌∙◌, add-one, arith}
+use Rattle.std.proofs.Common.{◌≡◌, ℕ, ◌+◌, ◌<◌, ◌≤◌, List, [], ◌∷◌, ◌++◌, length, map, take, get_or, zero, suc, All}
+use Rattle.std.proofs.Common.{Bor, inl, inr, refl, sym, subst, ◌∙◌, add-one, arith}
 use Rattle.std.proofs.Math.Seq.{take-suc, take_all}
 use Rattle.std.proofs.lemmas.List.{map-append}
 use Rattle.std.proofs.lemmas.List.Elements.{All-push}
 use Rattle.sqlite.specs.Effect.{Database}
 use Rattle.sqlite.specs.State.{State, HasCleanDisk}
 use Rattle.club_tables.specs.Transaction.{IsKept, IsAtRest}
-use Rattle.club_tables.specs.Opening.{IsUnderstood}
+use Rattle.club_tables.specs.Opening.{IsUnderstood, OneOf}
 
 abbrev pub text_at : Bor (List ℕ) → List ℕ
 text_at text = text.now
@@ -19,6 +20,19 @@ kept_then a b c earlier first next clean is_open =
     let after = next clean is_open in
     let before = first (earlier clean) after.0 in
     (before.0, after.1 ∙ before.2, after.2 ∙ before.2)
+
+-- of texts, that at a place
+pub one_at : (P : List ℕ → Type 0) (texts : List (Bor (List ℕ))) (at : ℕ) (d : Bor (List ℕ)) → at < length texts → P (get_or texts at d).now
+    → OneOf P (map text_at texts)
+one_at P [] at d within here = absurd (omega arith)
+one_at P (text ∷ texts) zero d within here = inl here
+one_at P (text ∷ texts) (suc at) d within here = inr (one_at P texts at d (omega arith) here)
+
+-- of more texts
+pub one_more : (P : List ℕ → Type 0) (texts others : List (List ℕ)) → OneOf P texts → OneOf P (texts ++ others)
+one_more P [] others one = absurd one
+one_more P (text ∷ texts) others (inl here) = inl here
+one_more P (text ∷ texts) others (inr there) = inr (one_more P texts others there)
 
 module _ (db : Database) (texts : List (Bor (List ℕ))) where
   pub none_understood : All (IsUnderstood db.schema) (map text_at (take 0 texts))

@@ -1,33 +1,69 @@
--- What makes a reading.
-use Rattle.std.proofs.Common.{List, Result, IfOk, sym, ◌∙◌, arith}
+-- What makes a reading, and which fault it has.
+use Rattle.std.proofs.Common.{List, Result, Ok, Err, IfOk, IfErr, inl, inr, arith}
+use Rattle.sqlite.specs.Order.{Row}
 use Rattle.sqlite.specs.Store.{Ghosts}
-use Rattle.sqlite.specs.State.{State, HasCleanDisk, Survives}
+use Rattle.sqlite.specs.State.{HasCleanDisk, Survives}
 use Rattle.sqlite.specs.Held.{Held, state}
+use Rattle.club_core.specs.declared.store.StoreFault.{StoreFault}
 use Rattle.club_core.specs.Club.{Club}
+use Rattle.club_tables.specs.Answers.{Answers, FailsAtReading, FailsToRead, IsAfterReadings, IsReadFault, Reading, CanRead, words_for}
 use Rattle.club_tables.specs.Tables.{Stands}
 use Rattle.club_tables.specs.Told.{ReadsClub}
-use Rattle.club_tables.specs.Transaction.{IsKept}
-use Rattle.club_tables.proofs.StandLemmas.{keeps_standing}
+use Rattle.club_tables.specs.Transaction.{Asked, IsKept, Words}
+use Rattle.club_tables.proofs.StandLemmas.{keeps_standing, told_if}
+use Rattle.club_tables.proofs.SurviveLemmas.{kept_at_rest}
 
--- a statement that keeps what was committed
-pub read_by : {S A E : Type 0} (g : Ghosts S) (old new : Held S) (result : Result A E) (IsTold : Club → A → Type 0) → IsKept (state g old) (state g new)
-    → Survives (state g old) (state g new) (λ _. ⊥)
-    → (HasCleanDisk (state g new) → HasCleanDisk (state g old) → (club : Club) (others : List Club) → Stands (state g old) club others
-    → IfOk result (IsTold club)) → ReadsClub g old new result IsTold
-read_by g old new result IsTold kept quiet told = record {
-  told = λ clean. let earlier : HasCleanDisk (state g old) = omega (arith, quiet.clean) in told clean earlier;
-  kept = λ clean. keeps_standing g old new kept quiet;
-  untouched = λ rest. kept;
-  survives = quiet;
-}
+pub fault_if : {A E : Type 0} (P Q : E → Type 0) (r : Result A E) → IfErr r P → ((e : E) → P e → Q e) → IfErr r Q
+fault_if P Q (Ok x) p f = tt
+fault_if P Q (Err e) p f = f e p
 
--- what is made of its answer
-pub read_as : {S A B E F : Type 0} (g : Ghosts S) (old new : Held S) (first : Result A E) (result : Result B F) (IsFirst : Club → A → Type 0) (IsTold : Club → B
-    → Type 0) → ReadsClub g old new first IsFirst
-    → ((club : Club) → IfOk first (IsFirst club) → IfOk result (IsTold club)) → ReadsClub g old new result IsTold
-read_as g old new first result IsFirst IsTold reads makes = record {
-  told = λ clean club others stands. makes club (reads.told clean club others stands);
-  kept = reads.kept;
-  untouched = reads.untouched;
-  survives = reads.survives;
-}
+-- no reading before
+pub at_once : {S : Type 0} (g : Ghosts S) (held : Held S) → HasCleanDisk (state g held) → IsAfterReadings g held held
+at_once g held clean = record { same = kept_at_rest (state g held); clean = clean; counted = omega arith }
+
+-- fewer rows tell something
+pub fewer_read : {S : Type 0} (g : Ghosts S) (words : Words) (P Q : List Row → Type 0) (old new : Held S) (fault : StoreFault)
+    → ((rows : List Row) → Q rows → P rows) → FailsToRead g words P old new fault → FailsToRead g words Q old new fault
+fewer_read g words P Q old new fault through (inl failed) = inl failed
+fewer_read g words P Q old new fault through (inr it) =
+    inr (record { rows = it.rows; asked = it.asked; unread = λ q. it.unread (through it.rows q); told = it.told })
+
+-- the fault of one reading
+pub one_failed : {S : Type 0} (g : Ghosts S) (reading : Reading) (old new : Held S) (fault : StoreFault) → HasCleanDisk (state g old)
+    → FailsAtReading g reading old new fault → IsReadFault g old new fault
+one_failed g reading old new fault clean failed = record { from = old; after = at_once g old clean; reading = reading; failed = failed }
+
+-- an answer that is told of whichever club stood, by a statement that keeps what was committed
+pub read_by : {S A : Type 0} (g : Ghosts S) (reading : Reading) (IsAnswer : List Row → A → Type 0) (old new : Held S) (result : Result A StoreFault)
+    (IsTold : Club → A → Type 0) → IsKept (state g old) (state g new) → Survives (state g old) (state g new) (λ _. ⊥)
+    → (HasCleanDisk (state g new) → IfOk result (λ answer. (rows : List Row)
+    × Asked g (words_for reading).0 (words_for reading).1 old rows × IsAnswer rows answer))
+    → (HasCleanDisk (state g new) → IfErr result (FailsAtReading g reading old new))
+    → (HasCleanDisk (state g old) → (club : Club) (others : List Club) → Stands (state g old) club others → (rows : List Row)
+    → Asked g (words_for reading).0 (words_for reading).1 old rows → (answer : A) → IsAnswer rows answer → IsTold club answer)
+    → ReadsClub g old new result IsTold
+read_by {A} g reading IsAnswer old new result IsTold kept quiet gives fails told =
+    let earlier = λ (clean : HasCleanDisk (state g new)). let e : HasCleanDisk (state g old) = omega (arith, quiet.clean) in e in
+    let Given = λ (answer : A). (rows : List Row) × Asked g (words_for reading).0 (words_for reading).1 old rows × IsAnswer rows answer in
+    record {
+      told = λ clean club others stands. told_if Given (IsTold club) result (gives clean) (λ answer given.
+          told (earlier clean) club others stands given.0 given.1 answer given.2);
+      kept = λ clean. keeps_standing g old new kept quiet;
+      untouched = λ rest. kept;
+      survives = quiet;
+      fault = λ clean. fault_if (FailsAtReading g reading old new) (IsReadFault g old new) result (fails clean) (λ fault failed.
+          one_failed g reading old new fault (earlier clean) failed);
+    }
+
+-- the same of an answer by its rows
+pub read_answer : {S A : Type 0} (g : Ghosts S) (reading : Reading) (IsAnswer : List Row → A → Type 0) (old new : Held S) (result : Result A StoreFault)
+    (IsTold : Club → A → Type 0) → IsKept (state g old) (state g new) → Survives (state g old) (state g new) (λ _. ⊥)
+    → Answers g (words_for reading) IsAnswer old new result → ((rows : List Row) → CanRead reading rows → (answer : A) × IsAnswer rows answer)
+    → (HasCleanDisk (state g old) → (club : Club) (others : List Club) → Stands (state g old) club others → (rows : List Row)
+    → Asked g (words_for reading).0 (words_for reading).1 old rows → (answer : A) → IsAnswer rows answer → IsTold club answer)
+    → ReadsClub g old new result IsTold
+read_answer {A} g reading IsAnswer old new result IsTold kept quiet answers can told =
+    let Unanswered = λ (rows : List Row). (answer : A) × IsAnswer rows answer in
+    read_by g reading IsAnswer old new result IsTold kept quiet answers.told (λ clean.
+    fault_if (FailsToRead g (words_for reading) Unanswered old new) (FailsAtReading g reading old new) result (answers.failed clean) (λ fault failed.
+    inl (fewer_read g (words_for reading) Unanswered (CanRead reading) old new fault can failed))) told

@@ -1,5 +1,5 @@
 -- What is taken of a slot, as it is read from its row.
-use Rattle.std.proofs.Common.{◌≡◌, ◌≤◌, inl, inr, Option, Some, List, [], ◌∷◌, sym, subst, ◌∙◌}
+use Rattle.std.proofs.Common.{◌≡◌, inl, inr, Option, Some, None, List, [], ◌∷◌, refl, sym, subst, ◌∙◌}
 use Rattle.sqlite.specs.Order.{Row}
 use Rattle.club_values.specs.declared.slot.Slot.{Slot}
 use Rattle.club_values.specs.Reading.{Reads}
@@ -7,6 +7,7 @@ use Rattle.club_rows.specs.Columns.{truth}
 use Rattle.club_core.specs.declared.slot_use.SlotUse.{SlotUse}
 use Rattle.club_core.specs.Club.{Club}
 use Rattle.club_core.specs.Basis.{slot_use}
+use Rattle.club_tables.specs.Answers.{IsUse, IsUseIn}
 use Rattle.club_tables.specs.Columns.{HasValues, use_values}
 use Rattle.club_tables.specs.Stored.{unused}
 use Rattle.club_tables.specs.Use.{ShowsUse}
@@ -20,13 +21,19 @@ one_use a b h =
     let closed = truths b.closed a.closed flags in
     λ i. record { taken = taken i; closed = closed i }
 
-pub use_is : (club : Club) (slot : Slot) (rows : List Row) (read : Option SlotUse) → (rows ≡ [] → read ≡ Some unused)
-    → ((row : Row) → rows ≡ row ∷ [] → Reads (λ (found : SlotUse). (found.taken ≤ 50) × HasValues row (use_values found)) read)
-    → ShowsUse club slot rows → (found : SlotUse) → read ≡ Some found → found ≡ slot_use club slot
-use_is club slot rows read none one (inl there) found is =
-    let values : Reads (λ (found : SlotUse). (found.taken ≤ 50) × HasValues (use_values (slot_use club slot)) (use_values found)) (Some found) =
-    subst (Reads (λ (found : SlotUse). (found.taken ≤ 50) × HasValues (use_values (slot_use club slot)) (use_values found))) is
-    (one (use_values (slot_use club slot)) there) in
-    one_use (slot_use club slot) found values.1
-use_is club slot rows read none one (inr absent) found is = let e : Some found ≡ Some unused = sym is ∙ none absent.0 in let same : found ≡ unused = cc in
-    same ∙ sym absent.1
+-- by rows that show what is taken of a slot
+pub use_is : (club : Club) (slot : Slot) (rows : List Row) (found : SlotUse) → ShowsUse club slot rows → IsUse rows found → found ≡ slot_use club slot
+use_is club slot rows found (inl there) is =
+    let read : IsUse (use_values (slot_use club slot) ∷ []) found = subst (λ rs. IsUse rs found) there is in
+    one_use (slot_use club slot) found read.1
+use_is club slot rows found (inr absent) is =
+    let none : IsUse [] found = subst (λ rs. IsUse rs found) absent.0 is in
+    none ∙ sym absent.1
+
+-- what is read of rows, each count of them
+pub use_read : (rows : List Row) (read : Option SlotUse) → (rows ≡ [] → read ≡ Some unused)
+    → ((row : Row) → rows ≡ row ∷ [] → Reads (IsUseIn row) read)
+    → ((row other : Row) (more : List Row) → rows ≡ row ∷ other ∷ more → read ≡ None) → Reads (IsUse rows) read
+use_read [] read none one more = subst (Reads (IsUse [])) (sym (none refl)) refl
+use_read (row ∷ []) read none one more = one row refl
+use_read (row ∷ other ∷ rows) read none one more = subst (Reads (IsUse (row ∷ other ∷ rows))) (sym (more row other rows refl)) (λ found h. h)

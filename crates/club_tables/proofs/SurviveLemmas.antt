@@ -7,6 +7,7 @@ use Rattle.sqlite.specs.State.{State, HasCleanDisk, Survives}
 use Rattle.sqlite.specs.Held.{Held, state}
 use Rattle.sqlite.proofs.StateLemmas.{survives_then}
 use Rattle.club_tables.specs.Transaction.{Words, Ran, IsUntouched, MayCommit}
+use Rattle.club_tables.specs.Answers.{IsAfterReadings}
 
 survives_as : (old new : State) (P Q : Trees → Type 0) → Survives old new P → (HasCleanDisk new → (trees : Trees) → P trees → Q trees) → Survives old new Q
 survives_as old new P Q s leaves = record {
@@ -68,3 +69,16 @@ module _ {S : Type 0} (g : Ghosts S) where
         ran = may.ran;
         left = may.left;
       } in p) first next
+
+  -- readings after readings
+  pub after_then : (a b c : Held S) → IsAfterReadings g a b → IsAfterReadings g b c → IsAfterReadings g a c
+  after_then a b c first next = record {
+    same = untouched_then (state g a) (state g b) (state g c) (λ _. first.clean) first.same next.same;
+    clean = next.clean;
+    counted = omega (arith, first.counted, next.counted);
+  }
+
+  -- a reading
+  pub after_one : (old new : Held S) → HasCleanDisk (state g new) → IsUntouched (state g old) (state g new) → Survives (state g old) (state g new) (λ _. ⊥)
+      → IsAfterReadings g old new
+  after_one old new clean same survives = record { same = same; clean = clean; counted = survives.counts }

@@ -1,12 +1,16 @@
 -- Statements that are run in turn.
-use Rattle.std.proofs.Common.{◌≡◌, ℕ, ◌+◌, ◌<◌, ◌≤◌, List, [], ◌∷◌, ◌++◌, length, map, take, get_or, Ok, refl, sym, subst, add-one}
+use Rattle.std.proofs.Common.{◌≡◌, ℕ, ◌+◌, ◌<◌, ◌≤◌, List, [], ◌∷◌, ◌++◌, length, map, take, get_or, zero, suc, Ok, Err}
+use Rattle.std.proofs.Common.{inl, inr, refl, sym, subst, add-one, arith}
 use Rattle.std.proofs.Math.Seq.{take-suc, take_all}
 use Rattle.std.proofs.lemmas.List.{map-append}
 use Rattle.sqlite.specs.Store.{Ghosts}
-use Rattle.sqlite.specs.State.{Executes}
+use Rattle.sqlite.specs.State.{Executes, ExecutesInside}
+use Rattle.sqlite.specs.Steps.{FailsToCommit}
 use Rattle.sqlite.specs.Held.{Held, state}
+use Rattle.sqlite.specs.declared.error.Error.{Error}
 use Rattle.club_tables.specs.declared.transaction.Statement.{Statement}
 use Rattle.club_tables.specs.Transaction.{Words, words_of, RanInTurn}
+use Rattle.club_tables.specs.Fault.{FailsInTurn}
 
 module _ {S : Type 0} (g : Ghosts S) where
   -- one statement more
@@ -28,3 +32,20 @@ module _ {S : Type 0} (g : Ghosts S) where
   pub turn_all : (statements : List Statement) (at : ℕ) (a b : Held S) → length statements ≤ at → RanInTurn g (map words_of (take at statements)) a b
       → RanInTurn g (map words_of statements) a b
   turn_all statements at a b past before = subst (λ all. RanInTurn g (map words_of all) a b) (take_all at statements past) before
+
+  -- after those before it, a statement is refused
+  pub fails_at : (statements : List Statement) (at : ℕ) (d : Statement) (a b c : Held S) (error : Error) → at < length statements
+      → RanInTurn g (map words_of (take at statements)) a b
+      → ExecutesInside 0 (words_of (get_or statements at d)).0 (words_of (get_or statements at d)).1 (state g b) (state g c) (Err error)
+      → FailsInTurn g (map words_of statements) a c error
+  fails_at [] at d a b c error within before one = absurd (omega arith)
+  fails_at (s ∷ statements) zero d a b c error within before one =
+      inl (subst (λ h. ExecutesInside 0 (words_of s).0 (words_of s).1 (state g h) (state g c) (Err error)) before one)
+  fails_at (s ∷ statements) (suc at) d a b c error within before one =
+      inr (before.0, before.1, before.2, fails_at statements at d before.0 b c error (omega arith) before.3 one)
+
+  -- after all of them, their commit is
+  pub fails_last : (all : List Words) (a b c : Held S) (error : Error) → RanInTurn g all a b → FailsToCommit (state g b) (state g c) error
+      → FailsInTurn g all a c error
+  fails_last [] a b c error before last = subst (λ h. FailsToCommit (state g h) (state g c) error) before last
+  fails_last (words ∷ all) a b c error before last = inr (before.0, before.1, before.2, fails_last all before.0 b c error before.3 last)

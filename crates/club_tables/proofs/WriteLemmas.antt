@@ -1,5 +1,5 @@
 -- What a statement that writes leaves standing, made or refused.
-use Rattle.std.proofs.Common.{◌≡◌, ◌<◌, length, List, [], ◌∷◌, IsTrue, Result, Ok, Err, OnOk, OnErr, inl, inr, sym, subst, ◌∙◌, arith}
+use Rattle.std.proofs.Common.{◌≡◌, ◌<◌, length, List, [], ◌∷◌, IsTrue, Result, Ok, Err, IfErr, OnOk, OnErr, inl, inr, refl, sym, subst, ◌∙◌, arith}
 use Rattle.std.specs.Prelude.{MatchResult}
 use Rattle.sqlite.specs.Store.{Ghosts}
 use Rattle.sqlite.specs.Effect.{Database}
@@ -9,12 +9,16 @@ use Rattle.club_core.specs.declared.change.Change.{Change}
 use Rattle.club_core.specs.After.{after}
 use Rattle.club_core.specs.Store.{Fits}
 use Rattle.club_core.specs.Club.{Club}
+use Rattle.club_core.specs.declared.store.StoreFault.{StoreFault}
+use Rattle.club_core.specs.declared.store.StoreFault.TheVariants.{Storage}
 use Rattle.club_tables.specs.Tables.{Tables, Stands}
-use Rattle.club_tables.specs.Told.{ChangesClubWhere}
-use Rattle.club_tables.specs.Transaction.{Words, Ran, IsKept, Commits}
+use Rattle.club_tables.specs.Told.{ChangesClubWhere, IsChangeFault, IsRefused}
+use Rattle.club_tables.specs.Transaction.{Words, Ran, IsKept}
+use Rattle.club_tables.specs.Fault.{Commits, FailsToRun}
 use Rattle.club_tables.specs.Words.{AreWordsOf}
 use Rattle.club_tables.proofs.OpenLemmas.{IsSettled, settles}
 use Rattle.club_tables.proofs.StandLemmas.{survives_same}
+use Rattle.club_tables.proofs.ReadLemmas.{at_once, fault_if}
 use Rattle.club_tables.proofs.SurviveLemmas.{kept_at_rest, may_commit, commits_nothing}
 
 module _ {S : Type 0} (g : Ghosts S) (all : List Words) (some : 0 < length all) (old new : Held S)
@@ -51,28 +55,34 @@ on_err : {E : Type 0} {P Q : Type 0} (r : Result (Unit {0}) E) → OnErr r P →
 on_err (Ok done) p f = tt
 on_err (Err e) p f = f p
 
-pub commits_of : {S E : Type 0} (g : Ghosts S) (all : List Words) (old new : Held S) (r : Result (Unit {0}) E)
+pub commits_of : {S : Type 0} (g : Ghosts S) (all : List Words) (old new : Held S) (r : Result (Unit {0}) StoreFault)
     → (HasCleanDisk (state g new) → OnOk r (IsTrue (state g new).is_open × Ran g all old (state g new).committed
     × ((state g new).now ≡ (state g new).committed))) → OnErr r (IsKept (state g old) (state g new))
-    → Survives (state g old) (state g new) (λ trees. (db : Database) × Ran g all old db × (trees ≡ db.trees)) → Commits g all old new r
-commits_of g all old new r ran kept survives = record { ran = ran; kept = kept; survives = survives }
+    → Survives (state g old) (state g new) (λ trees. (db : Database) × Ran g all old db × (trees ≡ db.trees))
+    → (HasCleanDisk (state g new) → IfErr r (FailsToRun g all old new)) → Commits g all old new r
+commits_of g all old new r ran kept survives fault = record { ran = ran; kept = kept; survives = survives; fault = fault }
 
 -- statements that were run in a transaction of their own make the change
-pub makes : {S E : Type 0} (g : Ghosts S) (all : List Words) → 0 < length all → (old new : Held S) (r : Result (Unit {0}) E) → Commits g all old new r
+pub makes : {S : Type 0} (g : Ghosts S) (all : List Words) → 0 < length all → (old new : Held S) (r : Result (Unit {0}) StoreFault) → Commits g all old new r
     → IsSettled (state g new) → (IsIt : Club → Type 0) (change : Change) → AreWordsOf change all
     → ((db : Database) (club : Club) → IsIt club → Tables (state g old).now club → Fits change club → Ran g all old db → Tables db (after change club))
     → ChangesClubWhere g IsIt change old new r
-makes g all some old new r commits settled IsIt change are made = record {
-  honest = λ clean. let earlier : HasCleanDisk (state g old) = omega (arith, commits.survives.clean) in earlier;
-  changed = λ clean club others it stands fits. wrote g all some old new commits.survives clean club (after change club) others stands (λ db tables ran.
-      made db club it tables fits ran) r (commits.ran clean) commits.kept settled;
-  untouched = on_err r commits.kept (λ kept rest. kept);
-  survives = may_commit g all (AreWordsOf change) are old new commits.survives;
-}
+makes g all some old new r commits settled IsIt change are made =
+    let earlier = λ (clean : HasCleanDisk (state g new)). let e : HasCleanDisk (state g old) = omega (arith, commits.survives.clean) in e in
+    record {
+      honest = earlier;
+      changed = λ clean club others it stands fits. wrote g all some old new commits.survives clean club (after change club) others stands (λ db tables ran.
+          made db club it tables fits ran) r (commits.ran clean) commits.kept settled;
+      untouched = on_err r commits.kept (λ kept rest. kept);
+      survives = may_commit g all (AreWordsOf change) are old new commits.survives;
+      fault = λ clean. fault_if (FailsToRun g all old new) (IsChangeFault g IsIt change old new) r (commits.fault clean) (λ fault failed.
+          inr (inl (record { from = old; after = at_once g old (earlier clean); words = all; are = are; failed = failed })));
+    }
 
 -- a refusal before the first statement
-pub unmade : {S E : Type 0} (g : Ghosts S) (held : Held S) (IsIt : Club → Type 0) (change : Change) (e : E) → ChangesClubWhere g IsIt change held held (Err e)
-unmade g held IsIt change e = record {
+pub unmade : {S : Type 0} (g : Ghosts S) (held : Held S) (IsIt : Club → Type 0) (change : Change) → ((club : Club) → IsIt club → IsRefused change club)
+    → ChangesClubWhere g IsIt change held held (Err Storage)
+unmade g held IsIt change refused = record {
   honest = λ clean. clean;
   changed = λ clean club others it stands fits. record {
     held = stands.held;
@@ -81,4 +91,5 @@ unmade g held IsIt change e = record {
   };
   untouched = kept_at_rest (state g held);
   survives = commits_nothing g (AreWordsOf change) held held (survives_same (state g held));
+  fault = λ clean. inr (inr (record { refused = λ club others it stands. refused club it; told = refl }));
 }

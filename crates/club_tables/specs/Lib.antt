@@ -5,6 +5,8 @@ pub mod Tables
 pub mod Words
 pub mod Told
 pub mod Transaction
+pub mod Fault
+pub mod Answers
 pub mod Statements
 pub mod Opening
 pub mod Sheet

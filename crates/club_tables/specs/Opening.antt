@@ -1,5 +1,5 @@
 -- What an opening finds, what it takes for the tables of a club, and what it makes (ours).
-use Rattle.std.specs.Prelude.{◌≡◌, ◌⊎◌, ℕ, List, [], ◌∷◌, map, All, Ok, IsTrue, is_ok, false, codes}
+use Rattle.std.specs.Prelude.{◌≡◌, ◌≢◌, ◌⊎◌, ℕ, List, [], ◌∷◌, map, All, Ok, IsTrue, is_ok, false, codes}
 use Rattle.sqlite.specs.Order.{Row}
 use Rattle.sqlite.specs.Schema.{Schema}
 use Rattle.sqlite.specs.Change.{is_used}
@@ -12,7 +12,11 @@ use Rattle.sqlite_resolve.specs.declared.compiled.Compiled.{Compiled}
 use Rattle.club_tables.specs.declared.texts.TheConstants.{VERSION, KEY, MEMBER, FACILITY, SLOT, BOOKING, OLDER_ROOT, MAKE_DESK, MAKE_MEMBERS, MAKE_FACILITIES}
 use Rattle.club_tables.specs.declared.texts.TheConstants.{MAKE_KEYS, MAKE_SLOTS, MAKE_BOOKINGS, MAKE_KEYS_BY_MEMBER, MAKE_OLD_ROOTS, ADD_VERSION, SET_VERSION}
 use Rattle.club_tables.specs.Columns.{HasValues, version_values}
-use Rattle.club_tables.specs.Transaction.{Words, Ran}
+use Rattle.club_core.specs.declared.store.StoreFault.{StoreFault}
+use Rattle.club_core.specs.declared.store.StoreFault.TheVariants.{Memory, Storage}
+use Rattle.club_tables.specs.Transaction.{Words, Asked, Ran}
+use Rattle.club_tables.specs.Fault.{FailsToAsk, FailsToPrepare, FailsToRun}
+use Rattle.club_tables.specs.Answers.{IsAfterReadings}
 
 -- the statements that give a row by its key, over tables of version 1 and of version 2
 abbrev pub first_texts : List (List ℕ)
@@ -92,3 +96,32 @@ pub record MadeAll {S : Type 0} (g : Ghosts S) (old new : Held S) : Type 0 where
 -- there was no version
 abbrev pub IsAccepted : {S : Type 0} → Ghosts S → Held S → Held S → Type 0
 IsAccepted g old new = FoundReady 2 texts_by_key (state g old) (state g new) ⊎ (Migrated g old new ⊎ MadeAll g old new)
+
+abbrev pub version_text : List ℕ
+version_text = VERSION.now
+
+-- this holds of one of the texts
+abbrev pub OneOf : (List ℕ → Type 0) → List (List ℕ) → Type 0
+OneOf P [] = ⊥
+OneOf P (text ∷ texts) = P text ⊎ OneOf P texts
+
+-- one of the texts was no statement over these tables, or couldn't be tried
+pub record FailsToPrepareOne {S : Type 0} (g : Ghosts S) (texts : List (List ℕ)) (old new : Held S) (fault : StoreFault) : Type 0 where
+  pub from : Held S
+  pub after : IsAfterReadings g old from
+  pub failed : OneOf (λ text. FailsToPrepare g text from new fault) texts
+
+-- why tables aren't taken: there is no memory to read their version; the batch that makes or migrates them is refused; a row can't be asked for by its
+-- key; the version is another one
+abbrev pub FailsToTake : {S : Type 0} → Ghosts S → Held S → Held S → StoreFault → Type 0
+FailsToTake g old new fault =
+    ((fault ≡ Memory) × FailsToAsk g (version_text, []) old new fault)
+    ⊎ (((words : List Words) × IsOpeningBatch words × FailsToRun g words old new fault)
+    ⊎ (OneOf (λ text. FailsToPrepare g text old new fault) texts_by_key
+    ⊎ ((fault ≡ Storage) × (rows : List Row) × Asked g version_text [] old rows × (rows ≢ version_values 2 ∷ []) × (rows ≢ version_values 1 ∷ []))))
+
+-- a fault of an opening
+pub record IsOpeningFault {S : Type 0} (g : Ghosts S) (old new : Held S) (fault : StoreFault) : Type 0 where
+  pub from : Held S
+  pub after : IsAfterReadings g old from
+  pub failed : FailsToTake g from new fault

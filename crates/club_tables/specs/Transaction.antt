@@ -1,10 +1,10 @@
 -- What one statement in a transaction of its own tells or makes.
-use Rattle.std.specs.Prelude.{◌≡◌, ℕ, ◌<◌, true, List, [], ◌∷◌, length, Ok, IsTrue, Result, OnOk, OnErr}
+use Rattle.std.specs.Prelude.{◌≡◌, ℕ, ◌<◌, true, List, [], ◌∷◌, length, Ok, IsTrue}
 use Rattle.sqlite.specs.Store.{Ghosts}
 use Rattle.sqlite.specs.Order.{Row}
 use Rattle.sqlite.specs.Effect.{Database}
 use Rattle.sqlite.specs.Tree.{Trees}
-use Rattle.sqlite.specs.State.{State, HasCleanDisk, Survives, Executes, Shown}
+use Rattle.sqlite.specs.State.{State, HasCleanDisk, Executes, Shown}
 use Rattle.sqlite.specs.Held.{Held, state}
 use Rattle.sqlite.specs.declared.error.Error.{Error}
 use Rattle.sqlite.specs.declared.error.Error.TheVariants.{SqliteFailure}
@@ -59,13 +59,6 @@ pub record Ran {S : Type 0} (g : Ghosts S) (all : List Words) (old : Held S) (db
   pub opened : 0 < length all → IsTrue (state g old).is_open
   pub turns : RanInTurn g all (begun old) last
   pub is : db ≡ (state g last).now
-
--- Statements in a transaction of their own: all are run and committed, or what was committed stays; a crash may leave what they leave.
-pub record Commits {S E : Type 0} (g : Ghosts S) (all : List Words) (old new : Held S) (result : Result (Unit {0}) E) : Type 0 where
-  pub ran : HasCleanDisk (state g new) → OnOk result (IsTrue (state g new).is_open × Ran g all old (state g new).committed
-      × ((state g new).now ≡ (state g new).committed))
-  pub kept : OnErr result (IsKept (state g old) (state g new))
-  pub survives : Survives (state g old) (state g new) (λ trees. (db : Database) × Ran g all old db × (trees ≡ db.trees))
 
 -- a crash may leave these trees: some of these statements left them, over a connection that was as this one was
 pub record MayCommit {S : Type 0} (g : Ghosts S) (AreWords : List Words → Type 0) (old : Held S) (trees : Trees) : Type 0 where

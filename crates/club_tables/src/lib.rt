@@ -4,7 +4,6 @@
 
 mod open;
 mod params;
-mod queries;
 pub mod reads;
 mod row;
 mod sum;

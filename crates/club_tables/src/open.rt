@@ -1,7 +1,20 @@
 //! The tables of a database: found, migrated where they are of version 1, or made where there are
 //! none.
 
-ghost use Rattle.std.specs.Prelude.{◌≡◌, false, [], ◌∷◌, map, All, IsTrue, OnOk, OnErr};
+ghost use Rattle.std.specs.Prelude.{
+  ◌≡◌,
+  ◌⊎◌,
+  false,
+  [],
+  ◌∷◌,
+  map,
+  All,
+  IsTrue,
+  IfOk,
+  IfErr,
+  OnOk,
+  OnErr,
+};
 ghost use Rattle.sqlite.specs.State.{HasCleanDisk, Survives};
 ghost use Rattle.sqlite.specs.Held.{state};
 ghost use Rattle.club_core.specs.Club.{Club};
@@ -9,19 +22,24 @@ ghost use Rattle.club_core.specs.Store.{KeepsStanding};
 ghost use Rattle.club_tables.specs.Told.{stands_in, first_in, found_in};
 ghost use Rattle.club_tables.specs.Columns.{version_values, HasValues};
 ghost use Rattle.club_tables.specs.Tables.{IsFound, Stands, FirstStands};
-ghost use Rattle.club_tables.specs.Transaction.{IsAtRest, IsKept, MayCommit, Ran};
+ghost use Rattle.club_tables.specs.Transaction.{Asked, IsAtRest, IsKept, MayCommit, Ran};
+ghost use Rattle.club_tables.specs.Fault.{FailsToAsk, FailsToRun};
 ghost use Rattle.club_tables.specs.Opening.{
+  FailsToPrepareOne,
   IsAccepted,
+  IsAnswered,
+  IsOpeningFault,
   IsUnderstood,
   HasMigrated,
   IsOpeningBatch,
   table_batch,
   migration,
+  version_text,
 };
 
 use crate::row::integer_at;
-use crate::transaction::{Statement, prepare, run};
-use crate::{queries, texts};
+use crate::texts;
+use crate::transaction::{Statement, ask, prepare, run};
 use club_core::StoreFault;
 use sqlite::{Alter, Connection, Row};
 
@@ -30,6 +48,28 @@ const VERSION: u8 = 2;
 
 /// The version without older roots.
 const FIRST_VERSION: u8 = 1;
+
+/// The version of the tables. Where it is read, tables of that version stand.
+fn version<S: Alter>(conn: &mut Connection<S>) -> Result<Vec<Row>, StoreFault>
+    requires { conn.old.in_transaction ≡ false }
+    ensures idle { conn.new.in_transaction ≡ false }
+    ensures answered { HasCleanDisk (state S.Store conn.new) → IfOk result
+        (λ rows. IsAnswered version_text (state S.Store conn.old).now rows.items) }
+    ensures asked { HasCleanDisk (state S.Store conn.new) → IfOk result
+        (λ rows. Asked S.Store version_text [] conn.old rows.items) }
+    ensures fault { HasCleanDisk (state S.Store conn.new) → IfErr result
+        (FailsToAsk S.Store (version_text, []) conn.old conn.new) }
+    ensures same { IsKept (state S.Store conn.old) (state S.Store conn.new) }
+    ensures told { HasCleanDisk (state S.Store conn.new) → IfOk result
+        (λ rows. (club : Club) (others : _) → IsFound (state S.Store conn.old) club others →
+        (Stands (state S.Store conn.new) club others × (rows.items ≡ version_values 2 ∷ [])) ⊎
+        (FirstStands (state S.Store conn.new) club others × (rows.items ≡ version_values 1 ∷ []))) }
+    ensures kept { HasCleanDisk (state S.Store conn.new) → KeepsStanding
+        (found_in S.Store) conn.old conn.new }
+    ensures survives { Survives (state S.Store conn.old) (state S.Store conn.new) (λ _. ⊥) }
+{
+    ask(conn, texts::VERSION, &[])
+}
 
 /// Makes the tables of an empty club, in one transaction. Where there are other tables of these
 /// names it is refused.
@@ -42,6 +82,8 @@ fn make_tables<S: Alter>(conn: &mut Connection<S>) -> Result<(), StoreFault>
         (state S.Store conn.new) club others) }
     ensures ran { HasCleanDisk (state S.Store conn.new) → OnOk result
         (Ran S.Store table_batch conn.old (state S.Store conn.new).committed) }
+    ensures fault { HasCleanDisk (state S.Store conn.new) → IfErr result
+        (FailsToRun S.Store table_batch conn.old conn.new) }
     ensures refused { HasCleanDisk (state S.Store conn.new) → OnErr result
         (KeepsStanding (found_in S.Store) conn.old conn.new) }
     ensures untouched { OnErr result (IsKept (state S.Store conn.old) (state S.Store conn.new)) }
@@ -117,10 +159,15 @@ fn prepare_all<S: Alter>(conn: &mut Connection<S>, texts: &[&str]) -> Result<(),
         (IsTrue (state S.Store conn.new).is_open → IsAtRest (state S.Store conn.old) → All
         (IsUnderstood (state S.Store conn.new).committed.schema)
         (map (λ text. text.now) texts.now)) }
+    ensures fault { HasCleanDisk (state S.Store conn.new) → IfErr result
+        (FailsToPrepareOne S.Store (map (λ text. text.now) texts.now) conn.old conn.new) }
     ensures survives { Survives (state S.Store conn.old) (state S.Store conn.new) (λ _. ⊥) }
 {
     for text in texts {
-        prepare(conn, text)?;
+        match prepare(conn, text) {
+            Ok(()) => {}
+            Err(fault) => return Err(fault),
+        }
     }
     Ok(())
 }
@@ -135,6 +182,8 @@ fn add_old_roots<S: Alter>(conn: &mut Connection<S>) -> Result<(), StoreFault>
         (state S.Store conn.new) club others) }
     ensures ran { HasCleanDisk (state S.Store conn.new) → OnOk result
         (Ran S.Store migration conn.old (state S.Store conn.new).committed) }
+    ensures fault { HasCleanDisk (state S.Store conn.new) → IfErr result
+        (FailsToRun S.Store migration conn.old conn.new) }
     ensures refused { HasCleanDisk (state S.Store conn.new) → OnErr result
         (KeepsStanding (first_in S.Store) conn.old conn.new) }
     ensures untouched { OnErr result (IsKept (state S.Store conn.old) (state S.Store conn.new)) }
@@ -172,6 +221,8 @@ fn migrate<S: Alter>(conn: &mut Connection<S>) -> Result<(), StoreFault>
     ensures untouched { OnErr result
         (IsAtRest (state S.Store conn.old) → IsKept (state S.Store conn.old)
         (state S.Store conn.new)) }
+    ensures fault { HasCleanDisk (state S.Store conn.new) → IfErr result
+        (IsOpeningFault S.Store conn.old conn.new) }
     ensures survives { Survives (state S.Store conn.old) (state S.Store conn.new)
         (MayCommit S.Store IsOpeningBatch conn.old) }
 {
@@ -195,10 +246,12 @@ pub fn open_tables<S: Alter>(conn: &mut Connection<S>) -> Result<(), StoreFault>
     ensures refused { HasCleanDisk (state S.Store conn.new) → OnErr result
         (KeepsStanding (found_in S.Store) conn.old conn.new) }
     ensures untouched { OnErr result (IsKept (state S.Store conn.old) (state S.Store conn.new)) }
+    ensures fault { HasCleanDisk (state S.Store conn.new) → IfErr result
+        (IsOpeningFault S.Store conn.old conn.new) }
     ensures survives { Survives (state S.Store conn.old) (state S.Store conn.new)
         (MayCommit S.Store IsOpeningBatch conn.old) }
 {
-    let found = match queries::version(conn) {
+    let found = match version(conn) {
         Ok(found) => found,
         Err(StoreFault::Memory) => return Err(StoreFault::Memory),
         Err(StoreFault::Storage) => return make_tables(conn),

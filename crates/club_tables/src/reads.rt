@@ -1,23 +1,83 @@
 //! Rows of the club as they are read. They change nothing. A row out of its limits is a fault of
 //! storage.
 
-ghost use Rattle.std.specs.Prelude.{◌≡◌, false, All, IfOk, IfSome, option_map};
+ghost use Rattle.std.specs.Prelude.{◌≡◌, ◌↔◌, false, List, All, IsTrue, IfOk, IfErr, IfSome};
+ghost use Rattle.std.specs.Prelude.{option_map};
+ghost use Rattle.sqlite_value.specs.Order.{Row as Values};
+ghost use Rattle.sqlite.specs.Values.{bound};
+ghost use Rattle.sqlite.specs.State.{HasCleanDisk, Survives};
+ghost use Rattle.sqlite.specs.Held.{state};
 ghost use Rattle.club_rows.specs.Rows.{IsFacility, IsKey, IsOlderRoot, IsBooking};
 ghost use Rattle.club_core.specs.Club.{bookings_of, key_named, member_named, facility_named};
 ghost use Rattle.club_core.specs.Basis.{slot_use};
 ghost use Rattle.club_core.specs.Sheet.{AreRowsOf};
 ghost use Rattle.club_core.specs.Sums.{booking_under, count_to_come, spent_under};
 ghost use Rattle.club_tables.specs.Told.{ReadsClub};
+ghost use Rattle.club_tables.specs.Sheet.{AreBookings};
 ghost use Rattle.club_tables.specs.Stored.{IsMemberRow, fresh, member_row, older_of};
-
-use crate::row::{
-    MemberRow, booking_in, bookings_in, facility_in, key_in, member_in, older_root_in, slot_use_of,
+ghost use Rattle.club_tables.specs.Transaction.{Asked, IsKept};
+ghost use Rattle.club_tables.specs.Answers.{
+  Answers,
+  FailsAtReading,
+  IsFirst,
+  IsKeyIn,
+  IsOlderRootIn,
+  IsMemberIn,
+  IsFacilityIn,
+  IsBookingNamed,
+  IsUse,
+  AreCosts,
+  IsCount,
+  words_for,
 };
-use crate::{queries, sum};
+ghost use Rattle.club_tables.specs.declared.texts.TheConstants.{DAY};
+ghost use Rattle.club_tables.specs.Answers.{
+  OfKey,
+  OfOlderRoot,
+  OfMember,
+  OfFacility,
+  OfSlot,
+  OfBooking,
+  OfCosts,
+  OfDay,
+  OfOpen,
+};
+
+use crate::row::{FromRow, MemberRow, bookings_in, slot_use_of};
+use crate::transaction::ask;
+use crate::{sum, texts};
 use club_core::{Booking, BookingNumber, Facility, Key, OlderRoot, SlotUse, StoreFault};
 use pass_caveats::{Day, Moment, Name, Slot};
-use sqlite::{Alter, Connection};
+use sqlite::types::ValueRef;
+use sqlite::{Alter, Connection, params};
 use std::alloc::Global;
+
+/// What the first row of a query says; `None` where it gives no row.
+fn one<S: Alter, T: FromRow>(
+    conn: &mut Connection<S>,
+    sql: &str,
+    params: &[ValueRef<'_>],
+) -> Result<Option<T>, StoreFault>
+    requires { conn.old.in_transaction ≡ false }
+    ensures idle { conn.new.in_transaction ≡ false }
+    ensures gives { Answers S.Store (sql.now, bound params.now) (IsFirst T.says) conn.old conn.new
+        result }
+    ensures said { IfOk result (λ found. IfSome found (λ it. (row : Values) × T.says row it)) }
+    ensures kept { IsKept (state S.Store conn.old) (state S.Store conn.new) }
+    ensures survives { Survives (state S.Store conn.old) (state S.Store conn.new) (λ _. ⊥) }
+{
+    let rows = match ask(conn, sql, params) {
+        Ok(rows) => rows,
+        Err(fault) => return Err(fault),
+    };
+    match rows.first() {
+        None => Ok(None),
+        Some(row) => match T::from_row(row) {
+            Some(found) => Ok(Some(found)),
+            None => Err(StoreFault::Storage),
+        },
+    }
+}
 
 /// The key of this name, without its older root; `None` where there is none.
 pub fn key<S: Alter>(conn: &mut Connection<S>, name: &Name) -> Result<Option<Key>, StoreFault>
@@ -25,16 +85,11 @@ pub fn key<S: Alter>(conn: &mut Connection<S>, name: &Name) -> Result<Option<Key
     ensures idle { conn.new.in_transaction ≡ false }
     ensures reads { ReadsClub S.Store conn.old conn.new result
         (λ club key. key ≡ option_map fresh (key_named name.now club)) }
+    ensures gives { Answers S.Store (words_for (OfKey name.now)) (IsFirst IsKeyIn)
+        conn.old conn.new result }
     ensures limits { IfOk result (λ key. IfSome key IsKey) }
 {
-    let rows = queries::key(conn, name)?;
-    match rows.first() {
-        None => Ok(None),
-        Some(row) => match key_in(row) {
-            Some(key) => Ok(Some(key)),
-            None => Err(StoreFault::Storage),
-        },
-    }
+    one(conn, texts::KEY, &[ValueRef::Text(name.as_bytes())])
 }
 
 /// The older root of the key of this name; `None` where it was never rotated.
@@ -46,16 +101,11 @@ pub fn older_root<S: Alter>(
     ensures idle { conn.new.in_transaction ≡ false }
     ensures reads { ReadsClub S.Store conn.old conn.new result
         (λ club older. older ≡ older_of key.now club) }
+    ensures gives { Answers S.Store (words_for (OfOlderRoot key.now)) (IsFirst IsOlderRootIn)
+        conn.old conn.new result }
     ensures limits { IfOk result (λ older. IfSome older IsOlderRoot) }
 {
-    let rows = queries::older_root(conn, key)?;
-    match rows.first() {
-        None => Ok(None),
-        Some(row) => match older_root_in(row) {
-            Some(older) => Ok(Some(older)),
-            None => Err(StoreFault::Storage),
-        },
-    }
+    one(conn, texts::OLDER_ROOT, &[ValueRef::Text(key.as_bytes())])
 }
 
 /// The row of the member of this name, with what the member's bookings have cost; `None` where
@@ -68,16 +118,11 @@ pub fn member<S: Alter>(
     ensures idle { conn.new.in_transaction ≡ false }
     ensures reads { ReadsClub S.Store conn.old conn.new result
         (λ club row. row ≡ option_map (member_row club) (member_named name.now club)) }
+    ensures gives { Answers S.Store (words_for (OfMember name.now)) (IsFirst IsMemberIn)
+        conn.old conn.new result }
     ensures limits { IfOk result (λ row. IfSome row IsMemberRow) }
 {
-    let rows = queries::member(conn, name)?;
-    match rows.first() {
-        None => Ok(None),
-        Some(row) => match member_in(row) {
-            Some(found) => Ok(Some(found)),
-            None => Err(StoreFault::Storage),
-        },
-    }
+    one(conn, texts::MEMBER, &[ValueRef::Text(name.as_bytes())])
 }
 
 /// The facility of this name; `None` where there is none.
@@ -89,16 +134,11 @@ pub fn facility<S: Alter>(
     ensures idle { conn.new.in_transaction ≡ false }
     ensures reads { ReadsClub S.Store conn.old conn.new result
         (λ club facility. facility ≡ facility_named name.now club) }
+    ensures gives { Answers S.Store (words_for (OfFacility name.now)) (IsFirst IsFacilityIn)
+        conn.old conn.new result }
     ensures limits { IfOk result (λ facility. IfSome facility IsFacility) }
 {
-    let rows = queries::facility(conn, name)?;
-    match rows.first() {
-        None => Ok(None),
-        Some(row) => match facility_in(row) {
-            Some(facility) => Ok(Some(facility)),
-            None => Err(StoreFault::Storage),
-        },
-    }
+    one(conn, texts::FACILITY, &[ValueRef::Text(name.as_bytes())])
 }
 
 /// What is taken of a slot: nothing of one that nobody booked or closed.
@@ -107,12 +147,28 @@ pub fn slot<S: Alter>(conn: &mut Connection<S>, slot: &Slot) -> Result<SlotUse, 
     ensures idle { conn.new.in_transaction ≡ false }
     ensures reads { ReadsClub S.Store conn.old conn.new result
         (λ club found. found ≡ slot_use club slot.now) }
+    ensures gives { Answers S.Store (words_for (OfSlot slot.now)) IsUse conn.old conn.new result }
 {
-    let rows = queries::slot(conn, slot)?;
+    let params = params![
+        slot.facility.as_str(),
+        u32::from(slot.day.number()),
+        u32::from(slot.hour.number())
+    ];
+    let rows = match ask(conn, texts::SLOT, params) {
+        Ok(rows) => rows,
+        Err(fault) => return Err(fault),
+    };
     match slot_use_of(&rows) {
         Some(found) => Ok(found),
         None => Err(StoreFault::Storage),
     }
+}
+
+/// Whether a booking has this key and number.
+fn is_named(booking: &Booking, key: &Name, number: BookingNumber) -> bool
+    ensures { IsTrue result ↔ ((booking.now.key ≡ key.now) × (booking.now.number ≡ number)) }
+{
+    booking.key == *key && booking.number == number
 }
 
 /// The booking of a key with a number; `None` where there is none. A row of another booking is a
@@ -126,19 +182,29 @@ pub fn booking<S: Alter>(
     ensures idle { conn.new.in_transaction ≡ false }
     ensures reads { ReadsClub S.Store conn.old conn.new result
         (λ club found. found ≡ booking_under key.now number club.bookings) }
+    ensures gives { Answers S.Store (words_for (OfBooking key.now number))
+        (IsFirst (IsBookingNamed key.now number)) conn.old conn.new result }
     ensures limits { IfOk result (λ found. IfSome found IsBooking) }
     ensures named { IfOk result (λ found. IfSome found
         (λ booking. (booking.key ≡ key.now) × (booking.number ≡ number))) }
 {
-    let rows = queries::booking(conn, key, number)?;
-    match rows.first() {
+    let found: Option<Booking> = match one(
+        conn,
+        texts::BOOKING,
+        params![key.as_str(), number.get()],
+    ) {
+        Ok(found) => found,
+        Err(fault) => return Err(fault),
+    };
+    match found {
         None => Ok(None),
-        Some(row) => match booking_in(row) {
-            Some(booking) if booking.key == *key && booking.number == number => {
+        Some(booking) => {
+            if is_named(&booking, key, number) {
                 Ok(Some(booking))
+            } else {
+                Err(StoreFault::Storage)
             }
-            _ => Err(StoreFault::Storage),
-        },
+        }
     }
 }
 
@@ -153,9 +219,17 @@ pub fn day<S: Alter>(
     ensures idle { conn.new.in_transaction ≡ false }
     ensures reads { ReadsClub S.Store conn.old conn.new result
         (λ club rows. AreRowsOf club day rows.items) }
+    ensures told { HasCleanDisk (state S.Store conn.new) → IfOk result
+        (λ bookings. (rows : List Values) × Asked S.Store DAY.now (words_for (OfDay day)).1
+        conn.old rows × AreBookings rows bookings.items) }
+    ensures failed { HasCleanDisk (state S.Store conn.new) → IfErr result
+        (FailsAtReading S.Store (OfDay day) conn.old conn.new) }
     ensures limits { IfOk result (λ rows. All IsBooking rows.items) }
 {
-    let rows = queries::day(conn, day)?;
+    let rows = match ask(conn, texts::DAY, params![u32::from(day.number())]) {
+        Ok(rows) => rows,
+        Err(fault) => return Err(fault),
+    };
     bookings_in(alloc, &rows)
 }
 
@@ -165,8 +239,13 @@ pub fn spent<S: Alter>(conn: &mut Connection<S>, key: &Name) -> Result<u64, Stor
     ensures idle { conn.new.in_transaction ≡ false }
     ensures reads { ReadsClub S.Store conn.old conn.new result
         (λ club spent. spent ≡ spent_under key.now club.bookings) }
+    ensures gives { Answers S.Store (words_for (OfCosts key.now)) AreCosts
+        conn.old conn.new result }
 {
-    let rows = queries::costs_under(conn, key)?;
+    let rows = match ask(conn, texts::COSTS_UNDER_KEY, params![key.as_str()]) {
+        Ok(rows) => rows,
+        Err(fault) => return Err(fault),
+    };
     sum::costs(&rows)
 }
 
@@ -180,7 +259,12 @@ pub fn open_count<S: Alter>(
     ensures idle { conn.new.in_transaction ≡ false }
     ensures reads { ReadsClub S.Store conn.old conn.new result
         (λ club count. count ≡ count_to_come moment (bookings_of member.now club)) }
+    ensures gives { Answers S.Store (words_for (OfOpen member.now moment)) IsCount
+        conn.old conn.new result }
 {
-    let rows = queries::open_bookings(conn, member, moment)?;
+    let rows = match ask(conn, texts::OPEN, params![member.as_str(), moment.number()]) {
+        Ok(rows) => rows,
+        Err(fault) => return Err(fault),
+    };
     Ok(rows.len() as u64)
 }

@@ -4,35 +4,22 @@
 ghost use Rattle.std.specs.Prelude.{
   ◌≡◌,
   ◌≤◌,
-  false,
-  true,
   [],
   ◌∷◌,
   List,
   Err,
   None,
+  Some,
   IfOk,
   option_map,
 };
 ghost use Rattle.sqlite_value.specs.Order.{column};
 ghost use Rattle.club_values.specs.Reading.{Reads};
-ghost use Rattle.club_rows.specs.Rows.{IsFacility, IsKey, IsOlderRoot, IsBooking};
 ghost use Rattle.club_rows.specs.declared.booking.Booking.{Booking as BookingRow};
+ghost use Rattle.club_tables.specs.Answers.{IsUseIn};
 ghost use Rattle.club_tables.specs.Sheet.{AreBookings};
-ghost use Rattle.club_tables.specs.Stored.{IsMemberRow};
-ghost use Rattle.club_tables.specs.Columns.{
-  whole,
-  HasValues,
-  text_in,
-  bytes_in,
-  integer_in,
-  member_values,
-  use_values,
-  facility_values,
-  key_values,
-  older_root_values,
-  booking_values,
-};
+ghost use Rattle.club_tables.specs.Stored.{unused};
+ghost use Rattle.club_tables.specs.Columns.{whole, text_in, bytes_in, integer_in};
 
 use club_core::{
     Booking, BookingColumns, Facility, FacilityColumns, Key, Member, OlderRoot, Root, SlotUse,
@@ -95,7 +82,7 @@ pub(crate) fn number_within(row: &Row, at: usize, high: u32) -> Option<u32>
 /// What is taken of a slot, by the columns `closed` and `taken`: at most so many persons as a
 /// facility has places.
 fn slot_use_in(row: &Row) -> Option<SlotUse>
-    ensures { Reads (λ found. (found.taken ≤ 50) × HasValues row.now (use_values found)) result }
+    ensures { Reads (IsUseIn row.now) result }
 {
     let closed = match number_within(row, 0, 1)? {
         0 => false,
@@ -107,9 +94,9 @@ fn slot_use_in(row: &Row) -> Option<SlotUse>
 
 /// What is taken of a slot, by its rows: nothing where there is none.
 pub(crate) fn slot_use_of(rows: &[Row]) -> Option<SlotUse>
-    ensures none { rows.now ≡ [] → result ≡ Some (record { taken = 0; closed = false }) }
-    ensures one { (row : _) → rows.now ≡ row ∷ [] → Reads
-        (λ found. (found.taken ≤ 50) × HasValues row (use_values found)) result }
+    ensures none { rows.now ≡ [] → result ≡ Some unused }
+    ensures one { (row : _) → rows.now ≡ row ∷ [] → Reads (IsUseIn row) result }
+    ensures more { (row other more : _) → rows.now ≡ row ∷ other ∷ more → result ≡ None }
 {
     match rows {
         [] => Some(SlotUse {
@@ -121,70 +108,105 @@ pub(crate) fn slot_use_of(rows: &[Row]) -> Option<SlotUse>
     }
 }
 
-/// A member's row, of the columns `name`, `credited`, `quota` and `used`.
-pub(crate) fn member_in(row: &Row) -> Option<MemberRow>
-    ensures { Reads (λ found. IsMemberRow found × HasValues row.now (member_values found)) result }
-{
-    let member = Member::from_columns(text_at(row, 0)?, integer_at(row, 1)?, integer_at(row, 2)?)?;
-    let used = number_within(row, 3, MOST_USED)?;
-    Some(MemberRow { member, used })
+/// What a row of the tables says.
+pub(crate) trait FromRow: Sized {
+    ghost use Rattle.sqlite_value.specs.Order.{Row as Values};
+    ghost use Rattle.club_values.specs.Reading.{Reads};
+
+    // the row says this
+    ghost says: { Values → Self → Type 0 };
+
+    /// What the row says; `None` where a value is of another kind, or out of its limits.
+    fn from_row(row: &Row) -> Option<Self>
+        ensures { Reads (says row.now) result };
 }
 
-/// A key's row, which tells of no older root.
-pub(crate) fn key_in(row: &Row) -> Option<Key>
-    ensures { Reads (λ key. IsKey key × (key.older ≡ None) × HasValues row.now (key_values key))
-        result }
-{
-    Key::from_columns(
-        text_at(row, 0)?,
-        text_at(row, 1)?,
-        bytes_at(row, 2)?,
-        integer_at(row, 3)?,
-    )
+impl FromRow for MemberRow {
+    ghost use Rattle.club_tables.specs.Answers.{IsMemberIn};
+
+    ghost says = { IsMemberIn };
+
+    /// A member's row, of the columns `name`, `credited`, `quota` and `used`.
+    fn from_row(row: &Row) -> Option<MemberRow> {
+        let member = Member::from_columns(
+            text_at(row, 0)?,
+            integer_at(row, 1)?,
+            integer_at(row, 2)?,
+        )?;
+        let used = number_within(row, 3, MOST_USED)?;
+        Some(MemberRow { member, used })
+    }
 }
 
-/// The older root of a key, of the columns `root` and `until`.
-pub(crate) fn older_root_in(row: &Row) -> Option<OlderRoot>
-    ensures { Reads (λ older. IsOlderRoot older × HasValues row.now (older_root_values older))
-        result }
-{
-    let root = Root::new(bytes_at(row, 0)?)?;
-    let until = Moment::from_number(number_within(row, 1, u32::MAX)?)?;
-    Some(OlderRoot { root, until })
+impl FromRow for Key {
+    ghost use Rattle.club_tables.specs.Answers.{IsKeyIn};
+
+    ghost says = { IsKeyIn };
+
+    /// A key's row, which tells of no older root.
+    fn from_row(row: &Row) -> Option<Key> {
+        Key::from_columns(
+            text_at(row, 0)?,
+            text_at(row, 1)?,
+            bytes_at(row, 2)?,
+            integer_at(row, 3)?,
+        )
+    }
 }
 
-pub(crate) fn facility_in(row: &Row) -> Option<Facility>
-    ensures { Reads (λ facility. IsFacility facility × HasValues row.now (facility_values facility))
-        result }
-{
-    let columns = FacilityColumns {
-        name: text_at(row, 0)?,
-        kind: text_at(row, 1)?,
-        places: integer_at(row, 2)?,
-        price: integer_at(row, 3)?,
-        opens: integer_at(row, 4)?,
-        shuts: integer_at(row, 5)?,
-    };
-    Facility::from_columns(&columns)
+impl FromRow for OlderRoot {
+    ghost use Rattle.club_tables.specs.Answers.{IsOlderRootIn};
+
+    ghost says = { IsOlderRootIn };
+
+    /// The older root of a key, of the columns `root` and `until`.
+    fn from_row(row: &Row) -> Option<OlderRoot> {
+        let root = Root::new(bytes_at(row, 0)?)?;
+        let until = Moment::from_number(number_within(row, 1, u32::MAX)?)?;
+        Some(OlderRoot { root, until })
+    }
 }
 
-pub(crate) fn booking_in(row: &Row) -> Option<Booking>
-    ensures { Reads (λ booking. IsBooking booking × HasValues row.now (booking_values booking))
-        result }
-{
-    let columns = BookingColumns {
-        key: text_at(row, 0)?,
-        number: integer_at(row, 1)?,
-        facility: text_at(row, 2)?,
-        day: integer_at(row, 3)?,
-        hour: integer_at(row, 4)?,
-        guests: integer_at(row, 5)?,
-        charge: integer_at(row, 6)?,
-        left: integer_at(row, 7)?,
-        cancelled: integer_at(row, 8)?,
-        refund: integer_at(row, 9)?,
-    };
-    Booking::from_columns(&columns)
+impl FromRow for Facility {
+    ghost use Rattle.club_tables.specs.Answers.{IsFacilityIn};
+
+    ghost says = { IsFacilityIn };
+
+    /// A facility's row.
+    fn from_row(row: &Row) -> Option<Facility> {
+        let columns = FacilityColumns {
+            name: text_at(row, 0)?,
+            kind: text_at(row, 1)?,
+            places: integer_at(row, 2)?,
+            price: integer_at(row, 3)?,
+            opens: integer_at(row, 4)?,
+            shuts: integer_at(row, 5)?,
+        };
+        Facility::from_columns(&columns)
+    }
+}
+
+impl FromRow for Booking {
+    ghost use Rattle.club_tables.specs.Answers.{IsBookingIn};
+
+    ghost says = { IsBookingIn };
+
+    /// A booking's row.
+    fn from_row(row: &Row) -> Option<Booking> {
+        let columns = BookingColumns {
+            key: text_at(row, 0)?,
+            number: integer_at(row, 1)?,
+            facility: text_at(row, 2)?,
+            day: integer_at(row, 3)?,
+            hour: integer_at(row, 4)?,
+            guests: integer_at(row, 5)?,
+            charge: integer_at(row, 6)?,
+            left: integer_at(row, 7)?,
+            cancelled: integer_at(row, 8)?,
+            refund: integer_at(row, 9)?,
+        };
+        Booking::from_columns(&columns)
+    }
 }
 
 /// The bookings of rows, in their order. A row that is out of its limits is a fault of storage.
@@ -198,7 +220,7 @@ pub(crate) fn bookings_in(alloc: Global, rows: &[Row]) -> Result<Vec<Booking>, S
         Err(_) => return Err(StoreFault::Memory),
     };
     for row in rows {
-        let Some(booking) = booking_in(row) else {
+        let Some(booking) = Booking::from_row(row) else {
             return Err(StoreFault::Storage);
         };
         bookings.push_reserved(booking);

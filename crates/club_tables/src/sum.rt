@@ -1,7 +1,8 @@
 //! Sums over rows, taken here. A number out of its limits is a fault of storage.
 
-ghost use Rattle.std.specs.Prelude.{◌≡◌, sum_by, All, IfOk};
+ghost use Rattle.std.specs.Prelude.{◌≡◌, ◌<◌, ◌^◌, ℕ, sum_by, All, IfOk, IfErr};
 ghost use Rattle.club_values.specs.Reading.{Reads};
+ghost use Rattle.club_tables.specs.Answers.{AreCosts};
 ghost use Rattle.club_tables.specs.Columns.{cost_in, IsCostIn, IsCostRow};
 
 use crate::row::number_within;
@@ -21,6 +22,9 @@ fn cost_of(row: &Row) -> Option<u32>
 pub(crate) fn costs(rows: &[Row]) -> Result<u64, StoreFault>
     ensures told { IfOk result (λ n. n ≡ sum_by cost_in rows.now) }
     ensures limits { IfOk result (λ _. All IsCostRow rows.now) }
+    ensures range { IfOk result (λ n. n < 2 ^ 64) }
+    ensures storage { IfErr result
+        (λ fault. (fault ≡ StoreFault.Storage) × ((n : ℕ) → ¬ (AreCosts rows.now n))) }
 {
     let mut sum = 0u64;
     for row in rows {

@@ -1,10 +1,11 @@
 //! Statements in a transaction of their own: either all that they do is committed, or nothing.
 
-ghost use Rattle.std.specs.Prelude.{◌≡◌, false, map, IfOk, OnOk, OnErr, IsTrue};
+ghost use Rattle.std.specs.Prelude.{◌≡◌, false, map, IfOk, IfErr, OnOk, OnErr, IsTrue};
 ghost use Rattle.sqlite.specs.Values.{bound};
 ghost use Rattle.sqlite.specs.State.{HasCleanDisk, Survives};
 ghost use Rattle.sqlite.specs.Held.{state};
 ghost use Rattle.club_tables.specs.Transaction.{Asked, Ran, IsKept, fault_by, words_of};
+ghost use Rattle.club_tables.specs.Fault.{FailsToAsk, FailsToPrepare, FailsToRun};
 ghost use Rattle.club_tables.specs.Opening.{IsUnderstood};
 
 use club_core::StoreFault;
@@ -31,6 +32,8 @@ pub(crate) fn ask<S: Alter>(
     ensures idle { conn.new.in_transaction ≡ false }
     ensures asked { IfOk result (λ rows. HasCleanDisk (state S.Store conn.new) →
         Asked S.Store sql.now (bound params.now) conn.old rows.items) }
+    ensures fault { HasCleanDisk (state S.Store conn.new) → IfErr result
+        (FailsToAsk S.Store (sql.now, bound params.now) conn.old conn.new) }
     ensures kept { IsKept (state S.Store conn.old) (state S.Store conn.new) }
     ensures survives { Survives (state S.Store conn.old) (state S.Store conn.new) (λ _. ⊥) }
 {
@@ -49,6 +52,8 @@ pub(crate) fn prepare<S: Alter>(conn: &mut Connection<S>, sql: &str) -> Result<(
     ensures idle { conn.new.in_transaction ≡ false }
     ensures understood { HasCleanDisk (state S.Store conn.new) → OnOk result
         (IsUnderstood (state S.Store conn.old).now.schema sql.now) }
+    ensures fault { HasCleanDisk (state S.Store conn.new) → IfErr result
+        (FailsToPrepare S.Store sql.now conn.old conn.new) }
     ensures kept { IsKept (state S.Store conn.old) (state S.Store conn.new) }
     ensures survives { Survives (state S.Store conn.old) (state S.Store conn.new) (λ _. ⊥) }
 {
@@ -79,6 +84,8 @@ pub(crate) fn run<S: Alter>(
         (IsTrue (state S.Store conn.new).is_open × Ran S.Store
         (map words_of statements.now) conn.old (state S.Store conn.new).committed ×
         ((state S.Store conn.new).now ≡ (state S.Store conn.new).committed)) }
+    ensures fault { HasCleanDisk (state S.Store conn.new) → IfErr result
+        (FailsToRun S.Store (map words_of statements.now) conn.old conn.new) }
     ensures kept { OnErr result (IsKept (state S.Store conn.old) (state S.Store conn.new)) }
     ensures survives { Survives (state S.Store conn.old) (state S.Store conn.new)
         (λ trees. (db : _) × Ran S.Store (map words_of statements.now) conn.old db ×

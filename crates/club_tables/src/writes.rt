@@ -13,7 +13,7 @@ ghost use Rattle.club_core.specs.declared.change.Change.TheVariants.{
   MarkClosed,
   MarkCancelled,
 };
-ghost use Rattle.club_tables.specs.Transaction.{Commits};
+ghost use Rattle.club_tables.specs.Fault.{Commits};
 ghost use Rattle.club_tables.specs.Words.{
   adding_member,
   adding_facility,

@@ -1,11 +1,14 @@
-use Rattle.std.proofs.Common.{All, subst, arith}
+use Rattle.std.proofs.Common.{[], ◌∷◌, All, inl, inr, refl, subst, arith}
 use Rattle.sqlite.specs.Effect.{Database}
 use Rattle.sqlite.specs.State.{HasCleanDisk}
 use Rattle.sqlite.specs.Held.{state}
-use Rattle.club_tables.specs.Opening.{IsOpeningBatch, IsUnderstood, first_texts}
-use Rattle.club_tables.proofs.PrepareLemmas.{kept_then}
+use Rattle.club_tables.specs.declared.texts.TheConstants.{OLDER_ROOT}
+use Rattle.club_tables.specs.Fault.{FailsToPrepare, FailsToRun}
+use Rattle.club_tables.specs.Opening.{IsOpeningBatch, IsOpeningFault, IsUnderstood, first_texts, migration}
+use Rattle.club_tables.proofs.PrepareLemmas.{kept_then, one_more}
+use Rattle.club_tables.proofs.ReadLemmas.{fault_if}
 use Rattle.club_tables.proofs.StandLemmas.{on_ok, on_err, keeps_first}
-use Rattle.club_tables.proofs.SurviveLemmas.{commits_after, commits_nothing}
+use Rattle.club_tables.proofs.SurviveLemmas.{after_one, commits_after, commits_nothing}
 use Rattle.club_tables.proofs.open.migrate.Goals as goal
 
 pub returns-in-Ok-clause-migrated : goal.returns-in-Ok-clause-migrated
@@ -49,3 +52,26 @@ returns-in-Ok-clause-survives g c =
 
 pub returns-in-Err-clause-survives : goal.returns-in-Err-clause-survives
 returns-in-Err-clause-survives g c = commits_nothing g.S.Store IsOpeningBatch c.args.conn.now c.prepare_all.new.conn c.prepare_all.ensures.survives
+
+pub returns-in-Ok-clause-fault : goal.returns-in-Ok-clause-fault
+returns-in-Ok-clause-fault g c clean =
+    let old = c.args.conn.now in
+    let mid = c.prepare_all.new.conn in
+    let new = c.add_old_roots.new.conn in
+    let earlier : HasCleanDisk (state g.S.Store mid) = c.add_old_roots.ensures.honest clean in
+    fault_if (FailsToRun g.S.Store migration mid new) (IsOpeningFault g.S.Store old new) c.add_old_roots.result (c.add_old_roots.ensures.fault clean)
+    (λ fault failed. record {
+      from = mid;
+      after = after_one g.S.Store old mid earlier c.prepare_all.ensures.same c.prepare_all.ensures.survives;
+      failed = inr (inl (migration, inr refl, failed));
+    })
+
+pub returns-in-Err-clause-fault : goal.returns-in-Err-clause-fault
+returns-in-Err-clause-fault g c clean =
+    let it = c.in-Err.ensures.fault clean in
+    record {
+      from = it.from;
+      after = it.after;
+      failed = inr (inr (inl (one_more (λ text. FailsToPrepare g.S.Store text it.from c.prepare_all.new.conn c.in-Err.fault) first_texts (OLDER_ROOT.now ∷ [])
+          it.failed)));
+    }

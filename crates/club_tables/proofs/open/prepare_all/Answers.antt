@@ -2,7 +2,8 @@ use Rattle.std.proofs.Common.{arith}
 use Rattle.sqlite.specs.State.{HasCleanDisk}
 use Rattle.sqlite.specs.Held.{state}
 use Rattle.club_tables.proofs.StandLemmas.{survives_same, survives_none, keeps_standing, keeps_found}
-use Rattle.club_tables.proofs.PrepareLemmas.{kept_at_rest, kept_then, none_understood, one_understood, all_understood}
+use Rattle.club_tables.proofs.PrepareLemmas.{kept_at_rest, kept_then, one_at, none_understood, one_understood, all_understood}
+use Rattle.club_tables.specs.Fault.{FailsToPrepare}
 use Rattle.club_tables.proofs.open.prepare_all.Goals as goal
 
 pub loop-text-init : goal.loop-text-init
@@ -32,31 +33,31 @@ loop-text-preserved g c =
           let opened = (c.prepare.ensures.kept clean is_open).0 in
           one_understood (state g.S.Store c.args.conn.now).committed c.args.texts.now c.loop-text.text-index _ (state g.S.Store was).now
           (c.loop-text.invariant.kept rest (earlier clean) opened).1 c.loop-text-test.true (c.loop-text.invariant.known rest (earlier clean) opened)
-          (c.in_ok-prepare.ensures.understood clean);
+          (c.in-Ok.ensures.understood clean);
       found = λ clean club others found. keeps_found g.S.Store was now c.prepare.ensures.kept quiet club others
           (c.loop-text.invariant.found (earlier clean) club others found);
     }
 
-pub returns-in_err-prepare-clause-same : goal.returns-in_err-prepare-clause-same
-returns-in_err-prepare-clause-same g c rest =
+pub returns-in-Err-clause-same : goal.returns-in-Err-clause-same
+returns-in-Err-clause-same g c rest =
     let was = c.loop-text.conn in
     let now = c.prepare.new.conn in
     let earlier = λ (clean : HasCleanDisk (state g.S.Store now)). let e : HasCleanDisk (state g.S.Store was) =
     omega (arith, c.prepare.ensures.survives.clean) in e in
     kept_then (state g.S.Store c.args.conn.now) (state g.S.Store was) (state g.S.Store now) earlier (c.loop-text.invariant.kept rest) c.prepare.ensures.kept
 
-pub returns-in_err-prepare-clause-survives : goal.returns-in_err-prepare-clause-survives
-returns-in_err-prepare-clause-survives g c =
+pub returns-in-Err-clause-survives : goal.returns-in-Err-clause-survives
+returns-in-Err-clause-survives g c =
     survives_none _ (state g.S.Store c.loop-text.conn) (state g.S.Store c.prepare.new.conn) c.loop-text.invariant.survives c.prepare.ensures.survives
 
-pub returns-in_err-prepare-clause-stands : goal.returns-in_err-prepare-clause-stands
-returns-in_err-prepare-clause-stands g c clean club others stands =
+pub returns-in-Err-clause-stands : goal.returns-in-Err-clause-stands
+returns-in-Err-clause-stands g c clean club others stands =
     let earlier : HasCleanDisk (state g.S.Store c.loop-text.conn) = omega (arith, c.prepare.ensures.survives.clean) in
     keeps_standing g.S.Store c.loop-text.conn c.prepare.new.conn c.prepare.ensures.kept c.prepare.ensures.survives club others
     (c.loop-text.invariant.stands earlier club others stands)
 
-pub returns-in_err-prepare-clause-found : goal.returns-in_err-prepare-clause-found
-returns-in_err-prepare-clause-found g c clean club others found =
+pub returns-in-Err-clause-found : goal.returns-in-Err-clause-found
+returns-in-Err-clause-found g c clean club others found =
     let earlier : HasCleanDisk (state g.S.Store c.loop-text.conn) = omega (arith, c.prepare.ensures.survives.clean) in
     keeps_found g.S.Store c.loop-text.conn c.prepare.new.conn c.prepare.ensures.kept c.prepare.ensures.survives club others
     (c.loop-text.invariant.found earlier club others found)
@@ -65,3 +66,15 @@ pub returns-clause-understood : goal.returns-clause-understood
 returns-clause-understood g c clean is_open rest =
     all_understood (state g.S.Store c.args.conn.now).committed c.args.texts.now c.loop-text.text-index (state g.S.Store c.loop-text.conn).committed
     (c.loop-text.invariant.kept rest clean is_open).2 c.loop-text-test.false (c.loop-text.invariant.known rest clean is_open)
+
+pub returns-in-Err-clause-fault : goal.returns-in-Err-clause-fault
+returns-in-Err-clause-fault g c clean =
+    let was = c.loop-text.conn in
+    let now = c.prepare.new.conn in
+    let earlier : HasCleanDisk (state g.S.Store was) = omega (arith, c.prepare.ensures.survives.clean) in
+    record {
+      from = was;
+      after = record { same = c.loop-text.invariant.kept; clean = earlier; counted = c.loop-text.invariant.survives.counts };
+      failed = one_at (λ text. FailsToPrepare g.S.Store text was now _) c.args.texts.now c.loop-text.text-index _ c.loop-text-test.true
+          (c.in-Err.ensures.fault clean);
+    }

@@ -1,13 +1,58 @@
-use Rattle.club_tables.proofs.StandLemmas.{told_if}
-use Rattle.club_tables.proofs.ReadLemmas.{read_as}
+use Rattle.std.proofs.Common.{◌≡◌, List, [], ◌∷◌, Result, Ok, Err, Vec, IfErr, inl, inr, refl}
+use Rattle.std.specs.declared.alloc.Global.{Global}
+use Rattle.sqlite.specs.Order.{Row}
+use Rattle.sqlite.specs.Store.{Ghosts}
+use Rattle.sqlite.specs.Held.{Held}
+use Rattle.club_rows.specs.declared.booking.Booking.{Booking}
+use Rattle.club_core.specs.declared.store.StoreFault.{StoreFault}
+use Rattle.club_core.specs.declared.store.StoreFault.TheVariants.{Memory, Storage}
+use Rattle.club_tables.specs.declared.texts.TheConstants.{DAY}
+use Rattle.club_tables.specs.Answers.{OfDay, FailsAtReading}
+use Rattle.club_tables.specs.Columns.{whole}
+use Rattle.club_tables.specs.Sheet.{AreBookings}
+use Rattle.club_tables.specs.Transaction.{Asked}
 use Rattle.club_tables.proofs.BookingRows.{day_of_rows, within_limits}
+use Rattle.club_tables.proofs.DayLemmas.{day_told}
+use Rattle.club_tables.proofs.ReadLemmas.{read_by}
+use Rattle.club_tables.proofs.StandLemmas.{told_if}
 use Rattle.club_tables.proofs.reads.day.Goals as goal
+
+-- rows that were given and not read
+unread_day : {S A : Type 0} (g : Ghosts S) (day : _) (old new : Held S) (rows : List Row) (r : Result A StoreFault)
+    → Asked g DAY.now (whole day ∷ []) old rows → (r ≡ Err Storage → (bookings : List Booking) → ¬ (AreBookings rows bookings))
+    → IfErr r (FailsAtReading g (OfDay day) old new)
+unread_day g day old new rows (Ok x) asked storage = tt
+unread_day g day old new rows (Err Memory) asked storage = inr (refl, rows, asked)
+unread_day g day old new rows (Err Storage) asked storage =
+    inl (inr (record { rows = rows; asked = asked; unread = λ can. storage refl can.0 can.1; told = refl }))
+
+pub returns-in-Err-clause-failed : goal.returns-in-Err-clause-failed
+returns-in-Err-clause-failed g c clean =
+    inl (inl (rw (c.params-to_sql.ensures, c.from.ensures, c.number.ensures.value) at (c.in-Err.ensures.fault clean)))
+
+pub returns-in-Err-clause-reads : goal.returns-in-Err-clause-reads
+returns-in-Err-clause-reads g c =
+    read_by g.S.Store (OfDay c.args.day) (λ rows (bookings : Vec Booking Global). AreBookings rows bookings.items) c.args.conn.now c.ask.new.conn _ _
+    c.ask.ensures.kept c.ask.ensures.survives (λ clean. tt) (returns-in-Err-clause-failed g c) (λ clean club others stands rows asked bookings are.
+    day_of_rows club c.args.day rows bookings.items (day_told g.S.Store c.args.conn.now c.args.day rows clean asked club others stands) are)
+
+pub returns-clause-told : goal.returns-clause-told
+returns-clause-told g c clean =
+    let asked = rw (c.params-to_sql.ensures, c.from.ensures, c.number.ensures.value) at (c.in-Ok.ensures.asked clean) in
+    told_if _ _ c.bookings_in.result (rw c.deref.ensures.value at c.bookings_in.ensures.are) (λ bookings are. (c.in-Ok.rows.items, asked, are))
+
+pub returns-clause-failed : goal.returns-clause-failed
+returns-clause-failed g c clean =
+    let asked = rw (c.params-to_sql.ensures, c.from.ensures, c.number.ensures.value) at (c.in-Ok.ensures.asked clean) in
+    unread_day g.S.Store c.args.day c.args.conn.now c.ask.new.conn c.in-Ok.rows.items c.bookings_in.result asked
+    (rw c.deref.ensures.value at c.bookings_in.ensures.storage)
 
 pub returns-clause-reads : goal.returns-clause-reads
 returns-clause-reads g c =
-    read_as g.S.Store c.args.conn.now c.day.new.conn _ c.bookings_in.result _ _ c.in_ok-rows.ensures.reads (λ club shows.
-    told_if _ _ c.bookings_in.result (rw c.deref.ensures.value at c.bookings_in.ensures.are) (λ rows are.
-    day_of_rows club c.args.day c.in_ok-rows.rows.items rows.items shows are))
+    read_by g.S.Store (OfDay c.args.day) (λ rows (bookings : Vec Booking Global). AreBookings rows bookings.items) c.args.conn.now c.ask.new.conn
+    c.bookings_in.result _ c.ask.ensures.kept c.ask.ensures.survives (returns-clause-told g c) (returns-clause-failed g c)
+    (λ clean club others stands rows asked bookings are.
+    day_of_rows club c.args.day rows bookings.items (day_told g.S.Store c.args.conn.now c.args.day rows clean asked club others stands) are)
 
 pub returns-clause-limits : goal.returns-clause-limits
 returns-clause-limits g c =

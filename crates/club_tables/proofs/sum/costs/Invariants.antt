@@ -1,4 +1,4 @@
-use Rattle.std.proofs.Common.{◌≡◌, take}
+use Rattle.std.proofs.Common.{◌≡◌, ◌<◌, ◌^◌, take}
 use Rattle.std.specs.Prelude.{sum_by, All}
 use Rattle.club_tables.specs.Columns.{cost_in, IsCostRow}
 use Rattle.club_tables.proofs.sum.costs.Given as goal
@@ -6,5 +6,6 @@ use Rattle.club_tables.proofs.sum.costs.Given as goal
 abbrev pub invariant-loop-row : goal.invariant-loop-row
 invariant-loop-row l = record {
   told : l.sum ≡ sum_by cost_in (take l.row-index l.rows);
+  fits : l.sum < 2 ^ 64;
   limits : All IsCostRow (take l.row-index l.rows);
 }

@@ -2,7 +2,9 @@ use Rattle.std.proofs.Common.{rules, arith, ◌≡◌, inl, inr, refl, subst}
 use Rattle.sqlite.specs.State.{HasCleanDisk}
 use Rattle.sqlite.specs.Values.{bound}
 use Rattle.sqlite.specs.Held.{state}
+use Rattle.sqlite.specs.State.{FailsToQuery}
 use Rattle.club_tables.specs.Transaction.{IsKept, begun}
+use Rattle.club_tables.specs.Fault.{FailsToAsk}
 use Rattle.club_tables.proofs.TransactionLemmas.{Keeps, shown_keeps, fails_keeps, too_late_keeps, then_rolled}
 use Rattle.club_tables.proofs.transaction.ask.Goals as goal
 
@@ -43,3 +45,20 @@ returns-clause-kept g c =
     then_rolled old mid (state g.S.Store end) (shown_keeps c.args.sql.now (bound c.args.params.now) old mid _ refl shown) (c.rollback.ensures.undone clean)
     is_open in
     subst (λ h. IsKept old (state g.S.Store h)) same kept
+
+pub returns-in-Err-clause-fault : goal.returns-in-Err-clause-fault
+returns-in-Err-clause-fault g c clean =
+    let old = c.args.conn.now in
+    let mid = c.query_all.new.self.conn.now in
+    let end = c.drop-tx.new.self.0 in
+    let same : end ≡ c.conn-1.given.0 = search rules in
+    let late : HasCleanDisk (state g.S.Store end) = search rules in
+    let earlier : HasCleanDisk (state g.S.Store mid) = omega (arith, c.drop-tx.ensures.survives.clean) in
+    let fails = rw c.transaction-tx.ensures.begun at (c.in-Err.ensures.err earlier) in
+    let failed : FailsToQuery c.args.sql.now (bound c.args.params.now) (state g.S.Store (begun old)) (state g.S.Store mid) c.in-Err.error = elim fails [
+      | inl refused ↦ refused
+      | inr ended ↦ absurd (let e = ended.3 in cc)
+    ] in
+    let fault : FailsToAsk g.S.Store (c.args.sql.now, bound c.args.params.now) old end c.fault_of.result =
+    record { mid = mid; error = c.in-Err.error; failed = failed; counted = c.drop-tx.ensures.survives.counts; told = c.fault_of.ensures } in
+    subst (λ h. FailsToAsk g.S.Store (c.args.sql.now, bound c.args.params.now) old h c.fault_of.result) same fault

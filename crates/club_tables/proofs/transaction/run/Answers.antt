@@ -7,7 +7,8 @@ use Rattle.sqlite.specs.Held.{Held, state}
 use Rattle.sqlite.proofs.StateLemmas.{survives_then}
 use Rattle.sqlite.proofs.Callers.{survives_begin}
 use Rattle.club_tables.specs.Transaction.{RanInTurn, Ran, begun, words_of}
-use Rattle.club_tables.proofs.TurnLemmas.{turn_at, turn_all}
+use Rattle.club_tables.specs.Fault.{FailsInTurn, FailsToRun}
+use Rattle.club_tables.proofs.TurnLemmas.{turn_at, turn_all, fails_at, fails_last}
 use Rattle.club_tables.proofs.transaction.run.Goals as goal
 
 pub loop-statement-preserved : goal.loop-statement-preserved
@@ -82,3 +83,38 @@ returns-in-Err-commit-clause-survives g c =
     let whole = survives_then (state g.S.Store old) (state g.S.Store mid) (state g.S.Store end) _ _ P (λ _ db none. absurd none) made
     (survives_begin g.S.Store old (state g.S.Store mid) _ c.loop-statement.invariant.survives) c.commit.ensures.survives in
     subst (λ h. Survives (state g.S.Store old) (state g.S.Store h) P) same whole
+
+pub returns-in-Err-clause-fault : goal.returns-in-Err-clause-fault
+returns-in-Err-clause-fault g c clean =
+    let old = c.args.conn.now in
+    let was = c.loop-statement.tx.conn.now in
+    let mid = c.execute.new.self.conn.now in
+    let end = c.drop-tx.new.self.0 in
+    let same : end ≡ c.conn-1.given.0 = search rules in
+    let late : HasCleanDisk (state g.S.Store end) = search rules in
+    let earlier : HasCleanDisk (state g.S.Store mid) = omega (arith, c.drop-tx.ensures.survives.clean) in
+    let first : HasCleanDisk (state g.S.Store was) = omega (arith, c.execute.ensures.survives.clean) in
+    let all = map words_of c.args.statements.now in
+    let failed : FailsInTurn g.S.Store all (begun old) mid c.in-Err.error =
+    fails_at g.S.Store c.args.statements.now c.loop-statement.statement-index _ (begun old) was mid c.in-Err.error c.loop-statement-test.true
+    (c.loop-statement.invariant.ran first) (c.in-Err.ensures.runs earlier (c.loop-statement.invariant.inside first).0) in
+    let fault : FailsToRun g.S.Store all old end c.fault_of.result =
+    record { mid = mid; error = c.in-Err.error; failed = failed; counted = c.drop-tx.ensures.survives.counts; told = c.fault_of.ensures } in
+    subst (λ h. FailsToRun g.S.Store all old h c.fault_of.result) same fault
+
+pub returns-in-Err-commit-clause-fault : goal.returns-in-Err-commit-clause-fault
+returns-in-Err-commit-clause-fault g c clean =
+    let old = c.args.conn.now in
+    let was = c.loop-statement.tx.conn.now in
+    let end = c.commit.new.self.0 in
+    let same : end ≡ c.conn-2-1.given.0 = search rules in
+    let late : HasCleanDisk (state g.S.Store end) = search rules in
+    let earlier : HasCleanDisk (state g.S.Store was) = omega (arith, c.commit.ensures.survives.clean) in
+    let all = map words_of c.args.statements.now in
+    let turn : RanInTurn g.S.Store all (begun old) was =
+    turn_all g.S.Store c.args.statements.now c.loop-statement.statement-index (begun old) was (omega arith) (c.loop-statement.invariant.ran earlier) in
+    let failed : FailsInTurn g.S.Store all (begun old) end c.in-Err-commit.error =
+    fails_last g.S.Store all (begun old) was end c.in-Err-commit.error turn (c.in-Err-commit.ensures.err late) in
+    let fault : FailsToRun g.S.Store all old end c.fault_of-in-Err-commit.result =
+    record { mid = end; error = c.in-Err-commit.error; failed = failed; counted = omega arith; told = c.fault_of-in-Err-commit.ensures } in
+    subst (λ h. FailsToRun g.S.Store all old h c.fault_of-in-Err-commit.result) same fault

@@ -1,7 +1,6 @@
 use Rattle.std.proofs.Common.{◌≡◌, Option, Some, None, false, is_some, refl, sym, ◌∙◌, arith}
 use Rattle.club_rows.specs.declared.key.OlderRoot.{OlderRoot}
 use Rattle.club_core.specs.declared.change.Change.TheVariants.{InsertKey}
-use Rattle.club_core.specs.declared.store.StoreFault.TheVariants.{Storage}
 use Rattle.club_tables.specs.Words.{adding_key}
 use Rattle.club_tables.proofs.MadeLemmas.{key_made}
 use Rattle.club_tables.proofs.WriteLemmas.{commits_of, makes, unmade}
@@ -13,7 +12,7 @@ not_older (Some older) none = absurd (cc)
 
 pub returns-clause-commits : goal.returns-clause-commits
 returns-clause-commits g c none = rw c.of_key-values.ensures at (commits_of g.S.Store _ c.args.conn.now c.run.new.conn c.run.result c.run.ensures.ran
-    c.run.ensures.kept c.run.ensures.survives)
+    c.run.ensures.kept c.run.ensures.survives c.run.ensures.fault)
 
 pub returns-clause-makes : goal.returns-clause-makes
 returns-clause-makes g c =
@@ -24,4 +23,5 @@ returns-clause-makes g c =
     key_made g.S.Store c.args.conn.now db club tables c.args.key.now (not_older c.args.key.now.older (sym c.is_some.ensures ∙ c.if-is_some.false)) fits ran)
 
 pub returns-then-is_some-clause-makes : goal.returns-then-is_some-clause-makes
-returns-then-is_some-clause-makes g c = unmade g.S.Store c.args.conn.now _ (InsertKey c.args.key.now) Storage
+returns-then-is_some-clause-makes g c = unmade g.S.Store c.args.conn.now (λ _. Unit {0}) (InsertKey c.args.key.now) (λ club it.
+    sym c.is_some.ensures ∙ c.if-is_some.true)

@@ -7,7 +7,7 @@ use Rattle.club_tables.proofs.writes.insert_member.Goals as goal
 
 pub returns-clause-commits : goal.returns-clause-commits
 returns-clause-commits g c = rw c.of_member-values.ensures at (commits_of g.S.Store _ c.args.conn.now c.run.new.conn c.run.result c.run.ensures.ran
-    c.run.ensures.kept c.run.ensures.survives)
+    c.run.ensures.kept c.run.ensures.survives c.run.ensures.fault)
 
 pub returns-clause-makes : goal.returns-clause-makes
 returns-clause-makes g c =

@@ -8,13 +8,13 @@ use Rattle.desk_law.proofs.from_nothing.reply_from_nothing.Goals as goal
 pub returns-clause-answered : goal.returns-clause-answered
 returns-clause-answered c =
     c.in-Ok.ensures.answered (memory_is_clean c.run.new.self) empty_club []
-    (rw c.new-desk.ensures (All-cons IsSound empty_club [] c.empty_is_sound.ensures (All-nil IsSound), c.in_ok-store.ensures))
+    (rw c.new-desk.ensures (All-cons IsSound empty_club [] c.empty_is_sound.ensures (All-nil IsSound), c.in_ok-store.ensures.opened))
 
 pub returns-clause-served : goal.returns-clause-served
 returns-clause-served c =
     let left =
     c.in-Ok.ensures.stands (memory_is_clean c.run.new.self) empty_club []
-    (rw c.new-desk.ensures (All-cons IsSound empty_club [] c.empty_is_sound.ensures (All-nil IsSound), c.in_ok-store.ensures))
+    (rw c.new-desk.ensures (All-cons IsSound empty_club [] c.empty_is_sound.ensures (All-nil IsSound), c.in_ok-store.ensures.opened))
     in
     c.ask-reply.ensures.served (memory_is_clean c.ask-reply.new.self)
     (club_left empty_club (events_of c.args.events.now) (told_all c.in-Ok.replies.items)) left.left left.stands
@@ -23,7 +23,7 @@ pub returns-clause-depends : goal.returns-clause-depends
 returns-clause-depends c =
     let left =
     c.in-Ok.ensures.stands (memory_is_clean c.run.new.self) empty_club []
-    (rw c.new-desk.ensures (All-cons IsSound empty_club [] c.empty_is_sound.ensures (All-nil IsSound), c.in_ok-store.ensures))
+    (rw c.new-desk.ensures (All-cons IsSound empty_club [] c.empty_is_sound.ensures (All-nil IsSound), c.in_ok-store.ensures.opened))
     in
     c.ask-reply.ensures.depends (memory_is_clean c.ask-reply.new.self)
     (club_left empty_club (events_of c.args.events.now) (told_all c.in-Ok.replies.items)) left.left left.stands
@@ -32,7 +32,7 @@ pub returns-clause-blind : goal.returns-clause-blind
 returns-clause-blind c =
     let left =
     c.in-Ok.ensures.stands (memory_is_clean c.run.new.self) empty_club []
-    (rw c.new-desk.ensures (All-cons IsSound empty_club [] c.empty_is_sound.ensures (All-nil IsSound), c.in_ok-store.ensures))
+    (rw c.new-desk.ensures (All-cons IsSound empty_club [] c.empty_is_sound.ensures (All-nil IsSound), c.in_ok-store.ensures.opened))
     in
     c.ask-reply.ensures.blind (memory_is_clean c.ask-reply.new.self)
     (club_left empty_club (events_of c.args.events.now) (told_all c.in-Ok.replies.items)) left.left left.stands
@@ -41,7 +41,7 @@ pub returns-clause-forms : goal.returns-clause-forms
 returns-clause-forms c =
     let left =
     c.in-Ok.ensures.stands (memory_is_clean c.run.new.self) empty_club []
-    (rw c.new-desk.ensures (All-cons IsSound empty_club [] c.empty_is_sound.ensures (All-nil IsSound), c.in_ok-store.ensures))
+    (rw c.new-desk.ensures (All-cons IsSound empty_club [] c.empty_is_sound.ensures (All-nil IsSound), c.in_ok-store.ensures.opened))
     in
     c.ask-reply.ensures.forms (memory_is_clean c.ask-reply.new.self)
     (club_left empty_club (events_of c.args.events.now) (told_all c.in-Ok.replies.items)) left.left left.stands
@@ -50,7 +50,7 @@ pub returns-clause-less : goal.returns-clause-less
 returns-clause-less c =
     let left =
     c.in-Ok.ensures.stands (memory_is_clean c.run.new.self) empty_club []
-    (rw c.new-desk.ensures (All-cons IsSound empty_club [] c.empty_is_sound.ensures (All-nil IsSound), c.in_ok-store.ensures))
+    (rw c.new-desk.ensures (All-cons IsSound empty_club [] c.empty_is_sound.ensures (All-nil IsSound), c.in_ok-store.ensures.opened))
     in
     c.ask-reply.ensures.less (memory_is_clean c.ask-reply.new.self)
     (club_left empty_club (events_of c.args.events.now) (told_all c.in-Ok.replies.items)) left.left left.stands

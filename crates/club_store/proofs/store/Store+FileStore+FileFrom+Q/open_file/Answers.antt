@@ -1,4 +1,4 @@
-use Rattle.std.proofs.Common.{List, [], ◌∷◌, inl, refl, subst, sym}
+use Rattle.std.proofs.Common.{List, [], ◌∷◌, Option, Some, None, IfSome, inl, inr, refl, subst, sym}
 use Rattle.sqlite.specs.State.{HasCleanDisk}
 use Rattle.sqlite.specs.Files.{file_state}
 use Rattle.club_core.specs.Club.{Club, empty_club}
@@ -24,3 +24,26 @@ returns-in-Ok-adopt-clause-opened g c clean =
       again = λ clubs held. again clubs (subst (λ trees. IsLeftOf trees clubs) (sym (found.holds held.0 held.1)) held.2);
       fresh = λ none. the_one _ empty_club (again (empty_club ∷ []) (inl (was.committed, refl, new_is_blank _ was none found (opened.1 opened.0.is_open).1)));
     }
+
+weaker : {A : Type 0} (P Q : A → Type 0) (o : Option A) → IfSome o P → ((x : A) → P x → Q x) → IfSome o Q
+weaker P Q None p f = tt
+weaker P Q (Some x) p f = f x p
+
+pub returns-in-Err-clause-fault : goal.returns-in-Err-clause-fault
+returns-in-Err-clause-fault g c =
+    inl (record {
+      error = c.in-Err.error;
+      rest = c.in-Err._left;
+      unopened = c.in-Err.ensures.unopened;
+      cause = weaker _ _ c.in-Err._left c.in-Err.ensures.cause (λ left it. (it.0, λ clean. (it.3 clean).0));
+      told = c.fault_of.ensures;
+    })
+
+pub returns-in-Err-adopt-clause-fault : goal.returns-in-Err-adopt-clause-fault
+returns-in-Err-adopt-clause-fault g c =
+    inr (record {
+      was = c.in-Ok.connection;
+      now = c.in-Err-adopt._connection;
+      opened = λ clean. (c.in-Ok.ensures.opened clean, c.in-Ok.ensures.found clean);
+      failed = c.in-Err-adopt.ensures.fault c.in-Ok.ensures.fresh.autocommit;
+    })

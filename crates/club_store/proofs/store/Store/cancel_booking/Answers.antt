@@ -1,10 +1,10 @@
-use Rattle.std.proofs.Common.{rules, ◌≡◌, Some, IsTrue, sym, subst, subst₂, ◌∙◌}
+use Rattle.std.proofs.Common.{rules, ◌≡◌, Some, IsTrue, refl, sym, subst, subst₂, ◌∙◌}
 use Rattle.std.specs.Prelude.{Option, IfSome}
 use Rattle.club_rows.specs.declared.booking.Booking.{Booking}
 use Rattle.club_core.specs.declared.change.Change.TheVariants.{MarkCancelled}
 use Rattle.club_core.specs.Sums.{booking_under}
 use Rattle.club_tables.specs.Told.{ChangesClubWhere, HasNoneToCancel, IsToCancel}
-use Rattle.club_store.proofs.ReadingLemmas.{change_after}
+use Rattle.club_store.proofs.ReadingLemmas.{change_after, refuse_unread}
 use Rattle.club_store.proofs.store.Store.cancel_booking.Goals.{in_default-via-in-Some+else-not-booking, in_default-via-in_default}
 use Rattle.club_store.proofs.store.Store.cancel_booking.Goals as goal
 
@@ -22,8 +22,8 @@ returns-in-Some g c =
     subst₂ (λ k n. ChangesClubWhere g.S.Store (IsToCancel booking) (MarkCancelled k n refund) mid new c.give_back.result) named.0 named.1
     c.give_back.ensures.makes in
     record {
-      makes = change_after g.S.Store c.args.self.now mid new _ c.give_back.result _ (λ _.
-          Unit {0}) (IsToCancel booking) (MarkCancelled key number refund) c.in-Ok.ensures.reads given (λ club before told.
+      makes = change_after g.S.Store c.args.self.now mid _ _ c.in-Ok.ensures.reads new c.give_back.result (λ _.
+          Unit {0}) (IsToCancel booking) (MarkCancelled key number refund) given (λ club before told.
           (subst₂ (λ k n. booking_under k n club.bookings ≡ Some booking) (sym named.0) (sym named.1) (sym told ∙ c.in-Some.is), c.if-not-booking.true));
     }
 
@@ -33,11 +33,17 @@ returns-in_default g c =
     let number = c.args.number in
     let IsDone : Booking → Type 0 = λ b. IsTrue b.cancelled in
     record {
-      makes = change_after g.S.Store c.args.self.now c.booking_under.new.self c.mark_cancelled.new.self _ c.mark_cancelled.result _ (λ _.
-          Unit {0}) (HasNoneToCancel key number) (MarkCancelled key number c.args.refund) c.in-Ok.ensures.reads c.mark_cancelled.ensures.makes
+      makes = change_after g.S.Store c.args.self.now c.booking_under.new.self _ _ c.in-Ok.ensures.reads c.mark_cancelled.new.self c.mark_cancelled.result (λ _.
+          Unit {0}) (HasNoneToCancel key number) (MarkCancelled key number c.args.refund) c.mark_cancelled.ensures.makes
           (λ club before told. elim c.in_default.branch [
             | in_default-via-in-Some+else-not-booking w ↦ subst (λ (o : Option Booking).
                 IfSome o IsDone) told (subst (λ (o : Option Booking). IfSome o IsDone) (sym w.in-Some.is) w.if-not-booking.false)
             | in_default-via-in_default w ↦ search rules
           ]);
     }
+
+pub returns-in-Err : goal.returns-in-Err
+returns-in-Err g c = record {
+  makes = refuse_unread g.S.Store c.args.self.now c.booking_under.new.self _ _ c.in-Err.ensures.reads c.in-Err.fault (λ _.
+      Unit {0}) (MarkCancelled c.args.key.now c.args.number c.args.refund) refl;
+}

@@ -1,12 +1,12 @@
-use Rattle.std.proofs.Common.{◌≡◌, Option, Result, Ok, option_map, sym, ap, ◌∙◌}
+use Rattle.std.proofs.Common.{◌≡◌, Option, Result, Ok, option_map, refl, sym, ap, ◌∙◌}
 use Rattle.club_rows.specs.declared.key.Key.{Key}
 use Rattle.club_core.specs.declared.change.Change.TheVariants.{MarkCancelled}
 use Rattle.club_core.specs.declared.store.StoreFault.{StoreFault}
 use Rattle.club_core.specs.Club.{key_named}
 use Rattle.club_tables.specs.Stored.{fresh}
 use Rattle.club_tables.specs.Told.{IsOwnedBy, IsToCancel, ReadsClub}
-use Rattle.club_store.proofs.ReadingLemmas.{change_after}
-use Rattle.club_store.proofs.ViewLemmas.{of_fresh}
+use Rattle.club_store.proofs.ReadingLemmas.{change_after, refuse_told, refuse_unread}
+use Rattle.club_store.proofs.ViewLemmas.{of_fresh, unnamed}
 use Rattle.club_store.proofs.store.Store.give_back.Goals as goal
 
 pub returns-in-Some : goal.returns-in-Some
@@ -15,10 +15,26 @@ returns-in-Some g c =
     let reads : ReadsClub g.S.Store c.args.self.now c.self.inside.connection found (λ club row. row ≡ option_map fresh (key_named c.args.booking.now.key club))
     = rw c.self.view_is c.in-Ok.ensures.reads in
     record {
-      makes = change_after g.S.Store c.args.self.now c.self.inside.connection c.cancel_booking.new.conn found c.cancel_booking.result _
+      makes = change_after g.S.Store c.args.self.now c.self.inside.connection found _ reads c.cancel_booking.new.conn c.cancel_booking.result
           (IsToCancel c.args.booking.now) (λ club. IsToCancel c.args.booking.now club
-          × IsOwnedBy c.in-Some.key.member c.args.booking.now.key club) (MarkCancelled c.args.booking.now.key c.args.booking.now.number c.args.refund) reads
+          × IsOwnedBy c.in-Some.key.member c.args.booking.now.key club) (MarkCancelled c.args.booking.now.key c.args.booking.now.number c.args.refund)
           c.cancel_booking.ensures.makes (λ club before told.
           let of = of_fresh (key_named c.args.booking.now.key club) c.in-Some.key (sym c.in-Some.is ∙ told) in
           (before, (of.0, of.1, ap (λ (k : Key). k.member) (sym of.2))));
     }
+
+pub returns-in-Err : goal.returns-in-Err
+returns-in-Err g c =
+    let change = (MarkCancelled c.args.booking.now.key c.args.booking.now.number c.args.refund) in
+    record {
+      makes = refuse_unread g.S.Store c.args.self.now c.key_row.new.self _ _ c.in-Err.ensures.reads c.in-Err.fault
+          (IsToCancel c.args.booking.now) change refl;
+    }
+
+pub returns-in-None : goal.returns-in-None
+returns-in-None g c = record {
+  makes =
+      let change = (MarkCancelled c.args.booking.now.key c.args.booking.now.number c.args.refund) in
+      refuse_told g.S.Store c.args.self.now c.key_row.new.self _ _ c.in-Ok.ensures.reads (IsToCancel c.args.booking.now) change
+      (λ club it told. unnamed (key_named c.args.booking.now.key club) (sym c.in-None.is ∙ told));
+}

@@ -2,7 +2,7 @@ use Rattle.std.proofs.Common.{Some, Option, sym, ap, ◌∙◌}
 use Rattle.std.specs.Prelude.{option_and_then}
 use Rattle.club_rows.specs.declared.key.Key.{Key}
 use Rattle.club_core.specs.Club.{key_named}
-use Rattle.club_store.proofs.ReadingLemmas.{read_then}
+use Rattle.club_store.proofs.ReadingLemmas.{read_failed, read_then}
 use Rattle.club_store.proofs.ViewLemmas.{of_fresh, with_older}
 use Rattle.club_store.proofs.store.Store.key.Goals as goal
 
@@ -12,4 +12,9 @@ returns-clause-reads g c =
     (λ club row told.
     let of = of_fresh (key_named c.args.name.now club) c.in-Some.key (sym c.in-Some.is ∙ row) in
     let older = told ∙ ap (λ (o : Option Key). option_and_then (λ (k : Key). k.older) o) of.1 in
-    ap Some (with_older of.0 c.in-Some.key c.in_ok-older.older of.2 older) ∙ sym of.1)
+    ap Some (with_older of.0 c.in-Some.key c.in_ok-older.older of.2 older) ∙ sym of.1) (λ P h. tt)
+
+pub returns-in_err-older-clause-reads : goal.returns-in_err-older-clause-reads
+returns-in_err-older-clause-reads g c =
+    read_failed g.S.Store c.args.self.now c.key_row.new.self c.older_root.new.self _ _ _ _ _ _ c.in_ok-key.ensures.reads c.in_err-older.ensures.reads
+    c.from_residual-in_err-older.ensures.1

@@ -1,4 +1,4 @@
-use Rattle.std.proofs.Common.{◌≡◌, ◌-◌, ℕ, rules, Option, Result, Ok, ap, ◌∙◌}
+use Rattle.std.proofs.Common.{◌≡◌, ◌-◌, Option, Result, Ok, ap, ◌∙◌}
 use Rattle.club_rows.specs.declared.booking.Booking.{Booking}
 use Rattle.club_core.specs.declared.store.StoreFault.{StoreFault}
 use Rattle.club_core.specs.Club.{Club, bookings_of}
@@ -9,7 +9,7 @@ use Rattle.club_tables.specs.Told.{ReadsClub}
 use Rattle.club_store.specs.declared.figures.Account.{Account}
 use Rattle.club_store.specs.declared.figures.SlotState.{SlotState}
 use Rattle.club_store.specs.Figures.{account_of, booked_under, slot_state}
-use Rattle.club_store.proofs.ReadingLemmas.{read_then}
+use Rattle.club_store.proofs.ReadingLemmas.{read_failed, read_then}
 use Rattle.club_store.proofs.store.Store.seen.Goals as goal
 
 pub returns-in_err-slot-clause-reads : goal.returns-in_err-slot-clause-reads
@@ -22,9 +22,9 @@ returns-in_err-slot-clause-reads g c =
     × (booking ≡ booked_under club key c.number.result) in
     let first : ReadsClub g.S.Store c.args.self.now c.booked.new.conn found AreBoth =
     read_then g.S.Store c.args.self.now c.account_at.new.conn c.booked.new.conn _ found found _ _ AreBoth (rw c.self.view_is at c.in_ok-account.ensures.reads)
-    c.in_ok-booking.ensures.reads (λ club one two. (one, two)) in
-    read_then g.S.Store c.args.self.now c.booked.new.conn c.slot_state.new.self found _ _ AreBoth _ _ first c.in_err-slot.ensures.reads (λ club both slot.
-    search rules)
+    c.in_ok-booking.ensures.reads (λ club one two. (one, two)) (λ P h. tt) in
+    read_failed g.S.Store c.args.self.now c.booked.new.conn c.slot_state.new.self found _ _ AreBoth _ _ first c.in_err-slot.ensures.reads
+    c.from_residual-in_err-slot.ensures.1
 
 pub returns-clause-reads : goal.returns-clause-reads
 returns-clause-reads g c =
@@ -39,7 +39,7 @@ returns-clause-reads g c =
     × (it ≡ booked_under club key c.number.result) in
     let first : ReadsClub g.S.Store c.args.self.now c.booked.new.conn found AreBoth =
     read_then g.S.Store c.args.self.now c.account_at.new.conn c.booked.new.conn _ found found _ _ AreBoth (rw c.self.view_is at c.in_ok-account.ensures.reads)
-    c.in_ok-booking.ensures.reads (λ club one two. (one, two)) in
+    c.in_ok-booking.ensures.reads (λ club one two. (one, two)) (λ P h. tt) in
     read_then g.S.Store c.args.self.now c.booked.new.conn c.slot_state.new.self found _ _ AreBoth _ _ first c.in_ok-slot.ensures.reads (λ club both state row.
     let spent : account.spent ≡ spent_under key club.bookings = ap (λ (a : Account). a.spent) both.0 in
     let open_count : account.open_count ≡ count_to_come c.args.moment (bookings_of member.name club) = ap (λ (a : Account). a.open_count) both.0 in
@@ -60,4 +60,9 @@ returns-clause-reads g c =
       taken = taken i;
       closed = closed i;
       booking = booked i;
-    })
+    }) (λ P h. tt)
+
+pub returns-in_err-booking-clause-reads : goal.returns-in_err-booking-clause-reads
+returns-in_err-booking-clause-reads g c =
+    read_failed g.S.Store c.args.self.now c.account_at.new.conn c.booked.new.conn _ _ _ _ _ _ (rw c.self.view_is at c.in_ok-account.ensures.reads)
+    c.in_err-booking.ensures.reads c.from_residual-in_err-booking.ensures.1

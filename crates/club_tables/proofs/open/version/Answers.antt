@@ -4,7 +4,7 @@ use Rattle.sqlite.specs.Held.{state}
 use Rattle.club_tables.proofs.StandLemmas.{told_if, keeps_standing, keeps_first}
 use Rattle.club_tables.proofs.OpenLemmas.{version_told}
 use Rattle.club_tables.proofs.VersionLemmas.{version_answered}
-use Rattle.club_tables.proofs.queries.version.Goals as goal
+use Rattle.club_tables.proofs.open.version.Goals as goal
 
 pub returns-clause-told : goal.returns-clause-told
 returns-clause-told g c clean =

@@ -1,0 +1,27 @@
+use Rattle.std.proofs.Common.{rules, inl, ◌∙◌}
+use Rattle.club_tables.specs.Answers.{OfOpen, IsCount}
+use Rattle.club_tables.proofs.MemberLemmas.{open_told}
+use Rattle.club_tables.proofs.ReadLemmas.{read_answer}
+use Rattle.club_tables.proofs.reads.open_count.Goals as goal
+
+pub returns-in-Err-clause-gives : goal.returns-in-Err-clause-gives
+returns-in-Err-clause-gives g c =
+    let failed = rw (c.params-to_sql.ensures, c.params-to_sql-2.ensures, c.as_str.ensures.value, c.number.ensures.value) at c.in-Err.ensures.fault in
+    record { told = λ clean. tt; failed = λ clean. inl (failed clean) }
+
+pub returns-in-Err-clause-reads : goal.returns-in-Err-clause-reads
+returns-in-Err-clause-reads g c =
+    read_answer g.S.Store (OfOpen c.args.member.now c.args.moment) IsCount c.args.conn.now c.ask.new.conn _ _ c.ask.ensures.kept c.ask.ensures.survives
+    (returns-in-Err-clause-gives g c) (λ rows can. can) (λ clean club others stands rows asked count is.
+    is ∙ open_told g.S.Store c.args.conn.now c.args.member.now c.args.moment rows clean asked club others stands)
+
+pub returns-clause-gives : goal.returns-clause-gives
+returns-clause-gives g c =
+    let asked = rw (c.params-to_sql.ensures, c.params-to_sql-2.ensures, c.as_str.ensures.value, c.number.ensures.value) at c.in-Ok.ensures.asked in
+    record { told = λ clean. (c.in-Ok.rows.items, asked clean, search rules); failed = λ clean. tt }
+
+pub returns-clause-reads : goal.returns-clause-reads
+returns-clause-reads g c =
+    read_answer g.S.Store (OfOpen c.args.member.now c.args.moment) IsCount c.args.conn.now c.ask.new.conn _ _ c.ask.ensures.kept c.ask.ensures.survives
+    (returns-clause-gives g c) (λ rows can. can) (λ clean club others stands rows asked count is.
+    is ∙ open_told g.S.Store c.args.conn.now c.args.member.now c.args.moment rows clean asked club others stands)
