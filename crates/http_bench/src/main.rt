@@ -21,11 +21,12 @@ use std::time::Duration;
 const ROUNDS: u8 = 5;
 
 fn main(rt: HostRuntime) -> Result<()> {
-    let mut words = env::args(&rt)?.skip(1);
-    let Some(count) = words.next() else {
+    let count = env::args(&rt)?
+        .nth(1)
+        .and_then(|word| word.as_str().parse::<u16>().ok());
+    let Some(count) = count else {
         return Ok(println!(rt; "usage: http_bench COUNT")?);
     };
-    let count = count.as_str().parse::<u16>()?;
     println!(rt;
         "{:>9} {:>9} | {:>8} {:>8} {:>8} {:>8} {:>8}",
         "asked for", "a second", "ns whole", "words", "httparse", "desk", "reply"
