@@ -1,11 +1,14 @@
-//! Lists of events, whose replies by the desk are those of the plain machine, and those to amy the
-//! replies of the machine that holds nothing but her part.
+//! Lists of events, whose replies by the desk are those of the plain machine, whether it is given them
+//! one by one or some at once, and those to amy the replies of the machine that holds nothing but her
+//! part.
 
 use crate::counter::{MemoryDesk, empty_desk, narrow_by, pass_of};
 use crate::drawn::{Asked, Event, KEYS, MEMBERS, Numbers, ROOT_BYTES, SLOTS};
 use crate::values::{START, add_facility, add_key, add_member, at, credit, name, root, slot};
 use club_core::{Command, OfficeAnswer, Pass, Reply, Request, Words};
-use club_gate::{Desk, Fault, OfficeReply, Words as SentWords, key_signature};
+use club_gate::{
+    Desk, Event as SentEvent, EventReply, Fault, OfficeReply, Words as SentWords, key_signature,
+};
 use club_plain::Club;
 use pass_caveats::{Kind, Name};
 use pass_forms::Form;
@@ -17,7 +20,13 @@ use std::test::*;
 // Every second list begins with the club that the one before it left.
 const PAIRS: u32 = 50;
 
+// Of these as many are also run six events at a time.
+const RUN_PAIRS: u32 = 20;
+
 const EVENTS: u32 = 60;
+
+// How many runs of six events a list is.
+const RUNS: u32 = EVENTS / 6;
 
 // Keys of the three members in their order, which no event names. Their accounts tell the totals.
 const AUDITORS: [&[u8]; 3] = [b"audit-amy", b"audit-bob", b"audit-cy"];
@@ -193,6 +202,82 @@ impl Trial {
             self.ask(rt, &audit(key));
         }
     }
+
+    /// Runs the next six events at once, and compares what each of them is told.
+    fn run(&mut self, rt: &(impl Abort + Alloc<A = Global>), numbers: &mut Numbers) {
+        let events = [
+            numbers.event(rt),
+            numbers.event(rt),
+            numbers.event(rt),
+            numbers.event(rt),
+            numbers.event(rt),
+            numbers.event(rt),
+        ];
+        let texts = texts_of(rt, &events);
+        assert_eq!(rt; texts.len(), events.len());
+        let told = self.told(
+            rt,
+            &[
+                sent(rt, &events[0], &texts[0]),
+                sent(rt, &events[1], &texts[1]),
+                sent(rt, &events[2], &texts[2]),
+                sent(rt, &events[3], &texts[3]),
+                sent(rt, &events[4], &texts[4]),
+                sent(rt, &events[5], &texts[5]),
+            ],
+        );
+        assert_eq!(rt; told.len(), events.len());
+        for (event, told) in events.iter().zip(told.iter()) {
+            assert_eq!(rt; *told, self.judged(rt, event));
+        }
+    }
+
+    /// What the desk tells events that are run at once.
+    fn told(&mut self, rt: &impl Abort, events: &[SentEvent<'_>]) -> Vec<EventReply> {
+        self.desk.run(events).expect(rt, "memory")
+    }
+
+    /// What the plain machine tells an event.
+    fn judged(&mut self, rt: &(impl Abort + Alloc<A = Global>), event: &Event) -> EventReply {
+        match event {
+            Event::Asked(asked) => {
+                let words = words_of(rt, asked);
+                let reply = self.plain.ask(&words, at(rt, asked.moment));
+                EventReply::Replied(reply.expect(rt, "memory"))
+            }
+            Event::Ordered(command) => {
+                let answer = self.plain.office(command).expect(rt, "memory");
+                EventReply::Answered(shown(answer))
+            }
+        }
+    }
+}
+
+/// The texts of the passes of events; an order has none.
+fn texts_of(rt: &(impl Abort + Alloc<A = Global>), events: &[Event]) -> Vec<String> {
+    let mut texts = Vec::new(rt.alloc());
+    for event in events {
+        let text = match event {
+            Event::Asked(asked) => text_of(rt, asked),
+            Event::Ordered(_) => String::new(rt.alloc()),
+        };
+        texts.push(text).expect(rt, "memory");
+    }
+    texts
+}
+
+/// An event as it is sent to the desk, with the text of its pass.
+fn sent<'a>(rt: &impl Abort, event: &Event, text: &'a String) -> SentEvent<'a> {
+    match event {
+        Event::Asked(asked) => SentEvent::Asked {
+            words: SentWords {
+                pass: text.as_bytes(),
+                request: asked.request,
+            },
+            moment: at(rt, asked.moment),
+        },
+        Event::Ordered(command) => SentEvent::Ordered(*command),
+    }
 }
 
 /// The asking for a member's account by a key that nothing else is asked for by.
@@ -216,5 +301,22 @@ fn answers_as_the_plain_machines(rt: HostRuntime) {
         let mut second = first.audited(&rt);
         second.play(&rt, &mut numbers);
         let _audited = second.audited(&rt);
+    }
+}
+
+// The first lists of the test above, each of them run six events at a time.
+#[test]
+fn runs_as_the_plain_machine(rt: HostRuntime) {
+    let mut numbers = Numbers::new();
+    for _ in 0..RUN_PAIRS {
+        let mut trial = Trial::begin(&rt);
+        for _ in 0..RUNS {
+            trial.run(&rt, &mut numbers);
+        }
+        let mut trial = trial.audited(&rt);
+        for _ in 0..RUNS {
+            trial.run(&rt, &mut numbers);
+        }
+        let _audited = trial.audited(&rt);
     }
 }
