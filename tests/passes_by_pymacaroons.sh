@@ -5,7 +5,7 @@
 set -eu
 . "$(dirname -- "$0")/serving.sh"
 python=/usr/bin/python3
-"$python" -c 'import pymacaroons, nacl' 2>/dev/null || apt-get install -y python3-pymacaroons >/dev/null
+"$python" -c 'import pymacaroons, nacl' 2>/dev/null || installs python3-pymacaroons
 
 cat >club.py <<'PYTHON'
 """A club by its rules, requests drawn by a fixed seed, and the replies that they are to get."""

@@ -437,9 +437,9 @@ no_pass
 ask GET /account "$amy" -H "Authorization: Bearer $amy"
 no_pass
 
-# Storage is refused: no file may grow. Nothing is booked, and the same request is served afterwards.
+# Storage is refused: a file may have one block of 512 bytes, enough to open the log and not for a booking. Nothing is booked, and the same request is served afterwards.
 fresh 'no storage'
-printf '#!/bin/sh\ntrap "" XFSZ\nulimit -f 0\nexec "%s" "$@"\n' "$desk" >limited
+printf '#!/bin/sh\ntrap "" XFSZ\nulimit -f 1\nexec "%s" "$@"\n' "$desk" >limited
 chmod +x limited
 unlimited=$desk
 desk=$work/limited

@@ -1,11 +1,16 @@
 # Read by the scripts beside it that run the desk's server: its programs, a folder to work in, and a server at a fixed moment.
 here=$(CDPATH='' cd -P -- "$(dirname -- "$0")" && pwd)
 
+# Installs Debian's packages, after a look at what there is where they aren't known.
+installs() {
+    apt-get install -y "$@" >/dev/null 2>&1 || { apt-get update >/dev/null && apt-get install -y "$@" >/dev/null; }
+}
+
 # wants COMMAND PACKAGE..: installs Debian's packages where the command is missing.
 wants() {
     command=$1
     shift
-    command -v "$command" >/dev/null || apt-get install -y "$@" >/dev/null || exit 2
+    command -v "$command" >/dev/null || installs "$@" || exit 2
 }
 
 # Proves and builds the programs first, where that isn't done. Then they are run themselves, so that a signal meets the server.
