@@ -1,0 +1,20 @@
+// Sets the clock that tells the time of day to the second that the variable CLOCK_SECOND tells, counted from 1970; where that is no
+// number the clock can't be read. Other clocks, such as the one for spans of time, stay as they are. Loaded before the C library.
+#define _GNU_SOURCE
+#include <dlfcn.h>
+#include <errno.h>
+#include <stdlib.h>
+#include <time.h>
+
+int clock_gettime(clockid_t clock, struct timespec *told) {
+    static int (*next)(clockid_t, struct timespec *);
+    if (!next) next = dlsym(RTLD_NEXT, "clock_gettime");
+    const char *text = getenv("CLOCK_SECOND");
+    if (clock != CLOCK_REALTIME || !text) return next(clock, told);
+    char *end;
+    told->tv_sec = strtoll(text, &end, 10);
+    told->tv_nsec = 0;
+    if (end != text && *end == 0) return 0;
+    errno = EINVAL;
+    return -1;
+}
