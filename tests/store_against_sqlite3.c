@@ -1,8 +1,8 @@
-// Does over a file of the club's tables what store_bench does, by the C library of SQLite: for each
-// booking it reads what its key sees, by the same statements in the same order, each in a
+// Does over a file of the club's tables what `club_bench store` does, by the C library of SQLite:
+// for each booking it reads what its key sees, by the same statements in the same order, each in a
 // transaction of its own, and makes the booking, with its member's total and its slot's, in one
 // transaction. Statements are prepared once, and the journal, the syncs, the lock, the tested
-// references and the count of cached pages are those of the file that store_bench writes. Prints
+// references and the count of cached pages are those of the file that `club_bench` writes. Prints
 // the microseconds of a view and of a booking, on average and the median.
 //   store_against_sqlite3 FILE ROWS COUNT
 #include <sqlite3.h>
@@ -10,8 +10,8 @@
 #include <stdlib.h>
 #include <time.h>
 
-// The club of store_bench: its members, each with one key, book in turn, two after another in the
-// same slot.
+// The club of that benchmark: its members, each with one key, book in turn, two after another in
+// the same slot.
 enum { KEYS = 1000, BOOKED_AHEAD = 2500, CHARGE = 2, PERSONS = 2, BOOKINGS_A_SLOT = 2, PLACES = 4 };
 enum { NAME = 16 };
 enum { FIRST_DAY = 10957, FIRST_HOUR = 8, HOURS_A_DAY = 14 };

@@ -1,8 +1,8 @@
 #!/bin/sh
-# Holds the time of a view and of a booking in a file against that of SQLite's C library. store_bench and a C program, which this
-# compiles, do the same statements in the same transactions over copies of one file, and must leave the same rows. Prints the
-# microseconds of the tables and of SQLite, the least of some rounds that take turns, and how often the second goes into the
-# first. Not part of the gate.
+# Holds the time of a view and of a booking in a file against that of SQLite's C library. `club_bench store` and a C program,
+# which this compiles, do the same statements in the same transactions over copies of one file, and must leave the same rows.
+# Prints the microseconds of the tables and of SQLite, the least of some rounds that take turns, and how often the second goes
+# into the first. Not part of the gate.
 #   tests/store_against_sqlite3.sh [COUNT [ROUNDS [ROWS ..]]]      so many bookings a round, in files with so many bookings
 # The files lie below TMPDIR. On a disk a booking is mostly its sync, which each does once.
 set -eu
@@ -16,8 +16,8 @@ command -v cc >/dev/null || apt-get install -y gcc libc6-dev >/dev/null
 work=$(mktemp -d)
 trap 'rm -rf "$work"' EXIT
 # It proves and builds the program first, where that isn't done.
-(cd "$here/../crates/store_bench" && rt run) </dev/null >/dev/null 2>"$work/log" || { cat "$work/log" >&2; exit 1; }
-bench=$here/../crates/store_bench/out/store_bench
+(cd "$here/../crates/club_bench" && rt run) </dev/null >/dev/null 2>"$work/log" || { cat "$work/log" >&2; exit 1; }
+bench=$here/../crates/club_bench/out/club_bench
 cc -O2 -o "$work/sqlite_bench" "$here/store_against_sqlite3.c" -lsqlite3
 cd "$work"
 mkdir made tables sqlite
@@ -29,7 +29,7 @@ round() {
     cp "made/club$1" sqlite
     # Else the syncs of the first that runs would wait for the copies.
     sync tables/* sqlite/*
-    "$bench" tables/club "$count" "$1" >told
+    "$bench" store tables/club "$count" "$1" >told
     awk '$2 == "mean" || $2 == "median" { print $2, $3, $4 }' told >>tables.took
     ./sqlite_bench "sqlite/club$1" "$1" "$count" >>sqlite.took
 }
@@ -50,7 +50,7 @@ least() {
 echo "microseconds, the least of $rounds rounds of $count; SQLite $(sqlite3 --version | cut -d ' ' -f 1)"
 printf '%8s %8s %22s %22s %22s\n' rows '' view booking both
 for rows; do
-    "$bench" made/club 0 "$rows" >/dev/null
+    "$bench" store made/club 0 "$rows" >/dev/null
     : >tables.took
     : >sqlite.took
     for _ in $(seq "$rounds"); do round "$rows"; done

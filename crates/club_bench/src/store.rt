@@ -1,11 +1,10 @@
-//! Prints how long a view and a booking take over the tables: `store_bench PLACE COUNT [ROWS ..]`.
-//! The view is what the desk looks at before it books. COUNT are made over each number of ROWS, and
-//! the last column is how often the first line's time both take.
+//! How long a view and a booking take over the tables. The view is what the desk looks at before it
+//! books. COUNT are made over each number of ROWS, and the last column is how often the first line's
+//! time both take.
 //!
-//! PLACE is `memory`, or a path, which gets the number of rows behind it. A file that isn't there
+//! The place is `memory`, or a path, which gets the number of rows behind it. A file that isn't there
 //! yet is made with so many bookings, and one that is there is taken for what a run with COUNT 0
 //! made.
-#![tactic(auto)]
 
 mod club;
 mod times;
@@ -13,8 +12,6 @@ mod times;
 use anyhow::Result;
 use club_store::Store;
 use sqlite::Unknown;
-use std::alloc::Global;
-use std::env;
 use times::{Times, measure};
 
 /// How many bookings are in the table before the time is taken.
@@ -22,26 +19,14 @@ const ROWS: [u32; 3] = [100, 10_000, 100_000];
 
 const MEMORY: &str = "memory";
 
-fn main(rt: HostRuntime) -> Result<()> {
-    let mut words = env::args(&rt)?.skip(1);
-    let (Some(place), Some(count)) = (words.next(), words.next()) else {
-        return Ok(println!(rt; "usage: store_bench memory|FILE COUNT [ROWS ..]")?);
-    };
-    let count = count.as_str().parse::<u32>()?;
-    let mut sizes = Vec::new(rt.alloc());
-    for word in words {
-        sizes.push(word.as_str().parse::<u32>()?)?;
-    }
+/// Prints each size's times, and the last size beside the first. Where no size is given, `ROWS` has
+/// them.
+pub(crate) fn compare(rt: &HostRuntime, place: &str, count: u32, sizes: &[u32]) -> Result<()> {
     let sizes = if sizes.is_empty() {
         ROWS.as_slice()
     } else {
-        sizes.as_slice()
+        sizes
     };
-    compare(&rt, place.as_str(), count, sizes)
-}
-
-// Prints a line for each size, and the last size beside the first.
-fn compare(rt: &HostRuntime, place: &str, count: u32, sizes: &[u32]) -> Result<()> {
     println!(rt; "microseconds, in {place}")?;
     println!(rt;
         "{:>8} {:>8} {:>11} {:>11} {:>11} {:>11}",

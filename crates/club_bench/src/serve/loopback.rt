@@ -1,7 +1,7 @@
 //! A server and its clients over loopback, in one process and one after the other.
 
+use crate::sent::Sent;
 use anyhow::{Result, anyhow};
-use bench_club::Sent;
 use club_http::{Face, Responder};
 use desk_server::{Fixed, Listening, serve_on};
 use std::alloc::Global;

@@ -2,14 +2,16 @@
 
 ghost use Rattle.std.specs.Prelude.{◌≤◌};
 
-use crate::fault::BenchFault;
 use crate::sent::Sent;
+use anyhow::{Result, anyhow};
 use club_core::{ClubStore, Reply};
 use club_http::{Desk, Face, MAX_REPLY_LEN, Outlet, ReadInlet, answer};
+use std::rt::Clock;
+use std::time::{Duration, Instant};
 
 /// Keeps the bytes that were written last, in memory.
 #[derive(Drop)]
-pub struct Kept {
+pub(crate) struct Kept {
     bytes: [u8; MAX_REPLY_LEN],
     len: usize,
     failures: u64,
@@ -18,7 +20,7 @@ pub struct Kept {
 
 impl Kept {
     /// Nothing was written yet.
-    pub fn new() -> Kept {
+    pub(crate) fn new() -> Kept {
         Kept {
             bytes: [0; MAX_REPLY_LEN],
             len: 0,
@@ -27,7 +29,7 @@ impl Kept {
     }
 
     /// What was written last.
-    pub fn bytes(&self) -> &[u8] {
+    pub(crate) fn bytes(&self) -> &[u8] {
         &self.bytes[..self.len]
     }
 }
@@ -51,21 +53,36 @@ impl Outlet for Kept {
     }
 }
 
-/// One exchange over memory, whose reply is kept in place of the one before.
+/// How long whole exchanges take, one after the other. The last reply is kept.
 ///
 /// # Errors
 ///
-/// The request wasn't served.
-pub fn exchange<S: ClubStore>(
+/// A request wasn't served.
+pub(crate) fn exchanges<S: ClubStore>(
+    rt: &impl Clock,
+    face: &mut Face,
+    desk: &mut Desk<S>,
+    sent: &[Sent],
+    kept: &mut Kept,
+) -> Result<Duration> {
+    let start = Instant::now(rt)?;
+    for each in sent {
+        exchange(face, desk, each, kept)?;
+    }
+    Ok(start.elapsed(rt)?)
+}
+
+// One exchange, whose reply is kept in place of the one before.
+fn exchange<S: ClubStore>(
     face: &mut Face,
     desk: &mut Desk<S>,
     sent: &Sent,
     kept: &mut Kept,
-) -> Result<(), BenchFault> {
+) -> Result<()> {
     kept.len = 0;
     let mut reader = ReadInlet::new(sent.text.as_bytes());
     match answer(face, desk, sent.moment, &mut reader, kept) {
-        Err(_) | Ok(Reply::Refused(_)) => Err(BenchFault::Request),
+        Err(_) | Ok(Reply::Refused(_)) => Err(anyhow!("a request isn't served")),
         Ok(_) => Ok(()),
     }
 }

@@ -1,6 +1,6 @@
 //! How long views and bookings take.
 
-use crate::club;
+use crate::store::club;
 use anyhow::{Result, anyhow};
 use club_store::Store;
 use sqlite::Alter;
@@ -90,7 +90,8 @@ fn mean(times: &[u128]) -> u128 {
 }
 
 impl Summary {
-    /// Prints a line of the medians and a line of the means, each with how often that of another summary it is.
+    /// Prints a line of the medians and a line of the means, each with how often that of another
+    /// summary it is.
     pub(crate) fn print(self, rt: &impl Print, rows: u32, first: Summary) -> Result<()> {
         print!(rt; "{rows:>8} {:>8}", "median")?;
         self.median.print(rt, first.median)?;
@@ -104,7 +105,8 @@ impl Pair {
         self.view.saturating_add(self.booking)
     }
 
-    // Prints the microseconds of a view, of a booking and of both, and how often those of another pair both are.
+    // Prints the microseconds of a view, of a booking and of both, and how often those of another
+    // pair both are.
     fn print(self, rt: &impl Print, first: Pair) -> Result<()> {
         let both = self.both();
         for nanos in [self.view, self.booking, both] {

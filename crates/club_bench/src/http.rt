@@ -1,42 +1,39 @@
-//! Prints how many exchanges a second there are over memory, and how long the parts of one take:
-//! `http_bench COUNT`. Each row has COUNT exchanges with a desk over tables in memory: bookings, the
-//! same bookings again, and accounts. The parts are measured on their own, with another desk: the
-//! words of the requests, the desk's answers, the texts of the replies. Beside the words stands how
-//! long `httparse` takes for the heads alone.
-#![tactic(auto)]
+//! How many exchanges a second there are over memory, and how long the parts of one take. Each row
+//! has COUNT exchanges with a desk over tables in memory: bookings, the same bookings again, and
+//! accounts. The parts are measured on their own, with another desk: the words of the requests, the
+//! desk's answers, the texts of the replies. Beside the words stands how long `httparse` takes for
+//! the heads alone.
 
 mod parts;
 
+use crate::club::in_memory;
+use crate::memory::{Kept, exchanges};
+use crate::rate::{nanos_each, rate};
+use crate::sent::{Sent, requests};
+use crate::wish::Wish;
 use anyhow::{Result, anyhow};
-use bench_club::{Kept, Sent, Wish, fill, requests};
 use club_core::Request;
 use club_http::{Desk, Face, MAX_REPLY_LEN, Routes};
 use club_store::Store;
 use sqlite::MemStore;
-use std::env;
 use std::rt::Clock;
 use std::time::Duration;
 
 /// How often the parts are measured that change nothing. The shortest time is printed.
 const ROUNDS: u8 = 5;
 
-fn main(rt: HostRuntime) -> Result<()> {
-    let count = env::args(&rt)?
-        .nth(1)
-        .and_then(|word| word.as_str().parse::<u16>().ok());
-    let Some(count) = count else {
-        return Ok(println!(rt; "usage: http_bench COUNT")?);
-    };
+/// Prints a line for each kind of request.
+pub(crate) fn compare(rt: &HostRuntime, count: u16) -> Result<()> {
     println!(rt;
         "{:>9} {:>9} | {:>8} {:>8} {:>8} {:>8} {:>8}",
         "asked for", "a second", "ns whole", "words", "httparse", "desk", "reply"
     )?;
     let bookings = requests(rt.alloc(), Wish::Booking, count)?;
     let accounts = requests(rt.alloc(), Wish::Account, count)?;
-    let mut bench = Bench::new(&rt)?;
-    bench.print_row(&rt, "bookings", &bookings)?;
-    bench.print_row(&rt, "repeats", &bookings)?;
-    bench.print_row(&rt, "accounts", &accounts)
+    let mut bench = Bench::new(rt)?;
+    bench.print_row(rt, "bookings", &bookings)?;
+    bench.print_row(rt, "repeats", &bookings)?;
+    bench.print_row(rt, "accounts", &accounts)
 }
 
 /// What is measured: whole exchanges with one desk, and the parts with another one.
@@ -53,8 +50,8 @@ impl Bench {
         Ok(Bench {
             face: Face::new(rt.alloc())?,
             routes: Routes::new(rt.alloc())?,
-            whole: filled(rt)?,
-            part: filled(rt)?,
+            whole: in_memory(rt)?,
+            part: in_memory(rt)?,
         })
     }
 
@@ -66,7 +63,7 @@ impl Bench {
         sent: &[Sent],
     ) -> Result<()> {
         let mut kept = Kept::new();
-        let whole = parts::exchanges(rt, &mut self.face, &mut self.whole, sent, &mut kept)?;
+        let whole = exchanges(rt, &mut self.face, &mut self.whole, sent, &mut kept)?;
         let (asked, read) = shortest_words(rt, &self.routes, sent)?;
         let heads = shortest_heads(rt, sent)?;
         let (replies, decided) = parts::replies(rt, &mut self.part, sent, &asked)?;
@@ -75,21 +72,13 @@ impl Bench {
         if !room.starts_with(kept.bytes()) {
             return Err(anyhow!("the parts give another reply"));
         }
-        let count = u128::try_from(sent.len())?.max(1);
-        let a_second = count * 1_000_000_000 / whole.as_nanos().max(1);
+        let a_second = rate(sent.len(), whole);
         print!(rt; "{name:>9} {a_second:>9} |")?;
         for time in [whole, read, heads, decided, written] {
-            print!(rt; " {:>8}", time.as_nanos() / count)?;
+            print!(rt; " {:>8}", nanos_each(sent.len(), time))?;
         }
         Ok(println!(rt)?)
     }
-}
-
-fn filled(rt: &impl AllocGlobal) -> Result<Desk<Store<MemStore>>> {
-    let store = Store::open_in_memory(rt.alloc())?;
-    let mut desk = Desk::new(rt.alloc(), store);
-    fill(&mut desk)?;
-    Ok(desk)
 }
 
 fn shortest_words(

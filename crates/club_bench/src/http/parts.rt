@@ -1,29 +1,14 @@
 //! The parts of an exchange, each on its own, with how long it takes for all requests.
 
+use crate::sent::Sent;
 use anyhow::{Result, anyhow};
-use bench_club::{Kept, Sent, exchange};
 use club_core::{ClubStore, Reply, Request};
-use club_http::{Desk, Face, MAX_REPLY_LEN, Routes, Words, reply_bytes, words_of};
+use club_http::{Desk, MAX_REPLY_LEN, Routes, Words, reply_bytes, words_of};
 use club_words::MAX_FIELDS;
 use httparse::Status;
 use httparse::spans::{EMPTY_HEADER_SPAN, HeaderSpan, parse_request};
 use std::rt::Clock;
 use std::time::{Duration, Instant};
-
-/// Whole exchanges. The last reply is kept.
-pub(crate) fn exchanges<S: ClubStore>(
-    rt: &impl Clock,
-    face: &mut Face,
-    desk: &mut Desk<S>,
-    sent: &[Sent],
-    kept: &mut Kept,
-) -> Result<Duration> {
-    let start = Instant::now(rt)?;
-    for each in sent {
-        exchange(face, desk, each, kept)?;
-    }
-    Ok(start.elapsed(rt)?)
-}
 
 /// What the requests ask for, by their words.
 pub(crate) fn words(
