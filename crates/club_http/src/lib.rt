@@ -18,6 +18,3 @@ pub use exchange::answer;
 pub use face::Face;
 pub use fault::AnswerFault;
 pub use responder::Responder;
-
-#[cfg(test)]
-mod tests;

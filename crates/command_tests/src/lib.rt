@@ -1,8 +1,10 @@
-//! Tests of `passtool`'s commands.
+//! Tests of `passtool`'s commands, and of the words of `clubdesk`'s.
 #![tactic(auto)]
 
 #[cfg(test)]
 mod bad_words;
+#[cfg(test)]
+mod desk;
 #[cfg(test)]
 mod failing;
 #[cfg(test)]

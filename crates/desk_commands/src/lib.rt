@@ -11,8 +11,6 @@ mod options;
 mod program;
 mod server;
 mod task;
-#[cfg(test)]
-mod tests;
 mod values;
 mod words;
 

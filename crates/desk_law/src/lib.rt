@@ -7,6 +7,3 @@ mod from_nothing;
 
 pub use crash::{run_and_leave, served_survives_a_crash};
 pub use from_nothing::{Told, reply_from_nothing, run_from_nothing};
-
-#[cfg(test)]
-mod tests;

@@ -19,8 +19,6 @@ const SUMMAND: u64 = 1_442_695_040_888_963_407;
 
 const UNUSED_BITS: u32 = 33;
 
-const FIRST: u64 = 2_026;
-
 pub(crate) const MEMBERS: [&[u8]; 3] = [b"amy", b"bob", b"cy"];
 
 pub(crate) const KEYS: [&[u8]; 4] = [b"amy-1", b"bob-1", b"cy-1", b"spare"];
@@ -72,8 +70,9 @@ pub(crate) struct Numbers {
 }
 
 impl Numbers {
-    pub fn new() -> Numbers {
-        Numbers { state: FIRST }
+    /// The row that a number begins.
+    pub fn new(first: u64) -> Numbers {
+        Numbers { state: first }
     }
 
     /// The next number, brought below a bound.

@@ -7,6 +7,8 @@ mod counter;
 #[cfg(test)]
 mod drawn;
 #[cfg(test)]
+mod law;
+#[cfg(test)]
 mod ledger;
 #[cfg(test)]
 mod lists;

@@ -17,11 +17,9 @@ use std::alloc::Global;
 use std::process::Abort;
 use std::test::*;
 
-// Every second list begins with the club that the one before it left.
-const PAIRS: u32 = 50;
-
-// Of these as many are also run six events at a time.
-const RUN_PAIRS: u32 = 20;
+// How many pairs of lists a test draws: the second begins with the club that the first one left. A
+// hundred lists in one test would take most of the minute that a test has.
+const PAIRS: u32 = 10;
 
 const EVENTS: u32 = 60;
 
@@ -292,31 +290,65 @@ fn audit(key: &'static [u8]) -> Asked {
     }
 }
 
-#[test]
-fn answers_as_the_plain_machines(rt: HostRuntime) {
-    let mut numbers = Numbers::new();
+/// Plays the lists of a row of numbers, and audits the club behind each of them.
+fn play_lists(rt: &(impl Abort + Alloc<A = Global>), first: u64) {
+    let mut numbers = Numbers::new(first);
     for _ in 0..PAIRS {
-        let mut first = Trial::begin(&rt);
-        first.play(&rt, &mut numbers);
-        let mut second = first.audited(&rt);
-        second.play(&rt, &mut numbers);
-        let _audited = second.audited(&rt);
+        let mut trial = Trial::begin(rt);
+        trial.play(rt, &mut numbers);
+        let mut trial = trial.audited(rt);
+        trial.play(rt, &mut numbers);
+        let _audited = trial.audited(rt);
     }
 }
 
-// The first lists of the test above, each of them run six events at a time.
+/// Runs the lists of a row of numbers six events at a time, and audits the club behind each of them.
+fn run_lists(rt: &(impl Abort + Alloc<A = Global>), first: u64) {
+    let mut numbers = Numbers::new(first);
+    for _ in 0..PAIRS {
+        let mut trial = Trial::begin(rt);
+        for _ in 0..RUNS {
+            trial.run(rt, &mut numbers);
+        }
+        let mut trial = trial.audited(rt);
+        for _ in 0..RUNS {
+            trial.run(rt, &mut numbers);
+        }
+        let _audited = trial.audited(rt);
+    }
+}
+
+#[test]
+fn answers_as_the_plain_machines(rt: HostRuntime) {
+    play_lists(&rt, 2_026);
+}
+
+#[test]
+fn answers_a_second_row_of_lists(rt: HostRuntime) {
+    play_lists(&rt, 2_027);
+}
+
+#[test]
+fn answers_a_third_row_of_lists(rt: HostRuntime) {
+    play_lists(&rt, 2_028);
+}
+
+#[test]
+fn answers_a_fourth_row_of_lists(rt: HostRuntime) {
+    play_lists(&rt, 2_029);
+}
+
+#[test]
+fn answers_a_fifth_row_of_lists(rt: HostRuntime) {
+    play_lists(&rt, 2_030);
+}
+
 #[test]
 fn runs_as_the_plain_machine(rt: HostRuntime) {
-    let mut numbers = Numbers::new();
-    for _ in 0..RUN_PAIRS {
-        let mut trial = Trial::begin(&rt);
-        for _ in 0..RUNS {
-            trial.run(&rt, &mut numbers);
-        }
-        let mut trial = trial.audited(&rt);
-        for _ in 0..RUNS {
-            trial.run(&rt, &mut numbers);
-        }
-        let _audited = trial.audited(&rt);
-    }
+    run_lists(&rt, 2_026);
+}
+
+#[test]
+fn runs_a_second_row_of_lists(rt: HostRuntime) {
+    run_lists(&rt, 2_027);
 }

@@ -1,9 +1,11 @@
-//! Tests of whole exchanges: bytes of a request, a desk over the tables in memory, and bytes of its
-//! reply.
+//! Tests of whole exchanges: bytes of a request, a desk over the tables in memory or one that counts,
+//! and bytes of its reply.
 #![tactic(auto)]
 
 #[cfg(test)]
 mod bad_requests;
+#[cfg(test)]
+mod counted;
 #[cfg(test)]
 mod ends;
 #[cfg(test)]

@@ -1,4 +1,5 @@
-//! Tests of the store of a club over the tables.
+//! Tests of the tables of a club, whose statements run over a database in memory, and of its store
+//! over them.
 #![tactic(auto)]
 
 #[cfg(test)]
@@ -6,6 +7,14 @@ mod crash;
 #[cfg(test)]
 mod expect;
 #[cfg(test)]
+mod fixture;
+#[cfg(test)]
+mod read;
+#[cfg(test)]
 mod store;
 #[cfg(test)]
+mod tables;
+#[cfg(test)]
 mod versions;
+#[cfg(test)]
+mod written;

@@ -1,33 +1,13 @@
-//! Clubs in memory. Each opening gives a new one: amy and bea with quota 5, amy with 10,000 points and
-//! bea with the most that there may be; court-1 with 4 places for 200 points, open from 8 to 22; amy's
-//! key amy-1; and the slots of 2026-05-01 at 19, which is closed, and at 20, which amy booked.
+//! A club in a file: amy and bea with quota 5, amy with 10,000 points and bea with the most that there
+//! may be; court-1 with 4 places for 200 points, open from 8 to 22; amy's key amy-1; and the slots of
+//! 2026-05-01 at 19, which is closed, and at 20, which amy booked.
 
 use super::runs::ROOT_BYTES;
-use club_core::{Change, Facility, Key, Member, StoreFault};
+use crate::files::Files;
+use club_core::{Change, ClubStore, Facility, Key, Member, StoreFault};
 use club_rows::{Booking, BookingNumber, Guests, Root};
-use club_store::Store;
 use club_values::{Day, Hour, Kind, Name, Slot};
 use desk_commands::Databases;
-use sqlite::MemStore;
-use std::alloc::Global;
-
-/// Clubs in memory, and how often one was opened and closed.
-#[derive(Drop)]
-pub struct Clubs {
-    pub alloc: Global,
-    pub opened: u64,
-    pub closed: u64,
-}
-
-impl Clubs {
-    pub fn new(alloc: Global) -> Clubs {
-        Clubs {
-            alloc,
-            opened: 0,
-            closed: 0,
-        }
-    }
-}
 
 fn named(text: &[u8]) -> Result<Name, StoreFault> {
     Name::read(text).ok_or(StoreFault::Storage)
@@ -41,42 +21,37 @@ fn slot(hour: &[u8]) -> Result<Slot, StoreFault> {
     })
 }
 
-fn add_members(store: &mut Store<MemStore>) -> Result<(), StoreFault> {
-    store.insert_member(&Member {
-        name: named(b"amy")?,
-        credited: 10_000,
+fn member(name: &[u8], credited: u32) -> Result<Change, StoreFault> {
+    Ok(Change::InsertMember(Member {
+        name: named(name)?,
+        credited,
         quota: 5,
-    })?;
-    store.insert_member(&Member {
-        name: named(b"bea")?,
-        credited: 999_999_999,
-        quota: 5,
-    })
+    }))
 }
 
-fn add_court(store: &mut Store<MemStore>) -> Result<(), StoreFault> {
-    store.insert_facility(&Facility {
+fn court() -> Result<Change, StoreFault> {
+    Ok(Change::InsertFacility(Facility {
         name: named(b"court-1")?,
         kind: Kind::Court,
         places: 4,
         price: 200,
         opens: 8,
         shuts: 22,
-    })
+    }))
 }
 
-fn add_key(store: &mut Store<MemStore>) -> Result<(), StoreFault> {
-    store.insert_key(&Key {
+fn key() -> Result<Change, StoreFault> {
+    Ok(Change::InsertKey(Key {
         name: named(b"amy-1")?,
         member: named(b"amy")?,
         root: Root::new(&ROOT_BYTES).ok_or(StoreFault::Storage)?,
         older: None,
         revoked: false,
-    })
+    }))
 }
 
-fn add_booking(store: &mut Store<MemStore>) -> Result<(), StoreFault> {
-    store.apply(&Change::InsertBooking(Booking {
+fn booking() -> Result<Change, StoreFault> {
+    Ok(Change::InsertBooking(Booking {
         key: named(b"amy-1")?,
         number: BookingNumber::new(1).ok_or(StoreFault::Storage)?,
         slot: slot(b"20")?,
@@ -88,27 +63,20 @@ fn add_booking(store: &mut Store<MemStore>) -> Result<(), StoreFault> {
     }))
 }
 
-impl Databases for Clubs {
-    type Store = Store<MemStore>;
+fn fill<S: ClubStore>(store: &mut S) -> Result<(), StoreFault> {
+    store.apply(&member(b"amy", 10_000)?)?;
+    store.apply(&member(b"bea", 999_999_999)?)?;
+    store.apply(&court()?)?;
+    store.apply(&key()?)?;
+    store.apply(&Change::MarkClosed(slot(b"19")?))?;
+    store.apply(&booking()?)
+}
 
-    ghost use Rattle.desk_server.specs.Served.{CountsOn};
-
-    ghost opens = { λ old name given new. CountsOn old.opened 1 new.opened };
-
-    ghost closes = { λ old store new. CountsOn old.closed 1 new.closed };
-
-    fn open(&mut self, _name: &str) -> Result<Store<MemStore>, StoreFault> {
-        self.opened = self.opened.saturating_add(1);
-        let mut store = Store::open_in_memory(self.alloc)?;
-        add_members(&mut store)?;
-        add_court(&mut store)?;
-        add_key(&mut store)?;
-        store.close_slot(&slot(b"19")?)?;
-        add_booking(&mut store)?;
-        Ok(store)
-    }
-
-    fn close(&mut self, _store: Store<MemStore>) {
-        self.closed = self.closed.saturating_add(1);
-    }
+/// Makes the club in a new file.
+pub fn make_club(rt: &HostRuntime, path: &str) -> Result<(), StoreFault> {
+    let mut files = Files { rt, tried: 0 };
+    let mut store = files.open(path)?;
+    fill(&mut store)?;
+    files.close(store);
+    Ok(())
 }

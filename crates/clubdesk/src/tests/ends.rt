@@ -1,10 +1,8 @@
-//! Ends that aren't the office's: a writer that fails, a port in use, a clock out of range.
+//! Ends that aren't the office's: a writer that fails, and a port in use.
 
-use super::clubs::Clubs;
-use super::runs::{PASS, ROOT, new_path, told_in_file, told_in_memory};
+use super::runs::{PASS, ROOT, new_path, remove, told_in_file, told_over_club};
 use crate::files::Files;
 use crate::run;
-use std::fs;
 use std::io::{self, ErrorKind, Write};
 use std::net::TcpListener;
 use std::test::Fail;
@@ -33,7 +31,7 @@ impl Write for Full {
 }
 
 // Runs words over a file, to a writer with room for so many bytes, and gives the status and how many
-// were taken.
+// were taken. Nothing is logged.
 fn status_with_room(rt: &HostRuntime, words: &[&str], room: usize) -> Result<(u8, usize), Fail> {
     let mut files = Files { rt, tried: 0 };
     let mut nothing: &[u8] = b"";
@@ -44,6 +42,9 @@ fn status_with_room(rt: &HostRuntime, words: &[&str], room: usize) -> Result<(u8
         Ok(()) => 0,
         Err(fault) => fault.status(),
     };
+    if !errors.is_empty() {
+        return Err("something is logged".into());
+    }
     Ok((status, full.taken))
 }
 
@@ -59,10 +60,7 @@ fn a_failing_writer(rt: HostRuntime) -> Result<(), Fail> {
     let again = format!(in rt.alloc(); "add-key {path} amy-1 amy {ROOT}")?;
     let told = told_in_file(&rt, again.as_str())?;
     assert_eq!(rt; told.as_str(), "1 refused: exists");
-    fs::remove_file(&rt, path)?;
-    let log = format!(in rt.alloc(); "{path}-wal")?;
-    fs::remove_file(&rt, log.as_str())?;
-    Ok(())
+    remove(&rt, path)
 }
 
 #[test]
@@ -89,35 +87,21 @@ fn a_minted_pass(rt: HostRuntime) -> Result<(), Fail> {
 fn a_port_in_use(rt: HostRuntime) -> Result<(), Fail> {
     let listener = TcpListener::bind(&rt, "127.0.0.1:0")?;
     let port = listener.local_addr()?.port();
-    let line = format!(in rt.alloc(); "serve club --port {port} --count 1")?;
-    let told = told_in_memory(&rt, line.as_str())?;
-    assert_eq!(rt; told.as_str(), "1/1 7 input or output failed");
+    let words = format!(in rt.alloc(); "--port {port} --count 1")?;
+    let (opened, told) = told_over_club(&rt, "serve", words.as_str())?;
+    assert_eq!(rt; opened, 1);
+    assert_eq!(rt; told.as_str(), "7 input or output failed");
     Ok(())
 }
 
 // A server whose first line can't be written serves nobody.
 #[test]
 fn a_server_that_tells_nothing(rt: HostRuntime) -> Result<(), Fail> {
-    let mut clubs = Clubs::new(rt.alloc());
-    let mut nothing: &[u8] = b"";
-    let mut full = Full { room: 5, taken: 0 };
-    let mut errors = Vec::new(rt.alloc());
+    let path = new_path(&rt, "silent")?;
+    let path = path.as_str();
     let words = [
-        "clubdesk", "serve", "club", "--port", "0", "--count", "1", "--log",
+        "clubdesk", "serve", path, "--port", "0", "--count", "1", "--log",
     ];
-    let outcome = run(
-        &rt,
-        &mut clubs,
-        &words,
-        &mut nothing,
-        &mut full,
-        &mut errors,
-    );
-    let status = match outcome {
-        Ok(()) => 0,
-        Err(fault) => fault.status(),
-    };
-    assert_eq!(rt; (status, full.taken), (7, 5));
-    assert!(rt; errors.is_empty());
-    Ok(())
+    assert_eq!(rt; status_with_room(&rt, &words, 5)?, (7, 5));
+    remove(&rt, path)
 }

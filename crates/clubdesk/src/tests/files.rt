@@ -1,6 +1,6 @@
 //! Runs of the program over files, one after the other, and a server between them.
 
-use super::runs::{PASS, ROOT, new_path, told_in_file};
+use super::runs::{PASS, ROOT, new_path, remove, told_in_file};
 use crate::files::Files;
 use club_http::{Desk, Face};
 use club_values::Moment;
@@ -17,14 +17,6 @@ const BOB_ROOT: &str = "ffeeddccbbaa99887766554433221100";
 
 const BOB_PASS: &str =
     "AgEJY2x1Yi1kZXNrAglrZXk6Ym9iLTEAAAYg2v03bJ3dkpTK_55Gekd3fd1QAXdMJSSXQKup64pSALs";
-
-// Removes a database, of which the log may be gone already.
-fn remove(rt: &HostRuntime, path: &str) -> Result<(), Fail> {
-    fs::remove_file(rt, path)?;
-    let log = format!(in rt.alloc(); "{path}-wal")?;
-    let _ = fs::remove_file(rt, log.as_str());
-    Ok(())
-}
 
 // Runs a command over a file; its words stand without the path, which is its second one.
 fn told(rt: &HostRuntime, command: &str, path: &str, words: &str) -> Result<String, Fail> {

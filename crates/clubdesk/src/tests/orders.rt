@@ -1,18 +1,26 @@
-//! Each command and each of its refusals, over new clubs in memory. An order opens the club once, and
-//! closes it.
+//! Each command and each of its refusals, each over a new club in a file, which an order opens once.
 
-use super::runs::told_in_memory;
+use super::runs::{told_in_file, told_over_club};
 use std::test::Fail;
 
-// Runs each line, and compares how it ended.
-fn expect(rt: &HostRuntime, lines: &[(&str, &str)]) -> Result<(), Fail> {
-    for (line, wanted) in lines {
-        let told = told_in_memory(rt, line)?;
-        if told.as_str() != *wanted {
-            return Err(format!(in rt.alloc(); "{line}: {told}")?.into());
+// Runs each command, whose words stand without the file, and compares how it ended. Each opens the
+// file so often.
+fn expect_opening(
+    rt: &HostRuntime,
+    openings: u64,
+    lines: &[(&str, &str, &str)],
+) -> Result<(), Fail> {
+    for (command, words, wanted) in lines {
+        let (opened, told) = told_over_club(rt, command, words)?;
+        if opened != openings || told.as_str() != *wanted {
+            return Err(format!(in rt.alloc(); "{command} {words}: {opened}, {told}")?.into());
         }
     }
     Ok(())
+}
+
+fn expect(rt: &HostRuntime, lines: &[(&str, &str, &str)]) -> Result<(), Fail> {
+    expect_opening(rt, 1, lines)
 }
 
 #[test]
@@ -20,40 +28,41 @@ fn members(rt: HostRuntime) -> Result<(), Fail> {
     expect(
         &rt,
         &[
-            ("add-member club cy 5", "1/1 0 done\n"),
-            ("add-member club cy 99", "1/1 0 done\n"),
-            ("add-member club cy 100", "1/1 1 refused: out of range"),
-            ("add-member club amy 100", "1/1 1 refused: out of range"),
-            ("add-member club amy 5", "1/1 1 refused: exists"),
-            ("credit club amy 1", "1/1 0 done\n"),
-            ("credit club amy 1000000", "1/1 0 done\n"),
-            ("credit club amy 0", "1/1 1 refused: out of range"),
-            ("credit club amy 1000001", "1/1 1 refused: out of range"),
-            ("credit club zed 0", "1/1 1 refused: out of range"),
-            ("credit club zed 1", "1/1 1 refused: unknown"),
-            ("credit club bea 1", "1/1 1 refused: out of range"),
+            ("add-member", "cy 5", "0 done\n"),
+            ("add-member", "cy 99", "0 done\n"),
+            ("add-member", "cy 100", "1 refused: out of range"),
+            ("add-member", "amy 100", "1 refused: out of range"),
+            ("add-member", "amy 5", "1 refused: exists"),
+            ("credit", "amy 1", "0 done\n"),
+            ("credit", "amy 1000000", "0 done\n"),
+            ("credit", "amy 0", "1 refused: out of range"),
+            ("credit", "amy 1000001", "1 refused: out of range"),
+            ("credit", "zed 0", "1 refused: out of range"),
+            ("credit", "zed 1", "1 refused: unknown"),
+            ("credit", "bea 1", "1 refused: out of range"),
         ],
     )
 }
 
 #[test]
 fn facilities(rt: HostRuntime) -> Result<(), Fail> {
-    let far = "1/1 1 refused: out of range";
+    let far = "1 refused: out of range";
     expect(
         &rt,
         &[
-            ("add-facility club b boat 1 0 0 24", "1/1 0 done\n"),
-            ("add-facility club b room 50 9999 23 24", "1/1 0 done\n"),
-            ("add-facility club b boat 0 0 0 24", far),
-            ("add-facility club b boat 51 0 0 24", far),
-            ("add-facility club b boat 1 10000 0 24", far),
-            ("add-facility club b boat 1 0 8 8", far),
-            ("add-facility club b boat 1 0 9 8", far),
-            ("add-facility club b boat 1 0 0 25", far),
-            ("add-facility club court-1 court 0 200 8 22", far),
+            ("add-facility", "b boat 1 0 0 24", "0 done\n"),
+            ("add-facility", "b room 50 9999 23 24", "0 done\n"),
+            ("add-facility", "b boat 0 0 0 24", far),
+            ("add-facility", "b boat 51 0 0 24", far),
+            ("add-facility", "b boat 1 10000 0 24", far),
+            ("add-facility", "b boat 1 0 8 8", far),
+            ("add-facility", "b boat 1 0 9 8", far),
+            ("add-facility", "b boat 1 0 0 25", far),
+            ("add-facility", "court-1 court 0 200 8 22", far),
             (
-                "add-facility club court-1 court 4 200 8 22",
-                "1/1 1 refused: exists",
+                "add-facility",
+                "court-1 court 4 200 8 22",
+                "1 refused: exists",
             ),
         ],
     )
@@ -64,34 +73,33 @@ fn slots_and_sheets(rt: HostRuntime) -> Result<(), Fail> {
     expect(
         &rt,
         &[
-            ("close-slot club court-1 2026-05-01 18", "1/1 0 done\n"),
+            ("close-slot", "court-1 2026-05-01 18", "0 done\n"),
+            ("close-slot", "court-2 2026-05-01 07", "1 refused: unknown"),
             (
-                "close-slot club court-2 2026-05-01 07",
-                "1/1 1 refused: unknown",
+                "close-slot",
+                "court-1 2026-05-01 07",
+                "1 refused: out of range",
             ),
             (
-                "close-slot club court-1 2026-05-01 07",
-                "1/1 1 refused: out of range",
+                "close-slot",
+                "court-1 2026-05-01 22",
+                "1 refused: out of range",
+            ),
+            ("close-slot", "court-1 2026-05-01 19", "1 refused: exists"),
+            (
+                "close-slot",
+                "court-1 2026-05-01 20",
+                "1 refused: slot in use",
             ),
             (
-                "close-slot club court-1 2026-05-01 22",
-                "1/1 1 refused: out of range",
+                "sheet",
+                "2026-05-02",
+                "0 Day sheet 2026-05-02\nNo bookings.\n",
             ),
             (
-                "close-slot club court-1 2026-05-01 19",
-                "1/1 1 refused: exists",
-            ),
-            (
-                "close-slot club court-1 2026-05-01 20",
-                "1/1 1 refused: slot in use",
-            ),
-            (
-                "sheet club 2026-05-02",
-                "1/1 0 Day sheet 2026-05-02\nNo bookings.\n",
-            ),
-            (
-                "sheet club 2026-05-01",
-                "1/1 0 Day sheet 2026-05-01\n\
+                "sheet",
+                "2026-05-01",
+                "0 Day sheet 2026-05-01\n\
                 court-1                  20:00 amy-1                            1  1    200\n\
                 Total bookings 1, persons 1, charge 200\n",
             ),
@@ -105,31 +113,32 @@ fn keys(rt: HostRuntime) -> Result<(), Fail> {
     expect(
         &rt,
         &[
-            ("revoke-key club amy-1", "1/1 0 done\n"),
-            ("revoke-key club amy-2", "1/1 1 refused: unknown"),
+            ("revoke-key", "amy-1", "0 done\n"),
+            ("revoke-key", "amy-2", "1 refused: unknown"),
             (
-                "add-key club k bob 00112233445566778899aabbccddeeff",
-                "1/1 1 refused: unknown",
+                "add-key",
+                "k bob 00112233445566778899aabbccddeeff",
+                "1 refused: unknown",
             ),
             (
-                "add-key club amy-1 bob 00112233445566778899aabbccddeeff",
-                "1/1 1 refused: unknown",
+                "add-key",
+                "amy-1 bob 00112233445566778899aabbccddeeff",
+                "1 refused: unknown",
             ),
             (
-                "add-key club amy-1 amy 00112233445566778899aabbccddeeff",
-                "1/1 1 refused: exists",
+                "add-key",
+                "amy-1 amy 00112233445566778899aabbccddeeff",
+                "1 refused: exists",
             ),
             (
-                "add-key club k amy 00112233445566778899aabbccddee",
-                "0/0 3 bad value",
+                "rotate-key",
+                "k 00112233445566778899aabbccddeeff 2026-04-25T00:00",
+                "1 refused: unknown",
             ),
             (
-                "rotate-key club k 00112233445566778899aabbccddeeff 2026-04-25T00:00",
-                "1/1 1 refused: unknown",
-            ),
-            (
-                "rotate-key club amy-1 00112233445566778899aabbccddeeff 2026-04-25T00:00",
-                "1/1 1 refused: exists",
+                "rotate-key",
+                "amy-1 00112233445566778899aabbccddeeff 2026-04-25T00:00",
+                "1 refused: exists",
             ),
         ],
     )
@@ -142,21 +151,25 @@ fn passes_of_keys(rt: HostRuntime) -> Result<(), Fail> {
         &rt,
         &[
             (
-                "add-key club amy-2 amy 00112233445566778899aabbccddeeff",
-                "1/1 0 AgEJY2x1Yi1kZXNrAglrZXk6YW15LTIAAAYgUOOwsg36q2wZ89taIV1hBCPWdeNG5HoD3cxZpXgEN0M\n",
+                "add-key",
+                "amy-2 amy 00112233445566778899aabbccddeeff",
+                "0 AgEJY2x1Yi1kZXNrAglrZXk6YW15LTIAAAYgUOOwsg36q2wZ89taIV1hBCPWdeNG5HoD3cxZpXgEN0M\n",
             ),
             (
-                "add-key club amy-2 amy 00112233445566778899aabbccddeeff --form v1",
-                "1/1 0 MDAxN2xvY2F0aW9uIGNsdWItZGVzawowMDE5aWRlbnRpZmllciBrZXk6YW15LTIKMDAyZnNpZ25hdHVyZ\
+                "add-key",
+                "amy-2 amy 00112233445566778899aabbccddeeff --form v1",
+                "0 MDAxN2xvY2F0aW9uIGNsdWItZGVzawowMDE5aWRlbnRpZmllciBrZXk6YW15LTIKMDAyZnNpZ25hdHVyZ\
                 SBQ47CyDfqrbBnz21ohXWEEI9Z140bkegPdzFmleAQ3Qwo\n",
             ),
             (
-                "rotate-key club amy-1 ffeeddccbbaa99887766554433221100 2026-04-25T00:00",
-                "1/1 0 AgEJY2x1Yi1kZXNrAglrZXk6YW15LTEAAAYgKCFX6Yuml46qONOaXLd8NdScMHF3Rhger2bpvDhpHo8\n",
+                "rotate-key",
+                "amy-1 ffeeddccbbaa99887766554433221100 2026-04-25T00:00",
+                "0 AgEJY2x1Yi1kZXNrAglrZXk6YW15LTEAAAYgKCFX6Yuml46qONOaXLd8NdScMHF3Rhger2bpvDhpHo8\n",
             ),
             (
-                "rotate-key club amy-1 ffeeddccbbaa99887766554433221100 2026-04-25T00:00 --form json",
-                "1/1 0 {\"c\":[],\"i\":\"key:amy-1\",\"l\":\"club-desk\",\
+                "rotate-key",
+                "amy-1 ffeeddccbbaa99887766554433221100 2026-04-25T00:00 --form json",
+                "0 {\"c\":[],\"i\":\"key:amy-1\",\"l\":\"club-desk\",\
                 \"s64\":\"KCFX6Yuml46qONOaXLd8NdScMHF3Rhger2bpvDhpHo8\",\"v\":2}\n",
             ),
         ],
@@ -166,12 +179,19 @@ fn passes_of_keys(rt: HostRuntime) -> Result<(), Fail> {
 // Words are judged before a club is opened.
 #[test]
 fn words(rt: HostRuntime) -> Result<(), Fail> {
-    expect(
+    let told = told_in_file(&rt, "--version")?;
+    assert_eq!(rt; told.as_str(), "0 clubdesk 0.1.0\n");
+    expect_opening(
         &rt,
+        0,
         &[
-            ("sheet club 2026-02-29", "0/0 3 bad value"),
-            ("serve club --port 65536 --count 1", "0/0 3 bad value"),
-            ("--version", "0/0 0 clubdesk 0.1.0\n"),
+            ("sheet", "2026-02-29", "3 bad value"),
+            ("serve", "--port 65536 --count 1", "3 bad value"),
+            (
+                "add-key",
+                "k amy 00112233445566778899aabbccddee",
+                "3 bad value",
+            ),
         ],
     )
 }

@@ -1,11 +1,11 @@
 //! Runs of the program, as texts.
 
-use super::clubs::Clubs;
+use super::clubs::make_club;
 use crate::files::Files;
 use crate::run;
-use desk_commands::{Databases, Fault};
+use desk_commands::Fault;
 use std::test::Fail;
-use std::{env, process};
+use std::{env, fs, process};
 
 /// Sixteen bytes, in hexadecimal and as they are.
 pub const ROOT: &str = "00112233445566778899aabbccddeeff";
@@ -49,19 +49,15 @@ fn ended(rt: &HostRuntime, outcome: Result<(), Fault>, written: &[u8]) -> Result
     }
 }
 
-/// Runs the program on a line of words over some databases, and tells how it ended.
-fn told_over<D: Databases>(
-    rt: &HostRuntime,
-    databases: &mut D,
-    line: &str,
-) -> Result<String, Fail> {
+/// Runs the program on a line of words over databases in files, and tells how it ended.
+fn told_over(rt: &HostRuntime, files: &mut Files<'_>, line: &str) -> Result<String, Fail> {
     let words = words_of(rt, line)?;
     let mut written = Vec::new(rt.alloc());
     let mut nothing: &[u8] = b"";
     let mut errors = Vec::new(rt.alloc());
     let outcome = run(
         rt,
-        databases,
+        files,
         words.as_slice(),
         &mut nothing,
         &mut written,
@@ -70,17 +66,28 @@ fn told_over<D: Databases>(
     ended(rt, outcome, written.as_slice())
 }
 
-/// Runs the program over a new club in memory, and tells how it ended, and how often the club was
-/// opened and closed.
-pub fn told_in_memory(rt: &HostRuntime, line: &str) -> Result<String, Fail> {
-    let mut clubs = Clubs::new(rt.alloc());
-    let told = told_over(rt, &mut clubs, line)?;
-    let (opened, closed) = (clubs.opened, clubs.closed);
-    Ok(format!(in rt.alloc(); "{opened}/{closed} {told}")?)
-}
-
 /// Runs the program over the database in a file, and tells how it ended.
 pub fn told_in_file(rt: &HostRuntime, line: &str) -> Result<String, Fail> {
     let mut files = Files { rt, tried: 0 };
     told_over(rt, &mut files, line)
+}
+
+/// Removes a database, of which the file or its log may be gone already.
+pub fn remove(rt: &HostRuntime, path: &str) -> Result<(), Fail> {
+    let _ = fs::remove_file(rt, path);
+    let log = format!(in rt.alloc(); "{path}-wal")?;
+    let _ = fs::remove_file(rt, log.as_str());
+    Ok(())
+}
+
+/// Runs a command over a club that is made for it, and tells how often it opened the club, and how
+/// it ended. Its words stand without the path, which is its second one.
+pub fn told_over_club(rt: &HostRuntime, command: &str, words: &str) -> Result<(u64, String), Fail> {
+    let path = new_path(rt, "club")?;
+    make_club(rt, path.as_str())?;
+    let line = format!(in rt.alloc(); "{command} {path} {words}")?;
+    let mut files = Files { rt, tried: 0 };
+    let told = told_over(rt, &mut files, line.as_str())?;
+    remove(rt, path.as_str())?;
+    Ok((files.tried, told))
 }

@@ -1,7 +1,7 @@
 //! The statuses and lines of the faults.
 
-use crate::{Fault, not_text};
 use club_core::OfficeFault;
+use desk_commands::{Fault, not_text};
 use std::test::Fail;
 
 #[test]

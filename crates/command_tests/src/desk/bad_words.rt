@@ -1,7 +1,7 @@
 //! Words that are refused, and help.
 
 use super::ROOT;
-use crate::{Asked, command_of, not_text};
+use desk_commands::{Asked, command_of, not_text};
 use std::alloc::Global;
 use std::process::Abort;
 use std::test::Fail;

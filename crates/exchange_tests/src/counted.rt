@@ -2,8 +2,8 @@
 
 mod doubles;
 
-use crate::{AnswerFault, Face, ReadInlet, WriteOutlet, answer};
 use club_core::{BookingNumber, Guests, Refusal, Reply, Request};
+use club_http::{AnswerFault, Face, ReadInlet, WriteOutlet, answer};
 use doubles::{Counting, Narrow, Pieces};
 use pass_caveats::{Day, Hour, Moment, Name, Slot};
 use std::io::{Read, Write};

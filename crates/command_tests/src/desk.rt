@@ -1,6 +1,6 @@
-//! What the words ask for.
+//! What the words of `clubdesk` ask for.
 
-use crate::{Asked, Clock, Job, Service, Task, command_of, laws};
+use desk_commands::{Asked, Clock, Job, Service, Task, command_of, laws};
 use std::alloc::Global;
 use std::process::Abort;
 use std::test::Fail;

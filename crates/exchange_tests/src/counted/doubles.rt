@@ -2,9 +2,8 @@
 
 ghost use Rattle.std.specs.Prelude.{◌≤◌};
 
-use crate::{Inlet, Outlet, Responder};
 use club_core::{Reply, Request};
-use club_words::Words;
+use club_http::{Inlet, Outlet, Responder, Words};
 use pass_caveats::Moment;
 
 /// Gives a few bytes a call; at its end it gives none, or fails.
