@@ -6,8 +6,36 @@ use super::runs::ROOT_BYTES;
 use crate::files::Files;
 use club_core::{Change, ClubStore, Facility, Key, Member, StoreFault};
 use club_rows::{Booking, BookingNumber, Guests, Root};
+use club_store::Store;
 use club_values::{Day, Hour, Kind, Name, Slot};
 use desk_commands::Databases;
+use sqlite::{FileFrom, FileStore, Unknown};
+
+/// The databases in files, and how often one was closed.
+#[derive(Drop)]
+pub struct Counted<'a> {
+    pub files: Files<'a>,
+    pub closed: u64,
+}
+
+impl<'a> Databases for Counted<'a> {
+    type Store = Store<FileStore<FileFrom<Unknown>>>;
+
+    ghost use Rattle.desk_server.specs.Served.{CountsOn};
+
+    ghost opens = { λ old name given new. CountsOn old.files.tried 1 new.files.tried };
+
+    ghost closes = { λ old store new. CountsOn old.closed 1 new.closed };
+
+    fn open(&mut self, name: &str) -> Result<Store<FileStore<FileFrom<Unknown>>>, StoreFault> {
+        self.files.open(name)
+    }
+
+    fn close(&mut self, store: Store<FileStore<FileFrom<Unknown>>>) {
+        self.closed = self.closed.saturating_add(1);
+        self.files.close(store);
+    }
+}
 
 fn named(text: &[u8]) -> Result<Name, StoreFault> {
     Name::read(text).ok_or(StoreFault::Storage)

@@ -1,6 +1,6 @@
 //! Ends that aren't the office's: a writer that fails, and a port in use.
 
-use super::runs::{PASS, ROOT, new_path, remove, told_in_file, told_over_club};
+use super::runs::{PASS, ROOT, new_path, remove, run_over_club, told_in_file};
 use crate::files::Files;
 use crate::run;
 use std::io::{self, ErrorKind, Write};
@@ -88,9 +88,9 @@ fn a_port_in_use(rt: HostRuntime) -> Result<(), Fail> {
     let listener = TcpListener::bind(&rt, "127.0.0.1:0")?;
     let port = listener.local_addr()?.port();
     let words = format!(in rt.alloc(); "--port {port} --count 1")?;
-    let (opened, told) = told_over_club(&rt, "serve", words.as_str())?;
-    assert_eq!(rt; opened, 1);
-    assert_eq!(rt; told.as_str(), "7 input or output failed");
+    let outcome = run_over_club(&rt, "serve", words.as_str())?;
+    assert_eq!(rt; (outcome.opened, outcome.closed), (1, 1));
+    assert_eq!(rt; outcome.told.as_str(), "7 input or output failed");
     Ok(())
 }
 

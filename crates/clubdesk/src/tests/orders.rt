@@ -1,19 +1,26 @@
-//! Each command and each of its refusals, each over a new club in a file, which an order opens once.
+//! Each command and each of its refusals, each over a new club in a file, which an order opens and
+//! closes once.
 
-use super::runs::{told_in_file, told_over_club};
+use super::runs::{Outcome, run_over_club, told_in_file};
 use std::test::Fail;
 
-// Runs each command, whose words stand without the file, and compares how it ended. Each opens the
-// file so often.
+// Runs each command, whose words stand without the file, and compares how it ended. Each opens and
+// closes the file so often.
 fn expect_opening(
     rt: &HostRuntime,
     openings: u64,
     lines: &[(&str, &str, &str)],
 ) -> Result<(), Fail> {
     for (command, words, wanted) in lines {
-        let (opened, told) = told_over_club(rt, command, words)?;
-        if opened != openings || told.as_str() != *wanted {
-            return Err(format!(in rt.alloc(); "{command} {words}: {opened}, {told}")?.into());
+        let Outcome {
+            opened,
+            closed,
+            told,
+        } = run_over_club(rt, command, words)?;
+        if opened != openings || closed != openings || told.as_str() != *wanted {
+            return Err(format!(in rt.alloc();
+                "{command} {words}: {opened}, {closed}, {told}"
+            )?.into());
         }
     }
     Ok(())

@@ -1,9 +1,9 @@
 //! Runs of the program, as texts.
 
-use super::clubs::make_club;
+use super::clubs::{Counted, make_club};
 use crate::files::Files;
 use crate::run;
-use desk_commands::Fault;
+use desk_commands::{Databases, Fault};
 use std::test::Fail;
 use std::{env, fs, process};
 
@@ -49,15 +49,19 @@ fn ended(rt: &HostRuntime, outcome: Result<(), Fault>, written: &[u8]) -> Result
     }
 }
 
-/// Runs the program on a line of words over databases in files, and tells how it ended.
-fn told_over(rt: &HostRuntime, files: &mut Files<'_>, line: &str) -> Result<String, Fail> {
+/// Runs the program on a line of words over databases, and tells how it ended.
+fn told_over<D: Databases>(
+    rt: &HostRuntime,
+    databases: &mut D,
+    line: &str,
+) -> Result<String, Fail> {
     let words = words_of(rt, line)?;
     let mut written = Vec::new(rt.alloc());
     let mut nothing: &[u8] = b"";
     let mut errors = Vec::new(rt.alloc());
     let outcome = run(
         rt,
-        files,
+        databases,
         words.as_slice(),
         &mut nothing,
         &mut written,
@@ -80,14 +84,29 @@ pub fn remove(rt: &HostRuntime, path: &str) -> Result<(), Fail> {
     Ok(())
 }
 
-/// Runs a command over a club that is made for it, and tells how often it opened the club, and how
-/// it ended. Its words stand without the path, which is its second one.
-pub fn told_over_club(rt: &HostRuntime, command: &str, words: &str) -> Result<(u64, String), Fail> {
+/// How often a run opened and closed its database, and how it ended.
+#[derive(Drop)]
+pub struct Outcome {
+    pub opened: u64,
+    pub closed: u64,
+    pub told: String,
+}
+
+/// Runs a command over a club that is made for it. Its words stand without the path, which is its
+/// second one.
+pub fn run_over_club(rt: &HostRuntime, command: &str, words: &str) -> Result<Outcome, Fail> {
     let path = new_path(rt, "club")?;
     make_club(rt, path.as_str())?;
     let line = format!(in rt.alloc(); "{command} {path} {words}")?;
-    let mut files = Files { rt, tried: 0 };
-    let told = told_over(rt, &mut files, line.as_str())?;
+    let mut databases = Counted {
+        files: Files { rt, tried: 0 },
+        closed: 0,
+    };
+    let told = told_over(rt, &mut databases, line.as_str())?;
     remove(rt, path.as_str())?;
-    Ok((files.tried, told))
+    Ok(Outcome {
+        opened: databases.files.tried,
+        closed: databases.closed,
+        told,
+    })
 }
