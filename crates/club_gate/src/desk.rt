@@ -39,7 +39,6 @@ ghost use Rattle.club_gate.specs.Told.{answer_or_fault, event_of, reply_or_unava
 
 use crate::event::{Event, EventReply, OfficeReply};
 use crate::fault::Fault;
-use crate::kept::KeptKeys;
 use crate::laws::finds_names;
 use club_core::{
     Change, ClubStore, Command, OfficeAnswer, OrderView, Refusal, Reply, SentWords, SlotUse,
@@ -51,6 +50,7 @@ use club_laws::desk_law::{
 };
 use club_laws::failed::never_unavailable;
 use club_laws::sound::steps_keep_sound;
+use kept_keys::KeptKeys;
 use pass_caveats::laws::reads_what_is_understood;
 use pass_caveats::{Day, Moment};
 use pass_forms::laws::tells_signed;

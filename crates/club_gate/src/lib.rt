@@ -6,7 +6,6 @@ mod desk;
 mod event;
 mod fault;
 mod identifier;
-mod kept;
 pub mod laws;
 mod mint;
 mod run;
@@ -19,8 +18,3 @@ pub use desk::Desk;
 pub use event::{Event, EventReply, OfficeReply};
 pub use fault::Fault;
 pub use mint::{LOCATION, key_signature, minted};
-
-#[cfg(test)]
-mod single_store;
-#[cfg(test)]
-mod tests;

@@ -47,6 +47,3 @@ pub fn minted(alloc: Global, name: &Name, signature: [u8; 32]) -> Result<Pass, A
     identifier.extend_from_slice(name.as_bytes())?;
     Ok(Pass::new(location, identifier, Vec::new(alloc), signature))
 }
-
-#[cfg(test)]
-mod tests;

@@ -4,8 +4,8 @@ ghost use Rattle.std.specs.Prelude.{◌≡◌};
 ghost use Rattle.pass_mac.specs.Hmac.{hmac};
 ghost use Rattle.club_gate.specs.Signing.{begun, grown, is_one_of};
 
-use crate::kept::KeptKeys;
 use club_core::Key;
+use kept_keys::KeptKeys;
 use pass_caveats::Moment;
 use pass_mac::{Chain, same};
 

@@ -29,13 +29,13 @@ ghost use Rattle.club_gate.specs.Verify.{answer_to_fault, fields_behind, view_na
 
 use crate::desk::Desk;
 use crate::identifier::name_in;
-use crate::kept::KeptKeys;
 use crate::signing::Signing;
 use crate::walk::walk;
 use club_core::laws::views_decide;
 use club_core::{
     ClubStore, FormFault as PassFault, Request, SentWords, StoreFault, Verdict, View, answer,
 };
+use kept_keys::KeptKeys;
 use pass_caveats::Moment;
 use pass_forms::laws::{reads_v1_exactly, reads_v2_exactly};
 use pass_forms::{Field, FieldSource, Form, FormFault, MAX_BYTES, V1Fields, V2Fields, unwrap_text};

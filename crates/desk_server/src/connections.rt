@@ -38,8 +38,9 @@ impl Connection for TcpStream {
     }
 }
 
-// One exchange, over any two ends.
-pub(crate) fn exchange_over<D: Responder, R: Inlet + Drop, W: Outlet>(
+/// One exchange with the desk at a moment, over any two ends: a connection that is no socket makes
+/// its own by this.
+pub fn exchange_over<D: Responder, R: Inlet + Drop, W: Outlet>(
     face: &mut Face,
     desk: &mut D,
     moment: Moment,

@@ -7,11 +7,9 @@ mod log;
 mod moments;
 mod request_line;
 mod serve;
-#[cfg(test)]
-mod tests;
 mod zone;
 
-pub use connections::{Connection, Connections, Exchange, Listening};
+pub use connections::{Connection, Connections, Exchange, Listening, exchange_over};
 pub use log::{Fate, Log, LogLines, Unlogged};
 pub use moments::{ClockIn, Fixed, Moments};
 pub use request_line::{MAX_KEPT, RequestLine};

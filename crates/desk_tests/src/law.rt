@@ -44,30 +44,46 @@ fn asked<'a>(rt: &impl Abort, pass: &'a [u8], request: Request) -> Event<'a> {
     }
 }
 
+// A booking of `court-1` for three persons.
+fn booking<'a>(rt: &impl Abort, pass: &'a [u8]) -> Event<'a> {
+    asked(rt, pass, book(rt, 18, 7, 2))
+}
+
+// Four orders that are done, a booking and its two repeats, and the account.
+fn are_told(rt: &impl Abort, replies: &[EventReply]) {
+    let signed = OfficeReply::Key {
+        signature: *SIGNATURE,
+    };
+    assert_eq!(rt; replies.len(), 8);
+    for reply in &replies[..3] {
+        assert_eq!(rt; *reply, EventReply::Answered(OfficeReply::Done));
+    }
+    assert_eq!(rt; replies[3], EventReply::Answered(signed));
+    for reply in &replies[4..7] {
+        assert_eq!(rt;
+            *reply,
+            EventReply::Replied(booked(rt, b"amy-1", 7, 600, 1))
+        );
+    }
+    assert_eq!(rt; replies[7], EventReply::Replied(account(rt, 9_400, 1, 600)));
+}
+
 // A booking, its repeat in two other forms, and the account, which was charged once.
 #[test]
 fn books_once_in_three_forms(rt: HostRuntime) -> Result<(), Fail> {
     let [member, credit, court, key] = orders(&rt);
-    let request = book(&rt, 18, 7, 2);
     let events = [
         Event::Ordered(member),
         Event::Ordered(credit),
         Event::Ordered(court),
         Event::Ordered(key),
-        asked(&rt, V2, request),
-        asked(&rt, V1, request),
-        asked(&rt, JSON, request),
+        booking(&rt, V2),
+        booking(&rt, V1),
+        booking(&rt, JSON),
         asked(&rt, V1, Request::Account),
     ];
-    let done = EventReply::Answered(OfficeReply::Done);
-    let signed = EventReply::Answered(OfficeReply::Key {
-        signature: *SIGNATURE,
-    });
-    let booked = EventReply::Replied(booked(&rt, b"amy-1", 7, 600, 1));
-    let account = EventReply::Replied(account(&rt, 9_400, 1, 600));
-    let told = [done, done, done, signed, booked, booked, booked, account];
     let replies = run_from_nothing(rt.alloc(), &events)?;
-    assert_eq!(rt; replies.as_slice(), told.as_slice());
+    are_told(&rt, replies.as_slice());
     Ok(())
 }
 
@@ -80,7 +96,7 @@ fn answers_after_a_list(rt: HostRuntime) -> Result<(), Fail> {
         Event::Ordered(credit),
         Event::Ordered(court),
         Event::Ordered(key),
-        asked(&rt, V2, book(&rt, 18, 7, 2)),
+        booking(&rt, V2),
     ];
     let words = Words {
         pass: V1,

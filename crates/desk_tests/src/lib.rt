@@ -13,6 +13,10 @@ mod ledger;
 #[cfg(test)]
 mod lists;
 #[cfg(test)]
+mod refusals;
+#[cfg(test)]
+mod refusing;
+#[cfg(test)]
 mod rotation;
 #[cfg(test)]
 mod rows;

@@ -1,5 +1,5 @@
 //! Tests of whole exchanges: bytes of a request, a desk over the tables in memory or one that counts,
-//! and bytes of its reply.
+//! and bytes of its reply; and of the server, over sockets and over connections in memory.
 #![tactic(auto)]
 
 #[cfg(test)]
@@ -24,3 +24,5 @@ mod refused_memory;
 mod rows;
 #[cfg(test)]
 mod said;
+#[cfg(test)]
+mod server;

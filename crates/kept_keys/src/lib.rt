@@ -1,15 +1,18 @@
+//! Keys that are derived from roots, kept beside them while their passes are asked for.
+#![tactic(auto)]
+
 ghost use Rattle.std.specs.Prelude.{◌≡◌, IfSome};
 ghost use Rattle.pass_mac.specs.Chain.{derived_key};
 
 use club_rows::Root;
+use club_values::Name;
 use lru::LruCache;
-use pass_caveats::Name;
 use pass_mac::derive;
 use std::alloc::Global;
 use std::num::NonZeroUsize;
 
 /// The most keys whose derived keys are kept.
-pub(crate) const MAX_KEPT_KEYS: usize = 64;
+pub const MAX_KEPT_KEYS: usize = 64;
 
 /// A root, and the key that is derived from it.
 #[derive(Clone, Copy)]
@@ -22,7 +25,7 @@ struct KeptKey {
 /// Derived keys by the names of their keys, at most 64, those that were used last. Where memory is
 /// refused it keeps none.
 #[derive(Drop)]
-pub(crate) struct KeptKeys {
+pub struct KeptKeys {
     cache: Option<LruCache<Name, KeptKey>>,
 }
 

@@ -1,11 +1,10 @@
 //! Connections, moments and a responder over memory.
 
-use crate::connections::exchange_over;
-use crate::{Connection, Connections, Exchange, Moments};
 use club_core::{Refusal, Reply};
 use club_http::{Face, Inlet, ReadInlet, Responder, WriteOutlet};
 use club_values::Moment;
 use club_words::Words;
+use desk_server::{Connection, Connections, Exchange, Moments, exchange_over};
 use std::io;
 
 /// What comes of waiting for a connection.

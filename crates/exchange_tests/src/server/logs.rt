@@ -2,8 +2,8 @@
 
 use super::doubles::{Countdown, Noting, Script, Wire};
 use super::{REQUEST, noon};
-use crate::{ClockOutOfRange, Fixed, LogLines, RequestLine, serve_logged};
 use club_http::Face;
+use desk_server::{ClockOutOfRange, Fixed, LogLines, RequestLine, serve_logged};
 use std::cell::Cell;
 use std::io::{self, ErrorKind, Write};
 use std::test::Fail;

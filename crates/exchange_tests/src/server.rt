@@ -4,9 +4,9 @@
 mod doubles;
 mod logs;
 
-use crate::{ClockIn, ClockOutOfRange, Fixed, Listening, Moments, Zone, serve_on};
 use club_http::Face;
 use club_values::Moment;
+use desk_server::{ClockIn, ClockOutOfRange, Fixed, Listening, Moments, Zone, serve_on};
 use doubles::{Countdown, Noting, Script, Wire};
 use jiff::Timestamp;
 use std::io::{Read, Write};

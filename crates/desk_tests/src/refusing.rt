@@ -1,0 +1,78 @@
+//! A store that counts its calls, and refuses from one of them on. Nothing is promised of it.
+
+use club_core::{
+    Booking, Change, ClubStore, Facility, Key, Member, Request, SlotUse, StoreFault, View,
+};
+use club_store::Store;
+use pass_caveats::{Day, Moment, Name, Slot};
+use sqlite::MemStore;
+
+/// Tables in memory, how often they were asked for something, and the call from which on they refuse
+/// and how.
+#[derive(Drop)]
+pub(crate) struct Refusing {
+    pub store: Store<MemStore>,
+    pub calls: u32,
+    pub first: u32,
+    pub fault: StoreFault,
+}
+
+impl Refusing {
+    fn called(&mut self) -> Result<(), StoreFault> {
+        self.calls = self.calls.saturating_add(1);
+        if self.calls >= self.first {
+            return Err(self.fault);
+        }
+        Ok(())
+    }
+}
+
+impl ClubStore for Refusing {
+    ghost stands = { λ store club others. ⊥ };
+
+    ghost is_honest = { λ store. ⊥ };
+
+    ghost sound = { λ store club others stands. absurd stands };
+
+    ghost widens = { λ store club other others stands sound. stands };
+
+    fn key(&mut self, name: &Name) -> Result<Option<Key>, StoreFault> {
+        self.called()?;
+        self.store.key(name)
+    }
+
+    fn member(&mut self, name: &Name) -> Result<Option<Member>, StoreFault> {
+        self.called()?;
+        self.store.member(name)
+    }
+
+    fn facility(&mut self, name: &Name) -> Result<Option<Facility>, StoreFault> {
+        self.called()?;
+        self.store.facility(name)
+    }
+
+    fn slot(&mut self, slot: &Slot) -> Result<SlotUse, StoreFault> {
+        self.called()?;
+        self.store.slot(slot)
+    }
+
+    fn view(
+        &mut self,
+        key: &Name,
+        request: &Request,
+        moment: Moment,
+    ) -> Result<Option<View>, StoreFault> {
+        self.called()?;
+        self.store.view(key, request, moment)
+    }
+
+    fn day(&mut self, day: Day) -> Result<Vec<Booking>, StoreFault> {
+        self.called()?;
+        self.store.day(day)
+    }
+
+    fn apply(&mut self, change: &Change) -> Result<(), StoreFault> {
+        self.called()?;
+        self.store.apply(change)
+    }
+}
