@@ -9,7 +9,7 @@ use Rattle.club_core.specs.After.{after}
 use Rattle.club_core.specs.Club.{Club}
 use Rattle.club_core.specs.declared.store.StoreFault.{StoreFault}
 use Rattle.club_core.specs.declared.store.StoreFault.TheVariants.{Storage}
-use Rattle.club_tables.specs.Transaction.{IsUntouched, MayCommit}
+use Rattle.club_transactions.specs.Transaction.{IsUntouched, MayCommit}
 use Rattle.club_tables.specs.Answers.{IsAfterReadings, IsReadFault}
 use Rattle.club_tables.specs.Opening.{IsOpeningBatch}
 use Rattle.club_tables.specs.Words.{AreWordsOf}

@@ -18,7 +18,7 @@ use Rattle.club_core.specs.Club.{Club, empty_club}
 use Rattle.club_core.specs.declared.store.StoreFault.{StoreFault}
 use Rattle.club_core.specs.declared.store.StoreFault.TheVariants.{Memory}
 use Rattle.club_tables.specs.Opening.{IsAccepted, IsOpeningBatch, IsOpeningFault}
-use Rattle.club_tables.specs.Transaction.{MayCommit, fault_by}
+use Rattle.club_transactions.specs.Transaction.{MayCommit, fault_by}
 use Rattle.club_tables.specs.Tables.{Stands, IsFound}
 use Rattle.club_store.specs.Crash.{HoldsOneOf, OneStands}
 

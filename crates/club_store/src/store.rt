@@ -51,7 +51,7 @@ ghost use Rattle.club_tables.specs.Told.{
   HasNoneToCancel,
 };
 ghost use Rattle.club_tables.specs.Stored.{IsMemberRow, member_row, older_of, fresh};
-ghost use Rattle.club_tables.specs.Transaction.{IsKept};
+ghost use Rattle.club_transactions.specs.Transaction.{IsKept};
 ghost use Rattle.club_store.specs.Figures.{slot_state, seen, HasLimits};
 
 use crate::figures::{SlotState, account_at, booked};
@@ -60,7 +60,8 @@ use club_core::{
     Booking, BookingNumber, Change, Facility, Key, Member, OlderRoot, Request, Root, SlotUse,
     StoreFault, View,
 };
-use club_tables::{MemberRow, Rotation, fault_of, open_tables, reads, writes};
+use club_tables::{MemberRow, Rotation, open_tables, reads, writes};
+use club_transactions::fault_of;
 use pass_caveats::{Day, Moment, Name, Slot};
 use sqlite::{Alter, Connection, FileFrom, FileStore, MemStore, Start};
 use std::alloc::Global;

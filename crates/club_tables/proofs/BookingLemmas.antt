@@ -34,7 +34,7 @@ use Rattle.club_tables.specs.Use.{ShowsUse}
 use Rattle.club_core.specs.Basis.{slot_use}
 use Rattle.club_tables.specs.Tables.{Stands, slots_tree, bookings_tree}
 use Rattle.club_tables.specs.Statements.{select, is_given}
-use Rattle.club_tables.specs.Transaction.{Asked}
+use Rattle.club_transactions.specs.Transaction.{Asked}
 use Rattle.club_tables.proofs.SelectLemmas.{selected, text_equal, whole_equal, apart_from_pairs, one_passes}
 use Rattle.club_tables.proofs.StandLemmas.{asked_tables, asked_reads, bookings_held}
 use Rattle.club_tables.proofs.KeyLemmas.{and_true, first_told}

@@ -33,7 +33,7 @@ use Rattle.club_tables.specs.Columns.{whole, booking_values}
 use Rattle.club_tables.specs.Sheet.{ShowsDay}
 use Rattle.club_tables.specs.Tables.{Stands, bookings_tree}
 use Rattle.club_tables.specs.Statements.{select, in_order, is_given}
-use Rattle.club_tables.specs.Transaction.{Asked}
+use Rattle.club_transactions.specs.Transaction.{Asked}
 use Rattle.club_tables.proofs.SelectLemmas.{whole_equal, apart_from_pairs}
 use Rattle.club_tables.proofs.StandLemmas.{asked_tables, asked_reads, bookings_held}
 use Rattle.club_tables.proofs.BookingLemmas.{stands_still, no_truth}

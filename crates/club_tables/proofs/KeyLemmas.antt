@@ -28,7 +28,7 @@ use Rattle.club_tables.specs.Columns.{key_values, member_values, facility_values
 use Rattle.club_tables.specs.Stored.{OlderRow, member_row, older_of}
 use Rattle.club_tables.specs.Tables.{Stands, Holds, keys_tree, members_tree, facilities_tree, olders_tree}
 use Rattle.club_tables.specs.Statements.{select, is_given}
-use Rattle.club_tables.specs.Transaction.{Asked}
+use Rattle.club_transactions.specs.Transaction.{Asked}
 use Rattle.club_tables.proofs.SelectLemmas.{selected, text_equal, find_first, apart_from_pairs, one_passes, short_permutation}
 use Rattle.club_tables.proofs.StandLemmas.{asked_tables, asked_reads, keys_held}
 

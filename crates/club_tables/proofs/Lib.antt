@@ -1,5 +1,3 @@
-pub mod TransactionLemmas
-pub mod TurnLemmas
 pub mod RowLemmas
 pub mod InsertLemmas
 pub mod SelectLemmas

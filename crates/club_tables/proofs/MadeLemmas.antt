@@ -35,7 +35,7 @@ use Rattle.club_tables.specs.Columns.{whole, facility_values, key_values, older_
 use Rattle.club_tables.specs.Stored.{SlotRow, Rows, member_row, used_by, unused, use_by, persons_taken}
 use Rattle.club_tables.specs.Tables.{Tables}
 use Rattle.club_tables.specs.Told.{IsOwnedBy, HasRoot, IsToCancel, HasNoneToCancel}
-use Rattle.club_tables.specs.Transaction.{Words, Ran, begun}
+use Rattle.club_transactions.specs.Transaction.{Words, Ran, begun}
 use Rattle.club_tables.specs.Words.{with_totals}
 use Rattle.club_tables.proofs.AddLemmas.{member_put, facility_put, key_put, booking_put}
 use Rattle.club_tables.proofs.BookingLemmas.{same_slots}

@@ -21,7 +21,7 @@ use Rattle.club_tables.specs.Columns.{whole, version_values}
 use Rattle.club_tables.specs.Opening.{table_batch, HasNoDesk}
 use Rattle.club_tables.specs.Stored.{Rows, IsStoredAs}
 use Rattle.club_tables.specs.Tables.{Tables, Lies, Holds}
-use Rattle.club_tables.specs.Transaction.{Ran, begun}
+use Rattle.club_transactions.specs.Transaction.{Ran, begun}
 use Rattle.club_tables.proofs.DeskLemmas.{desk_made}
 use Rattle.club_tables.proofs.InsertLemmas.{creates, indexes, inserts, cast_null, cast_int}
 use Rattle.club_tables.proofs.RowLemmas.{holds_more, holds_none}

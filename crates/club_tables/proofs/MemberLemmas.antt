@@ -41,7 +41,7 @@ use Rattle.club_tables.specs.Schema.{club_schema}
 use Rattle.club_tables.specs.Columns.{whole, key_values, booking_values}
 use Rattle.club_tables.specs.Tables.{Stands, keys_tree, bookings_tree}
 use Rattle.club_tables.specs.Statements.{select, is_given}
-use Rattle.club_tables.specs.Transaction.{Asked}
+use Rattle.club_transactions.specs.Transaction.{Asked}
 use Rattle.club_tables.proofs.SelectLemmas.{apart_from_pairs, told, text_equal, whole_equal}
 use Rattle.club_tables.proofs.JoinLemmas.{filter_filter, map_flat_map, IsElsewhere, pairs_of, selected_both}
 use Rattle.club_tables.proofs.StandLemmas.{asked_tables, asked_reads, keys_held, bookings_held}

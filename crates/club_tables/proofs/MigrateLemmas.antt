@@ -22,7 +22,7 @@ use Rattle.club_tables.specs.Statements.{select}
 use Rattle.club_tables.specs.Stored.{Rows}
 use Rattle.club_tables.specs.Tables.{Tables, FirstTables, FirstLies, Lies, Holds, Stands, FirstStands, desk_tree}
 use Rattle.club_tables.specs.Told.{first_in}
-use Rattle.club_tables.specs.Transaction.{Ran, IsKept, begun}
+use Rattle.club_transactions.specs.Transaction.{Ran, IsKept, begun}
 use Rattle.club_tables.proofs.ChangeLemmas.{nothing_more}
 use Rattle.club_tables.proofs.InsertLemmas.{creates, cast_int}
 use Rattle.club_tables.proofs.MakesLemmas.{makes_old_roots}

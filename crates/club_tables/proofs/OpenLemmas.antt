@@ -24,7 +24,7 @@ use Rattle.club_tables.specs.Schema.{club_schema, first_schema, no_schema}
 use Rattle.club_tables.specs.Tables.{Tables, FirstTables, HoldsClub, Stands, FirstStands, IsFound, desk_tree}
 use Rattle.club_tables.specs.Told.{found_in}
 use Rattle.club_tables.specs.Opening.{table_batch}
-use Rattle.club_tables.specs.Transaction.{Asked, Ran, IsKept}
+use Rattle.club_transactions.specs.Transaction.{Asked, Ran, IsKept}
 use Rattle.club_tables.proofs.SelectLemmas.{selected, short_permutation}
 use Rattle.club_tables.proofs.StandLemmas.{asked_open, asked_tables, asked_reads, first_reads}
 use Rattle.club_tables.proofs.MakingLemmas.{made_tables, makes_no_more, makes_no_second}

@@ -6,8 +6,9 @@ use Rattle.std.proofs.lemmas.List.{map-append}
 use Rattle.std.proofs.lemmas.List.Elements.{All-push}
 use Rattle.sqlite.specs.Effect.{Database}
 use Rattle.sqlite.specs.State.{State, HasCleanDisk}
-use Rattle.club_tables.specs.Transaction.{IsKept, IsAtRest}
-use Rattle.club_tables.specs.Opening.{IsUnderstood, OneOf}
+use Rattle.club_transactions.specs.Transaction.{IsKept, IsAtRest}
+use Rattle.club_tables.specs.Opening.{OneOf}
+use Rattle.club_transactions.specs.Transaction.{IsUnderstood}
 
 abbrev pub text_at : Bor (List ℕ) → List ℕ
 text_at text = text.now

@@ -9,7 +9,7 @@ use Rattle.club_core.specs.Club.{Club}
 use Rattle.club_tables.specs.Answers.{Answers, FailsAtReading, FailsToRead, IsAfterReadings, IsReadFault, Reading, CanRead, words_for}
 use Rattle.club_tables.specs.Tables.{Stands}
 use Rattle.club_tables.specs.Told.{ReadsClub}
-use Rattle.club_tables.specs.Transaction.{Asked, IsKept, Words}
+use Rattle.club_transactions.specs.Transaction.{Asked, IsKept, Words}
 use Rattle.club_tables.proofs.StandLemmas.{keeps_standing, told_if}
 use Rattle.club_tables.proofs.SurviveLemmas.{kept_at_rest}
 

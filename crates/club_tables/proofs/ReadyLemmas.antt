@@ -4,8 +4,9 @@ use Rattle.sqlite.specs.Order.{Row}
 use Rattle.sqlite.specs.State.{State, HasCleanDisk}
 use Rattle.club_tables.specs.declared.texts.TheConstants.{VERSION}
 use Rattle.club_tables.specs.Columns.{HasValues, version_values}
-use Rattle.club_tables.specs.Transaction.{IsKept, IsAtRest}
-use Rattle.club_tables.specs.Opening.{IsAnswered, IsUnderstood, FoundReady}
+use Rattle.club_transactions.specs.Transaction.{IsKept, IsAtRest}
+use Rattle.club_tables.specs.Opening.{IsAnswered, FoundReady}
+use Rattle.club_transactions.specs.Transaction.{IsUnderstood}
 
 module _ (old mid new : State) (earlier : HasCleanDisk mid) (clean : HasCleanDisk new) (is_open : IsTrue new.is_open) (rest : IsAtRest old)
     (read : IsKept old mid) (prepared : IsAtRest mid → IsKept mid new) where

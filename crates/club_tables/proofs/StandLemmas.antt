@@ -18,7 +18,7 @@ use Rattle.club_tables.specs.Schema.{first_schema, club_schema}
 use Rattle.club_tables.specs.Columns.{key_values, booking_values}
 use Rattle.club_tables.specs.Tables.{Tables, FirstTables, Holds, HoldsClub, Rests, Stands, keys_tree, bookings_tree}
 use Rattle.club_tables.specs.Told.{stands_in, first_in, found_in}
-use Rattle.club_tables.specs.Transaction.{Asked, IsKept, begun}
+use Rattle.club_transactions.specs.Transaction.{Asked, IsKept, begun}
 
 -- the same clubs stand, whatever is held of them
 pub rests_on : (IsHeld : Database → Club → Type 0) (old new : State) → IsKept old new → Survives old new (λ _. ⊥) → (club : Club) (others : List Club)

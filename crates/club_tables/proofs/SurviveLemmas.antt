@@ -6,7 +6,7 @@ use Rattle.sqlite.specs.Effect.{Database}
 use Rattle.sqlite.specs.State.{State, HasCleanDisk, Survives}
 use Rattle.sqlite.specs.Held.{Held, state}
 use Rattle.sqlite.proofs.StateLemmas.{survives_then}
-use Rattle.club_tables.specs.Transaction.{Words, Ran, IsUntouched, MayCommit}
+use Rattle.club_transactions.specs.Transaction.{Words, Ran, IsUntouched, MayCommit}
 use Rattle.club_tables.specs.Answers.{IsAfterReadings}
 
 survives_as : (old new : State) (P Q : Trees → Type 0) → Survives old new P → (HasCleanDisk new → (trees : Trees) → P trees → Q trees) → Survives old new Q

@@ -13,8 +13,8 @@ use Rattle.club_core.specs.declared.store.StoreFault.{StoreFault}
 use Rattle.club_core.specs.declared.store.StoreFault.TheVariants.{Storage}
 use Rattle.club_tables.specs.Tables.{Tables, Stands}
 use Rattle.club_tables.specs.Told.{ChangesClubWhere, IsChangeFault, IsRefused}
-use Rattle.club_tables.specs.Transaction.{Words, Ran, IsKept}
-use Rattle.club_tables.specs.Fault.{Commits, FailsToRun}
+use Rattle.club_transactions.specs.Transaction.{Words, Ran, IsKept}
+use Rattle.club_transactions.specs.Fault.{Commits, FailsToRun}
 use Rattle.club_tables.specs.Words.{AreWordsOf}
 use Rattle.club_tables.proofs.OpenLemmas.{IsSettled, settles}
 use Rattle.club_tables.proofs.StandLemmas.{survives_same}

@@ -31,8 +31,8 @@ use Rattle.club_tables.specs.Columns.{
 }
 use Rattle.club_tables.specs.Sheet.{AreBookings}
 use Rattle.club_tables.specs.Stored.{IsMemberRow, unused}
-use Rattle.club_tables.specs.Transaction.{Words, Asked, IsUntouched}
-use Rattle.club_tables.specs.Fault.{FailsToAsk}
+use Rattle.club_transactions.specs.Transaction.{Words, Asked, IsUntouched}
+use Rattle.club_transactions.specs.Fault.{FailsToAsk}
 
 -- what a row says: a value within its limits, by whose columns it is
 abbrev pub IsKeyIn : Row → Key → Type 0

@@ -4,8 +4,6 @@ pub mod Stored
 pub mod Tables
 pub mod Words
 pub mod Told
-pub mod Transaction
-pub mod Fault
 pub mod Answers
 pub mod Statements
 pub mod Opening

@@ -1,5 +1,5 @@
 -- What an opening finds, what it takes for the tables of a club, and what it makes (ours).
-use Rattle.std.specs.Prelude.{◌≡◌, ◌≢◌, ◌⊎◌, ℕ, List, [], ◌∷◌, map, All, Ok, IsTrue, is_ok, false, codes}
+use Rattle.std.specs.Prelude.{◌≡◌, ◌≢◌, ◌⊎◌, ℕ, List, [], ◌∷◌, map, All, Ok, IsTrue, false, codes}
 use Rattle.sqlite.specs.Order.{Row}
 use Rattle.sqlite.specs.Schema.{Schema}
 use Rattle.sqlite.specs.Change.{is_used}
@@ -14,8 +14,8 @@ use Rattle.club_tables.specs.declared.texts.TheConstants.{MAKE_KEYS, MAKE_SLOTS,
 use Rattle.club_tables.specs.Columns.{HasValues, version_values}
 use Rattle.club_core.specs.declared.store.StoreFault.{StoreFault}
 use Rattle.club_core.specs.declared.store.StoreFault.TheVariants.{Memory, Storage}
-use Rattle.club_tables.specs.Transaction.{Words, Asked, Ran}
-use Rattle.club_tables.specs.Fault.{FailsToAsk, FailsToPrepare, FailsToRun}
+use Rattle.club_transactions.specs.Transaction.{Words, Asked, Ran, IsUnderstood}
+use Rattle.club_transactions.specs.Fault.{FailsToAsk, FailsToPrepare, FailsToRun}
 use Rattle.club_tables.specs.Answers.{IsAfterReadings}
 
 -- the statements that give a row by its key, over tables of version 1 and of version 2
@@ -47,10 +47,6 @@ migration = batch migration_texts
 -- what an opening may run: the batch that makes the tables, or the migration
 abbrev pub IsOpeningBatch : List Words → Type 0
 IsOpeningBatch words = (words ≡ table_batch) ⊎ (words ≡ migration)
-
--- the text is a statement over these tables
-abbrev pub IsUnderstood : Schema → List ℕ → Type 0
-IsUnderstood schema sql = IsTrue (is_ok (understood schema sql))
 
 -- nothing is called `desk`, in capitals or not, and so no version can be asked for
 pub record HasNoDesk (schema : Schema) : Type 0 where

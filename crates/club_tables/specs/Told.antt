@@ -24,8 +24,8 @@ use Rattle.club_rows.specs.declared.key.Key.{Key}
 use Rattle.club_rows.specs.declared.booking.Booking.{Booking}
 use Rattle.club_core.specs.Sums.{booking_under}
 use Rattle.club_tables.specs.Tables.{Stands, FirstStands, IsFound}
-use Rattle.club_tables.specs.Transaction.{Words, IsUntouched, MayCommit}
-use Rattle.club_tables.specs.Fault.{FailsToRun}
+use Rattle.club_transactions.specs.Transaction.{Words, IsUntouched, MayCommit}
+use Rattle.club_transactions.specs.Fault.{FailsToRun}
 use Rattle.club_tables.specs.Answers.{IsAfterReadings, IsReadFault}
 use Rattle.club_tables.specs.Words.{AreWordsOf}
 

@@ -17,7 +17,7 @@ use Rattle.club_tables.specs.declared.texts.TheConstants.{ADD_MEMBER, ADD_CREDIT
 use Rattle.club_tables.specs.declared.texts.TheConstants.{ADD_BOOKING, CANCEL_BOOKING, ADD_USED, ADD_TAKEN}
 use Rattle.club_tables.specs.Columns.{whole, facility_values, key_values, older_root_values, booking_values, name_values}
 use Rattle.club_tables.specs.Stored.{persons_taken}
-use Rattle.club_tables.specs.Transaction.{Words}
+use Rattle.club_transactions.specs.Transaction.{Words}
 
 -- a member, whose bookings have cost nothing
 abbrev pub adding_member : Member → List Words

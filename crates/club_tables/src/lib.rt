@@ -8,10 +8,8 @@ pub mod reads;
 mod row;
 mod sum;
 mod texts;
-mod transaction;
 pub mod writes;
 
 pub use open::open_tables;
 pub use params::Rotation;
 pub use row::MemberRow;
-pub use transaction::fault_of;

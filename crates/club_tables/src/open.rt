@@ -22,14 +22,20 @@ ghost use Rattle.club_core.specs.Store.{KeepsStanding};
 ghost use Rattle.club_tables.specs.Told.{stands_in, first_in, found_in};
 ghost use Rattle.club_tables.specs.Columns.{version_values, HasValues};
 ghost use Rattle.club_tables.specs.Tables.{IsFound, Stands, FirstStands};
-ghost use Rattle.club_tables.specs.Transaction.{Asked, IsAtRest, IsKept, MayCommit, Ran};
-ghost use Rattle.club_tables.specs.Fault.{FailsToAsk, FailsToRun};
+ghost use Rattle.club_transactions.specs.Transaction.{
+  Asked,
+  IsAtRest,
+  IsKept,
+  IsUnderstood,
+  MayCommit,
+  Ran,
+};
+ghost use Rattle.club_transactions.specs.Fault.{FailsToAsk, FailsToRun};
 ghost use Rattle.club_tables.specs.Opening.{
   FailsToPrepareOne,
   IsAccepted,
   IsAnswered,
   IsOpeningFault,
-  IsUnderstood,
   HasMigrated,
   IsOpeningBatch,
   table_batch,
@@ -39,8 +45,8 @@ ghost use Rattle.club_tables.specs.Opening.{
 
 use crate::row::integer_at;
 use crate::texts;
-use crate::transaction::{Statement, ask, prepare, run};
 use club_core::StoreFault;
+use club_transactions::{Statement, ask, prepare, run};
 use sqlite::{Alter, Connection, Row};
 
 /// The version of the tables that are made here.

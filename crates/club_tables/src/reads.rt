@@ -15,7 +15,7 @@ ghost use Rattle.club_core.specs.Sums.{booking_under, count_to_come, spent_under
 ghost use Rattle.club_tables.specs.Told.{ReadsClub};
 ghost use Rattle.club_tables.specs.Sheet.{AreBookings};
 ghost use Rattle.club_tables.specs.Stored.{IsMemberRow, fresh, member_row, older_of};
-ghost use Rattle.club_tables.specs.Transaction.{Asked, IsKept};
+ghost use Rattle.club_transactions.specs.Transaction.{Asked, IsKept};
 ghost use Rattle.club_tables.specs.Answers.{
   Answers,
   FailsAtReading,
@@ -44,9 +44,9 @@ ghost use Rattle.club_tables.specs.Answers.{
 };
 
 use crate::row::{FromRow, MemberRow, bookings_in, slot_use_of};
-use crate::transaction::ask;
 use crate::{sum, texts};
 use club_core::{Booking, BookingNumber, Facility, Key, OlderRoot, SlotUse, StoreFault};
+use club_transactions::ask;
 use pass_caveats::{Day, Moment, Name, Slot};
 use sqlite::types::ValueRef;
 use sqlite::{Alter, Connection, params};

@@ -13,7 +13,7 @@ ghost use Rattle.club_core.specs.declared.change.Change.TheVariants.{
   MarkClosed,
   MarkCancelled,
 };
-ghost use Rattle.club_tables.specs.Fault.{Commits};
+ghost use Rattle.club_transactions.specs.Fault.{Commits};
 ghost use Rattle.club_tables.specs.Words.{
   adding_member,
   adding_facility,
@@ -38,9 +38,9 @@ ghost use Rattle.club_tables.specs.Told.{
 };
 
 use crate::params::Rotation;
-use crate::transaction::{Statement, run};
 use crate::{params, texts};
 use club_core::{Booking, BookingNumber, Facility, Key, Member, StoreFault};
+use club_transactions::{Statement, run};
 use pass_caveats::{Name, Slot};
 use sqlite::types::ValueRef;
 use sqlite::{Alter, Connection};

@@ -3,8 +3,9 @@ use Rattle.sqlite.specs.Effect.{Database}
 use Rattle.sqlite.specs.State.{HasCleanDisk}
 use Rattle.sqlite.specs.Held.{state}
 use Rattle.club_tables.specs.declared.texts.TheConstants.{OLDER_ROOT}
-use Rattle.club_tables.specs.Fault.{FailsToPrepare, FailsToRun}
-use Rattle.club_tables.specs.Opening.{IsOpeningBatch, IsOpeningFault, IsUnderstood, first_texts, migration}
+use Rattle.club_transactions.specs.Fault.{FailsToPrepare, FailsToRun}
+use Rattle.club_tables.specs.Opening.{IsOpeningBatch, IsOpeningFault, first_texts, migration}
+use Rattle.club_transactions.specs.Transaction.{IsUnderstood}
 use Rattle.club_tables.proofs.PrepareLemmas.{kept_then, one_more}
 use Rattle.club_tables.proofs.ReadLemmas.{fault_if}
 use Rattle.club_tables.proofs.StandLemmas.{on_ok, on_err, keeps_first}

@@ -2,15 +2,16 @@ use Rattle.std.proofs.Common.{◌≡◌, ◌≢◌, ℕ, [], ◌∷◌, All, inl
 use Rattle.sqlite.specs.Store.{Ghosts}
 use Rattle.sqlite.specs.Held.{Held}
 use Rattle.club_core.specs.declared.store.StoreFault.{StoreFault}
-use Rattle.club_tables.specs.Fault.{FailsToRun}
+use Rattle.club_transactions.specs.Fault.{FailsToRun}
 use Rattle.club_tables.specs.Answers.{IsAfterReadings}
 use Rattle.sqlite.specs.Effect.{Database}
 use Rattle.sqlite.specs.State.{HasCleanDisk}
 use Rattle.sqlite.specs.Held.{state}
 use Rattle.club_tables.specs.declared.texts.TheConstants.{VERSION}
 use Rattle.club_tables.specs.Columns.{version_values}
-use Rattle.club_tables.specs.Transaction.{IsAtRest}
-use Rattle.club_tables.specs.Opening.{HasNoDesk, IsAnswered, IsOpeningBatch, IsUnderstood, first_texts, table_batch, texts_by_key}
+use Rattle.club_transactions.specs.Transaction.{IsAtRest}
+use Rattle.club_tables.specs.Opening.{HasNoDesk, IsAnswered, IsOpeningBatch, first_texts, table_batch, texts_by_key}
+use Rattle.club_transactions.specs.Transaction.{IsUnderstood}
 use Rattle.club_tables.specs.Opening.{FailsToPrepareOne, IsOpeningFault}
 use Rattle.club_tables.proofs.StandLemmas.{on_ok, on_err, survives_none}
 use Rattle.club_tables.proofs.MakingLemmas.{makes_free}

@@ -3,7 +3,7 @@ use Rattle.sqlite.specs.State.{HasCleanDisk}
 use Rattle.sqlite.specs.Held.{state}
 use Rattle.club_tables.proofs.StandLemmas.{survives_same, survives_none, keeps_standing, keeps_found}
 use Rattle.club_tables.proofs.PrepareLemmas.{kept_at_rest, kept_then, one_at, none_understood, one_understood, all_understood}
-use Rattle.club_tables.specs.Fault.{FailsToPrepare}
+use Rattle.club_transactions.specs.Fault.{FailsToPrepare}
 use Rattle.club_tables.proofs.open.prepare_all.Goals as goal
 
 pub loop-text-init : goal.loop-text-init

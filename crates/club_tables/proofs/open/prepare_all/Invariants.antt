@@ -3,8 +3,8 @@ use Rattle.sqlite.specs.State.{HasCleanDisk, Survives}
 use Rattle.sqlite.specs.Held.{state}
 use Rattle.club_core.specs.Store.{KeepsStanding}
 use Rattle.club_tables.specs.Told.{stands_in, found_in}
-use Rattle.club_tables.specs.Opening.{IsUnderstood}
-use Rattle.club_tables.specs.Transaction.{IsKept, IsAtRest}
+use Rattle.club_transactions.specs.Transaction.{IsUnderstood}
+use Rattle.club_transactions.specs.Transaction.{IsKept, IsAtRest}
 use Rattle.club_tables.proofs.open.prepare_all.Given as goal
 
 abbrev pub invariant-loop-text : goal.invariant-loop-text

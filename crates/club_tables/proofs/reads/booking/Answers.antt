@@ -5,7 +5,7 @@ use Rattle.club_rows.specs.declared.booking.Booking.{Booking}
 use Rattle.club_core.specs.declared.store.StoreFault.{StoreFault}
 use Rattle.club_core.specs.Sums.{booking_under}
 use Rattle.club_tables.specs.Answers.{OfBooking, FailsToRead, IsFirst, IsBookingIn, IsBookingNamed}
-use Rattle.club_tables.specs.Transaction.{Words}
+use Rattle.club_transactions.specs.Transaction.{Words}
 use Rattle.club_tables.proofs.BookingLemmas.{booking_told}
 use Rattle.club_tables.proofs.FirstLemmas.{booking_first, unnamed, none_named, one_named, not_named}
 use Rattle.club_tables.proofs.ReadLemmas.{read_answer, fewer_read}

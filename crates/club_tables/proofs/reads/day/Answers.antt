@@ -10,7 +10,7 @@ use Rattle.club_tables.specs.declared.texts.TheConstants.{DAY}
 use Rattle.club_tables.specs.Answers.{OfDay, FailsAtReading}
 use Rattle.club_tables.specs.Columns.{whole}
 use Rattle.club_tables.specs.Sheet.{AreBookings}
-use Rattle.club_tables.specs.Transaction.{Asked}
+use Rattle.club_transactions.specs.Transaction.{Asked}
 use Rattle.club_tables.proofs.BookingRows.{day_of_rows, within_limits}
 use Rattle.club_tables.proofs.DayLemmas.{day_told}
 use Rattle.club_tables.proofs.ReadLemmas.{read_by}

@@ -8,7 +8,7 @@ use Rattle.club_core.specs.declared.store.StoreFault.{StoreFault}
 use Rattle.club_core.specs.declared.store.StoreFault.TheVariants.{Storage}
 use Rattle.club_tables.specs.Answers.{OfCosts, AreCosts, FailsToRead}
 use Rattle.club_tables.specs.Columns.{cost_in, IsCostRow}
-use Rattle.club_tables.specs.Transaction.{Words, Asked}
+use Rattle.club_transactions.specs.Transaction.{Words, Asked}
 use Rattle.club_tables.proofs.BookingLemmas.{costs_told}
 use Rattle.club_tables.proofs.ReadLemmas.{read_answer}
 use Rattle.club_tables.proofs.SumLemmas.{costs_are}

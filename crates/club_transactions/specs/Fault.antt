@@ -7,7 +7,7 @@ use Rattle.sqlite.specs.Steps.{FailsToCommit}
 use Rattle.sqlite.specs.Held.{Held, state}
 use Rattle.sqlite.specs.declared.error.Error.{Error}
 use Rattle.club_core.specs.declared.store.StoreFault.{StoreFault}
-use Rattle.club_tables.specs.Transaction.{Words, Ran, IsKept, begun, fault_by}
+use Rattle.club_transactions.specs.Transaction.{Words, Ran, IsKept, begun, fault_by}
 
 -- a query was refused by an error that stands for the fault; how often the disk failed until then is counted
 pub record FailsToAsk {S : Type 0} (g : Ghosts S) (words : Words) (old new : Held S) (fault : StoreFault) : Type 0 where

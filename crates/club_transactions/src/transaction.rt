@@ -1,18 +1,24 @@
-//! Statements in a transaction of their own: either all that they do is committed, or nothing.
+//! Statements that ask, that are prepared, and that write.
 
 ghost use Rattle.std.specs.Prelude.{◌≡◌, false, map, IfOk, IfErr, OnOk, OnErr, IsTrue};
 ghost use Rattle.sqlite.specs.Values.{bound};
 ghost use Rattle.sqlite.specs.State.{HasCleanDisk, Survives};
 ghost use Rattle.sqlite.specs.Held.{state};
-ghost use Rattle.club_tables.specs.Transaction.{Asked, Ran, IsKept, fault_by, words_of};
-ghost use Rattle.club_tables.specs.Fault.{FailsToAsk, FailsToPrepare, FailsToRun};
-ghost use Rattle.club_tables.specs.Opening.{IsUnderstood};
+ghost use Rattle.club_transactions.specs.Transaction.{
+  Asked,
+  Ran,
+  IsKept,
+  IsUnderstood,
+  fault_by,
+  words_of,
+};
+ghost use Rattle.club_transactions.specs.Fault.{FailsToAsk, FailsToPrepare, FailsToRun};
 
 use club_core::StoreFault;
 use sqlite::types::ValueRef;
 use sqlite::{Alter, Connection, Error, ErrorCode, Row};
 
-/// Want of memory as such, and each other error as one of storage.
+/// Which fault an error of the database is: out of memory as such, and each other one as `Storage`.
 pub fn fault_of(error: Error) -> StoreFault
     ensures { result ≡ fault_by error }
 {
@@ -23,7 +29,11 @@ pub fn fault_of(error: Error) -> StoreFault
 }
 
 /// The rows that a query gives. Nothing is changed.
-pub(crate) fn ask<S: Alter>(
+///
+/// # Errors
+///
+/// The query was refused, as `fault_of` tells by what.
+pub fn ask<S: Alter>(
     conn: &mut Connection<S>,
     sql: &str,
     params: &[ValueRef<'_>],
@@ -46,8 +56,12 @@ pub(crate) fn ask<S: Alter>(
     Ok(rows)
 }
 
-/// Whether a text is a statement over the tables. Nothing is changed.
-pub(crate) fn prepare<S: Alter>(conn: &mut Connection<S>, sql: &str) -> Result<(), StoreFault>
+/// Prepares a text as a statement over the tables that stand. Nothing is changed.
+///
+/// # Errors
+///
+/// It is none, or was refused, as `fault_of` tells by what.
+pub fn prepare<S: Alter>(conn: &mut Connection<S>, sql: &str) -> Result<(), StoreFault>
     requires { conn.old.in_transaction ≡ false }
     ensures idle { conn.new.in_transaction ≡ false }
     ensures understood { HasCleanDisk (state S.Store conn.new) → OnOk result
@@ -66,15 +80,21 @@ pub(crate) fn prepare<S: Alter>(conn: &mut Connection<S>, sql: &str) -> Result<(
     Ok(())
 }
 
-/// A statement that writes, and its parameters.
+/// A statement that writes.
 #[derive(Clone, Copy)]
-pub(crate) struct Statement<'a> {
-    pub(crate) text: &'a str,
-    pub(crate) params: &'a [ValueRef<'a>],
+pub struct Statement<'a> {
+    /// Its SQL.
+    pub text: &'a str,
+    /// The values of its parameters, in their order.
+    pub params: &'a [ValueRef<'a>],
 }
 
 /// Runs statements in turn, in one transaction, and commits what they wrote.
-pub(crate) fn run<S: Alter>(
+///
+/// # Errors
+///
+/// One of them was refused, or the commit, as `fault_of` tells by what: nothing of them is committed.
+pub fn run<S: Alter>(
     conn: &mut Connection<S>,
     statements: &[Statement<'_>],
 ) -> Result<(), StoreFault>

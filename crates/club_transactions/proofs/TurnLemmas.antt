@@ -8,9 +8,9 @@ use Rattle.sqlite.specs.State.{Executes, ExecutesInside}
 use Rattle.sqlite.specs.Steps.{FailsToCommit}
 use Rattle.sqlite.specs.Held.{Held, state}
 use Rattle.sqlite.specs.declared.error.Error.{Error}
-use Rattle.club_tables.specs.declared.transaction.Statement.{Statement}
-use Rattle.club_tables.specs.Transaction.{Words, words_of, RanInTurn}
-use Rattle.club_tables.specs.Fault.{FailsInTurn}
+use Rattle.club_transactions.specs.declared.transaction.Statement.{Statement}
+use Rattle.club_transactions.specs.Transaction.{Words, words_of, RanInTurn}
+use Rattle.club_transactions.specs.Fault.{FailsInTurn}
 
 module _ {S : Type 0} (g : Ghosts S) where
   -- one statement more

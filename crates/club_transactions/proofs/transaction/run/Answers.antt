@@ -6,10 +6,10 @@ use Rattle.sqlite.specs.State.{HasCleanDisk, Survives}
 use Rattle.sqlite.specs.Held.{Held, state}
 use Rattle.sqlite.proofs.StateLemmas.{survives_then}
 use Rattle.sqlite.proofs.Callers.{survives_begin}
-use Rattle.club_tables.specs.Transaction.{RanInTurn, Ran, begun, words_of}
-use Rattle.club_tables.specs.Fault.{FailsInTurn, FailsToRun}
-use Rattle.club_tables.proofs.TurnLemmas.{turn_at, turn_all, fails_at, fails_last}
-use Rattle.club_tables.proofs.transaction.run.Goals as goal
+use Rattle.club_transactions.specs.Transaction.{RanInTurn, Ran, begun, words_of}
+use Rattle.club_transactions.specs.Fault.{FailsInTurn, FailsToRun}
+use Rattle.club_transactions.proofs.TurnLemmas.{turn_at, turn_all, fails_at, fails_last}
+use Rattle.club_transactions.proofs.transaction.run.Goals as goal
 
 pub loop-statement-preserved : goal.loop-statement-preserved
 loop-statement-preserved g c =

@@ -1,8 +1,8 @@
 use Rattle.std.proofs.Common.{◌≡◌, ◌<◌, map, take, IsTrue}
 use Rattle.sqlite.specs.State.{HasCleanDisk, Survives}
 use Rattle.sqlite.specs.Held.{state}
-use Rattle.club_tables.specs.Transaction.{RanInTurn, begun, words_of}
-use Rattle.club_tables.proofs.transaction.run.Given as goal
+use Rattle.club_transactions.specs.Transaction.{RanInTurn, begun, words_of}
+use Rattle.club_transactions.proofs.transaction.run.Given as goal
 
 abbrev pub invariant-loop-statement : goal.invariant-loop-statement
 invariant-loop-statement g l = record {

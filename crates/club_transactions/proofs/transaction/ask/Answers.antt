@@ -3,10 +3,10 @@ use Rattle.sqlite.specs.State.{HasCleanDisk}
 use Rattle.sqlite.specs.Values.{bound}
 use Rattle.sqlite.specs.Held.{state}
 use Rattle.sqlite.specs.State.{FailsToQuery}
-use Rattle.club_tables.specs.Transaction.{IsKept, begun}
-use Rattle.club_tables.specs.Fault.{FailsToAsk}
-use Rattle.club_tables.proofs.TransactionLemmas.{Keeps, shown_keeps, fails_keeps, too_late_keeps, then_rolled}
-use Rattle.club_tables.proofs.transaction.ask.Goals as goal
+use Rattle.club_transactions.specs.Transaction.{IsKept, begun}
+use Rattle.club_transactions.specs.Fault.{FailsToAsk}
+use Rattle.club_transactions.proofs.TransactionLemmas.{Keeps, shown_keeps, fails_keeps, too_late_keeps, then_rolled}
+use Rattle.club_transactions.proofs.transaction.ask.Goals as goal
 
 pub returns-in-Err-clause-kept : goal.returns-in-Err-clause-kept
 returns-in-Err-clause-kept g c =

@@ -1,8 +1,10 @@
 -- What one statement in a transaction of its own tells or makes.
-use Rattle.std.specs.Prelude.{◌≡◌, ℕ, ◌<◌, true, List, [], ◌∷◌, length, Ok, IsTrue}
+use Rattle.std.specs.Prelude.{◌≡◌, ℕ, ◌<◌, true, List, [], ◌∷◌, length, Ok, IsTrue, is_ok}
 use Rattle.sqlite.specs.Store.{Ghosts}
 use Rattle.sqlite.specs.Order.{Row}
 use Rattle.sqlite.specs.Effect.{Database}
+use Rattle.sqlite.specs.Schema.{Schema}
+use Rattle.sqlite.specs.Listing.{understood}
 use Rattle.sqlite.specs.Tree.{Trees}
 use Rattle.sqlite.specs.State.{State, HasCleanDisk, Executes, Shown}
 use Rattle.sqlite.specs.Held.{Held, state}
@@ -12,7 +14,7 @@ use Rattle.sqlite.specs.declared.error.ErrorCode.TheVariants.{OutOfMemory}
 use Rattle.sqlite.specs.Values.{bound}
 use Rattle.club_core.specs.declared.store.StoreFault.{StoreFault}
 use Rattle.club_core.specs.declared.store.StoreFault.TheVariants.{Memory, Storage}
-use Rattle.club_tables.specs.declared.transaction.Statement.{Statement}
+use Rattle.club_transactions.specs.declared.transaction.Statement.{Statement}
 
 -- want of memory is Memory, and each other error Storage
 abbrev pub fault_by : Error → StoreFault
@@ -27,6 +29,10 @@ begun held = record held { in_transaction = true }
 pub record Asked {S : Type 0} (g : Ghosts S) (sql : List ℕ) (params : Row) (old : Held S) (rows : List Row) : Type 0 where
   pub mid : Held S
   pub shown : Shown sql params (state g (begun old)) (state g mid) rows
+
+-- the text is a statement over these tables
+abbrev pub IsUnderstood : Schema → List ℕ → Type 0
+IsUnderstood schema sql = IsTrue (is_ok (understood schema sql))
 
 -- nothing was committed, and nothing is on its way
 abbrev pub IsKept : State → State → Type 0

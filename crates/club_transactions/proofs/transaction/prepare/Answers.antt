@@ -1,10 +1,10 @@
 use Rattle.std.proofs.Common.{rules, arith, ◌≡◌, [], subst}
 use Rattle.sqlite.specs.State.{HasCleanDisk}
 use Rattle.sqlite.specs.Held.{state}
-use Rattle.club_tables.specs.Transaction.{IsKept, begun}
-use Rattle.club_tables.specs.Fault.{FailsToPrepare}
-use Rattle.club_tables.proofs.TransactionLemmas.{Keeps, not_run_keeps, then_rolled}
-use Rattle.club_tables.proofs.transaction.prepare.Goals as goal
+use Rattle.club_transactions.specs.Transaction.{IsKept, begun}
+use Rattle.club_transactions.specs.Fault.{FailsToPrepare}
+use Rattle.club_transactions.proofs.TransactionLemmas.{Keeps, not_run_keeps, then_rolled}
+use Rattle.club_transactions.proofs.transaction.prepare.Goals as goal
 
 pub returns-in-Err-clause-kept : goal.returns-in-Err-clause-kept
 returns-in-Err-clause-kept g c =

@@ -1,0 +1,2 @@
+pub mod TransactionLemmas
+pub mod TurnLemmas
