@@ -3,11 +3,13 @@
 use crate::counter::{ROOT_BYTE, opened, pass_of};
 use crate::refusing::Refusing;
 use crate::values::{NOON, add_key, at, book, name, refused, root, slot};
-use club_core::{ClubStore, Refusal, Reply, Request, Root, StoreFault};
+use club_core::{Refusal, Reply, Request, Root, StoreFault};
 use club_gate::{Desk, Fault, OfficeReply, Words, key_signature};
+use club_store::Store;
 use pass_caveats::Day;
 use pass_forms::{Form, MAX_TEXT};
 use pass_json::write_any;
+use sqlite::MemStore;
 use std::alloc::Global;
 use std::process::Abort;
 use std::test::*;
@@ -42,46 +44,55 @@ fn asked(rt: &impl Abort, desk: &mut Desk<Refusing>, pass: &[u8], request: Reque
     desk.ask(at(rt, NOON), &Words { pass, request })
 }
 
-// A request is unavailable and an order fails, by each call of the store; nothing is booked.
+/// `court-1` has no persons at 18, and there is no key `amy-2`.
+fn expect_untouched(rt: &impl Abort, store: &mut Store<MemStore>) {
+    let held = store.slot(&slot(rt, b"court-1", 18)).expect(rt, "a slot");
+    assert_eq!(rt; held.taken, 0);
+    let key = store.key(&name(rt, b"amy-2")).expect(rt, "no fault");
+    assert!(rt; key.is_none());
+}
+
+/// A booking is unavailable, a new key and the day sheet fail, and nothing is changed, where the store
+/// refuses from this call on.
+fn expect_refusals(
+    rt: &(impl Abort + Alloc<A = Global>),
+    first: u32,
+    fault: StoreFault,
+    told: Fault,
+) {
+    let text = text_of_amy(rt);
+    let mut desk = refusing(rt, first, fault);
+    let reply = asked(rt, &mut desk, text.as_bytes(), book(rt, 18, 7, 2));
+    assert_eq!(rt; reply, refused(Refusal::Unavailable));
+    let order = add_key(rt, b"amy-2", b"amy", root(rt, ROOT_BYTE));
+    assert_eq!(rt; desk.office(&order), OfficeReply::Refused(told));
+    let day = Day::read(b"2026-05-01").expect(rt, "a day");
+    assert!(rt; desk.sheet(day).is_err());
+    let mut store = desk.into_store().into_inner();
+    expect_untouched(rt, &mut store);
+}
+
 #[test]
-fn tells_what_the_store_refuses(rt: HostRuntime) {
-    let text = text_of_amy(&rt);
-    let unavailable = refused(Refusal::Unavailable);
-    for (first, fault, told) in [
-        (1, StoreFault::Memory, Fault::Memory),
-        (2, StoreFault::Storage, Fault::Storage),
-    ] {
-        let mut desk = refusing(&rt, first, fault);
-        let reply = asked(&rt, &mut desk, text.as_bytes(), book(&rt, 18, 7, 2));
-        assert_eq!(rt; reply, unavailable);
-        let order = add_key(&rt, b"amy-2", b"amy", root(&rt, ROOT_BYTE));
-        assert_eq!(rt; desk.office(&order), OfficeReply::Refused(told));
-        let day = Day::read(b"2026-05-01").expect(&rt, "a day");
-        assert!(rt; desk.sheet(day).is_err());
-        let mut store = desk.into_store().store;
-        let held = store.slot(&slot(&rt, b"court-1", 18)).expect(&rt, "a slot");
-        assert_eq!(rt; held.taken, 0);
-        assert!(rt;
-            store
-                .key(&name(&rt, b"amy-2"))
-                .expect(&rt, "no key")
-                .is_none()
-        );
-    }
+fn tells_that_memory_is_refused(rt: HostRuntime) {
+    expect_refusals(&rt, 1, StoreFault::Memory, Fault::Memory);
+}
+
+#[test]
+fn tells_that_storage_is_refused(rt: HostRuntime) {
+    expect_refusals(&rt, 2, StoreFault::Storage, Fault::Storage);
 }
 
 // What is no pass is told so before the store is asked.
 #[test]
 fn tells_a_fault_of_form_first(rt: HostRuntime) {
-    let text = text_of_amy(&rt);
-    let cut = &text.as_bytes()[..text.len() - 1];
     let mut desk = refusing(&rt, 1, StoreFault::Storage);
-    let reply = asked(&rt, &mut desk, cut, Request::Account);
+    let reply = asked(&rt, &mut desk, b"AgEJ", Request::Account);
     assert_eq!(rt; reply, refused(Refusal::PassMalformed));
     let long = [b'A'; MAX_TEXT + 1];
     let reply = asked(&rt, &mut desk, &long, Request::Account);
     assert_eq!(rt; reply, refused(Refusal::PassTooLong));
-    assert_eq!(rt; desk.into_store().calls, 0);
+    let store = desk.into_store();
+    assert_eq!(rt; store.calls, 0);
 }
 
 #[test]

@@ -18,6 +18,17 @@ pub(crate) struct Refusing {
 }
 
 impl Refusing {
+    /// The tables, as they are.
+    pub fn into_inner(self) -> Store<MemStore> {
+        let Refusing {
+            store,
+            calls: _,
+            first: _,
+            fault: _,
+        } = self;
+        store
+    }
+
     fn called(&mut self) -> Result<(), StoreFault> {
         self.calls = self.calls.saturating_add(1);
         if self.calls >= self.first {
