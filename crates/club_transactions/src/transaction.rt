@@ -93,7 +93,8 @@ pub struct Statement<'a> {
 ///
 /// # Errors
 ///
-/// One of them was refused, or the commit, as `fault_of` tells by what: nothing of them is committed.
+/// One of them was refused, or the commit, as `fault_of` tells by what. What was committed stays; a
+/// crash may yet leave what they make.
 pub fn run<S: Alter>(
     conn: &mut Connection<S>,
     statements: &[Statement<'_>],
