@@ -1,400 +1,153 @@
-//! The worked rows of requests, answered by what the key sees.
+//! What requests are answered under passes, by what their keys see.
 
-use crate::expect::expect_eq;
-use crate::fixture::{NOON, START, booking, court, fresh, slot_at};
-use club_core::{
-    Booking, BookingNumber, Change, Facility, FormFault, Guests, Pass, Refusal, Reply, Request,
-    Root, Verdict, View, Words,
-};
-use pass_caveats::{Kind, Moment, Name, Slot};
+use crate::expect::expect_of_row;
+use crate::fixture::{AFTER_7, AT_18, AT_19, BOOKING_7, Booked, FIRST, FRESH, NOON, SECOND, Seen};
+use crate::said::{Asked, BOOK_7, CANCEL_7, Shown, Told};
+use crate::values::moment;
+use club_core::{FormFault, Refusal, Verdict, Words};
+use pass_caveats::Moment;
 use std::alloc::Global;
 use std::process::Abort;
 use std::test::*;
 
-/// The view of `amy-1` in the fixture.
-fn view(rt: &impl Abort) -> View {
-    fresh().expect(rt, "a view")
-}
+/// What is shown, what its key sees (`None` where no such key is known), what is asked, the moment,
+/// and what is told.
+struct Row(Shown, Option<Seen>, Asked, &'static str, Told);
 
-fn at(rt: &impl Abort, moment: u32) -> Moment {
-    Moment::from_number(moment).expect(rt, "a moment")
-}
-
-fn number(rt: &impl Abort, number: u32) -> BookingNumber {
-    BookingNumber::new(number).expect(rt, "a number")
-}
-
-fn book(rt: &impl Abort, hour: u8, booking: u32, guests: u8) -> Request {
-    Request::Book {
-        slot: slot_at(hour).expect(rt, "a slot"),
-        number: number(rt, booking),
-        guests: Guests::new(guests).expect(rt, "guests"),
+/// What words are answered by what their key sees.
+fn verdict(rt: &impl Abort, words: &Words, seen: &Option<Seen>, at: Moment) -> Verdict {
+    match seen {
+        Some(seen) => words.answer(Some(&seen.view(rt)), at),
+        None => words.answer(None, at),
     }
 }
 
-fn cancel(rt: &impl Abort, hour: u8, booking: u32) -> Request {
-    Request::Cancel {
-        slot: slot_at(hour).expect(rt, "a slot"),
-        number: number(rt, booking),
+fn is_told(rt: &(impl Abort + Alloc<A = Global>), number: usize, row: &Row) {
+    let Row(shown, seen, asked, at, told) = row;
+    let words = shown.words(rt, asked);
+    expect_of_row(rt, number, &words.key(), &shown.key(rt));
+    let verdict = verdict(rt, &words, seen, moment(rt, at));
+    expect_of_row(rt, number, &verdict, &told.verdict(rt));
+}
+
+/// Ends the test unless each row is told so.
+fn are_told(rt: &(impl Abort + Alloc<A = Global>), rows: &[Row]) {
+    for (number, row) in rows.iter().enumerate() {
+        is_told(rt, number, row);
     }
 }
 
-/// The words of a request under a pass of `amy-1` with these caveats, signed under this root.
-fn words(rt: &impl Abort, alloc: Global, caveats: &[&[u8]], root: u8, request: Request) -> Words {
-    let mut texts = Vec::new(alloc);
-    for caveat in caveats {
-        let text = caveat.to_vec(alloc).expect(rt, "memory");
-        texts.push(text).expect(rt, "memory");
-    }
-    let mut roots = Vec::new(alloc);
-    roots
-        .push(Root::new(&[root; 16]).expect(rt, "a root"))
-        .expect(rt, "memory");
-    Words {
-        pass: Ok(Pass {
-            key: Name::read(b"amy-1"),
-            caveats: texts,
-            roots,
-        }),
-        request,
-    }
-}
+const SPENDS_600: Shown = Shown::Pass(FIRST, &["spend <= 600"]);
 
-/// The answer to a request of `amy-1` under these caveats.
-fn under(
-    rt: &impl Abort,
-    alloc: Global,
-    view: &View,
-    caveats: &[&[u8]],
-    request: Request,
-    moment: u32,
-) -> Verdict {
-    words(rt, alloc, caveats, 7, request).answer(Some(view), at(rt, moment))
-}
+const BOOK_8_AT_19: Asked = Asked::Book(AT_19, 8, 0);
 
-fn told(reply: Reply) -> Verdict {
-    Verdict {
-        reply,
-        change: None,
-    }
-}
+const BOOKING_8: Booked = Booked {
+    number: 8,
+    place: AT_19,
+    guests: 0,
+    charge: 200,
+    left: 3,
+    ..BOOKING_7
+};
 
-fn refused(refusal: Refusal) -> Verdict {
-    told(Reply::Refused(refusal))
-}
+/// After booking 7, what is seen of the hour behind it.
+const ELSEWHERE: Seen = Seen {
+    taken: 0,
+    booking: None,
+    ..AFTER_7
+};
 
-fn booked(rt: &impl Abort, booking: u32, charge: u32, left: u8) -> Reply {
-    Reply::Booked {
-        key: Name::read(b"amy-1").expect(rt, "a name"),
-        number: number(rt, booking),
-        charge,
-        left,
-    }
-}
+const BOOKS_7: Told = Told::Books(BOOKING_7);
 
-fn cancelled(rt: &impl Abort, booking: u32, refund: u32) -> Reply {
-    Reply::Cancelled {
-        key: Name::read(b"amy-1").expect(rt, "a name"),
-        number: number(rt, booking),
-        refund,
-    }
-}
+const BOOKS_8: Told = Told::Books(BOOKING_8);
 
-/// What `amy-1` sees after its booking 7.
-fn after_booking(rt: &impl Abort) -> View {
-    let mut view = view(rt);
-    view.spent = 600;
-    view.balance = 9_400;
-    view.open_count = 1;
-    view.taken = 3;
-    view.booking = booking();
-    view
-}
+const CANCELS_7: Told = Told::Cancels(7, 600);
 
-#[test]
-fn a_booking_and_its_repeats(rt: HostRuntime) {
-    let first = under(&rt, rt.alloc(), &view(&rt), &[], book(&rt, 18, 7, 2), NOON);
-    expect_eq(&rt, &first.reply, &booked(&rt, 7, 600, 1));
-    expect_eq(&rt, &first.change, &booking().map(Change::InsertBooking));
-    let mut seen = after_booking(&rt);
-    let again = under(&rt, rt.alloc(), &seen, &[], book(&rt, 18, 7, 2), START + 30);
-    expect_eq(&rt, &again, &told(booked(&rt, 7, 600, 1)));
-    let other = under(&rt, rt.alloc(), &seen, &[], book(&rt, 18, 7, 1), START + 30);
-    expect_eq(&rt, &other, &refused(Refusal::NumberUsed));
-    let mut recorded = booking().expect(&rt, "a booking");
-    recorded.cancelled = true;
-    recorded.refund = 600;
-    seen.booking = Some(recorded);
-    let after = under(&rt, rt.alloc(), &seen, &[], book(&rt, 18, 7, 2), START + 30);
-    expect_eq(&rt, &after, &told(booked(&rt, 7, 600, 1)));
-}
+const DENIED_1: Told = Told::Refused(Refusal::CaveatDenies(1));
+
+static SPENDS: [Row; 4] = [
+    Row(SPENDS_600, Some(FRESH), BOOK_7, NOON, BOOKS_7),
+    Row(SPENDS_600, Some(ELSEWHERE), BOOK_8_AT_19, NOON, DENIED_1),
+    Row(SPENDS_600, Some(AFTER_7), CANCEL_7, NOON, CANCELS_7),
+    Row(SPENDS_600, Some(FRESH), BOOK_8_AT_19, NOON, BOOKS_8),
+];
 
 #[test]
 fn a_limit_of_what_is_spent(rt: HostRuntime) {
-    let limit: [&[u8]; 1] = [b"spend <= 600"];
-    let first = under(
-        &rt,
-        rt.alloc(),
-        &view(&rt),
-        &limit,
-        book(&rt, 18, 7, 2),
-        NOON,
-    );
-    expect_eq(&rt, &first.reply, &booked(&rt, 7, 600, 1));
-    let seen = after_booking(&rt);
-    let mut elsewhere = seen;
-    elsewhere.taken = 0;
-    elsewhere.booking = None;
-    let more = under(
-        &rt,
-        rt.alloc(),
-        &elsewhere,
-        &limit,
-        book(&rt, 19, 8, 0),
-        NOON,
-    );
-    expect_eq(&rt, &more, &refused(Refusal::CaveatDenies(1)));
-    let back = under(&rt, rt.alloc(), &seen, &limit, cancel(&rt, 18, 7), NOON);
-    expect_eq(&rt, &back.reply, &cancelled(&rt, 7, 600));
-    let last = under(
-        &rt,
-        rt.alloc(),
-        &view(&rt),
-        &limit,
-        book(&rt, 19, 8, 0),
-        NOON,
-    );
-    expect_eq(&rt, &last.reply, &booked(&rt, 8, 200, 3));
+    are_told(&rt, &SPENDS);
 }
 
-/// `room-1` on 2026-05-01 at 18.
-fn room_slot(rt: &impl Abort) -> Slot {
-    let slot = slot_at(18).expect(rt, "a slot");
-    Slot {
-        facility: Name::read(b"room-1").expect(rt, "a name"),
-        day: slot.day,
-        hour: slot.hour,
-    }
-}
+const AT_COURT: Shown = Shown::Pass(FIRST, &["facility = court-1"]);
 
-fn room(rt: &impl Abort) -> Facility {
-    Facility {
-        name: Name::read(b"room-1").expect(rt, "a name"),
-        kind: Kind::Room,
-        places: 1,
-        price: 601,
-        opens: 8,
-        shuts: 22,
-    }
-}
+/// Signed under another root.
+const CHANGED: Shown = Shown::Pass(SECOND, &["facility = court-1"]);
 
-/// The booking 8 of `room-1` for 601 points, at 18.
-fn room_booking(rt: &impl Abort) -> Booking {
-    Booking {
-        key: Name::read(b"amy-1").expect(rt, "a name"),
-        number: number(rt, 8),
-        slot: room_slot(rt),
-        guests: Guests::new(0).expect(rt, "guests"),
-        charge: 601,
-        left: 0,
-        cancelled: false,
-        refund: 0,
-    }
-}
+const REVOKED: Seen = Seen {
+    revoked: true,
+    ..FRESH
+};
 
-/// What `amy-1` sees of that booking.
-fn with_room_booked(rt: &impl Abort) -> View {
-    let seen = view(rt);
-    View {
-        key: seen.key,
-        spent: 601,
-        member: seen.member,
-        balance: 9_399,
-        open_count: 1,
-        facility: Some(room(rt)),
-        taken: 1,
-        closed: false,
-        booking: Some(room_booking(rt)),
-    }
-}
+const NOT_VERIFIED: Told = Told::Refused(Refusal::NotVerified);
 
-fn cancel_room(rt: &impl Abort, booking: u32) -> Request {
-    Request::Cancel {
-        slot: room_slot(rt),
-        number: number(rt, booking),
-    }
-}
-
-/// The answer to a cancellation in `room-1`.
-fn cancelled_at(rt: &impl Abort, alloc: Global, seen: &View, booking: u32, moment: u32) -> Verdict {
-    under(rt, alloc, seen, &[], cancel_room(rt, booking), moment)
-}
-
-#[test]
-fn refunds(rt: HostRuntime) {
-    let seen = with_room_booked(&rt);
-    let early = cancelled_at(&rt, rt.alloc(), &seen, 8, START - 1_440);
-    expect_eq(&rt, &early.reply, &cancelled(&rt, 8, 601));
-    let halved = cancelled_at(&rt, rt.alloc(), &seen, 8, START - 1_439);
-    expect_eq(&rt, &halved.reply, &cancelled(&rt, 8, 300));
-    let late = cancelled_at(&rt, rt.alloc(), &seen, 8, START);
-    expect_eq(&rt, &late, &refused(Refusal::SlotHasBegun));
-    let unrecorded = view(&rt);
-    let unknown = cancelled_at(&rt, rt.alloc(), &unrecorded, 9, NOON);
-    expect_eq(&rt, &unknown, &refused(Refusal::NoSuchBooking));
-}
-
-fn revoked_view(rt: &impl Abort) -> View {
-    let mut seen = view(rt);
-    seen.key.revoked = true;
-    seen
-}
+const KEY_REVOKED: Told = Told::Refused(Refusal::KeyRevoked);
 
 /// An unknown key, a wrong signature and an identifier that is no key's are told alike, before that
-/// the key is revoked and before any caveat.
+/// the key is revoked and before any caveat. A revoked key is told to whoever holds a pass that it
+/// signed, before its caveats, and to nobody else.
+static VERIFIES: [Row; 5] = [
+    Row(AT_COURT, None, Asked::Account, NOON, NOT_VERIFIED),
+    Row(Shown::Unnamed, None, Asked::Account, NOON, NOT_VERIFIED),
+    Row(CHANGED, Some(FRESH), Asked::Account, NOON, NOT_VERIFIED),
+    Row(CHANGED, Some(REVOKED), Asked::Account, NOON, NOT_VERIFIED),
+    Row(AT_COURT, Some(REVOKED), Asked::Account, NOON, KEY_REVOKED),
+];
+
 #[test]
 fn verifies(rt: HostRuntime) {
-    let denied: [&[u8]; 1] = [b"facility = court-1"];
-    let seen = view(&rt);
-    let unverified = refused(Refusal::NotVerified);
-    let unknown = words(&rt, rt.alloc(), &denied, 7, Request::Account);
-    expect_eq(&rt, &unknown.key(), &Name::read(b"amy-1"));
-    expect_eq(&rt, &unknown.answer(None, at(&rt, NOON)), &unverified);
-    let unnamed = Words {
-        pass: Ok(Pass {
-            key: None,
-            caveats: Vec::new(rt.alloc()),
-            roots: Vec::new(rt.alloc()),
-        }),
-        request: Request::Account,
-    };
-    expect_eq(&rt, &unnamed.key(), &None);
-    expect_eq(&rt, &unnamed.answer(None, at(&rt, NOON)), &unverified);
-    let changed = words(&rt, rt.alloc(), &denied, 8, Request::Account);
-    expect_eq(
-        &rt,
-        &changed.answer(Some(&seen), at(&rt, NOON)),
-        &unverified,
-    );
+    are_told(&rt, &VERIFIES);
 }
 
-// Of a revoked key nothing is told to whoever hasn't a pass that it signed.
-#[test]
-fn verifies_under_a_revoked_key(rt: HostRuntime) {
-    let denied: [&[u8]; 1] = [b"facility = court-1"];
-    let revoked = revoked_view(&rt);
-    let changed = words(&rt, rt.alloc(), &denied, 8, Request::Account);
-    let told = changed.answer(Some(&revoked), at(&rt, NOON));
-    expect_eq(&rt, &told, &refused(Refusal::NotVerified));
-}
+const ODD: Shown = Shown::Pass(FIRST, &["guests <= 0", "shoe = red"]);
 
-// A revoked key is told to whoever holds a pass that it signed, before its caveats.
-#[test]
-fn tells_a_revoked_key(rt: HostRuntime) {
-    let denied: [&[u8]; 1] = [b"facility = court-1"];
-    let revoked = revoked_view(&rt);
-    let right = under(&rt, rt.alloc(), &revoked, &denied, Request::Account, NOON);
-    expect_eq(&rt, &right, &refused(Refusal::KeyRevoked));
-}
+const BOOK_7_ALONE: Asked = Asked::Book(AT_18, 7, 0);
 
-#[test]
-fn an_account(rt: HostRuntime) {
-    let account = Reply::AccountShown {
-        member: Name::read(b"amy").expect(&rt, "a name"),
-        balance: 9_400,
-        quota: 5,
-        open_count: 1,
-        spent: 600,
-    };
-    let seen = after_booking(&rt);
-    let shown = under(&rt, rt.alloc(), &seen, &[], Request::Account, NOON);
-    expect_eq(&rt, &shown, &told(account));
-}
+const NOT_UNDERSTOOD_2: Told = Told::Refused(Refusal::CaveatNotUnderstood(2));
+
+static CAVEATS: [Row; 3] = [
+    Row(AT_COURT, Some(FRESH), Asked::Account, NOON, DENIED_1),
+    Row(ODD, Some(FRESH), BOOK_7, NOON, DENIED_1),
+    Row(ODD, Some(FRESH), BOOK_7_ALONE, NOON, NOT_UNDERSTOOD_2),
+];
 
 #[test]
 fn caveats_by_their_positions(rt: HostRuntime) {
-    let court: [&[u8]; 1] = [b"facility = court-1"];
-    let seen = view(&rt);
-    let shown = under(&rt, rt.alloc(), &seen, &court, Request::Account, NOON);
-    expect_eq(&rt, &shown, &refused(Refusal::CaveatDenies(1)));
-    let both: [&[u8]; 2] = [b"guests <= 0", b"shoe = red"];
-    let denied = under(&rt, rt.alloc(), &seen, &both, book(&rt, 18, 7, 2), NOON);
-    expect_eq(&rt, &denied, &refused(Refusal::CaveatDenies(1)));
-    let unread = under(&rt, rt.alloc(), &seen, &both, book(&rt, 18, 7, 0), NOON);
-    expect_eq(&rt, &unread, &refused(Refusal::CaveatNotUnderstood(2)));
+    are_told(&rt, &CAVEATS);
 }
 
-#[test]
-fn places_points_and_quota(rt: HostRuntime) {
-    let mut seen = view(&rt);
-    seen.taken = 3;
-    let full = under(&rt, rt.alloc(), &seen, &[], book(&rt, 18, 2, 1), NOON);
-    expect_eq(&rt, &full, &refused(Refusal::NoPlaces));
-    seen.member.quota = 1;
-    seen.balance = 100;
-    let poor = under(&rt, rt.alloc(), &seen, &[], book(&rt, 18, 2, 0), NOON);
-    expect_eq(&rt, &poor, &refused(Refusal::BalanceTooLow));
-    seen.member.quota = 0;
-    seen.balance = 0;
-    let unfree = under(&rt, rt.alloc(), &seen, &[], book(&rt, 18, 2, 0), NOON);
-    expect_eq(&rt, &unfree, &refused(Refusal::QuotaReached));
-}
+const TOO_LONG: Shown = Shown::NoPass(FormFault::TooLong);
 
-fn court_slot(rt: &impl Abort) -> Slot {
-    slot_at(18).expect(rt, "a slot")
-}
+const MALFORMED: Shown = Shown::NoPass(FormFault::Malformed);
 
-fn closed_view(rt: &impl Abort) -> View {
-    let mut seen = view(rt);
-    seen.closed = true;
-    seen
-}
+const THIRD_PARTY: Shown = Shown::NoPass(FormFault::ThirdParty);
 
-#[test]
-fn a_slot_is_shown(rt: HostRuntime) {
-    let seen = after_booking(&rt);
-    let request = Request::View {
-        slot: court_slot(&rt),
-    };
-    let shown = under(&rt, rt.alloc(), &seen, &[], request, NOON);
-    let reply = Reply::SlotShown {
-        slot: court_slot(&rt),
-        kind: Kind::Court,
-        price: 200,
-        places: 4,
-        taken: 3,
-        closed: false,
-    };
-    expect_eq(&rt, &shown, &told(reply));
-}
+const TOO_MANY: Shown = Shown::NoPass(FormFault::TooMany);
 
-#[test]
-fn a_closed_slot(rt: HostRuntime) {
-    let seen = closed_view(&rt);
-    let closed = under(&rt, rt.alloc(), &seen, &[], book(&rt, 18, 8, 0), NOON);
-    expect_eq(&rt, &closed, &refused(Refusal::SlotClosed));
-}
+const PASS_TOO_LONG: Told = Told::Refused(Refusal::PassTooLong);
 
-/// The refusal of a text that is no pass.
-fn of_no_pass(rt: &impl Abort, fault: FormFault) -> Option<Refusal> {
-    let words = Words {
-        pass: Err(fault),
-        request: Request::Account,
-    };
-    match words.answer(None, at(rt, NOON)).reply {
-        Reply::Refused(refusal) => Some(refusal),
-        _ => None,
-    }
-}
+const PASS_MALFORMED: Told = Told::Refused(Refusal::PassMalformed);
+
+const THIRD_PARTY_CAVEAT: Told = Told::Refused(Refusal::ThirdPartyCaveat);
+
+const TOO_MANY_CAVEATS: Told = Told::Refused(Refusal::TooManyCaveats);
+
+static NO_PASSES: [Row; 4] = [
+    Row(TOO_LONG, None, Asked::Account, NOON, PASS_TOO_LONG),
+    Row(MALFORMED, None, Asked::Account, NOON, PASS_MALFORMED),
+    Row(THIRD_PARTY, None, Asked::Account, NOON, THIRD_PARTY_CAVEAT),
+    Row(TOO_MANY, None, Asked::Account, NOON, TOO_MANY_CAVEATS),
+];
 
 #[test]
 fn what_is_no_pass(rt: HostRuntime) {
-    for (fault, refusal) in [
-        (FormFault::TooLong, Refusal::PassTooLong),
-        (FormFault::Malformed, Refusal::PassMalformed),
-        (FormFault::ThirdParty, Refusal::ThirdPartyCaveat),
-        (FormFault::TooMany, Refusal::TooManyCaveats),
-    ] {
-        expect_eq(&rt, &of_no_pass(&rt, fault), &Some(refusal));
-    }
+    are_told(&rt, &NO_PASSES);
 }

@@ -1,75 +1,186 @@
 //! What the tests look at: amy with quota 5, 10,000 points and the key `amy-1`, and `court-1` with
 //! 4 places for 200 points.
 
-use club_core::View;
-use club_rows::{Booking, BookingNumber, Facility, Guests, Key, Member, Root};
-use pass_caveats::{Day, Hour, Kind, Name, Slot};
+use crate::values::{Place, guests, name, number, root};
+use club_core::{Booking, Facility, Key, Member, View};
+use pass_caveats::Kind;
+use std::process::Abort;
 
-// 2026-04-20T12:00, and the minute at which the slot at 18 begins.
-pub(crate) const NOON: u32 = 29_611_440;
+pub(crate) const NOON: &str = "2026-04-20T12:00";
 
-pub(crate) const START: u32 = 29_627_640;
+/// The minute at which the slots at 18 begin, the one before it, and a later one.
+pub(crate) const START: &str = "2026-05-01T18:00";
 
-/// `court-1` on 2026-05-01, at 18 unless told.
-pub(crate) fn slot_at(hour: u8) -> Option<Slot> {
-    Some(Slot {
-        facility: Name::read(b"court-1")?,
-        day: Day::read(b"2026-05-01")?,
-        hour: Hour::from_number(hour)?,
-    })
+pub(crate) const BEFORE_START: &str = "2026-05-01T17:59";
+
+pub(crate) const BEGUN: &str = "2026-05-01T18:30";
+
+/// A day before that minute, and a minute later.
+pub(crate) const DAY_AHEAD: &str = "2026-04-30T18:00";
+
+pub(crate) const LATER: &str = "2026-04-30T18:01";
+
+/// The root of the key, and two others.
+pub(crate) const FIRST: &[u8] = &[7; 16];
+
+pub(crate) const SECOND: &[u8] = &[8; 16];
+
+pub(crate) const THIRD: &[u8] = &[9; 16];
+
+pub(crate) const AT_18: Place = Place("court-1", 18);
+
+pub(crate) const AT_19: Place = Place("court-1", 19);
+
+/// A facility that is open from 8 to 22.
+#[derive(Clone, Copy)]
+pub(crate) struct Site {
+    pub name: &'static str,
+    pub kind: Kind,
+    pub places: u8,
+    pub price: u16,
 }
 
-pub(crate) fn key() -> Option<Key> {
-    Some(Key {
-        name: Name::read(b"amy-1")?,
-        member: Name::read(b"amy")?,
-        root: Root::new(&[7; 16])?,
-        older: None,
-        revoked: false,
-    })
-}
+pub(crate) const COURT: Site = Site {
+    name: "court-1",
+    kind: Kind::Court,
+    places: 4,
+    price: 200,
+};
 
-pub(crate) fn court() -> Option<Facility> {
-    Some(Facility {
-        name: Name::read(b"court-1")?,
-        kind: Kind::Court,
-        places: 4,
-        price: 200,
-        opens: 8,
-        shuts: 22,
-    })
-}
-
-/// What a key sees before its first booking, of a member with quota 5 and 10,000 points.
-pub(crate) fn fresh() -> Option<View> {
-    let key = key()?;
-    Some(View {
-        key,
-        spent: 0,
-        member: Member {
-            name: key.member,
-            credited: 10_000,
-            quota: 5,
-        },
-        balance: 10_000,
-        open_count: 0,
-        facility: court(),
-        taken: 0,
-        closed: false,
-        booking: None,
-    })
+/// A booking.
+#[derive(Clone, Copy)]
+pub(crate) struct Booked {
+    pub key: &'static str,
+    pub number: u32,
+    pub place: Place,
+    pub guests: u8,
+    pub charge: u32,
+    pub left: u8,
+    pub cancelled: bool,
+    pub refund: u32,
 }
 
 /// The key's booking 7, of `court-1` on 2026-05-01 at 18 with two guests.
-pub(crate) fn booking() -> Option<Booking> {
-    Some(Booking {
-        key: Name::read(b"amy-1")?,
-        number: BookingNumber::new(7)?,
-        slot: slot_at(18)?,
-        guests: Guests::new(2)?,
-        charge: 600,
-        left: 1,
-        cancelled: false,
-        refund: 0,
-    })
+pub(crate) const BOOKING_7: Booked = Booked {
+    key: "amy-1",
+    number: 7,
+    place: AT_18,
+    guests: 2,
+    charge: 600,
+    left: 1,
+    cancelled: false,
+    refund: 0,
+};
+
+/// What `amy-1` sees.
+#[derive(Clone, Copy)]
+pub(crate) struct Seen {
+    pub revoked: bool,
+    pub spent: u64,
+    pub quota: u8,
+    pub balance: u32,
+    pub open_count: u64,
+    pub facility: Option<Site>,
+    pub taken: u64,
+    pub closed: bool,
+    pub booking: Option<Booked>,
+}
+
+/// What it sees before its first booking.
+pub(crate) const FRESH: Seen = Seen {
+    revoked: false,
+    spent: 0,
+    quota: 5,
+    balance: 10_000,
+    open_count: 0,
+    facility: Some(COURT),
+    taken: 0,
+    closed: false,
+    booking: None,
+};
+
+/// What it sees after its booking 7.
+pub(crate) const AFTER_7: Seen = Seen {
+    spent: 600,
+    balance: 9_400,
+    open_count: 1,
+    taken: 3,
+    booking: Some(BOOKING_7),
+    ..FRESH
+};
+
+impl Site {
+    pub fn row(&self, rt: &impl Abort) -> Facility {
+        Facility {
+            name: name(rt, self.name),
+            kind: self.kind,
+            places: self.places,
+            price: self.price,
+            opens: 8,
+            shuts: 22,
+        }
+    }
+}
+
+impl Booked {
+    pub fn row(&self, rt: &impl Abort) -> Booking {
+        Booking {
+            key: name(rt, self.key),
+            number: number(rt, self.number),
+            slot: self.place.slot(rt),
+            guests: guests(rt, self.guests),
+            charge: self.charge,
+            left: self.left,
+            cancelled: self.cancelled,
+            refund: self.refund,
+        }
+    }
+}
+
+pub(crate) fn amy(rt: &impl Abort, credited: u32, quota: u8) -> Member {
+    Member {
+        name: name(rt, "amy"),
+        credited,
+        quota,
+    }
+}
+
+pub(crate) fn key(rt: &impl Abort, revoked: bool) -> Key {
+    Key {
+        name: name(rt, "amy-1"),
+        member: name(rt, "amy"),
+        root: root(rt, FIRST),
+        older: None,
+        revoked,
+    }
+}
+
+pub(crate) fn facility(rt: &impl Abort, site: &Option<Site>) -> Option<Facility> {
+    match site {
+        Some(site) => Some(site.row(rt)),
+        None => None,
+    }
+}
+
+pub(crate) fn booking(rt: &impl Abort, booked: &Option<Booked>) -> Option<Booking> {
+    match booked {
+        Some(booked) => Some(booked.row(rt)),
+        None => None,
+    }
+}
+
+impl Seen {
+    pub fn view(&self, rt: &impl Abort) -> View {
+        View {
+            key: key(rt, self.revoked),
+            spent: self.spent,
+            member: amy(rt, 10_000, self.quota),
+            balance: self.balance,
+            open_count: self.open_count,
+            facility: facility(rt, &self.facility),
+            taken: self.taken,
+            closed: self.closed,
+            booking: booking(rt, &self.booking),
+        }
+    }
 }

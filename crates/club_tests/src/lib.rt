@@ -4,14 +4,24 @@
 #[cfg(test)]
 mod answers;
 #[cfg(test)]
+mod bookings;
+#[cfg(test)]
 mod decisions;
 #[cfg(test)]
 mod expect;
 #[cfg(test)]
 mod fixture;
 #[cfg(test)]
+mod office;
+#[cfg(test)]
 mod orders;
 #[cfg(test)]
 mod rotation;
 #[cfg(test)]
 mod rows;
+#[cfg(test)]
+mod said;
+#[cfg(test)]
+mod told;
+#[cfg(test)]
+mod values;

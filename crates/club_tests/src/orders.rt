@@ -1,277 +1,170 @@
-//! The office's orders, each with the refusals in their order, and how the faults are told.
+//! The office's orders, each with the refusals in their order.
 
-use crate::expect::expect_eq;
-use crate::fixture::{court, key, slot_at};
-use club_core::{
-    Change, Command, Facility, Member, OfficeAnswer, OfficeFault, OrderView, Refusal, Root,
-    SlotUse, StoreFault, decide_order,
-};
-use pass_caveats::{Kind, Name};
+use crate::expect::expect_of_row;
+use crate::fixture::{AT_18, COURT, FIRST, SECOND};
+use crate::office::{EVERYTHING, KeySeen, Known, Made, NOTHING, Order};
+use crate::values::{Place, name, root};
+use club_core::{OfficeAnswer, OfficeFault, decide_order};
 use std::process::Abort;
 use std::test::*;
 
-/// Nothing is known, and nothing is taken.
-fn nothing() -> OrderView {
-    OrderView {
-        member: None,
-        key: None,
-        facility: None,
-        slot: SlotUse {
-            taken: 0,
-            closed: false,
-        },
+/// What an order sees, the order, and what is made of it.
+struct Row(Known, Order, Made);
+
+/// Ends the test unless that is made of each order.
+fn are_decided(rt: &impl Abort, rows: &[Row]) {
+    for (number, row) in rows.iter().enumerate() {
+        let Row(known, order, made) = row;
+        let decided = decide_order(&known.view(rt), &order.command(rt));
+        expect_of_row(rt, number, &decided, &made.change(rt));
     }
 }
 
-fn amy() -> Option<Member> {
-    Some(Member {
-        name: Name::read(b"amy")?,
-        credited: 999_000_000,
-        quota: 5,
-    })
-}
+const EXISTS: Made = Made::Refused(OfficeFault::Exists);
 
-/// Amy, her key and `court-1` are known, and nothing is taken.
-fn everything() -> OrderView {
-    OrderView {
-        member: amy(),
-        key: key(),
-        facility: court(),
-        slot: SlotUse {
-            taken: 0,
-            closed: false,
-        },
-    }
-}
+const UNKNOWN: Made = Made::Refused(OfficeFault::Unknown);
 
-/// Why the order is refused; `None` where it isn't.
-fn fault(view: &OrderView, command: &Command) -> Option<OfficeFault> {
-    match decide_order(view, command) {
-        Err(fault) => Some(fault),
-        Ok(_) => None,
-    }
-}
+const OUT_OF_RANGE: Made = Made::Refused(OfficeFault::OutOfRange);
 
-/// The change that the order makes; `None` where it is refused.
-fn change(view: &OrderView, command: &Command) -> Option<Change> {
-    match decide_order(view, command) {
-        Ok(change) => Some(change),
-        Err(_) => None,
-    }
-}
+const IN_USE: Made = Made::Refused(OfficeFault::SlotInUse);
 
-fn member(rt: &impl Abort, quota: u32) -> Command {
-    let name = Name::read(b"amy").expect(rt, "a name");
-    Command::AddMember { name, quota }
-}
+static MEMBERS: [Row; 3] = [
+    Row(EVERYTHING, Order::AddMember(100), OUT_OF_RANGE),
+    Row(EVERYTHING, Order::AddMember(99), EXISTS),
+    Row(NOTHING, Order::AddMember(99), Made::Member(99)),
+];
+
+static CREDITS: [Row; 5] = [
+    Row(NOTHING, Order::Credit(0), OUT_OF_RANGE),
+    Row(NOTHING, Order::Credit(1_000_001), OUT_OF_RANGE),
+    Row(NOTHING, Order::Credit(1), UNKNOWN),
+    Row(EVERYTHING, Order::Credit(1_000_000), OUT_OF_RANGE),
+    Row(EVERYTHING, Order::Credit(999_999), Made::Credit(999_999)),
+];
 
 #[test]
-fn members(rt: HostRuntime) {
-    let known = everything();
-    expect_eq(
-        &rt,
-        &fault(&known, &member(&rt, 100)),
-        &Some(OfficeFault::OutOfRange),
-    );
-    expect_eq(
-        &rt,
-        &fault(&known, &member(&rt, 99)),
-        &Some(OfficeFault::Exists),
-    );
-    let made = Member {
-        name: Name::read(b"amy").expect(&rt, "a name"),
-        credited: 0,
-        quota: 99,
-    };
-    let order = member(&rt, 99);
-    expect_eq(
-        &rt,
-        &change(&nothing(), &order),
-        &Some(Change::InsertMember(made)),
-    );
+fn members_and_credits(rt: HostRuntime) {
+    are_decided(&rt, &MEMBERS);
+    are_decided(&rt, &CREDITS);
 }
 
-fn credit(rt: &impl Abort, points: u32) -> Command {
-    let member = Name::read(b"amy").expect(rt, "a name");
-    Command::Credit { member, points }
-}
+const ODD_PRICE: Order = Order::AddFacility(4, 10_000, 8, 22);
 
-#[test]
-fn credits(rt: HostRuntime) {
-    let known = everything();
-    let out = Some(OfficeFault::OutOfRange);
-    expect_eq(&rt, &fault(&nothing(), &credit(&rt, 0)), &out);
-    expect_eq(&rt, &fault(&nothing(), &credit(&rt, 1_000_001)), &out);
-    expect_eq(
-        &rt,
-        &fault(&nothing(), &credit(&rt, 1)),
-        &Some(OfficeFault::Unknown),
-    );
-    expect_eq(&rt, &fault(&known, &credit(&rt, 1_000_000)), &out);
-    let made = Change::AddCredit {
-        member: Name::read(b"amy").expect(&rt, "a name"),
-        points: 999_999,
-    };
-    expect_eq(&rt, &change(&known, &credit(&rt, 999_999)), &Some(made));
-}
+const COURT_1: Made = Made::Facility(4, 200, 8, 22);
 
-fn facility(rt: &impl Abort, places: u32, price: u32, opens: u32, shuts: u32) -> Command {
-    Command::AddFacility {
-        name: Name::read(b"court-1").expect(rt, "a name"),
-        kind: Kind::Court,
-        places,
-        price,
-        opens,
-        shuts,
-    }
-}
+const LARGEST: Made = Made::Facility(50, 9_999, 0, 24);
+
+static FACILITIES: [Row; 8] = [
+    Row(EVERYTHING, Order::AddFacility(0, 200, 8, 22), OUT_OF_RANGE),
+    Row(EVERYTHING, Order::AddFacility(51, 200, 8, 22), OUT_OF_RANGE),
+    Row(EVERYTHING, ODD_PRICE, OUT_OF_RANGE),
+    Row(EVERYTHING, Order::AddFacility(4, 200, 8, 8), OUT_OF_RANGE),
+    Row(EVERYTHING, Order::AddFacility(4, 200, 8, 25), OUT_OF_RANGE),
+    Row(EVERYTHING, Order::AddFacility(4, 200, 8, 22), EXISTS),
+    Row(NOTHING, Order::AddFacility(4, 200, 8, 22), COURT_1),
+    Row(NOTHING, Order::AddFacility(50, 9_999, 0, 24), LARGEST),
+];
 
 #[test]
 fn facilities(rt: HostRuntime) {
-    let known = everything();
-    let out = Some(OfficeFault::OutOfRange);
-    expect_eq(&rt, &fault(&known, &facility(&rt, 0, 200, 8, 22)), &out);
-    expect_eq(&rt, &fault(&known, &facility(&rt, 51, 200, 8, 22)), &out);
-    expect_eq(&rt, &fault(&known, &facility(&rt, 4, 10_000, 8, 22)), &out);
-    expect_eq(&rt, &fault(&known, &facility(&rt, 4, 200, 8, 8)), &out);
-    expect_eq(&rt, &fault(&known, &facility(&rt, 4, 200, 8, 25)), &out);
-    expect_eq(
-        &rt,
-        &fault(&known, &facility(&rt, 4, 200, 8, 22)),
-        &Some(OfficeFault::Exists),
-    );
-    let made = court().map(Change::InsertFacility);
-    expect_eq(
-        &rt,
-        &change(&nothing(), &facility(&rt, 4, 200, 8, 22)),
-        &made,
-    );
-    expect_eq(
-        &rt,
-        &fault(&nothing(), &facility(&rt, 50, 9_999, 0, 24)),
-        &None,
-    );
+    are_decided(&rt, &FACILITIES);
 }
 
-fn new_key(rt: &impl Abort) -> Command {
-    Command::AddKey {
-        name: Name::read(b"amy-1").expect(rt, "a name"),
-        member: Name::read(b"amy").expect(rt, "a name"),
-        root: Root::new(&[7; 16]).expect(rt, "a root"),
-    }
-}
+const NO_MEMBER: Known = Known {
+    amy: false,
+    ..EVERYTHING
+};
+
+const NO_KEY: Known = Known {
+    key: KeySeen::Unknown,
+    ..EVERYTHING
+};
+
+const REVOKED: Known = Known {
+    key: KeySeen::Revoked,
+    ..EVERYTHING
+};
+
+static KEYS: [Row; 6] = [
+    Row(EVERYTHING, Order::AddKey, EXISTS),
+    Row(NO_MEMBER, Order::AddKey, UNKNOWN),
+    Row(NO_KEY, Order::AddKey, Made::Key),
+    Row(NOTHING, Order::RevokeKey, UNKNOWN),
+    Row(EVERYTHING, Order::RevokeKey, Made::Revoked),
+    Row(REVOKED, Order::RevokeKey, Made::Revoked),
+];
 
 #[test]
-fn keys(rt: HostRuntime) {
-    let mut seen = everything();
-    expect_eq(
-        &rt,
-        &fault(&seen, &new_key(&rt)),
-        &Some(OfficeFault::Exists),
-    );
-    seen.member = None;
-    expect_eq(
-        &rt,
-        &fault(&seen, &new_key(&rt)),
-        &Some(OfficeFault::Unknown),
-    );
-    seen.member = amy();
-    seen.key = None;
-    let row = key().expect(&rt, "a key");
-    expect_eq(
-        &rt,
-        &change(&seen, &new_key(&rt)),
-        &Some(Change::InsertKey(row)),
-    );
-    let told = OfficeAnswer::NewKey {
-        name: Name::read(b"amy-1").expect(&rt, "a name"),
-        root: Root::new(&[7; 16]).expect(&rt, "a root"),
-    };
-    expect_eq(&rt, &OfficeAnswer::done(&new_key(&rt)), &told);
+fn keys_and_revocations(rt: HostRuntime) {
+    are_decided(&rt, &KEYS);
 }
+
+static ROTATIONS: [Row; 4] = [
+    Row(NOTHING, Order::RotateKey(SECOND), UNKNOWN),
+    Row(EVERYTHING, Order::RotateKey(FIRST), EXISTS),
+    Row(EVERYTHING, Order::RotateKey(SECOND), Made::Rotated(SECOND)),
+    Row(REVOKED, Order::RotateKey(SECOND), Made::Rotated(SECOND)),
+];
 
 #[test]
-fn revocations(rt: HostRuntime) {
-    let name = Name::read(b"amy-1").expect(&rt, "a name");
-    let order = Command::RevokeKey { name };
-    expect_eq(&rt, &fault(&nothing(), &order), &Some(OfficeFault::Unknown));
-    let marked = Some(Change::MarkRevoked { key: name });
-    expect_eq(&rt, &change(&everything(), &order), &marked);
-    let mut row = key().expect(&rt, "a key");
-    row.revoked = true;
-    let mut seen = everything();
-    seen.key = Some(row);
-    expect_eq(&rt, &change(&seen, &order), &marked);
-    expect_eq(&rt, &OfficeAnswer::done(&order), &OfficeAnswer::Done);
+fn rotations(rt: HostRuntime) {
+    are_decided(&rt, &ROTATIONS);
 }
 
-fn close(rt: &impl Abort, hour: u8) -> Command {
-    Command::CloseSlot(slot_at(hour).expect(rt, "a slot"))
-}
+const AT_22: Place = Place("court-1", 22);
 
-fn slot_seen(facility: Option<Facility>, taken: u32, closed: bool) -> OrderView {
-    OrderView {
-        member: None,
-        key: None,
-        facility,
-        slot: SlotUse { taken, closed },
-    }
-}
+const NOWHERE: Known = Known {
+    taken: 3,
+    closed: true,
+    ..NOTHING
+};
+
+const CLOSED_AND_BOOKED: Known = Known {
+    facility: Some(COURT),
+    ..NOWHERE
+};
+
+const BOOKED: Known = Known {
+    closed: false,
+    ..CLOSED_AND_BOOKED
+};
+
+const FREE: Known = Known { taken: 0, ..BOOKED };
+
+static CLOSINGS: [Row; 5] = [
+    Row(NOWHERE, Order::CloseSlot(AT_22), UNKNOWN),
+    Row(CLOSED_AND_BOOKED, Order::CloseSlot(AT_22), OUT_OF_RANGE),
+    Row(CLOSED_AND_BOOKED, Order::CloseSlot(AT_18), EXISTS),
+    Row(BOOKED, Order::CloseSlot(AT_18), IN_USE),
+    Row(FREE, Order::CloseSlot(AT_18), Made::Closed(AT_18)),
+];
 
 #[test]
 fn closed_slots(rt: HostRuntime) {
-    let unknown = slot_seen(None, 3, true);
-    expect_eq(
-        &rt,
-        &fault(&unknown, &close(&rt, 22)),
-        &Some(OfficeFault::Unknown),
-    );
-    let both = slot_seen(court(), 3, true);
-    expect_eq(
-        &rt,
-        &fault(&both, &close(&rt, 22)),
-        &Some(OfficeFault::OutOfRange),
-    );
-    expect_eq(
-        &rt,
-        &fault(&both, &close(&rt, 18)),
-        &Some(OfficeFault::Exists),
-    );
-    let booked = slot_seen(court(), 3, false);
-    expect_eq(
-        &rt,
-        &fault(&booked, &close(&rt, 18)),
-        &Some(OfficeFault::SlotInUse),
-    );
-    let free = slot_seen(court(), 0, false);
-    expect_eq(
-        &rt,
-        &change(&free, &close(&rt, 18)),
-        &slot_at(18).map(Change::MarkClosed),
-    );
+    are_decided(&rt, &CLOSINGS);
+}
+
+/// What is done is told as that, and a key that is new or gets a new root with that root.
+static DONE: [(Order, Option<&[u8]>); 3] = [
+    (Order::RevokeKey, None),
+    (Order::AddKey, Some(FIRST)),
+    (Order::RotateKey(SECOND), Some(SECOND)),
+];
+
+fn answer(rt: &impl Abort, bytes: &Option<&[u8]>) -> OfficeAnswer {
+    match bytes {
+        Some(bytes) => OfficeAnswer::NewKey {
+            name: name(rt, "amy-1"),
+            root: root(rt, bytes),
+        },
+        None => OfficeAnswer::Done,
+    }
 }
 
 #[test]
-fn faults_are_told(rt: HostRuntime) -> Result<(), Fail> {
-    for (fault, text) in [
-        (OfficeFault::Exists, "exists"),
-        (OfficeFault::Unknown, "unknown"),
-        (OfficeFault::OutOfRange, "out of range"),
-        (OfficeFault::SlotInUse, "slot in use"),
-    ] {
-        expect_eq(&rt, &format!(in rt.alloc(); "{fault}")?.as_str(), &text);
+fn what_is_done_is_told(rt: HostRuntime) {
+    for (row, (order, bytes)) in DONE.iter().enumerate() {
+        let told = OfficeAnswer::done(&order.command(&rt));
+        expect_of_row(&rt, row, &told, &answer(&rt, bytes));
     }
-    for (fault, text) in [
-        (StoreFault::Memory, "out of memory"),
-        (StoreFault::Storage, "storage failed"),
-    ] {
-        expect_eq(&rt, &format!(in rt.alloc(); "{fault}")?.as_str(), &text);
-    }
-    let refusal = Refusal::CaveatDenies(2);
-    expect_eq(
-        &rt,
-        &format!(in rt.alloc(); "{refusal}")?.as_str(),
-        &"caveat denies",
-    );
-    Ok(())
 }

@@ -1,91 +1,61 @@
-//! The office's rows of a rotation, and the roots of a key that are good at a moment.
+//! The roots of a key that are good at a moment.
 
-use crate::expect::expect_eq;
-use crate::fixture::key;
-use club_core::{
-    Change, Command, Key, OfficeAnswer, OfficeFault, OlderRoot, OrderView, Pass, Root, SlotUse,
-    decide_order,
-};
-use pass_caveats::{Moment, Name};
+use crate::expect::expect_of_row;
+use crate::fixture::{FIRST, SECOND, THIRD, key};
+use crate::said::signed;
+use crate::values::{moment, root};
+use club_core::{Key, OlderRoot, Root};
 use std::alloc::Global;
+use std::process::Abort;
 use std::test::*;
 
-fn root(byte: u8) -> Result<Root, Fail> {
-    Ok(Root::new(&[byte; 16]).ok_or("a root")?)
-}
+const BEFORE: &str = "2026-04-24T23:59";
 
-fn moment(text: &[u8]) -> Result<Moment, Fail> {
-    Ok(Moment::read(text).ok_or("a moment")?)
-}
+const UNTIL: &str = "2026-04-25T00:00";
 
-/// What is decided of a new root for a key that is seen so.
-fn decided(key: Option<Key>, root: Root) -> Result<Result<Change, OfficeFault>, Fail> {
-    let view = OrderView {
-        member: None,
-        key,
-        facility: None,
-        slot: SlotUse {
-            taken: 0,
-            closed: false,
-        },
-    };
-    Ok(decide_order(&view, &rotation(root)?))
-}
-
-fn rotation(root: Root) -> Result<Command, Fail> {
-    Ok(Command::RotateKey {
-        name: Name::read(b"amy-1").ok_or("a name")?,
-        root,
-        until: moment(b"2026-04-25T00:00")?,
-    })
-}
-
-#[test]
-fn rotations(rt: HostRuntime) -> Result<(), Fail> {
-    let mut key = key().ok_or("a key")?;
-    let (first, second) = (root(7)?, root(8)?);
-    let until = moment(b"2026-04-25T00:00")?;
-    expect_eq(&rt, &decided(None, second)?, &Err(OfficeFault::Unknown));
-    expect_eq(&rt, &decided(Some(key), first)?, &Err(OfficeFault::Exists));
-    let replaced = Change::ReplaceRoot {
-        key: key.name,
-        root: second,
-        until,
-    };
-    expect_eq(&rt, &decided(Some(key), second)?, &Ok(replaced));
-    key.revoked = true;
-    expect_eq(&rt, &decided(Some(key), second)?, &Ok(replaced));
-    let told = OfficeAnswer::NewKey {
-        name: key.name,
-        root: second,
-    };
-    expect_eq(&rt, &OfficeAnswer::done(&rotation(second)?), &told);
-    Ok(())
-}
-
-fn signed_under(alloc: Global, root: Root) -> Result<Pass, Fail> {
-    let mut roots = Vec::new(alloc);
-    roots.push(root)?;
-    Ok(Pass {
-        key: None,
-        caveats: Vec::new(alloc),
-        roots,
-    })
-}
-
-#[test]
-fn good_roots(rt: HostRuntime) -> Result<(), Fail> {
-    let until = moment(b"2026-04-25T00:00")?;
-    let before = moment(b"2026-04-24T23:59")?;
-    let mut key = key().ok_or("a key")?;
+/// The key with an older root, which is good until that moment.
+fn rotated(rt: &impl Abort) -> Key {
+    let mut key = key(rt, false);
     key.older = Some(OlderRoot {
-        root: root(8)?,
-        until,
+        root: root(rt, SECOND),
+        until: moment(rt, UNTIL),
     });
-    for (byte, earlier, later) in [(7, true, true), (8, true, false), (9, false, false)] {
-        let pass = signed_under(rt.alloc(), root(byte)?)?;
-        assert_eq!(rt; pass.is_signed_under(&key, before), earlier, "{byte}");
-        assert_eq!(rt; pass.is_signed_under(&key, until), later, "{byte}");
+    key
+}
+
+/// The root that signed a pass, the moment, and whether the pass is verified then.
+static PASSES: [(&[u8], &str, bool); 6] = [
+    (FIRST, BEFORE, true),
+    (FIRST, UNTIL, true),
+    (SECOND, BEFORE, true),
+    (SECOND, UNTIL, false),
+    (THIRD, BEFORE, false),
+    (THIRD, UNTIL, false),
+];
+
+fn are_signed(rt: &(impl Abort + Alloc<A = Global>), rows: &[(&[u8], &str, bool)]) {
+    let key = rotated(rt);
+    for (number, (bytes, at, good)) in rows.iter().enumerate() {
+        let is_signed = signed(rt, None, bytes, &[]).is_signed_under(&key, moment(rt, at));
+        expect_of_row(rt, number, &is_signed, good);
     }
-    Ok(())
+}
+
+#[test]
+fn good_roots(rt: HostRuntime) {
+    are_signed(&rt, &PASSES);
+}
+
+/// Ends the test unless the key has this older root at a moment.
+fn has_older(rt: &impl Abort, row: usize, key: &Key, at: &str, want: Option<Root>) {
+    let older = key.older_root_at(moment(rt, at)).copied();
+    expect_of_row(rt, row, &older, &want);
+}
+
+#[test]
+fn older_roots(rt: HostRuntime) {
+    let key = rotated(&rt);
+    has_older(&rt, 0, &key, BEFORE, Some(root(&rt, SECOND)));
+    has_older(&rt, 1, &key, UNTIL, None);
+    has_older(&rt, 2, &self::key(&rt, false), BEFORE, None);
 }

@@ -1,117 +1,129 @@
 //! The rows of a club, read from their columns within their limits.
 
-use crate::expect::expect_eq;
+use crate::expect::expect_of_row;
+use crate::fixture::{AT_18, BOOKING_7, Booked, COURT, FIRST, Site, booking, facility, key};
 use club_rows::{
-    Booking, BookingColumns, BookingNumber, Facility, FacilityColumns, Guests, Key, Member,
-    OlderRoot, Root, slot_from_columns,
+    Booking, BookingColumns, BookingNumber, Facility, FacilityColumns, Guests, Key, Member, Root,
+    slot_from_columns,
 };
-use club_values::{Day, Hour, Kind, Moment, Name, Slot};
+use club_values::Slot;
+use std::process::Abort;
 use std::test::*;
 
-/// `court-1` on 2026-05-01, at 18 unless told.
-fn slot_at(hour: u8) -> Option<Slot> {
-    Some(Slot {
-        facility: Name::read(b"court-1")?,
-        day: Day::read(b"2026-05-01")?,
-        hour: Hour::from_number(hour)?,
-    })
+static NUMBERS: [(u32, bool); 4] = [
+    (0, false),
+    (1, true),
+    (999_999_999, true),
+    (1_000_000_000, false),
+];
+
+/// The guests, and the persons that they are with their member.
+static GUESTS: [(u8, Option<u8>); 2] = [(49, Some(50)), (50, None)];
+
+static ROOT_LENGTHS: [(usize, bool); 4] = [(15, false), (16, true), (64, true), (65, false)];
+
+fn persons(guests: u8) -> Option<u8> {
+    Some(Guests::new(guests)?.persons())
 }
 
-fn key() -> Option<Key> {
-    Some(Key {
-        name: Name::read(b"amy-1")?,
-        member: Name::read(b"amy")?,
-        root: Root::new(&[7; 16])?,
-        older: None,
-        revoked: false,
-    })
-}
-
-fn court() -> Option<Facility> {
-    Some(Facility {
-        name: Name::read(b"court-1")?,
-        kind: Kind::Court,
-        places: 4,
-        price: 200,
-        opens: 8,
-        shuts: 22,
-    })
-}
-
-/// The key's booking 7, of `court-1` on 2026-05-01 at 18 with two guests.
-fn booking() -> Option<Booking> {
-    Some(Booking {
-        key: Name::read(b"amy-1")?,
-        number: BookingNumber::new(7)?,
-        slot: slot_at(18)?,
-        guests: Guests::new(2)?,
-        charge: 600,
-        left: 1,
-        cancelled: false,
-        refund: 0,
-    })
+fn is_root(len: usize) -> bool {
+    let bytes = [9; 65];
+    match bytes.get(..len) {
+        Some(bytes) => Root::new(bytes).is_some(),
+        None => false,
+    }
 }
 
 #[test]
 fn limits(rt: HostRuntime) {
-    for (number, within) in [
-        (0, false),
-        (1, true),
-        (999_999_999, true),
-        (1_000_000_000, false),
-    ] {
-        expect_eq(&rt, &BookingNumber::new(number).is_some(), &within);
+    for (row, (number, within)) in NUMBERS.iter().enumerate() {
+        expect_of_row(&rt, row, &BookingNumber::new(*number).is_some(), within);
     }
-    expect_eq(
-        &rt,
-        &Guests::new(49).map(|guests| guests.persons()),
-        &Some(50),
-    );
-    expect_eq(&rt, &Guests::new(50), &None);
-    for (len, within) in [(15, false), (16, true), (64, true), (65, false)] {
-        let bytes = [9; 65];
-        assert_eq!(rt; Root::new(&bytes[..len]).is_some(), within, "{len}");
+    for (row, (guests, want)) in GUESTS.iter().enumerate() {
+        expect_of_row(&rt, row, &persons(*guests), want);
+    }
+    for (row, (len, within)) in ROOT_LENGTHS.iter().enumerate() {
+        expect_of_row(&rt, row, &is_root(*len), within);
     }
 }
 
+/// The columns of a member, and whether they are a row.
+static MEMBERS: [(&[u8], i64, i64, bool); 4] = [
+    (b"amy", 999_999_999, 99, true),
+    (b"amy", 1_000_000_000, 99, false),
+    (b"amy", -1, 5, false),
+    (b"Amy", 0, 5, false),
+];
+
 #[test]
-fn columns(rt: HostRuntime) {
-    assert!(rt; Member::from_columns(b"amy", 999_999_999, 99).is_some());
-    expect_eq(&rt, &Member::from_columns(b"amy", 1_000_000_000, 99), &None);
-    expect_eq(&rt, &Member::from_columns(b"amy", -1, 5), &None);
-    expect_eq(&rt, &Member::from_columns(b"Amy", 0, 5), &None);
-    expect_eq(
-        &rt,
-        &Key::from_columns(b"amy-1", b"amy", &[7; 16], 0),
-        &key(),
-    );
-    expect_eq(
-        &rt,
-        &Key::from_columns(b"amy-1", b"amy", &[7; 16], 2),
-        &None,
-    );
-    expect_eq(
-        &rt,
-        &slot_from_columns(b"court-1", 20_574, 18),
-        &slot_at(18),
-    );
-    expect_eq(&rt, &slot_from_columns(b"court-1", 20_574, 24), &None);
-    let mut court_columns = FacilityColumns {
+fn columns_of_members(rt: HostRuntime) {
+    for (row, (name, credited, quota, within)) in MEMBERS.iter().enumerate() {
+        let member = Member::from_columns(name, *credited, *quota);
+        expect_of_row(&rt, row, &member.is_some(), within);
+    }
+}
+
+fn is_key(rt: &impl Abort, row: usize, revoked: i64, want: Option<Key>) {
+    let key = Key::from_columns(b"amy-1", b"amy", FIRST, revoked);
+    expect_of_row(rt, row, &key, &want);
+}
+
+#[test]
+fn columns_of_keys(rt: HostRuntime) {
+    is_key(&rt, 0, 0, Some(key(&rt, false)));
+    is_key(&rt, 1, 2, None);
+}
+
+fn is_slot(rt: &impl Abort, row: usize, hour: i64, want: Option<Slot>) {
+    let slot = slot_from_columns(b"court-1", 20_574, hour);
+    expect_of_row(rt, row, &slot, &want);
+}
+
+#[test]
+fn columns_of_slots(rt: HostRuntime) {
+    is_slot(&rt, 0, 18, Some(AT_18.slot(&rt)));
+    is_slot(&rt, 1, 24, None);
+}
+
+/// The hour at which `court-1` shuts, and what its columns are then.
+static FACILITIES: [(i64, Option<Site>); 2] = [(22, Some(COURT)), (8, None)];
+
+fn is_facility(rt: &impl Abort, row: usize, shuts: i64, want: &Option<Site>) {
+    let columns = FacilityColumns {
         name: b"court-1",
         kind: b"court",
         places: 4,
         price: 200,
         opens: 8,
-        shuts: 22,
+        shuts,
     };
-    expect_eq(&rt, &Facility::from_columns(&court_columns), &court());
-    court_columns.shuts = 8;
-    expect_eq(&rt, &Facility::from_columns(&court_columns), &None);
+    let facility = facility(rt, want);
+    expect_of_row(rt, row, &Facility::from_columns(&columns), &facility);
 }
 
 #[test]
-fn booking_columns(rt: HostRuntime) {
-    let mut columns = BookingColumns {
+fn columns_of_facilities(rt: HostRuntime) {
+    for (row, (shuts, want)) in FACILITIES.iter().enumerate() {
+        is_facility(&rt, row, *shuts, want);
+    }
+}
+
+const CANCELLED: Booked = Booked {
+    cancelled: true,
+    refund: 1,
+    ..BOOKING_7
+};
+
+/// Whether booking 7 is cancelled, its refund, and what its columns are then.
+static BOOKINGS: [(i64, i64, Option<Booked>); 4] = [
+    (0, 0, Some(BOOKING_7)),
+    (0, 1, None),
+    (1, 1, Some(CANCELLED)),
+    (1, 601, None),
+];
+
+fn columns_of(cancelled: i64, refund: i64) -> BookingColumns<'static> {
+    BookingColumns {
         key: b"amy-1",
         number: 7,
         facility: b"court-1",
@@ -120,55 +132,15 @@ fn booking_columns(rt: HostRuntime) {
         guests: 2,
         charge: 600,
         left: 1,
-        cancelled: 0,
-        refund: 0,
-    };
-    expect_eq(&rt, &Booking::from_columns(&columns), &booking());
-    columns.refund = 1;
-    expect_eq(&rt, &Booking::from_columns(&columns), &None);
-    columns.cancelled = 1;
-    assert!(rt; Booking::from_columns(&columns).is_some());
-    columns.refund = 601;
-    expect_eq(&rt, &Booking::from_columns(&columns), &None);
-}
-
-/// The key after a rotation, with the older root good until a moment.
-fn rotated(until: Moment) -> Option<Key> {
-    let mut key = key()?;
-    key.older = Some(OlderRoot {
-        root: Root::new(&[8; 16])?,
-        until,
-    });
-    Some(key)
-}
-
-#[test]
-fn older_roots(rt: HostRuntime) -> Result<(), Fail> {
-    let until = Moment::read(b"2026-04-25T00:00").ok_or("a moment")?;
-    let before = Moment::read(b"2026-04-24T23:59").ok_or("a moment")?;
-    let key = rotated(until).ok_or("a key")?;
-    expect_eq(
-        &rt,
-        &key.older_root_at(before).copied(),
-        &Root::new(&[8; 16]),
-    );
-    expect_eq(&rt, &key.older_root_at(until).copied(), &None);
-    let fresh = self::key().ok_or("a key")?;
-    expect_eq(&rt, &fresh.older_root_at(before).copied(), &None);
-    Ok(())
-}
-
-/// A root is a secret: what is printed of it tells nothing of its bytes.
-#[test]
-fn prints_no_root(rt: HostRuntime) -> Result<(), Fail> {
-    for (byte, len) in [(7, 16), (8, 64)] {
-        let bytes = [byte; 64];
-        let root = Root::new(&bytes[..len]).ok_or("a root")?;
-        expect_eq(
-            &rt,
-            &format!(in rt.alloc(); "{root:?}")?.as_str(),
-            &"Root(..)",
-        );
+        cancelled,
+        refund,
     }
-    Ok(())
+}
+
+#[test]
+fn columns_of_bookings(rt: HostRuntime) {
+    for (row, (cancelled, refund, want)) in BOOKINGS.iter().enumerate() {
+        let read = Booking::from_columns(&columns_of(*cancelled, *refund));
+        expect_of_row(&rt, row, &read, &booking(&rt, want));
+    }
 }
