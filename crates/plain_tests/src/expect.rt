@@ -9,12 +9,12 @@ pub(crate) fn expect_eq<T: PartialEq + Debug>(rt: &impl Abort, told: &T, want: &
     assert_eq!(rt; told, want);
 }
 
-/// Ends the test unless the step of this number, from 0, is told this.
+/// Ends the test unless this is told of the step of this number, from 0, at a moment.
 pub(crate) fn expect_told<T: PartialEq + Debug>(
     rt: &impl Abort,
-    number: usize,
+    (number, at): (usize, &str),
     told: &T,
     want: &T,
 ) {
-    assert_eq!(rt; told, want, "step {number}");
+    assert_eq!(rt; told, want, "step {number} at {at}");
 }

@@ -44,7 +44,7 @@ fn plays_alone(
 ) {
     for (number, step) in steps.iter().enumerate() {
         let told = told_alone(rt, part, &step.event(rt), others);
-        expect_told(rt, number, &told, &step.reply(rt));
+        expect_told(rt, (number, step.at()), &told, &step.reply(rt));
     }
 }
 

@@ -48,7 +48,7 @@ fn told(rt: &impl Abort, club: &mut Club, event: &Event) -> EventReply {
 pub(crate) fn plays(rt: &(impl Abort + Alloc<A = Global>), club: &mut Club, steps: &[Step]) {
     for (number, step) in steps.iter().enumerate() {
         let told = told(rt, club, &step.event(rt));
-        expect_told(rt, number, &told, &step.reply(rt));
+        expect_told(rt, (number, step.at()), &told, &step.reply(rt));
     }
 }
 
@@ -56,7 +56,7 @@ pub(crate) fn plays(rt: &(impl Abort + Alloc<A = Global>), club: &mut Club, step
 fn plays_events(rt: &(impl Abort + Alloc<A = Global>), club: &mut Club, steps: &[Step]) {
     for (number, step) in steps.iter().enumerate() {
         let told = club.step(&step.event(rt)).expect(rt, "memory");
-        expect_told(rt, number, &told, &step.reply(rt));
+        expect_told(rt, (number, step.at()), &told, &step.reply(rt));
     }
 }
 

@@ -204,6 +204,14 @@ impl Told {
 }
 
 impl Step {
+    /// The moment of a request; of an order, that it is the office's.
+    pub fn at(&self) -> &'static str {
+        match self {
+            Step::Asks(at, ..) => at,
+            Step::Orders(..) => "the office",
+        }
+    }
+
     pub fn event(&self, rt: &(impl Abort + Alloc<A = Global>)) -> Event {
         match self {
             Step::Asks(at, shown, asked, _) => Event::Asked {
