@@ -32,8 +32,8 @@ pub(crate) enum Shown {
     Facility(Place),
     /// So many persons in a slot, which is closed or isn't.
     Slot(At, u32, bool),
-    /// What `amy-1` sees of a request where all of `BOOKS` was done: so many persons in its slot, and
-    /// the booking of its number.
+    /// What `amy-1` sees of a request where all of `BOOKS` was done: so many persons in its slot,
+    /// and the booking of its number.
     View(Asked, u64, Option<Booked>),
     /// The sheet of a day.
     Sheet(&'static str, &'static str),
