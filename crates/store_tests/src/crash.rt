@@ -1,29 +1,50 @@
-//! A disk that stops in a booking's commit, and what is found by a store that is opened again.
+//! A disk that stops in a commit, and what is found by a store that is opened again.
 
 use crate::expect::expect_eq;
-use crate::store::{amy, booking, facility, key, name, slot};
+use crate::rows::{AMY_1, COURT, COURT_7, COURT_AT_18, ROOM_AT_18, slot};
+use crate::steps::{Shown, Step, plays};
 use crate::versions::fill;
-use club_core::{Change, StoreFault};
+use crate::write::{Write, change};
+use club_core::Change;
 use club_store::Store;
-use pass_caveats::Kind;
-use sqlite::{Connection, FileStore, Files, Options};
+use sqlite::{Alter, Connection, FileStore, Files, Options};
 use sqlite_disk::{Crash, Disk, Fuse, Memory};
 use std::alloc::Global;
-use std::test::Fail;
+use std::process::Abort;
+use std::test::*;
 
 type Stops = Fuse<Memory>;
 
-/// A log that stops after so many calls, beside a file with these bytes.
-fn files(alloc: Global, calls: u64, bytes: &[u8]) -> Result<Files<Stops>, Fail> {
-    let mut db = Memory::new(alloc);
-    if db.may_be_used() {
-        db.write_at(0, bytes)?;
-        db.sync()?;
+/// What is in a file before it is opened, and the change that is made then, where there is one.
+#[derive(Drop)]
+struct Trial {
+    bytes: Vec<u8>,
+    change: Option<Change>,
+}
+
+#[derive(Clone, Copy, Debug, PartialEq, Eq)]
+enum End {
+    NotOpened,
+    NotChanged,
+    Done,
+}
+
+/// A disk of these bytes.
+fn disk(rt: &(impl Abort + Alloc<A = Global>), bytes: &[u8]) -> Memory {
+    let mut disk = Memory::new(rt.alloc());
+    if disk.may_be_used() {
+        disk.write_at(0, bytes).expect(rt, "written");
+        disk.sync().expect(rt, "synced");
     }
-    Ok(Files {
-        log: Fuse::new(Memory::new(alloc), calls),
-        db: Fuse::new(db, u64::MAX),
-    })
+    disk
+}
+
+/// A log that stops after so many calls, beside a file with these bytes.
+fn files(rt: &(impl Abort + Alloc<A = Global>), calls: u64, bytes: &[u8]) -> Files<Stops> {
+    Files {
+        log: Fuse::new(Memory::new(rt.alloc()), calls),
+        db: Fuse::new(disk(rt, bytes), u64::MAX),
+    }
 }
 
 /// The machine comes back: what was not synced is lost, and no call stops.
@@ -33,10 +54,10 @@ fn restarted(mut files: Files<Stops>) -> Files<Stops> {
     files
 }
 
-fn connected(
+fn connected<D: Disk + Drop>(
     alloc: Global,
-    files: Files<Stops>,
-) -> Result<Connection<FileStore<Stops>>, Files<Stops>> {
+    files: Files<D>,
+) -> Result<Connection<FileStore<D>>, Files<D>> {
     if !files.may_be_used() {
         return Err(files);
     }
@@ -46,166 +67,164 @@ fn connected(
     }
 }
 
-fn opened(alloc: Global, files: Files<Stops>) -> Result<Store<FileStore<Stops>>, Files<Stops>> {
-    let connection = connected(alloc, files)?;
+/// The files of a connection that is closed.
+fn closed<D: Disk + Drop>(rt: &impl Abort, connection: Connection<FileStore<D>>) -> Files<D> {
+    connection.close_files().ok().expect(rt, "closed")
+}
+
+/// The files of a club, or of tables of version 1 with the rows of its tests.
+fn filled<D: Disk + Drop>(
+    rt: &(impl Abort + Alloc<A = Global>),
+    files: Files<D>,
+    first: bool,
+) -> Files<D> {
+    let new = connected(rt.alloc(), files).ok();
+    let mut connection = new.expect(rt, "new files");
+    if first {
+        fill(rt, &mut connection);
+        return closed(rt, connection);
+    }
+    closed(rt, club_in(rt, connection))
+}
+
+/// Amy with her points, the court and her key.
+static CLUB: [Step; 3] = [
+    Step::Applies(Write::Member(10_000)),
+    Step::Applies(Write::Facility(COURT)),
+    Step::Applies(Write::Key(AMY_1)),
+];
+
+/// The club that has these.
+fn club_in<S: Alter + Drop>(
+    rt: &(impl Abort + Alloc<A = Global>),
+    connection: Connection<S>,
+) -> Connection<S> {
+    let adopted = Store::adopt(rt.alloc(), connection).ok();
+    let mut store = adopted.expect(rt, "adopted");
+    plays(rt, &mut store, &CLUB);
+    store.into_connection()
+}
+
+fn changed<S: Alter>(store: &mut Store<S>, change: &Option<Change>) -> End {
+    match change {
+        Some(change) if store.apply(change).is_err() => End::NotChanged,
+        _ => End::Done,
+    }
+}
+
+/// How the change ends in a database that is opened first, and the store below it.
+fn attempted<S: Alter + Drop>(
+    alloc: Global,
+    connection: Connection<S>,
+    change: &Option<Change>,
+) -> (End, S) {
     match Store::adopt(alloc, connection) {
-        Ok(store) => Ok(store),
-        Err((_, connection)) => Err(connection.into_store().close()),
+        Ok(mut store) => {
+            let end = changed(&mut store, change);
+            (end, store.into_store())
+        }
+        Err((_, connection)) => (End::NotOpened, connection.into_store()),
     }
 }
 
-fn given_up(store: Store<FileStore<Stops>>) -> Files<Stops> {
-    store.into_store().close()
-}
-
-fn add_rows(store: &mut Store<FileStore<Stops>>) -> Result<(), Fail> {
-    let mut member = amy()?;
-    member.credited = 10_000;
-    store.apply(&Change::InsertMember(member))?;
-    let court = facility(b"court-1", Kind::Court, 4, 200)?;
-    store.apply(&Change::InsertFacility(court))?;
-    store.apply(&Change::InsertKey(key()?))?;
-    Ok(())
-}
-
-fn bytes_of(alloc: Global, files: &Files<Stops>) -> Result<Vec<u8>, Fail> {
-    Ok(Vec::from_slice(alloc, files.db.inner().bytes())?)
-}
-
-/// The files of a connection that is closed, or that could not be.
-fn connection_closed(connection: Connection<FileStore<Stops>>) -> Files<Stops> {
-    match connection.close_files() {
-        Ok(files) => files,
-        Err((_, store)) => store.close(),
+/// How the change ends in these files, and what is left of them.
+fn attempted_in<D: Disk + Drop>(
+    alloc: Global,
+    files: Files<D>,
+    change: &Option<Change>,
+) -> (End, Files<D>) {
+    match connected(alloc, files) {
+        Ok(connection) => {
+            let (end, store) = attempted(alloc, connection, change);
+            (end, store.close())
+        }
+        Err(left) => (End::NotOpened, left),
     }
 }
 
-fn closed(store: Store<FileStore<Stops>>) -> Files<Stops> {
-    connection_closed(store.into_connection())
+/// How the trial ends on a log that stops after so many calls, and what is left of the files.
+fn tried(rt: &(impl Abort + Alloc<A = Global>), trial: &Trial, calls: u64) -> (End, Files<Stops>) {
+    let files = files(rt, calls, &trial.bytes);
+    attempted_in(rt.alloc(), files, &trial.change)
 }
 
-/// The file of a club that has a member with points, a court and a key.
-fn club_file(alloc: Global) -> Result<Vec<u8>, Fail> {
-    let new = files(alloc, u64::MAX, &[])?;
-    let mut store = opened(alloc, new).ok().ok_or("a new file")?;
-    add_rows(&mut store)?;
-    let files = closed(store);
-    bytes_of(alloc, &files)
-}
-
-fn book(store: &mut Store<FileStore<Stops>>) -> Result<Result<(), StoreFault>, Fail> {
-    let court = booking(7, slot(b"court-1", 18)?, 2, 600, 1)?;
-    Ok(store.apply(&Change::InsertBooking(court)))
-}
-
-/// Whether the store holds the booking. The rows before it are there in any case.
-fn holds_booking(store: &mut Store<FileStore<Stops>>) -> Result<bool, Fail> {
-    store.key(&name(b"amy-1")?)?.ok_or("the key")?;
-    match store.slot(&slot(b"court-1", 18)?)?.taken {
-        0 => Ok(false),
-        3 => Ok(true),
-        _ => Err("half a booking")?,
-    }
-}
-
-/// Whether the booking was made on a log that stops after so many calls, and none where the opening
-/// was stopped; and what is left of the files.
-fn booked(alloc: Global, calls: u64, bytes: &[u8]) -> Result<(Option<bool>, Files<Stops>), Fail> {
-    match opened(alloc, files(alloc, calls, bytes)?) {
-        Ok(mut store) => Ok((Some(book(&mut store)?.is_ok()), given_up(store))),
-        Err(left) => Ok((None, left)),
-    }
-}
-
-/// The most calls, of up to 511, that are too few for the booking.
-fn calls_too_few(alloc: Global, bytes: &[u8]) -> Result<u64, Fail> {
+/// The most calls, of up to 511, that are too few for the trial.
+fn calls_too_few(rt: &(impl Abort + Alloc<A = Global>), trial: &Trial) -> u64 {
     let mut calls = 0u64;
     let mut step = 256u64;
     for _ in 0..9 {
         let more = calls.saturating_add(step);
-        if booked(alloc, more, bytes)?.0 != Some(true) {
+        if tried(rt, trial, more).0 != End::Done {
             calls = more;
         }
         step /= 2;
     }
-    Ok(calls)
+    calls
 }
 
-/// Whether the files hold the booking once the machine comes back.
-fn held(alloc: Global, left: Files<Stops>) -> Result<bool, Fail> {
-    let mut again = opened(alloc, restarted(left)).ok().ok_or("opened")?;
-    holds_booking(&mut again)
+/// The key of each file, and the room that nobody has booked, or not any more.
+static STAYS: [Step; 2] = [
+    Step::Shows(Shown::Key(AMY_1)),
+    Step::Shows(Shown::Slot(ROOM_AT_18, 0, false)),
+];
+
+/// The persons who have booked the court.
+fn persons<S: Alter + Drop>(
+    rt: &(impl Abort + Alloc<A = Global>),
+    connection: Connection<S>,
+) -> u32 {
+    let adopted = Store::adopt(rt.alloc(), connection).ok();
+    let mut store = adopted.expect(rt, "adopted");
+    plays(rt, &mut store, &STAYS);
+    let court = store.slot(&slot(rt, &COURT_AT_18));
+    court.expect(rt, "a slot").taken
+}
+
+fn persons_in<D: Disk + Drop>(rt: &(impl Abort + Alloc<A = Global>), files: Files<D>) -> u32 {
+    let opened = connected(rt.alloc(), files).ok();
+    persons(rt, opened.expect(rt, "opened again"))
+}
+
+/// Ends the test unless the trial ends so, and leaves one of these numbers of persons.
+fn leaves(
+    rt: &(impl Abort + Alloc<A = Global>),
+    trial: &Trial,
+    calls: u64,
+    want: End,
+    either: [u32; 2],
+) {
+    let (end, left) = tried(rt, trial, calls);
+    expect_eq(rt, &end, &want);
+    let found = persons_in(rt, restarted(left));
+    expect_eq(rt, &(found == either[0] || found == either[1]), &true);
+}
+
+/// What is then in the file.
+fn bytes_of(rt: &(impl Abort + Alloc<A = Global>), first: bool) -> Vec<u8> {
+    let files = filled(rt, files(rt, u64::MAX, &[]), first);
+    Vec::from_slice(rt.alloc(), files.db.inner().bytes()).expect(rt, "memory")
+}
+
+/// All three persons of the booking, or none.
+#[test]
+fn holds_a_booking_whole_or_not_at_all(rt: HostRuntime) {
+    let trial = Trial {
+        bytes: bytes_of(&rt, false),
+        change: Some(change(&rt, &Write::Book(COURT_7))),
+    };
+    let calls = calls_too_few(&rt, &trial);
+    leaves(&rt, &trial, calls, End::NotChanged, [0, 3]);
+    leaves(&rt, &trial, calls.saturating_add(1), End::Done, [3, 3]);
 }
 
 #[test]
-fn holds_a_booking_whole_or_not_at_all(rt: HostRuntime) -> Result<(), Fail> {
-    let bytes = club_file(rt.alloc())?;
-    let calls = calls_too_few(rt.alloc(), &bytes)?;
-    let (stopped, left) = booked(rt.alloc(), calls, &bytes)?;
-    expect_eq(&rt, &stopped, &Some(false));
-    let _either = held(rt.alloc(), left)?;
-    let (made, left) = booked(rt.alloc(), calls.saturating_add(1), &bytes)?;
-    expect_eq(&rt, &made, &Some(true));
-    assert!(rt; held(rt.alloc(), left)?);
-    Ok(())
-}
-
-/// The file of version 1 with the bookings of its tests.
-fn first_version_file(alloc: Global) -> Result<Vec<u8>, Fail> {
-    let new = files(alloc, u64::MAX, &[])?;
-    let mut connection = connected(alloc, new).ok().ok_or("a new file")?;
-    fill(&mut connection)?;
-    let files = connection_closed(connection);
-    bytes_of(alloc, &files)
-}
-
-/// Whether the store holds the bookings of version 1: 7 and 8, of which 8 is cancelled.
-fn holds_bookings(store: &mut Store<FileStore<Stops>>) -> Result<bool, Fail> {
-    let whole = key()?;
-    let found = store.key(&name(b"amy-1")?)?.ok_or("the key")?;
-    let court = store.slot(&slot(b"court-1", 18)?)?.taken;
-    let room = store.slot(&slot(b"room-1", 18)?)?.taken;
-    Ok(found == whole && court == 3 && room == 0)
-}
-
-/// Whether tables of version 1 were opened on a log that stops after so many calls, and what is
-/// left of the files.
-fn migrated(alloc: Global, calls: u64, bytes: &[u8]) -> Result<(bool, Files<Stops>), Fail> {
-    match opened(alloc, files(alloc, calls, bytes)?) {
-        Ok(store) => Ok((true, given_up(store))),
-        Err(left) => Ok((false, left)),
-    }
-}
-
-/// Whether the same club is found once the machine comes back.
-fn same_club(alloc: Global, left: Files<Stops>) -> Result<bool, Fail> {
-    let mut again = opened(alloc, restarted(left)).ok().ok_or("opened")?;
-    holds_bookings(&mut again)
-}
-
-/// The most calls, of up to 127, that are too few for the opening.
-fn calls_too_few_to_migrate(alloc: Global, bytes: &[u8]) -> Result<u64, Fail> {
-    let mut calls = 0u64;
-    let mut step = 64u64;
-    for _ in 0..7 {
-        let more = calls.saturating_add(step);
-        if !migrated(alloc, more, bytes)?.0 {
-            calls = more;
-        }
-        step /= 2;
-    }
-    Ok(calls)
-}
-
-#[test]
-fn migrates_whole_or_not_at_all(rt: HostRuntime) -> Result<(), Fail> {
-    let bytes = first_version_file(rt.alloc())?;
-    let calls = calls_too_few_to_migrate(rt.alloc(), &bytes)?;
-    let (early, left) = migrated(rt.alloc(), calls / 2, &bytes)?;
-    assert!(rt; !early && same_club(rt.alloc(), left)?);
-    let (stopped, left) = migrated(rt.alloc(), calls, &bytes)?;
-    assert!(rt; !stopped && same_club(rt.alloc(), left)?);
-    let (made, left) = migrated(rt.alloc(), calls.saturating_add(1), &bytes)?;
-    assert!(rt; made && same_club(rt.alloc(), left)?);
-    Ok(())
+fn migrates_whole_or_not_at_all(rt: HostRuntime) {
+    let trial = Trial {
+        bytes: bytes_of(&rt, true),
+        change: None,
+    };
+    let calls = calls_too_few(&rt, &trial);
+    leaves(&rt, &trial, calls / 2, End::NotOpened, [3, 3]);
+    leaves(&rt, &trial, calls, End::NotOpened, [3, 3]);
+    leaves(&rt, &trial, calls.saturating_add(1), End::Done, [3, 3]);
 }

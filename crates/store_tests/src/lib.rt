@@ -7,14 +7,18 @@ mod crash;
 #[cfg(test)]
 mod expect;
 #[cfg(test)]
-mod fixture;
-#[cfg(test)]
 mod read;
+#[cfg(test)]
+mod rows;
+#[cfg(test)]
+mod steps;
 #[cfg(test)]
 mod store;
 #[cfg(test)]
 mod tables;
 #[cfg(test)]
 mod versions;
+#[cfg(test)]
+mod write;
 #[cfg(test)]
 mod written;

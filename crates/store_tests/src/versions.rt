@@ -1,18 +1,18 @@
-//! Tables of version 1, and the older roots of version 2.
+//! Tables of version 1, databases of other kinds, and the older roots of version 2.
 
 use crate::expect::expect_eq;
-use crate::store::{
-    booking, figures, key, key_of, name, reopened, slot, store_with_bookings, view_of,
-};
-use club_core::{Booking, BookingNumber, Change, Key, OlderRoot, Request, Root, StoreFault};
+use crate::rows::{AMY_1, CANCELLED_8, COURT_7, FIRST, Kept, Older, SECOND, THIRD};
+use crate::steps::{Asked, Shown, Step, plays, plays_again, with_bookings};
+use crate::write::Write;
+use club_core::StoreFault;
 use club_store::Store;
-use pass_caveats::Moment;
 use sqlite::{Alter, Connection, MemStore};
 use std::alloc::Global;
-use std::test::Fail;
+use std::process::Abort;
+use std::test::*;
 
 /// The tables of version 1.
-const TABLES: [&str; 8] = [
+static TABLES: [&str; 8] = [
     "CREATE TABLE desk (version INTEGER NOT NULL) STRICT",
     "CREATE TABLE members (\
         name TEXT NOT NULL PRIMARY KEY, \
@@ -61,7 +61,7 @@ const TABLES: [&str; 8] = [
 
 /// Booking 7 was charged 600 for three persons; booking 8 was charged 601 and is cancelled with a
 /// refund of 300.
-const ROWS: [&str; 8] = [
+static ROWS: [&str; 8] = [
     "INSERT INTO members VALUES ('amy', 10000, 5, 901)",
     "INSERT INTO facilities VALUES ('court-1', 'court', 4, 200, 8, 22)",
     "INSERT INTO facilities VALUES ('room-1', 'room', 1, 601, 8, 22)",
@@ -72,176 +72,180 @@ const ROWS: [&str; 8] = [
     "INSERT INTO bookings VALUES ('amy-1', 8, 'room-1', 20574, 18, 0, 601, 0, 1, 300)",
 ];
 
+/// Runs these statements.
+fn runs<S: Alter>(rt: &impl Abort, connection: &mut Connection<S>, texts: &[&str]) {
+    for text in texts {
+        connection.execute_batch(text).expect(rt, text);
+    }
+}
+
 /// Makes the tables of version 1, and their rows.
-pub(crate) fn fill<S: Alter>(connection: &mut Connection<S>) -> Result<(), Fail> {
-    for text in &TABLES {
-        connection.execute(text, &[])?;
-    }
-    for text in &ROWS {
-        connection.execute(text, &[])?;
-    }
-    Ok(())
+pub(crate) fn fill<S: Alter>(rt: &impl Abort, connection: &mut Connection<S>) {
+    runs(rt, connection, &TABLES);
+    runs(rt, connection, &ROWS);
 }
 
-fn first_version(alloc: Global) -> Result<Connection<MemStore>, Fail> {
-    let mut connection = Connection::open_in_memory(alloc)?;
-    fill(&mut connection)?;
-    Ok(connection)
+fn database(rt: &(impl Abort + Alloc<A = Global>)) -> Connection<MemStore> {
+    Connection::open_in_memory(rt.alloc()).expect(rt, "memory")
 }
 
-fn migrated(alloc: Global) -> Result<Store<MemStore>, Fail> {
-    match Store::adopt(alloc, first_version(alloc)?) {
-        Ok(store) => Ok(store),
-        Err((fault, _)) => Err(fault)?,
-    }
+fn first_version(rt: &(impl Abort + Alloc<A = Global>)) -> Connection<MemStore> {
+    let mut connection = database(rt);
+    fill(rt, &mut connection);
+    connection
 }
 
-/// The booking of a number, as `amy-1` sees it.
-fn booked(store: &mut Store<MemStore>, number: u32) -> Result<Booking, Fail> {
-    let request = Request::Cancel {
-        slot: slot(b"court-1", 18)?,
-        number: BookingNumber::new(number).ok_or("number")?,
-    };
-    let view = view_of(store, &request)?.ok_or("view")?;
-    Ok(view.booking.ok_or("booking")?)
+/// The store over a database that it takes over.
+fn adopted(
+    rt: &(impl Abort + Alloc<A = Global>),
+    connection: Connection<MemStore>,
+) -> Store<MemStore> {
+    Store::adopt(rt.alloc(), connection)
+        .ok()
+        .expect(rt, "adopted")
 }
 
-/// Booking 8, cancelled.
-fn cancelled() -> Result<Booking, Fail> {
-    let room = booking(8, slot(b"room-1", 18)?, 0, 601, 0)?;
-    Ok(Booking {
-        key: room.key,
-        number: room.number,
-        slot: room.slot,
-        guests: room.guests,
-        charge: room.charge,
-        left: room.left,
-        cancelled: true,
-        refund: 300,
-    })
-}
-
-fn root(byte: u8) -> Result<Root, Fail> {
-    Ok(Root::new(&[byte; 16]).ok_or("root")?)
-}
-
-fn moment(text: &[u8]) -> Result<Moment, Fail> {
-    Ok(Moment::read(text).ok_or("moment")?)
-}
-
-fn rotate(store: &mut Store<MemStore>, root: Root, until: Moment) -> Result<(), Fail> {
-    let change = Change::ReplaceRoot {
-        key: name(b"amy-1")?,
-        root,
-        until,
-    };
-    Ok(store.apply(&change)?)
-}
-
-/// The key of the fixture with these roots.
-fn rotated(root: Root, older: OlderRoot) -> Result<Key, Fail> {
-    let key = key()?;
-    Ok(Key {
-        name: key.name,
-        member: key.member,
-        root,
-        older: Some(older),
-        revoked: false,
-    })
-}
+/// The account, and both bookings.
+static MIGRATED: [Step; 3] = [
+    Step::Shows(Shown::View(Asked::Account, 0, None)),
+    Step::Shows(Shown::View(Asked::Cancel(7), 3, Some(COURT_7))),
+    Step::Shows(Shown::View(Asked::Cancel(8), 3, Some(CANCELLED_8))),
+];
 
 #[test]
-fn migrates_tables_of_version_1(rt: HostRuntime) -> Result<(), Fail> {
-    let mut store = migrated(rt.alloc())?;
-    let account = Request::Account;
-    let of_account = figures(&mut store, &account)?;
-    expect_eq(&rt, &of_account, &(901, 9_099, 1, 0, false));
-    let court = booking(7, slot(b"court-1", 18)?, 2, 600, 1)?;
-    expect_eq(&rt, &booked(&mut store, 7)?, &court);
-    expect_eq(&rt, &booked(&mut store, 8)?, &cancelled()?);
-    Ok(())
+fn migrates_tables_of_version_1(rt: HostRuntime) {
+    plays(&rt, &mut adopted(&rt, first_version(&rt)), &MIGRATED);
 }
 
-#[test]
-fn has_no_older_root_once_migrated(rt: HostRuntime) -> Result<(), Fail> {
-    let mut store = migrated(rt.alloc())?;
-    let found = key_of(&mut store)?.ok_or("amy-1")?;
-    let whole = key()?;
-    expect_eq(&rt, &found, &whole);
-    let mut again = reopened(rt.alloc(), store)?;
-    let found = key_of(&mut again)?.ok_or("amy-1")?;
-    expect_eq(&rt, &found, &whole);
-    Ok(())
-}
+static NO_OLDER_ROOT: [Step; 1] = [Step::Shows(Shown::Key(AMY_1))];
 
 #[test]
-fn rotates_a_key_once_migrated(rt: HostRuntime) -> Result<(), Fail> {
-    let mut store = migrated(rt.alloc())?;
-    let until = moment(b"2026-04-25T00:00")?;
-    let first = key()?.root;
-    rotate(&mut store, root(8)?, until)?;
-    let mut again = reopened(rt.alloc(), store)?;
-    let found = key_of(&mut again)?.ok_or("amy-1")?;
-    let whole = rotated(root(8)?, OlderRoot { root: first, until })?;
-    expect_eq(&rt, &found, &whole);
-    Ok(())
+fn has_no_older_root_once_migrated(rt: HostRuntime) {
+    let store = adopted(&rt, first_version(&rt));
+    plays_again(&rt, store, &NO_OLDER_ROOT, &NO_OLDER_ROOT);
+}
+
+static ROTATES: [Step; 1] = [Step::Applies(Write::Rotate("amy-1", SECOND, "2026-04-25T00:00"))];
+
+static ROTATED: [Step; 1] = [Step::Shows(Shown::Key(Kept {
+    name: "amy-1",
+    root: SECOND,
+    older: Some(Older(FIRST, "2026-04-25T00:00")),
+    revoked: false,
+}))];
+
+#[test]
+fn rotates_a_key_once_migrated(rt: HostRuntime) {
+    let store = adopted(&rt, first_version(&rt));
+    plays_again(&rt, store, &ROTATES, &ROTATED);
 }
 
 /// Of two rotations the second drops the root that the first kept; bookings stay.
+static ROTATES_TWICE: [Step; 4] = [
+    Step::Applies(Write::Rotate("amy-1", SECOND, "2000-01-01T00:00")),
+    Step::Applies(Write::Rotate("amy-1", THIRD, "2099-12-31T23:59")),
+    Step::Shows(Shown::Key(Kept {
+        name: "amy-1",
+        root: THIRD,
+        older: Some(Older(SECOND, "2099-12-31T23:59")),
+        revoked: false,
+    })),
+    Step::Shows(Shown::View(Asked::Account, 0, None)),
+];
+
 #[test]
-fn rotates_a_key_twice(rt: HostRuntime) -> Result<(), Fail> {
-    let mut store = store_with_bookings(rt.alloc())?;
-    let until = moment(b"2099-12-31T23:59")?;
-    rotate(&mut store, root(8)?, moment(b"2000-01-01T00:00")?)?;
-    rotate(&mut store, root(9)?, until)?;
-    let found = key_of(&mut store)?.ok_or("amy-1")?;
-    let older = OlderRoot {
-        root: root(8)?,
-        until,
-    };
-    let whole = rotated(root(9)?, older)?;
-    expect_eq(&rt, &found, &whole);
-    let account = Request::Account;
-    let of_account = figures(&mut store, &account)?;
-    expect_eq(&rt, &of_account, &(901, 9_099, 1, 0, false));
-    Ok(())
+fn rotates_a_key_twice(rt: HostRuntime) {
+    plays(&rt, &mut with_bookings(&rt), &ROTATES_TWICE);
 }
 
 /// By the call of its own name.
+static REPLACES: [Step; 2] = [
+    Step::Calls(Write::Rotate("amy-1", SECOND, "2026-04-25T00:00")),
+    Step::Refuses(Write::Rotate("amy-2", SECOND, "2026-04-25T00:00")),
+];
+
 #[test]
-fn replaces_a_root(rt: HostRuntime) -> Result<(), Fail> {
-    let mut store = store_with_bookings(rt.alloc())?;
-    let until = moment(b"2026-04-25T00:00")?;
-    let (amy_1, amy_2) = (name(b"amy-1")?, name(b"amy-2")?);
-    store.replace_root(&amy_1, &root(8)?, until)?;
-    let found = key_of(&mut store)?.ok_or("amy-1")?.root;
-    expect_eq(&rt, &found, &root(8)?);
-    let unknown = store.replace_root(&amy_2, &root(8)?, until);
-    expect_eq(&rt, &unknown, &Err(StoreFault::Storage));
-    Ok(())
+fn replaces_a_root(rt: HostRuntime) {
+    plays_again(&rt, with_bookings(&rt), &REPLACES, &ROTATED);
 }
 
-/// The version that a refused opening leaves.
-fn version_left(alloc: Global, connection: Connection<MemStore>) -> Result<i64, Fail> {
-    match Store::adopt(alloc, connection) {
-        Ok(_) => Err("opened")?,
-        Err((_, mut left)) => Ok(left.query_row("SELECT version FROM desk", &[])?.get(0)?),
+/// The statements of a database that is no club's, and the version that it has.
+struct Other {
+    texts: &'static [&'static str],
+    version: Option<i64>,
+}
+
+const DESK: &str = "CREATE TABLE desk (version INTEGER NOT NULL) STRICT";
+
+/// Another version, a version without its tables, a table of another kind, and a transaction.
+static OTHERS: [Other; 4] = [
+    Other {
+        texts: &[DESK, "INSERT INTO desk (version) VALUES (9)"],
+        version: Some(9),
+    },
+    Other {
+        texts: &[DESK, "INSERT INTO desk (version) VALUES (1)"],
+        version: Some(1),
+    },
+    Other {
+        texts: &["CREATE TABLE keys (name TEXT) STRICT"],
+        version: None,
+    },
+    Other {
+        texts: &["BEGIN"],
+        version: None,
+    },
+];
+
+/// Tables of version 1 under another version, and such in which a statement finds no table.
+static CHANGED: [Other; 2] = [
+    Other {
+        texts: &["UPDATE desk SET version = 9"],
+        version: Some(9),
+    },
+    Other {
+        texts: &["DROP TABLE slots"],
+        version: Some(1),
+    },
+];
+
+/// The version of a database, where it has one.
+fn version(connection: &mut Connection<MemStore>) -> Option<i64> {
+    let row = connection.query_row("SELECT version FROM desk", &[]).ok()?;
+    row.get(0).ok()
+}
+
+/// Ends the test unless the database is refused once this was done to it, and is left as it was.
+fn is_refused(
+    rt: &(impl Abort + Alloc<A = Global>),
+    mut connection: Connection<MemStore>,
+    other: &Other,
+) {
+    runs(rt, &mut connection, other.texts);
+    let refused = Store::adopt(rt.alloc(), connection).err();
+    let (fault, mut left) = refused.expect(rt, "a refusal");
+    expect_eq(rt, &fault, &StoreFault::Storage);
+    expect_eq(rt, &version(&mut left), &other.version);
+}
+
+#[test]
+fn refuses_other_databases(rt: HostRuntime) {
+    for other in &OTHERS {
+        is_refused(&rt, database(&rt), other);
     }
 }
 
+/// Another version is left as it was.
 #[test]
-fn leaves_another_version_as_it_was(rt: HostRuntime) -> Result<(), Fail> {
-    let mut connection = first_version(rt.alloc())?;
-    connection.execute("UPDATE desk SET version = 9", &[])?;
-    expect_eq(&rt, &version_left(rt.alloc(), connection)?, &9);
-    Ok(())
+fn migrates_no_other_tables(rt: HostRuntime) {
+    for other in &CHANGED {
+        is_refused(&rt, first_version(&rt), other);
+    }
 }
 
-/// Tables of version 1 in which a statement finds no table.
+static NOBODY: [Step; 1] = [Step::Shows(Shown::Member(None))];
+
 #[test]
-fn migrates_no_other_tables(rt: HostRuntime) -> Result<(), Fail> {
-    let mut connection = first_version(rt.alloc())?;
-    connection.execute("DROP TABLE slots", &[])?;
-    expect_eq(&rt, &version_left(rt.alloc(), connection)?, &1);
-    Ok(())
+fn makes_tables_where_there_are_none(rt: HostRuntime) {
+    plays(&rt, &mut adopted(&rt, database(&rt)), &NOBODY);
 }

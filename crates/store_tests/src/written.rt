@@ -1,94 +1,104 @@
 //! What the changes leave.
 
-use crate::expect::expect_eq;
-use crate::fixture::{booking, day, filled, key, moment, name, number, older, root, slot_at};
-use club_core::{SlotUse, StoreFault};
-use club_tables::Rotation;
+use crate::rows::{AMY_1, At, Booked, COURT_7, COURT_AT_18, DAY, FIRST, Kept, Older, SECOND};
+use crate::tables::{Step, Tables, Told};
+use crate::write::Write;
 use std::test::*;
 
+/// The court's booking, cancelled for half its price.
+const CANCELLED_7: Booked = Booked {
+    number: 7,
+    at: COURT_AT_18,
+    guests: 2,
+    charge: 600,
+    left: 1,
+    refund: Some(300),
+};
+
 /// The refund goes back to the member and the key, and the places to the slot.
-#[test]
-fn a_cancellation(rt: HostRuntime) -> Result<(), Fail> {
-    let mut tables = filled(rt.alloc())?;
-    let amy = name(b"amy")?;
-    let mut booking = booking().ok_or("a booking")?;
-    tables.cancel_booking(&booking, &amy, 300)?;
-    booking.cancelled = true;
-    booking.refund = 300;
-    expect_eq(
-        &rt,
-        &tables.booking(&booking.key, booking.number)?,
-        &Some(booking),
-    );
-    expect_eq(&rt, &tables.spent(&booking.key)?, &300);
-    let row = tables.member(&amy)?.ok_or("amy")?;
-    expect_eq(&rt, &(row.member.credited, row.used), &(10_000, 300));
-    let free = SlotUse {
-        taken: 0,
-        closed: false,
-    };
-    expect_eq(&rt, &tables.slot(&booking.slot)?, &free);
-    let before = moment(b"2026-04-20T12:00")?;
-    expect_eq(&rt, &tables.open_count(&amy, before)?, &0);
-    assert!(rt; tables.day(rt.alloc(), day(b"2026-05-01")?)?.is_empty());
-    Ok(())
-}
+static CANCELS: [Step; 7] = [
+    Step::Cancels(COURT_7, 300),
+    Step::Tells(Told::Booking(7, Some(CANCELLED_7))),
+    Step::Tells(Told::Spent("amy-1", 300)),
+    Step::Tells(Told::Member("amy", Some((10_000, 300)))),
+    Step::Tells(Told::Slot(COURT_AT_18, 0, false)),
+    Step::Tells(Told::Open("amy", "2026-04-20T12:00", 0)),
+    Step::Tells(Told::Day(DAY, None)),
+];
 
 #[test]
-fn a_cancellation_of_none(rt: HostRuntime) -> Result<(), Fail> {
-    let mut tables = filled(rt.alloc())?;
-    let key = name(b"amy-1")?;
-    tables.mark_cancelled(&key, number(8)?, 300)?;
-    expect_eq(&rt, &tables.booking(&key, number(7)?)?, &booking());
-    expect_eq(&rt, &tables.booking(&key, number(8)?)?, &None);
-    expect_eq(&rt, &tables.spent(&key)?, &600);
-    Ok(())
+fn a_cancellation(rt: HostRuntime) {
+    Tables::filled(&rt).goes_by(&rt, &CANCELS);
+}
+
+static CANCELS_NONE: [Step; 4] = [
+    Step::Writes(Write::Cancel(8, 300)),
+    Step::Tells(Told::Booking(7, Some(COURT_7))),
+    Step::Tells(Told::Booking(8, None)),
+    Step::Tells(Told::Spent("amy-1", 600)),
+];
+
+#[test]
+fn a_cancellation_of_none(rt: HostRuntime) {
+    Tables::filled(&rt).goes_by(&rt, &CANCELS_NONE);
 }
 
 /// A slot whose places are taken, and one that was never booked.
-#[test]
-fn closed_slots(rt: HostRuntime) -> Result<(), Fail> {
-    let mut tables = filled(rt.alloc())?;
-    for (hour, taken) in [(18, 3), (19, 0)] {
-        let slot = slot_at(hour).ok_or("a slot")?;
-        tables.close_slot(&slot)?;
-        let want = SlotUse {
-            taken,
-            closed: true,
-        };
-        expect_eq(&rt, &tables.slot(&slot)?, &want);
-    }
-    Ok(())
-}
+static CLOSES: [Step; 4] = [
+    Step::Writes(Write::Close(COURT_AT_18)),
+    Step::Tells(Told::Slot(COURT_AT_18, 3, true)),
+    Step::Writes(Write::Close(At("court-1", DAY, 19))),
+    Step::Tells(Told::Slot(At("court-1", DAY, 19), 0, true)),
+];
 
 #[test]
-fn a_rotation_and_a_revoked_key(rt: HostRuntime) -> Result<(), Fail> {
-    let mut tables = filled(rt.alloc())?;
-    let rotation = Rotation {
-        key: name(b"amy-1")?,
-        root: root(8)?,
-        older: older().ok_or("an older root")?,
-    };
-    tables.replace_root(&rotation)?;
-    expect_eq(&rt, &tables.older_root(&rotation.key)?, &older());
-    let mut want = key().ok_or("a key")?;
-    want.root = rotation.root;
-    expect_eq(&rt, &tables.key(&rotation.key)?, &Some(want));
-    tables.revoke_key(&rotation.key)?;
-    want.revoked = true;
-    expect_eq(&rt, &tables.key(&rotation.key)?, &Some(want));
-    Ok(())
+fn closed_slots(rt: HostRuntime) {
+    Tables::filled(&rt).goes_by(&rt, &CLOSES);
 }
 
-/// An older root lies in a table of its own, and a new key has none.
+const OLDER: Older = Older(FIRST, "2026-04-25T00:00");
+
+const ROTATED: Kept = Kept {
+    name: "amy-1",
+    root: SECOND,
+    older: None,
+    revoked: false,
+};
+
+const ROTATED_AND_REVOKED: Kept = Kept {
+    name: "amy-1",
+    root: SECOND,
+    older: None,
+    revoked: true,
+};
+
+/// An older root lies in a table of its own.
+static ROTATES: [Step; 5] = [
+    Step::Rotates(SECOND, OLDER),
+    Step::Tells(Told::OlderRoot("amy-1", Some(OLDER))),
+    Step::Tells(Told::Key("amy-1", Some(ROTATED))),
+    Step::Writes(Write::Revoke),
+    Step::Tells(Told::Key("amy-1", Some(ROTATED_AND_REVOKED))),
+];
+
 #[test]
-fn a_new_key_with_an_older_root(rt: HostRuntime) -> Result<(), Fail> {
-    let mut tables = filled(rt.alloc())?;
-    let mut second = key().ok_or("a key")?;
-    second.name = name(b"amy-2")?;
-    second.older = older();
-    expect_eq(&rt, &tables.insert_key(&second), &Err(StoreFault::Storage));
-    expect_eq(&rt, &tables.key(&second.name)?, &None);
-    expect_eq(&rt, &tables.older_root(&second.name)?, &None);
-    Ok(())
+fn a_rotation_and_a_revoked_key(rt: HostRuntime) {
+    Tables::filled(&rt).goes_by(&rt, &ROTATES);
+}
+
+/// A new key has no older root.
+static REFUSES: [Step; 3] = [
+    Step::Refuses(Kept {
+        name: "amy-2",
+        root: FIRST,
+        older: Some(OLDER),
+        revoked: false,
+    }),
+    Step::Tells(Told::Key("amy-2", None)),
+    Step::Tells(Told::OlderRoot("amy-2", None)),
+];
+
+#[test]
+fn a_new_key_with_an_older_root(rt: HostRuntime) {
+    Tables::filled(&rt).goes_by(&rt, &REFUSES);
 }
