@@ -2,8 +2,14 @@
 #![tactic(auto)]
 
 #[cfg(test)]
-mod expect;
+mod asked;
+#[cfg(test)]
+mod bodies;
+#[cfg(test)]
+mod heads;
 #[cfg(test)]
 mod replies;
 #[cfg(test)]
-mod words;
+mod rows;
+#[cfg(test)]
+mod targets;

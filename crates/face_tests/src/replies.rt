@@ -1,352 +1,394 @@
 //! The text of each reply, byte for byte.
 
+use crate::rows::{expect_eq, name, slot_at};
 use club_core::{BookingNumber, Methods, Refusal, Reply};
 use club_replies::{MAX_REPLY_LEN, reply_bytes};
-use pass_caveats::{Day, Hour, Kind, Name, Slot};
-use std::alloc::AllocError;
+use pass_caveats::Kind;
 use std::process::Abort;
-use std::test::*;
 
-/// Whether the room holds the text, and behind it what it held before.
-fn writes(rt: &impl Abort, reply: Option<Reply>, text: &[u8]) {
-    let mut room = [b'x'; MAX_REPLY_LEN];
-    let reply = reply.expect(rt, "a reply of good values");
-    let len = reply_bytes(&reply, &mut room);
-    assert_eq!(rt; &room[..len], text);
-    assert!(rt; room[len..].iter().all(|byte| *byte == b'x'));
+static UNTOUCHED: [u8; MAX_REPLY_LEN] = [b'x'; MAX_REPLY_LEN];
+
+/// The room holds the text, and behind it what it held before.
+fn writes(rt: &impl Abort, reply: &Reply, text: &str) {
+    let mut room = UNTOUCHED;
+    let len = reply_bytes(reply, &mut room);
+    expect_eq(rt, &&room[..len], &text.as_bytes(), &text);
+    expect_eq(rt, &&room[len..], &&UNTOUCHED[len..], &text);
 }
 
-/// `court-1` on 2026-05-01.
-fn slot_at(hour: u8) -> Option<Slot> {
-    Some(Slot {
-        facility: Name::read(b"court-1")?,
-        day: Day::read(b"2026-05-01")?,
-        hour: Hour::from_number(hour)?,
-    })
+/// A reply to what is served: of `amy-1` where it is of a booking, of `court-1` on 2026-05-01 where
+/// it is of a slot.
+enum Said {
+    Booked {
+        number: u32,
+        charge: u32,
+        left: u8,
+    },
+    Cancelled {
+        number: u32,
+        refund: u32,
+    },
+    Slot {
+        hour: u8,
+        taken: u64,
+        closed: bool,
+    },
+    Account {
+        member: &'static [u8],
+        balance: u32,
+        quota: u8,
+        open_count: u64,
+        spent: u64,
+    },
 }
 
-fn booked(number: u32, charge: u32, left: u8) -> Option<Reply> {
-    Some(Reply::Booked {
-        key: Name::read(b"amy-1")?,
-        number: BookingNumber::new(number)?,
+fn number(rt: &impl Abort, number: u32) -> BookingNumber {
+    BookingNumber::new(number).expect(rt, "a number")
+}
+
+fn booked(rt: &impl Abort, booking: u32, charge: u32, left: u8) -> Reply {
+    Reply::Booked {
+        key: name(rt, b"amy-1"),
+        number: number(rt, booking),
         charge,
         left,
-    })
+    }
 }
 
-fn cancelled(number: u32, refund: u32) -> Option<Reply> {
-    Some(Reply::Cancelled {
-        key: Name::read(b"amy-1")?,
-        number: BookingNumber::new(number)?,
+fn cancelled(rt: &impl Abort, booking: u32, refund: u32) -> Reply {
+    Reply::Cancelled {
+        key: name(rt, b"amy-1"),
+        number: number(rt, booking),
         refund,
-    })
+    }
 }
 
-#[test]
-fn a_booking_has_133_bytes(rt: HostRuntime) {
-    let text =
-        b"HTTP/1.1 200 OK\r\nContent-Type: application/json\r\nContent-Length: 43\r\nConnection: close\r\n\r\n\
-        {\"booking\":\"amy-1/7\",\"charge\":600,\"left\":1}";
-    assert_eq!(&rt; text.len(), 133);
-    writes(&rt, booked(7, 600, 1), text);
-}
-
-#[test]
-fn not_verified_has_159_bytes(rt: HostRuntime) {
-    let text =
-        b"HTTP/1.1 401 Unauthorized\r\nContent-Type: application/json\r\nContent-Length: 33\r\n\
-        WWW-Authenticate: Bearer\r\nConnection: close\r\n\r\n\
-        {\"fault\":9,\"text\":\"not verified\"}";
-    assert_eq!(&rt; text.len(), 159);
-    writes(&rt, Some(Reply::Refused(Refusal::NotVerified)), text);
-}
-
-#[test]
-fn unavailable_has_140_bytes(rt: HostRuntime) {
-    let text =
-        b"HTTP/1.1 503 Service Unavailable\r\nContent-Type: application/json\r\nContent-Length: 33\r\n\
-        Connection: close\r\n\r\n{\"fault\":22,\"text\":\"unavailable\"}";
-    assert_eq!(&rt; text.len(), 140);
-    writes(&rt, Some(Reply::Refused(Refusal::Unavailable)), text);
-}
-
-/// Whether the reply has this status, this field beside the usual ones, and this body of so many bytes.
-fn answers(
-    rt: &(impl Abort + Alloc),
-    reply: Option<Reply>,
-    status: &str,
-    field: &str,
-    len: usize,
-    body: &str,
-) -> Result<(), AllocError> {
-    assert_eq!(rt; body.len(), len);
-    let text = format!(in rt.alloc();
-        "HTTP/1.1 {status}\r\nContent-Type: application/json\r\nContent-Length: {len}\r\n{field}Connection: close\r\n\r\n{body}"
-    )?;
-    writes(rt, reply, text.as_bytes());
-    Ok(())
-}
-
-fn refuses(
-    rt: &(impl Abort + Alloc),
-    refusal: Refusal,
-    status: &str,
-    len: usize,
-    body: &str,
-) -> Result<(), AllocError> {
-    answers(rt, Some(Reply::Refused(refusal)), status, "", len, body)
-}
-
-#[test]
-fn served(rt: HostRuntime) -> Result<(), Fail> {
-    let ok = "200 OK";
-    answers(
-        &rt,
-        booked(8, 200, 3),
-        ok,
-        "",
-        43,
-        "{\"booking\":\"amy-1/8\",\"charge\":200,\"left\":3}",
-    )?;
-    answers(
-        &rt,
-        cancelled(7, 600),
-        ok,
-        "",
-        34,
-        "{\"booking\":\"amy-1/7\",\"refund\":600}",
-    )?;
-    answers(
-        &rt,
-        cancelled(8, 601),
-        ok,
-        "",
-        34,
-        "{\"booking\":\"amy-1/8\",\"refund\":601}",
-    )?;
-    let account = Name::read(b"amy").map(|member| Reply::AccountShown {
-        member,
-        balance: 9400,
-        quota: 5,
-        open_count: 1,
-        spent: 600,
-    });
-    let body = "{\"member\":\"amy\",\"balance\":9400,\"quota\":5,\"open\":1,\"spent\":600}";
-    answers(&rt, account, ok, "", 62, body)?;
-    Ok(())
-}
-
-fn shown(slot: Option<Slot>, taken: u64, closed: bool) -> Option<Reply> {
-    Some(Reply::SlotShown {
-        slot: slot?,
+fn shown(rt: &impl Abort, hour: u8, taken: u64, closed: bool) -> Reply {
+    Reply::SlotShown {
+        slot: slot_at(rt, hour),
         kind: Kind::Court,
         price: 200,
         places: 4,
         taken,
         closed,
-    })
+    }
+}
+
+fn reply(rt: &impl Abort, said: &Said) -> Reply {
+    match *said {
+        Said::Booked {
+            number,
+            charge,
+            left,
+        } => booked(rt, number, charge, left),
+        Said::Cancelled { number, refund } => cancelled(rt, number, refund),
+        Said::Slot {
+            hour,
+            taken,
+            closed,
+        } => shown(rt, hour, taken, closed),
+        Said::Account {
+            member,
+            balance,
+            quota,
+            open_count,
+            spent,
+        } => Reply::AccountShown {
+            member: name(rt, member),
+            balance,
+            quota,
+            open_count,
+            spent,
+        },
+    }
+}
+
+/// The reply has this status, this field beside the usual ones, and this body of so many bytes.
+fn answers(
+    rt: &(impl Abort + AllocGlobal),
+    reply: &Reply,
+    status: &str,
+    field: &str,
+    len: usize,
+    body: &str,
+) {
+    expect_eq(rt, &body.len(), &len, &body);
+    let text = format!(in rt.alloc();
+        "HTTP/1.1 {status}\r\nContent-Type: application/json\r\nContent-Length: {len}\r\n{field}Connection: close\r\n\r\n{body}"
+    ).expect(rt, "memory");
+    writes(rt, reply, text.as_str());
+}
+
+fn has_len(rt: &impl Abort, reply: &Reply, text: &str, len: usize) {
+    expect_eq(rt, &text.len(), &len, &text);
+    writes(rt, reply, text);
 }
 
 #[test]
-fn slots(rt: HostRuntime) -> Result<(), Fail> {
-    let ok = "200 OK";
-    let body =
-        "{\"facility\":\"court-1\",\"day\":\"2026-05-01\",\"hour\":18,\"kind\":\"court\",\"price\":200,\"places\":4,\"taken\":3,\"closed\":false}";
-    answers(&rt, shown(slot_at(18), 3, false), ok, "", 114, body)?;
-    let body =
-        "{\"facility\":\"court-1\",\"day\":\"2026-05-01\",\"hour\":7,\"kind\":\"court\",\"price\":200,\"places\":4,\"taken\":0,\"closed\":true}";
-    answers(&rt, shown(slot_at(7), 0, true), ok, "", 112, body)?;
-    Ok(())
-}
-
-/// The longest reply has room.
-#[test]
-fn longest(rt: HostRuntime) -> Result<(), Fail> {
-    let account = Name::read(b"a23456789-123456789-1234").map(|member| Reply::AccountShown {
-        member,
-        balance: u32::MAX,
-        quota: u8::MAX,
-        open_count: u64::MAX,
-        spent: u64::MAX,
-    });
-    let body =
-        "{\"member\":\"a23456789-123456789-1234\",\"balance\":4294967295,\"quota\":255,\"open\":18446744073709551615,\"spent\":18446744073709551615}";
-    answers(&rt, account, "200 OK", "", 127, body)?;
-    Ok(())
+fn a_booking_has_133_bytes(rt: HostRuntime) {
+    let text =
+        "HTTP/1.1 200 OK\r\nContent-Type: application/json\r\nContent-Length: 43\r\nConnection: close\r\n\r\n\
+        {\"booking\":\"amy-1/7\",\"charge\":600,\"left\":1}";
+    has_len(&rt, &booked(&rt, 7, 600, 1), text, 133);
 }
 
 #[test]
-fn bad_requests(rt: HostRuntime) -> Result<(), Fail> {
-    let bad = "400 Bad Request";
-    refuses(
-        &rt,
+fn not_verified_has_159_bytes(rt: HostRuntime) {
+    let text =
+        "HTTP/1.1 401 Unauthorized\r\nContent-Type: application/json\r\nContent-Length: 33\r\n\
+        WWW-Authenticate: Bearer\r\nConnection: close\r\n\r\n\
+        {\"fault\":9,\"text\":\"not verified\"}";
+    has_len(&rt, &Reply::Refused(Refusal::NotVerified), text, 159);
+}
+
+#[test]
+fn unavailable_has_140_bytes(rt: HostRuntime) {
+    let text =
+        "HTTP/1.1 503 Service Unavailable\r\nContent-Type: application/json\r\nContent-Length: 33\r\n\
+        Connection: close\r\n\r\n{\"fault\":22,\"text\":\"unavailable\"}";
+    has_len(&rt, &Reply::Refused(Refusal::Unavailable), text, 140);
+}
+
+/// What is served, and the body with its length.
+static SERVED: [(Said, usize, &str); 7] = [
+    (
+        Said::Booked {
+            number: 8,
+            charge: 200,
+            left: 3,
+        },
+        43,
+        "{\"booking\":\"amy-1/8\",\"charge\":200,\"left\":3}",
+    ),
+    (
+        Said::Cancelled {
+            number: 7,
+            refund: 600,
+        },
+        34,
+        "{\"booking\":\"amy-1/7\",\"refund\":600}",
+    ),
+    (
+        Said::Cancelled {
+            number: 8,
+            refund: 601,
+        },
+        34,
+        "{\"booking\":\"amy-1/8\",\"refund\":601}",
+    ),
+    (
+        Said::Slot {
+            hour: 18,
+            taken: 3,
+            closed: false,
+        },
+        114,
+        "{\"facility\":\"court-1\",\"day\":\"2026-05-01\",\"hour\":18,\"kind\":\"court\",\"price\":200,\"places\":4,\"taken\":3,\"closed\":false}",
+    ),
+    (
+        Said::Slot {
+            hour: 7,
+            taken: 0,
+            closed: true,
+        },
+        112,
+        "{\"facility\":\"court-1\",\"day\":\"2026-05-01\",\"hour\":7,\"kind\":\"court\",\"price\":200,\"places\":4,\"taken\":0,\"closed\":true}",
+    ),
+    (
+        Said::Account {
+            member: b"amy",
+            balance: 9400,
+            quota: 5,
+            open_count: 1,
+            spent: 600,
+        },
+        62,
+        "{\"member\":\"amy\",\"balance\":9400,\"quota\":5,\"open\":1,\"spent\":600}",
+    ),
+    // The longest reply has room.
+    (
+        Said::Account {
+            member: b"a23456789-123456789-1234",
+            balance: u32::MAX,
+            quota: u8::MAX,
+            open_count: u64::MAX,
+            spent: u64::MAX,
+        },
+        127,
+        "{\"member\":\"a23456789-123456789-1234\",\"balance\":4294967295,\"quota\":255,\"open\":18446744073709551615,\"spent\":18446744073709551615}",
+    ),
+];
+
+fn serve(rt: &(impl Abort + AllocGlobal), rows: &[(Said, usize, &'static str)]) {
+    for (said, len, body) in rows {
+        answers(rt, &reply(rt, said), "200 OK", "", *len, body);
+    }
+}
+
+#[test]
+fn served(rt: HostRuntime) {
+    serve(&rt, &SERVED);
+}
+
+/// A refusal, its status, and the body with its length.
+type Refused = (Refusal, &'static str, usize, &'static str);
+
+/// Refusals whose replies have the usual fields alone, or this field beside them.
+fn refuse(rt: &(impl Abort + AllocGlobal), field: &str, rows: &[Refused]) {
+    for (refusal, status, len, body) in rows {
+        answers(rt, &Reply::Refused(*refusal), status, field, *len, body);
+    }
+}
+
+const BAD_REQUEST: &str = "400 Bad Request";
+
+const FORBIDDEN: &str = "403 Forbidden";
+
+const NOT_FOUND: &str = "404 Not Found";
+
+const CONFLICT: &str = "409 Conflict";
+
+static REFUSED: [Refused; 18] = [
+    (
         Refusal::BadRequest,
-        bad,
+        BAD_REQUEST,
         32,
         "{\"fault\":1,\"text\":\"bad request\"}",
-    )?;
-    refuses(
-        &rt,
-        Refusal::PassTooLong,
-        bad,
-        34,
-        "{\"fault\":5,\"text\":\"pass too long\"}",
-    )?;
-    refuses(
-        &rt,
-        Refusal::PassMalformed,
-        bad,
-        35,
-        "{\"fault\":6,\"text\":\"pass malformed\"}",
-    )?;
-    refuses(
-        &rt,
-        Refusal::ThirdPartyCaveat,
-        bad,
-        39,
-        "{\"fault\":7,\"text\":\"third-party caveat\"}",
-    )?;
-    refuses(
-        &rt,
-        Refusal::TooManyCaveats,
-        bad,
-        37,
-        "{\"fault\":8,\"text\":\"too many caveats\"}",
-    )?;
-    Ok(())
-}
-
-#[test]
-fn forbidden(rt: HostRuntime) -> Result<(), Fail> {
-    let forbidden = "403 Forbidden";
-    refuses(
-        &rt,
-        Refusal::KeyRevoked,
-        forbidden,
-        33,
-        "{\"fault\":10,\"text\":\"key revoked\"}",
-    )?;
-    let body = "{\"fault\":11,\"text\":\"caveat not understood\",\"caveat\":2}";
-    refuses(&rt, Refusal::CaveatNotUnderstood(2), forbidden, 54, body)?;
-    let body = "{\"fault\":12,\"text\":\"caveat denies\",\"caveat\":1}";
-    refuses(&rt, Refusal::CaveatDenies(1), forbidden, 46, body)?;
-    Ok(())
-}
-
-#[test]
-fn not_found(rt: HostRuntime) -> Result<(), Fail> {
-    let unknown = "404 Not Found";
-    refuses(
-        &rt,
+    ),
+    (
         Refusal::NoSuchPath,
-        unknown,
+        NOT_FOUND,
         33,
         "{\"fault\":2,\"text\":\"no such path\"}",
-    )?;
-    refuses(
-        &rt,
-        Refusal::NoSuchFacility,
-        unknown,
-        38,
-        "{\"fault\":14,\"text\":\"no such facility\"}",
-    )?;
-    refuses(
-        &rt,
-        Refusal::NoSuchBooking,
-        unknown,
+    ),
+    (
+        Refusal::PassTooLong,
+        BAD_REQUEST,
+        34,
+        "{\"fault\":5,\"text\":\"pass too long\"}",
+    ),
+    (
+        Refusal::PassMalformed,
+        BAD_REQUEST,
+        35,
+        "{\"fault\":6,\"text\":\"pass malformed\"}",
+    ),
+    (
+        Refusal::ThirdPartyCaveat,
+        BAD_REQUEST,
+        39,
+        "{\"fault\":7,\"text\":\"third-party caveat\"}",
+    ),
+    (
+        Refusal::TooManyCaveats,
+        BAD_REQUEST,
         37,
-        "{\"fault\":15,\"text\":\"no such booking\"}",
-    )?;
-    Ok(())
-}
-
-#[test]
-fn conflicts(rt: HostRuntime) -> Result<(), Fail> {
-    let conflict = "409 Conflict";
-    refuses(
-        &rt,
+        "{\"fault\":8,\"text\":\"too many caveats\"}",
+    ),
+    (
+        Refusal::KeyRevoked,
+        FORBIDDEN,
+        33,
+        "{\"fault\":10,\"text\":\"key revoked\"}",
+    ),
+    (
+        Refusal::CaveatNotUnderstood(2),
+        FORBIDDEN,
+        54,
+        "{\"fault\":11,\"text\":\"caveat not understood\",\"caveat\":2}",
+    ),
+    (
+        Refusal::CaveatDenies(1),
+        FORBIDDEN,
+        46,
+        "{\"fault\":12,\"text\":\"caveat denies\",\"caveat\":1}",
+    ),
+    (
         Refusal::NumberUsed,
-        conflict,
+        CONFLICT,
         33,
         "{\"fault\":13,\"text\":\"number used\"}",
-    )?;
-    refuses(
-        &rt,
+    ),
+    (
+        Refusal::NoSuchFacility,
+        NOT_FOUND,
+        38,
+        "{\"fault\":14,\"text\":\"no such facility\"}",
+    ),
+    (
+        Refusal::NoSuchBooking,
+        NOT_FOUND,
+        37,
+        "{\"fault\":15,\"text\":\"no such booking\"}",
+    ),
+    (
         Refusal::NotBookable,
-        conflict,
+        CONFLICT,
         34,
         "{\"fault\":16,\"text\":\"not bookable\"}",
-    )?;
-    refuses(
-        &rt,
+    ),
+    (
         Refusal::SlotClosed,
-        conflict,
+        CONFLICT,
         33,
         "{\"fault\":17,\"text\":\"slot closed\"}",
-    )?;
-    refuses(
-        &rt,
+    ),
+    (
         Refusal::NoPlaces,
-        conflict,
+        CONFLICT,
         31,
         "{\"fault\":18,\"text\":\"no places\"}",
-    )?;
-    refuses(
-        &rt,
+    ),
+    (
         Refusal::QuotaReached,
-        conflict,
+        CONFLICT,
         35,
         "{\"fault\":19,\"text\":\"quota reached\"}",
-    )?;
-    refuses(
-        &rt,
-        Refusal::SlotHasBegun,
-        conflict,
-        36,
-        "{\"fault\":21,\"text\":\"slot has begun\"}",
-    )?;
-    let body = "{\"fault\":20,\"text\":\"balance too low\"}";
-    refuses(
-        &rt,
+    ),
+    (
         Refusal::BalanceTooLow,
         "402 Payment Required",
         37,
-        body,
-    )?;
-    Ok(())
+        "{\"fault\":20,\"text\":\"balance too low\"}",
+    ),
+    (
+        Refusal::SlotHasBegun,
+        CONFLICT,
+        36,
+        "{\"fault\":21,\"text\":\"slot has begun\"}",
+    ),
+];
+
+#[test]
+fn refused(rt: HostRuntime) {
+    refuse(&rt, "", &REFUSED);
 }
+
+static NO_PASS: [Refused; 1] = [(
+    Refusal::NoPass,
+    "401 Unauthorized",
+    28,
+    "{\"fault\":4,\"text\":\"no pass\"}",
+)];
+
+static BY_GET: [Refused; 1] = [(
+    Refusal::MethodNotAllowed(Methods::Get),
+    "405 Method Not Allowed",
+    39,
+    "{\"fault\":3,\"text\":\"method not allowed\"}",
+)];
+
+static BY_PUT_OR_DELETE: [Refused; 1] = [(
+    Refusal::MethodNotAllowed(Methods::PutAndDelete),
+    "405 Method Not Allowed",
+    39,
+    "{\"fault\":3,\"text\":\"method not allowed\"}",
+)];
 
 /// A reply of status 401 names the scheme, one of status 405 the methods of the path.
 #[test]
-fn fields(rt: HostRuntime) -> Result<(), Fail> {
-    let no_pass = Some(Reply::Refused(Refusal::NoPass));
-    let body = "{\"fault\":4,\"text\":\"no pass\"}";
-    answers(
-        &rt,
-        no_pass,
-        "401 Unauthorized",
-        "WWW-Authenticate: Bearer\r\n",
-        28,
-        body,
-    )?;
-    let get = Some(Reply::Refused(Refusal::MethodNotAllowed(Methods::Get)));
-    let body = "{\"fault\":3,\"text\":\"method not allowed\"}";
-    answers(
-        &rt,
-        get,
-        "405 Method Not Allowed",
-        "Allow: GET\r\n",
-        39,
-        body,
-    )?;
-    let others = Some(Reply::Refused(Refusal::MethodNotAllowed(Methods::PutAndDelete)));
-    answers(
-        &rt,
-        others,
-        "405 Method Not Allowed",
-        "Allow: PUT, DELETE\r\n",
-        39,
-        body,
-    )?;
-    Ok(())
+fn fields(rt: HostRuntime) {
+    refuse(&rt, "WWW-Authenticate: Bearer\r\n", &NO_PASS);
+    refuse(&rt, "Allow: GET\r\n", &BY_GET);
+    refuse(&rt, "Allow: PUT, DELETE\r\n", &BY_PUT_OR_DELETE);
 }

@@ -6,8 +6,10 @@ mod any;
 #[cfg(test)]
 mod calls;
 #[cfg(test)]
-mod fields;
+mod members;
 #[cfg(test)]
 mod read;
+#[cfg(test)]
+mod rows;
 #[cfg(test)]
 mod write;

@@ -1,234 +1,261 @@
-//! Passes that are read from JSON.
+//! Passes that are read from JSON, and handed out field by field.
 
-use crate::calls::{has_fields, is_signed, read_json};
-use pass_forms::FormFault;
-use std::alloc::{AllocError, Global};
+use crate::calls::{fields_of, is_signed, next, read_json};
+use crate::rows::{
+    Fields, KEYID_FIELDS, KNOWN_FIELDS, Piece, SIGNATURE, expect_eq, expect_pass, joined,
+};
+use pass_forms::{Field, FormFault, Pass};
+use pass_json::JsonFields;
 use std::process::Abort;
-use std::test::Fail;
 
 // The pass of libmacaroons' README.
 const KNOWN: &str =
     "{\"c\":[{\"i\":\"test = caveat\"}],\"i\":\"we used our secret key\",\"l\":\"http://mybank/\",\"s64\":\"GXusegRK8zMyhluSZuJtSTvdZopmDkTYjOGpmMI9vWc\",\"v\":2}";
 
-const ROOT: &[u8] = b"this is our super secret key; only we should know it";
+const IN_OTHER_ORDER: &str =
+    "{\"v\":2,\"l\":\"http://mybank/\",\"i\":\"we used our secret key\",\"c\":[{\"i\":\"test = caveat\"}],\"s64\":\"GXusegRK8zMyhluSZuJtSTvdZopmDkTYjOGpmMI9vWc\"}";
 
+// A text of 65 bytes, and the same without its first.
 const SHORT: &str = "{\"i\":\"keyid\",\"s64\":\"fN7nklEcW8b1KEhYBd_psk54XijiqZMB-dcRxgnjjvc\"}";
 
-fn is_fault(alloc: Global, text: &[u8], fault: FormFault) -> bool {
-    matches!(read_json(alloc, text), Err(f) if f == fault)
+pub(crate) const OPEN_SHORT: &str =
+    "\"i\":\"keyid\",\"s64\":\"fN7nklEcW8b1KEhYBd_psk54XijiqZMB-dcRxgnjjvc\"}";
+
+// A text in pieces, and what its pass says.
+struct Read {
+    pieces: &'static [Piece],
+    fields: Fields<'static>,
 }
 
-fn expect_fault(rt: &(impl Abort + AllocGlobal), text: &[u8], fault: FormFault) {
-    assert!(rt; is_fault(rt.alloc(), text, fault), "{text:?}");
+fn expect_next<'a>(rt: &impl Abort, fields: &mut JsonFields<'a>, want: Option<Field<'a>>) {
+    expect_eq(rt, &next(fields), &want, &"the next field");
 }
 
-// Whether a text is the known pass, signed under its root.
-fn is_known(alloc: Global, text: &str) -> Result<bool, FormFault> {
-    let pass = read_json(alloc, text.as_bytes())?;
-    let caveats: [&[u8]; 1] = [b"test = caveat"];
-    let alike = has_fields(
-        &pass,
-        b"http://mybank/",
-        b"we used our secret key",
-        &caveats,
-    );
-    Ok(alike && is_signed(&pass, ROOT))
+// The signature, and then none, however often one is asked for.
+fn ends<'a>(rt: &impl Abort, fields: &mut JsonFields<'a>, want: &Fields<'a>) {
+    expect_next(rt, fields, Some(Field::Signature(*want.signature)));
+    expect_next(rt, fields, None);
+    expect_next(rt, fields, None);
 }
 
-fn identifies(alloc: Global, text: &str, identifier: &[u8]) -> Result<bool, FormFault> {
-    Ok(read_json(alloc, text.as_bytes())?.identifier() == identifier)
-}
-
-#[test]
-fn reads_the_known_pass_in_both_orders(rt: HostRuntime) -> Result<(), Fail> {
-    for text in [
-        KNOWN,
-        "{\"v\":2,\"l\":\"http://mybank/\",\"i\":\"we used our secret key\",\"c\":[{\"i\":\"test = caveat\"}],\"s64\":\"GXusegRK8zMyhluSZuJtSTvdZopmDkTYjOGpmMI9vWc\"}",
-    ] {
-        assert!(rt; is_known(rt.alloc(), text)?, "{text}");
+// The fields come in their order, all caveats among them.
+fn hands_out<'a>(rt: &impl Abort, pass: &'a Pass, want: &Fields<'a>) {
+    let mut fields = fields_of(pass);
+    expect_next(rt, &mut fields, Some(Field::Location(want.location)));
+    expect_next(rt, &mut fields, Some(Field::Identifier(want.identifier)));
+    for caveat in want.caveats {
+        expect_next(rt, &mut fields, Some(Field::Caveat(caveat)));
     }
-    Ok(())
+    ends(rt, &mut fields, want);
 }
 
-#[test]
-fn refuses_the_known_text_cut_short(rt: HostRuntime) -> Result<(), Fail> {
-    for len in 0..KNOWN.len() {
-        expect_fault(&rt, &KNOWN.as_bytes()[..len], FormFault::Malformed);
+fn is_read(rt: &(impl Abort + AllocGlobal), row: &Read) {
+    let text = joined(rt, row.pieces);
+    let pass = read_json(rt.alloc(), text.as_bytes()).expect(rt, "a pass");
+    expect_pass(rt, &pass, &row.fields);
+    hands_out(rt, &pass, &row.fields);
+}
+
+fn are_read(rt: &(impl Abort + AllocGlobal), rows: &[Read]) {
+    for row in rows {
+        is_read(rt, row);
     }
-    Ok(())
 }
 
-// A member that stands beside a good identifier and a good signature.
-fn with_member(alloc: Global, member: &str) -> Result<String, AllocError> {
-    format!(in alloc; "{{{member},{}", &SHORT[1..])
+pub(crate) fn is_refused(rt: &(impl Abort + AllocGlobal), text: &[u8], fault: FormFault) {
+    let refused = read_json(rt.alloc(), text).err();
+    expect_eq(rt, &refused, &Some(fault), &text);
 }
 
-#[test]
-fn refuses_other_members(rt: HostRuntime) -> Result<(), Fail> {
-    for member in [
-        "\"v\":1",
-        "\"v\":2.0",
-        "\"v\":2e0",
-        "\"v\":-2",
-        "\"v\":null",
-        "\"v\":\"2\"",
-        "\"i64\":\"_w\"",
-        "\"c\":null",
-        "\"c\":[{\"l\":\"x\"}]",
-        "\"c\":{}",
-        "\"c\":[\"a\"]",
-        "\"c\":[{\"i\":\"a\",\"i64\":\"_w\"}]",
-        "\"x\":1",
-        "\"l\":null",
-        "\"l\":\"a\",\"l64\":\"YQ\"",
-        "\"s\":\"0123456789abcdef0123456789abcdef\"",
-        "\"l64\":\"_\"",
-        "\"c\":[{\"i\":\"a\",\"v64\":\"_w\",\"x\":1}]",
-    ] {
-        let text = with_member(rt.alloc(), member)?;
-        expect_fault(&rt, text.as_bytes(), FormFault::Malformed);
+// Texts in pieces, each with its fault.
+fn are_refused(rt: &(impl Abort + AllocGlobal), rows: &[(&'static [Piece], FormFault)]) {
+    for (pieces, fault) in rows {
+        is_refused(rt, joined(rt, pieces).as_bytes(), *fault);
     }
-    Ok(())
 }
 
+static READ: [Read; 5] = [
+    Read {
+        pieces: &[(1, KNOWN)],
+        fields: KNOWN_FIELDS,
+    },
+    Read {
+        pieces: &[(1, IN_OTHER_ORDER)],
+        fields: KNOWN_FIELDS,
+    },
+    // White space may stand round the object.
+    Read {
+        pieces: &[(1, " \t\r\n"), (1, SHORT), (1, "\n ")],
+        fields: KEYID_FIELDS,
+    },
+    // A caveat may be empty.
+    Read {
+        pieces: &[(
+            1,
+            "{\"c\":[{\"i\":\"test = caveat\"},{\"i\":\"\"}],\"i\":\"we used our secret key\",\"l\":\"http://mybank/\",\"s64\":\"GXusegRK8zMyhluSZuJtSTvdZopmDkTYjOGpmMI9vWc\",\"v\":2}",
+        )],
+        fields: Fields {
+            location: b"http://mybank/",
+            identifier: b"we used our secret key",
+            caveats: &[b"test = caveat", b""],
+            signature: b"\x19\x7b\xac\x7a\x04\x4a\xf3\x33\x32\x86\x5b\x92\x66\xe2\x6d\x49\x3b\xdd\x66\x8a\x66\x0e\x44\xd8\x8c\xe1\xa9\x98\xc2\x3d\xbd\x67",
+        },
+    },
+    // A signature that is text.
+    Read {
+        pieces: &[(
+            1,
+            "{\"v\":2,\"i\":\"keyid\",\"s\":\"0123456789abcdef0123456789abcdef\"}",
+        )],
+        fields: Fields {
+            location: b"",
+            identifier: b"keyid",
+            caveats: &[],
+            signature: b"0123456789abcdef0123456789abcdef",
+        },
+    },
+];
+
 #[test]
-fn refuses_third_parties(rt: HostRuntime) -> Result<(), Fail> {
-    for member in [
-        "\"c\":[{\"i\":\"a\",\"v\":\"b\"}]",
-        "\"c\":[{\"i\":\"a\",\"v64\":\"_w\"}]",
-        "\"c\":[{\"i\":\"a\",\"l\":\"\"}]",
-        "\"c\":[{\"i\":\"a\",\"l64\":\"\"}]",
-    ] {
-        let text = with_member(rt.alloc(), member)?;
-        expect_fault(&rt, text.as_bytes(), FormFault::ThirdParty);
+fn reads_passes(rt: HostRuntime) {
+    are_read(&rt, &READ);
+}
+
+const GUESTS: &[u8] = b"guests <= 1";
+
+// What may be as long, as deep or as many as here, and no more: a text with white space behind it;
+// arrays and objects in one another, of which `serde_json` reads 127, under a name whose last value
+// counts; caveats.
+static AT_THE_LIMITS: [Read; 3] = [
+    Read {
+        pieces: &[(1, SHORT), (8127, " ")],
+        fields: KEYID_FIELDS,
+    },
+    Read {
+        pieces: &[
+            (1, "{\"i\":"),
+            (126, "["),
+            (126, "]"),
+            (1, ","),
+            (1, OPEN_SHORT),
+        ],
+        fields: KEYID_FIELDS,
+    },
+    Read {
+        pieces: &[
+            (1, "{\"c\":[{\"i\":\"guests <= 1\"}"),
+            (63, ",{\"i\":\"guests <= 1\"}"),
+            (1, "],"),
+            (1, OPEN_SHORT),
+        ],
+        fields: Fields {
+            location: b"",
+            identifier: b"keyid",
+            caveats: &[GUESTS; 64],
+            signature: SIGNATURE,
+        },
+    },
+];
+
+// In the last two another fault comes before too many caveats.
+static BEYOND_THE_LIMITS: [(&[Piece], FormFault); 5] = [
+    (&[(1, SHORT), (8128, " ")], FormFault::TooLong),
+    (
+        &[
+            (1, "{\"i\":"),
+            (127, "["),
+            (127, "]"),
+            (1, ","),
+            (1, OPEN_SHORT),
+        ],
+        FormFault::Malformed,
+    ),
+    (
+        &[
+            (1, "{\"c\":[{\"i\":\"guests <= 1\"}"),
+            (64, ",{\"i\":\"guests <= 1\"}"),
+            (1, "],"),
+            (1, OPEN_SHORT),
+        ],
+        FormFault::TooMany,
+    ),
+    (
+        &[
+            (1, "{\"c\":[{\"i\":\"guests <= 1\"}"),
+            (64, ",{\"i\":\"guests <= 1\"}"),
+            (1, ",{}],"),
+            (1, OPEN_SHORT),
+        ],
+        FormFault::Malformed,
+    ),
+    (
+        &[
+            (1, "{\"c\":[{\"i\":\"guests <= 1\"}"),
+            (64, ",{\"i\":\"guests <= 1\"}"),
+            (1, ",{\"i\":\"x\",\"v64\":\"\"}],"),
+            (1, OPEN_SHORT),
+        ],
+        FormFault::ThirdParty,
+    ),
+];
+
+#[test]
+fn reads_up_to_the_limits(rt: HostRuntime) {
+    are_read(&rt, &AT_THE_LIMITS);
+    are_refused(&rt, &BEYOND_THE_LIMITS);
+}
+
+static OTHER_TEXTS: [(&[Piece], FormFault); 8] = [
+    (&[(1, "")], FormFault::Malformed),
+    (&[(1, "[]")], FormFault::Malformed),
+    (&[(1, "{\"i\":\"keyid\"}")], FormFault::Malformed),
+    (
+        &[(
+            1,
+            "{\"s64\":\"fN7nklEcW8b1KEhYBd_psk54XijiqZMB-dcRxgnjjvc\"}",
+        )],
+        FormFault::Malformed,
+    ),
+    (
+        &[(
+            1,
+            "{\"i\":\"keyid\",\"s64\":\"fN7nklEcW8b1KEhYBd_psk54XijiqZMB-dcRxgnjjg\"}",
+        )],
+        FormFault::Malformed,
+    ),
+    (&[(8193, "[")], FormFault::TooLong),
+    (&[(8192, "[")], FormFault::Malformed),
+    // A byte order mark.
+    (&[(1, "\u{feff}"), (1, SHORT)], FormFault::Malformed),
+];
+
+#[test]
+fn refuses_other_texts(rt: HostRuntime) {
+    are_refused(&rt, &OTHER_TEXTS);
+}
+
+fn is_refused_cut_short(rt: &(impl Abort + AllocGlobal), text: &str) {
+    for len in 0..text.len() {
+        is_refused(rt, &text.as_bytes()[..len], FormFault::Malformed);
     }
-    Ok(())
 }
 
-// The member of the identifier, and its bytes: base64, the last of equal names, escapes and UTF-8
-// as they are.
 #[test]
-fn reads_identifiers(rt: HostRuntime) -> Result<(), Fail> {
-    let rows: [(&str, &[u8]); 6] = [
-        ("\"i64\":\"_w\"", b"\xff"),
-        ("\"i\":\"a\",\"i\":\"b\"", b"b"),
-        ("\"i\":\"\\\"\\\\\\u0000\\u00e9\"", b"\"\\\x00\xc3\xa9"),
-        (
-            "\"i\":\"\\b\\f\\n\\r\\t\\/\\ud83d\\ude00\"",
-            b"\x08\x0c\n\r\t/\xf0\x9f\x98\x80",
-        ),
-        ("\"i\":\"é\x7f\"", b"\xc3\xa9\x7f"),
-        ("\"i64\":\"//4=\"", b"\xff\xfe"),
-    ];
-    for (member, identifier) in rows {
-        let text = format!(in rt.alloc(); "{{{member},{}", &SHORT[13..])?;
-        assert!(rt; identifies(rt.alloc(), &text, identifier)?, "{member}");
+fn refuses_the_known_text_cut_short(rt: HostRuntime) {
+    is_refused_cut_short(&rt, KNOWN);
+}
+
+static SIGNED: [&str; 2] = [KNOWN, IN_OTHER_ORDER];
+
+fn are_signed(rt: &(impl Abort + AllocGlobal), texts: &[&str], root: &[u8]) {
+    for text in texts {
+        let pass = read_json(rt.alloc(), text.as_bytes()).expect(rt, "a pass");
+        expect_eq(rt, &is_signed(&pass, root), &true, text);
     }
-    Ok(())
 }
 
 #[test]
-fn refuses_other_texts(rt: HostRuntime) -> Result<(), Fail> {
-    for text in [
-        "",
-        "[]",
-        "{\"i\":\"keyid\"}",
-        "{\"s64\":\"fN7nklEcW8b1KEhYBd_psk54XijiqZMB-dcRxgnjjvc\"}",
-        "{\"i\":\"keyid\",\"s64\":\"fN7nklEcW8b1KEhYBd_psk54XijiqZMB-dcRxgnjjg\"}",
-    ] {
-        expect_fault(&rt, text.as_bytes(), FormFault::Malformed);
-    }
-    let deep = vec![in rt.alloc(); b'['; 8193]?;
-    expect_fault(&rt, &deep, FormFault::TooLong);
-    expect_fault(&rt, &deep[1..], FormFault::Malformed);
-    Ok(())
-}
-
-// A text with so many caveats, at least one, and more behind them.
-fn with_caveats(alloc: Global, count: usize, more: &str) -> Result<String, AllocError> {
-    let mut text = String::from_str(alloc, "{\"c\":[{\"i\":\"guests <= 1\"}")?;
-    for _ in 1..count {
-        text.push_str(",{\"i\":\"guests <= 1\"}")?;
-    }
-    format!(in alloc; "{text}{more}],{}", &SHORT[1..])
-}
-
-fn expect_counted(
-    rt: &(impl Abort + AllocGlobal),
-    count: usize,
-    more: &str,
-    want: Result<usize, FormFault>,
-) -> Result<(), AllocError> {
-    let text = with_caveats(rt.alloc(), count, more)?;
-    let told = read_json(rt.alloc(), text.as_bytes()).map(|pass| pass.caveats().len());
-    assert_eq!(rt; told, want, "{count} and {more}");
-    Ok(())
-}
-
-#[test]
-fn counts_caveats(rt: HostRuntime) -> Result<(), Fail> {
-    expect_counted(&rt, 64, "", Ok(64))?;
-    expect_counted(&rt, 65, "", Err(FormFault::TooMany))?;
-    expect_counted(&rt, 65, ",{}", Err(FormFault::Malformed))?;
-    let third_party = ",{\"i\":\"x\",\"v64\":\"\"}";
-    expect_counted(&rt, 65, third_party, Err(FormFault::ThirdParty))?;
-    Ok(())
-}
-
-// White space may stand round the object, a byte order mark may not.
-#[test]
-fn reads_white_space_round(rt: HostRuntime) -> Result<(), Fail> {
-    let text = format!(in rt.alloc(); " \t\r\n{SHORT}\n ")?;
-    assert!(rt; identifies(rt.alloc(), &text, b"keyid")?);
-    let text = format!(in rt.alloc(); "\u{feff}{SHORT}")?;
-    expect_fault(&rt, text.as_bytes(), FormFault::Malformed);
-    Ok(())
-}
-
-#[test]
-fn reads_a_plain_signature(rt: HostRuntime) -> Result<(), Fail> {
-    let text = "{\"v\":2,\"i\":\"keyid\",\"s\":\"0123456789abcdef0123456789abcdef\"}";
-    let pass = read_json(rt.alloc(), text.as_bytes())?;
-    assert_eq!(rt;
-        pass.signature().as_slice(),
-        b"0123456789abcdef0123456789abcdef".as_slice()
-    );
-    Ok(())
-}
-
-// The last of equal names counts, whatever stood under the others: here arrays in one another.
-fn with_nested(alloc: Global, depth: usize) -> Result<String, AllocError> {
-    let mut text = String::from_str(alloc, "{\"i\":")?;
-    for _ in 0..depth {
-        text.push('[')?;
-    }
-    for _ in 0..depth {
-        text.push(']')?;
-    }
-    text.push(',')?;
-    text.push_str(&SHORT[1..])?;
-    Ok(text)
-}
-
-// `serde_json` reads 127 arrays and objects in one another.
-#[test]
-fn refuses_what_nests_too_deep(rt: HostRuntime) -> Result<(), Fail> {
-    let text = with_nested(rt.alloc(), 126)?;
-    assert!(rt; identifies(rt.alloc(), &text, b"keyid")?);
-    let text = with_nested(rt.alloc(), 127)?;
-    expect_fault(&rt, text.as_bytes(), FormFault::Malformed);
-    Ok(())
-}
-
-// White space fills a text up to 8,192 bytes.
-#[test]
-fn reads_up_to_8192_bytes(rt: HostRuntime) -> Result<(), Fail> {
-    let mut text = String::from_str(rt.alloc(), SHORT)?;
-    for _ in 0..8192 - SHORT.len() {
-        text.push(' ')?;
-    }
-    assert!(rt; identifies(rt.alloc(), &text, b"keyid")?);
-    text.push(' ')?;
-    expect_fault(&rt, text.as_bytes(), FormFault::TooLong);
-    Ok(())
+fn known_pass_is_signed_under_its_root(rt: HostRuntime) {
+    let root = b"this is our super secret key; only we should know it";
+    are_signed(&rt, &SIGNED, root);
 }

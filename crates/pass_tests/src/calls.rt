@@ -1,9 +1,10 @@
 //! The tested calls without their contracts, which the tests don't need: a test over them is proved in a fraction of the time.
 
-use pass_forms::{Field, FieldSource, FormFault, MAX_BYTES, Pass, Unwrapped, V1Fields, V2Fields};
+use pass_forms::{
+    Field, FieldSource, Form, FormFault, MAX_BYTES, Pass, Unwrapped, V1Fields, V2Fields,
+};
 use pass_mac::Chain;
 use std::alloc::{AllocError, Global};
-use std::process::Abort;
 
 pub(crate) fn hmac(key: &[u8], text: &[u8]) -> [u8; 32] {
     pass_mac::hmac(key, text)
@@ -41,12 +42,13 @@ pub(crate) fn decode_base64(alloc: Global, text: &[u8]) -> Result<Option<Vec<u8>
     pass_forms::decode_base64(alloc, text)
 }
 
-pub(crate) fn read_v1(alloc: Global, bytes: &[u8]) -> Result<Pass, FormFault> {
-    pass_forms::read_v1(alloc, bytes)
-}
-
-pub(crate) fn read_v2(alloc: Global, bytes: &[u8]) -> Result<Pass, FormFault> {
-    pass_forms::read_v2(alloc, bytes)
+// A pass in V1 or V2.
+pub(crate) fn read(alloc: Global, form: Form, bytes: &[u8]) -> Result<Pass, FormFault> {
+    match form {
+        Form::V1 => pass_forms::read_v1(alloc, bytes),
+        Form::V2 => pass_forms::read_v2(alloc, bytes),
+        Form::Json => Err(FormFault::Malformed),
+    }
 }
 
 pub(crate) fn open_v1(bytes: &[u8]) -> Result<V1Fields<'_>, FormFault> {
@@ -57,20 +59,17 @@ pub(crate) fn open_v2(bytes: &[u8]) -> Result<V2Fields<'_>, FormFault> {
     V2Fields::open(bytes)
 }
 
-pub(crate) fn next_v1<'a>(fields: &mut V1Fields<'a>) -> Option<Field<'a>> {
+pub(crate) fn next<'a, S: FieldSource<'a>>(fields: &mut S) -> Option<Field<'a>> {
     fields.next()
 }
 
-pub(crate) fn next_v2<'a>(fields: &mut V2Fields<'a>) -> Option<Field<'a>> {
-    fields.next()
-}
-
-pub(crate) fn write_v1(alloc: Global, pass: &Pass) -> Result<String, FormFault> {
-    pass_forms::write_v1(alloc, pass)
-}
-
-pub(crate) fn write_v2(alloc: Global, pass: &Pass) -> Result<String, FormFault> {
-    pass_forms::write_v2(alloc, pass)
+// A pass as a text of V1 or V2.
+pub(crate) fn write(alloc: Global, form: Form, pass: &Pass) -> Result<String, FormFault> {
+    match form {
+        Form::V1 => pass_forms::write_v1(alloc, pass),
+        Form::V2 => pass_forms::write_v2(alloc, pass),
+        Form::Json => Err(FormFault::Malformed),
+    }
 }
 
 pub(crate) fn narrow(alloc: Global, pass: &mut Pass, caveat: &[u8]) -> Result<(), FormFault> {
@@ -97,35 +96,4 @@ pub(crate) fn new_pass(
 
 pub(crate) fn is_signed(pass: &Pass, root: &[u8]) -> bool {
     pass.is_signed(root)
-}
-
-// The pieces, one behind the other.
-pub(crate) fn joined(alloc: Global, pieces: &[&[u8]]) -> Result<Vec<u8>, AllocError> {
-    let mut bytes = Vec::new(alloc);
-    for piece in pieces {
-        bytes.extend_from_slice(piece)?;
-    }
-    Ok(bytes)
-}
-
-// Whether a pass has these fields, whatever its signature.
-pub(crate) fn has_fields(
-    pass: &Pass,
-    location: &[u8],
-    identifier: &[u8],
-    caveats: &[&[u8]],
-) -> bool {
-    pass.location() == location && pass.identifier() == identifier && has_caveats(pass, caveats)
-}
-
-pub(crate) fn has_caveats(pass: &Pass, caveats: &[&[u8]]) -> bool {
-    let mut alike = pass.caveats().len() == caveats.len();
-    for (caveat, want) in pass.caveats().iter().zip(caveats.iter()) {
-        alike = alike && caveat.as_slice() == *want;
-    }
-    alike
-}
-
-pub(crate) fn expect_bytes(rt: &impl Abort, told: &[u8], want: &[u8]) {
-    assert_eq!(rt; told, want);
 }

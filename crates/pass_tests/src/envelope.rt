@@ -1,164 +1,216 @@
 //! What is taken off round the bytes of a pass.
 
 use crate::calls::{decode_base64, unwrap_text};
+use crate::rows::{Piece, expect_eq, joined};
 use pass_forms::{Form, FormFault, MAX_BYTES};
-use std::alloc::{AllocError, Global};
 use std::process::Abort;
-use std::test::Fail;
 
 // The bytes of a V2 pass of location `http://example.org/` and identifier `keyid`.
 const PASS: &[u8; 65] = b"\x02\x01\x13http://example.org/\x02\x05keyid\x00\x00\x06\x20\
     \x7c\xde\xe7\x92\x51\x1c\x5b\xc6\xf5\x28\x48\x58\x05\xdf\xe9\xb2\
     \x4e\x78\x5e\x28\xe2\xa9\x93\x01\xf9\xd7\x11\xc6\x09\xe3\x8e\xf7";
 
-// Whether a text wraps these bytes, in this form, plainly or in base64.
-fn wraps(
-    text: &[u8],
-    room: &mut [u8; MAX_BYTES],
+// A text, and what it wraps: a form, whether plainly or in base64, and bytes.
+struct Wrapped {
+    text: &'static [u8],
     form: Form,
     plain: bool,
-    bytes: &[u8],
-) -> Result<bool, FormFault> {
-    let unwrapped = unwrap_text(text, room)?;
-    let shape = unwrapped.form == form && unwrapped.plain == plain;
-    Ok(shape && unwrapped.len == bytes.len() && unwrapped.bytes(text, room) == bytes)
+    bytes: &'static [u8],
 }
 
-// The form of a text and the number of its bytes.
-fn told(text: &[u8], room: &mut [u8; MAX_BYTES]) -> Result<(Form, usize), FormFault> {
-    let unwrapped = unwrap_text(text, room)?;
-    Ok((unwrapped.form, unwrapped.bytes(text, room).len()))
+fn is_wrapped(rt: &impl Abort, row: &Wrapped) {
+    let mut room = [1; MAX_BYTES];
+    let unwrapped = unwrap_text(row.text, &mut room).expect(rt, "a form");
+    let shape = (unwrapped.form, unwrapped.plain, unwrapped.len);
+    let want = (row.form, row.plain, row.bytes.len());
+    expect_eq(rt, &shape, &want, &row.text);
+    expect_eq(rt, &unwrapped.bytes(row.text, &room), &row.bytes, &row.text);
 }
 
-fn form_of(text: &[u8]) -> Result<Form, FormFault> {
-    let mut room = [0u8; MAX_BYTES];
-    Ok(unwrap_text(text, &mut room)?.form)
+fn are_wrapped(rt: &impl Abort, rows: &[Wrapped]) {
+    for row in rows {
+        is_wrapped(rt, row);
+    }
 }
+
+static SPELLINGS: [Wrapped; 4] = [
+    Wrapped {
+        text: b"AgETaHR0cDovL2V4YW1wbGUub3JnLwIFa2V5aWQAAAYgfN7nklEcW8b1KEhYBd_psk54XijiqZMB-dcRxgnjjvc",
+        form: Form::V2,
+        plain: false,
+        bytes: PASS,
+    },
+    Wrapped {
+        text: b"AgETaHR0cDovL2V4YW1wbGUub3JnLwIFa2V5aWQAAAYgfN7nklEcW8b1KEhYBd_psk54XijiqZMB-dcRxgnjjvc=",
+        form: Form::V2,
+        plain: false,
+        bytes: PASS,
+    },
+    Wrapped {
+        text: b"AgETaHR0cDovL2V4YW1wbGUub3JnLwIFa2V5aWQAAAYgfN7nklEcW8b1KEhYBd/psk54XijiqZMB+dcRxgnjjvc",
+        form: Form::V2,
+        plain: false,
+        bytes: PASS,
+    },
+    Wrapped {
+        text: b"AgETaHR0cDovL2V4YW1wbGUub3JnLwIFa2V5aWQAAAYgfN7nklEcW8b1KEhYBd/psk54XijiqZMB+dcRxgnjjvc=",
+        form: Form::V2,
+        plain: false,
+        bytes: PASS,
+    },
+];
 
 #[test]
-fn takes_off_four_spellings(rt: HostRuntime) -> Result<(), Fail> {
-    for text in [
-        "AgETaHR0cDovL2V4YW1wbGUub3JnLwIFa2V5aWQAAAYgfN7nklEcW8b1KEhYBd_psk54XijiqZMB-dcRxgnjjvc",
-        "AgETaHR0cDovL2V4YW1wbGUub3JnLwIFa2V5aWQAAAYgfN7nklEcW8b1KEhYBd_psk54XijiqZMB-dcRxgnjjvc=",
-        "AgETaHR0cDovL2V4YW1wbGUub3JnLwIFa2V5aWQAAAYgfN7nklEcW8b1KEhYBd/psk54XijiqZMB+dcRxgnjjvc",
-        "AgETaHR0cDovL2V4YW1wbGUub3JnLwIFa2V5aWQAAAYgfN7nklEcW8b1KEhYBd/psk54XijiqZMB+dcRxgnjjvc=",
-    ] {
-        let mut room = [0u8; MAX_BYTES];
-        assert!(rt;
-            wraps(text.as_bytes(), &mut room, Form::V2, false, PASS)?,
-            "in {text}"
-        );
-    }
-    Ok(())
+fn takes_off_four_spellings(rt: HostRuntime) {
+    are_wrapped(&rt, &SPELLINGS);
 }
+
+static OBJECTS: [Wrapped; 3] = [
+    Wrapped {
+        text: b"{}",
+        form: Form::Json,
+        plain: true,
+        bytes: b"{}",
+    },
+    Wrapped {
+        text: b"{\xff",
+        form: Form::Json,
+        plain: true,
+        bytes: b"{\xff",
+    },
+    Wrapped {
+        text: b"e30",
+        form: Form::Json,
+        plain: false,
+        bytes: b"{}",
+    },
+];
+
+#[test]
+fn json_is_plain_or_in_base64(rt: HostRuntime) {
+    are_wrapped(&rt, &OBJECTS);
+}
+
+// The form of a text, and the number of its bytes.
+fn told(text: &[u8]) -> Result<(Form, usize), FormFault> {
+    let mut room = [1; MAX_BYTES];
+    let unwrapped = unwrap_text(text, &mut room)?;
+    Ok((unwrapped.form, unwrapped.bytes(text, &room).len()))
+}
+
+// A text in pieces, and its form and number of bytes.
+type Told = (&'static [Piece], Result<(Form, usize), FormFault>);
+
+fn are_told(rt: &(impl Abort + AllocGlobal), rows: &[Told]) {
+    for (pieces, want) in rows {
+        expect_eq(rt, &told(&joined(rt, pieces)), want, pieces);
+    }
+}
+
+static OTHER_TEXTS: [Told; 8] = [
+    // Both alphabets, too much padding, a last bit set.
+    (
+        &[(
+            1,
+            b"AgETaHR0cDovL2V4YW1wbGUub3JnLwIFa2V5aWQAAAYgfN7nklEcW8b1KEhYBd_psk54XijiqZMB+dcRxgnjjvc",
+        )],
+        Err(FormFault::Malformed),
+    ),
+    (
+        &[(
+            1,
+            b"AgETaHR0cDovL2V4YW1wbGUub3JnLwIFa2V5aWQAAAYgfN7nklEcW8b1KEhYBd_psk54XijiqZMB-dcRxgnjjvc==",
+        )],
+        Err(FormFault::Malformed),
+    ),
+    (
+        &[(
+            1,
+            b"AgETaHR0cDovL2V4YW1wbGUub3JnLwIFa2V5aWQAAAYgfN7nklEcW8b1KEhYBd_psk54XijiqZMB-dcRxgnjjvd",
+        )],
+        Err(FormFault::Malformed),
+    ),
+    // Too little padding, padding alone, nothing, white space, bytes that are no text.
+    (&[(1, b"Zg=")], Err(FormFault::Malformed)),
+    (&[(1, b"=")], Err(FormFault::Malformed)),
+    (&[(1, b"")], Err(FormFault::Malformed)),
+    (&[(1, b" {}")], Err(FormFault::Malformed)),
+    (&[(1, b"\xff\xfe")], Err(FormFault::Malformed)),
+];
 
 #[test]
 fn refuses_other_texts(rt: HostRuntime) {
-    for text in [
-        // Both alphabets, too much padding, a last bit set.
-        b"AgETaHR0cDovL2V4YW1wbGUub3JnLwIFa2V5aWQAAAYgfN7nklEcW8b1KEhYBd_psk54XijiqZMB+dcRxgnjjvc".as_slice(),
-        b"AgETaHR0cDovL2V4YW1wbGUub3JnLwIFa2V5aWQAAAYgfN7nklEcW8b1KEhYBd_psk54XijiqZMB-dcRxgnjjvc==".as_slice(),
-        b"AgETaHR0cDovL2V4YW1wbGUub3JnLwIFa2V5aWQAAAYgfN7nklEcW8b1KEhYBd_psk54XijiqZMB-dcRxgnjjvd".as_slice(),
-        // Too little padding, padding alone, nothing, white space, bytes that are no text.
-        b"Zg=".as_slice(),
-        b"=".as_slice(),
-        b"".as_slice(),
-        b" {}".as_slice(),
-        b"\xff\xfe".as_slice(),
-    ] {
-        assert_eq!(rt; form_of(text), Err(FormFault::Malformed), "of {text:?}");
-    }
+    are_told(&rt, &OTHER_TEXTS);
 }
+
+// Base64 of one byte each: 1, 2, 3, then `/09:AF` and "`afgz{|".
+static FIRST_BYTES: [Told; 14] = [
+    (&[(1, b"AQ")], Err(FormFault::Malformed)),
+    (&[(1, b"Ag")], Ok((Form::V2, 1))),
+    (&[(1, b"Aw")], Err(FormFault::Malformed)),
+    (&[(1, b"Lw")], Err(FormFault::Malformed)),
+    (&[(1, b"MA")], Ok((Form::V1, 1))),
+    (&[(1, b"OQ")], Ok((Form::V1, 1))),
+    (&[(1, b"Og")], Err(FormFault::Malformed)),
+    (&[(1, b"QQ")], Err(FormFault::Malformed)),
+    (&[(1, b"YA")], Err(FormFault::Malformed)),
+    (&[(1, b"YQ")], Ok((Form::V1, 1))),
+    (&[(1, b"Zg==")], Ok((Form::V1, 1))),
+    (&[(1, b"Zw")], Err(FormFault::Malformed)),
+    (&[(1, b"ew")], Ok((Form::Json, 1))),
+    (&[(1, b"fA")], Err(FormFault::Malformed)),
+];
 
 #[test]
 fn first_byte_tells_the_form(rt: HostRuntime) {
-    // Base64 of one byte each: 1, 2, 3, then `/09:AF` and "`afgz{|".
-    for (text, form) in [
-        ("AQ", None),
-        ("Ag", Some(Form::V2)),
-        ("Aw", None),
-        ("Lw", None),
-        ("MA", Some(Form::V1)),
-        ("OQ", Some(Form::V1)),
-        ("Og", None),
-        ("QQ", None),
-        ("YA", None),
-        ("YQ", Some(Form::V1)),
-        ("Zg==", Some(Form::V1)),
-        ("Zw", None),
-        ("ew", Some(Form::Json)),
-        ("fA", None),
-    ] {
-        let want = form.ok_or(FormFault::Malformed);
-        assert_eq!(rt; form_of(text.as_bytes()), want, "of {text}");
-    }
+    are_told(&rt, &FIRST_BYTES);
 }
 
-#[test]
-fn json_is_plain_or_in_base64(rt: HostRuntime) -> Result<(), Fail> {
-    let mut room = [0u8; MAX_BYTES];
-    for (text, bytes, plain) in [
-        (b"{}".as_slice(), b"{}".as_slice(), true),
-        (b"{\xff".as_slice(), b"{\xff".as_slice(), true),
-        (b"e30".as_slice(), b"{}".as_slice(), false),
-    ] {
-        assert!(rt;
-            wraps(text, &mut room, Form::Json, plain, bytes)?,
-            "in {text:?}"
-        );
-    }
-    Ok(())
-}
-
-fn expect_told(
-    rt: &impl Abort,
-    text: &[u8],
-    room: &mut [u8; MAX_BYTES],
-    want: Result<(Form, usize), FormFault>,
-) {
-    assert_eq!(rt; told(text, room), want);
-}
+static LONG: [Told; 4] = [
+    (&[(8192, b"A")], Err(FormFault::Malformed)),
+    (&[(8193, b"A")], Err(FormFault::TooLong)),
+    (&[(1, b"Ag"), (8190, b"A")], Ok((Form::V2, 6144))),
+    (&[(1, b"{g"), (8191, b"A")], Err(FormFault::TooLong)),
+];
 
 #[test]
 fn reads_up_to_8192_bytes(rt: HostRuntime) {
-    let mut room = [1u8; MAX_BYTES];
-    let mut text = [b'A'; 8193];
-    expect_told(&rt, &text[..8192], &mut room, Err(FormFault::Malformed));
-    expect_told(&rt, &text, &mut room, Err(FormFault::TooLong));
-    text[1] = b'g';
-    expect_told(&rt, &text[..8192], &mut room, Ok((Form::V2, 6144)));
-    text[0] = b'{';
-    expect_told(&rt, &text, &mut room, Err(FormFault::TooLong));
+    are_told(&rt, &LONG);
 }
 
-fn is_base64_of(alloc: Global, text: &str, bytes: &[u8]) -> Result<bool, AllocError> {
-    let Some(decoded) = decode_base64(alloc, text.as_bytes())? else {
-        return Ok(false);
-    };
-    Ok(decoded.as_slice() == bytes)
+// A text, and the bytes of which it is base64.
+type Decoded = (&'static [u8], Option<&'static [u8]>);
+
+// RFC 4648's vectors, in each alphabet and with padding or without, and texts that are no base64.
+static DECODED: [Decoded; 12] = [
+    (b"", Some(b"")),
+    (b"Zg", Some(b"f")),
+    (b"Zm8=", Some(b"fo")),
+    (b"Zm9v", Some(b"foo")),
+    (b"Zm9vYmFy", Some(b"foobar")),
+    (b"-_8", Some(b"\xfb\xff")),
+    (b"+/8=", Some(b"\xfb\xff")),
+    (b"Z", None),
+    (b"Zg=", None),
+    (b"Zh", None),
+    (b"-/8", None),
+    (b" Zg", None),
+];
+
+fn decodes(rt: &(impl Abort + AllocGlobal), text: &[u8], want: Option<&[u8]>) {
+    match decode_base64(rt.alloc(), text).expect(rt, "memory") {
+        Some(bytes) => expect_eq(rt, &Some(bytes.as_slice()), &want, &text),
+        None => expect_eq(rt, &None, &want, &text),
+    }
 }
 
-fn is_no_base64(alloc: Global, text: &str) -> Result<bool, AllocError> {
-    Ok(decode_base64(alloc, text.as_bytes())?.is_none())
+fn decode(rt: &(impl Abort + AllocGlobal), rows: &[Decoded]) {
+    for (text, want) in rows {
+        decodes(rt, text, *want);
+    }
 }
 
-// RFC 4648's vectors, in each alphabet and with padding or without.
 #[test]
-fn decodes_base64(rt: HostRuntime) -> Result<(), Fail> {
-    let rows: [(&str, &[u8]); 7] = [
-        ("", b""),
-        ("Zg", b"f"),
-        ("Zm8=", b"fo"),
-        ("Zm9v", b"foo"),
-        ("Zm9vYmFy", b"foobar"),
-        ("-_8", b"\xfb\xff"),
-        ("+/8=", b"\xfb\xff"),
-    ];
-    for (text, bytes) in rows {
-        assert!(rt; is_base64_of(rt.alloc(), text, bytes)?, "of {text}");
-    }
-    for text in ["Z", "Zg=", "Zh", "-/8", " Zg"] {
-        assert!(rt; is_no_base64(rt.alloc(), text)?, "of {text}");
-    }
-    Ok(())
+fn decodes_base64(rt: HostRuntime) {
+    decode(&rt, &DECODED);
 }

@@ -10,6 +10,10 @@ mod envelope;
 #[cfg(test)]
 mod mint;
 #[cfg(test)]
+mod read;
+#[cfg(test)]
+mod rows;
+#[cfg(test)]
 mod v1;
 #[cfg(test)]
 mod v2;

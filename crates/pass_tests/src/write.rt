@@ -1,10 +1,10 @@
 //! Passes that are narrowed, and written in V1 and V2.
 
-use crate::calls::{joined, narrow, new_pass, read_v1, read_v2, unwrap_text, write_v1, write_v2};
+use crate::calls::{narrow, new_pass, read, unwrap_text, write};
+use crate::rows::{Piece, expect_eq, joined};
 use pass_forms::{Form, FormFault, MAX_BYTES, Pass};
-use std::alloc::{AllocError, Global};
+use std::alloc::Global;
 use std::process::Abort;
-use std::test::Fail;
 
 // A pass of location `http://example.org/` and identifier `keyid`, in each form.
 const EXAMPLE_V1: &str =
@@ -13,144 +13,162 @@ const EXAMPLE_V1: &str =
 const EXAMPLE_V2: &str =
     "AgETaHR0cDovL2V4YW1wbGUub3JnLwIFa2V5aWQAAAYgfN7nklEcW8b1KEhYBd_psk54XijiqZMB-dcRxgnjjvc";
 
-// The known pass of libmacaroons' README: before its caveat, with it, and the bytes of that in V2.
+// The known pass of libmacaroons' README: before its caveat, and with it.
 const WITHOUT_CAVEAT: &str =
     "MDAxY2xvY2F0aW9uIGh0dHA6Ly9teWJhbmsvCjAwMjZpZGVudGlmaWVyIHdlIHVzZWQgb3VyIHNlY3JldCBrZXkKMDAyZnNpZ25hdHVyZSDj2eApCFJsTAA5rhURQRXZf91ovyujebNCqvD2F9BVLwo";
 
 const KNOWN_V1: &str =
     "MDAxY2xvY2F0aW9uIGh0dHA6Ly9teWJhbmsvCjAwMjZpZGVudGlmaWVyIHdlIHVzZWQgb3VyIHNlY3JldCBrZXkKMDAxNmNpZCB0ZXN0ID0gY2F2ZWF0CjAwMmZzaWduYXR1cmUgGXusegRK8zMyhluSZuJtSTvdZopmDkTYjOGpmMI9vWcK";
 
-const KNOWN_V2: &[u8] =
-    b"\x02\x01\x0ehttp://mybank/\x02\x16we used our secret key\x00\x02\x0dtest = caveat\x00\x00\x06\x20\
-    \x19\x7b\xac\x7a\x04\x4a\xf3\x33\x32\x86\x5b\x92\x66\xe2\x6d\x49\
-    \x3b\xdd\x66\x8a\x66\x0e\x44\xd8\x8c\xe1\xa9\x98\xc2\x3d\xbd\x67";
+const KNOWN_V2: &str =
+    "AgEOaHR0cDovL215YmFuay8CFndlIHVzZWQgb3VyIHNlY3JldCBrZXkAAg10ZXN0ID0gY2F2ZWF0AAAGIBl7rHoESvMzMoZbkmbibUk73WaKZg5E2IzhqZjCPb1n";
 
-fn read(alloc: Global, text: &str) -> Result<Pass, FormFault> {
+// A pass of identifier `keyid` and a signature of equal bytes, with an empty location in V2, which
+// is left out of V2 and a packet of V1.
+const EMPTY_LOCATION_TOLD: &str = "AgEAAgVrZXlpZAAABiAHBwcHBwcHBwcHBwcHBwcHBwcHBwcHBwcHBwcHBwcHBw";
+
+const EMPTY_LOCATION_V1: &str =
+    "MDAwZWxvY2F0aW9uIAowMDE1aWRlbnRpZmllciBrZXlpZAowMDJmc2lnbmF0dXJlIAcHBwcHBwcHBwcHBwcHBwcHBwcHBwcHBwcHBwcHBwcHCg";
+
+const EMPTY_LOCATION_V2: &str = "AgIFa2V5aWQAAAYgBwcHBwcHBwcHBwcHBwcHBwcHBwcHBwcHBwcHBwcHBwc";
+
+// A pass that is read, the caveats by which it is narrowed, and its texts then.
+struct Written {
+    text: &'static str,
+    narrowed_by: &'static [&'static [u8]],
+    v1: &'static str,
+    v2: &'static str,
+}
+
+static WRITTEN: [Written; 5] = [
+    Written {
+        text: EXAMPLE_V1,
+        narrowed_by: &[],
+        v1: EXAMPLE_V1,
+        v2: EXAMPLE_V2,
+    },
+    Written {
+        text: EXAMPLE_V2,
+        narrowed_by: &[],
+        v1: EXAMPLE_V1,
+        v2: EXAMPLE_V2,
+    },
+    Written {
+        text: WITHOUT_CAVEAT,
+        narrowed_by: &[b"test = caveat"],
+        v1: KNOWN_V1,
+        v2: KNOWN_V2,
+    },
+    Written {
+        text: EMPTY_LOCATION_TOLD,
+        narrowed_by: &[],
+        v1: EMPTY_LOCATION_V1,
+        v2: EMPTY_LOCATION_V2,
+    },
+    Written {
+        text: EMPTY_LOCATION_V2,
+        narrowed_by: &[],
+        v1: EMPTY_LOCATION_V1,
+        v2: EMPTY_LOCATION_V2,
+    },
+];
+
+fn read_text(alloc: Global, text: &[u8]) -> Result<Pass, FormFault> {
     let mut room = [0; MAX_BYTES];
-    let unwrapped = unwrap_text(text.as_bytes(), &mut room)?;
-    let bytes = unwrapped.bytes(text.as_bytes(), &room);
-    match unwrapped.form {
-        Form::V1 => read_v1(alloc, bytes),
-        Form::V2 => read_v2(alloc, bytes),
-        Form::Json => Err(FormFault::Malformed),
+    let unwrapped = unwrap_text(text, &mut room)?;
+    read(alloc, unwrapped.form, unwrapped.bytes(text, &room))
+}
+
+fn expect_text(rt: &(impl Abort + AllocGlobal), pass: &Pass, form: Form, want: &str) {
+    let text = write(rt.alloc(), form, pass).expect(rt, "a text");
+    expect_eq(rt, &text.as_str(), &want, &form);
+}
+
+fn narrows(rt: &(impl Abort + AllocGlobal), pass: &mut Pass, caveats: &[&[u8]]) {
+    for caveat in caveats {
+        narrow(rt.alloc(), pass, caveat).expect(rt, "a narrower pass");
     }
+}
+
+fn is_written(rt: &(impl Abort + AllocGlobal), row: &Written) {
+    let mut pass = read_text(rt.alloc(), row.text.as_bytes()).expect(rt, "a pass");
+    narrows(rt, &mut pass, row.narrowed_by);
+    expect_text(rt, &pass, Form::V1, row.v1);
+    expect_text(rt, &pass, Form::V2, row.v2);
+}
+
+fn are_written(rt: &(impl Abort + AllocGlobal), rows: &[Written]) {
+    for row in rows {
+        is_written(rt, row);
+    }
+}
+
+#[test]
+fn narrows_and_writes_what_was_read(rt: HostRuntime) {
+    are_written(&rt, &WRITTEN);
 }
 
 // A pass with no location, an identifier of so many bytes and so many empty caveats.
-fn pass_of(alloc: Global, identifier_len: usize, caveat_count: usize) -> Result<Pass, AllocError> {
-    let mut caveats = Vec::new(alloc);
+fn pass_of(rt: &(impl Abort + AllocGlobal), identifier_len: usize, caveat_count: usize) -> Pass {
+    let mut caveats = Vec::new(rt.alloc());
     for _ in 0..caveat_count {
-        caveats.push(Vec::new(alloc))?;
+        caveats.push(Vec::new(rt.alloc())).expect(rt, "memory");
     }
-    let identifier = vec![in alloc; b'x'; identifier_len]?;
-    Ok(new_pass(Vec::new(alloc), identifier, caveats, [7; 32]))
+    let identifier = joined(rt, &[(identifier_len, b"x")]);
+    new_pass(Vec::new(rt.alloc()), identifier, caveats, [7; 32])
 }
 
-fn is_written(alloc: Global, pass: &Pass, v1: &str, v2: &str) -> Result<bool, FormFault> {
-    Ok(write_v1(alloc, pass)?.as_str() == v1 && write_v2(alloc, pass)?.as_str() == v2)
-}
-
-#[test]
-fn writes_each_form_of_what_was_read(rt: HostRuntime) -> Result<(), Fail> {
-    for text in [EXAMPLE_V1, EXAMPLE_V2] {
-        let pass = read(rt.alloc(), text)?;
-        assert!(rt;
-            is_written(rt.alloc(), &pass, EXAMPLE_V1, EXAMPLE_V2)?,
-            "{text}"
-        );
-    }
-    Ok(())
-}
-
-fn wraps(text: &str, bytes: &[u8]) -> Result<bool, FormFault> {
-    let mut room = [0; MAX_BYTES];
-    let unwrapped = unwrap_text(text.as_bytes(), &mut room)?;
-    Ok(unwrapped.bytes(text.as_bytes(), &room) == bytes)
-}
-
-#[test]
-fn narrows_to_the_known_pass(rt: HostRuntime) -> Result<(), Fail> {
-    let mut pass = read(rt.alloc(), WITHOUT_CAVEAT)?;
-    narrow(rt.alloc(), &mut pass, b"test = caveat")?;
-    let text = write_v2(rt.alloc(), &pass)?;
-    assert_eq!(rt; text.len(), 124);
-    assert!(rt; is_written(rt.alloc(), &pass, KNOWN_V1, &text)?);
-    assert!(rt; wraps(&text, KNOWN_V2)?);
-    Ok(())
-}
-
-// How the texts of a pass without a location begin in each form.
-fn begins(alloc: Global, bytes: &[u8], v1: &str, v2: &str) -> Result<bool, FormFault> {
-    let pass = read_v2(alloc, bytes)?;
-    Ok(write_v1(alloc, &pass)?.starts_with(v1) && write_v2(alloc, &pass)?.starts_with(v2))
-}
-
-// An empty location is a packet of V1, and is left out of V2, told or not.
-#[test]
-fn writes_an_empty_location(rt: HostRuntime) -> Result<(), Fail> {
-    let front: &[u8] = b"\x02\x01\x00\x02\x05keyid\x00\x00\x06\x20";
-    let bytes = joined(rt.alloc(), &[front, &[7; 32]])?;
-    // Base64 of `000elocation ` and `02 02 05 keyid 00 00 06` begins so.
-    assert!(rt;
-        begins(
-            rt.alloc(),
-            &bytes,
-            "MDAwZWxvY2F0aW9uIAow",
-            "AgIFa2V5aWQAAAY"
-        )?
-    );
-    Ok(())
-}
-
-// The lengths of the texts of a pass that has so long an identifier and so many caveats.
-fn expect_v1(
-    rt: &(impl Abort + AllocGlobal),
-    identifier_len: usize,
-    caveat_count: usize,
-    want: Result<usize, FormFault>,
-) -> Result<(), AllocError> {
-    let pass = pass_of(rt.alloc(), identifier_len, caveat_count)?;
-    assert_eq!(rt; write_v1(rt.alloc(), &pass).map(|text| text.len()), want);
-    Ok(())
-}
-
-fn expect_v2(
-    rt: &(impl Abort + AllocGlobal),
-    identifier_len: usize,
-    caveat_count: usize,
-    want: Result<usize, FormFault>,
-) -> Result<(), AllocError> {
-    let pass = pass_of(rt.alloc(), identifier_len, caveat_count)?;
-    assert_eq!(rt; write_v2(rt.alloc(), &pass).map(|text| text.len()), want);
-    Ok(())
-}
+// The form, identifier's length and number of caveats of a pass, and the length of its text.
+type Len = (Form, usize, usize, Result<usize, FormFault>);
 
 // 6,144 bytes make 8,192 characters. Beside the identifier a pass without caveats takes 77 bytes in
 // V1, 40 in V2.
-#[test]
-fn writes_up_to_8192_characters(rt: HostRuntime) -> Result<(), Fail> {
-    expect_v1(&rt, 6067, 0, Ok(8192))?;
-    expect_v1(&rt, 6068, 0, Err(FormFault::TooLong))?;
-    expect_v2(&rt, 6104, 0, Ok(8192))?;
-    expect_v2(&rt, 6105, 0, Err(FormFault::TooLong))?;
-    Ok(())
+static LENS: [Len; 4] = [
+    (Form::V1, 6067, 0, Ok(8192)),
+    (Form::V1, 6068, 0, Err(FormFault::TooLong)),
+    (Form::V2, 6104, 0, Ok(8192)),
+    (Form::V2, 6105, 0, Err(FormFault::TooLong)),
+];
+
+static TOO_MANY_AND_TOO_LONG: [Len; 2] = [
+    (Form::V1, 9000, 65, Err(FormFault::TooMany)),
+    (Form::V2, 9000, 65, Err(FormFault::TooMany)),
+];
+
+fn len_of(alloc: Global, form: Form, pass: &Pass) -> Result<usize, FormFault> {
+    Ok(write(alloc, form, pass)?.len())
+}
+
+fn are_so_long(rt: &(impl Abort + AllocGlobal), rows: &[Len]) {
+    for row in rows {
+        let pass = pass_of(rt, row.1, row.2);
+        expect_eq(rt, &len_of(rt.alloc(), row.0, &pass), &row.3, row);
+    }
 }
 
 #[test]
-fn counts_caveats(rt: HostRuntime) -> Result<(), Fail> {
-    let mut pass = pass_of(rt.alloc(), 0, 63)?;
-    narrow(rt.alloc(), &mut pass, b"")?;
-    assert!(rt; write_v1(rt.alloc(), &pass).is_ok() && write_v2(rt.alloc(), &pass).is_ok());
-    let refused = narrow(rt.alloc(), &mut pass, b"");
-    assert_eq!(rt; refused, Err(FormFault::TooMany));
-    assert_eq!(rt; pass.caveats().len(), 64);
-    Ok(())
+fn writes_up_to_8192_characters(rt: HostRuntime) {
+    are_so_long(&rt, &LENS);
 }
 
 // Too many comes before too long.
 #[test]
-fn tells_too_many_first(rt: HostRuntime) -> Result<(), Fail> {
-    expect_v1(&rt, 9000, 65, Err(FormFault::TooMany))?;
-    expect_v2(&rt, 9000, 65, Err(FormFault::TooMany))?;
-    Ok(())
+fn tells_too_many_first(rt: HostRuntime) {
+    are_so_long(&rt, &TOO_MANY_AND_TOO_LONG);
+}
+
+fn is_written_in_each(rt: &(impl Abort + AllocGlobal), pass: &Pass) {
+    let v1 = write(rt.alloc(), Form::V1, pass).is_ok();
+    let v2 = write(rt.alloc(), Form::V2, pass).is_ok();
+    expect_eq(rt, &(v1, v2), &(true, true), &"64 caveats");
+}
+
+#[test]
+fn counts_caveats(rt: HostRuntime) {
+    let mut pass = pass_of(&rt, 0, 63);
+    narrows(&rt, &mut pass, &[b""]);
+    is_written_in_each(&rt, &pass);
+    let refused = narrow(rt.alloc(), &mut pass, b"");
+    expect_eq(&rt, &refused, &Err(FormFault::TooMany), &"a 65th caveat");
+    expect_eq(&rt, &pass.caveats().len(), &64, &"caveats");
 }

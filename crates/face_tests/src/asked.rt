@@ -1,0 +1,92 @@
+//! What a request asks for.
+
+use crate::rows::{expect_eq, slot_at};
+use club_core::{BookingNumber, Guests, Refusal, Request};
+use club_words::{Routes, words_of};
+use std::process::Abort;
+
+/// What a request asks for, of `court-1` on 2026-05-01 at 18 where it is of a slot, or why it is
+/// refused.
+pub(crate) enum Want {
+    View,
+    /// Booking 7 with so many guests.
+    Book(u8),
+    /// The booking of this number.
+    Cancel(u32),
+    Account,
+    Refused(Refusal),
+}
+
+pub(crate) const BAD_REQUEST: Want = Want::Refused(Refusal::BadRequest);
+
+pub(crate) const NO_SUCH_PATH: Want = Want::Refused(Refusal::NoSuchPath);
+
+pub(crate) const NO_PASS: Want = Want::Refused(Refusal::NoPass);
+
+/// A field that carries a pass.
+pub(crate) const PASS: &str = "Authorization: Bearer x\r\n";
+
+fn number(rt: &impl Abort, number: u32) -> BookingNumber {
+    BookingNumber::new(number).expect(rt, "a number")
+}
+
+pub(crate) fn book(rt: &impl Abort, guests: u8) -> Request {
+    Request::Book {
+        slot: slot_at(rt, 18),
+        number: number(rt, 7),
+        guests: Guests::new(guests).expect(rt, "guests"),
+    }
+}
+
+fn cancel(rt: &impl Abort, booking: u32) -> Request {
+    Request::Cancel {
+        slot: slot_at(rt, 18),
+        number: number(rt, booking),
+    }
+}
+
+fn view(rt: &impl Abort) -> Request {
+    Request::View {
+        slot: slot_at(rt, 18),
+    }
+}
+
+fn wanted(rt: &impl Abort, want: &Want) -> Result<Request, Refusal> {
+    match want {
+        Want::View => Ok(view(rt)),
+        Want::Book(guests) => Ok(book(rt, *guests)),
+        Want::Cancel(booking) => Ok(cancel(rt, *booking)),
+        Want::Account => Ok(Request::Account),
+        Want::Refused(refusal) => Err(*refusal),
+    }
+}
+
+pub(crate) fn asked(rt: &(impl Abort + AllocGlobal), bytes: &[u8]) -> Result<Request, Refusal> {
+    let routes = Routes::new(rt.alloc()).expect(rt, "memory");
+    match words_of(&routes, bytes) {
+        Ok(words) => Ok(words.request),
+        Err(refusal) => Err(refusal),
+    }
+}
+
+/// The request asks for this.
+pub(crate) fn asks(rt: &(impl Abort + AllocGlobal), text: &str, want: &Want) {
+    expect_eq(rt, &asked(rt, text.as_bytes()), &wanted(rt, want), &text);
+}
+
+/// Whole requests, and what each asks for.
+pub(crate) fn ask(rt: &(impl Abort + AllocGlobal), rows: &[(&'static str, Want)]) {
+    for (text, want) in rows {
+        asks(rt, text, want);
+    }
+}
+
+/// The request carries this pass.
+pub(crate) fn carries(rt: &(impl Abort + AllocGlobal), text: &str, pass: &str) {
+    let routes = Routes::new(rt.alloc()).expect(rt, "memory");
+    let carried = match words_of(&routes, text.as_bytes()) {
+        Ok(words) => Some(words.pass),
+        Err(_) => None,
+    };
+    expect_eq(rt, &carried, &Some(pass.as_bytes()), &text);
+}

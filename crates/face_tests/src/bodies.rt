@@ -1,0 +1,114 @@
+//! Bookings: whole, cut short, and with odd bodies.
+
+use crate::asked::{BAD_REQUEST, PASS, Want, asked, asks, book, carries};
+use crate::rows::expect_eq;
+use club_core::Refusal;
+use club_words::{Routes, missing, words_of};
+use std::process::Abort;
+
+const BOOKING: &str = "PUT /slots/court-1/2026-05-01/18/bookings/7 HTTP/1.1\r\nHost: club\r\n\
+    Authorization: Bearer AgEJ\r\nContent-Length: 12\r\n\r\n{\"guests\":2}";
+
+#[test]
+fn a_booking(rt: HostRuntime) {
+    asks(&rt, BOOKING, &Want::Book(2));
+    carries(&rt, BOOKING, "AgEJ");
+    expect_eq(&rt, &missing(BOOKING.as_bytes()), &0, &"it is whole");
+}
+
+// Whether more is missing, and no more than is to come.
+fn lacks(bytes: &[u8], to_come: usize) -> bool {
+    let more = missing(bytes);
+    0 < more && more <= to_come
+}
+
+fn is_cut(rt: &(impl Abort + AllocGlobal), bytes: &[u8], to_come: usize) {
+    expect_eq(rt, &asked(rt, bytes), &Err(Refusal::BadRequest), &to_come);
+    expect_eq(rt, &lacks(bytes, to_come), &true, &to_come);
+}
+
+/// Cut anywhere it is a bad request, and not whole.
+#[test]
+fn cut(rt: HostRuntime) {
+    let bytes = BOOKING.as_bytes();
+    for len in 0..bytes.len() {
+        is_cut(&rt, &bytes[..len], bytes.len() - len);
+    }
+}
+
+// Bookings with this length and this body.
+static LENGTHS: [(&str, &str, Want); 9] = [
+    ("12", "{\"guests\":2}", Want::Book(2)),
+    ("0012", "{\"guests\":2}", Want::Book(2)),
+    ("12", "{\"guests\":2}and more", Want::Book(2)),
+    ("00012", "{\"guests\":2}", BAD_REQUEST),
+    ("13", "{\"guests\":2}", BAD_REQUEST),
+    ("11", "{\"guests\":2}", BAD_REQUEST),
+    ("0", "{\"guests\":2}", BAD_REQUEST),
+    ("-1", "{\"guests\":2}", BAD_REQUEST),
+    ("257", "{\"guests\":2}", BAD_REQUEST),
+];
+
+const PUT: &str = "PUT /slots/court-1/2026-05-01/18/bookings/7 HTTP/1.1";
+
+fn ask_by_length(rt: &(impl Abort + AllocGlobal), rows: &[(&'static str, &'static str, Want)]) {
+    for (length, body, want) in rows {
+        let text = format!(in rt.alloc();
+            "{PUT}\r\n{PASS}Content-Length: {length}\r\n\r\n{body}"
+        ).expect(rt, "memory");
+        asks(rt, text.as_str(), want);
+    }
+}
+
+// Bodies of the length that is told.
+static BODIES: [(&str, Want); 19] = [
+    ("{ \"guests\" : 2 }", Want::Book(2)),
+    ("{\"guests\":49}", Want::Book(49)),
+    ("", BAD_REQUEST),
+    ("2", BAD_REQUEST),
+    ("null", BAD_REQUEST),
+    ("[2]", BAD_REQUEST),
+    ("{}", BAD_REQUEST),
+    ("{\"guests\":1.0}", BAD_REQUEST),
+    ("{\"guests\":2e0}", BAD_REQUEST),
+    ("{\"guests\":50}", BAD_REQUEST),
+    ("{\"guests\":-1}", BAD_REQUEST),
+    ("{\"guests\":\"2\"}", BAD_REQUEST),
+    ("{\"guests\":null}", BAD_REQUEST),
+    ("{\"guest\":2}", BAD_REQUEST),
+    ("{\"Guests\":2}", BAD_REQUEST),
+    ("{\"guests\":2,\"x\":1}", BAD_REQUEST),
+    ("{\"guests\":2", BAD_REQUEST),
+    ("guests=2", BAD_REQUEST),
+    ("{\"guests\":18446744073709551616}", BAD_REQUEST),
+];
+
+fn ask_by_body(rt: &(impl Abort + AllocGlobal), rows: &[(&'static str, Want)]) {
+    for (body, want) in rows {
+        let text = format!(in rt.alloc();
+            "{PUT}\r\n{PASS}Content-Length: {}\r\n\r\n{body}",
+            body.len()
+        )
+        .expect(rt, "memory");
+        asks(rt, text.as_str(), want);
+    }
+}
+
+#[test]
+fn bodies(rt: HostRuntime) {
+    ask_by_length(&rt, &LENGTHS);
+    ask_by_body(&rt, &BODIES);
+}
+
+/// With any allocation refused, as `rt try --test --fail-alloc N` refuses the Nth: no routes, the
+/// words, or `Unavailable`.
+#[test]
+fn refused_memory(rt: HostRuntime) {
+    let Ok(routes) = Routes::new(rt.alloc()) else {
+        return;
+    };
+    match words_of(&routes, BOOKING.as_bytes()) {
+        Ok(words) => expect_eq(&rt, &words.request, &book(&rt, 2), &BOOKING),
+        Err(refusal) => expect_eq(&rt, &refusal, &Refusal::Unavailable, &BOOKING),
+    }
+}

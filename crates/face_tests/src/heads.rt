@@ -1,0 +1,242 @@
+//! Heads of requests: where they end, their line and their fields.
+
+use crate::asked::{BAD_REQUEST, NO_PASS, PASS, Want, ask, asks, carries};
+use crate::rows::{Piece, expect_eq, joined};
+use club_words::{missing, missing_of_head};
+use std::process::Abort;
+
+// The pieces of what has come, and how many bytes of a head it lacks.
+type Lack = (&'static [Piece], usize);
+
+// Four less those of CR LF CR LF that came last, and no more than up to 16,384 bytes.
+static ENDS_OF_HEADS: [Lack; 11] = [
+    (&[(1, "")], 4),
+    (&[(1, "GET")], 4),
+    (&[(1, "GET\r")], 3),
+    (&[(1, "GET\r\n")], 2),
+    (&[(1, "GET\r\n\r")], 1),
+    (&[(1, "GET\r\n\r\r")], 3),
+    (&[(1, "GET\r\n\n")], 4),
+    (&[(16_380, "a")], 4),
+    (&[(16_381, "a")], 3),
+    (&[(16_384, "a")], 0),
+    (&[(16_385, "a")], 0),
+];
+
+fn lack_of_head(rt: &(impl Abort + AllocGlobal), rows: &[Lack]) {
+    for (pieces, lack) in rows {
+        let text = joined(rt, pieces);
+        expect_eq(rt, &missing_of_head(text.as_bytes()), lack, pieces);
+    }
+}
+
+#[test]
+fn ends_of_heads(rt: HostRuntime) {
+    lack_of_head(&rt, &ENDS_OF_HEADS);
+}
+
+// No head, and how many bytes of a request it lacks.
+static LONG: [Lack; 2] = [(&[(16_384, "a")], 0), (&[(16_383, "a")], 1)];
+
+fn lack(rt: &(impl Abort + AllocGlobal), rows: &[Lack]) {
+    for (pieces, lack) in rows {
+        let text = joined(rt, pieces);
+        expect_eq(rt, &missing(text.as_bytes()), lack, pieces);
+    }
+}
+
+// 16,384 bytes, and 32 fields.
+static LIMITS: [(&[Piece], Want); 3] = [
+    (&[(16_384, "a")], BAD_REQUEST),
+    (
+        &[
+            (1, "GET /account HTTP/1.1\r\n"),
+            (1, PASS),
+            (31, "x: y\r\n"),
+            (1, "\r\n"),
+        ],
+        Want::Account,
+    ),
+    (
+        &[
+            (1, "GET /account HTTP/1.1\r\n"),
+            (1, PASS),
+            (32, "x: y\r\n"),
+            (1, "\r\n"),
+        ],
+        BAD_REQUEST,
+    ),
+];
+
+fn ask_in_pieces(rt: &(impl Abort + AllocGlobal), rows: &[(&'static [Piece], Want)]) {
+    for (pieces, want) in rows {
+        asks(rt, joined(rt, pieces).as_str(), want);
+    }
+}
+
+#[test]
+fn limits_of_heads(rt: HostRuntime) {
+    lack(&rt, &LONG);
+    ask_in_pieces(&rt, &LIMITS);
+}
+
+static LINE_ENDS: [(&str, Want); 6] = [
+    ("", BAD_REQUEST),
+    (
+        "\r\n\r\nGET /account HTTP/1.1\r\nAuthorization: Bearer x\r\n\r\n",
+        BAD_REQUEST,
+    ),
+    (
+        "GET /account HTTP/1.1\nAuthorization: Bearer x\n\n",
+        BAD_REQUEST,
+    ),
+    (
+        "GET /account HTTP/1.1\n\nAuthorization: Bearer x\r\n\r\n",
+        BAD_REQUEST,
+    ),
+    (
+        "\r\nGET /account HTTP/1.1\r\nAuthorization: Bearer x\r\n\r\n",
+        Want::Account,
+    ),
+    (
+        "GET /account HTTP/1.1\nAuthorization: Bearer x\r\n\r\n",
+        Want::Account,
+    ),
+];
+
+static LINES: [(&str, Want); 5] = [
+    ("GET /account HTTP/1.0", Want::Account),
+    ("GET /account HTTP/1.2", BAD_REQUEST),
+    ("GET /account HTTP/2.0", BAD_REQUEST),
+    ("GET /account", BAD_REQUEST),
+    ("G(T /account HTTP/1.1", BAD_REQUEST),
+];
+
+// Lines of requests that carry a pass.
+fn ask_by_line(rt: &(impl Abort + AllocGlobal), rows: &[(&'static str, Want)]) {
+    for (line, want) in rows {
+        let text = joined(rt, &[(1, line), (1, "\r\n"), (1, PASS), (1, "\r\n")]);
+        asks(rt, text.as_str(), want);
+    }
+}
+
+#[test]
+fn heads(rt: HostRuntime) {
+    ask(&rt, &LINE_ENDS);
+    ask_by_line(&rt, &LINES);
+}
+
+fn account(rt: &(impl Abort + AllocGlobal), fields: &'static str) -> String {
+    joined(
+        rt,
+        &[(1, "GET /account HTTP/1.1\r\n"), (1, fields), (1, "\r\n")],
+    )
+}
+
+// Fields of requests for the account.
+fn ask_by_fields(rt: &(impl Abort + AllocGlobal), rows: &[(&'static str, Want)]) {
+    for (fields, want) in rows {
+        asks(rt, account(rt, fields).as_str(), want);
+    }
+}
+
+static LENGTHS: [(&str, Want); 15] = [
+    (
+        "Authorization: Bearer x\r\nContent-Length: 0\r\n",
+        Want::Account,
+    ),
+    (
+        "Authorization: Bearer x\r\ncontent-length: 0000\r\n",
+        Want::Account,
+    ),
+    (
+        "Authorization: Bearer x\r\nContent-Length: 00000\r\n",
+        BAD_REQUEST,
+    ),
+    (
+        "Authorization: Bearer x\r\nContent-Length: \r\n",
+        BAD_REQUEST,
+    ),
+    (
+        "Authorization: Bearer x\r\nContent-Length: -1\r\n",
+        BAD_REQUEST,
+    ),
+    (
+        "Authorization: Bearer x\r\nContent-Length: +1\r\n",
+        BAD_REQUEST,
+    ),
+    (
+        "Authorization: Bearer x\r\nContent-Length: 1.0\r\n",
+        BAD_REQUEST,
+    ),
+    (
+        "Authorization: Bearer x\r\nContent-Length: 0x1\r\n",
+        BAD_REQUEST,
+    ),
+    (
+        "Authorization: Bearer x\r\nContent-Length: 257\r\n",
+        BAD_REQUEST,
+    ),
+    (
+        "Authorization: Bearer x\r\nContent-Length: 1\r\n",
+        BAD_REQUEST,
+    ),
+    (
+        "Authorization: Bearer x\r\nContent-Length: 256\r\n",
+        BAD_REQUEST,
+    ),
+    (
+        "Content-Length: 0\r\nContent-Length: 0\r\nAuthorization: Bearer x\r\n",
+        BAD_REQUEST,
+    ),
+    (
+        "Transfer-Encoding: chunked\r\nAuthorization: Bearer x\r\n",
+        BAD_REQUEST,
+    ),
+    (
+        "transfer-encoding: identity\r\nAuthorization: Bearer x\r\n",
+        BAD_REQUEST,
+    ),
+    // No field.
+    ("Authorization Bearer x\r\n", BAD_REQUEST),
+];
+
+#[test]
+fn lengths(rt: HostRuntime) {
+    ask_by_fields(&rt, &LENGTHS);
+}
+
+// Fields, and the pass that they carry.
+static PASSES: [(&str, &str); 4] = [
+    ("Authorization: Bearer x\r\n", "x"),
+    ("authorization:bEARER {\"c\":[]}\r\n", "{\"c\":[]}"),
+    ("AUTHORIZATION:   BEARER x y  \r\n", "x y"),
+    ("Authorization: Bearer  x\r\n", " x"),
+];
+
+static NO_PASSES: [(&str, Want); 9] = [
+    ("", NO_PASS),
+    (
+        "Authorization: Bearer x\r\nauthorization: Basic y\r\n",
+        NO_PASS,
+    ),
+    ("Authorization: Bearer\r\n", NO_PASS),
+    ("Authorization: Bearer   \r\n", NO_PASS),
+    ("Authorization: Bearer\tx\r\n", NO_PASS),
+    ("Authorization: \r\n", NO_PASS),
+    ("Authorization: Basic x\r\n", NO_PASS),
+    ("Authorization: Bearerx\r\n", NO_PASS),
+    ("Authorization: x\r\n", NO_PASS),
+];
+
+fn carry(rt: &(impl Abort + AllocGlobal), rows: &[(&'static str, &'static str)]) {
+    for (fields, pass) in rows {
+        carries(rt, account(rt, fields).as_str(), pass);
+    }
+}
+
+#[test]
+fn passes(rt: HostRuntime) {
+    carry(&rt, &PASSES);
+    ask_by_fields(&rt, &NO_PASSES);
+}
