@@ -5,9 +5,13 @@
 #[cfg(test)]
 mod bad_requests;
 #[cfg(test)]
+mod bookings;
+#[cfg(test)]
 mod counted;
 #[cfg(test)]
 mod ends;
+#[cfg(test)]
+mod entitlement;
 #[cfg(test)]
 mod expect;
 #[cfg(test)]
@@ -15,14 +19,18 @@ mod failing_ends;
 #[cfg(test)]
 mod front;
 #[cfg(test)]
+mod limits;
+#[cfg(test)]
 mod office;
+#[cfg(test)]
+mod others;
 #[cfg(test)]
 mod passes;
 #[cfg(test)]
 mod refused_memory;
 #[cfg(test)]
-mod rows;
-#[cfg(test)]
 mod said;
 #[cfg(test)]
 mod server;
+#[cfg(test)]
+mod sockets;
