@@ -1,5 +1,5 @@
-//! Tests of whole exchanges: bytes of a request, a desk over the tables in memory or one that counts,
-//! and bytes of its reply; and of the server, over sockets and over connections in memory.
+//! Tests of whole exchanges: bytes of a request, a desk over the tables in memory or one that
+//! counts, and bytes of its reply; and of the server, over sockets and over connections in memory.
 #![tactic(auto)]
 
 #[cfg(test)]

@@ -101,7 +101,8 @@ fn serves_two(rt: &(impl Abort + Alloc<A = Global>), listener: &TcpListener) {
     expect_eq(rt, &served, &(Ok(()), 1));
 }
 
-// Bound, connected, written, served and read, one after the other. The first client is gone by then.
+// Bound, connected, written, served and read, one after the other. The first client is gone by
+// then.
 #[test]
 fn serves_over_a_socket(rt: HostRuntime) {
     let listener = listening(&rt);

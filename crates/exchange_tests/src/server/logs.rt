@@ -76,8 +76,8 @@ const LINES: &str = "2026-04-20T12:00 GET /account 503 1533
 2026-04-20T12:00 - /account 405 1533
 ";
 
-/// What comes of serving with a log: the outcome, how many connections were waited for, and how many
-/// requests the desk was asked at noon.
+/// What comes of serving with a log: the outcome, how many connections were waited for, and how
+/// many requests the desk was asked at noon.
 type Served = (Result<(), ClockOutOfRange>, u64, u64);
 
 /// The script's connections are served, with this log.
