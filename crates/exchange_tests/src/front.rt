@@ -2,20 +2,19 @@
 
 use crate::ends::{Giver, Taker};
 use crate::expect::{expect_eq, expect_told};
-use crate::office::{FIXTURE, Order};
+use crate::office::{FIXTURE, Order, moment};
 use crate::said::{Asked, Step, Told};
-use club_core::{ClubStore, Command, StoreFault};
+use club_core::{ClubStore, Command};
 use club_gate::{Fault, OfficeReply};
 use club_http::{
     AnswerFault, Desk, Face, Inlet, Outlet, ReadInlet, Responder, WriteOutlet, answer,
 };
 use club_store::Store;
-use pass_caveats::Moment;
+use club_values::Moment;
 use pass_forms::Form;
 use sqlite::MemStore;
-use std::alloc::{AllocError, Global};
+use std::alloc::Global;
 use std::process::Abort;
-use std::test::Fail;
 
 #[derive(Drop)]
 pub(crate) struct Front {
@@ -24,8 +23,9 @@ pub(crate) struct Front {
 }
 
 /// The desk of an empty club.
-fn empty_desk(alloc: Global) -> Result<Desk<Store<MemStore>>, StoreFault> {
-    Ok(Desk::new(alloc, Store::open_in_memory(alloc)?))
+fn empty_desk(rt: &(impl Abort + Alloc<A = Global>)) -> Desk<Store<MemStore>> {
+    let store = Store::open_in_memory(rt.alloc()).expect(rt, "a store");
+    Desk::new(rt.alloc(), store)
 }
 
 /// Why the office's command is refused; `None` where it is done.
@@ -47,39 +47,32 @@ fn failure<D: Responder, R: Inlet, W: Outlet>(
     answer(face, desk, moment, reader, writer).err()
 }
 
-pub(crate) fn moment(rt: &impl Abort, text: &str) -> Moment {
-    Moment::read(text.as_bytes()).expect(rt, "a moment")
-}
-
 impl Front {
-    fn empty(alloc: Global) -> Result<Front, Fail> {
-        Ok(Front {
-            face: Face::new(alloc)?,
-            desk: empty_desk(alloc)?,
-        })
+    fn empty(rt: &(impl Abort + Alloc<A = Global>)) -> Front {
+        Front {
+            face: Face::new(rt.alloc()).expect(rt, "a face"),
+            desk: empty_desk(rt),
+        }
     }
 
     /// The fixture.
-    pub fn opened(alloc: Global) -> Result<Front, Fail> {
-        let mut front = Front::empty(alloc)?;
-        for order in &FIXTURE {
-            front.carry_out(*order)?;
-        }
-        Ok(front)
+    pub fn opened(rt: &(impl Abort + Alloc<A = Global>)) -> Front {
+        let mut front = Front::empty(rt);
+        front.carries_out(rt, &FIXTURE);
+        front
     }
 
-    /// Why the office's order is refused; `None` where it is done.
-    fn refuses(&mut self, order: Order) -> Result<Option<Fault>, Fail> {
-        let command = order.command().ok_or("an order of good values")?;
-        Ok(refusal(&mut self.desk, &command))
+    /// Ends the test unless these orders are done.
+    fn carries_out(&mut self, rt: &impl Abort, orders: &[Order]) {
+        for order in orders {
+            self.refuses(rt, order, &None);
+        }
     }
 
-    /// Gives an order that is to be done.
-    fn carry_out(&mut self, order: Order) -> Result<(), Fail> {
-        match self.refuses(order)? {
-            Some(fault) => Err(fault)?,
-            None => Ok(()),
-        }
+    /// Ends the test unless the office's order is refused so; where it is `None`, done.
+    fn refuses(&mut self, rt: &impl Abort, order: &Order, fault: &Option<Fault>) {
+        let command = order.command(rt);
+        expect_eq(rt, &refusal(&mut self.desk, &command), fault);
     }
 
     /// One exchange at a moment, and why it fails; `None` where it doesn't.
@@ -111,10 +104,17 @@ impl Front {
         taker
     }
 
-    /// Ends the test unless these bytes are told this.
-    pub fn tells(&mut self, rt: &impl Abort, at: &str, bytes: &str, told: &str) {
+    /// Ends the test unless these bytes are told this at a moment.
+    pub fn tells(
+        &mut self,
+        rt: &(impl Abort + Alloc<A = Global>),
+        at: &str,
+        bytes: &str,
+        told: &Told<'_>,
+    ) {
+        let want = told.text(rt);
         let taker = self.written_to(rt, at, bytes.as_bytes());
-        expect_told(rt, taker.written(), told.as_bytes(), bytes);
+        expect_told(rt, taker.written(), want.as_bytes(), bytes);
     }
 
     /// Ends the test unless this is told under a pass at a moment.
@@ -125,38 +125,39 @@ impl Front {
         pass: &str,
         asked: &Asked<'_>,
         told: &Told<'_>,
-    ) -> Result<(), AllocError> {
-        let bytes = asked.text(rt.alloc(), pass)?;
-        let told = told.text(rt.alloc())?;
-        self.tells(rt, at, bytes.as_str(), told.as_str());
-        Ok(())
+    ) {
+        let bytes = asked.text(rt, pass);
+        self.tells(rt, at, bytes.as_str(), told);
     }
 
-    fn play(
-        &mut self,
-        rt: &(impl Abort + Alloc<A = Global>),
-        form: Form,
-        step: &Step,
-    ) -> Result<(), Fail> {
+    fn play(&mut self, rt: &(impl Abort + Alloc<A = Global>), form: Form, step: &Step) {
         match step {
             Step::Asks(at, texts, asked, told) => {
-                self.answers(rt, at, texts.in_form(form), asked, told)?;
+                self.answers(rt, at, texts.in_form(form), asked, told);
             }
-            Step::Orders(order, fault) => expect_eq(rt, &self.refuses(*order)?, fault),
+            Step::Orders(order, fault) => self.refuses(rt, order, fault),
         }
-        Ok(())
     }
 
     /// Ends the test unless it goes by these steps, with passes in this form.
-    pub fn plays(
-        &mut self,
-        rt: &(impl Abort + Alloc<A = Global>),
-        form: Form,
-        steps: &[Step],
-    ) -> Result<(), Fail> {
+    pub fn plays(&mut self, rt: &(impl Abort + Alloc<A = Global>), form: Form, steps: &[Step]) {
         for step in steps {
-            self.play(rt, form, step)?;
+            self.play(rt, form, step);
         }
-        Ok(())
     }
+}
+
+pub(crate) static FORMS: [Form; 3] = [Form::V1, Form::V2, Form::Json];
+
+/// Ends the test unless a fixture goes by these steps, with passes in each form.
+pub(crate) fn goes_by(rt: &(impl Abort + Alloc<A = Global>), steps: &[Step]) {
+    for form in &FORMS {
+        goes_by_in(rt, *form, steps);
+    }
+}
+
+/// The same in this form.
+pub(crate) fn goes_by_in(rt: &(impl Abort + Alloc<A = Global>), form: Form, steps: &[Step]) {
+    let mut front = Front::opened(rt);
+    front.plays(rt, form, steps);
 }

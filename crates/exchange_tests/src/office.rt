@@ -2,25 +2,18 @@
 
 use club_core::{Command, Root};
 use pass_caveats::{Day, Hour, Kind, Moment, Name, Slot};
+use std::process::Abort;
 
 /// The root of each new key.
-const ROOT: &[u8; 16] = b"\x00\x11\x22\x33\x44\x55\x66\x77\x88\x99\xaa\xbb\xcc\xdd\xee\xff";
+pub(crate) const ROOT: &[u8] = b"\x00\x11\x22\x33\x44\x55\x66\x77\x88\x99\xaa\xbb\xcc\xdd\xee\xff";
 
 /// The second and the third root of a key.
-const SECOND_ROOT: &[u8; 16] = b"\xff\xee\xdd\xcc\xbb\xaa\x99\x88\x77\x66\x55\x44\x33\x22\x11\x00";
+pub(crate) const SECOND_ROOT: &[u8] =
+    b"\xff\xee\xdd\xcc\xbb\xaa\x99\x88\x77\x66\x55\x44\x33\x22\x11\x00";
 
-const THIRD_ROOT: &[u8; 16] = b"0123456789abcdef";
-
-/// Which root of a key.
-#[derive(Clone, Copy)]
-pub(crate) enum Turn {
-    First,
-    Second,
-    Third,
-}
+pub(crate) const THIRD_ROOT: &[u8] = b"0123456789abcdef";
 
 /// An order of the office.
-#[derive(Clone, Copy)]
 pub(crate) enum Order {
     /// A member with this quota.
     AddMember(&'static str, u32),
@@ -32,7 +25,7 @@ pub(crate) enum Order {
     AddKey(&'static str, &'static str),
     RevokeKey(&'static str),
     /// Another root for `amy-1`. Passes under the one that it had are good until the moment.
-    RotateKey(Turn, &'static str),
+    RotateKey(&'static [u8], &'static str),
     /// Closes `court-1` on 2026-05-01 at 18.
     CloseSlot,
 }
@@ -50,68 +43,74 @@ pub(crate) static FIXTURE: [Order; 8] = [
     Order::AddFacility("room-1", Kind::Room, 1, 601),
 ];
 
-fn name(text: &str) -> Option<Name> {
-    Name::read(text.as_bytes())
+fn name(rt: &impl Abort, text: &str) -> Name {
+    Name::read(text.as_bytes()).expect(rt, "a name")
 }
 
-fn add_facility(facility: &str, kind: Kind, places: u32, price: u32) -> Option<Command> {
-    Some(Command::AddFacility {
-        name: name(facility)?,
+fn root(rt: &impl Abort, bytes: &[u8]) -> Root {
+    Root::new(bytes).expect(rt, "a root")
+}
+
+pub(crate) fn moment(rt: &impl Abort, text: &str) -> Moment {
+    Moment::read(text.as_bytes()).expect(rt, "a moment")
+}
+
+fn add_facility(rt: &impl Abort, facility: &str, kind: Kind, places: u32, price: u32) -> Command {
+    Command::AddFacility {
+        name: name(rt, facility),
         kind,
         places,
         price,
         opens: 8,
         shuts: 22,
-    })
+    }
 }
 
-fn add_key(key: &str, member: &str) -> Option<Command> {
-    Some(Command::AddKey {
-        name: name(key)?,
-        member: name(member)?,
-        root: Root::new(ROOT)?,
-    })
+fn add_key(rt: &impl Abort, key: &str, member: &str) -> Command {
+    Command::AddKey {
+        name: name(rt, key),
+        member: name(rt, member),
+        root: root(rt, ROOT),
+    }
 }
 
-fn rotate_key(turn: Turn, until: &str) -> Option<Command> {
-    let bytes = match turn {
-        Turn::First => ROOT,
-        Turn::Second => SECOND_ROOT,
-        Turn::Third => THIRD_ROOT,
-    };
-    Some(Command::RotateKey {
-        name: name("amy-1")?,
-        root: Root::new(bytes)?,
-        until: Moment::read(until.as_bytes())?,
-    })
+fn rotate_key(rt: &impl Abort, bytes: &[u8], until: &str) -> Command {
+    Command::RotateKey {
+        name: name(rt, "amy-1"),
+        root: root(rt, bytes),
+        until: moment(rt, until),
+    }
 }
 
-fn close_slot() -> Option<Command> {
-    Some(Command::CloseSlot(Slot {
-        facility: name("court-1")?,
-        day: Day::read(b"2026-05-01")?,
-        hour: Hour::from_number(18)?,
-    }))
+/// The slot of `court-1` on 2026-05-01 at 18.
+pub(crate) fn slot(rt: &impl Abort) -> Slot {
+    Slot {
+        facility: name(rt, "court-1"),
+        day: Day::read(b"2026-05-01").expect(rt, "a day"),
+        hour: Hour::from_number(18).expect(rt, "an hour"),
+    }
 }
 
 impl Order {
-    pub fn command(self) -> Option<Command> {
+    pub fn command(&self, rt: &impl Abort) -> Command {
         match self {
-            Order::AddMember(member, quota) => Some(Command::AddMember {
-                name: name(member)?,
-                quota,
-            }),
-            Order::Credit(member, points) => Some(Command::Credit {
-                member: name(member)?,
-                points,
-            }),
+            Order::AddMember(member, quota) => Command::AddMember {
+                name: name(rt, member),
+                quota: *quota,
+            },
+            Order::Credit(member, points) => Command::Credit {
+                member: name(rt, member),
+                points: *points,
+            },
             Order::AddFacility(facility, kind, places, price) => {
-                add_facility(facility, kind, places, price)
+                add_facility(rt, facility, *kind, *places, *price)
             }
-            Order::AddKey(key, member) => add_key(key, member),
-            Order::RevokeKey(key) => Some(Command::RevokeKey { name: name(key)? }),
-            Order::RotateKey(turn, until) => rotate_key(turn, until),
-            Order::CloseSlot => close_slot(),
+            Order::AddKey(key, member) => add_key(rt, key, member),
+            Order::RevokeKey(key) => Command::RevokeKey {
+                name: name(rt, key),
+            },
+            Order::RotateKey(bytes, until) => rotate_key(rt, bytes, until),
+            Order::CloseSlot => Command::CloseSlot(slot(rt)),
         }
     }
 }

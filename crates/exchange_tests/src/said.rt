@@ -3,7 +3,8 @@
 use crate::office::Order;
 use crate::passes::{AMY, Texts};
 use club_gate::Fault;
-use std::alloc::{AllocError, Global};
+use std::alloc::Global;
+use std::process::Abort;
 
 pub(crate) const NOON: &str = "2026-04-20T12:00";
 
@@ -24,35 +25,36 @@ pub(crate) struct Told<'a> {
 }
 
 /// A step of a worked row.
-#[derive(Clone, Copy)]
 pub(crate) enum Step {
     /// At a moment, under a pass, this is asked, and this is told.
-    Asks(&'static str, Texts, Asked<'static>, Told<'static>),
+    Asks(&'static str, &'static Texts, &'static Asked<'static>, &'static Told<'static>),
     /// The office orders this, which is done, or refused so.
     Orders(Order, Option<Fault>),
 }
 
 impl Asked<'_> {
     /// The bytes of the request with a pass.
-    pub fn text(&self, alloc: Global, pass: &str) -> Result<String, AllocError> {
+    pub fn text(&self, rt: &(impl Abort + Alloc<A = Global>), pass: &str) -> String {
         let (line, body) = (self.line, self.body);
         let len = body.len();
-        format!(in alloc;
+        let text = format!(in rt.alloc();
             "{line} HTTP/1.1\r\nHost: club\r\nAuthorization: Bearer {pass}\r\n\
                 Content-Length: {len}\r\n\r\n{body}"
-        )
+        );
+        text.expect(rt, "memory")
     }
 }
 
 impl Told<'_> {
     /// The bytes of the reply.
-    pub fn text(&self, alloc: Global) -> Result<String, AllocError> {
+    pub fn text(&self, rt: &(impl Abort + Alloc<A = Global>)) -> String {
         let (status, field) = (self.status, self.field);
         let (len, body) = (self.len, self.body);
-        format!(in alloc;
+        let text = format!(in rt.alloc();
             "HTTP/1.1 {status}\r\nContent-Type: application/json\r\nContent-Length: {len}\r\n\
                 {field}Connection: close\r\n\r\n{body}"
-        )
+        );
+        text.expect(rt, "memory")
     }
 }
 
@@ -70,6 +72,10 @@ pub(crate) const VIEW: Asked<'static> = Asked {
 /// Bookings of that slot, under number 7.
 pub(crate) const PUT_7: &str = "PUT /slots/court-1/2026-05-01/18/bookings/7";
 
+pub(crate) const NO_GUESTS: &str = "{\"guests\":0}";
+
+pub(crate) const ONE_GUEST: &str = "{\"guests\":1}";
+
 pub(crate) const TWO_GUESTS: &str = "{\"guests\":2}";
 
 pub(crate) const BOOK_7: Asked<'static> = Asked {
@@ -80,6 +86,19 @@ pub(crate) const BOOK_7: Asked<'static> = Asked {
 pub(crate) const CANCEL_7: Asked<'static> = Asked {
     line: "DELETE /slots/court-1/2026-05-01/18/bookings/7",
     body: "",
+};
+
+/// Bookings of that slot under number 2.
+pub(crate) const PUT_2: &str = "PUT /slots/court-1/2026-05-01/18/bookings/2";
+
+pub(crate) const BOOK_2: Asked<'static> = Asked {
+    line: PUT_2,
+    body: NO_GUESTS,
+};
+
+pub(crate) const BOOK_8: Asked<'static> = Asked {
+    line: "PUT /slots/court-1/2026-05-01/18/bookings/8",
+    body: NO_GUESTS,
 };
 
 pub(crate) const BOOKED_7: Told<'static> = Told {
@@ -165,8 +184,8 @@ pub(crate) const DENIED_1: Told<'static> = Told {
 
 /// Nobody has booked, and then amy does.
 pub(crate) static NOT_YET: [Step; 4] = [
-    Step::Asks(NOON, AMY, ACCOUNT, ACCOUNT_BEFORE),
-    Step::Asks(NOON, AMY, VIEW, FREE),
-    Step::Asks(NOON, AMY, BOOK_7, BOOKED_7),
-    Step::Asks(NOON, AMY, ACCOUNT, ACCOUNT_AFTER),
+    Step::Asks(NOON, &AMY, &ACCOUNT, &ACCOUNT_BEFORE),
+    Step::Asks(NOON, &AMY, &VIEW, &FREE),
+    Step::Asks(NOON, &AMY, &BOOK_7, &BOOKED_7),
+    Step::Asks(NOON, &AMY, &ACCOUNT, &ACCOUNT_AFTER),
 ];

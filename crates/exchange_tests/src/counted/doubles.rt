@@ -18,21 +18,11 @@ pub struct Pieces<'a> {
 }
 
 impl<'a> Pieces<'a> {
-    pub fn new(bytes: &'a [u8], step: usize) -> Pieces<'a> {
+    pub fn new(bytes: &'a [u8], step: usize, fails: bool) -> Pieces<'a> {
         Pieces {
             left: bytes,
             behind_first: step.saturating_sub(1),
-            fails: false,
-            calls: 0,
-            failures: 0,
-        }
-    }
-
-    pub fn failing(bytes: &'a [u8], step: usize) -> Pieces<'a> {
-        Pieces {
-            left: bytes,
-            behind_first: step.saturating_sub(1),
-            fails: true,
+            fails,
             calls: 0,
             failures: 0,
         }
@@ -62,7 +52,7 @@ impl Inlet for Pieces<'_> {
 }
 
 /// The most bytes that a writer takes.
-const ROOM: usize = 512;
+pub const ROOM: usize = 512;
 
 /// Takes a few bytes a call; after so many it fails, or takes none.
 #[derive(Drop)]

@@ -1,7 +1,8 @@
 //! Connections, moments and a responder over memory.
 
+use crate::ends::{Giver, WHOLE};
 use club_core::{Refusal, Reply};
-use club_http::{Face, Inlet, ReadInlet, Responder, WriteOutlet};
+use club_http::{Face, ReadInlet, Responder, WriteOutlet};
 use club_values::Moment;
 use club_words::Words;
 use desk_server::{Connection, Connections, Exchange, Moments, exchange_over};
@@ -18,22 +19,12 @@ pub enum Wire<'a> {
     Whole(&'a [u8]),
 }
 
-/// Fails at each read.
-#[derive(Drop)]
-struct Failing {
-    failures: u64,
-}
-
-impl Inlet for Failing {
-    ghost use Rattle.std.specs.Prelude.{None};
-
-    ghost to_come = { λ _. None };
-
-    ghost failures = { λ reader. reader.failures };
-
-    fn fill(&mut self, _room: &mut [u8]) -> Option<usize> {
-        self.failures = self.failures.saturating_add(1);
-        None
+impl Wire<'_> {
+    fn reader(&self) -> Giver<'_> {
+        match self {
+            Wire::Whole(bytes) => Giver::ending(bytes),
+            _ => Giver::failing(b"", WHOLE),
+        }
     }
 }
 
@@ -44,17 +35,9 @@ impl Connection for Wire<'_> {
         desk: &mut D,
         moment: Moment,
     ) -> Exchange {
+        let reader = ReadInlet::new(self.reader());
         let mut writer = WriteOutlet::new(io::sink());
-        match self {
-            Wire::Whole(bytes) => {
-                let reader = ReadInlet::new(*bytes);
-                exchange_over(face, desk, moment, reader, &mut writer)
-            }
-            _ => {
-                let reader = Failing { failures: 0 };
-                exchange_over(face, desk, moment, reader, &mut writer)
-            }
-        }
+        exchange_over(face, desk, moment, reader, &mut writer)
     }
 }
 
@@ -114,19 +97,16 @@ impl Moments for Countdown {
     }
 }
 
-/// Refuses all requests for want of memory; counts them, and notes their moments.
+/// Refuses all requests for want of memory, and counts those at its moment.
 #[derive(Drop)]
 pub struct Noting {
+    moment: Moment,
     pub asked: u64,
-    pub last: Option<Moment>,
 }
 
 impl Noting {
-    pub fn new() -> Noting {
-        Noting {
-            asked: 0,
-            last: None,
-        }
+    pub fn new(moment: Moment) -> Noting {
+        Noting { moment, asked: 0 }
     }
 }
 
@@ -134,8 +114,9 @@ impl Responder for Noting {
     ghost answers = { λ _ _ _ _ _ _. Unit {0} };
 
     fn ask(&mut self, moment: Moment, _words: &Words<'_>) -> Reply {
-        self.asked = self.asked.saturating_add(1);
-        self.last = Some(moment);
+        if moment == self.moment {
+            self.asked = self.asked.saturating_add(1);
+        }
         Reply::Refused(Refusal::Unavailable)
     }
 }

@@ -1,12 +1,16 @@
-//! Logs of connections, and the lines that they are told by.
+//! Logs of connections.
 
-use super::doubles::{Countdown, Noting, Script, Wire};
-use super::{REQUEST, noon};
+use super::doubles::{Noting, Script, Wire};
+use super::{REQUEST, noon, noons};
+use crate::expect::{expect_eq, expect_told};
+use crate::office::moment;
+use crate::said::NOON;
 use club_http::Face;
-use desk_server::{ClockOutOfRange, Fixed, LogLines, RequestLine, serve_logged};
+use desk_server::{ClockOutOfRange, Log, LogLines, Moments, serve_logged};
+use std::alloc::Global;
 use std::cell::Cell;
 use std::io::{self, ErrorKind, Write};
-use std::test::Fail;
+use std::process::Abort;
 use std::time::{Clock, Duration};
 
 /// Shows 1,533 microseconds more each time.
@@ -53,7 +57,7 @@ impl Write for Broken {
     }
 }
 
-const SCRIPT: [Wire<'static>; 7] = [
+static SCRIPT: [Wire<'static>; 7] = [
     Wire::Whole(REQUEST),
     Wire::Absent,
     Wire::Broken,
@@ -72,124 +76,53 @@ const LINES: &str = "2026-04-20T12:00 GET /account 503 1533
 2026-04-20T12:00 - /account 405 1533
 ";
 
-#[test]
-fn a_line_for_each_connection(rt: HostRuntime) -> Result<(), Fail> {
-    let mut written = Vec::new(rt.alloc());
-    let clock = Ticking::new();
-    let mut log = LogLines::new(&mut written, &clock);
+/// What comes of serving with a log: the outcome, how many connections were waited for, and how
+/// many requests the desk was asked at noon.
+type Served = (Result<(), ClockOutOfRange>, u64, u64);
+
+/// The script's connections are served, with this log.
+fn served<M: Moments, G: Log>(
+    rt: &(impl Abort + Alloc<A = Global>),
+    moments: &mut M,
+    log: &mut G,
+) -> Served {
     let mut connections = Script::new(&SCRIPT);
-    let mut moments = Fixed { moment: noon()? };
-    let mut face = Face::new(rt.alloc())?;
-    let mut desk = Noting::new();
-    let outcome = serve_logged(
-        &mut connections,
-        7,
-        &mut moments,
-        &mut face,
-        &mut desk,
-        &mut log,
-    );
-    drop(log);
-    assert!(rt; outcome.is_ok());
-    let told = str::from_utf8(&written).unwrap_or("no text");
-    assert_eq!(rt; told, LINES);
-    Ok(())
+    let mut face = Face::new(rt.alloc()).expect(rt, "a face");
+    let mut desk = Noting::new(moment(rt, NOON));
+    let outcome = serve_logged(&mut connections, 7, moments, &mut face, &mut desk, log);
+    (outcome, connections.waited, desk.asked)
+}
+
+/// The same, with the lines written here.
+fn logged<M: Moments, W: Write>(
+    rt: &(impl Abort + Alloc<A = Global>),
+    moments: &mut M,
+    writer: &mut W,
+) -> Served {
+    let clock = Ticking::new();
+    let mut log = LogLines::new(writer, &clock);
+    served(rt, moments, &mut log)
 }
 
 #[test]
-fn a_line_for_a_connection_without_a_moment(rt: HostRuntime) -> Result<(), Fail> {
+fn a_line_for_each_connection(rt: HostRuntime) {
     let mut written = Vec::new(rt.alloc());
-    let clock = Ticking::new();
-    let mut log = LogLines::new(&mut written, &clock);
-    let mut connections = Script::new(&SCRIPT);
-    let mut moments = Countdown::new(noon()?, 0);
-    let mut face = Face::new(rt.alloc())?;
-    let mut desk = Noting::new();
-    let outcome = serve_logged(
-        &mut connections,
-        7,
-        &mut moments,
-        &mut face,
-        &mut desk,
-        &mut log,
-    );
-    drop(log);
-    assert!(rt; outcome == Err(ClockOutOfRange));
-    let told = str::from_utf8(&written).unwrap_or("no text");
-    assert_eq!(rt; told, "- - - - 1533\n");
-    Ok(())
+    let told = logged(&rt, &mut noon(&rt), &mut written);
+    expect_eq(&rt, &told, &(Ok(()), 7, 1));
+    expect_told(&rt, &written, LINES.as_bytes(), "the script");
+}
+
+#[test]
+fn a_line_for_a_connection_without_a_moment(rt: HostRuntime) {
+    let mut written = Vec::new(rt.alloc());
+    let told = logged(&rt, &mut noons(&rt, 0), &mut written);
+    expect_eq(&rt, &told, &(Err(ClockOutOfRange), 1, 0));
+    expect_told(&rt, &written, b"- - - - 1533\n", "no moment");
 }
 
 // What is served is the same.
 #[test]
-fn a_log_that_fails(rt: HostRuntime) -> Result<(), Fail> {
-    let clock = Ticking::new();
-    let mut broken = Broken;
-    let mut log = LogLines::new(&mut broken, &clock);
-    let mut connections = Script::new(&SCRIPT);
-    let mut moments = Fixed { moment: noon()? };
-    let mut face = Face::new(rt.alloc())?;
-    let mut desk = Noting::new();
-    let outcome = serve_logged(
-        &mut connections,
-        7,
-        &mut moments,
-        &mut face,
-        &mut desk,
-        &mut log,
-    );
-    assert!(rt; outcome.is_ok());
-    assert_eq!(rt; connections.waited, 7);
-    assert_eq!(rt; desk.asked, 1);
-    Ok(())
-}
-
-#[test]
-fn request_lines(rt: HostRuntime) {
-    for (read, method, path) in [
-        (
-            b"GET /account HTTP/1.1\r\n".as_slice(),
-            Some("GET"),
-            Some("/account"),
-        ),
-        (
-            b"DELETE /a/2026-05-01 ".as_slice(),
-            Some("DELETE"),
-            Some("/a/2026-05-01"),
-        ),
-        (b"OPTIONS * HTTP/1.1".as_slice(), Some("OPTIONS"), None),
-        (b"PROPFIND / HTTP/1.1".as_slice(), None, Some("/")),
-        (b"GET /account".as_slice(), None, None),
-        (b"GET  HTTP/1.1".as_slice(), Some("GET"), None),
-        (b" / HTTP/1.1".as_slice(), None, Some("/")),
-        (b"get /a?b HTTP/1.1".as_slice(), None, None),
-        (b"".as_slice(), None, None),
-    ] {
-        let mut line = RequestLine::new();
-        for byte in read {
-            line.keep(&[*byte]);
-        }
-        assert_eq!(rt; line.method(), method);
-        assert_eq!(rt; line.path(), path);
-    }
-}
-
-// The longest request line of the desk is told, and bytes behind the room are left out.
-#[test]
-fn long_request_lines(rt: HostRuntime) {
-    let longest =
-        b"DELETE /slots/abcdefghijklmnopqrstuvwx/2026-05-01/18/bookings/999999999 HTTP/1.1\r\n";
-    let mut line = RequestLine::new();
-    line.keep(longest);
-    line.keep(&[b'a'; 96]);
-    assert_eq!(rt; line.method(), Some("DELETE"));
-    assert_eq!(rt;
-        line.path(),
-        Some("/slots/abcdefghijklmnopqrstuvwx/2026-05-01/18/bookings/999999999")
-    );
-    let mut line = RequestLine::new();
-    line.keep(b"GET /");
-    line.keep(&[b'a'; 96]);
-    line.keep(b" HTTP/1.1");
-    assert_eq!(rt; line.path(), None);
+fn a_log_that_fails(rt: HostRuntime) {
+    let told = logged(&rt, &mut noon(&rt), &mut Broken);
+    expect_eq(&rt, &told, &(Ok(()), 7, 1));
 }
