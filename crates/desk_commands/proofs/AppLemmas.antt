@@ -1,5 +1,6 @@
 -- Lemmas on commands with their words.
-use Rattle.std.proofs.Common.{◌≡◌, ◌∙◌, ℕ, ◌+◌, ◌<◌, ◌≤◌, Bool, false, ◌||◌, List, [], ◌∷◌, length, map, drop, ap, ap₂, sym, add-one, drop-cons, arith}
+use Rattle.std.proofs.Common.{◌≡◌, ◌∙◌, ℕ, ◌+◌, ◌<◌, ◌≤◌, Bool, false, ◌||◌, List, [], ◌∷◌, length, map, drop, Result, Ok, Err, ap, ap₂, sym, add-one, drop-cons, arith}
+use Rattle.std.specs.Prelude.{IfOk, IsOkAnd}
 use Rattle.std.proofs.Math.Seq.{drop-length}
 use Rattle.std.specs.Borrow.{Bor}
 use Rattle.std.specs.List.{slice_index_or}
@@ -20,6 +21,12 @@ pub subcommand_added : (old sub new : Command) (app below : App) → app_of old 
     → AddsSubcommand old sub new → app_of new ≡ with_subcommand app below.top
 subcommand_added old sub new app below before made added =
     added.shape made.local ∙ ap₂ with_subcommand before (ap (λ (a : App). a.top) made.app_is)
+
+-- the same of a command that could be made, since there is a program with it
+pub command_added : {E : Type 0} (old : Command) (command : Result Command E) (new : Command) (app below : App) → app_of old ≡ app
+    → IfOk command (IsMade below) → IsOkAnd command (λ added. AddsSubcommand old added new) → app_of new ≡ with_subcommand app below.top
+command_added old (Ok command) new app below before made added = subcommand_added old command new app below before made added
+command_added old (Err _) new app below before made added = absurd added
 
 abbrev pub texts : List (Bor Text) → List Text
 texts = map (λ text. text.now)

@@ -38,6 +38,15 @@ form_option = with_default (codes "v2") (option_named (codes "form"))
 abbrev pub zone_option : Rule
 zone_option = with_default (codes "UTC0") (option_named (codes "zone"))
 
+abbrev pub port_option : Rule
+port_option = required (option_named (codes "port"))
+
+abbrev pub count_option : Rule
+count_option = required (option_named (codes "count"))
+
+abbrev pub at_option : Rule
+at_option = option_named (codes "at")
+
 -- `--log`
 abbrev pub log_flag : Rule
 log_flag = record (new_rule (codes "log")) { long = Some (codes "log"); action = Some SetTrue }
@@ -75,8 +84,7 @@ sheet_command = command_of_words (codes "sheet") (codes "FILE" ∷ codes "DAY" �
 abbrev pub serve_command : App
 serve_command =
     with_rule (with_rule (with_rule (with_rule (with_rule (command_of_words (codes "serve") (codes "FILE" ∷ []))
-    (required (option_named (codes "port")))) (required (option_named (codes "count"))))
-    zone_option) (option_named (codes "at"))) log_flag
+    port_option) count_option) zone_option) at_option) log_flag
 
 abbrev pub with_commands : App → List App → App
 with_commands app [] = app

@@ -8,7 +8,7 @@ ghost use Rattle.desk_commands.specs.Fault.{IsOfWords};
 use crate::fault::Fault;
 use clap::error::ErrorKind;
 use clap::{Arg, ArgAction, Command};
-use pass_commands::VERSION;
+use pass_commands::{VERSION, with_command};
 use std::alloc::{AllocError, Global};
 
 const STATUSES: &str = "Exit status:
@@ -73,10 +73,10 @@ Example:
 pub fn make_application<'a>(alloc: Global) -> Result<Command<'a>, AllocError>
     ensures { IfOk result (λ made. app_of made ≡ spec.application) }
 {
-    let top = make_top(alloc);
-    let office = with_office(alloc, top)?;
-    let keys = with_keys(alloc, office)?;
-    with_days(alloc, keys)
+    let app = make_top(alloc);
+    let app = with_office(alloc, app)?;
+    let app = with_keys(alloc, app)?;
+    with_days(alloc, app)
 }
 
 /// A fault of the words that `clap` didn't find, with the usage.
@@ -113,12 +113,9 @@ fn with_office<'a>(alloc: Global, app: Command<'a>) -> Result<Command<'a>, Alloc
     ensures { IfOk result (λ made. app_of made ≡ spec.with_commands (app_of app.entry)
         (spec.add_member_command ∷ spec.credit_command ∷ spec.add_facility_command ∷ [])) }
 {
-    let add_member = make_add_member(alloc)?;
-    let credit = make_credit(alloc)?;
-    let add_facility = make_add_facility(alloc)?;
-    app.subcommand(add_member)?
-        .subcommand(credit)?
-        .subcommand(add_facility)
+    let app = with_command(app, make_add_member(alloc))?;
+    let app = with_command(app, make_credit(alloc))?;
+    with_command(app, make_add_facility(alloc))
 }
 
 // The commands on keys.
@@ -126,12 +123,9 @@ fn with_keys<'a>(alloc: Global, app: Command<'a>) -> Result<Command<'a>, AllocEr
     ensures { IfOk result (λ made. app_of made ≡ spec.with_commands (app_of app.entry)
         (spec.add_key_command ∷ spec.revoke_key_command ∷ spec.rotate_key_command ∷ [])) }
 {
-    let add_key = make_add_key(alloc)?;
-    let revoke_key = make_revoke_key(alloc)?;
-    let rotate_key = make_rotate_key(alloc)?;
-    app.subcommand(add_key)?
-        .subcommand(revoke_key)?
-        .subcommand(rotate_key)
+    let app = with_command(app, make_add_key(alloc))?;
+    let app = with_command(app, make_revoke_key(alloc))?;
+    with_command(app, make_rotate_key(alloc))
 }
 
 // The commands on days, and the server.
@@ -139,12 +133,9 @@ fn with_days<'a>(alloc: Global, app: Command<'a>) -> Result<Command<'a>, AllocEr
     ensures { IfOk result (λ made. app_of made ≡ spec.with_commands (app_of app.entry)
         (spec.close_slot_command ∷ spec.sheet_command ∷ spec.serve_command ∷ [])) }
 {
-    let close_slot = make_close_slot(alloc)?;
-    let sheet = make_sheet(alloc)?;
-    let serve = make_serve(alloc)?;
-    app.subcommand(close_slot)?
-        .subcommand(sheet)?
-        .subcommand(serve)
+    let app = with_command(app, make_close_slot(alloc))?;
+    let app = with_command(app, make_sheet(alloc))?;
+    with_command(app, make_serve(alloc))
 }
 
 fn make_add_member<'a>(alloc: Global) -> Result<Command<'a>, AllocError>
@@ -249,15 +240,6 @@ fn make_sheet<'a>(alloc: Global) -> Result<Command<'a>, AllocError>
 fn make_serve<'a>(alloc: Global) -> Result<Command<'a>, AllocError>
     ensures { IfOk result (spec.IsMade spec.serve_command) }
 {
-    let port = make_option(
-        alloc,
-        "port",
-        "P",
-        "The port, to 65535; 0 for any that is free",
-    );
-    let count = make_option(alloc, "count", "N", "How many connections, 1 to 1000000");
-    let zone = make_option(alloc, "zone", "RULE", "The clock's zone, a POSIX rule");
-    let at = make_option(alloc, "at", "MOMENT", "One moment for all connections");
     make_command(
         alloc,
         "serve",
@@ -265,10 +247,10 @@ fn make_serve<'a>(alloc: Global) -> Result<Command<'a>, AllocError>
         SERVE_HELP,
         &["FILE"],
     )?
-    .arg(port.required(true))?
-    .arg(count.required(true))?
-    .arg(zone.default_value("UTC0"))?
-    .arg(at)?
+    .arg(make_port(alloc))?
+    .arg(make_count(alloc))?
+    .arg(make_zone(alloc))?
+    .arg(make_at(alloc))?
     .arg(make_log(alloc))
 }
 
@@ -318,6 +300,35 @@ fn make_option<'a>(alloc: Global, name: &'a str, value: &'a str, help: &'a str) 
         .long(name)
         .value_name(value)
         .help(help)
+}
+
+fn make_port<'a>(alloc: Global) -> Arg<'a>
+    ensures rule { rule_of result ≡ spec.port_option }
+    ensures local { result.global ≡ false }
+{
+    let help = "The port, to 65535; 0 for any that is free";
+    make_option(alloc, "port", "P", help).required(true)
+}
+
+fn make_count<'a>(alloc: Global) -> Arg<'a>
+    ensures rule { rule_of result ≡ spec.count_option }
+    ensures local { result.global ≡ false }
+{
+    make_option(alloc, "count", "N", "How many connections, 1 to 1000000").required(true)
+}
+
+fn make_zone<'a>(alloc: Global) -> Arg<'a>
+    ensures rule { rule_of result ≡ spec.zone_option }
+    ensures local { result.global ≡ false }
+{
+    make_option(alloc, "zone", "RULE", "The clock's zone, a POSIX rule").default_value("UTC0")
+}
+
+fn make_at<'a>(alloc: Global) -> Arg<'a>
+    ensures rule { rule_of result ≡ spec.at_option }
+    ensures local { result.global ≡ false }
+{
+    make_option(alloc, "at", "MOMENT", "One moment for all connections")
 }
 
 fn make_log<'a>(alloc: Global) -> Arg<'a>

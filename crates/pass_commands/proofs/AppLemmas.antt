@@ -1,5 +1,6 @@
 -- Lemmas on commands with their options.
-use Rattle.std.proofs.Common.{◌≡◌, ◌∙◌, Bool, false, ◌||◌, ap, ap₂}
+use Rattle.std.proofs.Common.{◌≡◌, ◌∙◌, Bool, false, ◌||◌, Result, Ok, Err, ap, ap₂}
+use Rattle.std.specs.Prelude.{IfOk, IsOkAnd}
 use Rattle.clap.specs.Words.{AddsArg, AddsSubcommand, App, Rule, app_of, rule_of, with_rule, with_subcommand}
 use Rattle.clap.specs.declared.builder.arg.Arg.{Arg}
 use Rattle.clap.specs.declared.builder.command.Command.{Command}
@@ -16,3 +17,9 @@ pub subcommand_added : (old sub new : Command) (app below : App) → app_of old 
     → AddsSubcommand old sub new → app_of new ≡ with_subcommand app below.top
 subcommand_added old sub new app below before made added =
     added.shape made.local ∙ ap₂ with_subcommand before (ap (λ (a : App). a.top) made.app_is)
+
+-- the same of a command that could be made, since there is a program with it
+pub command_added : {E : Type 0} (old : Command) (command : Result Command E) (new : Command) (app below : App) → app_of old ≡ app
+    → IfOk command (IsMade below) → IsOkAnd command (λ added. AddsSubcommand old added new) → app_of new ≡ with_subcommand app below.top
+command_added old (Ok command) new app below before made added = subcommand_added old command new app below before made added
+command_added old (Err _) new app below before made added = absurd added

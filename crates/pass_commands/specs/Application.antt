@@ -64,11 +64,14 @@ verify_command = with_rule (new_app (codes "verify")) root_option
 abbrev pub as_program : Shape → Shape
 as_program top = record top { has_version = true; subcommand_required = true }
 
+-- the program before its commands
+abbrev pub top : App
+top = on_top as_program (new_app (codes "passtool"))
+
 -- `passtool COMMAND`
 unfoldable pub application : App
 application =
-    with_subcommand (with_subcommand (with_subcommand (with_subcommand (with_subcommand
-    (on_top as_program (new_app (codes "passtool")))
+    with_subcommand (with_subcommand (with_subcommand (with_subcommand (with_subcommand top
     mint_command.top) show_command.top) narrow_command.top) convert_command.top) verify_command.top
 
 -- the command is of this application, and none of its options is global

@@ -1,7 +1,7 @@
 //! The commands and their options, with what help shows of them.
 
-ghost use Rattle.std.specs.Prelude.{◌≡◌, IfOk, false};
-ghost use Rattle.clap.specs.Words.{app_of, kind_of, rule_of};
+ghost use Rattle.std.specs.Prelude.{◌≡◌, IfOk, IsOkAnd, false};
+ghost use Rattle.clap.specs.Words.{AddsSubcommand, app_of, kind_of, rule_of};
 ghost use Rattle.pass_commands.specs.Application as spec;
 ghost use Rattle.pass_commands.specs.Fault.{IsOfWords};
 
@@ -49,21 +49,12 @@ Example:
 pub fn make_application<'a>(alloc: Global) -> Result<Command<'a>, AllocError>
     ensures { IfOk result (λ made. app_of made ≡ spec.application) }
 {
-    let mint = make_mint(alloc)?;
-    let show = make_show(alloc);
-    let narrow = make_narrow(alloc)?;
-    let convert = make_convert(alloc)?;
-    let verify = make_verify(alloc)?;
-    Command::new(alloc, "passtool")
-        .version(VERSION)
-        .about("Passes on the command line")
-        .after_long_help(STATUSES)
-        .subcommand_required(true)
-        .subcommand(mint)?
-        .subcommand(show)?
-        .subcommand(narrow)?
-        .subcommand(convert)?
-        .subcommand(verify)
+    let app = make_top(alloc);
+    let app = with_command(app, make_mint(alloc))?;
+    let app = with_command(app, Ok(make_show(alloc)))?;
+    let app = with_command(app, make_narrow(alloc))?;
+    let app = with_command(app, make_convert(alloc))?;
+    with_command(app, make_verify(alloc))
 }
 
 /// A fault of the words that `clap` didn't find, with the usage.
@@ -82,6 +73,32 @@ pub fn not_text(alloc: Global) -> Fault
         Ok(error) => Fault::Words(error),
         Err(_) => Fault::Memory,
     }
+}
+
+// The program before its commands.
+fn make_top<'a>(alloc: Global) -> Command<'a>
+    ensures { app_of result ≡ spec.top }
+{
+    Command::new(alloc, "passtool")
+        .version(VERSION)
+        .about("Passes on the command line")
+        .after_long_help(STATUSES)
+        .subcommand_required(true)
+}
+
+/// The program with one more command, where that could be made.
+///
+/// # Errors
+///
+/// `AllocError` where memory is refused, here or to the command.
+pub fn with_command<'a>(
+    app: Command<'a>,
+    command: Result<Command<'a>, AllocError>,
+) -> Result<Command<'a>, AllocError>
+    ensures { IfOk result (λ made.
+        IsOkAnd command.entry (λ added. AddsSubcommand app.entry added made)) }
+{
+    app.subcommand(command?)
 }
 
 fn make_mint<'a>(alloc: Global) -> Result<Command<'a>, AllocError>

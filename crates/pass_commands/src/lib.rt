@@ -19,7 +19,7 @@ mod tool;
 mod verify;
 
 pub use answer::{Fault, Outcome};
-pub use application::{VERSION, not_text};
+pub use application::{VERSION, not_text, with_command};
 pub use form_names::{form_name, form_named};
 pub use options::value_of;
 pub use output::write_text;

@@ -7,6 +7,6 @@ use Rattle.desk_commands.proofs.application.make_application.Goals as goal
 pub returns : goal.returns
 unfolding application
 returns c =
-    let one = c.in_ok-office.ensures ∙ ap (λ app. with_commands app office) c.make_top-top.ensures in
-    let two = c.in_ok-keys.ensures ∙ ap (λ app. with_commands app keys) one in
+    let one = c.in_ok-app.ensures ∙ ap (λ app. with_commands app office) c.make_top-app.ensures in
+    let two = c.in_ok-app-2.ensures ∙ ap (λ app. with_commands app keys) one in
     IfOk-weaker c.with_days.result _ _ (λ made is. is ∙ ap (λ app. with_commands app days) two) c.with_days.ensures
