@@ -1,276 +1,276 @@
-//! Caveats: which are understood, and what they allow.
+//! Caveats: what they allow.
 
-use crate::calls::{
-    answer, day_numbered, fault_at, first_fault, is_understood, read_day, read_hour, read_moment,
-    read_name,
-};
-use crate::expect::expect_eq;
-use pass_caveats::{Action, Ask, CaveatFault, Hour, Kind, Slot};
-use std::alloc::{AllocError, Global};
+use crate::calls::{answer, day_numbered, fault_at, first_fault, hour_numbered};
+use crate::rows::{expect_eq, moment, slot};
+use pass_caveats::{Action, Ask, CaveatFault, Kind};
 use std::process::Abort;
-use std::test::*;
 
 /// A request to book `court-1` on 2026-05-01 at 18 for two guests, made on 2026-04-20 at noon, of a
 /// key that has spent nothing.
-fn booking() -> Option<Ask> {
-    Some(Ask {
+fn booking(rt: &impl Abort) -> Ask {
+    Ask {
         action: Action::Book,
-        slot: Some(Slot {
-            facility: read_name(b"court-1")?,
-            day: read_day(b"2026-05-01")?,
-            hour: read_hour(b"18")?,
-        }),
+        slot: Some(slot(rt)),
         kind: Some(Kind::Court),
         guests: 2,
-        moment: read_moment(b"2026-04-20T12:00")?,
+        moment: moment(rt, b"2026-04-20T12:00"),
         owed: 600,
         spent: 0,
-    })
+    }
 }
 
-fn account() -> Option<Ask> {
-    let mut ask = booking()?;
-    ask.action = Action::Account;
-    ask.slot = None;
-    ask.kind = None;
-    ask.owed = 0;
-    Some(ask)
+fn account(rt: &impl Abort) -> Ask {
+    Ask {
+        action: Action::Account,
+        slot: None,
+        kind: None,
+        guests: 2,
+        moment: moment(rt, b"2026-04-20T12:00"),
+        owed: 0,
+        spent: 0,
+    }
+}
+
+/// The request of a key that has spent so much.
+fn spent(mut ask: Ask, spent: u64) -> Ask {
+    ask.spent = spent;
+    ask
+}
+
+/// The booking, made at another moment.
+fn made_at(rt: &impl Abort, text: &[u8]) -> Ask {
+    let mut ask = booking(rt);
+    ask.moment = moment(rt, text);
+    ask
 }
 
 /// The booking, with the slot at another hour.
-fn booking_at(hour: u8) -> Option<Ask> {
-    let mut ask = booking()?;
-    let mut slot = ask.slot?;
-    slot.hour = Hour::from_number(hour)?;
+fn booking_at(rt: &impl Abort, hour: u8) -> Ask {
+    let mut slot = slot(rt);
+    slot.hour = hour_numbered(hour).expect(rt, "an hour");
+    let mut ask = booking(rt);
     ask.slot = Some(slot);
-    Some(ask)
+    ask
 }
 
 /// The booking, with the slot on another day.
-fn booking_on(day: u16) -> Option<Ask> {
-    let mut ask = booking()?;
-    let mut slot = ask.slot?;
-    slot.day = day_numbered(day)?;
+fn booking_on(rt: &impl Abort, day: u16) -> Ask {
+    let mut slot = slot(rt);
+    slot.day = day_numbered(day).expect(rt, "a day");
+    let mut ask = booking(rt);
     ask.slot = Some(slot);
-    Some(ask)
+    ask
 }
 
-#[test]
-fn bookings(rt: HostRuntime) -> Result<(), Fail> {
-    let ask = booking().ok_or("a request")?;
-    let cases = [
-        ("facility = court-1", Some(true)),
-        ("facility = court-1,court-1", Some(true)),
-        ("facility = room-1,court-2", Some(false)),
-        ("kind = court", Some(true)),
-        ("kind = room", Some(false)),
-        ("hours = 18-19", Some(true)),
-        ("hours = 19-24", Some(false)),
-        ("hours = 08-18", Some(false)),
-        ("days = 2026-05-01..2026-05-01", Some(true)),
-        ("days = 2026-04-01..2026-04-30", Some(false)),
-        ("days = 2026-05-02..2026-05-31", Some(false)),
-        ("until < 2026-04-20T12:01", Some(true)),
-        ("until < 2026-04-20T12:00", Some(false)),
-        ("guests <= 2", Some(true)),
-        ("guests <= 1", Some(false)),
-        ("spend <= 600", Some(true)),
-        ("spend <= 599", Some(false)),
-        ("actions = view,book", Some(true)),
-        ("actions = view,cancel,account", Some(false)),
-    ];
-    for (text, want) in cases {
-        assert_eq!(rt; answer(text, &ask), want, "{text}");
-    }
-    Ok(())
-}
-
-#[test]
-fn hours_and_moments(rt: HostRuntime) -> Result<(), Fail> {
-    for (text, hour, want) in [
-        ("hours = 18-20", 17, false),
-        ("hours = 18-20", 18, true),
-        ("hours = 18-20", 19, true),
-        ("hours = 18-20", 20, false),
-        ("hours = 00-24", 0, true),
-        ("hours = 00-24", 23, true),
-    ] {
-        let ask = booking_at(hour).ok_or("a request")?;
-        assert_eq!(rt; answer(text, &ask), Some(want), "{text} at {hour}");
-    }
-    let mut ask = booking().ok_or("a request")?;
-    ask.moment = read_moment(b"2026-05-01T17:59").ok_or("a moment")?;
-    expect_eq(&rt, &answer("until < 2026-05-01T18:00", &ask), &Some(true));
-    ask.moment = read_moment(b"2026-05-01T18:00").ok_or("a moment")?;
-    expect_eq(&rt, &answer("until < 2026-05-01T18:00", &ask), &Some(false));
-    Ok(())
-}
-
-#[test]
-fn days_and_weekdays(rt: HostRuntime) -> Result<(), Fail> {
-    for (text, day, want) in [
-        ("days = 2026-05-01..2026-05-01", 20_574, true),
-        ("days = 2026-05-01..2026-05-01", 20_575, false),
-        ("weekday = fri", 20_574, true),
-        ("weekday = fri", 20_575, false),
-        ("weekday = mon,tue,wed,thu,sat,sun", 20_574, false),
-        ("weekday = mon,tue,wed,thu,sat,sun", 20_575, true),
-        ("weekday = sun", 20_576, true),
-        ("weekday = mon", 20_577, true),
-        ("weekday = mon,tue,wed,thu,fri,sat,sun", 10_957, true),
-    ] {
-        let ask = booking_on(day).ok_or("a request")?;
-        assert_eq!(rt; answer(text, &ask), Some(want), "{text} on {day}");
-    }
-    let account = account().ok_or("a request")?;
-    let every_day = "weekday = mon,tue,wed,thu,fri,sat,sun";
-    expect_eq(&rt, &answer(every_day, &account), &Some(false));
-    for text in [
-        "weekday = tue,mon",
-        "weekday = mon,mon",
-        "weekday = Fri",
-        "weekday = ",
-        "weekday = fri,",
-        "weekday = fri, sat",
-        "weekday = friday",
-        "weekdays = fri",
-    ] {
-        assert!(rt; !is_understood(text), "{text}");
-    }
-    Ok(())
-}
-
-#[test]
-fn other_requests(rt: HostRuntime) -> Result<(), Fail> {
-    let mut ask = account().ok_or("a request")?;
-    for text in [
-        "facility = court-1",
-        "kind = court",
-        "hours = 00-24",
-        "days = 2000-01-01..2099-12-31",
-        "actions = view",
-    ] {
-        assert_eq!(rt; answer(text, &ask), Some(false), "{text}");
-    }
-    ask.spent = 700;
-    for text in [
-        "spend <= 600",
-        "spend <= 0",
-        "actions = account",
-        "guests <= 49",
-    ] {
-        assert_eq!(rt; answer(text, &ask), Some(true), "{text}");
-    }
-    let mut ask = booking().ok_or("a request")?;
+/// The booking, of no kind and of a key that has spent so much.
+fn of_no_kind(rt: &impl Abort, spent: u64) -> Ask {
+    let mut ask = booking(rt);
     ask.kind = None;
-    expect_eq(&rt, &answer("kind = court", &ask), &Some(false));
-    ask.spent = 1;
-    expect_eq(&rt, &answer("spend <= 600", &ask), &Some(false));
-    ask.spent = u64::MAX;
-    expect_eq(&rt, &answer("spend <= 999999999", &ask), &Some(false));
-    Ok(())
+    ask.spent = spent;
+    ask
 }
 
+// Caveats, and whether they allow a request.
+type Row = (&'static str, bool);
+
+fn allow(rt: &impl Abort, ask: &Ask, rows: &[Row]) {
+    for (text, want) in rows {
+        expect_eq(rt, &answer(text, ask), &Some(*want), text);
+    }
+}
+
+static OF_THE_BOOKING: [Row; 19] = [
+    ("facility = court-1", true),
+    ("facility = court-1,court-1", true),
+    ("facility = room-1,court-2", false),
+    ("kind = court", true),
+    ("kind = room", false),
+    ("hours = 18-19", true),
+    ("hours = 19-24", false),
+    ("hours = 08-18", false),
+    ("days = 2026-05-01..2026-05-01", true),
+    ("days = 2026-04-01..2026-04-30", false),
+    ("days = 2026-05-02..2026-05-31", false),
+    ("until < 2026-04-20T12:01", true),
+    ("until < 2026-04-20T12:00", false),
+    ("guests <= 2", true),
+    ("guests <= 1", false),
+    ("spend <= 600", true),
+    ("spend <= 599", false),
+    ("actions = view,book", true),
+    ("actions = view,cancel,account", false),
+];
+
 #[test]
-fn bounds(rt: HostRuntime) {
-    let cases = [
-        ("hours = 23-24", true),
-        ("hours = 23-25", false),
-        ("hours = 20-18", false),
-        ("hours = 18-18", false),
-        ("hours = 8-10", false),
-        ("hours =  18-20", false),
-        ("guests <= 0", true),
-        ("guests <= 49", true),
-        ("guests <= 50", false),
-        ("guests <= 01", false),
-        ("guests <= +1", false),
-        ("guests <= ", false),
-        ("spend <= 0", true),
-        ("spend <= 999999999", true),
-        ("spend <= 1000000000", false),
-        ("days = 2026-02-29..2026-03-01", false),
-        ("days = 2026-05-02..2026-05-01", false),
-        ("days = 2026-05-01", false),
-        ("until < 2099-12-31T23:59", true),
-        ("until < 2026-05-01T24:00", false),
-        ("until <= 2026-05-01T18:00", false),
-    ];
-    for (text, want) in cases {
-        assert_eq!(rt; is_understood(text), want, "{text}");
+fn bookings(rt: HostRuntime) {
+    allow(&rt, &booking(&rt), &OF_THE_BOOKING);
+}
+
+static HOURS: [(&str, u8, bool); 6] = [
+    ("hours = 18-20", 17, false),
+    ("hours = 18-20", 18, true),
+    ("hours = 18-20", 19, true),
+    ("hours = 18-20", 20, false),
+    ("hours = 00-24", 0, true),
+    ("hours = 00-24", 23, true),
+];
+
+fn allow_at(rt: &impl Abort, rows: &[(&'static str, u8, bool)]) {
+    for (text, hour, want) in rows {
+        let told = answer(text, &booking_at(rt, *hour));
+        expect_eq(rt, &told, &Some(*want), hour);
+    }
+}
+
+static BEFORE_18: [Row; 1] = [("until < 2026-05-01T18:00", true)];
+
+static AT_18: [Row; 1] = [("until < 2026-05-01T18:00", false)];
+
+#[test]
+fn hours_and_moments(rt: HostRuntime) {
+    allow_at(&rt, &HOURS);
+    allow(&rt, &made_at(&rt, b"2026-05-01T17:59"), &BEFORE_18);
+    allow(&rt, &made_at(&rt, b"2026-05-01T18:00"), &AT_18);
+}
+
+static DAYS: [(&str, u16, bool); 9] = [
+    ("days = 2026-05-01..2026-05-01", 20_574, true),
+    ("days = 2026-05-01..2026-05-01", 20_575, false),
+    ("weekday = fri", 20_574, true),
+    ("weekday = fri", 20_575, false),
+    ("weekday = mon,tue,wed,thu,sat,sun", 20_574, false),
+    ("weekday = mon,tue,wed,thu,sat,sun", 20_575, true),
+    ("weekday = sun", 20_576, true),
+    ("weekday = mon", 20_577, true),
+    ("weekday = mon,tue,wed,thu,fri,sat,sun", 10_957, true),
+];
+
+fn allow_on(rt: &impl Abort, rows: &[(&'static str, u16, bool)]) {
+    for (text, day, want) in rows {
+        let told = answer(text, &booking_on(rt, *day));
+        expect_eq(rt, &told, &Some(*want), day);
     }
 }
 
 #[test]
-fn lists(rt: HostRuntime) {
-    let cases = [
-        ("facility = a,b,c,d,e,f,g,h", true),
-        ("facility = a,b,c,d,e,f,g,h,i", false),
-        ("facility = ", false),
-        ("facility = a,", false),
-        ("facility = a, b", false),
-        ("actions = account", true),
-        ("actions = view,book,cancel,account", true),
-        ("actions = book,view", false),
-        ("actions = view,view", false),
-        ("actions = view,", false),
-        ("actions = ", false),
-        ("kind = Court", false),
-        ("", false),
-        ("shoe = red", false),
-        ("kind = court\n", false),
-        ("kind = caf\u{e9}", false),
-    ];
-    for (text, want) in cases {
-        assert_eq!(rt; is_understood(text), want, "{text}");
-    }
+fn days_and_weekdays(rt: HostRuntime) {
+    allow_on(&rt, &DAYS);
 }
 
-fn texts(alloc: Global, lines: &[&str]) -> Result<Vec<Vec<u8>>, AllocError> {
-    let mut texts = Vec::new(alloc);
+static OF_THE_ACCOUNT: [Row; 6] = [
+    ("facility = court-1", false),
+    ("kind = court", false),
+    ("hours = 00-24", false),
+    ("days = 2000-01-01..2099-12-31", false),
+    ("weekday = mon,tue,wed,thu,fri,sat,sun", false),
+    ("actions = view", false),
+];
+
+static OF_A_SPENT_ACCOUNT: [Row; 4] = [
+    ("spend <= 600", true),
+    ("spend <= 0", true),
+    ("actions = account", true),
+    ("guests <= 49", true),
+];
+
+#[test]
+fn requests_for_the_account(rt: HostRuntime) {
+    let account = account(&rt);
+    allow(&rt, &account, &OF_THE_ACCOUNT);
+    allow(&rt, &spent(account, 700), &OF_A_SPENT_ACCOUNT);
+}
+
+static OF_NO_KIND: [Row; 1] = [("kind = court", false)];
+
+static AFTER_1: [Row; 1] = [("spend <= 600", false)];
+
+static AFTER_ALL: [Row; 1] = [("spend <= 999999999", false)];
+
+#[test]
+fn bookings_of_no_kind(rt: HostRuntime) {
+    allow(&rt, &of_no_kind(&rt, 0), &OF_NO_KIND);
+    allow(&rt, &of_no_kind(&rt, 1), &AFTER_1);
+    allow(&rt, &of_no_kind(&rt, u64::MAX), &AFTER_ALL);
+}
+
+/// The booking for so many guests.
+fn booking_for(rt: &impl Abort, guests: u8) -> Ask {
+    let mut ask = booking(rt);
+    ask.guests = guests;
+    ask
+}
+
+fn texts(rt: &(impl Abort + AllocGlobal), lines: &[&str]) -> Vec<Vec<u8>> {
+    let mut texts = Vec::new(rt.alloc());
     for line in lines {
-        texts.push(Vec::from_slice(alloc, line.as_bytes())?)?;
+        let text = Vec::from_slice(rt.alloc(), line.as_bytes()).expect(rt, "memory");
+        texts.push(text).expect(rt, "memory");
     }
-    Ok(texts)
+    texts
 }
 
-fn expect_first(
-    rt: &(impl Abort + AllocGlobal),
-    lines: &[&str],
-    ask: &Ask,
-    want: Option<CaveatFault>,
-) -> Result<(), AllocError> {
-    let pass = texts(rt.alloc(), lines)?;
-    expect_eq(rt, &first_fault(&pass, ask), &want);
-    Ok(())
+// The guests of a booking, the caveats of its pass and what refuses it.
+type First = (u8, &'static [&'static str], Option<CaveatFault>);
+
+static FIRST_FAULTS: [First; 5] = [
+    (
+        2,
+        &["guests <= 0", "shoe = red"],
+        Some(CaveatFault::Denied(1)),
+    ),
+    (
+        0,
+        &["guests <= 0", "shoe = red"],
+        Some(CaveatFault::NotUnderstood(2)),
+    ),
+    (0, &["facility = court-1", "spend <= 600"], None),
+    (0, &[], None),
+    (
+        0,
+        &["weekday = sat,sun", "weekday = fri"],
+        Some(CaveatFault::Denied(1)),
+    ),
+];
+
+fn find_first(rt: &(impl Abort + AllocGlobal), rows: &[First]) {
+    for (guests, lines, want) in rows {
+        let told = first_fault(&texts(rt, lines), &booking_for(rt, *guests));
+        expect_eq(rt, &told, want, lines);
+    }
 }
 
 #[test]
-fn first_faults(rt: HostRuntime) -> Result<(), Fail> {
-    let mut ask = booking().ok_or("a request")?;
-    let both = ["guests <= 0", "shoe = red"];
-    expect_first(&rt, &both, &ask, Some(CaveatFault::Denied(1)))?;
-    ask.guests = 0;
-    expect_first(&rt, &both, &ask, Some(CaveatFault::NotUnderstood(2)))?;
-    expect_first(&rt, &["facility = court-1", "spend <= 600"], &ask, None)?;
-    expect_first(&rt, &[], &ask, None)?;
-    let days = ["weekday = sat,sun", "weekday = fri"];
-    expect_first(&rt, &days, &ask, Some(CaveatFault::Denied(1)))?;
-    Ok(())
+fn first_faults(rt: HostRuntime) {
+    find_first(&rt, &FIRST_FAULTS);
 }
 
-fn is_printed(alloc: Global, fault: CaveatFault, text: &str) -> Result<bool, AllocError> {
-    Ok(format!(in alloc; "{fault}")?.as_str() == text)
+// Caveats, and the fault of each as the second.
+static SECOND: [(&str, Option<CaveatFault>); 2] = [
+    ("shoe = red", Some(CaveatFault::NotUnderstood(2))),
+    ("weekday = fri", None),
+];
+
+fn find_second(rt: &impl Abort, rows: &[(&'static str, Option<CaveatFault>)]) {
+    let ask = booking_for(rt, 0);
+    for (text, want) in rows {
+        expect_eq(rt, &fault_at(text.as_bytes(), 2, &ask), want, text);
+    }
+}
+
+static PRINTED: [(CaveatFault, &str); 2] = [
+    (CaveatFault::NotUnderstood(2), "caveat 2 not understood"),
+    (CaveatFault::Denied(2), "caveat 2 denies"),
+];
+
+fn print(rt: &(impl Abort + AllocGlobal), rows: &[(CaveatFault, &'static str)]) {
+    for (fault, want) in rows {
+        let text = format!(in rt.alloc(); "{fault}").expect(rt, "memory");
+        expect_eq(rt, &text.as_str(), want, fault);
+    }
 }
 
 #[test]
-fn faults_at_a_place(rt: HostRuntime) -> Result<(), Fail> {
-    let mut ask = booking().ok_or("a request")?;
-    ask.guests = 0;
-    let unread = CaveatFault::NotUnderstood(2);
-    expect_eq(&rt, &fault_at(b"shoe = red", 2, &ask), &Some(unread));
-    expect_eq(&rt, &fault_at(b"weekday = fri", 2, &ask), &None);
-    assert!(rt; is_printed(rt.alloc(), unread, "caveat 2 not understood")?);
-    assert!(rt; is_printed(rt.alloc(), CaveatFault::Denied(2), "caveat 2 denies")?);
-    Ok(())
+fn faults_at_a_place(rt: HostRuntime) {
+    find_second(&rt, &SECOND);
+    print(&rt, &PRINTED);
 }

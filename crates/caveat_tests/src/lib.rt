@@ -6,6 +6,8 @@ mod calls;
 #[cfg(test)]
 mod caveats;
 #[cfg(test)]
-mod expect;
+mod rows;
+#[cfg(test)]
+mod understood;
 #[cfg(test)]
 mod values;

@@ -1,5 +1,6 @@
 use super::*;
-use std::test::Fail;
+use std::fmt::Debug;
+use std::process::Abort;
 
 // Two roots and the keys that libmacaroons' derivation gives for them, by an independent program.
 const ROOT: &[u8; 16] = b"\x00\x11\x22\x33\x44\x55\x66\x77\x88\x99\xaa\xbb\xcc\xdd\xee\xff";
@@ -12,55 +13,93 @@ const OTHER_ROOT: &[u8; 16] = b"\xff\xee\xdd\xcc\xbb\xaa\x99\x88\x77\x66\x55\x44
 const OTHER_DERIVED: &[u8; 32] =
     b"\xd3\xdb\x74\x81\x30\xe1\xd9\xf4\x47\x2b\x10\xa4\xf4\x23\xa7\x9b\x06\x9b\x44\x9f\x3d\xb1\xef\x92\x1a\x3e\x59\xb2\x10\x27\x00\x97";
 
+fn expect_eq<T: PartialEq + Debug>(rt: &impl Abort, told: &T, want: &T) {
+    assert_eq!(rt; told, want);
+}
+
+fn name(rt: &impl Abort, text: &[u8]) -> Name {
+    Name::read(text).expect(rt, "a name")
+}
+
+fn root(rt: &impl Abort, bytes: &[u8; 16]) -> Root {
+    Root::new(bytes).expect(rt, "a root")
+}
+
+fn expect_kept(
+    rt: &impl Abort,
+    keys: &mut KeptKeys,
+    name: &Name,
+    root: &Root,
+    want: Option<[u8; 32]>,
+) {
+    expect_eq(rt, &keys.kept(name, root), &want);
+}
+
+fn expect_derived(rt: &impl Abort, keys: &mut KeptKeys, name: &Name, root: &Root, want: &[u8; 32]) {
+    expect_eq(rt, &keys.derived(name, root), want);
+}
+
+// The key of the name isn't kept beside the root, and is then.
+fn is_derived_anew(
+    rt: &impl Abort,
+    keys: &mut KeptKeys,
+    name: &Name,
+    root: &Root,
+    want: &[u8; 32],
+) {
+    expect_kept(rt, keys, name, root, None);
+    expect_derived(rt, keys, name, root, want);
+    expect_kept(rt, keys, name, root, Some(*want));
+}
+
+// A root and its key, then others, then the first again.
+static IN_TURN: [(&[u8; 16], &[u8; 32]); 3] = [
+    (ROOT, DERIVED),
+    (OTHER_ROOT, OTHER_DERIVED),
+    (ROOT, DERIVED),
+];
+
+fn are_derived_anew(
+    rt: &(impl Abort + AllocGlobal),
+    rows: &[(&'static [u8; 16], &'static [u8; 32])],
+) {
+    let name = name(rt, b"amy-1");
+    let mut keys = KeptKeys::new(rt.alloc());
+    for (bytes, want) in rows {
+        is_derived_anew(rt, &mut keys, &name, &root(rt, bytes), want);
+    }
+}
+
 // A key that was kept under one root isn't used under another, and the last one is kept.
 #[test]
-fn keeps_a_key_beside_its_root(rt: HostRuntime) -> Result<(), Fail> {
-    let name = Name::read(b"amy-1").ok_or("a name")?;
-    let (root, other) = (
-        Root::new(ROOT).ok_or("a root")?,
-        Root::new(OTHER_ROOT).ok_or("a root")?,
-    );
-    let mut keys = KeptKeys::new(rt.alloc());
-    assert!(rt; keys.kept(&name, &root).is_none());
-    assert_eq!(rt; &keys.derived(&name, &root), DERIVED);
-    assert_eq!(rt; &keys.kept(&name, &root).ok_or("a kept key")?, DERIVED);
-    assert!(rt; keys.kept(&name, &other).is_none());
-    assert_eq!(rt; &keys.derived(&name, &other), OTHER_DERIVED);
-    assert_eq!(rt;
-        &keys.kept(&name, &other).ok_or("a kept key")?,
-        OTHER_DERIVED
-    );
-    assert_eq!(rt; &keys.derived(&name, &root), DERIVED);
-    Ok(())
+fn keeps_a_key_beside_its_root(rt: HostRuntime) {
+    are_derived_anew(&rt, &IN_TURN);
+}
+
+// Keys of the names `00`, `01` and on.
+fn derive_many(rt: &impl Abort, keys: &mut KeptKeys, root: &Root, count: u8) {
+    for number in 0..count {
+        let name = name(rt, &[b'0' + number / 10 % 10, b'0' + number % 10]);
+        expect_derived(rt, keys, &name, root, DERIVED);
+    }
 }
 
 // Of 65 keys the one that was used longest ago goes, and it is derived anew.
 #[test]
-fn keeps_the_last_of_many_keys(rt: HostRuntime) -> Result<(), Fail> {
-    let root = Root::new(ROOT).ok_or("a root")?;
+fn keeps_the_last_of_many_keys(rt: HostRuntime) {
+    let root = root(&rt, ROOT);
     let mut keys = KeptKeys::new(rt.alloc());
-    for digit in 0..65u8 {
-        let name = Name::read(&[b'0' + digit / 10, b'0' + digit % 10]).ok_or("a name")?;
-        assert_eq!(rt; &keys.derived(&name, &root), DERIVED);
-    }
-    let (first, second) = (
-        Name::read(b"00").ok_or("a name")?,
-        Name::read(b"01").ok_or("a name")?,
-    );
-    assert!(rt; keys.kept(&first, &root).is_none());
-    assert_eq!(rt; &keys.kept(&second, &root).ok_or("a kept key")?, DERIVED);
-    assert_eq!(rt; &keys.derived(&first, &root), DERIVED);
-    Ok(())
+    derive_many(&rt, &mut keys, &root, 65);
+    expect_kept(&rt, &mut keys, &name(&rt, b"01"), &root, Some(*DERIVED));
+    is_derived_anew(&rt, &mut keys, &name(&rt, b"00"), &root, DERIVED);
 }
 
 // Without memory for the cache each key is derived anew.
 #[test]
-fn derives_without_a_cache(rt: HostRuntime) -> Result<(), Fail> {
-    let name = Name::read(b"amy-1").ok_or("a name")?;
-    let root = Root::new(ROOT).ok_or("a root")?;
+fn derives_without_a_cache(rt: HostRuntime) {
+    let (name, root) = (name(&rt, b"amy-1"), root(&rt, ROOT));
     let mut keys = KeptKeys { cache: None };
-    assert_eq!(rt; &keys.derived(&name, &root), DERIVED);
-    assert!(rt; keys.kept(&name, &root).is_none());
-    assert_eq!(rt; &keys.derived(&name, &root), DERIVED);
-    Ok(())
+    expect_derived(&rt, &mut keys, &name, &root, DERIVED);
+    expect_kept(&rt, &mut keys, &name, &root, None);
+    expect_derived(&rt, &mut keys, &name, &root, DERIVED);
 }
