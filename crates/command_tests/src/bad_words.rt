@@ -1,145 +1,166 @@
 //! Words that are refused before the input is read, and help.
 
-use crate::runs::{ROOT, expect, expect_refused, no_input, told_by};
+use crate::doubles::no_input;
+use crate::runs::End::{Begins, Tells};
+use crate::runs::{
+    End, MALFORMED, ROOT, Words, expect, expect_all_unread, expect_end, expect_eq, expect_front,
+    expect_part, expect_unread, form_line, told_by, told_of,
+};
 use pass_commands::not_text;
-use std::test::Fail;
+use std::process::Abort;
+
+const BAD_ROOT: End = Tells(6, "bad root");
+
+// A root of 65 bytes.
+const LONG: &str = "00000000000000000000000000000000000000000000000000000000000000000\
+    00000000000000000000000000000000000000000000000000000000000000000";
+
+static BAD_ROOTS: [(Words, End); 10] = [
+    (&["passtool", "verify", "--root", ""], BAD_ROOT),
+    (&["passtool", "verify", "--root", "0"], BAD_ROOT),
+    (&["passtool", "verify", "--root", "zz"], BAD_ROOT),
+    (&["passtool", "verify", "--root", "0g"], BAD_ROOT),
+    (&["passtool", "verify", "--root", LONG], BAD_ROOT),
+    (&["passtool", "mint", "--root", "", "--id", "k"], BAD_ROOT),
+    (&["passtool", "mint", "--root", "0", "--id", "k"], BAD_ROOT),
+    (&["passtool", "mint", "--root", "zz", "--id", "k"], BAD_ROOT),
+    (&["passtool", "mint", "--root", "0g", "--id", "k"], BAD_ROOT),
+    (&["passtool", "mint", "--root", LONG, "--id", "k"], BAD_ROOT),
+];
 
 #[test]
-fn refuses_bad_roots(rt: HostRuntime) -> Result<(), Fail> {
-    let alloc = rt.alloc();
-    let long = hex::encode(alloc, [0; 65])?;
-    for root in ["", "0", "zz", "0g", long.as_str()] {
-        let words = ["passtool", "verify", "--root", root];
-        expect_refused(&rt, alloc, words.as_slice(), 6, "bad root")?;
-        let words = ["passtool", "mint", "--root", root, "--id", "k"];
-        expect_refused(&rt, alloc, words.as_slice(), 6, "bad root")?;
-    }
-    Ok(())
+fn refuses_bad_roots(rt: HostRuntime) {
+    expect_all_unread(&rt, &BAD_ROOTS);
+}
+
+static OTHER_FORMS: [&str; 6] = ["", "v3", "V1", "JSON", "v1 ", "binary"];
+
+// Words are refused before the input is read, by the line about this form.
+fn expect_other_form(rt: &(impl Abort + AllocGlobal), words: &[&str], form: &str) {
+    let told = told_by(rt, words, &mut no_input());
+    expect_front(rt, &told, 2, form_line(rt, form).as_str());
 }
 
 #[test]
-fn refuses_other_forms(rt: HostRuntime) -> Result<(), Fail> {
-    let alloc = rt.alloc();
-    for form in ["", "v3", "V1", "JSON", "v1 ", "binary"] {
-        let line = format!(in alloc;
-            "error: invalid value '{form}' for '--form <FORM>'\n  [possible values: v1, v2, json]\n"
-        )?;
-        let words = ["passtool", "convert", "--form", form];
-        expect_refused(&rt, alloc, words.as_slice(), 2, line.as_str())?;
-        // The form is judged before the root.
+fn refuses_other_forms(rt: HostRuntime) {
+    for form in &OTHER_FORMS {
+        expect_other_form(&rt, &["passtool", "convert", "--form", form], form);
+    }
+}
+
+// The form is judged before the root.
+#[test]
+fn refuses_other_forms_beside_a_bad_root(rt: HostRuntime) {
+    for form in &OTHER_FORMS {
         let words = [
             "passtool", "mint", "--root", "zz", "--id", "k", "--form", form,
         ];
-        expect_refused(&rt, alloc, words.as_slice(), 2, line.as_str())?;
+        expect_other_form(&rt, &words, form);
     }
-    Ok(())
 }
 
+static BAD_WORDS: [Words; 22] = [
+    &["passtool"],
+    &["passtool", "frob"],
+    &["passtool", "help", "frob"],
+    &["passtool", "mint"],
+    &["passtool", "mint", "--root", "zz"],
+    &["passtool", "mint", "--id", "k"],
+    &["passtool", "mint", "--root", "zz", "--id"],
+    &["passtool", "mint", "--root", "00", "--id", "a", "--id", "b"],
+    &["passtool", "mint", "--root", "00", "--id", "k", "-x"],
+    &["passtool", "show", "more"],
+    &["passtool", "show", "--form", "v1"],
+    &["passtool", "narrow"],
+    &["passtool", "narrow", "--any"],
+    &["passtool", "narrow", "--any", "--any", "x"],
+    &["passtool", "narrow", "-x"],
+    &["passtool", "convert"],
+    &["passtool", "convert", "--form"],
+    &["passtool", "convert", "v1"],
+    &["passtool", "verify"],
+    &["passtool", "verify", "--root"],
+    &["passtool", "verify", "--root", "00", "more"],
+    &["passtool", "verify", "--root", "00", "--root", "00"],
+];
+
 #[test]
-fn refuses_what_clap_refuses(rt: HostRuntime) -> Result<(), Fail> {
-    for words in [
-        ["passtool"].as_slice(),
-        ["passtool", "frob"].as_slice(),
-        ["passtool", "help", "frob"].as_slice(),
-        ["passtool", "mint"].as_slice(),
-        ["passtool", "mint", "--root", "zz"].as_slice(),
-        ["passtool", "mint", "--id", "k"].as_slice(),
-        ["passtool", "mint", "--root", "zz", "--id"].as_slice(),
-        ["passtool", "mint", "--root", "00", "--id", "a", "--id", "b"].as_slice(),
-        ["passtool", "mint", "--root", "00", "--id", "k", "-x"].as_slice(),
-        ["passtool", "show", "more"].as_slice(),
-        ["passtool", "show", "--form", "v1"].as_slice(),
-        ["passtool", "narrow"].as_slice(),
-        ["passtool", "narrow", "--any"].as_slice(),
-        ["passtool", "narrow", "--any", "--any", "x"].as_slice(),
-        ["passtool", "narrow", "-x"].as_slice(),
-        ["passtool", "convert"].as_slice(),
-        ["passtool", "convert", "--form"].as_slice(),
-        ["passtool", "convert", "v1"].as_slice(),
-        ["passtool", "verify"].as_slice(),
-        ["passtool", "verify", "--root"].as_slice(),
-        ["passtool", "verify", "--root", "00", "more"].as_slice(),
-        ["passtool", "verify", "--root", "00", "--root", "00"].as_slice(),
-    ] {
-        expect_refused(&rt, rt.alloc(), words, 2, "error: ")?;
+fn refuses_what_clap_refuses(rt: HostRuntime) {
+    for words in &BAD_WORDS {
+        expect_unread(&rt, words, &Begins(2, "error: "));
     }
-    Ok(())
 }
 
 // The text that clap writes in Rust.
-#[test]
-fn tells_words_that_are_no_text(rt: HostRuntime) -> Result<(), Fail> {
-    let fault = not_text(rt.alloc());
-    let told = fault.to_string(rt.alloc())?;
-    assert_eq!(rt;
-        told.as_str(),
-        "error: invalid UTF-8 was detected in one or more arguments\n\nUsage: passtool <COMMAND>\n\nFor more information, try '--help'.\n"
-    );
-    assert_eq!(rt; fault.status(), 2);
-    Ok(())
-}
+const NOT_TEXT: End = Tells(
+    2,
+    "error: invalid UTF-8 was detected in one or more arguments\n\nUsage: passtool <COMMAND>\n\nFor more information, try '--help'.\n",
+);
 
 #[test]
-fn shows_help(rt: HostRuntime) -> Result<(), Fail> {
-    for words in [
-        ["passtool", "--help"].as_slice(),
-        ["passtool", "help"].as_slice(),
-        ["passtool", "help", "mint"].as_slice(),
-        ["passtool", "mint", "--help"].as_slice(),
-        ["passtool", "show", "-h"].as_slice(),
-        ["passtool", "narrow", "--help"].as_slice(),
-        ["passtool", "convert", "--help"].as_slice(),
-        ["passtool", "verify", "--root", ROOT, "--help"].as_slice(),
-    ] {
-        let (status, told) = told_by(rt.alloc(), words, &mut no_input())?;
-        assert_eq!(rt; status, 0, "{told}");
-        assert!(rt; told.as_str().contains("Usage:"), "{told}");
-        assert!(rt;
-            words.len() == 2 || told.as_str().contains("Example:\n  passtool "),
-            "{told}"
-        );
+fn tells_words_that_are_no_text(rt: HostRuntime) {
+    expect_end(&rt, &told_of(&rt, &not_text(rt.alloc())), &NOT_TEXT);
+}
+
+const USAGE: &str = "Usage:";
+
+const EXAMPLE: &str = "Example:\n  passtool ";
+
+// Words, and texts that the help has that they show.
+static HELP: [(Words, Words); 8] = [
+    (
+        &["passtool", "--help"],
+        &[USAGE, "\n  7  input or output failed\n"],
+    ),
+    (&["passtool", "help"], &[USAGE]),
+    (&["passtool", "help", "mint"], &[USAGE, EXAMPLE]),
+    (&["passtool", "mint", "--help"], &[USAGE, EXAMPLE]),
+    (&["passtool", "show", "-h"], &[USAGE, EXAMPLE]),
+    (&["passtool", "narrow", "--help"], &[USAGE, EXAMPLE]),
+    (&["passtool", "convert", "--help"], &[USAGE, EXAMPLE]),
+    (
+        &["passtool", "verify", "--root", ROOT, "--help"],
+        &[USAGE, EXAMPLE],
+    ),
+];
+
+fn expect_parts(rt: &impl Abort, text: &str, parts: &[&str]) {
+    for part in parts {
+        expect_part(rt, text, part);
     }
-    Ok(())
+}
+
+// Words show help that has these parts.
+fn expect_help(rt: &(impl Abort + AllocGlobal), words: &[&str], parts: &[&str]) {
+    let told = told_by(rt, words, &mut no_input());
+    expect_eq(rt, &told.status, &0);
+    expect_parts(rt, told.text.as_str(), parts);
 }
 
 #[test]
-fn long_help_tells_the_statuses(rt: HostRuntime) -> Result<(), Fail> {
-    let words = ["passtool", "--help"];
-    let (_, told) = told_by(rt.alloc(), words.as_slice(), &mut no_input())?;
-    assert!(rt;
-        told.as_str().contains("\n  7  input or output failed\n"),
-        "{told}"
-    );
-    Ok(())
-}
-
-#[test]
-fn help_of_narrow_shows_the_caveats(rt: HostRuntime) -> Result<(), Fail> {
-    let words = ["passtool", "narrow", "-h"];
-    let (_, told) = told_by(rt.alloc(), words.as_slice(), &mut no_input())?;
-    let words = [
-        "passtool",
-        "narrow",
-        "facility = court-1,court-2",
-        "kind = court",
-        "hours = 18-20",
-        "days = 2026-05-01..2026-05-31",
-        "until < 2026-05-01T18:00",
-        "guests <= 2",
-        "spend <= 600",
-        "actions = view,book",
-    ];
-    let (_, caveats) = words.split_at(2);
-    for caveat in caveats {
-        assert!(rt; told.as_str().contains(*caveat), "{told}");
+fn shows_help(rt: HostRuntime) {
+    for (words, parts) in &HELP {
+        expect_help(&rt, words, parts);
     }
+}
+
+const CAVEATS: Words = &[
+    "passtool",
+    "narrow",
+    "facility = court-1,court-2",
+    "kind = court",
+    "hours = 18-20",
+    "days = 2026-05-01..2026-05-31",
+    "until < 2026-05-01T18:00",
+    "guests <= 2",
+    "spend <= 600",
+    "actions = view,book",
+];
+
+#[test]
+fn help_of_narrow_shows_the_caveats(rt: HostRuntime) {
+    let (_, caveats) = CAVEATS.split_at(2);
+    expect_help(&rt, &["passtool", "narrow", "-h"], caveats);
     // Each is understood: what is refused is the text of the pass.
-    expect(
-        &rt,
-        rt.alloc(),
-        words.as_slice(),
-        b"!",
-        3,
-        "fault 2: malformed",
-    )
+    expect(&rt, CAVEATS, b"!", &MALFORMED);
 }

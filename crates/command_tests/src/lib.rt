@@ -6,6 +6,8 @@ mod bad_words;
 #[cfg(test)]
 mod desk;
 #[cfg(test)]
+mod doubles;
+#[cfg(test)]
 mod failing;
 #[cfg(test)]
 mod forms;

@@ -1,124 +1,182 @@
 //! The limits of passes.
 
-use crate::runs::{BARE_TEXT, IDENTIFIER, ROOT, TEXT, expect, told_by};
+use crate::doubles::no_input;
+use crate::runs::End::{Begins, Tells};
+use crate::runs::{
+    BARE_TEXT, End, IDENTIFIER, MALFORMED, ROOT, SHOW, TEXT, TOO_MANY, Words, expect, expect_end,
+    expect_eq, told_by,
+};
 use base64::engine::general_purpose::URL_SAFE_NO_PAD;
-use std::alloc::{AllocError, Global};
 use std::process::Abort;
-use std::test::Fail;
 
-// The words of a command with this many caveats.
-fn with_caveats<'a>(
-    alloc: Global,
-    first: &[&'a str],
-    caveat: &'a str,
+// Puts bytes behind others, so often.
+fn append(rt: &impl Abort, bytes: &mut Vec<u8>, more: &[u8], count: usize) {
+    for _ in 0..count {
+        bytes.extend_from_slice(more).expect(rt, "memory");
+    }
+}
+
+// The bytes of a pass in V2 with the section of a caveat, which may be empty, this many caveats
+// `guests <= 1`, and bytes behind it.
+struct Bytes {
+    section: &'static [u8],
     count: usize,
-) -> Result<Vec<&'a str>, AllocError> {
-    let mut words = Vec::from_slice(alloc, first)?;
-    for _ in 0..count {
-        words.push(caveat)?;
+    behind: &'static [u8],
+}
+
+fn v2_bytes(rt: &(impl Abort + AllocGlobal), parts: &Bytes) -> Vec<u8> {
+    let mut bytes = Vec::new(rt.alloc());
+    append(rt, &mut bytes, b"\x02\x02\x05keyid\x00", 1);
+    append(rt, &mut bytes, parts.section, 1);
+    append(rt, &mut bytes, b"\x02\x0bguests <= 1\x00", parts.count);
+    append(rt, &mut bytes, b"\x00\x06\x20", 1);
+    append(rt, &mut bytes, b"\x07", 32);
+    append(rt, &mut bytes, parts.behind, 1);
+    bytes
+}
+
+fn v2_text(rt: &(impl Abort + AllocGlobal), bytes: &[u8]) -> String {
+    URL_SAFE_NO_PAD
+        .encode(rt.alloc(), bytes)
+        .expect(rt, "memory")
+}
+
+fn expect_shown(rt: &(impl Abort + AllocGlobal), rows: &[(Bytes, End)]) {
+    for (parts, end) in rows {
+        let text = v2_text(rt, &v2_bytes(rt, parts));
+        expect(rt, SHOW, text.as_bytes(), end);
     }
-    Ok(words)
 }
 
-// The bytes of a pass in V2 with the section of a caveat, which may be empty, and this many caveats `guests <= 1`.
-fn v2_bytes(alloc: Global, section: &[u8], count: usize) -> Result<Vec<u8>, AllocError> {
-    let mut bytes = Vec::from_slice(alloc, b"\x02\x02\x05keyid\x00")?;
-    bytes.extend_from_slice(section)?;
-    for _ in 0..count {
-        bytes.extend_from_slice(b"\x02\x0bguests <= 1\x00")?;
+static CAVEATS: [(Bytes, End); 3] = [
+    (
+        Bytes {
+            section: b"",
+            count: 64,
+            behind: b"",
+        },
+        Begins(
+            0,
+            "form v2\nlocation \nidentifier keyid\ncaveat 1 guests <= 1\n",
+        ),
+    ),
+    (
+        Bytes {
+            section: b"",
+            count: 65,
+            behind: b"",
+        },
+        TOO_MANY,
+    ),
+    (
+        Bytes {
+            section: b"",
+            count: 65,
+            behind: b"\x00",
+        },
+        MALFORMED,
+    ),
+];
+
+#[test]
+fn reads_sixty_four_caveats(rt: HostRuntime) {
+    expect_shown(&rt, &CAVEATS);
+}
+
+static THIRD_PARTY: [(Bytes, End); 1] = [(
+    Bytes {
+        section: b"\x02\x01c\x04\x01v\x00",
+        count: 64,
+        behind: b"",
+    },
+    Tells(3, "fault 3: third-party caveat"),
+)];
+
+#[test]
+fn tells_a_third_party_first(rt: HostRuntime) {
+    expect_shown(&rt, &THIRD_PARTY);
+}
+
+// The first words of a command, the caveat that is given behind them, how often, the input, and how
+// the run ends.
+struct Added {
+    first: Words,
+    caveat: &'static str,
+    count: usize,
+    input: &'static str,
+    end: End,
+}
+
+fn words_of(rt: &(impl Abort + AllocGlobal), added: &Added) -> Vec<&'static str> {
+    let mut words = Vec::from_slice(rt.alloc(), added.first).expect(rt, "memory");
+    for _ in 0..added.count {
+        words.push(added.caveat).expect(rt, "memory");
     }
-    bytes.extend_from_slice(b"\x00\x06\x20")?;
-    bytes.extend_from_slice(&[7; 32])?;
-    Ok(bytes)
+    words
 }
 
-fn expect_shown(
-    rt: &impl Abort,
-    alloc: Global,
-    bytes: &[u8],
-    status: u8,
-    line: &str,
-) -> Result<(), Fail> {
-    let text = URL_SAFE_NO_PAD.encode(alloc, bytes)?;
-    let words = ["passtool", "show"];
-    let (ended, told) = told_by(alloc, words.as_slice(), &mut text.as_bytes())?;
-    assert_eq!(rt; ended, status, "{told}");
-    assert!(rt; told.as_str().starts_with(line), "{told}");
-    Ok(())
-}
+const NARROW: Words = &["passtool", "narrow"];
 
-#[test]
-fn reads_sixty_four_caveats(rt: HostRuntime) -> Result<(), Fail> {
-    let alloc = rt.alloc();
-    let bytes = v2_bytes(alloc, b"", 64)?;
-    expect_shown(
-        &rt,
-        alloc,
-        bytes.as_slice(),
-        0,
-        "form v2\nlocation \nidentifier keyid\ncaveat 1 guests <= 1\n",
-    )?;
-    let mut bytes = v2_bytes(alloc, b"", 65)?;
-    expect_shown(&rt, alloc, bytes.as_slice(), 3, "fault 4: too many caveats")?;
-    bytes.push(0)?;
-    expect_shown(&rt, alloc, bytes.as_slice(), 3, "fault 2: malformed")
-}
+const MINT: Words = &["passtool", "mint", "--root", ROOT, "--id", IDENTIFIER];
 
-#[test]
-fn tells_a_third_party_first(rt: HostRuntime) -> Result<(), Fail> {
-    let alloc = rt.alloc();
-    let bytes = v2_bytes(alloc, b"\x02\x01c\x04\x01v\x00", 64)?;
-    expect_shown(
-        &rt,
-        alloc,
-        bytes.as_slice(),
-        3,
-        "fault 3: third-party caveat",
-    )
-}
+static ADDED: [Added; 4] = [
+    Added {
+        first: NARROW,
+        caveat: "guests <= 1",
+        count: 64,
+        input: TEXT,
+        end: TOO_MANY,
+    },
+    Added {
+        first: NARROW,
+        caveat: "guests <= 1",
+        count: 64,
+        input: BARE_TEXT,
+        end: Begins(0, ""),
+    },
+    Added {
+        first: MINT,
+        caveat: "x",
+        count: 64,
+        input: "",
+        end: Begins(0, ""),
+    },
+    Added {
+        first: MINT,
+        caveat: "x",
+        count: 65,
+        input: "",
+        end: TOO_MANY,
+    },
+];
 
 #[test]
-fn adds_no_sixty_fifth_caveat(rt: HostRuntime) -> Result<(), Fail> {
-    let alloc = rt.alloc();
-    let first = ["passtool", "narrow"];
-    let words = with_caveats(alloc, first.as_slice(), "guests <= 1", 64)?;
-    let fault = "fault 4: too many caveats";
-    expect(&rt, alloc, words.as_slice(), TEXT.as_bytes(), 3, fault)?;
-    let (status, _) = told_by(alloc, words.as_slice(), &mut BARE_TEXT.as_bytes())?;
-    assert_eq!(rt; status, 0);
-    let first = ["passtool", "mint", "--root", ROOT, "--id", IDENTIFIER];
-    let words = with_caveats(alloc, first.as_slice(), "x", 64)?;
-    let (status, _) = told_by(alloc, words.as_slice(), &mut b"".as_slice())?;
-    assert_eq!(rt; status, 0);
-    let words = with_caveats(alloc, first.as_slice(), "x", 65)?;
-    expect(&rt, alloc, words.as_slice(), b"", 3, fault)
-}
-
-#[test]
-fn writes_no_text_above_the_limit(rt: HostRuntime) -> Result<(), Fail> {
-    let alloc = rt.alloc();
-    // With the other parts of the pass these make 6,144 bytes in V2, and 8,192 characters.
-    for (len, status) in [(6104, 0), (6105, 3)] {
-        let identifier = String::from_utf8(vec![in alloc; b'k'; len]?)
-            .ok()
-            .ok_or("text")?;
-        let words = [
-            "passtool",
-            "mint",
-            "--root",
-            "00",
-            "--id",
-            identifier.as_str(),
-        ];
-        let (ended, told) = told_by(alloc, words.as_slice(), &mut b"".as_slice())?;
-        assert_eq!(rt; ended, status);
-        assert!(rt;
-            if status == 0 {
-                told.len() == 8193
-            } else {
-                told.as_str() == "fault 1: too long"
-            }
-        );
+fn adds_no_sixty_fifth_caveat(rt: HostRuntime) {
+    for added in &ADDED {
+        let words = words_of(&rt, added);
+        expect(&rt, words.as_slice(), added.input.as_bytes(), &added.end);
     }
-    Ok(())
+}
+
+// The length of an identifier, that of what is told, and how the run ends. With the other parts of
+// the pass 6,104 bytes make 6,144 in V2, and 8,192 characters.
+static IDENTIFIERS: [(usize, usize, End); 2] = [
+    (6104, 8193, Begins(0, "")),
+    (6105, 17, Tells(3, "fault 1: too long")),
+];
+
+fn expect_minted(rt: &(impl Abort + AllocGlobal), len: usize, told_len: usize, end: &End) {
+    let letters = vec![in rt.alloc(); b'k'; len].expect(rt, "memory");
+    let identifier = str::from_utf8(&letters).ok().expect(rt, "text");
+    let words = ["passtool", "mint", "--root", "00", "--id", identifier];
+    let told = told_by(rt, &words, &mut no_input());
+    expect_eq(rt, &told.text.len(), &told_len);
+    expect_end(rt, &told, end);
+}
+
+#[test]
+fn writes_no_text_above_the_limit(rt: HostRuntime) {
+    for (len, told_len, end) in &IDENTIFIERS {
+        expect_minted(&rt, *len, *told_len, end);
+    }
 }

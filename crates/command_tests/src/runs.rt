@@ -1,11 +1,14 @@
-//! Runs of the program over memory. The pass and its root are those of libmacaroons' documentation; other values were
-//! computed by a program of another language.
+//! Runs of the program over memory, and how they end. The pass and its root are those of
+//! libmacaroons' documentation; other values were computed by a program of another language.
 
-use pass_commands::run;
-use std::alloc::Global;
-use std::io::{self, ErrorKind, Read, Write};
+use crate::doubles::no_input;
+use pass_commands::{Fault, run};
+use std::fmt::Debug;
+use std::io::{Read, Write};
 use std::process::Abort;
-use std::test::Fail;
+
+/// The words of a run, of which the first is the program's name.
+pub(crate) type Words = &'static [&'static str];
 
 // "this is our super secret key; only we should know it"
 pub(crate) const ROOT: &str =
@@ -13,7 +16,8 @@ pub(crate) const ROOT: &str =
 
 pub(crate) const IDENTIFIER: &str = "we used our secret key";
 
-// The location http://mybank/, the identifier and the caveat "test = caveat", signed under the root: in V1, V2 and JSON.
+// The location http://mybank/, the identifier and the caveat "test = caveat", signed under the
+// root: in V1, V2 and JSON.
 pub(crate) const TEXT: &str =
     "MDAxY2xvY2F0aW9uIGh0dHA6Ly9teWJhbmsvCjAwMjZpZGVudGlmaWVyIHdlIHVzZWQgb3VyIHNlY3JldCBrZXkKMDAxNmNpZCB0ZXN0ID0gY2F2ZWF0CjAwMmZzaWduYXR1cmUgGXusegRK8zMyhluSZuJtSTvdZopmDkTYjOGpmMI9vWcK";
 
@@ -23,11 +27,16 @@ pub(crate) const V2_TEXT: &str =
 pub(crate) const JSON_TEXT: &str =
     "{\"c\":[{\"i\":\"test = caveat\"}],\"i\":\"we used our secret key\",\"l\":\"http://mybank/\",\"s64\":\"GXusegRK8zMyhluSZuJtSTvdZopmDkTYjOGpmMI9vWc\",\"v\":2}";
 
-// The same without its caveat, in V1.
+// What `show` prints of it in V1, before its line feed.
+pub(crate) const SHOWN: &str =
+    "form v1\nlocation http://mybank/\nidentifier we used our secret key\ncaveat 1 test = caveat\nsignature 197bac7a044af33332865b9266e26d493bdd668a660e44d88ce1a998c23dbd67";
+
+// The pass without its caveat, in V1.
 pub(crate) const BARE_TEXT: &str =
     "MDAxY2xvY2F0aW9uIGh0dHA6Ly9teWJhbmsvCjAwMjZpZGVudGlmaWVyIHdlIHVzZWQgb3VyIHNlY3JldCBrZXkKMDAyZnNpZ25hdHVyZSDj2eApCFJsTAA5rhURQRXZf91ovyujebNCqvD2F9BVLwo";
 
-// The location http://example.org/, the identifier "keyid" and no caveats, of an unknown root: in V1, V2 and JSON.
+// The location http://example.org/, the identifier "keyid" and no caveats, of an unknown root: in
+// V1, V2 and JSON.
 pub(crate) const OTHER_TEXT: &str =
     "MDAyMWxvY2F0aW9uIGh0dHA6Ly9leGFtcGxlLm9yZy8KMDAxNWlkZW50aWZpZXIga2V5aWQKMDAyZnNpZ25hdHVyZSB83ueSURxbxvUoSFgF3-myTnheKOKpkwH51xHGCeOO9wo";
 
@@ -37,134 +46,165 @@ pub(crate) const OTHER_V2: &str =
 pub(crate) const OTHER_JSON: &str =
     "{\"c\":[],\"i\":\"keyid\",\"l\":\"http://example.org/\",\"s64\":\"fN7nklEcW8b1KEhYBd_psk54XijiqZMB-dcRxgnjjvc\",\"v\":2}";
 
-// Gives one byte a read, and then the end of the input or a failure.
+// The words of each command.
+pub(crate) const VERIFY: Words = &["passtool", "verify", "--root", ROOT];
+
+pub(crate) const SHOW: Words = &["passtool", "show"];
+
+pub(crate) const TO_V1: Words = &["passtool", "convert", "--form", "v1"];
+
+pub(crate) const TO_V2: Words = &["passtool", "convert", "--form", "v2"];
+
+pub(crate) const TO_JSON: Words = &["passtool", "convert", "--form", "json"];
+
+// Makes `TEXT` of `BARE_TEXT`.
+pub(crate) const NARROW: Words = &["passtool", "narrow", "--any", "test = caveat"];
+
+// Makes `V2_TEXT`.
+pub(crate) const MINT: Words = &[
+    "passtool",
+    "mint",
+    "--root",
+    ROOT,
+    "--id",
+    IDENTIFIER,
+    "--location=http://mybank/",
+    "test = caveat",
+];
+
+/// How a run ends.
+pub(crate) enum End {
+    /// It did what it was asked for, and wrote this text and a line feed.
+    Writes(&'static str),
+    /// With this status, and it told this text: what it wrote, or its line on standard error.
+    Tells(u8, &'static str),
+    /// The same of a text that begins so.
+    Begins(u8, &'static str),
+}
+
+pub(crate) const MALFORMED: End = End::Tells(3, "fault 2: malformed");
+
+pub(crate) const TOO_MANY: End = End::Tells(3, "fault 4: too many caveats");
+
+/// Words and an input, and how a run on them ends.
+pub(crate) struct Row(pub(crate) Words, pub(crate) &'static str, pub(crate) End);
+
+/// The status of a run, and what it wrote or its line on standard error, if any.
 #[derive(Drop)]
-pub(crate) struct Pieces<'a> {
-    pub(crate) left: &'a [u8],
-    pub(crate) fails: bool,
+pub(crate) struct Told {
+    pub(crate) status: u8,
+    pub(crate) text: String,
 }
 
-impl Read for Pieces<'_> {
-    fn read(&mut self, buf: &mut [u8]) -> io::Result<usize> {
-        match self.left.split_first() {
-            Some((byte, rest)) if !buf.is_empty() => {
-                buf[0] = *byte;
-                self.left = rest;
-                Ok(1)
-            }
-            _ if self.fails => Err(io::Error::from(ErrorKind::ConnectionReset)),
-            _ => Ok(0),
-        }
+/// Ends the test unless the values are equal. A test that calls it is proved in a third of the time
+/// of one that asserts.
+pub(crate) fn expect_eq<T: PartialEq + Debug>(rt: &impl Abort, told: &T, want: &T) {
+    assert_eq!(rt; told, want);
+}
+
+/// Ends the test unless this is part of the text.
+pub(crate) fn expect_part(rt: &impl Abort, text: &str, part: &str) {
+    assert!(rt; text.contains(part), "{text}");
+}
+
+/// Ends the test unless a run ended so.
+pub(crate) fn expect_end(rt: &impl Abort, told: &Told, end: &End) {
+    match end {
+        End::Writes(text) => expect_line(rt, told, text),
+        End::Tells(status, text) => expect_told(rt, told, *status, text),
+        End::Begins(status, front) => expect_front(rt, told, *status, front),
     }
 }
 
-// Fails at its first read.
-pub(crate) fn no_input() -> Pieces<'static> {
-    Pieces {
-        left: b"",
-        fails: true,
-    }
+fn expect_told(rt: &impl Abort, told: &Told, status: u8, text: &str) {
+    expect_eq(rt, &told.text.as_str(), &text);
+    expect_eq(rt, &told.status, &status);
 }
 
-// Takes a byte a write, and fails once it has no room; flushes, or fails to.
-#[derive(Drop)]
-pub(crate) struct Narrow {
-    pub(crate) taken: Vec<u8>,
-    pub(crate) room: usize,
-    pub(crate) flushes: bool,
+/// Ends the test unless a run ended with this status and told a text that begins so.
+pub(crate) fn expect_front(rt: &impl Abort, told: &Told, status: u8, front: &str) {
+    let text = told.text.as_str();
+    assert!(rt; text.starts_with(front), "{text}");
+    expect_eq(rt, &told.status, &status);
 }
 
-impl Write for Narrow {
-    fn write(&mut self, buf: &[u8]) -> io::Result<usize> {
-        match buf.first() {
-            None => Ok(0),
-            Some(_) if self.taken.len() >= self.room => {
-                Err(io::Error::from(ErrorKind::StorageFull))
-            }
-            Some(byte) => match self.taken.push(*byte) {
-                Ok(()) => Ok(1),
-                Err(_) => Err(io::Error::from(ErrorKind::OutOfMemory)),
-            },
-        }
-    }
-
-    fn flush(&mut self) -> io::Result<()> {
-        if self.flushes {
-            Ok(())
-        } else {
-            Err(io::Error::from(ErrorKind::BrokenPipe))
-        }
-    }
+fn expect_line(rt: &impl Abort, told: &Told, text: &str) {
+    let line = told.text.as_str().strip_suffix('\n').expect(rt, "a line");
+    expect_eq(rt, &line, &text);
+    expect_eq(rt, &told.status, &0);
 }
 
-// The status of a run and its line on standard error, if any.
+/// A run of the program; the text of its end is its line on standard error.
 pub(crate) fn ended_by<R: Read, W: Write>(
-    alloc: Global,
+    rt: &(impl Abort + AllocGlobal),
     words: &[&str],
     reader: &mut R,
     writer: &mut W,
-) -> Result<(u8, String), Fail> {
-    match run(alloc, words, reader, writer) {
-        Ok(outcome) => Ok((outcome.status(), String::new(alloc))),
-        Err(fault) => Ok((fault.status(), fault.to_string(alloc)?)),
+) -> Told {
+    match run(rt.alloc(), words, reader, writer) {
+        Ok(outcome) => Told {
+            status: outcome.status(),
+            text: String::new(rt.alloc()),
+        },
+        Err(fault) => told_of(rt, &fault),
     }
 }
 
-// The status of a run, with what it wrote or its line on standard error.
+/// The status of a fault and its line.
+pub(crate) fn told_of(rt: &(impl Abort + AllocGlobal), fault: &Fault) -> Told {
+    Told {
+        status: fault.status(),
+        text: fault.to_string(rt.alloc()).expect(rt, "memory"),
+    }
+}
+
+/// A run of the program, which writes nothing before a fault.
 pub(crate) fn told_by<R: Read>(
-    alloc: Global,
+    rt: &(impl Abort + AllocGlobal),
     words: &[&str],
     reader: &mut R,
-) -> Result<(u8, String), Fail> {
-    let mut written = Vec::new(alloc);
-    let (status, line) = ended_by(alloc, words, reader, &mut written)?;
-    if line.is_empty() {
-        return Ok((status, String::from_utf8(written).ok().ok_or("text")?));
+) -> Told {
+    let mut written = Vec::new(rt.alloc());
+    let told = ended_by(rt, words, reader, &mut written);
+    if told.text.is_empty() {
+        let text = String::from_utf8(written).ok().expect(rt, "text");
+        return Told {
+            status: told.status,
+            text,
+        };
     }
-    if !written.is_empty() {
-        return Err("written after a fault".into());
-    }
-    Ok((status, line))
+    expect_eq(rt, &written.len(), &0);
+    told
 }
 
-// A run on this input that ends with this status and tells this text.
-pub(crate) fn expect(
-    rt: &impl Abort,
-    alloc: Global,
-    words: &[&str],
-    input: &[u8],
-    status: u8,
-    text: &str,
-) -> Result<(), Fail> {
+/// A run on this input ends so.
+pub(crate) fn expect(rt: &(impl Abort + AllocGlobal), words: &[&str], input: &[u8], end: &End) {
     let mut reader = input;
-    let (ended, told) = told_by(alloc, words, &mut reader)?;
-    assert_eq!(rt; told.as_str(), text);
-    assert_eq!(rt; ended, status, "{text}");
-    Ok(())
+    expect_end(rt, &told_by(rt, words, &mut reader), end);
 }
 
-// The same of a pass that it writes, with the line feed behind it.
-pub(crate) fn expect_pass(
-    rt: &impl Abort,
-    alloc: Global,
-    words: &[&str],
-    input: &str,
-    pass: &str,
-) -> Result<(), Fail> {
-    let line = format!(in alloc; "{pass}\n")?;
-    expect(rt, alloc, words, input.as_bytes(), 0, line.as_str())
+/// Each run ends as its row tells.
+pub(crate) fn expect_rows(rt: &(impl Abort + AllocGlobal), rows: &[Row]) {
+    for Row(words, input, end) in rows {
+        expect(rt, words, input.as_bytes(), end);
+    }
 }
 
-// The same of words that are refused before the input is read.
-pub(crate) fn expect_refused(
-    rt: &impl Abort,
-    alloc: Global,
-    words: &[&str],
-    status: u8,
-    line: &str,
-) -> Result<(), Fail> {
-    let (ended, told) = told_by(alloc, words, &mut no_input())?;
-    assert!(rt; told.as_str().starts_with(line), "{told}");
-    assert_eq!(rt; ended, status, "{told}");
-    Ok(())
+/// A run that reads no input ends so.
+pub(crate) fn expect_unread(rt: &(impl Abort + AllocGlobal), words: &[&str], end: &End) {
+    expect_end(rt, &told_by(rt, words, &mut no_input()), end);
+}
+
+/// Each of these runs reads no input, and ends so.
+pub(crate) fn expect_all_unread(rt: &(impl Abort + AllocGlobal), rows: &[(Words, End)]) {
+    for (words, end) in rows {
+        expect_unread(rt, words, end);
+    }
+}
+
+/// The front of the line about a form that is none of the three.
+pub(crate) fn form_line(rt: &(impl Abort + AllocGlobal), form: &str) -> String {
+    format!(in rt.alloc();
+        "error: invalid value '{form}' for '--form <FORM>'\n  [possible values: v1, v2, json]\n"
+    ).expect(rt, "memory")
 }

@@ -1,174 +1,141 @@
 //! Verifying, and texts that are no pass.
 
-use crate::runs::{JSON_TEXT, OTHER_TEXT, OTHER_V2, ROOT, TEXT, V2_TEXT, expect, expect_pass};
-use std::alloc::Global;
+use crate::runs::End::{Tells, Writes};
+use crate::runs::{
+    End, JSON_TEXT, MALFORMED, OTHER_TEXT, OTHER_V2, ROOT, Row, SHOW, TEXT, TO_V1, V2_TEXT, VERIFY,
+    Words, expect, expect_rows,
+};
 use std::process::Abort;
-use std::test::Fail;
 
-const MALFORMED: &str = "fault 2: malformed";
+const VERIFY_OTHER: Words = &["passtool", "verify", "--root", "00"];
+
+static SIGNED: [Row; 6] = [
+    Row(VERIFY, TEXT, Tells(0, "signed\n")),
+    Row(VERIFY, V2_TEXT, Tells(0, "signed\n")),
+    Row(VERIFY, JSON_TEXT, Tells(0, "signed\n")),
+    Row(VERIFY_OTHER, TEXT, Tells(1, "not signed\n")),
+    Row(VERIFY_OTHER, V2_TEXT, Tells(1, "not signed\n")),
+    Row(VERIFY_OTHER, JSON_TEXT, Tells(1, "not signed\n")),
+];
 
 #[test]
-fn tells_signed_from_not_signed(rt: HostRuntime) -> Result<(), Fail> {
-    for input in [TEXT, V2_TEXT, JSON_TEXT] {
-        for (root, status, line) in [(ROOT, 0, "signed\n"), ("00", 1, "not signed\n")] {
-            let words = ["passtool", "verify", "--root", root];
-            expect(
-                &rt,
-                rt.alloc(),
-                words.as_slice(),
-                input.as_bytes(),
-                status,
-                line,
-            )?;
-        }
+fn tells_signed_from_not_signed(rt: HostRuntime) {
+    expect_rows(&rt, &SIGNED);
+}
+
+// The runs of rows on inputs with more behind them.
+fn expect_behind(rt: &(impl Abort + AllocGlobal), rows: &[(&str, Row)]) {
+    for (more, Row(words, input, end)) in rows {
+        let longer = format!(in rt.alloc(); "{input}{more}").expect(rt, "memory");
+        expect(rt, words, longer.as_bytes(), end);
     }
-    Ok(())
+}
+
+static LINE_FEEDS: [(&str, Row); 2] = [
+    ("\n", Row(VERIFY, TEXT, Tells(0, "signed\n"))),
+    ("\n\n", Row(VERIFY, TEXT, MALFORMED)),
+];
+
+#[test]
+fn takes_one_line_feed_off(rt: HostRuntime) {
+    expect_behind(&rt, &LINE_FEEDS);
 }
 
 #[test]
-fn takes_one_line_feed_off(rt: HostRuntime) -> Result<(), Fail> {
-    let words = ["passtool", "verify", "--root", ROOT];
-    let mut text = String::from_str(rt.alloc(), TEXT)?;
-    text.push('\n')?;
-    expect(
-        &rt,
-        rt.alloc(),
-        words.as_slice(),
-        text.as_bytes(),
-        0,
-        "signed\n",
-    )?;
-    text.push('\n')?;
-    expect(
-        &rt,
-        rt.alloc(),
-        words.as_slice(),
-        text.as_bytes(),
-        3,
-        MALFORMED,
-    )
-}
-
-#[test]
-fn refuses_every_cut(rt: HostRuntime) -> Result<(), Fail> {
-    let words = ["passtool", "show"];
+fn refuses_every_cut(rt: HostRuntime) {
     for len in 0..TEXT.len() {
         let (cut, _) = TEXT.as_bytes().split_at(len);
-        expect(&rt, rt.alloc(), words.as_slice(), cut, 3, MALFORMED)?;
+        expect(&rt, SHOW, cut, &MALFORMED);
     }
-    Ok(())
 }
 
-#[test]
-fn refuses_texts_that_are_no_pass(rt: HostRuntime) -> Result<(), Fail> {
-    let words = ["passtool", "narrow", "guests <= 1"];
-    for input in [
-        // A byte behind the signature, in V1 and in V2.
-        "MDAxY2xvY2F0aW9uIGh0dHA6Ly9teWJhbmsvCjAwMjZpZGVudGlmaWVyIHdlIHVzZWQgb3VyIHNlY3JldCBrZXkKMDAxNmNpZCB0ZXN0ID0gY2F2ZWF0CjAwMmZzaWduYXR1cmUgGXusegRK8zMyhluSZuJtSTvdZopmDkTYjOGpmMI9vWcKeA",
-        "AgETaHR0cDovL2V4YW1wbGUub3JnLwIFa2V5aWQAAAYgfN7nklEcW8b1KEhYBd_psk54XijiqZMB-dcRxgnjjvcA",
-        // A length of two bytes where one is enough.
-        "AgKFAGtleWlkAAAGIHze55JRHFvG9ShIWAXf6bJOeF4o4qmTAfnXEcYJ4473",
-        // A packet of three bytes.
-        "MDAwMzAwMGVsb2NhdGlvbiAKMDAxMWlkZW50aWZpZXIgawowMDJmc2lnbmF0dXJlIHze55JRHFvG9ShIWAXf6bJOeF4o4qmTAfnXEcYJ4473Cg",
-        "{\"i\":\"keyid\",\"s64\":\"fN7nklEcW8b1KEhYBd_psk54XijiqZMB-dcRxgnjjvc\",\"v\":1}",
-        "{\"i\":\"keyid\",\"s64\":\"fN7nklEcW8b1KEhYBd_psk54XijiqZMB-dcRxgnjjvc\",\"x\":2}",
-        "{\"c\":null,\"i\":\"keyid\",\"s64\":\"fN7nklEcW8b1KEhYBd_psk54XijiqZMB-dcRxgnjjvc\"}",
-        "{\"c\":[{\"i\":\"c\",\"v64\":\"dg\"}],\"i\":\"k\",\"s64\":\"fN7nklEcW8b1KEhYBd_psk54XijiqZMB-dcRxgnjjvc\",\"x\":1}",
-        "{}",
-        "!",
-        "\n",
-        "",
-    ] {
-        expect(
-            &rt,
-            rt.alloc(),
-            words.as_slice(),
-            input.as_bytes(),
-            3,
-            MALFORMED,
-        )?;
-    }
-    expect(&rt, rt.alloc(), words.as_slice(), b"\xff\xfe", 3, MALFORMED)
-}
+static NO_PASSES: [&[u8]; 13] = [
+    // A byte behind the signature, in V1 and in V2.
+    b"MDAxY2xvY2F0aW9uIGh0dHA6Ly9teWJhbmsvCjAwMjZpZGVudGlmaWVyIHdlIHVzZWQgb3VyIHNlY3JldCBrZXkKMDAxNmNpZCB0ZXN0ID0gY2F2ZWF0CjAwMmZzaWduYXR1cmUgGXusegRK8zMyhluSZuJtSTvdZopmDkTYjOGpmMI9vWcKeA",
+    b"AgETaHR0cDovL2V4YW1wbGUub3JnLwIFa2V5aWQAAAYgfN7nklEcW8b1KEhYBd_psk54XijiqZMB-dcRxgnjjvcA",
+    // A length of two bytes where one is enough.
+    b"AgKFAGtleWlkAAAGIHze55JRHFvG9ShIWAXf6bJOeF4o4qmTAfnXEcYJ4473",
+    // A packet of three bytes.
+    b"MDAwMzAwMGVsb2NhdGlvbiAKMDAxMWlkZW50aWZpZXIgawowMDJmc2lnbmF0dXJlIHze55JRHFvG9ShIWAXf6bJOeF4o4qmTAfnXEcYJ4473Cg",
+    b"{\"i\":\"keyid\",\"s64\":\"fN7nklEcW8b1KEhYBd_psk54XijiqZMB-dcRxgnjjvc\",\"v\":1}",
+    b"{\"i\":\"keyid\",\"s64\":\"fN7nklEcW8b1KEhYBd_psk54XijiqZMB-dcRxgnjjvc\",\"x\":2}",
+    b"{\"c\":null,\"i\":\"keyid\",\"s64\":\"fN7nklEcW8b1KEhYBd_psk54XijiqZMB-dcRxgnjjvc\"}",
+    b"{\"c\":[{\"i\":\"c\",\"v64\":\"dg\"}],\"i\":\"k\",\"s64\":\"fN7nklEcW8b1KEhYBd_psk54XijiqZMB-dcRxgnjjvc\",\"x\":1}",
+    b"{}",
+    b"!",
+    b"\n",
+    b"",
+    b"\xff\xfe",
+];
+
+const NARROW_ONCE: Words = &["passtool", "narrow", "guests <= 1"];
 
 #[test]
-fn refuses_third_party_caveats_in_each_form(rt: HostRuntime) -> Result<(), Fail> {
-    let words = ["passtool", "convert", "--form", "v1"];
-    for input in [
+fn refuses_texts_that_are_no_pass(rt: HostRuntime) {
+    for input in &NO_PASSES {
+        expect(&rt, NARROW_ONCE, input, &MALFORMED);
+    }
+}
+
+const HAS_A_THIRD_PARTY: End = Tells(3, "fault 3: third-party caveat");
+
+static THIRD_PARTIES: [Row; 3] = [
+    Row(
+        TO_V1,
         "MDAwZWxvY2F0aW9uIAowMDEzaWRlbnRpZmllciBrZXkKMDAwYWNpZCBjCjAwMGF2aWQgdgowMDA5Y2wgbAowMDJmc2lnbmF0dXJlIAAAAAAAAAAAAAAAAAAAAAAAAAAAAAAAAAAAAAAAAAAACg",
+        HAS_A_THIRD_PARTY,
+    ),
+    Row(
+        TO_V1,
         "AgIBawACAWMEAXYAAAYgAAAAAAAAAAAAAAAAAAAAAAAAAAAAAAAAAAAAAAAAAAA",
+        HAS_A_THIRD_PARTY,
+    ),
+    Row(
+        TO_V1,
         "{\"c\":[{\"i\":\"c\",\"v64\":\"dg\"}],\"i\":\"k\",\"s64\":\"fN7nklEcW8b1KEhYBd_psk54XijiqZMB-dcRxgnjjvc\"}",
-    ] {
-        let fault = "fault 3: third-party caveat";
-        expect(
-            &rt,
-            rt.alloc(),
-            words.as_slice(),
-            input.as_bytes(),
-            3,
-            fault,
-        )?;
-    }
-    Ok(())
-}
-
-// Converts a text to V1, which gives the other pass or is refused as malformed.
-fn expect_read(rt: &impl Abort, alloc: Global, input: &str, status: u8) -> Result<(), Fail> {
-    let words = ["passtool", "convert", "--form", "v1"];
-    if status == 0 {
-        expect_pass(rt, alloc, words.as_slice(), input, OTHER_TEXT)
-    } else {
-        expect(
-            rt,
-            alloc,
-            words.as_slice(),
-            input.as_bytes(),
-            status,
-            MALFORMED,
-        )
-    }
-}
-
-// The same of a text with something behind it.
-fn expect_read_with(
-    rt: &impl Abort,
-    alloc: Global,
-    input: &str,
-    more: &str,
-    status: u8,
-) -> Result<(), Fail> {
-    let longer = format!(in alloc; "{input}{more}")?;
-    expect_read(rt, alloc, longer.as_str(), status)
-}
+        HAS_A_THIRD_PARTY,
+    ),
+];
 
 #[test]
-fn takes_either_alphabet_and_right_padding(rt: HostRuntime) -> Result<(), Fail> {
-    let standard =
-        "AgETaHR0cDovL2V4YW1wbGUub3JnLwIFa2V5aWQAAAYgfN7nklEcW8b1KEhYBd/psk54XijiqZMB+dcRxgnjjvc";
-    let mixed =
-        "AgETaHR0cDovL2V4YW1wbGUub3JnLwIFa2V5aWQAAAYgfN7nklEcW8b1KEhYBd_psk54XijiqZMB+dcRxgnjjvc";
-    let bits_left =
-        "AgETaHR0cDovL2V4YW1wbGUub3JnLwIFa2V5aWQAAAYgfN7nklEcW8b1KEhYBd/psk54XijiqZMB+dcRxgnjjvd";
-    for (input, status) in [(OTHER_V2, 0), (standard, 0), (mixed, 3), (bits_left, 3)] {
-        expect_read(&rt, rt.alloc(), input, status)?;
-    }
-    for (more, status) in [("=", 0), ("==", 3)] {
-        expect_read_with(&rt, rt.alloc(), standard, more, status)?;
-    }
-    Ok(())
+fn refuses_third_party_caveats_in_each_form(rt: HostRuntime) {
+    expect_rows(&rt, &THIRD_PARTIES);
 }
 
+// `OTHER_V2` in the standard alphabet.
+const STANDARD: &str =
+    "AgETaHR0cDovL2V4YW1wbGUub3JnLwIFa2V5aWQAAAYgfN7nklEcW8b1KEhYBd/psk54XijiqZMB+dcRxgnjjvc";
+
+const MIXED: &str =
+    "AgETaHR0cDovL2V4YW1wbGUub3JnLwIFa2V5aWQAAAYgfN7nklEcW8b1KEhYBd_psk54XijiqZMB+dcRxgnjjvc";
+
+const BITS_LEFT: &str =
+    "AgETaHR0cDovL2V4YW1wbGUub3JnLwIFa2V5aWQAAAYgfN7nklEcW8b1KEhYBd/psk54XijiqZMB+dcRxgnjjvd";
+
+static ALPHABETS: [(&str, Row); 6] = [
+    ("", Row(TO_V1, OTHER_V2, Writes(OTHER_TEXT))),
+    ("", Row(TO_V1, STANDARD, Writes(OTHER_TEXT))),
+    ("", Row(TO_V1, MIXED, MALFORMED)),
+    ("", Row(TO_V1, BITS_LEFT, MALFORMED)),
+    ("=", Row(TO_V1, STANDARD, Writes(OTHER_TEXT))),
+    ("==", Row(TO_V1, STANDARD, MALFORMED)),
+];
+
 #[test]
-fn tells_a_text_that_is_too_long(rt: HostRuntime) -> Result<(), Fail> {
-    let alloc = rt.alloc();
-    let words = ["passtool", "verify", "--root", ROOT];
-    for (len, line) in [
-        (8192, MALFORMED),
-        (8193, "fault 1: too long"),
-        (9000, "fault 1: too long"),
-    ] {
-        let text = vec![in alloc; b'A'; len]?;
-        expect(&rt, alloc, words.as_slice(), text.as_slice(), 3, line)?;
+fn takes_either_alphabet_and_right_padding(rt: HostRuntime) {
+    expect_behind(&rt, &ALPHABETS);
+}
+
+static LENGTHS: [(usize, End); 3] = [
+    (8192, MALFORMED),
+    (8193, Tells(3, "fault 1: too long")),
+    (9000, Tells(3, "fault 1: too long")),
+];
+
+#[test]
+fn tells_a_text_that_is_too_long(rt: HostRuntime) {
+    for (len, end) in &LENGTHS {
+        let text = vec![in rt.alloc(); b'A'; *len].expect(&rt, "memory");
+        expect(&rt, VERIFY, text.as_slice(), end);
     }
-    Ok(())
 }

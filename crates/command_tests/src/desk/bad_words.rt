@@ -1,276 +1,204 @@
 //! Words that are refused, and help.
 
-use super::ROOT;
-use desk_commands::{Asked, command_of, not_text};
-use std::alloc::Global;
+use super::words_of;
+use crate::runs::End::{Begins, Tells};
+use crate::runs::{End, Told, expect_end, expect_front, expect_part, form_line};
+use desk_commands::{Asked, Fault, command_of, not_text};
 use std::process::Abort;
-use std::test::Fail;
 
-// The words behind the program's name are refused with this status and a line that begins so.
-fn expect_refused(
-    rt: &impl Abort,
-    alloc: Global,
-    words: &[&str],
-    status: u8,
-    line: &str,
-) -> Result<(), Fail> {
-    let mut all = Vec::from_array(alloc, ["clubdesk"])?;
-    for word in words {
-        all.push(*word)?;
-    }
-    match command_of(alloc, all.as_slice()) {
-        Ok(_) => Err("asked for".into()),
-        Err(fault) => {
-            let told = fault.to_string(alloc)?;
-            assert!(rt; told.as_str().starts_with(line), "{told}");
-            assert_eq!(rt; fault.status(), status, "{told}");
-            Ok(())
-        }
+fn told_of(rt: &(impl Abort + AllocGlobal), fault: &Fault) -> Told {
+    Told {
+        status: fault.status(),
+        text: fault.to_string(rt.alloc()).expect(rt, "memory"),
     }
 }
 
-#[test]
-fn bad_values(rt: HostRuntime) -> Result<(), Fail> {
-    let alloc = rt.alloc();
-    for words in [
-        ["add-member", "F", "Amy", "5"].as_slice(),
-        ["add-member", "F", "", "5"].as_slice(),
-        ["add-member", "F", "amybobcydideeveflogushalfi", "5"].as_slice(),
-        ["add-member", "F", "amy", ""].as_slice(),
-        ["add-member", "F", "amy", "+5"].as_slice(),
-        ["add-member", "F", "amy", " 5"].as_slice(),
-        ["add-member", "F", "amy", "5x"].as_slice(),
-        ["add-member", "F", "amy", "1000000000"].as_slice(),
-        ["add-member", "F", "amy", "0000000005"].as_slice(),
-        ["credit", "F", "amy!", "1"].as_slice(),
-        ["credit", "F", "amy", "1.0"].as_slice(),
-        [
-            "add-facility",
-            "F",
-            "court-1",
-            "Court",
-            "4",
-            "200",
-            "8",
-            "22",
-        ]
-        .as_slice(),
-        [
-            "add-facility",
-            "F",
-            "court 1",
-            "court",
-            "4",
-            "200",
-            "8",
-            "22",
-        ]
-        .as_slice(),
-        [
-            "add-facility",
-            "F",
-            "court-1",
-            "court",
-            "x",
-            "200",
-            "8",
-            "22",
-        ]
-        .as_slice(),
-        ["add-facility", "F", "court-1", "court", "4", "x", "8", "22"].as_slice(),
-        [
-            "add-facility",
-            "F",
-            "court-1",
-            "court",
-            "4",
-            "200",
-            "x",
-            "22",
-        ]
-        .as_slice(),
-        [
-            "add-facility",
-            "F",
-            "court-1",
-            "court",
-            "4",
-            "200",
-            "8",
-            "x",
-        ]
-        .as_slice(),
-        ["revoke-key", "F", "amy_1"].as_slice(),
-        ["close-slot", "F", "court-1", "2026-02-29", "18"].as_slice(),
-        ["close-slot", "F", "court-1", "2026-05-01", "24"].as_slice(),
-        ["close-slot", "F", "court-1", "2026-05-01", "8"].as_slice(),
-        ["close-slot", "F", "Court-1", "2026-05-01", "18"].as_slice(),
-        ["sheet", "F", "1999-12-31"].as_slice(),
-        ["sheet", "F", "2100-01-01"].as_slice(),
-        ["sheet", "F", "2026-5-1"].as_slice(),
-        ["serve", "F", "--port", "65536", "--count", "1"].as_slice(),
-        ["serve", "F", "--port", "x", "--count", "1"].as_slice(),
-        ["serve", "F", "--port", "0", "--count", "0"].as_slice(),
-        ["serve", "F", "--port", "0", "--count", "1000001"].as_slice(),
-        ["serve", "F", "--port", "0", "--count", "1", "--zone", ""].as_slice(),
-        ["serve", "F", "--port", "0", "--count", "1", "--zone", "UTC"].as_slice(),
-        [
-            "serve",
-            "F",
-            "--port",
-            "0",
-            "--count",
-            "1",
-            "--zone",
-            "Europe/Berlin",
-        ]
-        .as_slice(),
-        [
-            "serve",
-            "F",
-            "--port",
-            "0",
-            "--count",
-            "1",
-            "--at",
-            "2026-05-01",
-        ]
-        .as_slice(),
-        [
-            "serve",
-            "F",
-            "--port",
-            "0",
-            "--count",
-            "1",
-            "--at",
-            "2026-05-01T24:00",
-        ]
-        .as_slice(),
-        // The zone is judged beside a fixed moment.
-        [
-            "serve",
-            "F",
-            "--port",
-            "0",
-            "--count",
-            "1",
-            "--at",
-            "2026-05-01T12:00",
-            "--zone",
-            "x",
-        ]
-        .as_slice(),
-    ] {
-        expect_refused(&rt, alloc, words, 3, "bad value")?;
-    }
-    Ok(())
+/// A fault has this status and this line.
+pub(super) fn expect_fault(rt: &(impl Abort + AllocGlobal), fault: &Fault, end: &End) {
+    expect_end(rt, &told_of(rt, fault), end);
 }
 
-#[test]
-fn bad_roots(rt: HostRuntime) -> Result<(), Fail> {
-    let alloc = rt.alloc();
-    let long = hex::encode(alloc, [0; 65])?;
-    for root in [
-        "",
-        // 15 bytes, and 16 with half a byte.
-        "000102030405060708090a0b0c0d0e",
-        "000102030405060708090a0b0c0d0e0f1",
-        "000102030405060708090a0b0c0d0e0g",
-        long.as_str(),
-    ] {
-        let words = ["add-key", "F", "k", "bob", root];
-        expect_refused(&rt, alloc, words.as_slice(), 3, "bad value")?;
-        let words = ["rotate-key", "F", "k", root, "2026-04-25T00:00"];
-        expect_refused(&rt, alloc, words.as_slice(), 3, "bad value")?;
+// The status and the line of the fault of words that are refused.
+fn told_by(rt: &(impl Abort + AllocGlobal), words: &[&str]) -> Told {
+    match command_of(rt.alloc(), words) {
+        Ok(_) => panic!(rt; "{words:?}"),
+        Err(fault) => told_of(rt, &fault),
     }
-    let words = ["rotate-key", "F", "k", ROOT, "1999-12-31T23:59"];
-    expect_refused(&rt, alloc, words.as_slice(), 3, "bad value")
+}
+
+// The words of each line are refused so.
+fn expect_refused(rt: &(impl Abort + AllocGlobal), lines: &[&str], end: &End) {
+    for line in lines {
+        let words = words_of(rt, line);
+        expect_end(rt, &told_by(rt, words.as_slice()), end);
+    }
+}
+
+static BAD_VALUES: [&str; 35] = [
+    "add-member|F|Amy|5",
+    "add-member|F||5",
+    "add-member|F|amybobcydideeveflogushalfi|5",
+    "add-member|F|amy|",
+    "add-member|F|amy|+5",
+    "add-member|F|amy| 5",
+    "add-member|F|amy|5x",
+    "add-member|F|amy|1000000000",
+    "add-member|F|amy|0000000005",
+    "credit|F|amy!|1",
+    "credit|F|amy|1.0",
+    "add-facility|F|court-1|Court|4|200|8|22",
+    "add-facility|F|court 1|court|4|200|8|22",
+    "add-facility|F|court-1|court|x|200|8|22",
+    "add-facility|F|court-1|court|4|x|8|22",
+    "add-facility|F|court-1|court|4|200|x|22",
+    "add-facility|F|court-1|court|4|200|8|x",
+    "revoke-key|F|amy_1",
+    "close-slot|F|court-1|2026-02-29|18",
+    "close-slot|F|court-1|2026-05-01|24",
+    "close-slot|F|court-1|2026-05-01|8",
+    "close-slot|F|Court-1|2026-05-01|18",
+    "sheet|F|1999-12-31",
+    "sheet|F|2100-01-01",
+    "sheet|F|2026-5-1",
+    "serve|F|--port|65536|--count|1",
+    "serve|F|--port|x|--count|1",
+    "serve|F|--port|0|--count|0",
+    "serve|F|--port|0|--count|1000001",
+    "serve|F|--port|0|--count|1|--zone|",
+    "serve|F|--port|0|--count|1|--zone|UTC",
+    "serve|F|--port|0|--count|1|--zone|Europe/Berlin",
+    "serve|F|--port|0|--count|1|--at|2026-05-01",
+    "serve|F|--port|0|--count|1|--at|2026-05-01T24:00",
+    // The zone is judged beside a fixed moment.
+    "serve|F|--port|0|--count|1|--at|2026-05-01T12:00|--zone|x",
+];
+
+#[test]
+fn bad_values(rt: HostRuntime) {
+    expect_refused(&rt, &BAD_VALUES, &Begins(3, "bad value"));
+}
+
+static BAD_ROOTS: [&str; 11] = [
+    "add-key|F|k|bob|",
+    // 15 bytes, and 16 with half a byte.
+    "add-key|F|k|bob|000102030405060708090a0b0c0d0e",
+    "add-key|F|k|bob|000102030405060708090a0b0c0d0e0f1",
+    "add-key|F|k|bob|000102030405060708090a0b0c0d0e0g",
+    // 65 bytes.
+    "add-key|F|k|bob|0000000000000000000000000000000000000000000000000000000000000000\
+    000000000000000000000000000000000000000000000000000000000000000000",
+    "rotate-key|F|k||2026-04-25T00:00",
+    // 15 bytes, and 16 with half a byte.
+    "rotate-key|F|k|000102030405060708090a0b0c0d0e|2026-04-25T00:00",
+    "rotate-key|F|k|000102030405060708090a0b0c0d0e0f1|2026-04-25T00:00",
+    "rotate-key|F|k|000102030405060708090a0b0c0d0e0g|2026-04-25T00:00",
+    // 65 bytes.
+    "rotate-key|F|k|0000000000000000000000000000000000000000000000000000000000000000\
+    000000000000000000000000000000000000000000000000000000000000000000|2026-04-25T00:00",
+    // A moment before the first.
+    "rotate-key|F|k|000102030405060708090a0b0c0d0e0f|1999-12-31T23:59",
+];
+
+#[test]
+fn bad_roots(rt: HostRuntime) {
+    expect_refused(&rt, &BAD_ROOTS, &Begins(3, "bad value"));
+}
+
+// Sixteen bytes, 0 to 15.
+const ROOT: &str = "000102030405060708090a0b0c0d0e0f";
+
+static OTHER_FORMS: [&str; 5] = ["", "v3", "V1", "JSON", "v1 "];
+
+// Words are refused by the line about this form.
+fn expect_other_form(rt: &(impl Abort + AllocGlobal), words: &[&str], form: &str) {
+    let told = told_by(rt, words);
+    expect_front(rt, &told, 2, form_line(rt, form).as_str());
 }
 
 // A form is judged before other values.
 #[test]
-fn bad_forms(rt: HostRuntime) -> Result<(), Fail> {
-    let alloc = rt.alloc();
-    for form in ["", "v3", "V1", "JSON", "v1 "] {
-        let line = format!(in alloc;
-            "error: invalid value '{form}' for '--form <FORM>'\n  [possible values: v1, v2, json]\n"
-        )?;
-        let words = ["add-key", "F", "K", "BOB", "zz", "--form", form];
-        expect_refused(&rt, alloc, words.as_slice(), 2, line.as_str())?;
-        let words = ["rotate-key", "F", "k", ROOT, "never", "--form", form];
-        expect_refused(&rt, alloc, words.as_slice(), 2, line.as_str())?;
+fn bad_forms(rt: HostRuntime) {
+    for form in &OTHER_FORMS {
+        let words = ["clubdesk", "add-key", "F", "K", "BOB", "zz", "--form", form];
+        expect_other_form(&rt, &words, form);
+        let words = [
+            "clubdesk",
+            "rotate-key",
+            "F",
+            "k",
+            ROOT,
+            "never",
+            "--form",
+            form,
+        ];
+        expect_other_form(&rt, &words, form);
     }
-    Ok(())
 }
 
+static BAD_WORDS: [&str; 24] = [
+    "frob",
+    "help|frob",
+    "add-member|--version",
+    "add-member",
+    "add-member|F|amy",
+    "add-member|F|amy|5|6",
+    "add-member|F|-amy|5",
+    "add-member|F|amy|-5",
+    "add-member|F|amy|5|--form|v1",
+    "credit|F",
+    "add-facility|F|court-1|court|4|200|8",
+    "add-key|F|k|bob",
+    "add-key|F|k|bob|000102030405060708090a0b0c0d0e0f|--form",
+    "add-key|F|k|bob|000102030405060708090a0b0c0d0e0f|--form|v1|--form|v2",
+    "revoke-key|F",
+    "rotate-key|F|k|000102030405060708090a0b0c0d0e0f",
+    "close-slot|F|court-1|2026-05-01",
+    "sheet|F",
+    "sheet",
+    "serve|F",
+    "serve|F|--port|0",
+    "serve|F|--count|1",
+    "serve|--port|0|--count|1",
+    "serve|F|--port|0|--count|1|--verbose",
+];
+
 #[test]
-fn words_that_clap_refuses(rt: HostRuntime) -> Result<(), Fail> {
-    for words in [
-        ["frob"].as_slice(),
-        ["help", "frob"].as_slice(),
-        ["add-member", "--version"].as_slice(),
-        ["add-member"].as_slice(),
-        ["add-member", "F", "amy"].as_slice(),
-        ["add-member", "F", "amy", "5", "6"].as_slice(),
-        ["add-member", "F", "-amy", "5"].as_slice(),
-        ["add-member", "F", "amy", "-5"].as_slice(),
-        ["add-member", "F", "amy", "5", "--form", "v1"].as_slice(),
-        ["credit", "F"].as_slice(),
-        ["add-facility", "F", "court-1", "court", "4", "200", "8"].as_slice(),
-        ["add-key", "F", "k", "bob"].as_slice(),
-        ["add-key", "F", "k", "bob", ROOT, "--form"].as_slice(),
-        [
-            "add-key", "F", "k", "bob", ROOT, "--form", "v1", "--form", "v2",
-        ]
-        .as_slice(),
-        ["revoke-key", "F"].as_slice(),
-        ["rotate-key", "F", "k", ROOT].as_slice(),
-        ["close-slot", "F", "court-1", "2026-05-01"].as_slice(),
-        ["sheet", "F"].as_slice(),
-        ["sheet"].as_slice(),
-        ["serve", "F"].as_slice(),
-        ["serve", "F", "--port", "0"].as_slice(),
-        ["serve", "F", "--count", "1"].as_slice(),
-        ["serve", "--port", "0", "--count", "1"].as_slice(),
-        ["serve", "F", "--port", "0", "--count", "1", "--verbose"].as_slice(),
-    ] {
-        expect_refused(&rt, rt.alloc(), words, 2, "error: ")?;
-    }
-    Ok(())
+fn words_that_clap_refuses(rt: HostRuntime) {
+    expect_refused(&rt, &BAD_WORDS, &Begins(2, "error: "));
 }
 
 // The text that clap writes in Rust.
-#[test]
-fn words_that_are_no_text(rt: HostRuntime) -> Result<(), Fail> {
-    let fault = not_text(rt.alloc());
-    let told = fault.to_string(rt.alloc())?;
-    assert_eq!(rt;
-        told.as_str(),
-        "error: invalid UTF-8 was detected in one or more arguments\n\nUsage: clubdesk <COMMAND>\n\nFor more information, try '--help'.\n"
-    );
-    assert_eq!(rt; fault.status(), 2);
-    Ok(())
-}
+const NOT_TEXT: End = Tells(
+    2,
+    "error: invalid UTF-8 was detected in one or more arguments\n\nUsage: clubdesk <COMMAND>\n\nFor more information, try '--help'.\n",
+);
 
 #[test]
-fn help(rt: HostRuntime) -> Result<(), Fail> {
-    let alloc = rt.alloc();
-    for words in [
-        ["clubdesk", "--help"].as_slice(),
-        ["clubdesk", "help"].as_slice(),
-        ["clubdesk", "help", "serve"].as_slice(),
-        ["clubdesk", "add-facility", "-h"].as_slice(),
-        ["clubdesk", "--version"].as_slice(),
-        ["clubdesk", "-V"].as_slice(),
-    ] {
-        match command_of(alloc, words) {
-            Ok(Asked::ShowText(help)) => {
-                let told = help.to_string(alloc)?;
-                assert!(rt; told.as_str().contains("clubdesk"), "{told}");
-            }
-            _ => return Err("no help".into()),
-        }
+fn words_that_are_no_text(rt: HostRuntime) {
+    expect_fault(&rt, &not_text(rt.alloc()), &NOT_TEXT);
+}
+
+static HELP: [&str; 6] = [
+    "--help",
+    "help",
+    "help|serve",
+    "add-facility|-h",
+    "--version",
+    "-V",
+];
+
+fn help_of(rt: &(impl Abort + AllocGlobal), words: &[&str]) -> String {
+    match command_of(rt.alloc(), words) {
+        Ok(Asked::ShowText(help)) => help.to_string(rt.alloc()).expect(rt, "memory"),
+        _ => panic!(rt; "{words:?}"),
     }
-    Ok(())
+}
+
+// The text that is shown names the program.
+#[test]
+fn help(rt: HostRuntime) {
+    for line in &HELP {
+        let words = words_of(&rt, line);
+        expect_part(&rt, help_of(&rt, words.as_slice()).as_str(), "clubdesk");
+    }
 }
