@@ -31,11 +31,12 @@ twice_defined() {
 }
 
 # A line of code is at most 100 columns long, a comment, an import or a line of specs/ or proofs/ 160. A line for each file. What
-# begins with a literal may be longer, so that a known pass can be searched for whole; an attribute can't be broken.
+# begins with a literal, or with a field that is one, may be longer, so that a known pass can be searched for whole; an attribute
+# can't be broken.
 too_long() {
-    find "crates/$1/src" -name '*.rt' -exec grep -HnE '^.{101,}' {} + | grep -vE '^[^:]*:[0-9]+: *(//|ghost use|b?"|#\[)' | by_file 100
+    find "crates/$1/src" -name '*.rt' -exec grep -HnE '^.{101,}' {} + | grep -vE '^[^:]*:[0-9]+: *(//|ghost use|([a-z_]+: )?b?"|#\[)' | by_file 100
     find "crates/$1" -path '*/out/*' -prune -o \( -name '*.rt' -o -name '*.antt' \) -exec grep -HnE '^.{161,}' {} + |
-        grep -vE '^[^:]*:[0-9]+: *b?"' | by_file 160
+        grep -vE '^[^:]*:[0-9]+: *([a-z_]+: )?b?"' | by_file 160
 }
 
 # by_file COLUMNS: of lines `FILE:LINE:TEXT`, how many each file has, and where the first stands.
