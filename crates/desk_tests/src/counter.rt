@@ -1,20 +1,17 @@
-//! A desk over tables in memory, and passes for it.
+//! A desk over tables in memory, and the steps of a worked row.
 
-use crate::values::{add_facility, add_key, add_member, at, credit, name, root};
-use club_core::{Command, Reply, Request, Root};
-use club_gate::{Desk, OfficeReply, Words, key_signature, minted};
+use crate::expect::{expect_at, expect_eq};
+use crate::office::{FIXTURE, Order};
+use crate::passes::{FORMS, Shown};
+use crate::said::{Asked, Told};
+use crate::values::at;
+use club_core::{ClubStore, Reply};
+use club_gate::{Desk, OfficeReply, Words};
 use club_store::Store;
-use pass_caveats::Kind;
-use pass_forms::{Form, Pass, narrow};
-use pass_json::write_any;
+use pass_forms::Form;
 use sqlite::MemStore;
 use std::alloc::Global;
 use std::process::Abort;
-
-pub(crate) const FORMS: [Form; 3] = [Form::V1, Form::V2, Form::Json];
-
-// The byte of which the roots of the fixture's keys are made.
-pub(crate) const ROOT_BYTE: u8 = 7;
 
 pub(crate) type MemoryDesk = Desk<Store<MemStore>>;
 
@@ -25,116 +22,88 @@ pub(crate) struct Counter {
     pub form: Form,
 }
 
+/// A step of a worked row.
+#[derive(Clone, Copy)]
+pub(crate) enum Step {
+    /// At a moment, under a pass, this is asked, and this is told.
+    Asks(u32, Shown, Asked, Told),
+    /// The office orders this, which is done.
+    Orders(Order),
+    /// The office orders this, and is answered so.
+    IsAnswered(Order, OfficeReply),
+}
+
 /// A desk over the tables of an empty club.
-pub(crate) fn empty_desk(rt: &impl Abort, alloc: Global) -> MemoryDesk {
-    Desk::new(
-        alloc,
-        Store::open_in_memory(alloc).expect(rt, "empty tables"),
-    )
+pub(crate) fn empty_desk(rt: &(impl Abort + Alloc<A = Global>)) -> MemoryDesk {
+    let store = Store::open_in_memory(rt.alloc()).expect(rt, "empty tables");
+    Desk::new(rt.alloc(), store)
 }
 
 /// Gives an order that is to be done.
-pub(crate) fn order(rt: &impl Abort, desk: &mut MemoryDesk, command: &Command) {
-    let done = !matches!(desk.office(command), OfficeReply::Refused(_));
-    assert!(rt; done, "an order that is done");
+pub(crate) fn carry_out(rt: &impl Abort, desk: &mut MemoryDesk, order: &Order) {
+    let answer = desk.office(&order.command(rt));
+    expect_eq(rt, &matches!(answer, OfficeReply::Refused(_)), &false);
 }
 
-/// A member with a key, a quota and points.
-pub(crate) fn join(
-    rt: &impl Abort,
-    desk: &mut MemoryDesk,
-    member: &[u8],
-    key: &[u8],
-    quota: u32,
-    points: u32,
-) {
-    order(rt, desk, &add_member(rt, member, quota));
-    order(rt, desk, &credit(rt, member, points));
-    order(rt, desk, &add_key(rt, key, member, root(rt, ROOT_BYTE)));
-}
-
-/// The fixture. Members `amy` and `bob`, each with quota 5, 10,000 points and a key; `court-1` with
-/// 4 places for 200 points and `room-1` with 1 place for 601, both from 8 to 22.
+/// The fixture.
 pub(crate) fn opened(rt: &(impl Abort + Alloc<A = Global>), form: Form) -> Counter {
-    let mut desk = empty_desk(rt, rt.alloc());
-    join(rt, &mut desk, b"amy", b"amy-1", 5, 10_000);
-    join(rt, &mut desk, b"bob", b"bob-1", 5, 10_000);
-    order(
-        rt,
-        &mut desk,
-        &add_facility(rt, b"court-1", Kind::Court, 4, 200),
-    );
-    order(
-        rt,
-        &mut desk,
-        &add_facility(rt, b"room-1", Kind::Room, 1, 601),
-    );
+    let mut desk = empty_desk(rt);
+    for order in &FIXTURE {
+        carry_out(rt, &mut desk, order);
+    }
     Counter { desk, form }
 }
 
-/// The pass of a key under a root, as the office hands it out.
-pub(crate) fn pass_of(rt: &impl Abort, alloc: Global, key: &[u8], root: &Root) -> Pass {
-    let name = name(rt, key);
-    minted(alloc, &name, key_signature(&name, root)).expect(rt, "memory")
-}
-
-/// Adds caveats, without the root.
-pub(crate) fn narrow_by(rt: &impl Abort, alloc: Global, pass: &mut Pass, caveats: &[&str]) {
-    for caveat in caveats {
-        narrow(alloc, pass, caveat.as_bytes()).expect(rt, "a narrower pass");
-    }
+/// The reply at a moment to a request whose pass is these bytes.
+pub(crate) fn reply<S: ClubStore>(
+    rt: &impl Abort,
+    desk: &mut Desk<S>,
+    moment: u32,
+    pass: &[u8],
+    asked: &Asked,
+) -> Reply {
+    let request = asked.request(rt);
+    desk.ask(at(rt, moment), &Words { pass, request })
 }
 
 impl Counter {
-    /// The reply to a request whose pass is this text.
-    pub fn ask_by_text(
-        &mut self,
-        rt: &impl Abort,
-        text: &str,
-        request: Request,
-        moment: u32,
-    ) -> Reply {
-        let words = Words {
-            pass: text.as_bytes(),
-            request,
-        };
-        self.desk.ask(at(rt, moment), &words)
-    }
-
-    /// The reply to a request under this pass.
-    pub fn ask_by_pass(
+    /// The reply at a moment under a pass.
+    fn reply(
         &mut self,
         rt: &(impl Abort + Alloc<A = Global>),
-        pass: &Pass,
-        request: Request,
         moment: u32,
+        shown: &Shown,
+        asked: &Asked,
     ) -> Reply {
-        let text = write_any(rt.alloc(), self.form, pass).expect(rt, "the text of a pass");
-        self.ask_by_text(rt, text.as_str(), request, moment)
+        let text = shown.text(rt, self.form);
+        reply(rt, &mut self.desk, moment, text.as_bytes(), asked)
     }
 
-    /// The reply to a request under a key's pass without caveats.
-    pub fn ask(
-        &mut self,
-        rt: &(impl Abort + Alloc<A = Global>),
-        key: &[u8],
-        request: Request,
-        moment: u32,
-    ) -> Reply {
-        let pass = pass_of(rt, rt.alloc(), key, &root(rt, ROOT_BYTE));
-        self.ask_by_pass(rt, &pass, request, moment)
+    fn play(&mut self, rt: &(impl Abort + Alloc<A = Global>), row: usize, step: &Step) {
+        match step {
+            Step::Asks(moment, shown, asked, told) => {
+                let reply = self.reply(rt, *moment, shown, asked);
+                expect_at(rt, row, &reply, &told.reply(rt));
+            }
+            Step::Orders(order) => carry_out(rt, &mut self.desk, order),
+            Step::IsAnswered(order, answer) => {
+                expect_at(rt, row, &self.desk.office(&order.command(rt)), answer);
+            }
+        }
     }
 
-    /// The reply to a request of amy's, under her pass with these caveats.
-    pub fn ask_under(
-        &mut self,
-        rt: &(impl Abort + Alloc<A = Global>),
-        caveats: &[&str],
-        request: Request,
-        moment: u32,
-    ) -> Reply {
-        let mut pass = pass_of(rt, rt.alloc(), b"amy-1", &root(rt, ROOT_BYTE));
-        narrow_by(rt, rt.alloc(), &mut pass, caveats);
-        self.ask_by_pass(rt, &pass, request, moment)
+    /// Ends the test unless it goes by these steps.
+    pub fn plays(&mut self, rt: &(impl Abort + Alloc<A = Global>), steps: &[Step]) {
+        for (row, step) in steps.iter().enumerate() {
+            self.play(rt, row, step);
+        }
+    }
+}
+
+/// Ends the test unless it goes by these steps from the fixture on, in each form.
+pub(crate) fn goes_by(rt: &(impl Abort + Alloc<A = Global>), steps: &[Step]) {
+    for form in &FORMS {
+        let mut counter = opened(rt, *form);
+        counter.plays(rt, steps);
     }
 }

@@ -2,15 +2,12 @@
 
 ghost use Rattle.std.specs.Prelude.{◌<◌};
 
-use crate::counter::{FORMS, ROOT_BYTE};
-use crate::values::{
-    START, add_facility, add_key, add_member, at, book_at, cancel_at, credit, name, revoke_key,
-    root, slot,
-};
-use club_core::{Command, Request};
-use pass_caveats::{Kind, Slot};
+use crate::office::Order;
+use crate::passes::{FORMS, Shown};
+use crate::said::{Asked, COURT, PlainSlot, ROOM};
+use crate::values::{ROOT, SECOND_ROOT, START};
+use pass_caveats::Kind;
 use pass_forms::Form;
-use std::process::Abort;
 
 // The linear congruential generator of Knuth's MMIX, of whose 64 bits the upper 31 are used.
 const FACTOR: u64 = 6_364_136_223_846_793_005;
@@ -19,15 +16,20 @@ const SUMMAND: u64 = 1_442_695_040_888_963_407;
 
 const UNUSED_BITS: u32 = 33;
 
-pub(crate) const MEMBERS: [&[u8]; 3] = [b"amy", b"bob", b"cy"];
+pub(crate) const AMY: &[u8] = b"amy";
 
-pub(crate) const KEYS: [&[u8]; 4] = [b"amy-1", b"bob-1", b"cy-1", b"spare"];
+static MEMBERS: [&[u8]; 3] = [AMY, b"bob", b"cy"];
+
+static KEYS: [&[u8]; 4] = [b"amy-1", b"bob-1", b"cy-1", SPARE];
+
+// The key that no member begins with.
+const SPARE: &[u8] = b"spare";
 
 // The slots on 2026-05-01.
-pub(crate) const SLOTS: [(&[u8], u8); 3] = [(b"court-1", 18), (b"court-1", 19), (b"room-1", 18)];
+pub(crate) static SLOTS: [PlainSlot; 3] = [COURT, PlainSlot { hour: 19, ..COURT }, ROOM];
 
 // What a pass may carry.
-const CAVEATS: [&[&str]; 12] = [
+static CAVEATS: [&[&str]; 12] = [
     &[],
     &[],
     &[],
@@ -42,25 +44,31 @@ const CAVEATS: [&[&str]; 12] = [
     &["days = 2026-05-01..2026-05-02", "shoe = red"],
 ];
 
-/// The bytes of which roots are made. The first is that of the keys that a club begins with.
-pub(crate) const ROOT_BYTES: [u8; 2] = [ROOT_BYTE, 8];
+/// The roots of keys. The first is that of the keys that a club begins with.
+static ROOTS: [&[u8]; 2] = [ROOT, SECOND_ROOT];
 
 /// A request, and the pass that comes with it.
 #[derive(Clone, Copy)]
-pub(crate) struct Asked {
+pub(crate) struct Asking {
     pub key: &'static [u8],
-    pub root_byte: u8,
+    pub root: &'static [u8],
     pub caveats: &'static [&'static str],
     pub form: Form,
-    pub request: Request,
+    pub asked: Asked,
     pub moment: u32,
+}
+
+impl Asking {
+    pub fn shown(&self) -> Shown {
+        Shown::Of(self.key, self.root, self.caveats)
+    }
 }
 
 /// What happens next.
 #[derive(Clone, Copy)]
 pub(crate) enum Event {
-    Asked(Asked),
-    Ordered(Command),
+    Asked(Asking),
+    Ordered(Order),
 }
 
 /// The row of numbers, from the next one on.
@@ -76,7 +84,7 @@ impl Numbers {
     }
 
     /// The next number, brought below a bound.
-    pub fn below(&mut self, bound: u32) -> u32
+    fn below(&mut self, bound: u32) -> u32
         requires { 0 < bound }
         ensures { result < bound }
     {
@@ -84,28 +92,26 @@ impl Numbers {
         ((self.state >> UNUSED_BITS) % u64::from(bound)) as u32
     }
 
-    fn slot(&mut self, rt: &impl Abort) -> Slot {
-        let (facility, hour) = SLOTS[self.below(3) as usize];
-        slot(rt, facility, hour)
+    fn slot(&mut self) -> PlainSlot {
+        SLOTS[self.below(3) as usize]
     }
 
     // Three times in four a number goes with the same slot.
-    fn slot_of(&mut self, rt: &impl Abort, booking: u32) -> Slot {
+    fn slot_of(&mut self, booking: u32) -> PlainSlot {
         if self.below(4) == 0 {
-            return self.slot(rt);
+            return self.slot();
         }
-        let (facility, hour) = SLOTS[(booking % 3) as usize];
-        slot(rt, facility, hour)
+        SLOTS[(booking % 3) as usize]
     }
 
-    fn request(&mut self, rt: &impl Abort) -> Request {
+    fn asked(&mut self) -> Asked {
         let booking = 1 + self.below(6);
-        let slot = self.slot_of(rt, booking);
+        let slot = self.slot_of(booking);
         match self.below(10) {
-            0..=3 => book_at(rt, slot, booking, self.below(2) as u8),
-            4..=6 => cancel_at(rt, slot, booking),
-            7 | 8 => Request::Account,
-            _ => Request::View { slot },
+            0..=3 => Asked::Book(slot, booking, self.below(2) as u8),
+            4..=6 => Asked::Cancel(slot, booking),
+            7 | 8 => Asked::Account,
+            _ => Asked::View(slot),
         }
     }
 
@@ -118,50 +124,43 @@ impl Numbers {
     }
 
     // One pass in four is signed under another root than the first.
-    fn asked(&mut self, rt: &impl Abort) -> Asked {
+    fn asking(&mut self) -> Asking {
         let is_other = self.below(4) == 0;
-        Asked {
+        Asking {
             key: KEYS[self.below(4) as usize],
-            root_byte: if is_other {
-                ROOT_BYTES[1]
-            } else {
-                ROOT_BYTES[0]
-            },
+            root: ROOTS[usize::from(is_other)],
             caveats: CAVEATS[self.below(12) as usize],
             form: FORMS[self.below(3) as usize],
-            request: self.request(rt),
+            asked: self.asked(),
             moment: self.moment(),
         }
     }
 
-    fn rotation(&mut self, rt: &impl Abort, key: &[u8]) -> Command {
-        Command::RotateKey {
-            name: name(rt, key),
-            root: root(rt, ROOT_BYTES[self.below(2) as usize]),
-            until: at(rt, self.moment()),
-        }
+    fn rotation(&mut self, key: &'static [u8]) -> Order {
+        let root = ROOTS[self.below(2) as usize];
+        Order::RotateKey(key, root, self.moment())
     }
 
-    fn command(&mut self, rt: &impl Abort) -> Command {
+    fn order(&mut self) -> Order {
         let member = MEMBERS[self.below(3) as usize];
         let key = KEYS[self.below(4) as usize];
         match self.below(24) {
-            0..=7 => credit(rt, member, self.below(400)),
-            8 => revoke_key(rt, key),
-            9 | 10 => Command::CloseSlot(self.slot(rt)),
-            11..=14 => self.rotation(rt, key),
-            15..=17 => add_key(rt, KEYS[3], member, root(rt, ROOT_BYTES[0])),
-            18 => add_key(rt, key, member, root(rt, ROOT_BYTES[1])),
-            19..=21 => add_member(rt, member, 90 + self.below(20)),
-            _ => add_facility(rt, b"court-2", Kind::Court, 40 + self.below(20), 200),
+            0..=7 => Order::Credit(member, self.below(400)),
+            8 => Order::RevokeKey(key),
+            9 | 10 => Order::CloseSlot(self.slot()),
+            11..=14 => self.rotation(key),
+            15..=17 => Order::AddKey(SPARE, member, ROOT),
+            18 => Order::AddKey(key, member, SECOND_ROOT),
+            19..=21 => Order::AddMember(member, 90 + self.below(20)),
+            _ => Order::AddFacility(b"court-2", Kind::Court, 40 + self.below(20), 200, 8),
         }
     }
 
     /// The next event: a request, or once in six an order.
-    pub fn event(&mut self, rt: &impl Abort) -> Event {
+    pub fn event(&mut self) -> Event {
         match self.below(6) {
-            0 => Event::Ordered(self.command(rt)),
-            _ => Event::Asked(self.asked(rt)),
+            0 => Event::Ordered(self.order()),
+            _ => Event::Asked(self.asking()),
         }
     }
 }

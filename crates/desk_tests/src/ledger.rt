@@ -1,11 +1,14 @@
 //! Stored totals and kept keys, and what the office is told.
 
-use crate::counter::{Counter, ROOT_BYTE, opened, order};
-use crate::values::{
-    NOON, START, account, add_key, add_member, book, book_at, booked, cancel_at, cancelled, credit,
-    name, revoke_key, room, root, slot,
+use crate::counter::{Counter, Step, goes_by, opened, reply};
+use crate::expect::{expect_at, expect_eq};
+use crate::office::Order;
+use crate::passes::{AMY, pass_of, text_of};
+use crate::said::{
+    ACCOUNT, ACCOUNT_BEFORE, BOOK_7, BOOK_ROOM, BOOKED_7, CANCEL_ROOM, COURT, HALF_BACK, PlainSlot,
+    ROOM_BOOKED, Told,
 };
-use club_core::{Command, Request};
+use crate::values::{NOON, ROOT, START, add_key};
 use club_gate::{Desk, Fault, OfficeReply};
 use pass_caveats::Kind;
 use pass_forms::Form;
@@ -13,18 +16,19 @@ use std::alloc::Global;
 use std::process::Abort;
 use std::test::*;
 
-// The sum of a member's charges and refunds follows a cancellation for half the charge.
+const ONE_LEFT: Told = Told::Account(9_099, 1, 901);
+
+/// The sum of a member's charges and refunds follows a cancellation for half the charge.
+static TOTALS: [Step; 4] = [
+    Step::Asks(NOON, AMY, BOOK_7, BOOKED_7),
+    Step::Asks(NOON, AMY, BOOK_ROOM, ROOM_BOOKED),
+    Step::Asks(START - 1439, AMY, CANCEL_ROOM, HALF_BACK),
+    Step::Asks(START - 1439, AMY, ACCOUNT, ONE_LEFT),
+];
+
 #[test]
 fn keeps_the_totals(rt: HostRuntime) {
-    let mut counter = opened(&rt, Form::V2);
-    let first = counter.ask(&rt, b"amy-1", book(&rt, 18, 7, 2), NOON);
-    assert_eq!(rt; first, booked(&rt, b"amy-1", 7, 600, 1));
-    let second = counter.ask(&rt, b"amy-1", book_at(&rt, room(&rt), 8, 0), NOON);
-    assert_eq!(rt; second, booked(&rt, b"amy-1", 8, 601, 0));
-    let back = counter.ask(&rt, b"amy-1", cancel_at(&rt, room(&rt), 8), START - 1439);
-    assert_eq!(rt; back, cancelled(&rt, b"amy-1", 8, 300));
-    let shown = counter.ask(&rt, b"amy-1", Request::Account, START - 1439);
-    assert_eq!(rt; shown, account(&rt, 9_099, 1, 901));
+    goes_by(&rt, &TOTALS);
 }
 
 // More keys than the desk keeps.
@@ -35,11 +39,30 @@ fn key_text(index: u8) -> [u8; 2] {
     [b'0' + index / 10 % 10, b'0' + index % 10]
 }
 
-/// Whether each of the many keys is told the account.
+fn add_keys(rt: &impl Abort, counter: &mut Counter) {
+    for index in 0..KEYS {
+        let order = add_key(rt, &key_text(index), b"amy", ROOT);
+        let answer = counter.desk.office(&order);
+        expect_eq(rt, &matches!(answer, OfficeReply::Key { .. }), &true);
+    }
+}
+
+/// Ends the test unless each of the many keys is told the account.
 fn are_told(rt: &(impl Abort + Alloc<A = Global>), counter: &mut Counter) {
     for index in 0..KEYS {
-        let reply = counter.ask(rt, &key_text(index), Request::Account, NOON);
-        assert_eq!(rt; reply, account(rt, 10_000, 0, 0), "{index}");
+        let pass = pass_of(rt, &key_text(index), ROOT);
+        let text = text_of(rt, Form::V2, &pass);
+        let told = reply(rt, &mut counter.desk, NOON, text.as_bytes(), &ACCOUNT);
+        expect_at(rt, usize::from(index), &told, &ACCOUNT_BEFORE.reply(rt));
+    }
+}
+
+/// The same tables, under a desk that keeps no key yet.
+fn renewed(rt: &impl Alloc<A = Global>, counter: Counter) -> Counter {
+    let Counter { desk, form } = counter;
+    Counter {
+        desk: Desk::new(rt.alloc(), desk.into_store()),
+        form,
     }
 }
 
@@ -48,54 +71,45 @@ fn are_told(rt: &(impl Abort + Alloc<A = Global>), counter: &mut Counter) {
 #[test]
 fn answers_more_keys_than_it_keeps(rt: HostRuntime) {
     let mut counter = opened(&rt, Form::V2);
-    for index in 0..KEYS {
-        let added = add_key(&rt, &key_text(index), b"amy", root(&rt, ROOT_BYTE));
-        order(&rt, &mut counter.desk, &added);
-    }
+    add_keys(&rt, &mut counter);
     are_told(&rt, &mut counter);
     are_told(&rt, &mut counter);
-    let mut fresh = Counter {
-        desk: Desk::new(rt.alloc(), counter.desk.into_store()),
-        form: Form::V2,
-    };
-    are_told(&rt, &mut fresh);
+    let mut counter = renewed(&rt, counter);
+    are_told(&rt, &mut counter);
 }
 
-fn court(rt: &impl Abort, places: u32, opens: u32) -> Command {
-    Command::AddFacility {
-        name: name(rt, b"court-2"),
-        kind: Kind::Court,
-        places,
-        price: 200,
-        opens,
-        shuts: 22,
-    }
-}
+const EXISTS: OfficeReply = OfficeReply::Refused(Fault::Exists);
+
+const UNKNOWN: OfficeReply = OfficeReply::Refused(Fault::Unknown);
+
+const OUT_OF_RANGE: OfficeReply = OfficeReply::Refused(Fault::OutOfRange);
+
+const TOO_MANY_PLACES: Order = Order::AddFacility(b"court-2", Kind::Court, 51, 200, 8);
+
+const NEVER_OPEN: Order = Order::AddFacility(b"court-2", Kind::Court, 4, 200, 22);
+
+const CLOSE_AT_22: Order = Order::CloseSlot(PlainSlot { hour: 22, ..COURT });
+
+const CLOSE_ELSEWHERE: Order = Order::CloseSlot(PlainSlot {
+    facility: b"court-2",
+    ..COURT
+});
+
+static REFUSED: [Step; 11] = [
+    Step::IsAnswered(Order::AddMember(b"amy", 5), EXISTS),
+    Step::IsAnswered(Order::AddMember(b"amy", 100), OUT_OF_RANGE),
+    Step::IsAnswered(Order::Credit(b"amy", 0), OUT_OF_RANGE),
+    Step::IsAnswered(Order::Credit(b"cy", 1), UNKNOWN),
+    Step::IsAnswered(TOO_MANY_PLACES, OUT_OF_RANGE),
+    Step::IsAnswered(NEVER_OPEN, OUT_OF_RANGE),
+    Step::IsAnswered(Order::AddKey(b"cy-1", b"cy", ROOT), UNKNOWN),
+    Step::IsAnswered(Order::AddKey(b"amy-1", b"bob", ROOT), EXISTS),
+    Step::IsAnswered(Order::RevokeKey(b"cy-1"), UNKNOWN),
+    Step::IsAnswered(CLOSE_ELSEWHERE, UNKNOWN),
+    Step::IsAnswered(CLOSE_AT_22, OUT_OF_RANGE),
+];
 
 #[test]
 fn tells_the_office_why(rt: HostRuntime) {
-    let mut counter = opened(&rt, Form::V2);
-    let root = root(&rt, ROOT_BYTE);
-    let cases = [
-        (add_member(&rt, b"amy", 5), Fault::Exists),
-        (add_member(&rt, b"amy", 100), Fault::OutOfRange),
-        (credit(&rt, b"amy", 0), Fault::OutOfRange),
-        (credit(&rt, b"cy", 1), Fault::Unknown),
-        (court(&rt, 51, 8), Fault::OutOfRange),
-        (court(&rt, 4, 22), Fault::OutOfRange),
-        (add_key(&rt, b"cy-1", b"cy", root), Fault::Unknown),
-        (add_key(&rt, b"amy-1", b"bob", root), Fault::Exists),
-        (revoke_key(&rt, b"cy-1"), Fault::Unknown),
-        (
-            Command::CloseSlot(slot(&rt, b"court-2", 18)),
-            Fault::Unknown,
-        ),
-        (
-            Command::CloseSlot(slot(&rt, b"court-1", 22)),
-            Fault::OutOfRange,
-        ),
-    ];
-    for (command, fault) in cases {
-        assert_eq!(rt; counter.desk.office(&command), OfficeReply::Refused(fault));
-    }
+    goes_by(&rt, &REFUSED);
 }

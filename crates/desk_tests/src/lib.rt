@@ -3,15 +3,27 @@
 #![tactic(auto)]
 
 #[cfg(test)]
+mod caveats;
+#[cfg(test)]
 mod counter;
 #[cfg(test)]
 mod drawn;
+#[cfg(test)]
+mod expect;
+#[cfg(test)]
+mod judge;
+#[cfg(test)]
+mod known;
 #[cfg(test)]
 mod law;
 #[cfg(test)]
 mod ledger;
 #[cfg(test)]
 mod lists;
+#[cfg(test)]
+mod office;
+#[cfg(test)]
+mod passes;
 #[cfg(test)]
 mod refusals;
 #[cfg(test)]
@@ -21,6 +33,12 @@ mod rotation;
 #[cfg(test)]
 mod rows;
 #[cfg(test)]
+mod said;
+#[cfg(test)]
+mod sent;
+#[cfg(test)]
 mod texts;
+#[cfg(test)]
+mod trial;
 #[cfg(test)]
 mod values;

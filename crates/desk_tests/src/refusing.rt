@@ -7,8 +7,8 @@ use club_store::Store;
 use pass_caveats::{Day, Moment, Name, Slot};
 use sqlite::MemStore;
 
-/// Tables in memory, how often they were asked for something, and the call from which on they refuse
-/// and how.
+/// Tables in memory, how often they were asked for something, and the call from which on they
+/// refuse and how.
 #[derive(Drop)]
 pub(crate) struct Refusing {
     pub store: Store<MemStore>,

@@ -1,109 +1,96 @@
 //! The worked rows of a key's rotation.
 
-use crate::counter::{Counter, FORMS, ROOT_BYTE, opened, order, pass_of};
-use crate::values::{NOON, account, book, booked, name, read_moment, refused, root};
-use club_core::{Command, Refusal, Reply, Request};
-use club_gate::{Fault, OfficeReply, key_signature};
-use std::alloc::Global;
+use crate::counter::{Step, goes_by};
+use crate::expect::expect_eq;
+use crate::office::Order;
+use crate::passes::{AMY, Shown};
+use crate::said::{ACCOUNT, ACCOUNT_AFTER, ACCOUNT_BEFORE, BOOK_7, BOOKED_7, NOT_VERIFIED};
+use crate::values::{NOON, ROOT, SECOND_ROOT, THIRD_ROOT, at};
+use club_gate::{Fault, OfficeReply};
+use pass_caveats::Moment;
 use std::process::Abort;
 use std::test::*;
 
-const NEW_BYTE: u8 = 8;
+const LONG_AGO: u32 = 15_778_080;
 
-const THIRD_BYTE: u8 = 9;
+const SATURDAY: u32 = 29_617_920;
 
-/// An order of a new root for amy's key. Passes under the one before are good until the moment.
-fn rotate(rt: &impl Abort, byte: u8, until: &[u8]) -> Command {
-    Command::RotateKey {
-        name: name(rt, b"amy-1"),
-        root: root(rt, byte),
-        until: read_moment(rt, until),
+const FAR_AHEAD: u32 = 68_374_079;
+
+static MOMENTS: [(&[u8], u32); 4] = [
+    (b"2000-01-01T00:00", LONG_AGO),
+    (b"2026-04-20T12:00", NOON),
+    (b"2026-04-25T00:00", SATURDAY),
+    (b"2099-12-31T23:59", FAR_AHEAD),
+];
+
+fn is_moment(rt: &impl Abort, text: &[u8], number: u32) {
+    let read = Moment::read(text).expect(rt, "a moment");
+    expect_eq(rt, &read, &at(rt, number));
+}
+
+#[test]
+fn moments_are_those_of_their_texts(rt: HostRuntime) {
+    for (text, number) in &MOMENTS {
+        is_moment(&rt, text, *number);
     }
 }
 
-/// The reply to amy's asking for her account at a time, under the pass that goes with a root.
-fn account_at(
-    rt: &(impl Abort + Alloc<A = Global>),
-    counter: &mut Counter,
-    byte: u8,
-    time: &[u8],
-) -> Reply {
-    let pass = pass_of(rt, rt.alloc(), b"amy-1", &root(rt, byte));
-    let moment = read_moment(rt, time).number();
-    counter.ask_by_pass(rt, &pass, Request::Account, moment)
-}
+const RENEWED: Shown = Shown::Of(b"amy-1", SECOND_ROOT, &[]);
 
-// Passes under the root before are good until the moment and not at it. A booking is repeated under
-// the new one.
+const RENEWED_AGAIN: Shown = Shown::Of(b"amy-1", THIRD_ROOT, &[]);
+
+// The signature of `amy-1` under its second root, by an independent program.
+const SIGNED_ANEW: OfficeReply = OfficeReply::Key {
+    signature: *b"\xa6\x1f\x5d\x76\xf6\x9e\x75\x1b\xb3\x58\x6b\x12\xf7\x90\x1e\xeb\
+        \x6c\xb4\xe2\x0a\xb2\x44\x30\xf5\xce\xb9\xc0\x48\x88\x17\x46\xc6",
+};
+
+/// Passes under the root before are good until the moment and not at it. A booking is repeated
+/// under the new one.
+static FOR_A_WHILE: [Step; 6] = [
+    Step::Asks(NOON, AMY, BOOK_7, BOOKED_7),
+    Step::IsAnswered(
+        Order::RotateKey(b"amy-1", SECOND_ROOT, SATURDAY),
+        SIGNED_ANEW,
+    ),
+    Step::Asks(SATURDAY - 1, AMY, ACCOUNT, ACCOUNT_AFTER),
+    Step::Asks(SATURDAY, AMY, ACCOUNT, NOT_VERIFIED),
+    Step::Asks(NOON, RENEWED, BOOK_7, BOOKED_7),
+    Step::Asks(SATURDAY, RENEWED, ACCOUNT, ACCOUNT_AFTER),
+];
+
 #[test]
 fn serves_both_roots_for_a_while(rt: HostRuntime) {
-    for form in FORMS {
-        let mut counter = opened(&rt, form);
-        let first = counter.ask(&rt, b"amy-1", book(&rt, 18, 7, 2), NOON);
-        assert_eq!(rt; first, booked(&rt, b"amy-1", 7, 600, 1));
-        let signature = key_signature(&name(&rt, b"amy-1"), &root(&rt, NEW_BYTE));
-        let answer = counter
-            .desk
-            .office(&rotate(&rt, NEW_BYTE, b"2026-04-25T00:00"));
-        assert_eq!(rt; answer, OfficeReply::Key { signature });
-        let told = account(&rt, 9_400, 1, 600);
-        let before = account_at(&rt, &mut counter, ROOT_BYTE, b"2026-04-24T23:59");
-        assert_eq!(rt; before, told);
-        let late = account_at(&rt, &mut counter, ROOT_BYTE, b"2026-04-25T00:00");
-        assert_eq!(rt; late, refused(Refusal::NotVerified));
-        let new = pass_of(&rt, rt.alloc(), b"amy-1", &root(&rt, NEW_BYTE));
-        let again = counter.ask_by_pass(&rt, &new, book(&rt, 18, 7, 2), NOON);
-        assert_eq!(rt; again, booked(&rt, b"amy-1", 7, 600, 1));
-        assert_eq!(rt;
-            account_at(&rt, &mut counter, NEW_BYTE, b"2026-04-25T00:00"),
-            told
-        );
-    }
+    goes_by(&rt, &FOR_A_WHILE);
 }
 
-// The derived key of the root before is kept when that root is no longer good.
+/// The derived key of the root before is kept when that root is no longer good.
+static PAST: [Step; 3] = [
+    Step::Asks(NOON, AMY, ACCOUNT, ACCOUNT_BEFORE),
+    Step::Orders(Order::RotateKey(b"amy-1", SECOND_ROOT, LONG_AGO)),
+    Step::Asks(NOON, AMY, ACCOUNT, NOT_VERIFIED),
+];
+
 #[test]
 fn forgets_a_root_that_is_past(rt: HostRuntime) {
-    for form in FORMS {
-        let mut counter = opened(&rt, form);
-        let first = counter.ask(&rt, b"amy-1", Request::Account, NOON);
-        assert_eq!(rt; first, account(&rt, 10_000, 0, 0));
-        order(
-            &rt,
-            &mut counter.desk,
-            &rotate(&rt, NEW_BYTE, b"2000-01-01T00:00"),
-        );
-        let late = counter.ask(&rt, b"amy-1", Request::Account, NOON);
-        assert_eq!(rt; late, refused(Refusal::NotVerified));
-    }
+    goes_by(&rt, &PAST);
 }
 
-// The root that the key has is refused. Of two rotations the first root is dropped.
+/// The root that the key has is refused. Of two rotations the first root is dropped.
+static TWICE: [Step; 6] = [
+    Step::IsAnswered(
+        Order::RotateKey(b"amy-1", ROOT, FAR_AHEAD),
+        OfficeReply::Refused(Fault::Exists),
+    ),
+    Step::Orders(Order::RotateKey(b"amy-1", SECOND_ROOT, FAR_AHEAD)),
+    Step::Orders(Order::RotateKey(b"amy-1", THIRD_ROOT, FAR_AHEAD)),
+    Step::Asks(NOON, AMY, ACCOUNT, NOT_VERIFIED),
+    Step::Asks(SATURDAY, RENEWED, ACCOUNT, ACCOUNT_BEFORE),
+    Step::Asks(SATURDAY, RENEWED_AGAIN, ACCOUNT, ACCOUNT_BEFORE),
+];
+
 #[test]
 fn keeps_one_older_root(rt: HostRuntime) {
-    for form in FORMS {
-        let mut counter = opened(&rt, form);
-        let same = rotate(&rt, ROOT_BYTE, b"2099-12-31T23:59");
-        assert_eq!(rt;
-            counter.desk.office(&same),
-            OfficeReply::Refused(Fault::Exists)
-        );
-        order(
-            &rt,
-            &mut counter.desk,
-            &rotate(&rt, NEW_BYTE, b"2099-12-31T23:59"),
-        );
-        order(
-            &rt,
-            &mut counter.desk,
-            &rotate(&rt, THIRD_BYTE, b"2099-12-31T23:59"),
-        );
-        let dropped = counter.ask(&rt, b"amy-1", Request::Account, NOON);
-        assert_eq!(rt; dropped, refused(Refusal::NotVerified));
-        let told = account(&rt, 10_000, 0, 0);
-        for byte in [NEW_BYTE, THIRD_BYTE] {
-            let reply = account_at(&rt, &mut counter, byte, b"2026-04-25T00:00");
-            assert_eq!(rt; reply, told, "{byte}");
-        }
-    }
+    goes_by(&rt, &TWICE);
 }

@@ -1,238 +1,251 @@
 //! The worked rows of the desk, each in every form of a pass.
 
-use crate::counter::{Counter, FORMS, ROOT_BYTE, join, opened, order};
-use crate::values::{
-    FRIDAY, NOON, START, account, add_key, add_member, book, book_at, booked, cancel, cancel_at,
-    cancelled, credit, name, refused, revoke_key, room, root, shown, slot, slot_on,
+use crate::counter::{Counter, Step, goes_by, opened};
+use crate::expect::expect_eq;
+use crate::office::Order;
+use crate::passes::{AMY, BOB, CY, FORMS, Shown};
+use crate::said::{
+    ACCOUNT, ACCOUNT_AFTER, ACCOUNT_BEFORE, Asked, BOOK_7, BOOK_ROOM, BOOKED_7, CANCEL_7,
+    CANCEL_ROOM, CANCELLED_7, COURT, HALF_BACK, NOT_VERIFIED, PlainSlot, ROOM, ROOM_BOOKED, Told,
 };
-use club_core::{Command, Refusal, Reply, Request};
-use club_gate::{Fault, LOCATION, OfficeReply, key_signature, minted};
+use crate::values::{FRIDAY, NOON, ROOT, START};
+use club_core::Refusal;
+use club_gate::{Fault, OfficeReply};
 use pass_caveats::Day;
-use pass_forms::{Form, Pass};
+use pass_forms::Form;
 use std::alloc::Global;
 use std::process::Abort;
 use std::test::*;
 
-/// Amy books `court-1` at 18 with two guests, under number 7.
-fn book_7(rt: &(impl Abort + Alloc<A = Global>), counter: &mut Counter) {
-    let reply = counter.ask(rt, b"amy-1", book(rt, 18, 7, 2), NOON);
-    assert_eq!(rt; reply, booked(rt, b"amy-1", 7, 600, 1));
-}
+const VIEW: Asked = Asked::View(COURT);
 
-/// The reply to amy's asking for her account.
-fn account_of_amy(rt: &(impl Abort + Alloc<A = Global>), counter: &mut Counter) -> Reply {
-    counter.ask(rt, b"amy-1", Request::Account, NOON)
-}
+const BOOK_7_FOR_TWO: Asked = Asked::Book(COURT, 7, 1);
 
-// A repeat is told the same, when the slot has begun and after its cancellation too.
+const NUMBER_USED: Told = Told::Refused(Refusal::NumberUsed);
+
+/// A repeat is told the same, when the slot has begun and after its cancellation too.
+static REPEATS: [Step; 8] = [
+    Step::Asks(NOON, AMY, BOOK_7, BOOKED_7),
+    Step::Asks(START + 30, AMY, BOOK_7, BOOKED_7),
+    Step::Asks(NOON, AMY, BOOK_7_FOR_TWO, NUMBER_USED),
+    Step::Asks(NOON, AMY, ACCOUNT, ACCOUNT_AFTER),
+    Step::Asks(NOON, AMY, CANCEL_7, CANCELLED_7),
+    Step::Asks(START + 30, AMY, BOOK_7, BOOKED_7),
+    Step::Asks(NOON, AMY, ACCOUNT, ACCOUNT_BEFORE),
+    Step::Asks(NOON, BOB, VIEW, Told::Shown(0, false)),
+];
+
 #[test]
 fn repeats_a_booking(rt: HostRuntime) {
-    for form in FORMS {
-        let mut counter = opened(&rt, form);
-        book_7(&rt, &mut counter);
-        let again = counter.ask(&rt, b"amy-1", book(&rt, 18, 7, 2), START + 30);
-        assert_eq!(rt; again, booked(&rt, b"amy-1", 7, 600, 1));
-        let other = counter.ask(&rt, b"amy-1", book(&rt, 18, 7, 1), NOON);
-        assert_eq!(rt; other, refused(Refusal::NumberUsed));
-        assert_eq!(rt;
-            account_of_amy(&rt, &mut counter),
-            account(&rt, 9_400, 1, 600)
-        );
-        let back = counter.ask(&rt, b"amy-1", cancel(&rt, 18, 7), NOON);
-        assert_eq!(rt; back, cancelled(&rt, b"amy-1", 7, 600));
-        let again = counter.ask(&rt, b"amy-1", book(&rt, 18, 7, 2), START + 30);
-        assert_eq!(rt; again, booked(&rt, b"amy-1", 7, 600, 1));
-        assert_eq!(rt;
-            account_of_amy(&rt, &mut counter),
-            account(&rt, 10_000, 0, 0)
-        );
-        let seen = counter.ask(&rt, b"bob-1", view(&rt), NOON);
-        assert_eq!(rt; seen, shown(&rt, 0, false));
-    }
+    goes_by(&rt, &REPEATS);
 }
 
-#[test]
-fn keeps_a_spend_limit(rt: HostRuntime) {
-    for form in FORMS {
-        let mut counter = opened(&rt, form);
-        let limit = ["spend <= 600"];
-        let first = counter.ask_under(&rt, &limit, book(&rt, 18, 7, 2), NOON);
-        assert_eq!(rt; first, booked(&rt, b"amy-1", 7, 600, 1));
-        let more = counter.ask_under(&rt, &limit, book(&rt, 19, 8, 0), NOON);
-        assert_eq!(rt; more, refused(Refusal::CaveatDenies(1)));
-        let back = counter.ask_under(&rt, &limit, cancel(&rt, 18, 7), NOON);
-        assert_eq!(rt; back, cancelled(&rt, b"amy-1", 7, 600));
-        let again = counter.ask_under(&rt, &limit, book(&rt, 19, 8, 0), NOON);
-        assert_eq!(rt; again, booked(&rt, b"amy-1", 8, 200, 3));
-    }
-}
+const CANCEL_OTHER: Asked = Asked::Cancel(ROOM, 9);
 
-// The whole charge a day before the start, half of it a minute later, nothing from the start on.
+const NO_SUCH_BOOKING: Told = Told::Refused(Refusal::NoSuchBooking);
+
+const ALL_BACK: Told = Told::Cancelled(b"amy-1", 8, 601);
+
+const SLOT_HAS_BEGUN: Told = Told::Refused(Refusal::SlotHasBegun);
+
+/// The whole charge a day before the start, half of it a minute later, nothing from the start on.
+static REFUNDS: [[Step; 3]; 3] = [
+    [
+        Step::Asks(NOON, AMY, BOOK_ROOM, ROOM_BOOKED),
+        Step::Asks(NOON, AMY, CANCEL_OTHER, NO_SUCH_BOOKING),
+        Step::Asks(START - 1440, AMY, CANCEL_ROOM, ALL_BACK),
+    ],
+    [
+        Step::Asks(NOON, AMY, BOOK_ROOM, ROOM_BOOKED),
+        Step::Asks(NOON, AMY, CANCEL_OTHER, NO_SUCH_BOOKING),
+        Step::Asks(START - 1439, AMY, CANCEL_ROOM, HALF_BACK),
+    ],
+    [
+        Step::Asks(NOON, AMY, BOOK_ROOM, ROOM_BOOKED),
+        Step::Asks(NOON, AMY, CANCEL_OTHER, NO_SUCH_BOOKING),
+        Step::Asks(START, AMY, CANCEL_ROOM, SLOT_HAS_BEGUN),
+    ],
+];
+
 #[test]
 fn refunds(rt: HostRuntime) {
-    let cases = [
-        (START - 1440, Some(601)),
-        (START - 1439, Some(300)),
-        (START, None),
-    ];
-    for form in FORMS {
-        for (moment, refund) in cases {
-            let mut counter = opened(&rt, form);
-            let first = counter.ask(&rt, b"amy-1", book_at(&rt, room(&rt), 8, 0), NOON);
-            assert_eq!(rt; first, booked(&rt, b"amy-1", 8, 601, 0));
-            let unknown = counter.ask(&rt, b"amy-1", cancel_at(&rt, room(&rt), 9), NOON);
-            assert_eq!(rt; unknown, refused(Refusal::NoSuchBooking));
-            let back = counter.ask(&rt, b"amy-1", cancel_at(&rt, room(&rt), 8), moment);
-            let want = match refund {
-                Some(refund) => cancelled(&rt, b"amy-1", 8, refund),
-                None => refused(Refusal::SlotHasBegun),
-            };
-            assert_eq!(rt; back, want, "{moment}");
-        }
+    for steps in &REFUNDS {
+        goes_by(&rt, steps);
     }
 }
 
-/// A pass whose identifier is the name of the key alone.
-fn unnamed(rt: &(impl Abort + Alloc<A = Global>)) -> Pass {
-    let root = root(rt, ROOT_BYTE);
-    Pass::mint(rt.alloc(), root.as_bytes(), LOCATION, b"amy-1").expect(rt, "memory")
-}
+const STRANGER: Shown = Shown::Of(b"zed-1", ROOT, &[]);
 
-/// Amy's pass with its last byte changed.
-fn changed(rt: &(impl Abort + Alloc<A = Global>)) -> Pass {
-    let name = name(rt, b"amy-1");
-    let mut signature = key_signature(&name, &root(rt, ROOT_BYTE));
-    signature[31] ^= 1;
-    minted(rt.alloc(), &name, signature).expect(rt, "memory")
-}
+const KEY_REVOKED: Told = Told::Refused(Refusal::KeyRevoked);
+
+static VERIFIES: [Step; 6] = [
+    Step::Asks(NOON, STRANGER, ACCOUNT, NOT_VERIFIED),
+    Step::Asks(NOON, Shown::Changed, ACCOUNT, NOT_VERIFIED),
+    Step::Asks(NOON, Shown::Unnamed, ACCOUNT, NOT_VERIFIED),
+    Step::Orders(Order::RevokeKey(b"amy-1")),
+    Step::Asks(NOON, AMY, ACCOUNT, KEY_REVOKED),
+    Step::Asks(NOON, Shown::Changed, ACCOUNT, NOT_VERIFIED),
+];
 
 #[test]
 fn verifies(rt: HostRuntime) {
-    let not_verified = refused(Refusal::NotVerified);
-    for form in FORMS {
-        let mut counter = opened(&rt, form);
-        let stranger = counter.ask(&rt, b"zed-1", Request::Account, NOON);
-        assert_eq!(rt; stranger, not_verified);
-        let forged = counter.ask_by_pass(&rt, &changed(&rt), Request::Account, NOON);
-        assert_eq!(rt; forged, not_verified);
-        let nameless = counter.ask_by_pass(&rt, &unnamed(&rt), Request::Account, NOON);
-        assert_eq!(rt; nameless, not_verified);
-        order(&rt, &mut counter.desk, &revoke_key(&rt, b"amy-1"));
-        assert_eq!(rt;
-            account_of_amy(&rt, &mut counter),
-            refused(Refusal::KeyRevoked)
-        );
-        let forged = counter.ask_by_pass(&rt, &changed(&rt), Request::Account, NOON);
-        assert_eq!(rt; forged, not_verified);
-    }
+    goes_by(&rt, &VERIFIES);
 }
 
-/// What amy is told of a booking, her account and the cancellation, where so many places were left.
-fn is_told(rt: &(impl Abort + Alloc<A = Global>), counter: &mut Counter, left: u8) {
-    let first = counter.ask(rt, b"amy-1", book(rt, 18, 7, 2), NOON);
-    assert_eq!(rt; first, booked(rt, b"amy-1", 7, 600, left));
-    assert_eq!(rt; account_of_amy(rt, counter), account(rt, 9_400, 1, 600));
-    let back = counter.ask(rt, b"amy-1", cancel(rt, 18, 7), NOON);
-    assert_eq!(rt; back, cancelled(rt, b"amy-1", 7, 600));
+const BOOK_2: Asked = Asked::Book(COURT, 2, 0);
+
+const BOOKED_2: Told = Told::Booked(b"bob-1", 2, 200, 3);
+
+const FILLED_BY_7: Told = Told::Booked(b"amy-1", 7, 600, 0);
+
+/// What amy is told, whatever others do in other slots.
+static ALONE: [Step; 3] = [
+    Step::Asks(NOON, AMY, BOOK_7, BOOKED_7),
+    Step::Asks(NOON, AMY, ACCOUNT, ACCOUNT_AFTER),
+    Step::Asks(NOON, AMY, CANCEL_7, CANCELLED_7),
+];
+
+/// A place of bob's in her slot changes the places that are left, and nothing else.
+static BESIDE_BOB: [Step; 4] = [
+    Step::Asks(NOON, BOB, BOOK_2, BOOKED_2),
+    Step::Asks(NOON, AMY, BOOK_7, FILLED_BY_7),
+    Step::Asks(NOON, AMY, ACCOUNT, ACCOUNT_AFTER),
+    Step::Asks(NOON, AMY, CANCEL_7, CANCELLED_7),
+];
+
+static BEFORE_CY: [Step; 4] = [
+    Step::Orders(Order::AddMember(b"cy", 20)),
+    Step::Orders(Order::Credit(b"cy", 20_000)),
+    Step::Orders(Order::AddKey(b"cy-1", b"cy", ROOT)),
+    Step::Orders(Order::AddKey(b"bob-2", b"bob", ROOT)),
+];
+
+static BEHIND_CY: [Step; 2] = [
+    Step::Orders(Order::Credit(b"bob", 500)),
+    Step::Orders(Order::RevokeKey(b"bob-1")),
+];
+
+/// Cy books `court-1` on a day at an hour, with a guest or none, under a number.
+fn cy_books(
+    rt: &(impl Abort + Alloc<A = Global>),
+    counter: &mut Counter,
+    (day, hour): (u16, u8),
+    number: u32,
+    has_guest: bool,
+) {
+    let facility = b"court-1";
+    let slot = PlainSlot {
+        facility,
+        day,
+        hour,
+    };
+    let (guests, charge, left) = if has_guest { (1, 400, 2) } else { (0, 200, 3) };
+    let booking = Asked::Book(slot, number, guests);
+    let told = Told::Booked(b"cy-1", number, charge, left);
+    counter.plays(rt, &[Step::Asks(NOON, CY, booking, told)]);
 }
 
 /// Twenty bookings of others in other slots, credits, and a new key and a revoked one of bob's.
 fn others_are_busy(rt: &(impl Abort + Alloc<A = Global>), counter: &mut Counter) {
-    join(rt, &mut counter.desk, b"cy", b"cy-1", 20, 20_000);
-    order(
-        rt,
-        &mut counter.desk,
-        &add_key(rt, b"bob-2", b"bob", root(rt, ROOT_BYTE)),
-    );
-    for booking in 1..11 {
-        let guests = (booking % 2) as u8;
-        let hour = 8 + (booking % 10) as u8;
-        let place = slot_on(rt, b"court-1", FRIDAY + 1, hour);
-        let reply = counter.ask(rt, b"cy-1", book_at(rt, place, booking, guests), NOON);
-        assert!(rt; matches!(reply, Reply::Booked { .. }));
-        let place = slot_on(rt, b"court-1", FRIDAY + 2, hour);
-        let reply = counter.ask(rt, b"cy-1", book_at(rt, place, booking + 10, 0), NOON);
-        assert!(rt; matches!(reply, Reply::Booked { .. }));
+    counter.plays(rt, &BEFORE_CY);
+    for index in 0..10u8 {
+        let number = u32::from(index) + 1;
+        cy_books(rt, counter, (FRIDAY + 1, 8 + index), number, index % 2 == 0);
+        cy_books(rt, counter, (FRIDAY + 2, 8 + index), number + 10, false);
     }
-    order(rt, &mut counter.desk, &credit(rt, b"bob", 500));
-    order(rt, &mut counter.desk, &revoke_key(rt, b"bob-1"));
+    counter.plays(rt, &BEHIND_CY);
 }
 
-// What others do in other slots changes nothing of amy's replies, and a place of bob's in her slot
-// the places that are left.
 #[test]
 fn tells_amy_the_same_whatever_others_do(rt: HostRuntime) {
-    for form in FORMS {
-        let mut quiet = opened(&rt, form);
-        is_told(&rt, &mut quiet, 1);
-        let mut busy = opened(&rt, form);
-        others_are_busy(&rt, &mut busy);
-        is_told(&rt, &mut busy, 1);
-        let mut shared = opened(&rt, form);
-        let place = shared.ask(&rt, b"bob-1", book(&rt, 18, 2, 0), NOON);
-        assert_eq!(rt; place, booked(&rt, b"bob-1", 2, 200, 3));
-        is_told(&rt, &mut shared, 0);
+    goes_by(&rt, &ALONE);
+    goes_by(&rt, &BESIDE_BOB);
+    for form in &FORMS {
+        let mut counter = opened(&rt, *form);
+        others_are_busy(&rt, &mut counter);
+        counter.plays(&rt, &ALONE);
     }
 }
 
+const BOOK_7_AT_21: Asked = Asked::Book(PlainSlot { hour: 21, ..COURT }, 7, 2);
+
+const BOOK_7_AT_22: Asked = Asked::Book(PlainSlot { hour: 22, ..COURT }, 7, 2);
+
+const NOT_BOOKABLE: Told = Told::Refused(Refusal::NotBookable);
+
+/// No more than 86,400 minutes ahead, before the start, and in the hours of opening.
+static WINDOW: [Step; 6] = [
+    Step::Asks(START - 86_400, AMY, BOOK_7, BOOKED_7),
+    Step::Asks(START - 86_401, AMY, BOOK_7, NOT_BOOKABLE),
+    Step::Asks(START - 1, AMY, BOOK_7, BOOKED_7),
+    Step::Asks(START, AMY, BOOK_7, NOT_BOOKABLE),
+    Step::Asks(NOON, AMY, BOOK_7_AT_21, BOOKED_7),
+    Step::Asks(NOON, AMY, BOOK_7_AT_22, NOT_BOOKABLE),
+];
+
 #[test]
-fn tests_caveats(rt: HostRuntime) {
-    for form in FORMS {
-        let mut counter = opened(&rt, form);
-        let court = ["facility = court-1"];
-        let denied = refused(Refusal::CaveatDenies(1));
-        assert_eq!(rt;
-            counter.ask_under(&rt, &court, Request::Account, NOON),
-            denied
-        );
-        let odd = ["guests <= 0", "shoe = red"];
-        assert_eq!(rt;
-            counter.ask_under(&rt, &odd, book(&rt, 18, 7, 2), NOON),
-            denied
-        );
-        let unread = refused(Refusal::CaveatNotUnderstood(2));
-        assert_eq!(rt;
-            counter.ask_under(&rt, &odd, book(&rt, 18, 7, 0), NOON),
-            unread
-        );
+fn books_within_the_window(rt: HostRuntime) {
+    for step in &WINDOW {
+        goes_by(&rt, &[*step]);
     }
 }
 
-// Fridays, and a Saturday.
+const DI: Shown = Shown::Of(b"di-1", ROOT, &[]);
+
+const BOOK_1: Asked = Asked::Book(COURT, 1, 0);
+
+const BOOK_2_FOR_TWO: Asked = Asked::Book(COURT, 2, 1);
+
+const NO_PLACES: Told = Told::Refused(Refusal::NoPlaces);
+
+const BALANCE_TOO_LOW: Told = Told::Refused(Refusal::BalanceTooLow);
+
+const QUOTA_REACHED: Told = Told::Refused(Refusal::QuotaReached);
+
+static LIMITS: [Step; 9] = [
+    Step::Orders(Order::AddMember(b"cy", 1)),
+    Step::Orders(Order::Credit(b"cy", 100)),
+    Step::Orders(Order::AddKey(b"cy-1", b"cy", ROOT)),
+    Step::Orders(Order::AddMember(b"di", 0)),
+    Step::Orders(Order::AddKey(b"di-1", b"di", ROOT)),
+    Step::Asks(NOON, AMY, BOOK_7, BOOKED_7),
+    Step::Asks(NOON, BOB, BOOK_2_FOR_TWO, NO_PLACES),
+    Step::Asks(NOON, CY, BOOK_1, BALANCE_TOO_LOW),
+    Step::Asks(NOON, DI, BOOK_1, QUOTA_REACHED),
+];
+
 #[test]
-fn tests_weekdays(rt: HostRuntime) {
-    let friday = ["weekday = fri"];
-    let all = ["weekday = mon,tue,wed,thu,fri,sat,sun"];
-    let both = ["weekday = sat,sun", "weekday = fri"];
-    let odd = [
-        "weekday = tue,mon",
-        "weekday = mon,mon",
-        "weekday = Fri",
-        "weekday = ",
-    ];
-    let denied = refused(Refusal::CaveatDenies(1));
-    for form in FORMS {
-        let mut counter = opened(&rt, form);
-        let first = counter.ask_under(&rt, &friday, book(&rt, 18, 7, 2), NOON);
-        assert_eq!(rt; first, booked(&rt, b"amy-1", 7, 600, 1));
-        let saturday = slot_on(&rt, b"court-1", FRIDAY + 1, 18);
-        let late = book_at(&rt, saturday, 8, 0);
-        assert_eq!(rt; counter.ask_under(&rt, &friday, late, NOON), denied);
-        assert_eq!(rt;
-            counter.ask_under(&rt, &all, Request::Account, NOON),
-            denied
-        );
-        assert_eq!(rt;
-            counter.ask_under(&rt, &both, book(&rt, 18, 7, 2), NOON),
-            denied
-        );
-        let unread = refused(Refusal::CaveatNotUnderstood(1));
-        for caveat in odd {
-            let reply = counter.ask_under(&rt, &[caveat], book(&rt, 18, 7, 2), NOON);
-            assert_eq!(rt; reply, unread, "{caveat}");
-        }
-    }
+fn minds_places_points_and_quota(rt: HostRuntime) {
+    goes_by(&rt, &LIMITS);
 }
+
+const CLOSE: Order = Order::CloseSlot(COURT);
+
+const BOOK_8: Asked = Asked::Book(COURT, 8, 0);
+
+const SLOT_CLOSED: Told = Told::Refused(Refusal::SlotClosed);
+
+static CLOSES: [Step; 7] = [
+    Step::Asks(NOON, AMY, BOOK_7, BOOKED_7),
+    Step::IsAnswered(CLOSE, OfficeReply::Refused(Fault::SlotInUse)),
+    Step::Asks(NOON, AMY, VIEW, Told::Shown(3, false)),
+    Step::Asks(NOON, AMY, CANCEL_7, CANCELLED_7),
+    Step::IsAnswered(CLOSE, OfficeReply::Done),
+    Step::IsAnswered(CLOSE, OfficeReply::Refused(Fault::Exists)),
+    Step::Asks(NOON, AMY, BOOK_8, SLOT_CLOSED),
+];
+
+#[test]
+fn closes_a_slot(rt: HostRuntime) {
+    goes_by(&rt, &CLOSES);
+}
+
+const FILLED_BY_2: Told = Told::Booked(b"bob-1", 2, 200, 0);
+
+static FILLED: [Step; 2] = [
+    Step::Asks(NOON, AMY, BOOK_7, BOOKED_7),
+    Step::Asks(NOON, BOB, BOOK_2, FILLED_BY_2),
+];
 
 const FULL_SHEET: &str = "\
 Day sheet 2026-05-01
@@ -241,96 +254,22 @@ court-1                  18:00 bob-1                            2  1    200
 Total bookings 2, persons 4, charge 800
 ";
 
+static SHEETS: [(u16, &str); 2] = [
+    (FRIDAY, FULL_SHEET),
+    (FRIDAY + 1, "Day sheet 2026-05-02\nNo bookings.\n"),
+];
+
+fn hangs_out(rt: &impl Abort, counter: &mut Counter, day: u16, want: &str) {
+    let day = Day::from_number(day).expect(rt, "a day");
+    let sheet = counter.desk.sheet(day).expect(rt, "a sheet");
+    expect_eq(rt, &sheet.as_str(), &want);
+}
+
 #[test]
 fn hangs_out_the_sheet_of_a_day(rt: HostRuntime) {
     let mut counter = opened(&rt, Form::V2);
-    book_7(&rt, &mut counter);
-    let place = counter.ask(&rt, b"bob-1", book(&rt, 18, 2, 0), NOON);
-    assert_eq!(rt; place, booked(&rt, b"bob-1", 2, 200, 0));
-    let days = [
-        (FRIDAY, FULL_SHEET),
-        (FRIDAY + 1, "Day sheet 2026-05-02\nNo bookings.\n"),
-    ];
-    for (number, want) in days {
-        let day = Day::from_number(number).expect(&rt, "a day");
-        let sheet = counter.desk.sheet(day).expect(&rt, "a sheet");
-        assert_eq!(rt; sheet.as_str(), want);
-    }
-}
-
-// No more than 86,400 minutes ahead, before the start, and in the hours of opening.
-#[test]
-fn books_within_the_window(rt: HostRuntime) {
-    let cases = [
-        (18, START - 86_400, true),
-        (18, START - 86_401, false),
-        (18, START - 1, true),
-        (18, START, false),
-        (21, NOON, true),
-        (22, NOON, false),
-    ];
-    for form in FORMS {
-        for (hour, moment, is_served) in cases {
-            let mut counter = opened(&rt, form);
-            let reply = counter.ask(&rt, b"amy-1", book(&rt, hour, 7, 2), moment);
-            let want = if is_served {
-                booked(&rt, b"amy-1", 7, 600, 1)
-            } else {
-                refused(Refusal::NotBookable)
-            };
-            assert_eq!(rt; reply, want, "{hour} {moment}");
-        }
-    }
-}
-
-#[test]
-fn minds_places_points_and_quota(rt: HostRuntime) {
-    for form in FORMS {
-        let mut counter = opened(&rt, form);
-        join(&rt, &mut counter.desk, b"cy", b"cy-1", 1, 100);
-        order(&rt, &mut counter.desk, &add_member(&rt, b"di", 0));
-        order(
-            &rt,
-            &mut counter.desk,
-            &add_key(&rt, b"di-1", b"di", root(&rt, ROOT_BYTE)),
-        );
-        book_7(&rt, &mut counter);
-        let full = counter.ask(&rt, b"bob-1", book(&rt, 18, 2, 1), NOON);
-        assert_eq!(rt; full, refused(Refusal::NoPlaces));
-        let poor = counter.ask(&rt, b"cy-1", book(&rt, 18, 1, 0), NOON);
-        assert_eq!(rt; poor, refused(Refusal::BalanceTooLow));
-        let barred = counter.ask(&rt, b"di-1", book(&rt, 18, 1, 0), NOON);
-        assert_eq!(rt; barred, refused(Refusal::QuotaReached));
-    }
-}
-
-/// A view of `court-1` at 18.
-fn view(rt: &impl Abort) -> Request {
-    Request::View {
-        slot: slot(rt, b"court-1", 18),
-    }
-}
-
-#[test]
-fn closes_a_slot(rt: HostRuntime) {
-    let close = Command::CloseSlot(slot(&rt, b"court-1", 18));
-    for form in FORMS {
-        let mut counter = opened(&rt, form);
-        book_7(&rt, &mut counter);
-        assert_eq!(rt;
-            counter.desk.office(&close),
-            OfficeReply::Refused(Fault::SlotInUse)
-        );
-        let seen = counter.ask(&rt, b"amy-1", view(&rt), NOON);
-        assert_eq!(rt; seen, shown(&rt, 3, false));
-        let back = counter.ask(&rt, b"amy-1", cancel(&rt, 18, 7), NOON);
-        assert_eq!(rt; back, cancelled(&rt, b"amy-1", 7, 600));
-        assert_eq!(rt; counter.desk.office(&close), OfficeReply::Done);
-        assert_eq!(rt;
-            counter.desk.office(&close),
-            OfficeReply::Refused(Fault::Exists)
-        );
-        let reply = counter.ask(&rt, b"amy-1", book(&rt, 18, 8, 0), NOON);
-        assert_eq!(rt; reply, refused(Refusal::SlotClosed));
+    counter.plays(&rt, &FILLED);
+    for (day, want) in &SHEETS {
+        hangs_out(&rt, &mut counter, *day, want);
     }
 }
