@@ -8,18 +8,25 @@ use club_replies::{MAX_REPLY_LEN, reply_bytes};
 /// Prints what is told: to the office a line, to a member the text of the reply.
 pub(crate) fn reply(rt: &impl Print, reply: &EventReply) -> Result<()> {
     match reply {
-        EventReply::Answered(OfficeReply::Done) => println!(rt; "done")?,
-        EventReply::Answered(OfficeReply::Key { signature }) => {
-            print!(rt; "signature ")?;
-            for byte in signature {
-                print!(rt; "{byte:02x}")?;
-            }
-            println!(rt)?;
-        }
-        EventReply::Answered(OfficeReply::Refused(fault)) => println!(rt; "refused: {fault}")?,
-        EventReply::Replied(reply) => text_of(rt, reply)?,
+        EventReply::Answered(reply) => answer(rt, reply),
+        EventReply::Replied(reply) => text_of(rt, reply),
     }
-    Ok(())
+}
+
+fn answer(rt: &impl Print, reply: &OfficeReply) -> Result<()> {
+    match reply {
+        OfficeReply::Done => Ok(println!(rt; "done")?),
+        OfficeReply::Key { signature } => key(rt, signature),
+        OfficeReply::Refused(fault) => Ok(println!(rt; "refused: {fault}")?),
+    }
+}
+
+fn key(rt: &impl Print, signature: &[u8; 32]) -> Result<()> {
+    print!(rt; "signature ")?;
+    for byte in signature {
+        print!(rt; "{byte:02x}")?;
+    }
+    Ok(println!(rt)?)
 }
 
 // The status line and the body.

@@ -21,7 +21,7 @@ pub(crate) const FOR_ROOMS: &[u8] =
     b"AgEJY2x1Yi1kZXNrAglrZXk6YW15LTEAAgtraW5kID0gcm9vbQAABiA0TXpFZ2Nb0CK2v68DKZby0_Zuy6jwhmNJGywabyoIEg";
 
 /// What the steps are, in their order.
-pub(crate) const LINES: [&str; 8] = [
+pub(crate) static LINES: [&str; 8] = [
     "amy becomes a member with quota 5",
     "10000 points are credited to amy",
     "court-1 is there from 8 to 22, with 4 places for 200 points",
@@ -35,45 +35,56 @@ pub(crate) const LINES: [&str; 8] = [
 /// The orders of the office: a member, a credit, a court and a key.
 pub(crate) fn orders() -> Option<[Command; 4]> {
     let amy = Name::read(b"amy")?;
-    Some([
-        Command::AddMember {
-            name: amy,
-            quota: 5,
-        },
-        Command::Credit {
-            member: amy,
-            points: 10_000,
-        },
-        Command::AddFacility {
-            name: Name::read(b"court-1")?,
-            kind: Kind::Court,
-            places: 4,
-            price: 200,
-            opens: 8,
-            shuts: 22,
-        },
-        Command::AddKey {
-            name: Name::read(b"amy-1")?,
-            member: amy,
-            root: Root::new(ROOT)?,
-        },
-    ])
+    Some([member(amy), credit(amy), court()?, key(amy)?])
 }
 
-/// A request at the moment of the walk, with the text of a pass.
-pub(crate) fn asked<'a>(pass: &'a [u8], request: &Request, moment: &Moment) -> Event<'a> {
-    Event::Asked {
-        words: Words {
-            pass,
-            request: *request,
-        },
-        moment: *moment,
-    }
+/// The requests: a booking, its repeat, the account and a cancellation.
+pub(crate) fn requests() -> Option<[Request; 4]> {
+    let booking = booking()?;
+    Some([booking, booking, Request::Account, cancellation()?])
 }
 
 /// The moment of all requests.
 pub(crate) fn noon() -> Option<Moment> {
     Moment::read(b"2026-04-20T12:00")
+}
+
+fn member(name: Name) -> Command {
+    Command::AddMember { name, quota: 5 }
+}
+
+fn credit(member: Name) -> Command {
+    Command::Credit {
+        member,
+        points: 10_000,
+    }
+}
+
+fn court() -> Option<Command> {
+    Some(Command::AddFacility {
+        name: Name::read(b"court-1")?,
+        kind: Kind::Court,
+        places: 4,
+        price: 200,
+        opens: 8,
+        shuts: 22,
+    })
+}
+
+fn key(member: Name) -> Option<Command> {
+    Some(Command::AddKey {
+        name: Name::read(b"amy-1")?,
+        member,
+        root: Root::new(ROOT)?,
+    })
+}
+
+/// A request at a moment, with the text of a pass.
+pub(crate) fn asked(pass: &[u8], request: Request, moment: Moment) -> Event<'_> {
+    Event::Asked {
+        words: Words { pass, request },
+        moment,
+    }
 }
 
 fn slot() -> Option<Slot> {
@@ -84,8 +95,8 @@ fn slot() -> Option<Slot> {
     })
 }
 
-/// Booking 7, of `court-1` for three persons.
-pub(crate) fn booking() -> Option<Request> {
+// Booking 7, of `court-1` for three persons.
+fn booking() -> Option<Request> {
     Some(Request::Book {
         slot: slot()?,
         number: BookingNumber::new(7)?,
@@ -93,8 +104,8 @@ pub(crate) fn booking() -> Option<Request> {
     })
 }
 
-/// The cancellation of booking 7.
-pub(crate) fn cancellation() -> Option<Request> {
+// The cancellation of booking 7.
+fn cancellation() -> Option<Request> {
     Some(Request::Cancel {
         slot: slot()?,
         number: BookingNumber::new(7)?,

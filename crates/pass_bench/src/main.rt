@@ -11,10 +11,10 @@ use pass_json::write_any;
 use std::alloc::Global;
 use std::env;
 use std::rt::Clock;
-use std::time::Instant;
-use task::{CAVEATS, ROOT, Task};
+use std::time::{Duration, Instant};
+use task::{CAVEATS, ROOT, Task, Written};
 
-const TASKS: [(&str, Task); 5] = [
+static TASKS: [(&str, Task); 5] = [
     ("signed", Task::Sign),
     ("read whole", Task::ReadWhole),
     ("read by fields", Task::ReadFields),
@@ -22,30 +22,53 @@ const TASKS: [(&str, Task); 5] = [
     ("read and verified by fields", Task::VerifyFields),
 ];
 
+static FORMS: [(&str, Form); 2] = [("V1", Form::V1), ("V2", Form::V2)];
+
 fn main(rt: HostRuntime) -> Result<()> {
-    let count = env::args(&rt)?
-        .nth(1)
-        .and_then(|word| word.as_str().parse::<u32>().ok());
-    let Some(count) = count else {
-        return Ok(println!(rt; "usage: pass_bench COUNT")?);
-    };
+    match asked_count(&rt)? {
+        Some(count) => compare(&rt, count),
+        None => Ok(println!(rt; "usage: pass_bench COUNT")?),
+    }
+}
+
+// The number behind the program's name.
+fn asked_count(rt: &HostRuntime) -> Result<Option<u32>> {
+    match env::args(rt)?.nth(1) {
+        Some(word) => Ok(word.as_str().parse::<u32>().ok()),
+        None => Ok(None),
+    }
+}
+
+fn compare(rt: &HostRuntime, count: u32) -> Result<()> {
     let pass = new_pass(rt.alloc())?;
-    for (name, form) in [("V1", Form::V1), ("V2", Form::V2)] {
-        println!(rt; "a pass of three caveats in {name}, times a second")?;
+    for &(name, form) in &FORMS {
         let text = write_any(rt.alloc(), form, &pass)?;
-        for (what, task) in TASKS {
-            measure(&rt, what, task, count, text.as_str().as_bytes())?;
-        }
+        compare_tasks(rt, name, text.as_bytes(), count)?;
     }
     Ok(())
 }
 
 fn new_pass(alloc: Global) -> Result<Pass, FormFault> {
     let mut pass = Pass::mint(alloc, ROOT, b"club-desk", b"key:amy-1")?;
-    for caveat in CAVEATS {
+    for caveat in &CAVEATS {
         narrow(alloc, &mut pass, caveat)?;
     }
     Ok(pass)
+}
+
+fn compare_tasks(rt: &HostRuntime, name: &str, text: &[u8], count: u32) -> Result<()> {
+    println!(rt; "a pass of three caveats in {name}, times a second")?;
+    let mut room = [0; MAX_BYTES];
+    let unwrapped = unwrap_text(text, &mut room)?;
+    let written = Written {
+        form: unwrapped.form,
+        text,
+        bytes: unwrapped.bytes(text, &room),
+    };
+    for (what, task) in &TASKS {
+        measure(rt, what, *task, &written, count)?;
+    }
+    Ok(())
 }
 
 // Prints how often a task is done in a second.
@@ -53,18 +76,27 @@ fn measure(
     rt: &(impl Alloc<A = Global> + Clock + Print),
     what: &str,
     task: Task,
+    written: &Written<'_>,
     count: u32,
-    text: &[u8],
 ) -> Result<()> {
-    let mut room = [0; MAX_BYTES];
-    let unwrapped = unwrap_text(text, &mut room)?;
-    let bytes = unwrapped.bytes(text, &room);
     let start = Instant::now(rt)?;
+    let folded = fold(rt.alloc(), task, written, count)?;
+    print_row(rt, what, rate(count, start.elapsed(rt)?), folded)
+}
+
+fn rate(count: u32, time: Duration) -> u128 {
+    u128::from(count) * 1_000_000 / time.as_micros().max(1)
+}
+
+fn print_row(rt: &impl Print, what: &str, rate: u128, folded: u8) -> Result<()> {
+    Ok(println!(rt; "{what:>28} {rate:>9} (folded to {folded:02x})")?)
+}
+
+// Does a task so many times.
+fn fold(alloc: Global, task: Task, written: &Written<'_>, count: u32) -> Result<u8, FormFault> {
     let mut folded = 0;
     for _ in 0..count {
-        folded ^= task.once(rt.alloc(), unwrapped.form, text, bytes)?;
+        folded ^= task.once(alloc, written)?;
     }
-    let micros = start.elapsed(rt)?.as_micros();
-    let rate = u128::from(count) * 1_000_000 / micros.max(1);
-    Ok(println!(rt; "{what:>28} {rate:>9} (folded to {folded:02x})")?)
+    Ok(folded)
 }

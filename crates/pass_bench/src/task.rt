@@ -10,7 +10,7 @@ use std::alloc::Global;
 
 pub const ROOT: &[u8] = b"this is our super secret key; only we should know it";
 
-pub const CAVEATS: [&[u8]; 3] = [
+pub static CAVEATS: [&[u8]; 3] = [
     b"kind = court",
     b"until < 2026-05-01T18:00",
     b"spend <= 600",
@@ -31,29 +31,30 @@ pub enum Task {
     VerifyFields,
 }
 
+/// A pass in one of the two forms: its text, and the bytes that the text wraps.
+#[derive(Clone, Copy)]
+pub struct Written<'a> {
+    pub form: Form,
+    pub text: &'a [u8],
+    pub bytes: &'a [u8],
+}
+
 impl Task {
-    /// Does it once, with a text and the bytes that the text wraps. Answers a byte of the result,
-    /// so that nothing of it can be left out.
-    pub fn once(
-        self,
-        alloc: Global,
-        form: Form,
-        text: &[u8],
-        bytes: &[u8],
-    ) -> Result<u8, FormFault> {
+    /// Does it once. Answers a byte of the result, so that nothing of it can be left out.
+    pub fn once(self, alloc: Global, written: &Written<'_>) -> Result<u8, FormFault> {
         match self {
             Task::Sign => Ok(sign()),
-            Task::ReadWhole => read_whole(alloc, form, bytes),
-            Task::ReadFields => with_fields(form, bytes, Step::Read),
-            Task::VerifyWhole => Ok(u8::from(read_any(alloc, text)?.1.is_signed(ROOT))),
-            Task::VerifyFields => verify_fields(text),
+            Task::ReadWhole => read_whole(alloc, written.form, written.bytes),
+            Task::ReadFields => with_fields(written.form, written.bytes, Step::Read),
+            Task::VerifyWhole => verify_whole(alloc, written.text),
+            Task::VerifyFields => verify_fields(written.text),
         }
     }
 }
 
 fn sign() -> u8 {
     let mut chain = Chain::start(ROOT, b"key:amy-1");
-    for caveat in CAVEATS {
+    for caveat in &CAVEATS {
         chain.add(caveat);
     }
     chain.signature()[0]
@@ -65,6 +66,11 @@ fn read_whole(alloc: Global, form: Form, bytes: &[u8]) -> Result<u8, FormFault> 
         _ => read_v2(alloc, bytes)?,
     };
     Ok(pass.signature()[0])
+}
+
+fn verify_whole(alloc: Global, text: &[u8]) -> Result<u8, FormFault> {
+    let (_, pass) = read_any(alloc, text)?;
+    Ok(u8::from(pass.is_signed(ROOT)))
 }
 
 fn verify_fields(text: &[u8]) -> Result<u8, FormFault> {
