@@ -1,22 +1,60 @@
 //! Runs of the program, as texts.
 
-use super::clubs::{Counted, make_club};
+use super::clubs::Counted;
 use crate::files::Files;
 use crate::run;
-use desk_commands::{Databases, Fault};
+use desk_commands::Fault;
+use std::alloc::AllocError;
+use std::io::{self, ErrorKind, Write};
 use std::test::Fail;
 use std::{env, fs, process};
 
-/// Sixteen bytes, in hexadecimal and as they are.
-pub const ROOT: &str = "00112233445566778899aabbccddeeff";
+/// A command and its words without the path, which is its second one, and how it ends: its status,
+/// and what it wrote or the line of its fault.
+#[derive(Clone, Copy)]
+pub struct Row<'a>(pub &'a str, pub &'a str, pub &'a str);
 
-pub const ROOT_BYTES: [u8; 16] = [
-    0, 17, 34, 51, 68, 85, 102, 119, 136, 153, 170, 187, 204, 221, 238, 255,
-];
+/// Room for all that a command writes.
+pub const ROOM: usize = 65_536;
 
-/// The pass of the key amy-1 under that root, by a program of another language.
-pub const PASS: &str =
-    "AgEJY2x1Yi1kZXNrAglrZXk6YW15LTEAAAYgDsU-vMVpq3Ex5_BQk6D5VX6TimC0IfCk7Dn6nv7TIJk";
+/// A writer with this much room, which fails once that is taken.
+#[derive(Drop)]
+struct Full {
+    room: usize,
+    taken: Vec<u8>,
+}
+
+impl Write for Full {
+    fn write(&mut self, bytes: &[u8]) -> io::Result<usize> {
+        if self.room == 0 {
+            return Err(io::Error::from(ErrorKind::StorageFull));
+        }
+        let count = bytes.len().min(self.room);
+        let (front, _) = bytes.split_at(count);
+        match self.taken.extend_from_slice(front) {
+            Ok(()) => {
+                self.room -= count;
+                Ok(count)
+            }
+            Err(_) => Err(io::Error::from(ErrorKind::OutOfMemory)),
+        }
+    }
+
+    fn flush(&mut self) -> io::Result<()> {
+        Ok(())
+    }
+}
+
+/// How a run ended: its status, and what it wrote or the line of its fault; how many bytes it wrote
+/// and logged, and how often it opened and closed a database.
+#[derive(Drop)]
+pub struct Ended {
+    pub told: String,
+    pub taken: usize,
+    pub logged: usize,
+    pub opened: u64,
+    pub closed: u64,
+}
 
 /// A path of this process alone, for a file that isn't there yet.
 pub fn new_path(rt: &HostRuntime, name: &str) -> Result<String, Fail> {
@@ -26,87 +64,99 @@ pub fn new_path(rt: &HostRuntime, name: &str) -> Result<String, Fail> {
     Ok(format!(in rt.alloc(); "{folder}/clubdesk-{name}-{id}")?)
 }
 
-// The words of a line, behind the program's name.
-fn words_of<'a>(rt: &HostRuntime, line: &'a str) -> Result<Vec<&'a str>, Fail> {
-    let mut words = Vec::from_array(rt.alloc(), ["clubdesk"])?;
-    for word in line.split(' ') {
-        words.push(word)?;
-    }
-    Ok(words)
-}
-
-/// The status of a run, and what it wrote, or the line of its fault.
-fn ended(rt: &HostRuntime, outcome: Result<(), Fault>, written: &[u8]) -> Result<String, Fail> {
-    match outcome {
-        Ok(()) => {
-            let text = str::from_utf8(written).unwrap_or("no text");
-            Ok(format!(in rt.alloc(); "0 {text}")?)
-        }
-        Err(fault) => {
-            let status = fault.status();
-            Ok(format!(in rt.alloc(); "{status} {fault}")?)
-        }
-    }
-}
-
-/// Runs the program on a line of words over databases, and tells how it ended.
-fn told_over<D: Databases>(
-    rt: &HostRuntime,
-    databases: &mut D,
-    line: &str,
-) -> Result<String, Fail> {
-    let words = words_of(rt, line)?;
-    let mut written = Vec::new(rt.alloc());
-    let mut nothing: &[u8] = b"";
-    let mut errors = Vec::new(rt.alloc());
-    let outcome = run(
-        rt,
-        databases,
-        words.as_slice(),
-        &mut nothing,
-        &mut written,
-        &mut errors,
-    );
-    ended(rt, outcome, written.as_slice())
-}
-
-/// Runs the program over the database in a file, and tells how it ended.
-pub fn told_in_file(rt: &HostRuntime, line: &str) -> Result<String, Fail> {
-    let mut files = Files { rt, tried: 0 };
-    told_over(rt, &mut files, line)
+/// The path of a database's log.
+pub fn log_of(rt: &HostRuntime, path: &str) -> Result<String, AllocError> {
+    format!(in rt.alloc(); "{path}-wal")
 }
 
 /// Removes a database, of which the file or its log may be gone already.
-pub fn remove(rt: &HostRuntime, path: &str) -> Result<(), Fail> {
+pub fn remove(rt: &HostRuntime, path: &str) {
     let _ = fs::remove_file(rt, path);
-    let log = format!(in rt.alloc(); "{path}-wal")?;
-    let _ = fs::remove_file(rt, log.as_str());
-    Ok(())
+    if let Ok(log) = log_of(rt, path) {
+        let _ = fs::remove_file(rt, log.as_str());
+    }
 }
 
-/// How often a run opened and closed its database, and how it ended.
-#[derive(Drop)]
-pub struct Outcome {
-    pub opened: u64,
-    pub closed: u64,
-    pub told: String,
+// The words of a line.
+fn words_of<'a>(rt: &HostRuntime, line: &'a str) -> Result<Vec<&'a str>, AllocError> {
+    line.split(' ').collect(rt.alloc())
 }
 
-/// Runs a command over a club that is made for it. Its words stand without the path, which is its
-/// second one.
-pub fn run_over_club(rt: &HostRuntime, command: &str, words: &str) -> Result<Outcome, Fail> {
-    let path = new_path(rt, "club")?;
-    make_club(rt, path.as_str())?;
-    let line = format!(in rt.alloc(); "{command} {path} {words}")?;
+// What a run told.
+fn told_of(
+    rt: &HostRuntime,
+    outcome: &Result<(), Fault>,
+    written: &[u8],
+) -> Result<String, AllocError> {
+    match outcome {
+        Ok(()) => {
+            let text = str::from_utf8(written).unwrap_or("no text");
+            format!(in rt.alloc(); "0 {text}")
+        }
+        Err(fault) => {
+            let status = fault.status();
+            format!(in rt.alloc(); "{status} {fault}")
+        }
+    }
+}
+
+/// Runs the program on a line of words over databases in files, to a writer with this much room.
+/// It is the one caller here of `run`, whose proof at these types is long.
+pub fn ended_by(rt: &HostRuntime, line: &str, room: usize) -> Result<Ended, AllocError> {
+    let words = words_of(rt, line)?;
     let mut databases = Counted {
         files: Files { rt, tried: 0 },
         closed: 0,
     };
-    let told = told_over(rt, &mut databases, line.as_str())?;
-    remove(rt, path.as_str())?;
-    Ok(Outcome {
+    let mut nothing: &[u8] = b"";
+    let mut full = Full {
+        room,
+        taken: Vec::new(rt.alloc()),
+    };
+    let mut errors = Vec::new(rt.alloc());
+    let outcome = run(
+        rt,
+        &mut databases,
+        words.as_slice(),
+        &mut nothing,
+        &mut full,
+        &mut errors,
+    );
+    Ok(Ended {
+        told: told_of(rt, &outcome, full.taken.as_slice())?,
+        taken: full.taken.len(),
+        logged: errors.len(),
         opened: databases.files.tried,
         closed: databases.closed,
-        told,
     })
+}
+
+/// Runs a command over the database in a file.
+pub fn ended_at(
+    rt: &HostRuntime,
+    path: &str,
+    command: &str,
+    words: &str,
+    room: usize,
+) -> Result<Ended, AllocError> {
+    let line = format!(in rt.alloc(); "clubdesk {command} {path} {words}")?;
+    ended_by(rt, line.as_str(), room)
+}
+
+/// Fails unless a run of a row ended as it wants.
+pub fn expect_told(rt: &HostRuntime, row: &Row<'_>, told: &str) -> Result<(), Fail> {
+    let Row(command, words, wanted) = row;
+    if told == *wanted {
+        return Ok(());
+    }
+    Err(format!(in rt.alloc(); "{command} {words}: {told}")?.into())
+}
+
+/// Runs commands over a file one after the other, and each ends as its row wants.
+pub fn expect_rows(rt: &HostRuntime, path: &str, rows: &[Row<'_>]) -> Result<(), Fail> {
+    for row in rows {
+        let ended = ended_at(rt, path, row.0, row.1, ROOM)?;
+        expect_told(rt, row, ended.told.as_str())?;
+    }
+    Ok(())
 }
