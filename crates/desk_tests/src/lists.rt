@@ -1,6 +1,6 @@
 //! Lists of events, whose replies by the desk are those of the plain machine, whether it is given
-//! them one by one or some at once, and those to amy the replies of the machine that holds nothing
-//! but her part.
+//! them one by one or at once, and those to amy the replies of the machine that holds nothing but
+//! her part.
 
 use crate::drawn::{Event, Numbers};
 use crate::trial::Trial;
@@ -14,9 +14,6 @@ use std::test::*;
 const PAIRS: u32 = 10;
 
 const EVENTS: u32 = 60;
-
-// How many events are run at once.
-const AT_ONCE: u32 = 6;
 
 /// Plays a list, then compares the members' accounts and the slots.
 fn play(rt: &(impl Abort + Alloc<A = Global>), mut trial: Trial, numbers: &mut Numbers) -> Trial {
@@ -38,17 +35,15 @@ fn play_lists(rt: &(impl Abort + Alloc<A = Global>), first: u64) {
 
 fn drawn(rt: &(impl Abort + Alloc<A = Global>), numbers: &mut Numbers) -> Vec<Event> {
     let mut events = Vec::new(rt.alloc());
-    for _ in 0..AT_ONCE {
+    for _ in 0..EVENTS {
         push(rt, &mut events, numbers.event());
     }
     events
 }
 
-/// Runs a list six events at a time, then compares the slots.
+/// Runs a list at once, then compares the slots.
 fn run(rt: &(impl Abort + Alloc<A = Global>), mut trial: Trial, numbers: &mut Numbers) -> Trial {
-    for _ in 0..EVENTS / AT_ONCE {
-        trial.run(rt, drawn(rt, numbers).as_slice());
-    }
+    trial.run(rt, drawn(rt, numbers).as_slice());
     trial.audited(rt)
 }
 
