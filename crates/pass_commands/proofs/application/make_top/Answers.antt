@@ -1,5 +1,5 @@
-use Rattle.std.proofs.Common.{◌≡◌, ◌∙◌, ap, codes, true}
-use Rattle.clap.specs.Words.{Shape, app_of, new_app}
+use Rattle.std.proofs.Common.{◌∙◌, ap, true}
+use Rattle.clap.specs.Words.{Shape}
 use Rattle.clap.specs.Simple.{app_of_fields, on_top}
 use Rattle.pass_commands.specs.Application.{as_program}
 use Rattle.pass_commands.proofs.application.make_top.Goals as goal
