@@ -1,13 +1,15 @@
 //! A club of fifty members, each with a key, and a court.
 
+use crate::files::Files;
+use crate::known::known;
 use anyhow::{Result, anyhow};
 use club_core::{ClubStore, Command, Root};
 use club_gate::{Desk, OfficeReply, key_signature, minted};
 use club_store::Store;
 use pass_caveats::{Kind, Name};
-use pass_forms::{Form, narrow};
+use pass_forms::{Form, FormFault, Pass, narrow};
 use pass_json::write_any;
-use sqlite::{FileFrom, FileStore, MemStore, Unknown};
+use sqlite::MemStore;
 use std::alloc::Global;
 
 /// How many members there are, each with one key. Their derived keys have room at the desk.
@@ -24,32 +26,29 @@ pub(crate) const CAVEATS: [&[u8]; 3] = [
 
 /// The desk of a new club, over tables in memory.
 pub(crate) fn in_memory(rt: &impl AllocGlobal) -> Result<Desk<Store<MemStore>>> {
-    let store = Store::open_in_memory(rt.alloc())?;
-    let mut desk = Desk::new(rt.alloc(), store);
-    fill(&mut desk)?;
-    Ok(desk)
+    filled(rt.alloc(), Store::open_in_memory(rt.alloc())?)
 }
 
 /// The desk of a new club, over tables in a file that isn't there yet.
-pub(crate) fn in_file(
-    rt: &HostRuntime,
-    path: &str,
-) -> Result<Desk<Store<FileStore<FileFrom<Unknown>>>>> {
-    let store = Store::open_file(rt, path, Unknown)?;
-    let mut desk = Desk::new(rt.alloc(), store);
-    fill(&mut desk)?;
+pub(crate) fn in_file<F: Files>(rt: &HostRuntime, files: &F, path: &str) -> Result<Desk<F::Store>> {
+    filled(rt.alloc(), files.open(rt, path)?)
+}
+
+// The desk over empty tables, which get the court, the members and their keys.
+fn filled<S: ClubStore + Drop>(alloc: Global, store: S) -> Result<Desk<S>> {
+    let mut desk = Desk::new(alloc, store);
+    order(&mut desk, &known(court(), "a court")?)?;
+    for index in 0..KEYS {
+        join(&mut desk, index)?;
+    }
     Ok(desk)
 }
 
-// Makes the court, the members and their keys.
-fn fill<S: ClubStore>(desk: &mut Desk<S>) -> Result<()> {
-    let court = court().ok_or_else(|| anyhow!("a court"))?;
-    order(desk, &court)?;
-    for index in 0..KEYS {
-        let [member, credit, key] = joining(index).ok_or_else(|| anyhow!("a member"))?;
-        order(desk, &member)?;
-        order(desk, &credit)?;
-        order(desk, &key)?;
+// Makes a member with points and a key.
+fn join<S: ClubStore>(desk: &mut Desk<S>, index: u16) -> Result<()> {
+    let commands = known(joining(index), "a member")?;
+    for command in &commands {
+        order(desk, command)?;
     }
     Ok(())
 }
@@ -72,19 +71,19 @@ fn court() -> Option<Command> {
     })
 }
 
-// What makes a member with points and a key.
 fn joining(index: u16) -> Option<[Command; 3]> {
     let name = name_of(index)?;
+    let root = root()?;
     Some([
         Command::AddMember { name, quota: 99 },
         Command::Credit {
-            member: name_of(index)?,
+            member: name,
             points: 1_000_000,
         },
         Command::AddKey {
-            name: name_of(index)?,
-            member: name_of(index)?,
-            root: root()?,
+            name,
+            member: name,
+            root,
         },
     ])
 }
@@ -95,21 +94,34 @@ fn root() -> Option<Root> {
 
 /// The name of a member and of its key: two digits.
 fn name_of(index: u16) -> Option<Name> {
-    let digit = |value: u16| b'0' + (value % 10) as u8;
     Name::read(&[digit(index / 10), digit(index)])
+}
+
+fn digit(value: u16) -> u8 {
+    b'0' + (value % 10) as u8
 }
 
 /// The text of each key's pass in a form, with so many caveats.
 pub(crate) fn passes(alloc: Global, form: Form, caveats: usize) -> Result<Vec<String>> {
     let mut texts = Vec::new(alloc);
-    let root = root().ok_or_else(|| anyhow!("a root"))?;
     for index in 0..KEYS {
-        let name = name_of(index).ok_or_else(|| anyhow!("a name"))?;
-        let mut pass = minted(alloc, &name, key_signature(&name, &root))?;
-        for caveat in CAVEATS.iter().cycle().take(caveats) {
-            narrow(alloc, &mut pass, caveat)?;
-        }
+        let mut pass = pass(alloc, index)?;
+        narrow_by(alloc, &mut pass, caveats)?;
         texts.push(write_any(alloc, form, &pass)?)?;
     }
     Ok(texts)
+}
+
+// The pass of the key of an index.
+fn pass(alloc: Global, index: u16) -> Result<Pass> {
+    let name = known(name_of(index), "a name")?;
+    let root = known(root(), "a root")?;
+    Ok(minted(alloc, &name, key_signature(&name, &root))?)
+}
+
+fn narrow_by(alloc: Global, pass: &mut Pass, caveats: usize) -> Result<(), FormFault> {
+    for caveat in CAVEATS.iter().cycle().take(caveats) {
+        narrow(alloc, pass, caveat)?;
+    }
+    Ok(())
 }

@@ -3,38 +3,62 @@
 //! books COUNT times, asks for the same bookings again, and asks for COUNT accounts.
 
 use crate::club::{self, KEYS, passes};
+use crate::files::Files;
+use crate::known::known;
 use crate::rate::rate;
-use crate::wish::{Wish, minute_before, number_at, slot_at};
+use crate::wish::{Wish, number_at, slot_and_moment};
 use anyhow::{Result, anyhow};
 use club_core::{BookingNumber, ClubStore, Guests, Reply, Request};
 use club_gate::{Desk, Words};
-use pass_caveats::Slot;
+use pass_caveats::{Moment, Slot};
 use pass_forms::Form;
 use std::rt::Clock;
-use std::time::Instant;
+use std::time::{Duration, Instant};
 
-const FORMS: [(&str, Form); 3] = [("v1", Form::V1), ("v2", Form::V2), ("json", Form::Json)];
+const HEAD: &str = "lie in form caveats   booked repeated accounts";
+
+static FORMS: [(&str, Form); 3] = [("v1", Form::V1), ("v2", Form::V2), ("json", Form::Json)];
 
 /// How many caveats a pass has.
-const CAVEAT_COUNTS: [usize; 3] = [0, 3, 20];
+static CAVEAT_COUNTS: [usize; 3] = [0, 3, 20];
+
+static WISHES: [Wish; 3] = [Wish::Booking, Wish::Booking, Wish::Account];
 
 /// Prints two lines for each form and each number of caveats.
-pub(crate) fn compare(rt: &HostRuntime, path: &str, count: u16) -> Result<()> {
-    println!(rt;
-        "{:>6} {:>4} {:>7} {:>8} {:>8} {:>8}",
-        "lie in", "form", "caveats", "booked", "repeated", "accounts"
-    )?;
-    for (name, form) in FORMS {
-        for caveats in CAVEAT_COUNTS {
+pub(crate) fn compare<F: Files>(rt: &HostRuntime, files: &F, path: &str, count: u16) -> Result<()> {
+    println!(rt; "{HEAD}")?;
+    for &(name, form) in &FORMS {
+        for &caveats in &CAVEAT_COUNTS {
             let passes = passes(rt.alloc(), form, caveats)?;
-            print!(rt; "memory {name:>4} {caveats:>7}")?;
-            measure(rt, &mut club::in_memory(rt)?, &passes, count)?;
-            print!(rt; "a file {name:>4} {caveats:>7}")?;
-            let file = format!(in rt.alloc(); "{path}{name}{caveats}")?;
-            measure(rt, &mut club::in_file(rt, file.as_str())?, &passes, count)?;
+            over_memory(rt, (name, caveats), &passes, count)?;
+            over_file(rt, files, path, (name, caveats), &passes, count)?;
         }
     }
     Ok(())
+}
+
+fn over_memory(
+    rt: &HostRuntime,
+    (name, caveats): (&str, usize),
+    passes: &[String],
+    count: u16,
+) -> Result<()> {
+    print!(rt; "memory {name:>4} {caveats:>7}")?;
+    measure(rt, &mut club::in_memory(rt)?, passes, count)
+}
+
+fn over_file<F: Files>(
+    rt: &HostRuntime,
+    files: &F,
+    path: &str,
+    (name, caveats): (&str, usize),
+    passes: &[String],
+    count: u16,
+) -> Result<()> {
+    print!(rt; "a file {name:>4} {caveats:>7}")?;
+    let path = format!(in rt.alloc(); "{path}{name}{caveats}")?;
+    let mut desk = club::in_file(rt, files, path.as_str())?;
+    measure(rt, &mut desk, passes, count)
 }
 
 // Ends the line with what is measured.
@@ -44,40 +68,55 @@ fn measure<S: ClubStore>(
     passes: &[String],
     count: u16,
 ) -> Result<()> {
-    for wish in [Wish::Booking, Wish::Booking, Wish::Account] {
-        let start = Instant::now(rt)?;
-        ask(desk, passes, wish, count)?;
-        print!(rt; " {:>8}", rate(usize::from(count), start.elapsed(rt)?))?;
+    for &wish in &WISHES {
+        let time = time(rt, desk, passes, wish, count)?;
+        print!(rt; " {:>8}", rate(usize::from(count), time))?;
     }
     Ok(println!(rt)?)
+}
+
+fn time<S: ClubStore>(
+    rt: &impl Clock,
+    desk: &mut Desk<S>,
+    passes: &[String],
+    wish: Wish,
+    count: u16,
+) -> Result<Duration> {
+    let start = Instant::now(rt)?;
+    ask(desk, passes, wish, count)?;
+    Ok(start.elapsed(rt)?)
 }
 
 // Asks so many times, under the keys in turn.
 fn ask<S: ClubStore>(desk: &mut Desk<S>, passes: &[String], wish: Wish, count: u16) -> Result<()> {
     for index in 0..count {
-        let pass = passes
-            .get(usize::from(index % KEYS))
-            .ok_or_else(|| anyhow!("a pass"))?;
-        let slot = slot_at(index).ok_or_else(|| anyhow!("a slot"))?;
-        let moment = minute_before(&slot).ok_or_else(|| anyhow!("a moment"))?;
-        let words = Words {
-            pass: pass.as_bytes(),
-            request: request(wish, index, slot).ok_or_else(|| anyhow!("a request"))?,
-        };
-        if let Reply::Refused(refusal) = desk.ask(moment, &words) {
-            return Err(anyhow!("a request is refused: {refusal:?}"));
-        }
+        let pass = known(passes.get(usize::from(index % KEYS)), "a pass")?;
+        ask_once(desk, pass.as_bytes(), wish, index)?;
     }
     Ok(())
 }
 
-fn request(wish: Wish, index: u16, slot: Slot) -> Option<Request> {
-    match wish {
-        Wish::Booking => Some(Request::Book {
-            slot,
-            number: BookingNumber::new(u32::from(number_at(index)))?,
-            guests: Guests::new(1)?,
-        }),
-        Wish::Account => Some(Request::Account),
+fn ask_once<S: ClubStore>(desk: &mut Desk<S>, pass: &[u8], wish: Wish, index: u16) -> Result<()> {
+    let (moment, request) = known(asked(wish, index), "a request")?;
+    match desk.ask(moment, &Words { pass, request }) {
+        Reply::Refused(refusal) => Err(anyhow!("a request is refused: {refusal:?}")),
+        _ => Ok(()),
     }
+}
+
+// What is asked for with an index, and when.
+fn asked(wish: Wish, index: u16) -> Option<(Moment, Request)> {
+    let (slot, moment) = slot_and_moment(index)?;
+    match wish {
+        Wish::Booking => Some((moment, booking(slot, index)?)),
+        Wish::Account => Some((moment, Request::Account)),
+    }
+}
+
+fn booking(slot: Slot, index: u16) -> Option<Request> {
+    Some(Request::Book {
+        slot,
+        number: BookingNumber::new(u32::from(number_at(index)))?,
+        guests: Guests::new(1)?,
+    })
 }

@@ -9,8 +9,7 @@ mod parts;
 use crate::club::in_memory;
 use crate::memory::{Kept, exchanges};
 use crate::rate::{nanos_each, rate};
-use crate::sent::{Sent, requests};
-use crate::wish::Wish;
+use crate::sent::{ROWS, Requests, Sent};
 use anyhow::{Result, anyhow};
 use club_core::Request;
 use club_http::{Desk, Face, MAX_REPLY_LEN, Routes};
@@ -22,18 +21,17 @@ use std::time::Duration;
 /// How often the parts are measured that change nothing. The shortest time is printed.
 const ROUNDS: u8 = 5;
 
+const HEAD: &str = "asked for  a second | ns whole    words httparse     desk    reply";
+
 /// Prints a line for each kind of request.
 pub(crate) fn compare(rt: &HostRuntime, count: u16) -> Result<()> {
-    println!(rt;
-        "{:>9} {:>9} | {:>8} {:>8} {:>8} {:>8} {:>8}",
-        "asked for", "a second", "ns whole", "words", "httparse", "desk", "reply"
-    )?;
-    let bookings = requests(rt.alloc(), Wish::Booking, count)?;
-    let accounts = requests(rt.alloc(), Wish::Account, count)?;
+    println!(rt; "{HEAD}")?;
+    let requests = Requests::new(rt.alloc(), count)?;
     let mut bench = Bench::new(rt)?;
-    bench.print_row(rt, "bookings", &bookings)?;
-    bench.print_row(rt, "repeats", &bookings)?;
-    bench.print_row(rt, "accounts", &accounts)
+    for &(name, wish) in &ROWS {
+        bench.print_row(rt, name, requests.of(wish))?;
+    }
+    Ok(())
 }
 
 /// What is measured: whole exchanges with one desk, and the parts with another one.
@@ -64,40 +62,64 @@ impl Bench {
     ) -> Result<()> {
         let mut kept = Kept::new();
         let whole = exchanges(rt, &mut self.face, &mut self.whole, sent, &mut kept)?;
-        let (asked, read) = shortest_words(rt, &self.routes, sent)?;
+        let mut asked = Vec::with_capacity(rt.alloc(), sent.len())?;
+        let read = shortest_words(rt, &self.routes, sent, &mut asked)?;
         let heads = shortest_heads(rt, sent)?;
-        let (replies, decided) = parts::replies(rt, &mut self.part, sent, &asked)?;
+        let (decided, written) = self.decided_and_written(rt, sent, &asked, kept.bytes())?;
+        print_times(
+            rt,
+            name,
+            sent.len(),
+            &[whole, read, heads, decided, written],
+        )
+    }
+
+    // What the desk and the texts take, of which the last one is this reply.
+    fn decided_and_written(
+        &mut self,
+        rt: &(impl Clock + AllocGlobal),
+        sent: &[Sent],
+        asked: &[Request],
+        last: &[u8],
+    ) -> Result<(Duration, Duration)> {
+        let mut replies = Vec::with_capacity(rt.alloc(), sent.len())?;
+        let decided = parts::replies(rt, &mut self.part, sent, asked, &mut replies)?;
         let mut room = [0; MAX_REPLY_LEN];
         let written = parts::texts(rt, &replies, &mut room)?;
-        if !room.starts_with(kept.bytes()) {
-            return Err(anyhow!("the parts give another reply"));
+        if room.starts_with(last) {
+            Ok((decided, written))
+        } else {
+            Err(anyhow!("the parts give another reply"))
         }
-        let a_second = rate(sent.len(), whole);
-        print!(rt; "{name:>9} {a_second:>9} |")?;
-        for time in [whole, read, heads, decided, written] {
-            print!(rt; " {:>8}", nanos_each(sent.len(), time))?;
-        }
-        Ok(println!(rt)?)
     }
+}
+
+// Prints the times of so many requests, of which the first is that of whole exchanges.
+fn print_times(rt: &impl Print, name: &str, count: usize, times: &[Duration; 5]) -> Result<()> {
+    print!(rt; "{name:>9} {:>9} |", rate(count, times[0]))?;
+    for time in times {
+        print!(rt; " {:>8}", nanos_each(count, *time))?;
+    }
+    Ok(println!(rt)?)
 }
 
 fn shortest_words(
-    rt: &(impl Clock + AllocGlobal),
+    rt: &impl Clock,
     routes: &Routes,
     sent: &[Sent],
-) -> Result<(Vec<Request>, Duration)> {
-    let (mut asked, mut shortest) = parts::words(rt, routes, sent)?;
-    for _ in 1..ROUNDS {
-        let (again, time) = parts::words(rt, routes, sent)?;
-        asked = again;
-        shortest = shortest.min(time);
+    asked: &mut Vec<Request>,
+) -> Result<Duration> {
+    let mut shortest = Duration::MAX;
+    for _ in 0..ROUNDS {
+        asked.clear();
+        shortest = shortest.min(parts::words(rt, routes, sent, asked)?);
     }
-    Ok((asked, shortest))
+    Ok(shortest)
 }
 
 fn shortest_heads(rt: &impl Clock, sent: &[Sent]) -> Result<Duration> {
-    let mut shortest = parts::heads(rt, sent)?;
-    for _ in 1..ROUNDS {
+    let mut shortest = Duration::MAX;
+    for _ in 0..ROUNDS {
         shortest = shortest.min(parts::heads(rt, sent)?);
     }
     Ok(shortest)

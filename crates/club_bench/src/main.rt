@@ -11,7 +11,9 @@
 mod choice;
 mod club;
 mod desk;
+mod files;
 mod http;
+mod known;
 mod memory;
 mod rate;
 mod sent;
@@ -21,6 +23,7 @@ mod wish;
 
 use anyhow::Result;
 use choice::Choice;
+use files::{Files, OnDisk};
 use std::env;
 
 const USAGE: &str = "\
@@ -32,16 +35,20 @@ usage: club_bench store memory|FILE COUNT [ROWS ..]
 fn main(rt: HostRuntime) -> Result<()> {
     let words: Vec<String> = env::args(&rt)?.collect(rt.alloc())?;
     match Choice::read(rt.alloc(), words.as_slice())? {
-        Some(
-            Choice::Store {
-                place,
-                count,
-                sizes,
-            },
-        ) => store::compare(&rt, place, count, sizes.as_slice()),
-        Some(Choice::Desk { path, count }) => desk::compare(&rt, path, count),
-        Some(Choice::Http { count }) => http::compare(&rt, count),
-        Some(Choice::Serve { path, count }) => serve::compare(&rt, path, count),
+        Some(choice) => run(&rt, &OnDisk, &choice),
         None => Ok(println!(rt; "{USAGE}")?),
+    }
+}
+
+fn run<F: Files>(rt: &HostRuntime, files: &F, choice: &Choice<'_>) -> Result<()> {
+    match choice {
+        Choice::Store {
+            place,
+            count,
+            sizes,
+        } => store::compare(rt, files, place, *count, sizes),
+        Choice::Desk { path, count } => desk::compare(rt, files, path, *count),
+        Choice::Http { count } => http::compare(rt, *count),
+        Choice::Serve { path, count } => serve::compare(rt, files, path, *count),
     }
 }

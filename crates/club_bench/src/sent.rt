@@ -1,8 +1,9 @@
 //! What the members ask for, as curl sends it.
 
 use crate::club::{CAVEATS, KEYS, passes};
-use crate::wish::{Wish, minute_before, number_at, slot_at};
-use anyhow::{Result, anyhow};
+use crate::known::known;
+use crate::wish::{Wish, number_at, slot_and_moment};
+use anyhow::Result;
 use pass_caveats::{Moment, Slot};
 use pass_forms::Form;
 use std::alloc::{AllocError, Global};
@@ -22,14 +23,44 @@ pub(crate) struct Sent {
     pub(crate) moment: Moment,
 }
 
-/// So many requests, under the keys in turn, with passes in V2.
-pub(crate) fn requests(alloc: Global, wish: Wish, count: u16) -> Result<Vec<Sent>> {
+/// The rows of exchanges, in their order: bookings, the same bookings again, and accounts.
+pub(crate) static ROWS: [(&str, Wish); 3] = [
+    ("bookings", Wish::Booking),
+    ("repeats", Wish::Booking),
+    ("accounts", Wish::Account),
+];
+
+/// The requests of all rows.
+#[derive(Drop)]
+pub(crate) struct Requests {
+    bookings: Vec<Sent>,
+    accounts: Vec<Sent>,
+}
+
+impl Requests {
+    /// So many of each kind.
+    pub(crate) fn new(alloc: Global, count: u16) -> Result<Requests> {
+        Ok(Requests {
+            bookings: requests_for(alloc, Wish::Booking, count)?,
+            accounts: requests_for(alloc, Wish::Account, count)?,
+        })
+    }
+
+    /// Those that ask for this.
+    pub(crate) fn of(&self, wish: Wish) -> &[Sent] {
+        match wish {
+            Wish::Booking => &self.bookings,
+            Wish::Account => &self.accounts,
+        }
+    }
+}
+
+// So many requests, under the keys in turn, with passes in V2.
+fn requests_for(alloc: Global, wish: Wish, count: u16) -> Result<Vec<Sent>> {
     let passes = passes(alloc, Form::V2, CAVEATS.len())?;
     let mut requests = Vec::new(alloc);
     for index in 0..count {
-        let pass = passes
-            .get(usize::from(index % KEYS))
-            .ok_or_else(|| anyhow!("a pass"))?;
+        let pass = known(passes.get(usize::from(index % KEYS)), "a pass")?;
         requests.push(request(alloc, wish, index, pass.as_str())?)?;
     }
     Ok(requests)
@@ -37,14 +68,25 @@ pub(crate) fn requests(alloc: Global, wish: Wish, count: u16) -> Result<Vec<Sent
 
 // The request of an index.
 fn request(alloc: Global, wish: Wish, index: u16, pass: &str) -> Result<Sent> {
-    let slot = slot_at(index).ok_or_else(|| anyhow!("a slot"))?;
-    let moment = minute_before(&slot).ok_or_else(|| anyhow!("a moment"))?;
-    let text = match wish {
-        Wish::Booking => booking(alloc, &slot, number_at(index), pass)?,
-        Wish::Account => account(alloc, pass)?,
-    };
-    let pass = String::from_str(alloc, pass)?;
-    Ok(Sent { text, pass, moment })
+    let (slot, moment) = known(slot_and_moment(index), "a slot")?;
+    Ok(Sent {
+        text: text(alloc, wish, &slot, index, pass)?,
+        pass: String::from_str(alloc, pass)?,
+        moment,
+    })
+}
+
+fn text(
+    alloc: Global,
+    wish: Wish,
+    slot: &Slot,
+    index: u16,
+    pass: &str,
+) -> Result<String, AllocError> {
+    match wish {
+        Wish::Booking => booking(alloc, slot, number_at(index), pass),
+        Wish::Account => account(alloc, pass),
+    }
 }
 
 fn booking(alloc: Global, slot: &Slot, number: u16, pass: &str) -> Result<String, AllocError> {

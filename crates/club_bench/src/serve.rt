@@ -6,45 +6,52 @@
 mod loopback;
 
 use crate::club::{in_file, in_memory};
+use crate::files::Files;
 use crate::memory::{Kept, exchanges};
 use crate::rate::{nanos_each, rate};
-use crate::sent::{Sent, requests};
-use crate::wish::Wish;
+use crate::sent::{ROWS, Requests, Sent};
 use anyhow::Result;
 use club_core::ClubStore;
 use club_http::{Desk, Face};
 use loopback::Loopback;
 use std::time::{Duration, Instant};
 
+const HEAD: &str = "lie in asked for |  a second   ns each | in memory";
+
 /// Prints a line for each kind of request, over tables in memory and in files.
-pub(crate) fn compare(rt: &HostRuntime, path: &str, count: u16) -> Result<()> {
-    let wishes = Wishes {
-        bookings: requests(rt.alloc(), Wish::Booking, count)?,
-        accounts: requests(rt.alloc(), Wish::Account, count)?,
-    };
-    println!(rt;
-        "{:>6} {:>9} | {:>9} {:>9} | {:>9}",
-        "lie in", "asked for", "a second", "ns each", "in memory"
-    )?;
-    print_rows(
-        rt,
-        "memory",
-        &mut in_memory(rt)?,
-        &mut in_memory(rt)?,
-        &wishes,
-    )?;
-    let served = format!(in rt.alloc(); "{path}-served")?;
-    let mut served = in_file(rt, served.as_str())?;
-    let exchanged = format!(in rt.alloc(); "{path}-exchanged")?;
-    let mut exchanged = in_file(rt, exchanged.as_str())?;
-    print_rows(rt, "a file", &mut served, &mut exchanged, &wishes)
+pub(crate) fn compare<F: Files>(rt: &HostRuntime, files: &F, path: &str, count: u16) -> Result<()> {
+    let requests = Requests::new(rt.alloc(), count)?;
+    println!(rt; "{HEAD}")?;
+    over_memory(rt, &requests)?;
+    over_files(rt, files, path, &requests)
 }
 
-/// What is asked for.
-#[derive(Drop)]
-struct Wishes {
-    bookings: Vec<Sent>,
-    accounts: Vec<Sent>,
+fn over_memory(rt: &HostRuntime, requests: &Requests) -> Result<()> {
+    let mut served = in_memory(rt)?;
+    let mut exchanged = in_memory(rt)?;
+    print_rows(rt, "memory", &mut served, &mut exchanged, requests)
+}
+
+fn over_files<F: Files>(
+    rt: &HostRuntime,
+    files: &F,
+    path: &str,
+    requests: &Requests,
+) -> Result<()> {
+    let mut served = in_file_of(rt, files, path, "served")?;
+    let mut exchanged = in_file_of(rt, files, path, "exchanged")?;
+    print_rows(rt, "a file", &mut served, &mut exchanged, requests)
+}
+
+// The desk over a file with a word behind its name.
+fn in_file_of<F: Files>(
+    rt: &HostRuntime,
+    files: &F,
+    path: &str,
+    word: &str,
+) -> Result<Desk<F::Store>> {
+    let path = format!(in rt.alloc(); "{path}-{word}")?;
+    in_file(rt, files, path.as_str())
 }
 
 // One desk is asked over loopback, and the other one the same over memory.
@@ -53,20 +60,32 @@ fn print_rows<S: ClubStore>(
     place: &str,
     served: &mut Desk<S>,
     exchanged: &mut Desk<S>,
-    wishes: &Wishes,
+    requests: &Requests,
 ) -> Result<()> {
-    let mut loopback = Loopback::new(rt)?;
-    let mut face = Face::new(rt.alloc())?;
-    for (name, sent) in [
-        ("bookings", &wishes.bookings),
-        ("repeats", &wishes.bookings),
-        ("accounts", &wishes.accounts),
-    ] {
-        let whole = over_loopback(rt, &mut loopback, served, sent)?;
-        let inner = exchanges(rt, &mut face, exchanged, sent, &mut Kept::new())?;
-        print_row(rt, place, name, sent.len(), whole, inner)?;
+    let mut ways = Ways::new(rt)?;
+    for &(name, wish) in &ROWS {
+        let sent = requests.of(wish);
+        let whole = over_loopback(rt, &mut ways.loopback, served, sent)?;
+        let inner = exchanges(rt, &mut ways.face, exchanged, sent, &mut Kept::new())?;
+        print_times(rt, (place, name), sent.len(), whole, inner)?;
     }
     Ok(())
+}
+
+/// The ways to a desk: over loopback, and over memory.
+#[derive(Drop)]
+struct Ways {
+    loopback: Loopback,
+    face: Face,
+}
+
+impl Ways {
+    fn new(rt: &HostRuntime) -> Result<Ways> {
+        Ok(Ways {
+            loopback: Loopback::new(rt)?,
+            face: Face::new(rt.alloc())?,
+        })
+    }
 }
 
 fn over_loopback<S: ClubStore>(
@@ -83,10 +102,9 @@ fn over_loopback<S: ClubStore>(
 }
 
 // Prints the times of so many requests over loopback, and of as many exchanges over memory.
-fn print_row(
+fn print_times(
     rt: &impl Print,
-    place: &str,
-    name: &str,
+    (place, name): (&str, &str),
     count: usize,
     whole: Duration,
     inner: Duration,

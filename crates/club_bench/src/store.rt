@@ -9,40 +9,63 @@
 mod club;
 mod times;
 
+use crate::files::Files;
 use anyhow::Result;
 use club_store::Store;
-use sqlite::Unknown;
 use times::{Times, measure};
 
 /// How many bookings are in the table before the time is taken.
-const ROWS: [u32; 3] = [100, 10_000, 100_000];
+static ROWS: [u32; 3] = [100, 10_000, 100_000];
 
 const MEMORY: &str = "memory";
 
+const HEAD: &str = "    rows                 view     booking        both       ratio";
+
 /// Prints each size's times, and the last size beside the first. Where no size is given, `ROWS` has
 /// them.
-pub(crate) fn compare(rt: &HostRuntime, place: &str, count: u32, sizes: &[u32]) -> Result<()> {
-    let sizes = if sizes.is_empty() {
-        ROWS.as_slice()
-    } else {
-        sizes
-    };
+pub(crate) fn compare<F: Files>(
+    rt: &HostRuntime,
+    files: &F,
+    place: &str,
+    count: u32,
+    sizes: &[u32],
+) -> Result<()> {
     println!(rt; "microseconds, in {place}")?;
-    println!(rt;
-        "{:>8} {:>8} {:>11} {:>11} {:>11} {:>11}",
-        "rows", "", "view", "booking", "both", "ratio"
-    )?;
+    println!(rt; "{HEAD}")?;
+    if sizes.is_empty() {
+        print_sizes(rt, files, place, count, &ROWS)
+    } else {
+        print_sizes(rt, files, place, count, sizes)
+    }
+}
+
+fn print_sizes<F: Files>(
+    rt: &HostRuntime,
+    files: &F,
+    place: &str,
+    count: u32,
+    sizes: &[u32],
+) -> Result<()> {
     let mut first = None;
     for &rows in sizes {
-        let times = if place == MEMORY {
-            in_memory(rt, rows, count)?
-        } else {
-            in_file(rt, place, rows, count)?
-        };
-        let summary = times.summary()?;
+        let summary = measured(rt, files, place, rows, count)?.summary()?;
         summary.print(rt, rows, *first.get_or_insert(summary))?;
     }
     Ok(())
+}
+
+fn measured<F: Files>(
+    rt: &HostRuntime,
+    files: &F,
+    place: &str,
+    rows: u32,
+    count: u32,
+) -> Result<Times> {
+    if place == MEMORY {
+        in_memory(rt, rows, count)
+    } else {
+        in_file(rt, files, place, rows, count)
+    }
 }
 
 fn in_memory(rt: &HostRuntime, rows: u32, count: u32) -> Result<Times> {
@@ -51,11 +74,17 @@ fn in_memory(rt: &HostRuntime, rows: u32, count: u32) -> Result<Times> {
     measure(rt, &mut store, rows, count)
 }
 
-fn in_file(rt: &HostRuntime, path: &str, rows: u32, count: u32) -> Result<Times> {
+fn in_file<F: Files>(
+    rt: &HostRuntime,
+    files: &F,
+    path: &str,
+    rows: u32,
+    count: u32,
+) -> Result<Times> {
     let path = format!(in rt.alloc(); "{path}{rows}")?;
-    let mut store = Store::open_file(rt, path.as_str(), Unknown)?;
+    let mut store = files.open(rt, path.as_str())?;
     club::fill(&mut store, rows)?;
     let times = measure(rt, &mut store, rows, count)?;
-    store.into_connection().close()?;
+    files.close(store)?;
     Ok(times)
 }

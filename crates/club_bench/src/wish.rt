@@ -25,14 +25,20 @@ pub(crate) fn number_at(index: u16) -> u16 {
     index / KEYS + 1
 }
 
-/// The slot of an index, counted from 0.
-pub(crate) fn slot_at(index: u16) -> Option<Slot> {
+/// The slot of an index, counted from 0, and when it is asked for.
+pub(crate) fn slot_and_moment(index: u16) -> Option<(Slot, Moment)> {
+    let slot = slot_at(index)?;
+    let moment = minute_before(&slot)?;
+    Some((slot, moment))
+}
+
+fn slot_at(index: u16) -> Option<Slot> {
     let day = i64::from(FIRST_DAY) + i64::from(index / HOURS_A_DAY);
     let hour = FIRST_HOUR + index % HOURS_A_DAY;
     slot_from_columns(COURT, day, i64::from(hour))
 }
 
-/// A minute before a slot begins, so that few bookings of a member are still to come.
-pub(crate) fn minute_before(slot: &Slot) -> Option<Moment> {
+// A minute before a slot begins, so that few bookings of a member are still to come.
+fn minute_before(slot: &Slot) -> Option<Moment> {
     Moment::from_number(slot.start().saturating_sub(1))
 }

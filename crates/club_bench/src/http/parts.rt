@@ -10,13 +10,13 @@ use httparse::spans::{EMPTY_HEADER_SPAN, HeaderSpan, parse_request};
 use std::rt::Clock;
 use std::time::{Duration, Instant};
 
-/// What the requests ask for, by their words.
+/// Puts what the requests ask for, by their words, into a list that has room for it.
 pub(crate) fn words(
-    rt: &(impl Clock + AllocGlobal),
+    rt: &impl Clock,
     routes: &Routes,
     sent: &[Sent],
-) -> Result<(Vec<Request>, Duration)> {
-    let mut asked = Vec::with_capacity(rt.alloc(), sent.len())?;
+    asked: &mut Vec<Request>,
+) -> Result<Duration> {
     let start = Instant::now(rt)?;
     for each in sent {
         match words_of(routes, each.text.as_bytes()) {
@@ -24,7 +24,7 @@ pub(crate) fn words(
             Err(refusal) => return Err(anyhow!("a request is refused: {refusal:?}")),
         }
     }
-    Ok((asked, start.elapsed(rt)?))
+    Ok(start.elapsed(rt)?)
 }
 
 /// The heads of the requests by `httparse` alone.
@@ -43,14 +43,14 @@ fn has_head(bytes: &[u8], fields: &mut [HeaderSpan; MAX_FIELDS]) -> bool {
     matches!(parse_request(bytes, fields), Ok(Status::Complete(_)))
 }
 
-/// What the desk replies.
+/// Puts what the desk replies into a list that has room for it.
 pub(crate) fn replies<S: ClubStore>(
-    rt: &(impl Clock + AllocGlobal),
+    rt: &impl Clock,
     desk: &mut Desk<S>,
     sent: &[Sent],
     asked: &[Request],
-) -> Result<(Vec<Reply>, Duration)> {
-    let mut replies = Vec::with_capacity(rt.alloc(), sent.len())?;
+    replies: &mut Vec<Reply>,
+) -> Result<Duration> {
     let start = Instant::now(rt)?;
     for (each, request) in sent.iter().zip(asked) {
         let words = Words {
@@ -59,7 +59,7 @@ pub(crate) fn replies<S: ClubStore>(
         };
         replies.push(desk.ask(each.moment, &words))?;
     }
-    Ok((replies, start.elapsed(rt)?))
+    Ok(start.elapsed(rt)?)
 }
 
 /// The texts of the replies. The last one is at the front of the room.

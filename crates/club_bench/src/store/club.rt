@@ -1,13 +1,12 @@
 //! A club whose members book in turn, two after another in the same slot.
 
-use anyhow::{Result, anyhow};
+use crate::known::known;
+use anyhow::Result;
 use club_core::{
-    Booking, BookingNumber, Change, Facility, FacilityColumns, Guests, Key, Member, Request, Root,
-    View, slot_from_columns,
+    Booking, BookingNumber, Change, ClubStore, Facility, FacilityColumns, Guests, Key, Member,
+    Request, Root, View, slot_from_columns,
 };
-use club_store::Store;
 use pass_caveats::{Moment, Name, Slot};
-use sqlite::Alter;
 
 /// How many members there are, each with one key.
 const KEYS: u32 = 1_000;
@@ -35,41 +34,38 @@ const BOOKED_AHEAD: u32 = 2_500;
 const CHARGE: u32 = 2;
 
 /// Makes the court, the members, their keys and so many bookings, where there is no court yet.
-pub(crate) fn fill<S: Alter>(store: &mut Store<S>, rows: u32) -> Result<()> {
-    let court = court().ok_or_else(|| anyhow!("a court"))?;
+pub(crate) fn fill<S: ClubStore>(store: &mut S, rows: u32) -> Result<()> {
+    let court = known(court(), "a court")?;
     if store.facility(&court.name)?.is_some() {
         return Ok(());
     }
-    store.insert_facility(&court)?;
+    store.apply(&Change::InsertFacility(court))?;
     for index in 0..KEYS {
-        let member = member(index).ok_or_else(|| anyhow!("a member"))?;
-        store.insert_member(&member)?;
-        let key = key(index).ok_or_else(|| anyhow!("a key"))?;
-        store.insert_key(&key)?;
+        join(store, index)?;
     }
     for index in 0..rows {
-        let booking = booking(index).ok_or_else(|| anyhow!("a booking"))?;
-        book(store, &booking)?;
+        book(store, &known(booking(index), "a booking")?)?;
     }
     Ok(())
 }
 
+// Makes a member and its key.
+fn join<S: ClubStore>(store: &mut S, index: u32) -> Result<()> {
+    store.apply(&Change::InsertMember(known(member(index), "a member")?))?;
+    Ok(store.apply(&Change::InsertKey(known(key(index), "a key")?))?)
+}
+
 /// Reads what the key of a booking sees when it asks for that at a moment.
-pub(crate) fn view<S: Alter>(
-    store: &mut Store<S>,
-    booking: &Booking,
-    moment: Moment,
-) -> Result<View> {
+pub(crate) fn view<S: ClubStore>(store: &mut S, booking: &Booking, moment: Moment) -> Result<View> {
     let request = Request::Book {
         slot: booking.slot,
         number: booking.number,
         guests: booking.guests,
     };
-    let view = store.view(&booking.key, &request, moment)?;
-    view.ok_or_else(|| anyhow!("the key"))
+    known(store.view(&booking.key, &request, moment)?, "the key")
 }
 
-pub(crate) fn book<S: Alter>(store: &mut Store<S>, booking: &Booking) -> Result<()> {
+pub(crate) fn book<S: ClubStore>(store: &mut S, booking: &Booking) -> Result<()> {
     Ok(store.apply(&Change::InsertBooking(*booking))?)
 }
 
@@ -113,13 +109,16 @@ fn key(index: u32) -> Option<Key> {
 
 // The name of a letter and three digits of a number.
 fn name(letter: u8, number: u32) -> Option<Name> {
-    let digit = |value: u32| b'0' + (value % 10) as u8;
     Name::read(&[
         letter,
         digit(number / 100),
         digit(number / 10),
         digit(number),
     ])
+}
+
+fn digit(value: u32) -> u8 {
+    b'0' + (value % 10) as u8
 }
 
 /// The booking of this index, counted from 0. The keys take turns, and each counts its own bookings.

@@ -1,9 +1,9 @@
 //! How long views and bookings take.
 
+use crate::known::known;
 use crate::store::club;
 use anyhow::{Result, anyhow};
-use club_store::Store;
-use sqlite::Alter;
+use club_core::{Booking, ClubStore};
 use std::alloc::{AllocError, Global};
 use std::io;
 use std::rt::Clock;
@@ -35,9 +35,9 @@ pub(crate) struct Summary {
 }
 
 /// Books so many times over a club with so many bookings, and reads before each what its key sees.
-pub(crate) fn measure<S: Alter>(
+pub(crate) fn measure<S: ClubStore>(
     rt: &(impl Alloc<A = Global> + Clock),
-    store: &mut Store<S>,
+    store: &mut S,
     rows: u32,
     count: u32,
 ) -> Result<Times> {
@@ -46,22 +46,44 @@ pub(crate) fn measure<S: Alter>(
         bookings: Vec::new(rt.alloc()),
     };
     for index in rows..rows.saturating_add(count) {
-        let booking = club::booking(index).ok_or_else(|| anyhow!("a booking"))?;
-        let moment = club::moment(index).ok_or_else(|| anyhow!("a moment"))?;
-        let start = Instant::now(rt)?;
-        let view = club::view(store, &booking, moment)?;
-        times.views.push(start.elapsed(rt)?.as_nanos())?;
-        if !club::is_view(&view, index) {
-            return Err(anyhow!("another view"));
-        }
-        let start = Instant::now(rt)?;
-        club::book(store, &booking)?;
-        times.bookings.push(start.elapsed(rt)?.as_nanos())?;
+        times.add(rt, store, index)?;
     }
     Ok(times)
 }
 
+// How long the view of the booking of an index takes.
+fn view<S: ClubStore>(
+    rt: &impl Clock,
+    store: &mut S,
+    booking: &Booking,
+    index: u32,
+) -> Result<u128> {
+    let moment = known(club::moment(index), "a moment")?;
+    let start = Instant::now(rt)?;
+    let view = club::view(store, booking, moment)?;
+    let time = start.elapsed(rt)?.as_nanos();
+    if club::is_view(&view, index) {
+        Ok(time)
+    } else {
+        Err(anyhow!("another view"))
+    }
+}
+
+// How long the booking itself takes.
+fn book<S: ClubStore>(rt: &impl Clock, store: &mut S, booking: &Booking) -> Result<u128> {
+    let start = Instant::now(rt)?;
+    club::book(store, booking)?;
+    Ok(start.elapsed(rt)?.as_nanos())
+}
+
 impl Times {
+    // Adds those of the booking of an index.
+    fn add<S: ClubStore>(&mut self, rt: &impl Clock, store: &mut S, index: u32) -> Result<()> {
+        let booking = known(club::booking(index), "a booking")?;
+        self.views.push(view(rt, store, &booking, index)?)?;
+        Ok(self.bookings.push(book(rt, store, &booking)?)?)
+    }
+
     /// The median and the mean of the views, and of the bookings.
     pub(crate) fn summary(mut self) -> Result<Summary, AllocError> {
         Ok(Summary {
@@ -93,9 +115,9 @@ impl Summary {
     /// Prints a line of the medians and a line of the means, each with how often that of another
     /// summary it is.
     pub(crate) fn print(self, rt: &impl Print, rows: u32, first: Summary) -> Result<()> {
-        print!(rt; "{rows:>8} {:>8}", "median")?;
+        print!(rt; "{rows:>8}   median")?;
         self.median.print(rt, first.median)?;
-        print!(rt; "{rows:>8} {:>8}", "mean")?;
+        print!(rt; "{rows:>8}     mean")?;
         self.mean.print(rt, first.mean)
     }
 }
