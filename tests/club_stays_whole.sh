@@ -1,6 +1,6 @@
 #!/bin/sh
-# Cuts runs of store_walk short. The file must then hold the club as it stood after one of the calls, whole: sqlite3 finds it
-# sound, and store_walk reads it.
+# Cuts runs of club_walk short. The file must then hold the club as it stood after one of the calls, whole: sqlite3 finds it
+# sound, and club_walk reads it.
 # - Each allocation is refused in turn: a run ends with status 4 and `fault: memory`, or as with ample memory.
 # - The file may grow to so many blocks alone: a run ends with status 3 and `fault: storage`, or as with ample storage.
 # - The run is killed after so many milliseconds.
@@ -14,8 +14,8 @@ command -v cc >/dev/null || apt-get install -y gcc libc6-dev >/dev/null
 work=$(mktemp -d)
 trap 'rm -rf "$work"' EXIT
 # It proves and builds the program first, where that isn't done.
-(cd "$here/../crates/store_walk" && rt run) </dev/null >/dev/null 2>"$work/log" || { cat "$work/log" >&2; exit 1; }
-walk=$here/../crates/store_walk/out/store_walk
+(cd "$here/../crates/club_walk" && rt run) </dev/null >/dev/null 2>"$work/log" || { cat "$work/log" >&2; exit 1; }
+walk=$here/../crates/club_walk/out/club_walk
 cc -shared -fPIC -O1 -o "$work/refuse.so" "$here/refused_memory.c" -ldl
 # Where files lie in memory, a sync costs nothing.
 files=$work
@@ -55,7 +55,7 @@ CHANGES
 
 # fail WHAT
 fail() {
-    echo "store_walk $cut: $1" >&2
+    echo "club_walk $cut: $1" >&2
     cat out fault >&2
     exit 1
 }
@@ -71,21 +71,21 @@ ends() {
     fi
 }
 
-# What lies in `club` and its log is a club to sqlite3, and the same club to store_walk.
+# What lies in `club` and its log is a club to sqlite3, and the same club to club_walk.
 keeps_a_club() {
     if [ ! -e club ]; then return; fi
     cp club copy
     rm -f copy-wal
     if [ -e club-wal ]; then cp club-wal copy-wal; fi
     rows copy >before
-    # A file whose making was cut short is none to sqlite3, and store_walk goes on with it.
+    # A file whose making was cut short is none to sqlite3, and club_walk goes on with it.
     if grep -q 'file is not a database' before; then head -n 1 states >before; fi
     grep -qxF -f before states || fail "the file holds $(cat before)"
     "$walk" show club >/dev/null 2>fault || fail 'the file is refused afterwards'
     rows club >after
     # Opening makes the tables, where there are none.
     if [ "$(cat before)" = "$(head -n 1 states)" ]; then sed -n 2p states >before; fi
-    cmp -s after before || fail "store_walk finds $(cat after)"
+    cmp -s after before || fail "club_walk finds $(cat after)"
 }
 
 # begin: `start` stands for the file `club` before a run, or none does.
@@ -108,7 +108,7 @@ refuse_memory() {
         [ -e told ] || break
         number=$((number + step))
     done
-    echo "store_walk${1:+ $*}: $count of the runs to allocation $number ended for out of memory"
+    echo "club_walk${1:+ $*}: $count of the runs to allocation $number ended for out of memory"
 }
 
 refuse_storage() {
@@ -123,7 +123,7 @@ refuse_storage() {
         ends 'fault: storage' 3
         keeps_a_club
     done
-    echo "store_walk $*: $count of 201 runs ended for want of storage"
+    echo "club_walk $*: $count of 201 runs ended for want of storage"
 }
 
 kill_runs() {
@@ -140,7 +140,7 @@ kill_runs() {
         if [ "$status" = 137 ]; then count=$((count + 1)); else ends killed 137; fi
         keeps_a_club
     done
-    echo "store_walk $*: $count of 120 runs were killed"
+    echo "club_walk $*: $count of 120 runs were killed"
 }
 
 rm -f start

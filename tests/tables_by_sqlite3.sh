@@ -1,16 +1,16 @@
 #!/bin/sh
-# Holds the tables against sqlite3: what store_walk puts into a file, sqlite3 finds there, with the columns, keys, references
-# and limits of docs/TABLES.md; what sqlite3 changes within them, store_walk reads; and a file that holds no club is refused as
+# Holds the tables against sqlite3: what club_walk puts into a file, sqlite3 finds there, with the columns, keys, references
+# and limits of docs/TABLES.md; what sqlite3 changes within them, club_walk reads; and a file that holds no club is refused as
 # a fault of storage and stays as it was, byte for byte. Not part of the gate.
 set -eu
 here=$(CDPATH='' cd -P -- "$(dirname -- "$0")" && pwd)
-walk=$here/../crates/store_walk
+walk=$here/../crates/club_walk
 command -v sqlite3 >/dev/null || apt-get install -y sqlite3 >/dev/null
 work=$(mktemp -d)
 trap 'rm -rf "$work"' EXIT
 # It proves and builds the program first, where that isn't done.
 (cd "$walk" && rt run) </dev/null >/dev/null 2>"$work/log" || { cat "$work/log" >&2; exit 1; }
-walk=$walk/out/store_walk
+walk=$walk/out/club_walk
 cd "$work"
 checks=0
 
@@ -166,7 +166,7 @@ bookings refund 0 499950
 old_roots until 15778080 68374079
 LIMITS
 
-# What sqlite3 writes within the limits, store_walk reads, beside the log that it left.
+# What sqlite3 writes within the limits, club_walk reads, beside the log that it left.
 cp club written
 "$walk" show written >/dev/null
 sql written "UPDATE members SET credited = credited + 5, quota = 99, used = used + 200; UPDATE keys SET revoked = 1; DELETE FROM slots;
@@ -229,7 +229,7 @@ same 'the schema of a migrated file' "$(sql first 'SELECT type, name, sql FROM s
 $(sql club 'SELECT type, name, sql FROM sqlite_schema')
 ROWS
 
-# refused WHAT WORD..: store_walk answers a fault of storage and leaves `bad` as it is. What it leaves beside it, a log with no
+# refused WHAT WORD..: club_walk answers a fault of storage and leaves `bad` as it is. What it leaves beside it, a log with no
 # commit, doesn't change what sqlite3 reads.
 refused() {
     what=$1

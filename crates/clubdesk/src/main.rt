@@ -5,11 +5,8 @@
 ghost use Rattle.std.specs.Prelude.{IfErr};
 ghost use Rattle.desk_commands.specs.Fault.{IsOfWords};
 
-mod files;
-
-pub use desk_commands::run;
-use desk_commands::{Fault, not_text};
-use files::Files;
+use desk_commands::{Fault, not_text, run};
+use desk_files::Files;
 use std::process::ExitCode;
 use std::{env, io};
 
@@ -28,7 +25,7 @@ fn main(rt: HostRuntime) -> ExitCode {
 // Runs on the process's words, standard input and standard output.
 fn run_here(rt: &HostRuntime) -> Result<(), Fault> {
     let words = given_words(rt)?;
-    let mut files = Files { rt, tried: 0 };
+    let mut files = Files::new(rt);
     run(
         rt,
         &mut files,
@@ -56,6 +53,3 @@ fn report(rt: &impl Eprint, fault: &Fault) -> io::Result<()> {
         _ => eprintln!(rt; "{fault}"),
     }
 }
-
-#[cfg(test)]
-mod tests;

@@ -1,5 +1,6 @@
 //! Tests of whole exchanges: bytes of a request, a desk over the tables in memory or one that
-//! counts, and bytes of its reply; and of the server, over sockets and over connections in memory.
+//! counts, and bytes of its reply; of the server, over sockets and over connections in memory; and of
+//! whole runs of the program, over files.
 #![tactic(auto)]
 
 #[cfg(test)]
@@ -26,6 +27,8 @@ mod office;
 mod others;
 #[cfg(test)]
 mod passes;
+#[cfg(test)]
+mod program;
 #[cfg(test)]
 mod refused_memory;
 #[cfg(test)]

@@ -1,35 +1,27 @@
-//! A walk over the desk of a new club, whose tables lie in memory: the office's orders, then the
-//! requests of a member, whose pass comes in each of its forms, with what is told to each.
-#![tactic(auto)]
+//! The desk of a new club, whose tables lie in memory: the office's orders, then the requests of a
+//! member, whose pass comes in each of its forms, with what is told to each.
 
 mod show;
 mod steps;
 
-use anyhow::{Result, anyhow};
-use club_core::Request;
+use crate::fault::Fault;
+use club_core::{Request, StoreFault};
 use club_gate::{Command, Event, EventReply};
 use desk_law::run_from_nothing;
 use pass_caveats::Moment;
 use std::alloc::Global;
 use steps::{FOR_ROOMS, JSON, LINES, V1, V2, asked};
 
-fn main(rt: HostRuntime) -> Result<()> {
-    let orders = known(steps::orders())?;
-    let requests = known(steps::requests())?;
-    let noon = known(steps::noon())?;
+/// Prints each order and each request with what is told to it.
+pub(crate) fn walk(rt: &(impl Print + Alloc<A = Global>)) -> Result<(), Fault> {
+    let orders = steps::orders().ok_or(StoreFault::Storage)?;
+    let requests = steps::requests().ok_or(StoreFault::Storage)?;
+    let noon = steps::noon().ok_or(StoreFault::Storage)?;
     let replies = replies(rt.alloc(), &orders, &requests, noon)?;
-    print(&rt, &replies)
+    print(rt, &replies)
 }
 
-// Values of the walk are within their limits.
-fn known<T: Drop>(value: Option<T>) -> Result<T> {
-    match value {
-        Some(value) => Ok(value),
-        None => Err(anyhow!("a value is out of its limits")),
-    }
-}
-
-fn print(rt: &impl Print, replies: &[EventReply]) -> Result<()> {
+fn print(rt: &impl Print, replies: &[EventReply]) -> Result<(), Fault> {
     for (line, reply) in LINES.iter().zip(replies) {
         println!(rt; "> {line}")?;
         show::reply(rt, reply)?;
@@ -43,7 +35,7 @@ fn replies(
     orders: &[Command; 4],
     requests: &[Request; 4],
     noon: Moment,
-) -> Result<Vec<EventReply>> {
+) -> Result<Vec<EventReply>, Fault> {
     let [member, credit, court, key] = *orders;
     let [booking, repeat, account, cancellation] = *requests;
     let events = [

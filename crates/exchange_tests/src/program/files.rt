@@ -1,15 +1,7 @@
 //! Runs of the program over files, one after the other, and a server between them.
 
-use super::runs::{Row, expect_rows, log_of, new_path, remove};
-use crate::files::Files;
-use club_core::ClubStore;
-use club_http::{Desk, Face};
-use club_values::Moment;
-use desk_commands::Databases;
-use desk_server::{Fixed, Listening, serve_on};
-use sqlite::{Alter, Connection};
-use std::io::{Read, Write};
-use std::net::{TcpListener, TcpStream};
+use super::runs::{Row, change, expect_rows, log_of, new_path, remove};
+use super::served::reply_to;
 use std::test::Fail;
 use std::{env, fs};
 
@@ -74,49 +66,6 @@ static SHEETS: [Row; 3] = [
         "1 refused: slot in use",
     ),
 ];
-
-// A client that has sent this to a listener.
-fn client_of(rt: &HostRuntime, listener: &TcpListener, request: &str) -> Result<TcpStream, Fail> {
-    let mut client = TcpStream::connect(rt, listener.local_addr()?)?;
-    client.write_all(request.as_bytes())?;
-    Ok(client)
-}
-
-// Serves one request at noon of 2026-04-20.
-fn serve_at<S: ClubStore>(
-    rt: &HostRuntime,
-    listener: &TcpListener,
-    desk: &mut Desk<S>,
-) -> Result<(), Fail> {
-    let mut face = Face::new(rt.alloc())?;
-    let moment = Moment::read(b"2026-04-20T12:00").ok_or("moment")?;
-    let mut connections = Listening::new(listener);
-    serve_on(&mut connections, 1, &mut Fixed { moment }, &mut face, desk)?;
-    Ok(())
-}
-
-// The same over a database that is opened for it and closed behind it.
-fn serve_over<D: Databases>(
-    rt: &HostRuntime,
-    databases: &mut D,
-    path: &str,
-    listener: &TcpListener,
-) -> Result<(), Fail> {
-    let mut desk = Desk::new(rt.alloc(), databases.open(path)?);
-    serve_at(rt, listener, &mut desk)?;
-    databases.close(desk.into_store());
-    Ok(())
-}
-
-// The bytes of the reply to a request.
-fn reply_to(rt: &HostRuntime, path: &str, request: &str) -> Result<Vec<u8>, Fail> {
-    let listener = TcpListener::bind(rt, "127.0.0.1:0")?;
-    let mut client = client_of(rt, &listener, request)?;
-    serve_over(rt, &mut Files { rt, tried: 0 }, path, &listener)?;
-    let mut reply = Vec::new(rt.alloc());
-    client.read_to_end(&mut reply)?;
-    Ok(reply)
-}
 
 fn expect_replies(rt: &HostRuntime, path: &str, rows: &[(&str, &str)]) -> Result<(), Fail> {
     for (request, wanted) in rows {
@@ -198,11 +147,6 @@ fn files_of_something_else(rt: HostRuntime) -> Result<(), Fail> {
     Ok(())
 }
 
-fn set_version<S: Alter>(connection: &mut Connection<S>) -> Result<(), Fail> {
-    connection.execute("UPDATE desk SET version = 9", &[])?;
-    Ok(())
-}
-
 static OTHER_VERSION: [Row; 2] = [
     Row("sheet", "2026-05-01", "5 storage failed"),
     Row("serve", "--port 0 --count 1", "5 storage failed"),
@@ -212,9 +156,7 @@ static OTHER_VERSION: [Row; 2] = [
 fn files_of_another_version(rt: HostRuntime) -> Result<(), Fail> {
     let path = new_path(&rt, "version")?;
     expect_rows(&rt, path.as_str(), &AMY_ADDED)?;
-    let mut connection = Connection::open(&rt, path.as_str())?;
-    set_version(&mut connection)?;
-    connection.close()?;
+    change(&rt, path.as_str(), "UPDATE desk SET version = 9")?;
     expect_rows(&rt, path.as_str(), &OTHER_VERSION)?;
     remove(&rt, path.as_str());
     Ok(())

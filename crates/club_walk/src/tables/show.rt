@@ -1,6 +1,6 @@
 //! What the tables hold, printed by a line for each row.
 
-use crate::club;
+use super::club;
 use crate::fault::Fault;
 use club_core::{Booking, BookingNumber, Request, StoreFault, View, sheet_text};
 use club_store::Store;

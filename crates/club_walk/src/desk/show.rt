@@ -1,19 +1,19 @@
 //! What is told, printed.
 
-use anyhow::Result;
+use crate::fault::Fault;
 use club_core::Reply;
 use club_gate::{EventReply, OfficeReply};
 use club_replies::{MAX_REPLY_LEN, reply_bytes};
 
 /// Prints what is told: to the office a line, to a member the text of the reply.
-pub(crate) fn reply(rt: &impl Print, reply: &EventReply) -> Result<()> {
+pub(crate) fn reply(rt: &impl Print, reply: &EventReply) -> Result<(), Fault> {
     match reply {
         EventReply::Answered(reply) => answer(rt, reply),
         EventReply::Replied(reply) => text_of(rt, reply),
     }
 }
 
-fn answer(rt: &impl Print, reply: &OfficeReply) -> Result<()> {
+fn answer(rt: &impl Print, reply: &OfficeReply) -> Result<(), Fault> {
     match reply {
         OfficeReply::Done => Ok(println!(rt; "done")?),
         OfficeReply::Key { signature } => key(rt, signature),
@@ -21,7 +21,7 @@ fn answer(rt: &impl Print, reply: &OfficeReply) -> Result<()> {
     }
 }
 
-fn key(rt: &impl Print, signature: &[u8; 32]) -> Result<()> {
+fn key(rt: &impl Print, signature: &[u8; 32]) -> Result<(), Fault> {
     print!(rt; "signature ")?;
     for byte in signature {
         print!(rt; "{byte:02x}")?;
@@ -30,7 +30,7 @@ fn key(rt: &impl Print, signature: &[u8; 32]) -> Result<()> {
 }
 
 // The status line and the body.
-fn text_of(rt: &impl Print, reply: &Reply) -> Result<()> {
+fn text_of(rt: &impl Print, reply: &Reply) -> Result<(), Fault> {
     let mut room = [0; MAX_REPLY_LEN];
     let len = reply_bytes(reply, &mut room);
     let text = str::from_utf8(room.get(..len).unwrap_or(&[])).unwrap_or("");

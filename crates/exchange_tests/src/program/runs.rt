@@ -1,9 +1,8 @@
 //! Runs of the program, as texts.
 
-use super::clubs::Counted;
-use crate::files::Files;
-use crate::run;
-use desk_commands::Fault;
+use desk_commands::{Fault, run};
+use desk_files::Files;
+use sqlite::{Alter, Connection};
 use std::alloc::AllocError;
 use std::io::{self, ErrorKind, Write};
 use std::test::Fail;
@@ -77,6 +76,19 @@ pub fn remove(rt: &HostRuntime, path: &str) {
     }
 }
 
+fn execute<S: Alter>(connection: &mut Connection<S>, statement: &str) -> Result<(), Fail> {
+    connection.execute(statement, &[])?;
+    Ok(())
+}
+
+/// Changes a database by a statement, beside the program.
+pub fn change(rt: &HostRuntime, path: &str, statement: &str) -> Result<(), Fail> {
+    let mut connection = Connection::open(rt, path)?;
+    execute(&mut connection, statement)?;
+    connection.close()?;
+    Ok(())
+}
+
 // The words of a line.
 fn words_of<'a>(rt: &HostRuntime, line: &'a str) -> Result<Vec<&'a str>, AllocError> {
     line.split(' ').collect(rt.alloc())
@@ -104,10 +116,7 @@ fn told_of(
 /// It is the one caller here of `run`, whose proof at these types is long.
 pub fn ended_by(rt: &HostRuntime, line: &str, room: usize) -> Result<Ended, AllocError> {
     let words = words_of(rt, line)?;
-    let mut databases = Counted {
-        files: Files { rt, tried: 0 },
-        closed: 0,
-    };
+    let mut files = Files::new(rt);
     let mut nothing: &[u8] = b"";
     let mut full = Full {
         room,
@@ -116,7 +125,7 @@ pub fn ended_by(rt: &HostRuntime, line: &str, room: usize) -> Result<Ended, Allo
     let mut errors = Vec::new(rt.alloc());
     let outcome = run(
         rt,
-        &mut databases,
+        &mut files,
         words.as_slice(),
         &mut nothing,
         &mut full,
@@ -126,8 +135,8 @@ pub fn ended_by(rt: &HostRuntime, line: &str, room: usize) -> Result<Ended, Allo
         told: told_of(rt, &outcome, full.taken.as_slice())?,
         taken: full.taken.len(),
         logged: errors.len(),
-        opened: databases.files.tried,
-        closed: databases.closed,
+        opened: files.tried,
+        closed: files.closed,
     })
 }
 

@@ -1,0 +1,6 @@
+//! The databases of `desk_commands` in files.
+#![tactic(auto)]
+
+mod files;
+
+pub use files::Files;

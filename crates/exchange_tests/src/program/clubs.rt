@@ -1,0 +1,64 @@
+//! A club in a file: amy and bea with quota 5, amy with 10,000 points and bea with the most that
+//! there may be; court-1 with 4 places for 200 points, open from 8 to 22; amy's key amy-1; and the
+//! slots of 2026-05-01 at 19, which is closed, and at 20, which amy booked.
+
+use super::runs::{ROOM, Row, change, ended_at, expect_rows, expect_told, new_path, remove};
+use super::served::reply_to;
+use std::fs;
+use std::test::Fail;
+
+static OFFICE: [Row; 6] = [
+    Row("add-member", "amy 5", "0 done\n"),
+    Row("credit", "amy 10000", "0 done\n"),
+    Row("add-member", "bea 5", "0 done\n"),
+    Row("add-facility", "court-1 court 4 200 8 22", "0 done\n"),
+    Row(
+        "add-key",
+        "amy-1 amy 00112233445566778899aabbccddeeff",
+        "0 AgEJY2x1Yi1kZXNrAglrZXk6YW15LTEAAAYgDsU-vMVpq3Ex5_BQk6D5VX6TimC0IfCk7Dn6nv7TIJk\n",
+    ),
+    Row("close-slot", "court-1 2026-05-01 19", "0 done\n"),
+];
+
+// A credit at a time, the office would order a thousand of them.
+const RICH: &str = "UPDATE members SET credited = 999999999 WHERE name = 'bea'";
+
+const BOOKING: &str =
+    "PUT /slots/court-1/2026-05-01/20/bookings/1 HTTP/1.1\r\nContent-Length: 12\r\n\
+    Authorization: Bearer \
+    AgEJY2x1Yi1kZXNrAglrZXk6YW15LTEAAAYgDsU-vMVpq3Ex5_BQk6D5VX6TimC0IfCk7Dn6nv7TIJk\r\n\r\n\
+    {\"guests\":0}";
+
+// Makes the club, and gives the bytes of its file.
+fn club(rt: &HostRuntime, path: &str) -> Result<Vec<u8>, Fail> {
+    expect_rows(rt, path, &OFFICE)?;
+    if !reply_to(rt, path, BOOKING)?.starts_with(b"HTTP/1.1 200 OK\r\n") {
+        return Err("amy's booking is refused".into());
+    }
+    change(rt, path, RICH)?;
+    let club = fs::read(rt, path)?;
+    remove(rt, path);
+    Ok(club)
+}
+
+// Runs the command of a row over a file, which it opens and closes so often.
+fn expect_at(rt: &HostRuntime, path: &str, row: &Row<'_>, openings: u64) -> Result<(), Fail> {
+    let ended = ended_at(rt, path, row.0, row.1, ROOM)?;
+    if ended.opened != openings || ended.closed != openings {
+        return Err("opened or closed too often or too seldom".into());
+    }
+    expect_told(rt, row, ended.told.as_str())
+}
+
+/// Runs each command over the club, in a file of its own that it opens and closes so often, and it
+/// ends as its row wants.
+pub fn expect_over_clubs(rt: &HostRuntime, openings: u64, rows: &[Row<'_>]) -> Result<(), Fail> {
+    let path = new_path(rt, "club")?;
+    let club = club(rt, path.as_str())?;
+    for row in rows {
+        fs::write(rt, path.as_str(), club.as_slice())?;
+        expect_at(rt, path.as_str(), row, openings)?;
+        remove(rt, path.as_str());
+    }
+    Ok(())
+}

@@ -1,0 +1,54 @@
+//! A server of one request, over a database in a file.
+
+use club_core::ClubStore;
+use club_http::{Desk, Face};
+use club_values::Moment;
+use desk_commands::Databases;
+use desk_files::Files;
+use desk_server::{Fixed, Listening, serve_on};
+use std::io::{Read, Write};
+use std::net::{TcpListener, TcpStream};
+use std::test::Fail;
+
+// A client that has sent this to a listener.
+fn client_of(rt: &HostRuntime, listener: &TcpListener, request: &str) -> Result<TcpStream, Fail> {
+    let mut client = TcpStream::connect(rt, listener.local_addr()?)?;
+    client.write_all(request.as_bytes())?;
+    Ok(client)
+}
+
+// Serves one request at noon of 2026-04-20.
+fn serve_at<S: ClubStore>(
+    rt: &HostRuntime,
+    listener: &TcpListener,
+    desk: &mut Desk<S>,
+) -> Result<(), Fail> {
+    let mut face = Face::new(rt.alloc())?;
+    let moment = Moment::read(b"2026-04-20T12:00").ok_or("moment")?;
+    let mut connections = Listening::new(listener);
+    serve_on(&mut connections, 1, &mut Fixed { moment }, &mut face, desk)?;
+    Ok(())
+}
+
+// The same over a database that is opened for it and closed behind it.
+fn serve_over<D: Databases>(
+    rt: &HostRuntime,
+    databases: &mut D,
+    path: &str,
+    listener: &TcpListener,
+) -> Result<(), Fail> {
+    let mut desk = Desk::new(rt.alloc(), databases.open(path)?);
+    serve_at(rt, listener, &mut desk)?;
+    databases.close(desk.into_store());
+    Ok(())
+}
+
+/// The bytes of the reply to a request, by a server over the database in a file.
+pub fn reply_to(rt: &HostRuntime, path: &str, request: &str) -> Result<Vec<u8>, Fail> {
+    let listener = TcpListener::bind(rt, "127.0.0.1:0")?;
+    let mut client = client_of(rt, &listener, request)?;
+    serve_over(rt, &mut Files::new(rt), path, &listener)?;
+    let mut reply = Vec::new(rt.alloc());
+    client.read_to_end(&mut reply)?;
+    Ok(reply)
+}
