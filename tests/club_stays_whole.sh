@@ -100,7 +100,7 @@ refuse_memory() {
     count=0
     number=1
     while :; do
-        cut="${1-}, allocation $number refused"
+        cut="$1, allocation $number refused"
         begin
         REFUSED_ALLOCATION=$number REFUSAL_TOLD=told LD_PRELOAD=$work/refuse.so "$walk" "$@" >out 2>fault || status=$?
         ends 'fault: memory' 4
@@ -108,7 +108,7 @@ refuse_memory() {
         [ -e told ] || break
         number=$((number + step))
     done
-    echo "club_walk${1:+ $*}: $count of the runs to allocation $number ended for out of memory"
+    echo "club_walk $*: $count of the runs to allocation $number ended for out of memory"
 }
 
 refuse_storage() {
@@ -144,8 +144,8 @@ kill_runs() {
 }
 
 rm -f start
-"$walk" >wanted
-refuse_memory
+"$walk" tables >wanted
+refuse_memory tables
 "$walk" make start >wanted
 rm -f start start-wal
 refuse_memory make club

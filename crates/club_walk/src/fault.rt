@@ -63,7 +63,7 @@ impl From<io::Error> for Fault {
 impl fmt::Display for Fault {
     fn fmt<W: fmt::Write>(&self, f: &mut fmt::Formatter<W>) -> fmt::Result {
         match self {
-            Fault::Words => f.write_str("usage: club_walk [make FILE | show FILE]"),
+            Fault::Words => f.write_str("usage: club_walk [tables | make FILE | show FILE]"),
             Fault::Storage => f.write_str("fault: storage"),
             Fault::Memory => f.write_str("fault: memory"),
             Fault::Output => f.write_str("output failed"),

@@ -1,8 +1,8 @@
 //! A walk over a small club. Without words, the desk of a new one, whose tables lie in memory: orders
 //! of the office and requests of a member; then the tables of another, by the calls of its store.
 //!
-//! `make FILE` puts a club into a file by those calls, closes that, and opens it again to read.
-//! `show FILE` reads what a file holds.
+//! `tables` is the walk over the tables alone. `make FILE` puts a club into a file by those calls,
+//! closes that, and opens it again to read. `show FILE` reads what a file holds.
 #![tactic(auto)]
 
 mod desk;
@@ -17,6 +17,7 @@ use std::{env, io};
 #[derive(Drop)]
 enum Job {
     Walk,
+    Tables,
     Make(String),
     Show(String),
 }
@@ -36,6 +37,7 @@ fn main(rt: HostRuntime) -> ExitCode {
 fn run(rt: &HostRuntime) -> Result<(), Fault> {
     match asked(rt)? {
         Job::Walk => walk(rt),
+        Job::Tables => tables::walk(rt),
         Job::Make(path) => tables::make(rt, path.as_str()),
         Job::Show(path) => tables::show_file(rt, path.as_str()),
     }
@@ -52,6 +54,7 @@ fn asked(rt: &HostRuntime) -> Result<Job, Fault> {
         return Ok(Job::Walk);
     };
     match (command.as_str(), words.next(), words.next()) {
+        ("tables", None, None) => Ok(Job::Tables),
         ("make", Some(path), None) => Ok(Job::Make(path)),
         ("show", Some(path), None) => Ok(Job::Show(path)),
         _ => Err(Fault::Words),
