@@ -1,17 +1,12 @@
 #!/bin/sh
-# Holds the tables against sqlite3: what club_walk puts into a file, sqlite3 finds there, with the columns, keys, references
-# and limits of docs/TABLES.md; what sqlite3 changes within them, club_walk reads; and a file that holds no club is refused as
-# a fault of storage and stays as it was, byte for byte. Not part of the gate.
+# Holds the tables against sqlite3: what clubdesk puts into a file, sqlite3 finds there, with the columns, keys, references and
+# limits of docs/TABLES.md; what sqlite3 changes within them, clubdesk tells; and a file that holds no club, or a row out of its
+# limits, is a fault of storage and stays as it was, byte for byte. Not part of the gate.
 set -eu
-here=$(CDPATH='' cd -P -- "$(dirname -- "$0")" && pwd)
-walk=$here/../crates/club_walk
-command -v sqlite3 >/dev/null || apt-get install -y sqlite3 >/dev/null
-work=$(mktemp -d)
-trap 'rm -rf "$work"' EXIT
-# It proves and builds the program first, where that isn't done.
-(cd "$walk" && rt run) </dev/null >/dev/null 2>"$work/log" || { cat "$work/log" >&2; exit 1; }
-walk=$walk/out/club_walk
-cd "$work"
+. "$(dirname -- "$0")/serving.sh"
+wants curl curl
+wants sqlite3 sqlite3
+day=2026-05-01
 checks=0
 
 # same WHAT FOUND: FOUND is the text on standard input.
@@ -27,22 +22,52 @@ sql() {
     sqlite3 -bail "$1" "PRAGMA foreign_keys = ON; $2"
 }
 
-"$walk" make club >shown
-same 'what make prints' "$(cat shown)" <<'ROWS'
-member amy: credited 10000 quota 5
-facility court-1: kind court places 4 price 200 opens 8 shuts 22
-facility room-1: kind room places 1 price 601 opens 8 shuts 22
-key amy-1: member amy revoked false
-slot court-1 2026-05-01 09: taken 0 closed true
-slot court-1 2026-05-01 18: taken 3 closed false
-slot room-1 2026-05-01 18: taken 0 closed false
-booking 7: court-1 2026-05-01 18 guests 2 charge 600 left 1 cancelled false refund 0
-booking 8: room-1 2026-05-01 18 guests 0 charge 601 left 0 cancelled true refund 300
-account: spent 901 balance 9099 open 1
+# asks METHOD PATH [BODY]: what is told to a request with the pass, on a line.
+asks() {
+    curl -sS -w '\n' -X "$1" -H "Authorization: Bearer $pass" ${3:+-d "$3"} "http://127.0.0.1:$port/$2"
+}
+
+# answers FILE: what is told of three slots and of the account.
+answers() {
+    serve "$1" 4 2026-04-20T12:00
+    for path in "slots/court-1/$day/09" "slots/court-1/$day/18" "slots/room-1/$day/18" account; do asks GET "$path"; done
+    finish
+}
+
+# tells FILE: these answers, and the day sheet.
+tells() {
+    answers "$1"
+    "$desk" sheet "$1" "$day"
+}
+
+# A club with a booking, and one that was cancelled less than a day before its slot.
+"$desk" add-member club amy 5 >told
+"$desk" credit club amy 10000 >told
+"$desk" add-facility club court-1 court 4 200 8 22 >told
+"$desk" add-facility club room-1 room 1 601 8 22 >told
+pass=$("$desk" add-key club amy-1 amy 30313233343536373839616263646566)
+"$desk" close-slot club court-1 "$day" 09 >told
+serve club 2 2026-04-20T12:00
+asks PUT "slots/court-1/$day/18/bookings/7" '{"guests":2}' >told
+asks PUT "slots/room-1/$day/18/bookings/8" '{"guests":0}' >>told
+finish
+serve club 1 2026-04-30T18:01
+asks DELETE "slots/room-1/$day/18/bookings/8" >>told
+finish
+same 'what was told first' "$(cat told)" <<'REPLIES'
+{"booking":"amy-1/7","charge":600,"left":1}
+{"booking":"amy-1/8","charge":601,"left":0}
+{"booking":"amy-1/8","refund":300}
+REPLIES
+same 'what clubdesk tells' "$(tells club)" <<'REPLIES'
+{"facility":"court-1","day":"2026-05-01","hour":9,"kind":"court","price":200,"places":4,"taken":0,"closed":true}
+{"facility":"court-1","day":"2026-05-01","hour":18,"kind":"court","price":200,"places":4,"taken":3,"closed":false}
+{"facility":"room-1","day":"2026-05-01","hour":18,"kind":"room","price":601,"places":1,"taken":0,"closed":false}
+{"member":"amy","balance":9099,"quota":5,"open":1,"spent":901}
 Day sheet 2026-05-01
 court-1                  18:00 amy-1                            7  3    600
 Total bookings 1, persons 3, charge 600
-ROWS
+REPLIES
 # The club lies in the one file: a copy without the log holds it all.
 cp club copied
 same 'what sqlite3 finds' "$(sql copied "PRAGMA integrity_check; PRAGMA foreign_key_check;
@@ -166,47 +191,35 @@ bookings refund 0 499950
 old_roots until 15778080 68374079
 LIMITS
 
-# What sqlite3 writes within the limits, club_walk reads, beside the log that it left.
+# What sqlite3 writes within the limits, clubdesk tells, beside the log that it left.
 cp club written
-"$walk" show written >/dev/null
-sql written "UPDATE members SET credited = credited + 5, quota = 99, used = used + 200; UPDATE keys SET revoked = 1; DELETE FROM slots;
+"$desk" sheet written "$day" >told
+sql written "UPDATE members SET credited = credited + 5, quota = 99, used = used + 200; DELETE FROM slots;
     INSERT INTO slots VALUES ('room-1', 20574, 18, 1, 0), ('court-1', 20574, 9, 0, 0), ('court-1', 20574, 18, 0, 4);
     INSERT INTO bookings VALUES ('amy-1', 9, 'court-1', 20574, 18, 0, 200, 0, 0, 0);
     INSERT INTO old_roots VALUES ('amy-1', zeroblob(16), 20000000)"
-same 'what sqlite3 wrote' "$("$walk" show written)" <<'ROWS'
-member amy: credited 10005 quota 99
-facility court-1: kind court places 4 price 200 opens 8 shuts 22
-facility room-1: kind room places 1 price 601 opens 8 shuts 22
-key amy-1: member amy revoked true
-slot court-1 2026-05-01 09: taken 0 closed false
-slot court-1 2026-05-01 18: taken 4 closed false
-slot room-1 2026-05-01 18: taken 0 closed true
-booking 7: court-1 2026-05-01 18 guests 2 charge 600 left 1 cancelled false refund 0
-booking 8: room-1 2026-05-01 18 guests 0 charge 601 left 0 cancelled true refund 300
-account: spent 1101 balance 8904 open 2
+same 'what sqlite3 wrote' "$(tells written)" <<'REPLIES'
+{"facility":"court-1","day":"2026-05-01","hour":9,"kind":"court","price":200,"places":4,"taken":0,"closed":false}
+{"facility":"court-1","day":"2026-05-01","hour":18,"kind":"court","price":200,"places":4,"taken":4,"closed":false}
+{"facility":"room-1","day":"2026-05-01","hour":18,"kind":"room","price":601,"places":1,"taken":0,"closed":true}
+{"member":"amy","balance":8904,"quota":99,"open":2,"spent":1101}
 Day sheet 2026-05-01
 court-1                  18:00 amy-1                            7  3    600
 court-1                  18:00 amy-1                            9  1    200
 Total bookings 2, persons 4, charge 800
-ROWS
+REPLIES
+sql written 'UPDATE keys SET revoked = 1'
+same 'a key that sqlite3 revoked' "$(answers written | uniq)" <<'REPLIES'
+{"fault":10,"text":"key revoked"}
+REPLIES
 
 # An empty file, and one that isn't there, become a club with no rows.
+: >empty
 for file in empty missing; do
-    if [ "$file" = empty ]; then : >empty; fi
-    same "$file" "$("$walk" show "$file")" <<'ROWS'
-member amy: none
-facility court-1: none
-facility room-1: none
-key amy-1: none
-slot court-1 2026-05-01 09: taken 0 closed false
-slot court-1 2026-05-01 18: taken 0 closed false
-slot room-1 2026-05-01 18: taken 0 closed false
-booking 7: none
-booking 8: none
-account: none
+    same "$file" "$("$desk" sheet "$file" "$day")" <<'REPLIES'
 Day sheet 2026-05-01
 No bookings.
-ROWS
+REPLIES
     same "$file, by sqlite3" "$(sql "$file" "PRAGMA integrity_check; SELECT * FROM desk;
         SELECT count(*) FROM members, facilities, keys, slots, bookings")" <<'ROWS'
 ok
@@ -218,8 +231,8 @@ done
 # A file of version 1 is migrated as it is opened: the rows are the same, and no key has an older root.
 cp club first
 sql first 'DROP TABLE old_roots; UPDATE desk SET version = 1'
-"$walk" show club >shown
-same 'a file of version 1' "$("$walk" show first)" <shown
+tells club >shown
+same 'a file of version 1' "$(tells first)" <shown
 same 'a file of version 1, by sqlite3' "$(sql first 'PRAGMA integrity_check; SELECT * FROM desk; SELECT count(*) FROM old_roots')" <<'ROWS'
 ok
 2
@@ -229,49 +242,64 @@ same 'the schema of a migrated file' "$(sql first 'SELECT type, name, sql FROM s
 $(sql club 'SELECT type, name, sql FROM sqlite_schema')
 ROWS
 
-# refused WHAT WORD..: club_walk answers a fault of storage and leaves `bad` as it is. What it leaves beside it, a log with no
-# commit, doesn't change what sqlite3 reads.
-refused() {
-    what=$1
-    shift
-    cp bad bad.before
-    sqlite3 bad.before .dump >dump.before 2>&1 || :
-    status=0
-    "$walk" "$@" >/dev/null 2>fault || status=$?
+# kept WHAT: `bad` is as it was. What may lie beside it, a log with no commit, doesn't change what sqlite3 reads.
+kept() {
     checks=$((checks + 1))
-    if [ "$status" != 3 ] || [ "$(cat fault)" != "fault: storage" ]; then
-        echo "$what: status $status, $(cat fault)" >&2
-        exit 1
-    fi
-    cmp bad bad.before || { echo "$what: the file was changed" >&2; exit 1; }
+    cmp bad bad.before || { echo "$1: the file was changed" >&2; exit 1; }
     sqlite3 bad .dump >dump 2>&1 || :
-    cmp dump dump.before || { echo "$what: sqlite3 reads other rows" >&2; exit 1; }
+    cmp dump dump.before || { echo "$1: sqlite3 reads other rows" >&2; exit 1; }
     rm -f bad*
 }
 
+# ends STATUS LINE WHAT WORD..: clubdesk ends so, and leaves `bad` as it is.
+ends() {
+    wanted="$1 $2" what=$3
+    shift 3
+    cp bad bad.before
+    sqlite3 bad.before .dump >dump.before 2>&1 || :
+    status=0
+    "$desk" "$@" >told 2>fault || status=$?
+    [ "$status $(cat fault)" = "$wanted" ] || { echo "$what: status $status, $(cat fault)" >&2; exit 1; }
+    kept "$what"
+}
+
+# refused WHAT: the sheet can't be told of `bad`, nor can a request be answered where the file is opened; it stays as it is.
+refused() {
+    cp bad bad.before
+    sqlite3 bad.before .dump >dump.before 2>&1 || :
+    status=0
+    "$desk" sheet bad "$day" >told 2>fault || status=$?
+    case "$status $(cat fault)" in
+        '5 storage failed') ;;
+        '0 ') answers bad | grep -qF '{"fault":22,"text":"unavailable"}' || { echo "$1: all is told" >&2; exit 1; } ;;
+        *) echo "$1: status $status, $(cat fault)" >&2; exit 1 ;;
+    esac
+    kept "$1"
+}
+
 printf 'x%.0s' $(seq 100) >bad
-refused 'no database' show bad
+refused 'no database'
 sqlite3 bad "CREATE TABLE notes (text TEXT); INSERT INTO notes VALUES ('a')"
 cp bad notes
-"$walk" show notes >/dev/null
+"$desk" sheet notes "$day" >told
 same 'tables of others stay' "$(sql notes 'SELECT * FROM notes; SELECT * FROM desk')" <<'ROWS'
 a
 2
 ROWS
 rm bad
 head -c 20000 club >bad
-refused 'half a file' show bad
+refused 'half a file'
 cp club bad
 printf '\377\377\377\377' | dd of=bad bs=1 seek=16385 conv=notrunc 2>/dev/null
-refused 'a damaged page' show bad
+refused 'a damaged page'
 cp club bad
-refused 'a second club' make bad
+ends 1 'refused: exists' 'a second member' add-member bad amy 5
 
 # What sqlite3 makes of a club by each line.
 while IFS= read -r text; do
     cp club bad
     sqlite3 -bail bad "PRAGMA foreign_keys = OFF; PRAGMA ignore_check_constraints = ON; $text"
-    refused "$text" show bad
+    refused "$text"
 done <<'TEXTS'
 UPDATE desk SET version = 9
 UPDATE desk SET version = 0
@@ -342,13 +370,13 @@ TEXTS
 # A path where no file can lie, and a file that sqlite3 has locked.
 for path in no/club . ''; do
     : >bad
-    refused "the path '$path'" show "$path"
+    ends 5 'storage failed' "the path '$path'" sheet "$path" "$day"
 done
 cp club bad
-sqlite3 bad "BEGIN EXCLUSIVE; SELECT count(*) FROM members" ".system $walk show bad >/dev/null 2>fault; echo \$? >>fault" >/dev/null
+sqlite3 bad "BEGIN EXCLUSIVE; SELECT count(*) FROM members" ".system $desk sheet bad $day >told 2>fault; echo \$? >>fault" >told
 same 'a file in use' "$(cat fault)" <<'ROWS'
-fault: storage
-3
+storage failed
+5
 ROWS
 
 echo "$checks checks against sqlite3 $(sqlite3 --version | cut -d ' ' -f 1) passed"

@@ -1,14 +1,11 @@
-//! Tests of whole exchanges: bytes of a request, a desk over the tables in memory or one that
-//! counts, and bytes of its reply; of the server, over sockets and over connections in memory; and of
-//! whole runs of the program, over files.
+//! Tests of whole exchanges: bytes of a request, a desk over the tables in memory, and bytes of its
+//! reply; and of whole runs of the program, over files.
 #![tactic(auto)]
 
 #[cfg(test)]
 mod bad_requests;
 #[cfg(test)]
 mod bookings;
-#[cfg(test)]
-mod counted;
 #[cfg(test)]
 mod ends;
 #[cfg(test)]
@@ -33,7 +30,3 @@ mod program;
 mod refused_memory;
 #[cfg(test)]
 mod said;
-#[cfg(test)]
-mod server;
-#[cfg(test)]
-mod sockets;

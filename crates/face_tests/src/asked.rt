@@ -1,6 +1,6 @@
 //! What a request asks for.
 
-use crate::rows::{expect_eq, slot_at};
+use crate::rows::{expect_row, slot_at};
 use club_core::{BookingNumber, Guests, Refusal, Request};
 use club_words::{Routes, words_of};
 use std::process::Abort;
@@ -71,7 +71,7 @@ pub(crate) fn asked(rt: &(impl Abort + AllocGlobal), bytes: &[u8]) -> Result<Req
 
 /// The request asks for this.
 pub(crate) fn asks(rt: &(impl Abort + AllocGlobal), text: &str, want: &Want) {
-    expect_eq(rt, &asked(rt, text.as_bytes()), &wanted(rt, want), &text);
+    expect_row(rt, &asked(rt, text.as_bytes()), &wanted(rt, want), &text);
 }
 
 /// Whole requests, and what each asks for.
@@ -88,5 +88,5 @@ pub(crate) fn carries(rt: &(impl Abort + AllocGlobal), text: &str, pass: &str) {
         Ok(words) => Some(words.pass),
         Err(_) => None,
     };
-    expect_eq(rt, &carried, &Some(pass.as_bytes()), &text);
+    expect_row(rt, &carried, &Some(pass.as_bytes()), &text);
 }

@@ -1,7 +1,7 @@
 //! Bookings: whole, cut short, and with odd bodies.
 
 use crate::asked::{BAD_REQUEST, PASS, Want, asked, asks, book, carries};
-use crate::rows::expect_eq;
+use crate::rows::expect_row;
 use club_core::Refusal;
 use club_words::{Routes, missing, words_of};
 use std::process::Abort;
@@ -13,7 +13,7 @@ const BOOKING: &str = "PUT /slots/court-1/2026-05-01/18/bookings/7 HTTP/1.1\r\nH
 fn a_booking(rt: HostRuntime) {
     asks(&rt, BOOKING, &Want::Book(2));
     carries(&rt, BOOKING, "AgEJ");
-    expect_eq(&rt, &missing(BOOKING.as_bytes()), &0, &"it is whole");
+    expect_row(&rt, &missing(BOOKING.as_bytes()), &0, &"it is whole");
 }
 
 // Whether more is missing, and no more than is to come.
@@ -23,8 +23,8 @@ fn lacks(bytes: &[u8], to_come: usize) -> bool {
 }
 
 fn is_cut(rt: &(impl Abort + AllocGlobal), bytes: &[u8], to_come: usize) {
-    expect_eq(rt, &asked(rt, bytes), &Err(Refusal::BadRequest), &to_come);
-    expect_eq(rt, &lacks(bytes, to_come), &true, &to_come);
+    expect_row(rt, &asked(rt, bytes), &Err(Refusal::BadRequest), &to_come);
+    expect_row(rt, &lacks(bytes, to_come), &true, &to_come);
 }
 
 /// Cut anywhere it is a bad request, and not whole.
@@ -108,7 +108,7 @@ fn refused_memory(rt: HostRuntime) {
         return;
     };
     match words_of(&routes, BOOKING.as_bytes()) {
-        Ok(words) => expect_eq(&rt, &words.request, &book(&rt, 2), &BOOKING),
-        Err(refusal) => expect_eq(&rt, &refusal, &Refusal::Unavailable, &BOOKING),
+        Ok(words) => expect_row(&rt, &words.request, &book(&rt, 2), &BOOKING),
+        Err(refusal) => expect_row(&rt, &refusal, &Refusal::Unavailable, &BOOKING),
     }
 }

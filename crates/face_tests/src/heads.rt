@@ -1,7 +1,7 @@
 //! Heads of requests: where they end, their line and their fields.
 
 use crate::asked::{BAD_REQUEST, NO_PASS, PASS, Want, ask, asks, carries};
-use crate::rows::{Piece, expect_eq, joined};
+use crate::rows::{Piece, expect_row, joined};
 use club_words::{missing, missing_of_head};
 use std::process::Abort;
 
@@ -26,7 +26,7 @@ static ENDS_OF_HEADS: [Lack; 11] = [
 fn lack_of_head(rt: &(impl Abort + AllocGlobal), rows: &[Lack]) {
     for (pieces, lack) in rows {
         let text = joined(rt, pieces);
-        expect_eq(rt, &missing_of_head(text.as_bytes()), lack, pieces);
+        expect_row(rt, &missing_of_head(text.as_bytes()), lack, pieces);
     }
 }
 
@@ -41,7 +41,7 @@ static LONG: [Lack; 2] = [(&[(16_384, "a")], 0), (&[(16_383, "a")], 1)];
 fn lack(rt: &(impl Abort + AllocGlobal), rows: &[Lack]) {
     for (pieces, lack) in rows {
         let text = joined(rt, pieces);
-        expect_eq(rt, &missing(text.as_bytes()), lack, pieces);
+        expect_row(rt, &missing(text.as_bytes()), lack, pieces);
     }
 }
 

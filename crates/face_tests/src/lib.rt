@@ -1,4 +1,5 @@
-//! Tests of requests as bytes, and of replies as bytes.
+//! Tests of requests as bytes, and of replies as bytes; of exchanges with a desk that counts what it
+//! is asked; and of the server, over sockets and over connections in memory.
 #![tactic(auto)]
 
 #[cfg(test)]
@@ -6,10 +7,18 @@ mod asked;
 #[cfg(test)]
 mod bodies;
 #[cfg(test)]
+mod counted;
+#[cfg(test)]
+mod expect;
+#[cfg(test)]
 mod heads;
 #[cfg(test)]
 mod replies;
 #[cfg(test)]
 mod rows;
+#[cfg(test)]
+mod server;
+#[cfg(test)]
+mod sockets;
 #[cfg(test)]
 mod targets;

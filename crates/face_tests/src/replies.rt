@@ -1,6 +1,6 @@
 //! The text of each reply, byte for byte.
 
-use crate::rows::{expect_eq, name, slot_at};
+use crate::rows::{expect_row, name, slot_at};
 use club_core::{BookingNumber, Methods, Refusal, Reply};
 use club_replies::{MAX_REPLY_LEN, reply_bytes};
 use pass_caveats::Kind;
@@ -12,8 +12,8 @@ static UNTOUCHED: [u8; MAX_REPLY_LEN] = [b'x'; MAX_REPLY_LEN];
 fn writes(rt: &impl Abort, reply: &Reply, text: &str) {
     let mut room = UNTOUCHED;
     let len = reply_bytes(reply, &mut room);
-    expect_eq(rt, &&room[..len], &text.as_bytes(), &text);
-    expect_eq(rt, &&room[len..], &&UNTOUCHED[len..], &text);
+    expect_row(rt, &&room[..len], &text.as_bytes(), &text);
+    expect_row(rt, &&room[len..], &&UNTOUCHED[len..], &text);
 }
 
 /// A reply to what is served: of `amy-1` where it is of a booking, of `court-1` on 2026-05-01 where
@@ -112,7 +112,7 @@ fn answers(
     len: usize,
     body: &str,
 ) {
-    expect_eq(rt, &body.len(), &len, &body);
+    expect_row(rt, &body.len(), &len, &body);
     let text = format!(in rt.alloc();
         "HTTP/1.1 {status}\r\nContent-Type: application/json\r\nContent-Length: {len}\r\n{field}Connection: close\r\n\r\n{body}"
     ).expect(rt, "memory");
@@ -120,7 +120,7 @@ fn answers(
 }
 
 fn has_len(rt: &impl Abort, reply: &Reply, text: &str, len: usize) {
-    expect_eq(rt, &text.len(), &len, &text);
+    expect_row(rt, &text.len(), &len, &text);
     writes(rt, reply, text);
 }
 

@@ -1,11 +1,11 @@
 //! What the rows of the tests are made of, and what a row expects.
 
-use pass_caveats::{Day, Hour, Name, Slot};
+use pass_caveats::{Day, Hour, Moment, Name, Slot};
 use std::fmt::Debug;
 use std::process::Abort;
 
 /// Ends the test of this row unless the values are equal.
-pub(crate) fn expect_eq<T: PartialEq + Debug>(
+pub(crate) fn expect_row<T: PartialEq + Debug>(
     rt: &impl Abort,
     told: &T,
     want: &T,
@@ -34,6 +34,12 @@ pub(crate) fn joined(rt: &(impl Abort + AllocGlobal), pieces: &[Piece]) -> Strin
 
 pub(crate) fn name(rt: &impl Abort, text: &[u8]) -> Name {
     Name::read(text).expect(rt, "a name")
+}
+
+pub(crate) const NOON: &str = "2026-04-20T12:00";
+
+pub(crate) fn moment(rt: &impl Abort, text: &str) -> Moment {
+    Moment::read(text.as_bytes()).expect(rt, "a moment")
 }
 
 /// `court-1` on 2026-05-01.

@@ -1,6 +1,6 @@
 //! Runs of the program over files, one after the other, and a server between them.
 
-use super::runs::{Row, change, expect_rows, log_of, new_path, remove};
+use super::runs::{Row, expect_rows, log_of, new_path, remove};
 use super::served::reply_to;
 use std::test::Fail;
 use std::{env, fs};
@@ -131,9 +131,10 @@ fn the_log_may_go(rt: HostRuntime) -> Result<(), Fail> {
     Ok(())
 }
 
-static NO_CLUB: [Row; 2] = [
+static NO_CLUB: [Row; 3] = [
     Row("sheet", "2026-05-01", "5 storage failed"),
     Row("add-member", "amy 5", "5 storage failed"),
+    Row("serve", "--port 0 --count 1", "5 storage failed"),
 ];
 
 #[test]
@@ -143,21 +144,6 @@ fn files_of_something_else(rt: HostRuntime) -> Result<(), Fail> {
     expect_rows(&rt, path.as_str(), &NO_CLUB)?;
     let left = fs::read(&rt, path.as_str())?;
     assert_eq!(rt; left.as_slice(), [b'x'; 100].as_slice());
-    remove(&rt, path.as_str());
-    Ok(())
-}
-
-static OTHER_VERSION: [Row; 2] = [
-    Row("sheet", "2026-05-01", "5 storage failed"),
-    Row("serve", "--port 0 --count 1", "5 storage failed"),
-];
-
-#[test]
-fn files_of_another_version(rt: HostRuntime) -> Result<(), Fail> {
-    let path = new_path(&rt, "version")?;
-    expect_rows(&rt, path.as_str(), &AMY_ADDED)?;
-    change(&rt, path.as_str(), "UPDATE desk SET version = 9")?;
-    expect_rows(&rt, path.as_str(), &OTHER_VERSION)?;
     remove(&rt, path.as_str());
     Ok(())
 }

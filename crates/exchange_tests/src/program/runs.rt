@@ -2,7 +2,6 @@
 
 use desk_commands::{Fault, run};
 use desk_files::Files;
-use sqlite::{Alter, Connection};
 use std::alloc::AllocError;
 use std::io::{self, ErrorKind, Write};
 use std::test::Fail;
@@ -74,19 +73,6 @@ pub fn remove(rt: &HostRuntime, path: &str) {
     if let Ok(log) = log_of(rt, path) {
         let _ = fs::remove_file(rt, log.as_str());
     }
-}
-
-fn execute<S: Alter>(connection: &mut Connection<S>, statement: &str) -> Result<(), Fail> {
-    connection.execute(statement, &[])?;
-    Ok(())
-}
-
-/// Changes a database by a statement, beside the program.
-pub fn change(rt: &HostRuntime, path: &str, statement: &str) -> Result<(), Fail> {
-    let mut connection = Connection::open(rt, path)?;
-    execute(&mut connection, statement)?;
-    connection.close()?;
-    Ok(())
 }
 
 // The words of a line.

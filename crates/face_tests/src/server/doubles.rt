@@ -1,12 +1,11 @@
 //! Connections, moments and a responder over memory.
 
-use crate::ends::{Giver, WHOLE};
 use club_core::{Refusal, Reply};
 use club_http::{Face, ReadInlet, Responder, WriteOutlet};
 use club_values::Moment;
 use club_words::Words;
 use desk_server::{Connection, Connections, Exchange, Moments, exchange_over};
-use std::io;
+use std::io::{self, ErrorKind, Read};
 
 /// What comes of waiting for a connection.
 #[derive(Clone, Copy, Drop)]
@@ -19,11 +18,33 @@ pub enum Wire<'a> {
     Whole(&'a [u8]),
 }
 
+/// Gives what a connection sends.
+#[derive(Drop)]
+struct Sent<'a> {
+    left: &'a [u8],
+    is_broken: bool,
+}
+
+impl Read for Sent<'_> {
+    fn read(&mut self, room: &mut [u8]) -> io::Result<usize> {
+        if self.is_broken {
+            return Err(io::Error::from(ErrorKind::ConnectionReset));
+        }
+        self.left.read(room)
+    }
+}
+
 impl Wire<'_> {
-    fn reader(&self) -> Giver<'_> {
+    fn reader(&self) -> Sent<'_> {
         match self {
-            Wire::Whole(bytes) => Giver::ending(bytes),
-            _ => Giver::failing(b"", WHOLE),
+            Wire::Whole(bytes) => Sent {
+                left: bytes,
+                is_broken: false,
+            },
+            _ => Sent {
+                left: b"",
+                is_broken: true,
+            },
         }
     }
 }

@@ -7,8 +7,7 @@ mod request_lines;
 mod zones;
 
 use crate::expect::{expect_eq, expect_shown};
-use crate::office::moment;
-use crate::said::NOON;
+use crate::rows::{NOON, moment};
 use crate::sockets::{client_of, connected, expect_reply, listening};
 use club_http::Face;
 use desk_server::{ClockOutOfRange, Connections, Fixed, Listening, Moments, serve_on};

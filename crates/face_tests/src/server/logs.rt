@@ -3,8 +3,7 @@
 use super::doubles::{Noting, Script, Wire};
 use super::{REQUEST, noon, noons};
 use crate::expect::{expect_eq, expect_told};
-use crate::office::moment;
-use crate::said::NOON;
+use crate::rows::{NOON, moment};
 use club_http::Face;
 use desk_server::{ClockOutOfRange, Log, LogLines, Moments, serve_logged};
 use std::alloc::Global;

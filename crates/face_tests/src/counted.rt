@@ -4,8 +4,7 @@ mod doubles;
 mod reading;
 
 use crate::expect::{expect_eq, expect_shown, expect_told};
-use crate::office::{moment, slot};
-use crate::said::NOON;
+use crate::rows::{NOON, moment, slot_at};
 use crate::sockets::{client_of, expect_reply, listening};
 use club_core::{BookingNumber, Guests, Refusal, Reply, Request};
 use club_http::{AnswerFault, Face, Inlet, Outlet, ReadInlet, WriteOutlet, answer};
@@ -47,7 +46,7 @@ fn booked(rt: &impl Abort) -> Reply {
 
 fn booking(rt: &impl Abort) -> Request {
     Request::Book {
-        slot: slot(rt),
+        slot: slot_at(rt, 18),
         number: BookingNumber::new(7).expect(rt, "a number"),
         guests: Guests::new(2).expect(rt, "guests"),
     }

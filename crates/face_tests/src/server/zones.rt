@@ -3,8 +3,7 @@
 
 use super::noon;
 use crate::expect::{expect_eq, expect_shown};
-use crate::office::moment;
-use crate::said::NOON;
+use crate::rows::{NOON, moment};
 use club_values::Moment;
 use desk_server::{ClockIn, Moments, Zone};
 use jiff::Timestamp;
