@@ -92,7 +92,7 @@ refuse_memory() {
 
 refuse_storage() {
     count=0
-    for blocks in $(seq 0 10 300); do
+    for blocks in $(seq 0 50 2000); do
         cut="$*, $blocks blocks"
         begin
         # Its output goes through pipes, which have no limit; so a fault stands for the status.
@@ -102,7 +102,7 @@ refuse_storage() {
         ends 'storage failed' 5
         keeps_a_club
     done
-    echo "$*: $count of 31 runs ended for want of storage"
+    echo "$*: $count of 41 runs ended for want of storage"
 }
 
 kill_runs() {

@@ -271,7 +271,10 @@ refused() {
     "$desk" sheet bad "$day" >told 2>fault || status=$?
     case "$status $(cat fault)" in
         '5 storage failed') ;;
-        '0 ') answers bad | grep -qF '{"fault":22,"text":"unavailable"}' || { echo "$1: all is told" >&2; exit 1; } ;;
+        '0 ')
+            answers bad >told
+            grep -qF '{"fault":22,"text":"unavailable"}' told || { echo "$1: all is told" >&2; exit 1; }
+            ;;
         *) echo "$1: status $status, $(cat fault)" >&2; exit 1 ;;
     esac
     kept "$1"

@@ -129,7 +129,7 @@ fits_insert_booking club booking h persons cost kept = record {
   kept = All-push (λ (b : Booking). b.cancelled ≡ false → b.refund ≡ 0) club.bookings booking h.kept kept;
 }
 
--- a cancelling
+-- a cancellation
 few_cost : (marked : Bool) (charge old new : ℕ) → (marked ≡ true → old ≡ 0) → charge - cond marked new old ≤ charge - old
 few_cost true charge old new kept = let none : old ≡ 0 = kept refl in omega arith
 few_cost false charge old new kept = omega arith

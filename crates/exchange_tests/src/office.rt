@@ -82,8 +82,8 @@ fn rotate_key(rt: &impl Abort, bytes: &[u8], until: &str) -> Command {
     }
 }
 
-/// The slot of `court-1` on 2026-05-01 at 18.
-pub(crate) fn slot(rt: &impl Abort) -> Slot {
+// The slot of `court-1` on 2026-05-01 at 18.
+fn slot(rt: &impl Abort) -> Slot {
     Slot {
         facility: name(rt, "court-1"),
         day: Day::read(b"2026-05-01").expect(rt, "a day"),

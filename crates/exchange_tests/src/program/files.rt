@@ -131,10 +131,9 @@ fn the_log_may_go(rt: HostRuntime) -> Result<(), Fail> {
     Ok(())
 }
 
-static NO_CLUB: [Row; 3] = [
+static NO_CLUB: [Row; 2] = [
     Row("sheet", "2026-05-01", "5 storage failed"),
     Row("add-member", "amy 5", "5 storage failed"),
-    Row("serve", "--port 0 --count 1", "5 storage failed"),
 ];
 
 #[test]
@@ -144,6 +143,36 @@ fn files_of_something_else(rt: HostRuntime) -> Result<(), Fail> {
     expect_rows(&rt, path.as_str(), &NO_CLUB)?;
     let left = fs::read(&rt, path.as_str())?;
     assert_eq!(rt; left.as_slice(), [b'x'; 100].as_slice());
+    remove(&rt, path.as_str());
+    Ok(())
+}
+
+/// Where a new file holds its version: the table of that lies on the second page, and its one row at
+/// the end.
+const VERSION_AT: usize = 8_191;
+
+// Puts version 9 into a file of version 2.
+fn make_another_version(rt: &HostRuntime, path: &str) -> Result<(), Fail> {
+    let mut club = fs::read(rt, path)?;
+    if club.len() <= VERSION_AT || club[VERSION_AT] != 2 {
+        return Err("the version lies elsewhere".into());
+    }
+    club[VERSION_AT] = 9;
+    fs::write(rt, path, club.as_slice())?;
+    Ok(())
+}
+
+static OTHER_VERSION: [Row; 2] = [
+    Row("sheet", "2026-05-01", "5 storage failed"),
+    Row("serve", "--port 0 --count 1", "5 storage failed"),
+];
+
+#[test]
+fn files_of_another_version(rt: HostRuntime) -> Result<(), Fail> {
+    let path = new_path(&rt, "version")?;
+    expect_rows(&rt, path.as_str(), &AMY_ADDED)?;
+    make_another_version(&rt, path.as_str())?;
+    expect_rows(&rt, path.as_str(), &OTHER_VERSION)?;
     remove(&rt, path.as_str());
     Ok(())
 }
