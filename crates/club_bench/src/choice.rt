@@ -12,14 +12,9 @@ pub(crate) enum Choice<'a> {
         sizes: Vec<u32>,
     },
     Desk {
-        path: &'a str,
         count: u16,
     },
     Http {
-        count: u16,
-    },
-    Serve {
-        path: &'a str,
         count: u16,
     },
 }
@@ -38,7 +33,6 @@ impl<'a> Choice<'a> {
             "store" => Choice::read_store(alloc, words),
             "desk" => Ok(Choice::read_desk(words)),
             "http" => Ok(Choice::read_http(words)),
-            "serve" => Ok(Choice::read_serve(words)),
             _ => Ok(None),
         }
     }
@@ -58,27 +52,15 @@ impl<'a> Choice<'a> {
         }))
     }
 
-    fn read_desk(words: &'a [String]) -> Option<Choice<'a>> {
-        let (path, count) = read_path_and_count(words)?;
-        Some(Choice::Desk { path, count })
+    fn read_desk(words: &[String]) -> Option<Choice<'a>> {
+        let count = read_count(words.first()?.as_str())?;
+        Some(Choice::Desk { count })
     }
 
     fn read_http(words: &[String]) -> Option<Choice<'a>> {
         let count = read_count(words.first()?.as_str())?;
         Some(Choice::Http { count })
     }
-
-    fn read_serve(words: &'a [String]) -> Option<Choice<'a>> {
-        let (path, count) = read_path_and_count(words)?;
-        Some(Choice::Serve { path, count })
-    }
-}
-
-fn read_path_and_count(words: &[String]) -> Option<(&str, u16)> {
-    let [path, count, ..] = words else {
-        return None;
-    };
-    Some((path.as_str(), read_count(count.as_str())?))
 }
 
 fn read_count(word: &str) -> Option<u16> {

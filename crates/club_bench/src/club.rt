@@ -1,6 +1,5 @@
 //! A club of fifty members, each with a key, and a court.
 
-use crate::files::Files;
 use crate::known::known;
 use anyhow::{Result, anyhow};
 use club_core::{ClubStore, Command, Root};
@@ -27,11 +26,6 @@ pub(crate) const CAVEATS: [&[u8]; 3] = [
 /// The desk of a new club, over tables in memory.
 pub(crate) fn in_memory(rt: &impl AllocGlobal) -> Result<Desk<Store<MemStore>>> {
     filled(rt.alloc(), Store::open_in_memory(rt.alloc())?)
-}
-
-/// The desk of a new club, over tables in a file that isn't there yet.
-pub(crate) fn in_file<F: Files>(rt: &HostRuntime, files: &F, path: &str) -> Result<Desk<F::Store>> {
-    filled(rt.alloc(), files.open(rt, path)?)
 }
 
 // The desk over empty tables, which get the court, the members and their keys.

@@ -1,9 +1,7 @@
-//! How many requests a second the desk answers, over tables in memory and in files. The files are
-//! `FILE` with the form and the number of caveats behind it, and must not be there yet. Each row
-//! books COUNT times, asks for the same bookings again, and asks for COUNT accounts.
+//! How many requests a second the desk answers, over tables in memory. Each row books COUNT times,
+//! asks for the same bookings again, and asks for COUNT accounts.
 
 use crate::club::{self, KEYS, passes};
-use crate::files::Files;
 use crate::known::known;
 use crate::rate::rate;
 use crate::wish::{Wish, number_at, slot_and_moment};
@@ -15,7 +13,7 @@ use pass_forms::Form;
 use std::rt::Clock;
 use std::time::{Duration, Instant};
 
-const HEAD: &str = "lie in form caveats   booked repeated accounts";
+const HEAD: &str = "form caveats   booked repeated accounts";
 
 static FORMS: [(&str, Form); 3] = [("v1", Form::V1), ("v2", Form::V2), ("json", Form::Json)];
 
@@ -24,41 +22,17 @@ static CAVEAT_COUNTS: [usize; 3] = [0, 3, 20];
 
 static WISHES: [Wish; 3] = [Wish::Booking, Wish::Booking, Wish::Account];
 
-/// Prints two lines for each form and each number of caveats.
-pub(crate) fn compare<F: Files>(rt: &HostRuntime, files: &F, path: &str, count: u16) -> Result<()> {
+/// Prints a line for each form and each number of caveats.
+pub(crate) fn compare(rt: &HostRuntime, count: u16) -> Result<()> {
     println!(rt; "{HEAD}")?;
     for &(name, form) in &FORMS {
         for &caveats in &CAVEAT_COUNTS {
             let passes = passes(rt.alloc(), form, caveats)?;
-            over_memory(rt, (name, caveats), &passes, count)?;
-            over_file(rt, files, path, (name, caveats), &passes, count)?;
+            print!(rt; "{name:>4} {caveats:>7}")?;
+            measure(rt, &mut club::in_memory(rt)?, &passes, count)?;
         }
     }
     Ok(())
-}
-
-fn over_memory(
-    rt: &HostRuntime,
-    (name, caveats): (&str, usize),
-    passes: &[String],
-    count: u16,
-) -> Result<()> {
-    print!(rt; "memory {name:>4} {caveats:>7}")?;
-    measure(rt, &mut club::in_memory(rt)?, passes, count)
-}
-
-fn over_file<F: Files>(
-    rt: &HostRuntime,
-    files: &F,
-    path: &str,
-    (name, caveats): (&str, usize),
-    passes: &[String],
-    count: u16,
-) -> Result<()> {
-    print!(rt; "a file {name:>4} {caveats:>7}")?;
-    let path = format!(in rt.alloc(); "{path}{name}{caveats}")?;
-    let mut desk = club::in_file(rt, files, path.as_str())?;
-    measure(rt, &mut desk, passes, count)
 }
 
 // Ends the line with what is measured.

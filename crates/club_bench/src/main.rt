@@ -1,11 +1,8 @@
 //! Benchmarks over a club. The first word chooses one:
 //!
 //! - `club_bench store memory|FILE COUNT [ROWS ..]`: views and bookings over the tables;
-//! - `club_bench desk FILE COUNT`: requests to the desk;
-//! - `club_bench http COUNT`: exchanges over memory, and their parts;
-//! - `club_bench serve FILE COUNT`: requests to the server over loopback.
-//!
-//! The files of `desk` and `serve` must not be there yet.
+//! - `club_bench desk COUNT`: requests to the desk;
+//! - `club_bench http COUNT`: exchanges over memory, and their parts.
 #![tactic(auto)]
 
 mod choice;
@@ -17,7 +14,6 @@ mod known;
 mod memory;
 mod rate;
 mod sent;
-mod serve;
 mod store;
 mod wish;
 
@@ -28,9 +24,8 @@ use std::env;
 
 const USAGE: &str = "\
 usage: club_bench store memory|FILE COUNT [ROWS ..]
-       club_bench desk FILE COUNT
-       club_bench http COUNT
-       club_bench serve FILE COUNT";
+       club_bench desk COUNT
+       club_bench http COUNT";
 
 fn main(rt: HostRuntime) -> Result<()> {
     let words: Vec<String> = env::args(&rt)?.collect(rt.alloc())?;
@@ -47,8 +42,7 @@ fn run<F: Files>(rt: &HostRuntime, files: &F, choice: &Choice<'_>) -> Result<()>
             count,
             sizes,
         } => store::compare(rt, files, place, *count, sizes),
-        Choice::Desk { path, count } => desk::compare(rt, files, path, *count),
+        Choice::Desk { count } => desk::compare(rt, *count),
         Choice::Http { count } => http::compare(rt, *count),
-        Choice::Serve { path, count } => serve::compare(rt, files, path, *count),
     }
 }
