@@ -11,13 +11,9 @@ set -eu
 wants cc gcc libc6-dev
 wants sqlite3 sqlite3
 step=${1:-1}
+number "$step" 1 999999
 cc -shared -fPIC -O1 -o "$work/refuse.so" "$here/refused_memory.c" -ldl
-# Where files lie in memory, a sync costs nothing.
-if [ -w /dev/shm ]; then
-    files=$(mktemp -d -p /dev/shm)
-    trap 'rm -rf "$files"; leave' EXIT
-    cd "$files"
-fi
+work_in_memory
 
 # rows FILE: all rows on one line, or that there are no tables.
 rows() {
@@ -77,17 +73,17 @@ ends() {
 
 refuse_memory() {
     count=0
-    number=1
+    allocation=1
     while :; do
-        cut="$*, allocation $number refused"
+        cut="$*, allocation $allocation refused"
         begin
-        REFUSED_ALLOCATION=$number REFUSAL_TOLD=told LD_PRELOAD=$work/refuse.so "$desk" "$@" >out 2>fault || status=$?
+        REFUSED_ALLOCATION=$allocation REFUSAL_TOLD=told LD_PRELOAD=$work/refuse.so "$desk" "$@" >out 2>fault || status=$?
         ends 'out of memory' 4 2
         keeps_a_club
         [ -e told ] || break
-        number=$((number + step))
+        allocation=$((allocation + step))
     done
-    echo "$*: $count of the runs to allocation $number ended for out of memory"
+    echo "$*: $count of the runs to allocation $allocation ended for out of memory"
 }
 
 refuse_storage() {

@@ -7,15 +7,10 @@ set -eu
 . "$(dirname -- "$0")/serving.sh"
 wants curl curl
 count=${1:-500}
+number "$count" 1 600
 keys=50
 root=30313233343536373839616263646566
-# Where files lie in memory, a sync costs nothing.
-if [ -w /dev/shm ]; then
-    files=$(mktemp -d -p /dev/shm)
-    trap 'rm -rf "$files"; leave' EXIT
-    cd "$files"
-    mkfifo listening
-fi
+work_in_memory
 
 "$desk" add-facility club court-1 court 4 1 8 22 >told
 for key in $(seq "$keys"); do
@@ -35,17 +30,14 @@ awk -v count="$count" -v keys="$keys" '{ pass[NR] = $1 } END {
             5 + int(i / 14 / 28), 1 + int(i / 14) % 28, 8 + i % 14, 1 + int(i / keys)
     } }' passes >requests
 
-"$desk" serve club --port 0 --count $((3 * count)) --at 2026-04-20T12:00 --log >listening 2>log &
-server=$!
-read -r line <listening
-sed "s/PORT/${line##*:}/" requests >asked
+serve club $((3 * count)) 2026-04-20T12:00 --log
+sed "s/PORT/$port/" requests >asked
 curl -K asked
-wait "$server"
-server=
-[ "$(awk '$4 == 200' log | wc -l)" = $((3 * count)) ] || { echo "a request wasn't served" >&2; exit 1; }
+finish
+[ "$(awk '$4 == 200' fault | wc -l)" = $((3 * count)) ] || { echo "a request wasn't served" >&2; exit 1; }
 first=1
 for kind in booking repeat account; do
-    tail -n +"$first" log | head -n "$count" | awk '{ print $5 }' | sort -n |
+    tail -n +"$first" fault | head -n "$count" | awk '{ print $5 }' | sort -n |
         awk -v kind="$kind" '{ time[NR] = $1 } END { printf "%-8s %6d us\n", kind, time[int(NR / 2) + 1] }'
     first=$((first + count))
 done

@@ -21,18 +21,36 @@ desk=$here/../crates/clubdesk/out/clubdesk
 tool=$here/../crates/passtool/out/passtool
 
 work=$(mktemp -d)
+files=
 server=
 leave() {
     if [ -n "$server" ]; then kill "$server" 2>/dev/null || :; fi
-    rm -rf "$work"
+    rm -rf "$work" ${files:+"$files"}
 }
 trap leave EXIT
 cd "$work" || exit 2
 mkfifo listening
 
-# serve FILE COUNT MOMENT: starts a server, which listens at $port once this is done. `finish` waits for its end.
+# Goes on in a folder whose files lie in memory, where there is one: a sync costs nothing there.
+work_in_memory() {
+    [ -w /dev/shm ] || return 0
+    files=$(mktemp -d -p /dev/shm) && cd "$files" && mkfifo listening || exit 2
+}
+
+# number WORD LEAST MOST: ends the script unless the word is a number from LEAST to MOST.
+number() {
+    case $1 in
+        '' | *[!0-9]* | ??????????*) ;;
+        *) if [ "$1" -ge "$2" ] && [ "$1" -le "$3" ]; then return; fi ;;
+    esac
+    echo "$0: a number from $2 to $3 is wanted, not '$1'" >&2
+    exit 2
+}
+
+# serve FILE COUNT MOMENT [--log]: starts a server, which listens at $port once this is done. What it tells on standard error lies
+# in `fault`. `finish` waits for its end.
 serve() {
-    "$desk" serve "$1" --port 0 --count "$2" --at "$3" >listening 2>fault &
+    "$desk" serve "$1" --port 0 --count "$2" --at "$3" ${4:+"$4"} >listening 2>fault &
     server=$!
     read -r line <listening || { cat fault >&2; exit 1; }
     port=${line##*:}

@@ -242,6 +242,12 @@ same 'the schema of a migrated file' "$(sql first 'SELECT type, name, sql FROM s
 $(sql club 'SELECT type, name, sql FROM sqlite_schema')
 ROWS
 
+# holds: what `bad` holds, and what sqlite3 reads of it, for `kept`.
+holds() {
+    cp bad bad.before
+    sqlite3 bad.before .dump >dump.before 2>&1 || :
+}
+
 # kept WHAT: `bad` is as it was. What may lie beside it, a log with no commit, doesn't change what sqlite3 reads.
 kept() {
     checks=$((checks + 1))
@@ -255,8 +261,7 @@ kept() {
 ends() {
     wanted="$1 $2" what=$3
     shift 3
-    cp bad bad.before
-    sqlite3 bad.before .dump >dump.before 2>&1 || :
+    holds
     status=0
     "$desk" "$@" >told 2>fault || status=$?
     [ "$status $(cat fault)" = "$wanted" ] || { echo "$what: status $status, $(cat fault)" >&2; exit 1; }
@@ -265,8 +270,7 @@ ends() {
 
 # refused WHAT: the sheet can't be told of `bad`, nor can a request be answered where the file is opened; it stays as it is.
 refused() {
-    cp bad bad.before
-    sqlite3 bad.before .dump >dump.before 2>&1 || :
+    holds
     status=0
     "$desk" sheet bad "$day" >told 2>fault || status=$?
     case "$status $(cat fault)" in

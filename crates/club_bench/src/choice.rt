@@ -53,18 +53,19 @@ impl<'a> Choice<'a> {
     }
 
     fn read_desk(words: &[String]) -> Option<Choice<'a>> {
-        let count = read_count(words.first()?.as_str())?;
+        let count = read_count(words)?;
         Some(Choice::Desk { count })
     }
 
     fn read_http(words: &[String]) -> Option<Choice<'a>> {
-        let count = read_count(words.first()?.as_str())?;
+        let count = read_count(words)?;
         Some(Choice::Http { count })
     }
 }
 
-fn read_count(word: &str) -> Option<u16> {
-    word.parse::<u16>().ok()
+// The number that is the first word.
+fn read_count(words: &[String]) -> Option<u16> {
+    words.first()?.as_str().parse::<u16>().ok()
 }
 
 fn read_sizes(alloc: Global, words: &[String]) -> Result<Option<Vec<u32>>, AllocError> {

@@ -1,5 +1,5 @@
-//! Each command and each of its refusals, each over a new club in a file, which an order opens and
-//! closes once.
+//! Each command and its refusals, each over a new club in a file, which an order opens and closes
+//! once. Points beyond what a member may have are refused in `club_tests`.
 
 use super::clubs::expect_over_clubs;
 use super::runs::{ROOM, Row, ended_by};
