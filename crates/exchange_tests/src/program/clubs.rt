@@ -1,15 +1,16 @@
-//! A club in a file: amy with quota 5 and 10,000 points; court-1 with 4 places for 200 points, open
-//! from 8 to 22; amy's key amy-1; and the slots of 2026-05-01 at 19, which is closed, and at 20, which
-//! amy booked.
+//! A club in a file: amy and bea with quota 5, amy with 10,000 points and bea with the most that
+//! there may be; court-1 with 4 places for 200 points, open from 8 to 22; amy's key amy-1; and the
+//! slots of 2026-05-01 at 19, which is closed, and at 20, which amy booked.
 
 use super::runs::{ROOM, Row, ended_at, expect_rows, expect_told, new_path, remove};
 use super::served::reply_to;
 use std::fs;
 use std::test::Fail;
 
-static OFFICE: [Row; 5] = [
+static OFFICE: [Row; 6] = [
     Row("add-member", "amy 5", "0 done\n"),
     Row("credit", "amy 10000", "0 done\n"),
+    Row("add-member", "bea 5", "0 done\n"),
     Row("add-facility", "court-1 court 4 200 8 22", "0 done\n"),
     Row(
         "add-key",
@@ -18,6 +19,26 @@ static OFFICE: [Row; 5] = [
     ),
     Row("close-slot", "court-1 2026-05-01 19", "0 done\n"),
 ];
+
+static MILLION: [Row; 1] = [Row("credit", "bea 1000000", "0 done\n")];
+
+/// Where the file holds bea's points, 9,000,000 of them. By credits alone she would get the most in a
+/// thousand orders.
+const BEAS_POINTS_AT: usize = 12_283;
+
+/// 9,000,000 and 999,999,999 in four bytes.
+const NINE_MILLIONS: [u8; 4] = [0x00, 0x89, 0x54, 0x40];
+
+const MOST: [u8; 4] = [0x3b, 0x9a, 0xc9, 0xff];
+
+// Puts the most points in the place of bea's.
+fn make_rich(club: &mut [u8]) -> Result<(), Fail> {
+    if club.len() < BEAS_POINTS_AT + 4 || !club[BEAS_POINTS_AT..].starts_with(&NINE_MILLIONS) {
+        return Err("bea's points lie elsewhere".into());
+    }
+    club[BEAS_POINTS_AT..BEAS_POINTS_AT + 4].copy_from_slice(&MOST);
+    Ok(())
+}
 
 const BOOKING: &str =
     "PUT /slots/court-1/2026-05-01/20/bookings/1 HTTP/1.1\r\nContent-Length: 12\r\n\
@@ -28,10 +49,14 @@ const BOOKING: &str =
 // Makes the club, and gives the bytes of its file.
 fn club(rt: &HostRuntime, path: &str) -> Result<Vec<u8>, Fail> {
     expect_rows(rt, path, &OFFICE)?;
+    for _ in 0..9 {
+        expect_rows(rt, path, &MILLION)?;
+    }
     if !reply_to(rt, path, BOOKING)?.starts_with(b"HTTP/1.1 200 OK\r\n") {
         return Err("amy's booking is refused".into());
     }
-    let club = fs::read(rt, path)?;
+    let mut club = fs::read(rt, path)?;
+    make_rich(&mut club)?;
     remove(rt, path);
     Ok(club)
 }

@@ -1,11 +1,11 @@
-//! Each command and its refusals, each over a new club in a file, which an order opens and closes
-//! once. Points beyond what a member may have are refused in `club_tests`.
+//! Each command and each of its refusals, each over a new club in a file, which an order opens and
+//! closes once.
 
 use super::clubs::expect_over_clubs;
 use super::runs::{ROOM, Row, ended_by};
 use std::test::Fail;
 
-static MEMBERS: [Row; 11] = [
+static MEMBERS: [Row; 12] = [
     Row("add-member", "cy 5", "0 done\n"),
     Row("add-member", "cy 99", "0 done\n"),
     Row("add-member", "cy 100", "1 refused: out of range"),
@@ -17,6 +17,7 @@ static MEMBERS: [Row; 11] = [
     Row("credit", "amy 1000001", "1 refused: out of range"),
     Row("credit", "zed 0", "1 refused: out of range"),
     Row("credit", "zed 1", "1 refused: unknown"),
+    Row("credit", "bea 1", "1 refused: out of range"),
 ];
 
 #[test]
