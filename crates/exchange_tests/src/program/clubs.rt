@@ -67,7 +67,7 @@ fn expect_at(rt: &HostRuntime, path: &str, row: &Row<'_>, openings: u64) -> Resu
     if ended.opened != openings || ended.closed != openings {
         return Err("opened or closed too often or too seldom".into());
     }
-    expect_told(rt, row, ended.told.as_str())
+    expect_told(rt, row, ended.output.told.as_str())
 }
 
 /// Runs each command over the club, in a file of its own that it opens and closes so often, and it

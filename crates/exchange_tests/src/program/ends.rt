@@ -2,7 +2,6 @@
 
 use super::clubs::expect_over_clubs;
 use super::runs::{Row, ended_at, expect_rows, new_path, remove};
-use std::alloc::AllocError;
 use std::net::TcpListener;
 use std::test::Fail;
 
@@ -14,10 +13,11 @@ fn fails_with_room(
     command: &str,
     words: &str,
     room: usize,
-) -> Result<bool, AllocError> {
+) -> Result<bool, Fail> {
     let ended = ended_at(rt, path, command, words, room)?;
-    let failed = ended.told.as_str() == "7 input or output failed";
-    Ok(failed && ended.taken == room && ended.logged == 0)
+    let output = &ended.output;
+    let failed = output.told.as_str() == "7 input or output failed";
+    Ok(failed && output.taken == room && output.logged == 0)
 }
 
 static KEY_STANDS: [Row; 1] = [Row(

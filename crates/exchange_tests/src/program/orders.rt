@@ -183,6 +183,6 @@ fn words(rt: HostRuntime) -> Result<(), Fail> {
 #[test]
 fn version(rt: HostRuntime) -> Result<(), Fail> {
     let ended = ended_by(&rt, "clubdesk --version", ROOM)?;
-    assert_eq!(rt; ended.told.as_str(), "0 clubdesk 0.1.0\n");
+    assert_eq!(rt; ended.output.told.as_str(), "0 clubdesk 0.1.0\n");
     Ok(())
 }

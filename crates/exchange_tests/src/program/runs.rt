@@ -1,9 +1,11 @@
 //! Runs of the program, as texts.
 
-use desk_commands::{Fault, run};
+use super::served::serve_over;
+use desk_commands::{Databases, Fault, run};
 use desk_files::Files;
 use std::alloc::AllocError;
 use std::io::{self, ErrorKind, Write};
+use std::net::TcpListener;
 use std::test::Fail;
 use std::{env, fs, process};
 
@@ -43,13 +45,19 @@ impl Write for Full {
     }
 }
 
-/// How a run ended: its status, and what it wrote or the line of its fault; how many bytes it wrote
-/// and logged, and how often it opened and closed a database.
+/// What a run told: its status, and what it wrote or the line of its fault; how many bytes it wrote and
+/// logged.
 #[derive(Drop)]
-pub struct Ended {
+pub struct Output {
     pub told: String,
     pub taken: usize,
     pub logged: usize,
+}
+
+/// How a run ended, and how often it opened and closed a database.
+#[derive(Drop)]
+pub struct Ended {
+    pub output: Output,
     pub opened: u64,
     pub closed: u64,
 }
@@ -98,11 +106,22 @@ fn told_of(
     }
 }
 
-/// Runs the program on a line of words over databases in files, to a writer with this much room.
-/// It is the one caller here of `run`, whose proof at these types is long.
-pub fn ended_by(rt: &HostRuntime, line: &str, room: usize) -> Result<Ended, AllocError> {
+/// What is done over databases.
+#[derive(Clone, Copy)]
+pub enum Work<'a> {
+    /// The program runs on a line of words, to a writer with this much room.
+    Run(&'a str, usize),
+    /// A server answers one request, over the database at a path.
+    Serve(&'a str, &'a TcpListener),
+}
+
+fn run_over<D: Databases>(
+    rt: &HostRuntime,
+    databases: &mut D,
+    line: &str,
+    room: usize,
+) -> Result<Output, AllocError> {
     let words = words_of(rt, line)?;
-    let mut files = Files::new(rt);
     let mut nothing: &[u8] = b"";
     let mut full = Full {
         room,
@@ -111,19 +130,53 @@ pub fn ended_by(rt: &HostRuntime, line: &str, room: usize) -> Result<Ended, Allo
     let mut errors = Vec::new(rt.alloc());
     let outcome = run(
         rt,
-        &mut files,
+        databases,
         words.as_slice(),
         &mut nothing,
         &mut full,
         &mut errors,
     );
-    Ok(Ended {
+    Ok(Output {
         told: told_of(rt, &outcome, full.taken.as_slice())?,
         taken: full.taken.len(),
         logged: errors.len(),
+    })
+}
+
+// A server tells nothing of its own.
+fn work_over<D: Databases>(
+    rt: &HostRuntime,
+    databases: &mut D,
+    work: Work<'_>,
+) -> Result<Output, Fail> {
+    match work {
+        Work::Run(line, room) => Ok(run_over(rt, databases, line, room)?),
+        Work::Serve(path, listener) => {
+            serve_over(rt, databases, path, listener)?;
+            Ok(Output {
+                told: String::new(rt.alloc()),
+                taken: 0,
+                logged: 0,
+            })
+        }
+    }
+}
+
+/// Does this over databases in files. It is the one function here that names their types: the proof
+/// of each takes a minute.
+pub fn done(rt: &HostRuntime, work: Work<'_>) -> Result<Ended, Fail> {
+    let mut files = Files::new(rt);
+    let output = work_over(rt, &mut files, work)?;
+    Ok(Ended {
+        output,
         opened: files.tried,
         closed: files.closed,
     })
+}
+
+/// Runs the program on a line of words over databases in files, to a writer with this much room.
+pub fn ended_by(rt: &HostRuntime, line: &str, room: usize) -> Result<Ended, Fail> {
+    done(rt, Work::Run(line, room))
 }
 
 /// Runs a command over the database in a file.
@@ -133,7 +186,7 @@ pub fn ended_at(
     command: &str,
     words: &str,
     room: usize,
-) -> Result<Ended, AllocError> {
+) -> Result<Ended, Fail> {
     let line = format!(in rt.alloc(); "clubdesk {command} {path} {words}")?;
     ended_by(rt, line.as_str(), room)
 }
@@ -151,7 +204,7 @@ pub fn expect_told(rt: &HostRuntime, row: &Row<'_>, told: &str) -> Result<(), Fa
 pub fn expect_rows(rt: &HostRuntime, path: &str, rows: &[Row<'_>]) -> Result<(), Fail> {
     for row in rows {
         let ended = ended_at(rt, path, row.0, row.1, ROOM)?;
-        expect_told(rt, row, ended.told.as_str())?;
+        expect_told(rt, row, ended.output.told.as_str())?;
     }
     Ok(())
 }

@@ -1,10 +1,10 @@
 //! A server of one request, over a database in a file.
 
+use super::runs::{Work, done};
 use club_core::ClubStore;
 use club_http::{Desk, Face};
 use club_values::Moment;
 use desk_commands::Databases;
-use desk_files::Files;
 use desk_server::{Fixed, Listening, serve_on};
 use std::io::{Read, Write};
 use std::net::{TcpListener, TcpStream};
@@ -30,8 +30,8 @@ fn serve_at<S: ClubStore>(
     Ok(())
 }
 
-// The same over a database that is opened for it and closed behind it.
-fn serve_over<D: Databases>(
+/// The same over a database that is opened for it and closed behind it.
+pub fn serve_over<D: Databases>(
     rt: &HostRuntime,
     databases: &mut D,
     path: &str,
@@ -47,7 +47,7 @@ fn serve_over<D: Databases>(
 pub fn reply_to(rt: &HostRuntime, path: &str, request: &str) -> Result<Vec<u8>, Fail> {
     let listener = TcpListener::bind(rt, "127.0.0.1:0")?;
     let mut client = client_of(rt, &listener, request)?;
-    serve_over(rt, &mut Files::new(rt), path, &listener)?;
+    done(rt, Work::Serve(path, &listener))?;
     let mut reply = Vec::new(rt.alloc());
     client.read_to_end(&mut reply)?;
     Ok(reply)
