@@ -72,21 +72,6 @@ fn closed<D: Disk + Drop>(rt: &impl Abort, connection: Connection<FileStore<D>>)
     connection.close_files().ok().expect(rt, "closed")
 }
 
-/// The files of a club, or of tables of version 1 with the rows of its tests.
-fn filled<D: Disk + Drop>(
-    rt: &(impl Abort + Alloc<A = Global>),
-    files: Files<D>,
-    first: bool,
-) -> Files<D> {
-    let new = connected(rt.alloc(), files).ok();
-    let mut connection = new.expect(rt, "new files");
-    if first {
-        fill(rt, &mut connection);
-        return closed(rt, connection);
-    }
-    closed(rt, club_in(rt, connection))
-}
-
 /// Amy with her points, the court and her key.
 static CLUB: [Step; 3] = [
     Step::Applies(Write::Member(10_000)),
@@ -103,6 +88,29 @@ fn club_in<S: Alter + Drop>(
     let mut store = adopted.expect(rt, "adopted");
     plays(rt, &mut store, &CLUB);
     store.into_connection()
+}
+
+/// That club, or tables of version 1 with the rows of its tests.
+fn filled<S: Alter + Drop>(
+    rt: &(impl Abort + Alloc<A = Global>),
+    mut connection: Connection<S>,
+    first: bool,
+) -> Connection<S> {
+    if first {
+        fill(rt, &mut connection);
+        return connection;
+    }
+    club_in(rt, connection)
+}
+
+/// The files of the one or the other.
+fn filled_files<D: Disk + Drop>(
+    rt: &(impl Abort + Alloc<A = Global>),
+    files: Files<D>,
+    first: bool,
+) -> Files<D> {
+    let new = connected(rt.alloc(), files).ok();
+    closed(rt, filled(rt, new.expect(rt, "new files"), first))
 }
 
 fn changed<S: Alter>(store: &mut Store<S>, change: &Option<Change>) -> End {
@@ -201,7 +209,7 @@ fn leaves(
 
 /// What is then in the file.
 fn bytes_of(rt: &(impl Abort + Alloc<A = Global>), first: bool) -> Vec<u8> {
-    let files = filled(rt, files(rt, u64::MAX, &[]), first);
+    let files = filled_files(rt, files(rt, u64::MAX, &[]), first);
     Vec::from_slice(rt.alloc(), files.db.inner().bytes()).expect(rt, "memory")
 }
 
