@@ -15,11 +15,21 @@ use std::test::*;
 
 type Stops = Fuse<Memory>;
 
-/// What is in a file before it is opened, and the change that is made then, where there is one.
+/// What is done in a database that is opened.
+#[derive(Drop)]
+enum Task {
+    /// Nothing more.
+    Open,
+    Change(Change),
+    /// The persons who have booked the court are counted.
+    Count,
+}
+
+/// What is in a file before it is opened, and what is done then.
 #[derive(Drop)]
 struct Trial {
     bytes: Vec<u8>,
-    change: Option<Change>,
+    task: Task,
 }
 
 #[derive(Clone, Copy, Debug, PartialEq, Eq)]
@@ -27,6 +37,7 @@ enum End {
     NotOpened,
     NotChanged,
     Done,
+    Counted(u32),
 }
 
 /// A disk of these bytes.
@@ -113,37 +124,52 @@ fn filled_files<D: Disk + Drop>(
     closed(rt, filled(rt, new.expect(rt, "new files"), first))
 }
 
-fn changed<S: Alter>(store: &mut Store<S>, change: &Option<Change>) -> End {
-    match change {
-        Some(change) if store.apply(change).is_err() => End::NotChanged,
-        _ => End::Done,
+/// The key of each file, and the room that nobody has booked, or not any more.
+static STAYS: [Step; 2] = [
+    Step::Shows(Shown::Key(AMY_1)),
+    Step::Shows(Shown::Slot(ROOM_AT_18, 0, false)),
+];
+
+/// The persons who have booked the court.
+fn persons<S: Alter>(rt: &(impl Abort + Alloc<A = Global>), store: &mut Store<S>) -> u32 {
+    plays(rt, store, &STAYS);
+    let court = store.slot(&slot(rt, &COURT_AT_18));
+    court.expect(rt, "a slot").taken
+}
+
+fn done<S: Alter>(rt: &(impl Abort + Alloc<A = Global>), store: &mut Store<S>, task: &Task) -> End {
+    match task {
+        Task::Open => End::Done,
+        Task::Change(change) if store.apply(change).is_err() => End::NotChanged,
+        Task::Change(_) => End::Done,
+        Task::Count => End::Counted(persons(rt, store)),
     }
 }
 
-/// How the change ends in a database that is opened first, and the store below it.
+/// How the task ends in a database that is opened first, and the store below it.
 fn attempted<S: Alter + Drop>(
-    alloc: Global,
+    rt: &(impl Abort + Alloc<A = Global>),
     connection: Connection<S>,
-    change: &Option<Change>,
+    task: &Task,
 ) -> (End, S) {
-    match Store::adopt(alloc, connection) {
+    match Store::adopt(rt.alloc(), connection) {
         Ok(mut store) => {
-            let end = changed(&mut store, change);
+            let end = done(rt, &mut store, task);
             (end, store.into_store())
         }
         Err((_, connection)) => (End::NotOpened, connection.into_store()),
     }
 }
 
-/// How the change ends in these files, and what is left of them.
+/// How the task ends in these files, and what is left of them.
 fn attempted_in<D: Disk + Drop>(
-    alloc: Global,
+    rt: &(impl Abort + Alloc<A = Global>),
     files: Files<D>,
-    change: &Option<Change>,
+    task: &Task,
 ) -> (End, Files<D>) {
-    match connected(alloc, files) {
+    match connected(rt.alloc(), files) {
         Ok(connection) => {
-            let (end, store) = attempted(alloc, connection, change);
+            let (end, store) = attempted(rt, connection, task);
             (end, store.close())
         }
         Err(left) => (End::NotOpened, left),
@@ -153,7 +179,7 @@ fn attempted_in<D: Disk + Drop>(
 /// How the trial ends on a log that stops after so many calls, and what is left of the files.
 fn tried(rt: &(impl Abort + Alloc<A = Global>), trial: &Trial, calls: u64) -> (End, Files<Stops>) {
     let files = files(rt, calls, &trial.bytes);
-    attempted_in(rt.alloc(), files, &trial.change)
+    attempted_in(rt, files, &trial.task)
 }
 
 /// The most calls, of up to 511, that are too few for the trial.
@@ -170,29 +196,6 @@ fn calls_too_few(rt: &(impl Abort + Alloc<A = Global>), trial: &Trial) -> u64 {
     calls
 }
 
-/// The key of each file, and the room that nobody has booked, or not any more.
-static STAYS: [Step; 2] = [
-    Step::Shows(Shown::Key(AMY_1)),
-    Step::Shows(Shown::Slot(ROOM_AT_18, 0, false)),
-];
-
-/// The persons who have booked the court.
-fn persons<S: Alter + Drop>(
-    rt: &(impl Abort + Alloc<A = Global>),
-    connection: Connection<S>,
-) -> u32 {
-    let adopted = Store::adopt(rt.alloc(), connection).ok();
-    let mut store = adopted.expect(rt, "adopted");
-    plays(rt, &mut store, &STAYS);
-    let court = store.slot(&slot(rt, &COURT_AT_18));
-    court.expect(rt, "a slot").taken
-}
-
-fn persons_in<D: Disk + Drop>(rt: &(impl Abort + Alloc<A = Global>), files: Files<D>) -> u32 {
-    let opened = connected(rt.alloc(), files).ok();
-    persons(rt, opened.expect(rt, "opened again"))
-}
-
 /// Ends the test unless the trial ends so, and leaves one of these numbers of persons.
 fn leaves(
     rt: &(impl Abort + Alloc<A = Global>),
@@ -203,8 +206,9 @@ fn leaves(
 ) {
     let (end, left) = tried(rt, trial, calls);
     expect_eq(rt, &end, &want);
-    let found = persons_in(rt, restarted(left));
-    expect_eq(rt, &(found == either[0] || found == either[1]), &true);
+    let (found, _) = attempted_in(rt, restarted(left), &Task::Count);
+    let is_either = found == End::Counted(either[0]) || found == End::Counted(either[1]);
+    expect_eq(rt, &is_either, &true);
 }
 
 /// What is then in the file.
@@ -218,7 +222,7 @@ fn bytes_of(rt: &(impl Abort + Alloc<A = Global>), first: bool) -> Vec<u8> {
 fn holds_a_booking_whole_or_not_at_all(rt: HostRuntime) {
     let trial = Trial {
         bytes: bytes_of(&rt, false),
-        change: Some(change(&rt, &Write::Book(COURT_7))),
+        task: Task::Change(change(&rt, &Write::Book(COURT_7))),
     };
     let calls = calls_too_few(&rt, &trial);
     leaves(&rt, &trial, calls, End::NotChanged, [0, 3]);
@@ -229,7 +233,7 @@ fn holds_a_booking_whole_or_not_at_all(rt: HostRuntime) {
 fn migrates_whole_or_not_at_all(rt: HostRuntime) {
     let trial = Trial {
         bytes: bytes_of(&rt, true),
-        change: None,
+        task: Task::Open,
     };
     let calls = calls_too_few(&rt, &trial);
     leaves(&rt, &trial, calls / 2, End::NotOpened, [3, 3]);
