@@ -147,8 +147,8 @@ fn files_of_something_else(rt: HostRuntime) -> Result<(), Fail> {
     Ok(())
 }
 
-/// Where a new file holds its version: the table of that lies on the second page, and its one row at
-/// the end.
+/// Where a new file holds its version: the table of that lies on the second page, and its one row
+/// at the end.
 const VERSION_AT: usize = 8_191;
 
 // Puts version 9 into a file of version 2.

@@ -45,8 +45,8 @@ impl Write for Full {
     }
 }
 
-/// What a run told: its status, and what it wrote or the line of its fault; how many bytes it wrote and
-/// logged.
+/// What a run told: its status, and what it wrote or the line of its fault; how many bytes it wrote
+/// and logged.
 #[derive(Drop)]
 pub struct Output {
     pub told: String,
