@@ -1,20 +1,8 @@
 -- Lemmas on what a server does.
-use Rattle.std.proofs.Common.{◌≡◌, ℕ, ◌+◌, List, Option, Result, Ok, Err, arith}
-use Rattle.club_core.specs.declared.reply.Reply.{Reply}
-use Rattle.club_http.specs.Exchange.{Exchanges, Replies}
+use Rattle.std.proofs.Common.{◌≡◌, ℕ, ◌+◌, arith}
 use Rattle.club_http.specs.Replied.{Asks}
-use Rattle.club_http.specs.declared.fault.AnswerFault.{AnswerFault}
-use Rattle.club_http.specs.declared.fault.AnswerFault.TheVariants.{Read, Write}
-use Rattle.desk_server.specs.Served.{AreAnswered, AreServed, CountsOn, IsExchanged, IsStopped, Tells}
+use Rattle.desk_server.specs.Served.{AreAnswered, AreServed, CountsOn, IsStopped, Tells}
 use Rattle.desk_server.specs.Served as spec
-
--- an exchange over any reader and writer is one of the desk
-pub exchanged : {Desk : Type 0} (Answers : Asks Desk) (before after : Option (List ℕ)) (old new : Desk) (Cut Same : Type 0) (Writes : List ℕ → Type 0)
-    (result : Result Reply AnswerFault)
-    → Exchanges (λ reply. Replies Answers before after old reply new) (Cut × (new ≡ old) × Same) Writes result → IsExchanged Answers old new
-exchanged Answers before after old new Cut Same Writes (Ok reply) h = spec.replied h.0.bytes reply h.0.replied
-exchanged Answers before after old new Cut Same Writes (Err Read) h = spec.untouched h.1
-exchanged Answers before after old new Cut Same Writes (Err (Write n)) h = spec.replied h.1.bytes h.0 h.1.replied
 
 -- one more than so many
 pub one_more : (waited i now new : ℕ) → CountsOn waited i now → CountsOn now 1 new → CountsOn waited (i + 1) new
@@ -46,5 +34,5 @@ pub answered : {Clock Desk : Type 0} (Told : Tells Clock) (Answers : ℕ → Ask
 answered Told Answers clock desk _ _ _ spec.none = spec.nobody
 answered Told Answers clock desk _ _ _ (spec.more n c d c' d' before (spec.failed same kept)) =
     rw kept (spec.one_failed n d (answered Told Answers clock desk n c d before))
-answered Told Answers clock desk _ _ _ (spec.more n c d c' d' before (spec.exchanged moment told exchange)) =
-    spec.one_more n d d' moment (answered Told Answers clock desk n c d before) exchange
+answered Told Answers clock desk _ _ _ (spec.more n c d c' d' before (spec.exchanged moment outcome told exchange)) =
+    spec.one_more n d d' moment outcome (answered Told Answers clock desk n c d before) exchange

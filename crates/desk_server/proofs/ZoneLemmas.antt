@@ -1,6 +1,6 @@
 -- Lemmas on zones and what their clocks show.
-use Rattle.std.proofs.Common.{◌≡◌, ◌∙◌, ◌↔◌, ℕ, ◌+◌, ◌*◌, ◌<◌, ◌≤◌, Bool, cond, true, false, List, Option, Some, None, inl, inr, refl, sym, ap, arith}
-use Rattle.std.specs.Prelude.{IsSome, IfSome, is_some, unsigned_abs, ℤ, pos, negsuc, ◌+ℤ◌, ◌*ℤ◌, ◌≤ℤ◌, ◌<ℤ◌}
+use Rattle.std.proofs.Common.{◌≡◌, ◌↔◌, ℕ, ◌+◌, ◌*◌, ◌<◌, ◌≤◌, Bool, cond, true, false, List, Option, Some, None, inl, inr, refl, arith}
+use Rattle.std.specs.Prelude.{IsSome, IfSome, is_some, unsigned_abs, ℤ, pos, negsuc, ◌+ℤ◌, ◌*ℤ◌}
 use Rattle.std.proofs.lemmas.Bool.{cases_lt}
 use Rattle.std.specs.Int.{cast_signed, cast_unsigned, w8}
 use borrow.Author.Differences.{ints}
@@ -16,7 +16,6 @@ use Rattle.jiff_tz.specs.declared.timezone.TimeZone.{TimeZone}
 use Rattle.jiff.specs.Placed.{IsPosixZone}
 use Rattle.club_values.specs.Day.{IsDay}
 use Rattle.club_values.specs.Moment.{IsMoment}
-use Rattle.club_values.specs.Reading.{Reads}
 use Rattle.desk_server.specs.Zone.{IsInMinute, IsShown, zone_of}
 
 pub zone_read : (text : List ℕ) → IsSome (read_whole text) → Some text ≡ zone_of text

@@ -1,5 +1,5 @@
 -- The club's civil time in a zone (ours).
-use Rattle.std.specs.Prelude.{◌≡◌, ◌⊎◌, ℕ, ◌+◌, ◌*◌, ℤ, pos, ◌+ℤ◌, ◌≤ℤ◌, ◌<ℤ◌, List, is_some, if◌then◌else◌, Option, Some, None}
+use Rattle.std.specs.Prelude.{ℕ, ◌+◌, ◌*◌, ℤ, pos, ◌+ℤ◌, ◌≤ℤ◌, ◌<ℤ◌, List, is_some, if◌then◌else◌, Option, Some, None}
 use Rattle.jiff_core.specs.Timestamp.{nanos_of_seconds}
 use Rattle.jiff_tz.specs.PosixReader.{read_whole}
 use Rattle.jiff_tz.specs.Zone.{offset_at}

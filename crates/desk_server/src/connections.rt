@@ -4,7 +4,7 @@ ghost use Rattle.desk_server.specs.Served.{IsExchanged};
 
 use crate::request_line::RequestLine;
 use club_core::Reply;
-use club_http::{AnswerFault, Face, Inlet, Outlet, ReadInlet, Responder, WriteOutlet, answer};
+use club_http::{AnswerFault, Face, Inlet, ReadInlet, Responder, WriteOutlet, answer};
 use club_values::Moment;
 use std::net::{TcpListener, TcpStream};
 
@@ -19,9 +19,9 @@ pub struct Exchange {
 
 /// A connection.
 pub trait Connection {
-    /// One exchange with the desk, at a moment.
+    /// One exchange with the desk, at a moment. Its outcome is what the desk did.
     fn exchange<D: Responder>(&mut self, face: &mut Face, desk: &mut D, moment: Moment) -> Exchange
-        ensures { IsExchanged (D.answers moment) desk.old desk.new };
+        ensures { IsExchanged (D.answers moment) desk.old result.outcome desk.new };
 }
 
 impl Connection for TcpStream {
@@ -32,42 +32,39 @@ impl Connection for TcpStream {
         moment: Moment,
     ) -> Exchange {
         let stream = &*self;
-        let reader = ReadInlet::new(stream);
+        let mut reader = NotingInlet::new(ReadInlet::new(stream));
         let mut writer = WriteOutlet::new(stream);
-        exchange_over(face, desk, moment, reader, &mut writer)
+        let outcome = answer(face, desk, moment, &mut reader, &mut writer);
+        Exchange {
+            line: reader.line,
+            outcome,
+        }
     }
 }
 
-/// One exchange with the desk at a moment, over any two ends: a connection that is no socket makes
-/// its own by this.
-pub fn exchange_over<D: Responder, R: Inlet + Drop, W: Outlet>(
-    face: &mut Face,
-    desk: &mut D,
-    moment: Moment,
-    reader: R,
-    writer: &mut W,
-) -> Exchange
-    ensures { IsExchanged (D.answers moment) desk.old desk.new }
-{
-    let mut noting = Noting {
-        reader,
-        line: RequestLine::new(),
-    };
-    let outcome = answer(face, desk, moment, &mut noting, writer);
-    Exchange {
-        line: noting.line,
-        outcome,
-    }
-}
-
-/// A reader, whose first bytes are kept.
+/// A reader, of whose bytes the first are kept for the log.
 #[derive(Drop)]
-struct Noting<R> {
+pub struct NotingInlet<R> {
     reader: R,
-    line: RequestLine,
+    /// Those bytes.
+    pub line: RequestLine,
 }
 
-impl<R: Inlet> Inlet for Noting<R> {
+impl<R: Inlet> NotingInlet<R> {
+    ghost use Rattle.std.specs.Prelude.{◌≡◌};
+
+    /// Nothing was read yet.
+    pub fn new(reader: R) -> NotingInlet<R>
+        ensures { result.reader ≡ reader }
+    {
+        NotingInlet {
+            reader,
+            line: RequestLine::new(),
+        }
+    }
+}
+
+impl<R: Inlet> Inlet for NotingInlet<R> {
     ghost to_come = { λ noting. R.to_come noting.reader };
 
     ghost failures = { λ noting. R.failures noting.reader };

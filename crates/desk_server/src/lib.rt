@@ -9,7 +9,7 @@ mod request_line;
 mod serve;
 mod zone;
 
-pub use connections::{Connection, Connections, Exchange, Listening, exchange_over};
+pub use connections::{Connection, Connections, Exchange, Listening, NotingInlet};
 pub use log::{Fate, Log, LogLines, Unlogged};
 pub use moments::{ClockIn, Fixed, Moments};
 pub use request_line::{MAX_KEPT, RequestLine};

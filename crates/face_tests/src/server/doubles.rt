@@ -1,10 +1,10 @@
 //! Connections, moments and a responder over memory.
 
 use club_core::{Refusal, Reply};
-use club_http::{Face, ReadInlet, Responder, WriteOutlet};
+use club_http::{Face, ReadInlet, Responder, WriteOutlet, answer};
 use club_values::Moment;
 use club_words::Words;
-use desk_server::{Connection, Connections, Exchange, Moments, exchange_over};
+use desk_server::{Connection, Connections, Exchange, Moments, NotingInlet};
 use std::io::{self, ErrorKind, Read};
 
 /// What comes of waiting for a connection.
@@ -18,33 +18,24 @@ pub enum Wire<'a> {
     Whole(&'a [u8]),
 }
 
-/// Gives what a connection sends.
+/// Gives what is left of what a connection sends, or fails.
 #[derive(Drop)]
-struct Sent<'a> {
-    left: &'a [u8],
-    is_broken: bool,
-}
+struct Sent<'a>(Option<&'a [u8]>);
 
 impl Read for Sent<'_> {
     fn read(&mut self, room: &mut [u8]) -> io::Result<usize> {
-        if self.is_broken {
-            return Err(io::Error::from(ErrorKind::ConnectionReset));
+        match &mut self.0 {
+            Some(left) => left.read(room),
+            None => Err(io::Error::from(ErrorKind::ConnectionReset)),
         }
-        self.left.read(room)
     }
 }
 
 impl Wire<'_> {
     fn reader(&self) -> Sent<'_> {
         match self {
-            Wire::Whole(bytes) => Sent {
-                left: bytes,
-                is_broken: false,
-            },
-            _ => Sent {
-                left: b"",
-                is_broken: true,
-            },
+            Wire::Whole(bytes) => Sent(Some(bytes)),
+            _ => Sent(None),
         }
     }
 }
@@ -56,9 +47,13 @@ impl Connection for Wire<'_> {
         desk: &mut D,
         moment: Moment,
     ) -> Exchange {
-        let reader = ReadInlet::new(self.reader());
+        let mut reader = NotingInlet::new(ReadInlet::new(self.reader()));
         let mut writer = WriteOutlet::new(io::sink());
-        exchange_over(face, desk, moment, reader, &mut writer)
+        let outcome = answer(face, desk, moment, &mut reader, &mut writer);
+        Exchange {
+            line: reader.line,
+            outcome,
+        }
     }
 }
 
