@@ -19,7 +19,7 @@ pub struct Exchange {
 
 /// A connection.
 pub trait Connection {
-    /// One exchange with the desk, at a moment. Its outcome is what the desk did.
+    /// One exchange with the desk, at a moment. Its outcome tells what the desk did.
     fn exchange<D: Responder>(&mut self, face: &mut Face, desk: &mut D, moment: Moment) -> Exchange
         ensures { IsExchanged (D.answers moment) desk.old result.outcome desk.new };
 }

@@ -32,8 +32,8 @@ impl Error for ClockOutOfRange {}
 ///
 /// # Errors
 ///
-/// `ClockOutOfRange` where no moment is told. The connection is closed unanswered, and none is waited
-/// for after it.
+/// `ClockOutOfRange` where no moment is told. The connection is closed unanswered, and none is
+/// waited for after it.
 pub fn serve_on<L: Connections, M: Moments, D: Responder>(
     connections: &mut L,
     count: u32,

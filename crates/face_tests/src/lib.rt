@@ -1,5 +1,5 @@
-//! Tests of requests as bytes, and of replies as bytes; of exchanges with a desk that counts what it
-//! is asked; and of the server, over sockets and over connections in memory.
+//! Tests of requests as bytes, and of replies as bytes; of exchanges with a desk that counts what
+//! it is asked; and of the server, over sockets and over connections in memory.
 #![tactic(auto)]
 
 #[cfg(test)]
