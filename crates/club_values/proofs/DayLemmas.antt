@@ -1,6 +1,6 @@
 -- The date of a day by arithmetic is the calendar's.
 use Rattle.std.proofs.Common.{◌≡◌, ℕ, ◌+◌, ◌-◌, ◌*◌, ◌/◌, ◌%◌, ◌<◌, ◌≤◌, ◌≢◌, cond, Bool, true, false, nat_lt, refl, suc, ◌∙◌, ltb-true, ltb-false, sym, List}
-use Rattle.std.proofs.Common.{◌++◌, drop, ap, arith, ◌^◌, ℤ, to_z, of_z, w8, w16, pos, ◌+ℤ◌}
+use Rattle.std.proofs.Common.{◌++◌, drop, ap, arith, ◌^◌, ℤ, to_z, of_z, w16, pos, ◌+ℤ◌}
 use Rattle.std.proofs.lemmas.Bool.Decides.{nat_tests}
 use Rattle.jiff_core.specs.Calendar.{IsCivilDate, days_from_civil, day_count}
 use Rattle.jiff_core.specs.Date.{epoch_day}
@@ -113,16 +113,11 @@ date_bounds n h =
 cast_back : (w : Width) (z : ℤ) (n : ℕ) → z ≡ pos n → n < 2 ^ hbits w → to_z w (of_z w z) ≡ pos n
 cast_back w z n e h = rw e (back_small w (pos n) h)
 
--- the parts of a day's date, as the code gets them
-pub parts_of_day : (n : ℕ) (d : Date) (year month day : ℤ) → IsDay n → epoch_day d ≡ pos n → year ≡ d.year → month ≡ pos d.month → day ≡ pos d.day →
-    (to_z w16 (of_z w16 year) ≡ pos (year_of n)) × (to_z w8 (of_z w8 month) ≡ pos (month_of n)) × (to_z w8 (of_z w8 day) ≡ pos (day_of_month n))
-parts_of_day n d year month day h e ey em ed =
-    let same = date_of_day n d h e in
-    let b = date_bounds n h in (
-      cast_back w16 year (year_of n) (ey ∙ same.0) (omega arith),
-      cast_back w8 month (month_of n) (em ∙ ap pos same.1) (omega arith),
-      cast_back w8 day (day_of_month n) (ed ∙ ap pos same.2) (omega arith),
-    )
+-- the year of a day's date, as the code gets it
+pub year_told : (n : ℕ) (d : Date) → IsDay n → epoch_day d ≡ pos n → to_z w16 (of_z w16 d.year) ≡ pos (year_of n)
+year_told n d h e =
+    let b = date_bounds n h in
+    cast_back w16 d.year (year_of n) (date_of_day n d h e).0 (omega arith)
 
 -- the text of a real date is that of its day
 pub date_text-day_text : (n y m d : ℕ) → IsDay n → IsDateOf y m d n → date_text y m d ≡ day_text n

@@ -14,7 +14,7 @@ ghost use Rattle.club_values.specs.Weekday.{weekday_of};
 
 use crate::ascii::text_of;
 use crate::digits::{read_two, two_digits};
-use jiff::civil::{Date, Weekday};
+use jiff_core::civil::{Date, Weekday};
 use std::fmt;
 use std::marker::Model;
 
@@ -100,7 +100,7 @@ impl Day {
     pub fn from_date(date: Date) -> Option<Day>
         ensures { Reads (λ day. IsDay day × (epoch_day date ≡ pos day)) result }
     {
-        let number = u16::try_from(date.to_plain().to_unix_epoch_day()).ok()?;
+        let number = u16::try_from(date.to_unix_epoch_day()).ok()?;
         Day::from_number(number)
     }
 
@@ -109,9 +109,7 @@ impl Day {
         ensures same { epoch_day result ≡ pos self }
         ensures within { IsDay self }
     {
-        Date::from_plain(jiff_core::civil::Date::from_days_since_min(
-            u32::from(self.number) + DAYS_BEFORE_1970,
-        ))
+        Date::from_days_since_min(u32::from(self.number) + DAYS_BEFORE_1970)
     }
 
     /// The year, the month from 1 and the day of the month from 1.
@@ -121,7 +119,7 @@ impl Day {
         ensures within { IsDay self }
     {
         let date = self.date();
-        (date.year() as u16, date.month() as u8, date.day() as u8)
+        (date.year as u16, date.month, date.day)
     }
 
     /// The day of the week.

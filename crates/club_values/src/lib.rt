@@ -16,7 +16,7 @@ mod slot;
 pub use action::Action;
 pub use day::Day;
 pub use hour::{HOURS_A_DAY, Hour};
-pub use jiff::civil::Weekday;
+pub use jiff_core::civil::Weekday;
 pub use kind::Kind;
 pub use moment::{MINUTES_A_DAY, Moment};
 pub use name::{MAX_NAME_LEN, Name};

@@ -4,7 +4,7 @@ use Rattle.clap.specs.Words.{Row, Text}
 use Rattle.clap.specs.Walk.{reading_by}
 use Rattle.clap.specs.declared.parser.matches.ValueSource.TheVariants.{CommandLine, DefaultValue}
 use Rattle.clap.proofs.OnLiterals.{clap_on_literals}
-use Rattle.jiff.proofs.OnLiterals.{jiff_on_literals}
+use Rattle.jiff_tz.proofs.OnLiterals.{jiff_tz_on_literals}
 use Rattle.pass_forms.specs.declared.form.Form.{Form}
 use Rattle.pass_forms.specs.declared.form.Form.TheVariants.{V1, V2, Json}
 use Rattle.pass_commands.specs.FormName.{form_name, form_named}
@@ -39,7 +39,7 @@ log_left_out = record (given (codes "log") (codes "false")) { source = Some Defa
 
 -- UTC is the zone of a rule
 utc_is_a_zone : zone_of (codes "UTC0") ≡ Some (codes "UTC0")
-unfolding jiff_on_literals zone_of
+unfolding jiff_tz_on_literals zone_of
 utc_is_a_zone = refl
 
 named_by_itself : (form : Form) → form_named (form_name form) ≡ Some form

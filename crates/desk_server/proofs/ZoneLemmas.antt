@@ -11,12 +11,11 @@ use Rattle.jiff_core.specs.Timestamp.{nanos_of_seconds}
 use Rattle.jiff_core.specs.declared.civil.datetime.DateTime.{DateTime}
 use Rattle.jiff_core.specs.declared.civil.time.Time.{Time}
 use Rattle.jiff_tz.specs.PosixReader.{read_whole}
-use Rattle.jiff_tz.specs.Zone.{offset_at}
-use Rattle.jiff_tz.specs.declared.timezone.TimeZone.{TimeZone}
-use Rattle.jiff.specs.Placed.{IsPosixZone}
+use Rattle.jiff_tz.specs.PosixRule.{offset_at}
+use Rattle.jiff_tz.specs.declared.posix.TimeZone.{TimeZone}
 use Rattle.club_values.specs.Day.{IsDay}
 use Rattle.club_values.specs.Moment.{IsMoment}
-use Rattle.desk_server.specs.Zone.{IsInMinute, IsShown, zone_of}
+use Rattle.desk_server.specs.Zone.{IsInMinute, IsShown, IsZoneOf, zone_of}
 
 pub zone_read : (text : List ℕ) → IsSome (read_whole text) → Some text ≡ zone_of text
 unfolding zone_of
@@ -31,10 +30,6 @@ no_zone text none = go (is_some (read_whole text)) none
     go false h = refl
 
 -- ---- what a clock shows
-
--- a small number of a signed byte is the same without a sign
-pub as_unsigned : (z : ℤ) (n : ℕ) → z ≡ pos n → n < 128 → unsigned_abs (cast_signed w8 (cast_unsigned w8 z)) ≡ n
-as_unsigned z n is small = rw is (omega (arith, ints))
 
 -- the parts of a time are less than a day
 within_day : (t : Time) → time_nanos t < 86_400_000_000_000
@@ -68,8 +63,8 @@ never_out (pos day) nanos n short out (within, h) =
       ]
     ]
 
-module _ (rule : List ℕ) (instant : ℤ) (zone : TimeZone) (of_rule : IsPosixZone rule zone) (civil : DateTime)
-    (is : civil_nanos civil ≡ instant +ℤ nanos_of_seconds (offset_at zone instant)) where
+module _ (rule : List ℕ) (instant : ℤ) (zone : TimeZone) (of_rule : IsZoneOf rule zone) (civil : DateTime)
+    (is : civil_nanos civil ≡ instant +ℤ nanos_of_seconds (offset_at zone instant).seconds) where
   pub none_shown : ((x : ℕ) → ¬ (IsDay x × (epoch_day civil.date ≡ pos x))) → IsShown rule instant None
   unfolding civil_nanos
   none_shown out = record {

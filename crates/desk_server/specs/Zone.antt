@@ -1,16 +1,20 @@
 -- The club's civil time in a zone (ours).
-use Rattle.std.specs.Prelude.{ℕ, ◌+◌, ◌*◌, ℤ, pos, ◌+ℤ◌, ◌≤ℤ◌, ◌<ℤ◌, List, is_some, if◌then◌else◌, Option, Some, None}
+use Rattle.std.specs.Prelude.{◌≡◌, ℕ, ◌+◌, ◌*◌, ℤ, pos, ◌+ℤ◌, ◌≤ℤ◌, ◌<ℤ◌, List, is_some, if◌then◌else◌, Option, Some, None}
 use Rattle.jiff_core.specs.Timestamp.{nanos_of_seconds}
 use Rattle.jiff_tz.specs.PosixReader.{read_whole}
-use Rattle.jiff_tz.specs.Zone.{offset_at}
-use Rattle.jiff_tz.specs.declared.timezone.TimeZone.{TimeZone}
-use Rattle.jiff.specs.Placed.{IsPosixZone}
+use Rattle.jiff_tz.specs.PosixRule.{offset_at}
+use Rattle.jiff_tz.specs.PosixText.{tz_view}
+use Rattle.jiff_tz.specs.declared.posix.TimeZone.{TimeZone}
 use Rattle.club_values.specs.Moment.{IsMoment}
 use Rattle.club_values.specs.Reading.{Reads}
 
 -- the rule of a zone, as POSIX writes it (IEEE Std 1003.1, 8.3)
 unfoldable pub zone_of : List ℕ → Option (List ℕ)
 zone_of text = if is_some (read_whole text) then Some text else None
+
+-- the zone is what the rule reads as
+abbrev pub IsZoneOf : List ℕ → TimeZone → Type 0
+IsZoneOf rule zone = read_whole rule ≡ Some (tz_view zone)
 
 -- nanoseconds since 1970-01-01T00:00 on a clock lie in the minute of this number
 abbrev pub IsInMinute : ℤ → ℕ → Type 0
@@ -20,5 +24,5 @@ IsInMinute nanos minute =
 -- what a clock in the zone of a rule shows at an instant: its minute, where that is a moment of the club
 pub record IsShown (rule : List ℕ) (instant : ℤ) (moment : Option ℕ) : Type 0 where
   pub zone : TimeZone
-  pub of_rule : IsPosixZone rule zone
-  pub minute : Reads (λ n. IsMoment n × IsInMinute (instant +ℤ nanos_of_seconds (offset_at zone instant)) n) moment
+  pub of_rule : IsZoneOf rule zone
+  pub minute : Reads (λ n. IsMoment n × IsInMinute (instant +ℤ nanos_of_seconds (offset_at zone instant).seconds) n) moment

@@ -2,8 +2,8 @@
 
 use crate::zone::Zone;
 use club_values::Moment;
-use jiff::Timestamp;
-use std::time::Clock;
+use jiff_core::Timestamp;
+use std::time::{Clock, SystemTime};
 
 /// What tells the moment of a connection.
 pub trait Moments {
@@ -51,6 +51,15 @@ impl<'z, 'c, C: Clock> ClockIn<'z, 'c, C> {
     }
 }
 
+// The instant that a clock shows; `None` where it can't be read.
+fn instant_of(clock: &impl Clock) -> Option<Timestamp> {
+    let since = SystemTime::now(clock)
+        .ok()?
+        .duration_since(SystemTime::UNIX_EPOCH)
+        .ok()?;
+    Timestamp::from_nanosecond(i128::try_from(since.as_nanos()).ok()?).ok()
+}
+
 impl<'z, 'c, C: Clock> Moments for ClockIn<'z, 'c, C> {
     ghost use Rattle.std.specs.Prelude.{◌≡◌, ◌⊎◌, ℤ, None};
     ghost use Rattle.desk_server.specs.Zone.{IsShown};
@@ -60,7 +69,7 @@ impl<'z, 'c, C: Clock> Moments for ClockIn<'z, 'c, C> {
         ((instant : ℤ) × IsShown old.zone instant told) ⊎ (told ≡ None) };
 
     fn now(&mut self) -> Option<Moment> {
-        let instant = Timestamp::now(self.clock).ok()?;
+        let instant = instant_of(self.clock)?;
         self.zone.moment_at(instant)
     }
 }

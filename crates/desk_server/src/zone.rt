@@ -4,8 +4,8 @@ ghost use Rattle.std.specs.Prelude.{◌≡◌};
 ghost use Rattle.desk_server.specs.Zone.{IsShown, zone_of};
 
 use club_values::{Day, Moment};
-use jiff::Timestamp;
-use jiff::tz::TimeZone;
+use jiff_core::Timestamp;
+use jiff_tz::posix::TimeZone;
 use std::marker::Model;
 
 /// The minutes of an hour.
@@ -16,19 +16,18 @@ const MINUTES_AN_HOUR: u16 = 60;
 #[derive(Drop)]
 pub struct Zone<'a> {
     rule: &'a str,
-    time_zone: TimeZone<'static>,
+    time_zone: TimeZone,
 }
 
 impl<'a> Model for Zone<'a> {
     ghost use Rattle.std.specs.Prelude.{ℕ, List};
-    ghost use Rattle.jiff.specs.Placed.{IsPosixZone};
-    ghost use Rattle.jiff.specs.ZoneView.{plain_zone};
+    ghost use Rattle.desk_server.specs.Zone.{IsZoneOf};
 
     ghost Value = { List ℕ };
 
     ghost view = { λ zone. zone.rule.now };
 
-    ghost invariant = { λ zone. IsPosixZone zone.rule.now (plain_zone zone.time_zone) };
+    ghost invariant = { λ zone. IsZoneOf zone.rule.now zone.time_zone };
 }
 
 impl<'a> Zone<'a> {
@@ -36,7 +35,7 @@ impl<'a> Zone<'a> {
     pub fn from_rule(rule: &'a str) -> Option<Zone<'a>>
         ensures { result ≡ zone_of rule.entry.now }
     {
-        match TimeZone::posix(rule) {
+        match TimeZone::parse(rule.as_bytes()) {
             Ok(time_zone) => Some(Zone { rule, time_zone }),
             Err(_) => None,
         }
@@ -47,9 +46,9 @@ impl<'a> Zone<'a> {
     pub fn moment_at(&self, instant: Timestamp) -> Option<Moment>
         ensures { IsShown self.now instant.nanosecond result }
     {
-        let civil = self.time_zone.to_datetime(instant);
-        let day = Day::from_date(civil.date())?;
-        let minute = civil.hour() as u16 * MINUTES_AN_HOUR + civil.minute() as u16;
+        let civil = self.time_zone.to_offset(instant).to_datetime(instant);
+        let day = Day::from_date(civil.date)?;
+        let minute = u16::from(civil.time.hour) * MINUTES_AN_HOUR + u16::from(civil.time.minute);
         Moment::new(day, minute)
     }
 }

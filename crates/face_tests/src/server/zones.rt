@@ -6,9 +6,11 @@ use crate::expect::{expect_eq, expect_shown};
 use crate::rows::{NOON, moment};
 use club_values::Moment;
 use desk_server::{ClockIn, Moments, Zone};
-use jiff::Timestamp;
+use jiff_core::Timestamp;
 use std::alloc::Global;
 use std::process::Abort;
+
+const NANOSECONDS_A_SECOND: i128 = 1_000_000_000;
 
 const BERLIN: &str = "CET-1CEST,M3.5.0,M10.5.0/3";
 
@@ -29,7 +31,8 @@ static SHOWN: [(&str, i64, &str); 11] = [
 
 fn moment_at(rt: &impl Abort, rule: &str, second: i64) -> Option<Moment> {
     let zone = Zone::from_rule(rule).expect(rt, "a zone");
-    let instant = Timestamp::from_second(second).expect(rt, "an instant");
+    let nanosecond = i128::from(second) * NANOSECONDS_A_SECOND;
+    let instant = Timestamp::from_nanosecond(nanosecond).expect(rt, "an instant");
     zone.moment_at(instant)
 }
 
