@@ -16,7 +16,7 @@ use Rattle.club_core.specs.declared.store.StoreFault.{StoreFault}
 use Rattle.club_core.specs.declared.store.StoreFault.TheVariants.{Memory, Storage}
 use Rattle.club_transactions.specs.declared.transaction.Statement.{Statement}
 
--- want of memory is Memory, and each other error Storage
+-- out of memory is Memory, and each other error Storage
 abbrev pub fault_by : Error → StoreFault
 fault_by (SqliteFailure OutOfMemory) = Memory
 fault_by _ = Storage

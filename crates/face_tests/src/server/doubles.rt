@@ -113,7 +113,7 @@ impl Moments for Countdown {
     }
 }
 
-/// Refuses all requests for want of memory, and counts those at its moment.
+/// Answers all requests as out of memory, and counts those at its moment.
 #[derive(Drop)]
 pub struct Noting {
     moment: Moment,
