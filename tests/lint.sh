@@ -1,7 +1,7 @@
 #!/bin/sh
 # Slips that a machine sees and the gate lets pass. Prints each, with its place; the status is 1 where there is one.
 # - one name that two specs modules of one crate define;
-# - lines that are too long: code and clauses past 100 columns, comments, imports, specs and proofs past 160;
+# - lines that are too long: code, comments and clauses past 100 columns, imports, specs and proofs past 160;
 # - a number in a public docstring that says no unit (a guess: it wants a word behind the number, or a unit's word in the text);
 # - files that nothing uses: modules of specs and proofs that no file imports, files of code that no `mod` names, scripts that no
 #   page names, and edits of must-fail/ and more-edits/ whose old text doesn't stand once in its file.
@@ -30,11 +30,11 @@ twice_defined() {
         END { for (name in count) if (count[name] > 1) print "defined twice: " name " in" files[name] }'
 }
 
-# A line of code is at most 100 columns long, a comment, an import or a line of specs/ or proofs/ 160. A line for each file. What
+# A line of code and a comment are at most 100 columns long, an import or a line of specs/ or proofs/ 160. A line for each file. What
 # begins with a literal, or with a field that is one, may be longer, so that a known pass can be searched for whole; an attribute
 # can't be broken.
 too_long() {
-    find "crates/$1/src" -name '*.rt' -exec grep -HnE '^.{101,}' {} + | grep -vE '^[^:]*:[0-9]+: *(//|ghost use|([a-z_]+: )?b?"|#\[)' | by_file 100
+    find "crates/$1/src" -name '*.rt' -exec grep -HnE '^.{101,}' {} + | grep -vE '^[^:]*:[0-9]+: *(ghost use|([a-z_]+: )?b?"|#\[)' | by_file 100
     find "crates/$1" -path '*/out/*' -prune -o \( -name '*.rt' -o -name '*.antt' \) -exec grep -HnE '^.{161,}' {} + |
         grep -vE '^[^:]*:[0-9]+: *([a-z_]+: )?b?"' | by_file 160
 }

@@ -182,8 +182,8 @@ impl<S: ClubStore> Desk<S> {
         }
     }
 
-    /// The answer to a request at a moment, and the change that goes with it. A text that is no pass
-    /// is answered before the store is asked.
+    /// The answer to a request at a moment, and the change that goes with it. A text that is no
+    /// pass is answered before the store is asked.
     pub(crate) fn verdict(
         &mut self,
         words: &SentWords,

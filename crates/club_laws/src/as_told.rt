@@ -1,4 +1,5 @@
-//! The laws over runs in which some events failed, in what is told. `O` is what a desk tells the office.
+//! The laws over runs in which some events failed, in what is told. `O` is what a desk tells the
+//! office.
 
 ghost use Rattle.club_laws.specs.AsTold.{
   ConservesPointsAsTold,
@@ -30,7 +31,8 @@ pub fn tells_repeats_the_same<O>()
     ensures { TellsRepeatsTheSame O }
 {}
 
-/// What was told as served is told again in the club that is left, and in each that one event more would leave.
+/// What was told as served is told again in the club that is left, and in each that one event more
+/// would leave.
 pub fn tells_again_after_one_more<O>()
     ensures { TellsAgainAfterOneMore O }
 {}
@@ -40,7 +42,8 @@ pub fn solo_law<O>()
     ensures { SoloLawAsTold O }
 {}
 
-/// Two clubs with one part of a member, and two lists with the same events of the member's own, tell it the same.
+/// Two clubs with one part of a member, and two lists with the same events of the member's own,
+/// tell it the same.
 pub fn solo_law_of_two<O>()
     ensures { SoloLawOfTwoAsTold O }
 {}

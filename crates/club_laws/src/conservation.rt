@@ -8,7 +8,8 @@ pub fn counts_each_once()
     ensures { CountsEachOnce }
 {}
 
-/// What a member has and what it was charged make what it was credited and what came back, and no balance is below 0.
+/// What a member has and what it was charged make what it was credited and what came back, and no
+/// balance is below 0.
 pub fn conserves_points()
     ensures { ConservesPoints }
 {}

@@ -48,7 +48,8 @@ pub fn serves_no_revoked_key()
     tests_the_signature();
 }
 
-/// Of two passes of one key, what is served under the one with more caveats is served alike under the other.
+/// Of two passes of one key, what is served under the one with more caveats is served alike under
+/// the other.
 pub fn more_caveats_never_open_more()
     ensures { MoreCaveatsNeverOpenMore }
 {

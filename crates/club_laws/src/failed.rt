@@ -1,4 +1,5 @@
-//! Runs in which some events failed, because memory or storage was refused. `O` is what a desk tells the office.
+//! Runs in which some events failed, because memory or storage was refused. `O` is what a desk
+//! tells the office.
 
 ghost use Rattle.club_laws.specs.Failed.{CutsRuns, JoinsRuns, LeavesEvents, LeavesOutFailed, NeverUnavailable, RunsWithoutFailures};
 ghost use Rattle.club_laws.specs.FailedExample.{LeavesOutFailedEvents};
@@ -13,7 +14,8 @@ pub fn leaves_events<O>()
     ensures { LeavesEvents O }
 {}
 
-/// A run is cut at a place into two, of which the second begins with the club that the first leaves.
+/// A run is cut at a place into two, of which the second begins with the club that the first
+/// leaves.
 pub fn cuts_runs<O>()
     ensures { CutsRuns O }
 {}
@@ -23,7 +25,8 @@ pub fn joins_runs<O>()
     ensures { JoinsRuns O }
 {}
 
-/// Where no answer to the office is told as a fault, the machine's own run is a run without failures.
+/// Where no answer to the office is told as a fault, the machine's own run is a run without
+/// failures.
 pub fn runs_without_failures<O>()
     ensures { RunsWithoutFailures O }
 {}
@@ -33,7 +36,8 @@ pub fn never_unavailable()
     ensures { NeverUnavailable }
 {}
 
-/// A credit and a booking that failed do nothing: the replies to the others are those to the list without them.
+/// A credit and a booking that failed do nothing: the replies to the others are those to the list
+/// without them.
 pub fn leaves_out_failed_events()
     ensures { LeavesOutFailedEvents }
 {}

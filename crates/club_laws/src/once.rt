@@ -13,8 +13,8 @@ pub fn repeats_may_be_left_out()
     ensures { RepeatsMayBeLeftOut }
 {}
 
-/// A booking that was cancelled is asked for again when its slot has begun, under a pass that may spend nothing: an accepted
-/// repeat.
+/// A booking that was cancelled is asked for again when its slot has begun, under a pass that may
+/// spend nothing: an accepted repeat.
 pub fn accepts_a_repeat()
     ensures { AcceptsARepeat }
 {}

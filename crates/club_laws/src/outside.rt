@@ -2,7 +2,8 @@
 
 ghost use Rattle.club_laws.specs.Outside.{TellsNothingOfOthers, TellsTheSlotAlone};
 
-/// Of a request it is told the persons whom others have in its slot, and whether that is closed, and nothing else.
+/// Of a request it is told the persons whom others have in its slot, and whether that is closed,
+/// and nothing else.
 pub fn tells_the_slot_alone()
     ensures { TellsTheSlotAlone }
 {}

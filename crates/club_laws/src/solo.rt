@@ -8,7 +8,8 @@ pub fn solo_law()
     ensures { SoloLaw }
 {}
 
-/// Two clubs with one part of a member, and two lists with the same events of the member's own, give it the same replies.
+/// Two clubs with one part of a member, and two lists with the same events of the member's own,
+/// give it the same replies.
 pub fn solo_law_of_two()
     ensures { SoloLawOfTwo }
 {}
@@ -23,7 +24,8 @@ pub fn answers_amy_alone()
     ensures { AnswersAmyAlone }
 {}
 
-/// The member is told the same while another books elsewhere, cancels, is credited, gets a key and has one revoked.
+/// The member is told the same while another books elsewhere, cancels, is credited, gets a key and
+/// has one revoked.
 pub fn answers_amy_among_others()
     ensures { AnswersAmyAmongOthers }
 {}

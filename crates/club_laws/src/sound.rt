@@ -7,7 +7,8 @@ pub fn empty_is_sound()
     ensures { EmptyIsSound }
 {}
 
-/// A step from a sound club ends in a sound club, by whatever event: its values are within the limits of their types.
+/// A step from a sound club ends in a sound club, by whatever event: its values are within the
+/// limits of their types.
 pub fn steps_keep_sound()
     ensures { StepsKeepSound }
 {}

@@ -1,4 +1,5 @@
-//! The replies of the desk as bytes: an HTTP/1.1 response with a JSON object as its body. Nothing here takes memory.
+//! The replies of the desk as bytes: an HTTP/1.1 response with a JSON object as its body. Nothing
+//! here takes memory.
 #![tactic(auto)]
 
 mod body;

@@ -8,11 +8,12 @@ use club_core::Reply;
 /// The most bytes of a reply.
 pub const MAX_REPLY_LEN: usize = 512;
 
-/// Writes the text of a reply to the front of the room, and answers how many bytes it has. The rest of the room stays as it
-/// was. Every reply has room.
+/// Writes the text of a reply to the front of the room, and answers how many bytes it has. The rest
+/// of the room stays as it was. Every reply has room.
 ///
-/// The text is an HTTP/1.1 response (RFC 9112) with the content type, the content length, on 401 the challenge `Bearer`
-/// (RFC 6750), on 405 the methods of the path, and `Connection: close`; its body is a JSON object.
+/// The text is an HTTP/1.1 response (RFC 9112) with the content type, the content length, on 401
+/// the challenge `Bearer` (RFC 6750), on 405 the methods of the path, and `Connection: close`; its
+/// body is a JSON object.
 #[tactic(auto, unfolding(crate::specs::Text::text_of, crate::specs::Text::head_text))]
 pub fn reply_bytes(reply: &Reply, room: &mut [u8; MAX_REPLY_LEN]) -> usize
     ensures len { result ≡ length (text_of reply.now) }

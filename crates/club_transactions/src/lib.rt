@@ -1,5 +1,5 @@
-//! Statements over a connection of sqlite, in a transaction of their own: either all that they do is
-//! committed, or nothing. Between calls the connection is in no transaction.
+//! Statements over a connection of sqlite, in a transaction of their own: either all that they do
+//! is committed, or nothing. Between calls the connection is in no transaction.
 #![tactic(auto)]
 
 mod transaction;

@@ -27,7 +27,8 @@ pub fn credit_takes_its_parts()
     ensures { CreditTakesItsParts }
 {}
 
-/// `add-facility FILE NAME KIND PLACES PRICE OPENS SHUTS` asks for the facility of these, in this order.
+/// `add-facility FILE NAME KIND PLACES PRICE OPENS SHUTS` asks for the facility of these, in this
+/// order.
 pub fn add_facility_takes_its_parts()
     ensures { AddFacilityTakesItsParts }
 {}
@@ -47,7 +48,8 @@ pub fn revoke_key_takes_its_key()
     ensures { RevokeKeyTakesItsKey }
 {}
 
-/// `rotate-key FILE KEY ROOT MOMENT` with a form asks for that root of the key, its older one good until the moment.
+/// `rotate-key FILE KEY ROOT MOMENT` with a form asks for that root of the key, its older one good
+/// until the moment.
 pub fn rotate_key_takes_its_parts()
     ensures { RotateKeyTakesItsParts }
 {}
@@ -67,7 +69,8 @@ pub fn sheet_takes_its_day()
     ensures { SheetTakesItsDay }
 {}
 
-/// `serve` with a port, a count and a zone asks for the server of these, whose clock stands in the zone.
+/// `serve` with a port, a count and a zone asks for the server of these, whose clock stands in the
+/// zone.
 pub fn serve_takes_its_parts()
     ensures { ServeTakesItsParts }
 {}

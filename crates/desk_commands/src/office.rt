@@ -23,8 +23,8 @@ const DONE: &str = "done\n";
 ///
 /// # Errors
 ///
-/// `Refused`, `Memory` and `Storage` where the desk tells so: then the club is as it was, and nothing
-/// was written. `InputOutput` where the writer failed: then the order stands.
+/// `Refused`, `Memory` and `Storage` where the desk tells so: then the club is as it was, and
+/// nothing was written. `InputOutput` where the writer failed: then the order stands.
 pub fn give_order<S: ClubStore, W: Write>(
     desk: &mut Desk<S>,
     order: &Command,
@@ -69,8 +69,8 @@ pub fn order_pass<S: ClubStore, W: Write>(
 ///
 /// # Errors
 ///
-/// `Memory` and `Storage` where the desk tells so, and then nothing was written; `InputOutput` where
-/// the writer failed. The club is as it was.
+/// `Memory` and `Storage` where the desk tells so, and then nothing was written; `InputOutput`
+/// where the writer failed. The club is as it was.
 pub fn show_sheet<S: ClubStore, W: Write>(
     desk: &mut Desk<S>,
     day: Day,
@@ -87,8 +87,8 @@ pub fn show_sheet<S: ClubStore, W: Write>(
     }
 }
 
-// The line of a key's pass under a root; `None` where memory was refused. A pass so short has a text
-// in every form.
+// The line of a key's pass under a root; `None` where memory was refused. A pass so short has a
+// text in every form.
 fn pass_line(alloc: Global, name: &Name, root: &Root, form: Form) -> Option<String>
     ensures { IfSome result (λ line. spec.IsPassLine
         (spec.pass_text name.now root.now form) (string_bytes line)) }

@@ -40,8 +40,8 @@ pub trait Databases {
 /// Runs the program on its words, of which the first is its name.
 ///
 /// The words are judged before a database is opened; it is opened once, and closed at the end.
-/// Nothing is read. Help and the version are written as `clap` makes them. Only `serve` with `--log`
-/// writes to `errors`.
+/// Nothing is read. Help and the version are written as `clap` makes them. Only `serve` with
+/// `--log` writes to `errors`.
 ///
 /// # Errors
 ///

@@ -25,9 +25,9 @@ use std::net::{SocketAddr, TcpListener};
 ///
 /// # Errors
 ///
-/// `InputOutput` where nothing can be listened for, or the writer failed; `Memory`: nothing was served.
-/// `ClockOutOfRange` where the clock tells no moment of the club's at a connection, which ends the
-/// server.
+/// `InputOutput` where nothing can be listened for, or the writer failed; `Memory`: nothing was
+/// served. `ClockOutOfRange` where the clock tells no moment of the club's at a connection, which
+/// ends the server.
 pub fn serve<S: ClubStore, W: Write, E: Write>(
     rt: &HostRuntime,
     desk: &mut Desk<S>,

@@ -19,7 +19,8 @@ pub enum Task<'a> {
         root: Root,
         form: Form,
     },
-    /// A new root for a key, whose new pass is printed in the form. The older root is good until the moment.
+    /// A new root for a key, whose new pass is printed in the form. The older root is good until
+    /// the moment.
     RotateKey {
         name: Name,
         root: Root,

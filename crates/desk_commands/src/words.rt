@@ -30,8 +30,8 @@ pub enum Asked<'a> {
 ///
 /// # Errors
 ///
-/// `Words` where `clap` refuses them, or a form is none of the three; `BadValue` where a word spells
-/// no value of its place; `Memory` only where memory was refused.
+/// `Words` where `clap` refuses them, or a form is none of the three; `BadValue` where a word
+/// spells no value of its place; `Memory` only where memory was refused.
 pub fn command_of<'a, S: AsStr>(alloc: Global, words: &'a [S]) -> Result<Asked<'a>, Fault>
     ensures { ReadsWords (map S.text words.entry.now) result }
 {

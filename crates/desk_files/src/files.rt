@@ -45,8 +45,8 @@ impl<'a> Databases for Files<'a> {
         Store::open_file(self.rt, name, Unknown)
     }
 
-    // What was committed stands in the log beside the file until it is copied into the file, which is
-    // done here. Where that fails the log keeps it for the next opening.
+    // What was committed stands in the log beside the file until it is copied into the file, which
+    // is done here. Where that fails the log keeps it for the next opening.
     fn close(&mut self, store: Store<FileStore<FileFrom<Unknown>>>) {
         self.closed = self.closed.saturating_add(1);
         let _ = store.into_connection().close();

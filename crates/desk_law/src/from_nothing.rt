@@ -1,4 +1,5 @@
-//! A desk over a database in memory, from nothing. No clause has a premise on the desk or its tables.
+//! A desk over a database in memory, from nothing. No clause has a premise on the desk or its
+//! tables.
 
 ghost use Rattle.std.specs.Prelude.{◌≡◌, IfOk};
 ghost use Rattle.club_core.specs.Acceptance.{IsServed};
@@ -79,7 +80,8 @@ pub fn reply_from_nothing(
     // The request is put to the club that the answered events leave.
     ensures answered { IfOk result (λ told. IsAnswered empty_club
         (events_of events.now) (told_all told.replies.items)) }
-    // It is served only where the pass is signed under a root of its key, and each caveat allows it.
+    // It is served only where the pass is signed under a root of its key, and each caveat allows
+    // it.
     ensures served { IfOk result (λ told. IsServed told.reply
         → EntitlesTo (club_left empty_club (events_of events.now) (told_all told.replies.items))
         words.now.pass.now words.now.request moment) }

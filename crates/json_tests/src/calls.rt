@@ -1,4 +1,5 @@
-//! The tested calls without their contracts, which the tests don't need: a test over them is proved in a fraction of the time.
+//! The tested calls without their contracts, which the tests don't need: a test over them is proved
+//! in a fraction of the time.
 
 use pass_forms::{Field, FieldSource, Form, FormFault, Pass};
 use pass_json::JsonFields;

@@ -31,7 +31,8 @@ impl Outcome {
     }
 }
 
-/// What a command answers: how it ended, and the text that it writes. Contracts see the pair of both.
+/// What a command answers: how it ended, and the text that it writes. Contracts see the pair of
+/// both.
 #[derive(Drop)]
 pub struct Answer {
     outcome: Outcome,

@@ -24,12 +24,14 @@ pub fn words_name_a_command()
     ensures { WordsNameACommand }
 {}
 
-/// `mint` with all its options and any number of caveats asks for the pass of these, the caveats in their order.
+/// `mint` with all its options and any number of caveats asks for the pass of these, the caveats in
+/// their order.
 pub fn mint_takes_its_parts()
     ensures { MintTakesItsParts }
 {}
 
-/// `mint` with a root and an identifier alone asks for a pass in V2, with an empty location and no caveats.
+/// `mint` with a root and an identifier alone asks for a pass in V2, with an empty location and no
+/// caveats.
 pub fn mint_takes_defaults()
     ensures { MintTakesDefaults }
 {}

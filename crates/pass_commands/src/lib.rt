@@ -1,4 +1,5 @@
-//! The commands of `passtool`: passes made, shown, narrowed, converted and verified, over words, a reader and a writer.
+//! The commands of `passtool`: passes made, shown, narrowed, converted and verified, over words, a
+//! reader and a writer.
 #![tactic(auto)]
 
 mod answer;

@@ -22,7 +22,8 @@ pub fn written(alloc: Global, form: Form, pass: &Pass) -> Result<Answer, FormFau
     Ok(Answer::new(Outcome::Done, text))
 }
 
-/// Writes a text, and then what the writer holds back. A write that a signal interrupts is tried again.
+/// Writes a text, and then what the writer holds back. A write that a signal interrupts is tried
+/// again.
 ///
 /// # Errors
 ///

@@ -13,15 +13,16 @@ use std::io::{Read, Write};
 
 /// Runs the program on its words, of which the first is its name.
 ///
-/// The words are judged before the input is read: by `clap`, then a form, a root and caveats. The input is read to its end,
-/// but at most 8,194 bytes of it; `mint` reads none. Then the whole answer is made, and written. Help and the version are
-/// written as `clap` makes them.
+/// The words are judged before the input is read: by `clap`, then a form, a root and caveats. The
+/// input is read to its end, but at most 8,194 bytes of it; `mint` reads none. Then the whole
+/// answer is made, and written. Help and the version are written as `clap` makes them.
 ///
 /// # Errors
 ///
-/// Of the words: `Words` where `clap` refuses them or a form is none, `BadRoot`, and `CaveatNotUnderstood` with the number of
-/// the caveat among those given. Of the pass: `TooLong`, `Malformed`, `ThirdParty` and `TooMany`. `Memory` comes only where
-/// memory was refused. After these nothing was written. `InputOutput` where the reader or the writer failed: then nothing was
+/// Of the words: `Words` where `clap` refuses them or a form is none, `BadRoot`, and
+/// `CaveatNotUnderstood` with the number of the caveat among those given. Of the pass: `TooLong`,
+/// `Malformed`, `ThirdParty` and `TooMany`. `Memory` comes only where memory was refused. After
+/// these nothing was written. `InputOutput` where the reader or the writer failed: then nothing was
 /// written, or a beginning of the answer to the whole input, or of help or the version.
 pub fn run<S: AsStr, R: Read, W: Write>(
     alloc: Global,
@@ -31,8 +32,8 @@ pub fn run<S: AsStr, R: Read, W: Write>(
 ) -> Result<Outcome, Fault>
     // The fault of the words, or what they ask for.
     ensures words { AnswersWords (map S.text words.now) result }
-    // Where they ask for a command: it read its input, and wrote its answer to that; where the reader or the writer failed,
-    // nothing or a beginning of the answer.
+    // Where they ask for a command: it read its input, and wrote its answer to that; where the
+    // reader or the writer failed, nothing or a beginning of the answer.
     ensures command { (command : CommandOf) → asked (map S.text words.now) ≡ Some command
         → Performs command (R.remaining reader.old) (R.remaining reader.new)
         (W.contents writer.old) (W.contents writer.new) result }

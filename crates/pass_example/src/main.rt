@@ -1,5 +1,6 @@
-//! Passes in code, from their making to their test: a pass is minted for a key, narrowed by its holder, read and verified as a
-//! desk does, and its caveats are tested against what is asked. A program of your own begins like this.
+//! Passes in code, from their making to their test: a pass is minted for a key, narrowed by its
+//! holder, read and verified as a desk does, and its caveats are tested against what is asked. A
+//! program of your own begins like this.
 #![tactic(auto)]
 
 use anyhow::{Result, anyhow};
@@ -70,7 +71,8 @@ fn mint(alloc: Global) -> Result<String, FormFault> {
     write_any(alloc, Form::V2, &pass)
 }
 
-// Whoever holds a pass: it is narrowed without the root, and stays signed. The text may be in any form.
+// Whoever holds a pass: it is narrowed without the root, and stays signed. The text may be in any
+// form.
 fn narrowed_by(alloc: Global, text: &str, caveats: &[&str]) -> Result<String, FormFault> {
     let (form, mut pass) = read_any(alloc, text.as_bytes())?;
     for caveat in caveats {
@@ -109,8 +111,8 @@ fn answer_of(line: &str, ask: &Ask) -> &'static str {
     }
 }
 
-// A request, as caveats see it: to book a facility on 2026-05-01 at 18 for two guests, asked at noon of 2026-04-20, for 600
-// points. Each reader answers `None` for a text that isn't its own.
+// A request, as caveats see it: to book a facility on 2026-05-01 at 18 for two guests, asked at
+// noon of 2026-04-20, for 600 points. Each reader answers `None` for a text that isn't its own.
 fn booking(facility: &[u8], kind: Kind) -> Option<Ask> {
     let slot = Slot {
         facility: Name::read(facility)?,

@@ -1,5 +1,5 @@
-//! A walk through the commands of `passtool`: each command line, with what it prints. A pass that is printed goes into a
-//! file, and the next commands read it from there.
+//! A walk through the commands of `passtool`: each command line, with what it prints. A pass that
+//! is printed goes into a file, and the next commands read it from there.
 #![tactic(auto)]
 
 use pass_commands::run;

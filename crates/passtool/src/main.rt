@@ -1,4 +1,5 @@
-//! Passes on the command line: `pass_commands` on the process's words, standard input and standard output.
+//! Passes on the command line: `pass_commands` on the process's words, standard input and standard
+//! output.
 #![tactic(auto)]
 
 ghost use Rattle.std.specs.Prelude.{IfErr};

@@ -121,7 +121,8 @@ fn digit(value: u32) -> u8 {
     b'0' + (value % 10) as u8
 }
 
-/// The booking of this index, counted from 0. The keys take turns, and each counts its own bookings.
+/// The booking of this index, counted from 0. The keys take turns, and each counts its own
+/// bookings.
 pub(crate) fn booking(index: u32) -> Option<Booking> {
     Some(Booking {
         key: name(b'k', index % KEYS)?,
