@@ -1,20 +1,18 @@
 //! The words and options of a command, out of what `clap` found.
 
 ghost use Rattle.std.specs.Prelude.{◌≡◌, IfOk, option_map};
-ghost use Rattle.clap.specs.Words.{first_of, found_of, kind_of, rows_of};
-ghost use Rattle.clap.specs.declared.error.kind.ErrorKind.TheVariants as kind;
+ghost use Rattle.clap.specs.Words.{first_of, found_of, rows_of};
 ghost use Rattle.desk_commands.specs.Fault.{IsBadForm};
 ghost use Rattle.desk_commands.specs.Words.{AnswersForm, form_in, is_set, name_in, number_in};
 
-use crate::application::refusal;
+use crate::application::make_application;
 use crate::fault::Fault;
 use crate::values::number_of;
 use clap::ArgMatches;
-use clap::error::ErrorKind;
 use club_values::Name;
-use pass_commands::{form_named, value_of};
+use pass_commands::{form_error, form_named, value_of};
 use pass_forms::Form;
-use std::alloc::{AllocError, Global};
+use std::alloc::Global;
 
 /// The name that a word is.
 pub fn name_of(words: &ArgMatches<'_>, id: &str) -> Option<Name>
@@ -64,17 +62,8 @@ pub fn form_of(alloc: Global, words: &ArgMatches<'_>) -> Result<Form, Fault>
 fn bad_form(alloc: Global, name: &str) -> Fault
     ensures { IsBadForm result }
 {
-    match form_refusal(alloc, name) {
+    match form_error(alloc, make_application(alloc), name) {
         Ok(error) => Fault::Words(error),
         Err(_) => Fault::Memory,
     }
-}
-
-fn form_refusal(alloc: Global, name: &str) -> Result<clap::Error, AllocError>
-    ensures { IfOk result (λ error. kind_of error ≡ kind.InvalidValue) }
-{
-    let message = format!(in alloc;
-        "invalid value '{name}' for '--form <FORM>'\n  [possible values: v1, v2, json]"
-    )?;
-    refusal(alloc, ErrorKind::InvalidValue, message.as_str())
 }

@@ -1,5 +1,5 @@
 -- What each command answers (ours).
-use Rattle.std.specs.Prelude.{◌≡◌, ℕ, ◌+◌, Bool, true, false, nat_lt, if◌then◌else◌, List, [], ◌++◌, length, codes, Result, Ok, Err}
+use Rattle.std.specs.Prelude.{◌≡◌, ℕ, ◌+◌, Bool, true, false, nat_lt, if◌then◌else◌, List, ◌++◌, length, codes, Result, Ok, Err}
 use Rattle.std.specs.Io.BufRead.{strip_last}
 use Rattle.pass_mac.specs.Chain.{extended}
 use Rattle.pass_forms.specs.declared.fault.FormFault.{FormFault}

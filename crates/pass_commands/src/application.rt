@@ -1,12 +1,12 @@
 //! The commands and their options, with what help shows of them.
 
 ghost use Rattle.std.specs.Prelude.{◌≡◌, IfOk, IsOkAnd, false};
-ghost use Rattle.clap.specs.Words.{AddsSubcommand, app_of, kind_of, rule_of};
+ghost use Rattle.clap.specs.Words.{AddsSubcommand, app_of, rule_of};
 ghost use Rattle.pass_commands.specs.Application as spec;
 ghost use Rattle.pass_commands.specs.Fault.{IsOfWords};
 
 use crate::answer::Fault;
-use clap::error::ErrorKind;
+use crate::errors::text_error;
 use clap::{Arg, ArgAction, Command};
 use std::alloc::{AllocError, Global};
 
@@ -57,19 +57,11 @@ pub fn make_application<'a>(alloc: Global) -> Result<Command<'a>, AllocError>
     with_command(app, make_verify(alloc))
 }
 
-/// A fault of the words that `clap` didn't find, with the usage.
-pub fn refusal(alloc: Global, kind: ErrorKind, message: &str) -> Result<clap::Error, AllocError>
-    ensures { IfOk result (λ error. kind_of error ≡ kind) }
-{
-    make_application(alloc)?.error(kind, message)
-}
-
 /// The fault of words that aren't UTF-8, which `clap` never sees here.
 pub fn not_text(alloc: Global) -> Fault
     ensures { IsOfWords result }
 {
-    let message = "invalid UTF-8 was detected in one or more arguments";
-    match refusal(alloc, ErrorKind::ValueValidation, message) {
+    match text_error(make_application(alloc)) {
         Ok(error) => Fault::Words(error),
         Err(_) => Fault::Memory,
     }

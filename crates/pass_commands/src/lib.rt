@@ -7,6 +7,7 @@ mod application;
 mod caveats;
 mod command;
 mod convert;
+mod errors;
 mod form_names;
 mod input;
 pub mod laws;
@@ -21,6 +22,7 @@ mod verify;
 
 pub use answer::{Fault, Outcome};
 pub use application::{VERSION, not_text, with_command};
+pub use errors::{form_error, text_error};
 pub use form_names::{form_name, form_named};
 pub use options::value_of;
 pub use output::write_text;

@@ -1,18 +1,17 @@
 //! The options of a command, out of what `clap` found.
 
 ghost use Rattle.std.specs.Prelude.{◌≡◌, IfOk};
-ghost use Rattle.clap.specs.Words.{found_of, kind_of, rows_of};
-ghost use Rattle.clap.specs.declared.error.kind.ErrorKind.TheVariants as kind;
+ghost use Rattle.clap.specs.Words.{found_of, rows_of};
 ghost use Rattle.pass_commands.specs.Fault.{IsBadForm};
 ghost use Rattle.pass_commands.specs.Words.{AnswersAsked, caveats_in, form_in, root_in, value_in};
 
 use crate::answer::Fault;
-use crate::application::refusal;
+use crate::application::make_application;
 use crate::caveats::Caveats;
+use crate::errors::form_error;
 use crate::form_names::form_named;
 use crate::root::Root;
 use clap::ArgMatches;
-use clap::error::ErrorKind;
 use pass_forms::Form;
 use std::alloc::{AllocError, Global};
 
@@ -48,19 +47,10 @@ pub fn form_of(alloc: Global, options: &ArgMatches<'_>) -> Result<Form, Fault>
 fn bad_form(alloc: Global, name: &str) -> Fault
     ensures { IsBadForm result }
 {
-    match form_refusal(alloc, name) {
+    match form_error(alloc, make_application(alloc), name) {
         Ok(error) => Fault::Words(error),
         Err(_) => Fault::Memory,
     }
-}
-
-fn form_refusal(alloc: Global, name: &str) -> Result<clap::Error, AllocError>
-    ensures { IfOk result (λ error. kind_of error ≡ kind.InvalidValue) }
-{
-    let message = format!(in alloc;
-        "invalid value '{name}' for '--form <FORM>'\n  [possible values: v1, v2, json]"
-    )?;
-    refusal(alloc, ErrorKind::InvalidValue, message.as_str())
 }
 
 /// The caveats among the words.

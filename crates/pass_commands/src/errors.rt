@@ -1,0 +1,40 @@
+//! The errors of words that `clap` doesn't find itself, with the usage of the application that they
+//! are for.
+
+ghost use Rattle.std.specs.Prelude.{◌≡◌, IfOk};
+ghost use Rattle.clap.specs.Words.{kind_of};
+ghost use Rattle.clap.specs.declared.error.kind.ErrorKind.TheVariants as kind;
+
+use clap::error::ErrorKind;
+use clap::{Command, Error};
+use std::alloc::{AllocError, Global};
+
+/// The error of words that aren't UTF-8.
+///
+/// # Errors
+///
+/// `AllocError` where memory is refused, here or to the application.
+pub fn text_error(application: Result<Command<'_>, AllocError>) -> Result<Error, AllocError>
+    ensures { IfOk result (λ error. kind_of error ≡ kind.ValueValidation) }
+{
+    let message = "invalid UTF-8 was detected in one or more arguments";
+    application?.error(ErrorKind::ValueValidation, message)
+}
+
+/// The error of a name that is none of a form.
+///
+/// # Errors
+///
+/// As `text_error`.
+pub fn form_error(
+    alloc: Global,
+    application: Result<Command<'_>, AllocError>,
+    name: &str,
+) -> Result<Error, AllocError>
+    ensures { IfOk result (λ error. kind_of error ≡ kind.InvalidValue) }
+{
+    let message = format!(in alloc;
+        "invalid value '{name}' for '--form <FORM>'\n  [possible values: v1, v2, json]"
+    )?;
+    application?.error(ErrorKind::InvalidValue, message.as_str())
+}
