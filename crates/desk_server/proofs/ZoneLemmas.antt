@@ -1,8 +1,7 @@
 -- Lemmas on zones and what their clocks show.
 use Rattle.std.proofs.Common.{◌≡◌, ◌↔◌, ℕ, ◌+◌, ◌*◌, ◌<◌, ◌≤◌, Bool, cond, true, false, List, Option, Some, None, inl, inr, refl, arith}
-use Rattle.std.specs.Prelude.{IsSome, IfSome, is_some, unsigned_abs, ℤ, pos, negsuc, ◌+ℤ◌, ◌*ℤ◌}
+use Rattle.std.specs.Prelude.{IsSome, IfSome, is_some, ℤ, pos, negsuc, ◌+ℤ◌, ◌*ℤ◌}
 use Rattle.std.proofs.lemmas.Bool.{cases_lt}
-use Rattle.std.specs.Int.{cast_signed, cast_unsigned, w8}
 use borrow.Author.Differences.{ints}
 use Rattle.jiff_core.specs.Date.{epoch_day}
 use Rattle.jiff_core.specs.DateTime.{civil_nanos}
