@@ -1,7 +1,5 @@
 -- The exit status and the line of each fault (ours).
-use Rattle.std.specs.Prelude.{◌≡◌, ℕ, List, ◌++◌, Option, Some, None, codes}
-use Rattle.clap.specs.Words.{kind_of}
-use Rattle.clap.specs.declared.error.kind.ErrorKind.TheVariants as kind
+use Rattle.std.specs.Prelude.{ℕ, List, ◌++◌, Option, Some, None, codes}
 use Rattle.club_core.specs.Faults.{office_fault_text}
 use Rattle.desk_commands.specs.declared.fault.Fault.{Fault}
 use Rattle.desk_commands.specs.declared.fault.Fault.TheVariants.{Refused, Words, BadValue, Memory, Storage, ClockOutOfRange, InputOutput}
@@ -30,9 +28,3 @@ abbrev pub IsOfWords : Fault → Type 0
 IsOfWords (Words error) = Unit {0}
 IsOfWords Memory = Unit {0}
 IsOfWords _ = ⊥
-
--- the faults of a form that is none
-abbrev pub IsBadForm : Fault → Type 0
-IsBadForm (Words error) = kind_of error ≡ kind.InvalidValue
-IsBadForm Memory = Unit {0}
-IsBadForm _ = ⊥

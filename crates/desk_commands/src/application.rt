@@ -82,7 +82,10 @@ pub fn make_application<'a>(alloc: Global) -> Result<Command<'a>, AllocError>
 pub fn not_text(alloc: Global) -> Fault
     ensures { IsOfWords result }
 {
-    match text_error(make_application(alloc)) {
+    let Ok(application) = make_application(alloc) else {
+        return Fault::Memory;
+    };
+    match text_error(application) {
         Ok(error) => Fault::Words(error),
         Err(_) => Fault::Memory,
     }

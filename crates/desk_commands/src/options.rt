@@ -2,7 +2,6 @@
 
 ghost use Rattle.std.specs.Prelude.{◌≡◌, IfOk, option_map};
 ghost use Rattle.clap.specs.Words.{first_of, found_of, rows_of};
-ghost use Rattle.desk_commands.specs.Fault.{IsBadForm};
 ghost use Rattle.desk_commands.specs.Words.{AnswersForm, form_in, is_set, name_in, number_in};
 
 use crate::application::make_application;
@@ -54,16 +53,9 @@ pub fn form_of(alloc: Global, words: &ArgMatches<'_>) -> Result<Form, Fault>
     let name = value_of(words, "form");
     match form_named(name) {
         Some(form) => Ok(form),
-        None => Err(bad_form(alloc, name)),
-    }
-}
-
-// The fault of a form of this name.
-fn bad_form(alloc: Global, name: &str) -> Fault
-    ensures { IsBadForm result }
-{
-    match form_error(alloc, make_application(alloc), name) {
-        Ok(error) => Fault::Words(error),
-        Err(_) => Fault::Memory,
+        None => {
+            let application = make_application(alloc)?;
+            Err(Fault::Words(form_error(alloc, application, name)?))
+        }
     }
 }

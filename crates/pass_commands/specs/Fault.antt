@@ -1,8 +1,6 @@
 -- The exit status and the line of each answer (ours).
-use Rattle.std.specs.Prelude.{◌≡◌, ℕ, List, ◌++◌, Option, Some, None, codes}
+use Rattle.std.specs.Prelude.{ℕ, List, ◌++◌, Option, Some, None, codes}
 use Rattle.std.specs.Fmt.{decimal}
-use Rattle.clap.specs.Words.{kind_of}
-use Rattle.clap.specs.declared.error.kind.ErrorKind.TheVariants as kind
 use Rattle.pass_commands.specs.declared.answer.Fault.{Fault}
 use Rattle.pass_commands.specs.declared.answer.Fault.TheVariants.{Words, TooLong, Malformed, ThirdParty}
 use Rattle.pass_commands.specs.declared.answer.Fault.TheVariants.{TooMany, Memory, CaveatNotUnderstood, BadRoot, InputOutput}
@@ -51,9 +49,3 @@ abbrev pub IsOfWords : Fault → Type 0
 IsOfWords (Words error) = Unit {0}
 IsOfWords Memory = Unit {0}
 IsOfWords _ = ⊥
-
--- the faults of a form that is none
-abbrev pub IsBadForm : Fault → Type 0
-IsBadForm (Words error) = kind_of error ≡ kind.InvalidValue
-IsBadForm Memory = Unit {0}
-IsBadForm _ = ⊥

@@ -13,12 +13,12 @@ use std::alloc::{AllocError, Global};
 ///
 /// # Errors
 ///
-/// `AllocError` where memory is refused, here or to the application.
-pub fn text_error(application: Result<Command<'_>, AllocError>) -> Result<Error, AllocError>
+/// `AllocError` where memory is refused.
+pub fn text_error(mut application: Command<'_>) -> Result<Error, AllocError>
     ensures { IfOk result (λ error. kind_of error ≡ kind.ValueValidation) }
 {
     let message = "invalid UTF-8 was detected in one or more arguments";
-    application?.error(ErrorKind::ValueValidation, message)
+    application.error(ErrorKind::ValueValidation, message)
 }
 
 /// The error of a name that is none of a form.
@@ -28,7 +28,7 @@ pub fn text_error(application: Result<Command<'_>, AllocError>) -> Result<Error,
 /// As `text_error`.
 pub fn form_error(
     alloc: Global,
-    application: Result<Command<'_>, AllocError>,
+    mut application: Command<'_>,
     name: &str,
 ) -> Result<Error, AllocError>
     ensures { IfOk result (λ error. kind_of error ≡ kind.InvalidValue) }
@@ -36,5 +36,5 @@ pub fn form_error(
     let message = format!(in alloc;
         "invalid value '{name}' for '--form <FORM>'\n  [possible values: v1, v2, json]"
     )?;
-    application?.error(ErrorKind::InvalidValue, message.as_str())
+    application.error(ErrorKind::InvalidValue, message.as_str())
 }

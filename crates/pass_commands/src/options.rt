@@ -2,7 +2,6 @@
 
 ghost use Rattle.std.specs.Prelude.{◌≡◌, IfOk};
 ghost use Rattle.clap.specs.Words.{found_of, rows_of};
-ghost use Rattle.pass_commands.specs.Fault.{IsBadForm};
 ghost use Rattle.pass_commands.specs.Words.{AnswersAsked, caveats_in, form_in, root_in, value_in};
 
 use crate::answer::Fault;
@@ -39,17 +38,10 @@ pub fn form_of(alloc: Global, options: &ArgMatches<'_>) -> Result<Form, Fault>
     let name = value_of(options, "form");
     match form_named(name) {
         Some(form) => Ok(form),
-        None => Err(bad_form(alloc, name)),
-    }
-}
-
-// The fault of a form of this name.
-fn bad_form(alloc: Global, name: &str) -> Fault
-    ensures { IsBadForm result }
-{
-    match form_error(alloc, make_application(alloc), name) {
-        Ok(error) => Fault::Words(error),
-        Err(_) => Fault::Memory,
+        None => {
+            let application = make_application(alloc)?;
+            Err(Fault::Words(form_error(alloc, application, name)?))
+        }
     }
 }
 
