@@ -3,7 +3,7 @@
 #![tactic(auto)]
 
 ghost use Rattle.std.specs.Prelude.{IfErr};
-ghost use Rattle.desk_commands.specs.Fault.{IsOfWords};
+ghost use Rattle.desk_commands.specs.Fault.{IsNotText};
 
 use desk_commands::{Fault, not_text, run};
 use desk_files::Files;
@@ -37,7 +37,7 @@ fn run_here(rt: &HostRuntime) -> Result<(), Fault> {
 }
 
 fn given_words(rt: &HostRuntime) -> Result<Vec<String>, Fault>
-    ensures { IfErr result IsOfWords }
+    ensures { IfErr result IsNotText }
 {
     match env::args(rt) {
         Ok(words) => Ok(words.collect(rt.alloc())?),

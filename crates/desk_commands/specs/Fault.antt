@@ -1,5 +1,7 @@
 -- The exit status and the line of each fault (ours).
-use Rattle.std.specs.Prelude.{ℕ, List, ◌++◌, Option, Some, None, codes}
+use Rattle.std.specs.Prelude.{◌≡◌, ℕ, List, ◌++◌, Option, Some, None, codes}
+use Rattle.clap.specs.Words.{kind_of}
+use Rattle.clap.specs.declared.error.kind.ErrorKind.TheVariants as kind
 use Rattle.club_core.specs.Faults.{office_fault_text}
 use Rattle.desk_commands.specs.declared.fault.Fault.{Fault}
 use Rattle.desk_commands.specs.declared.fault.Fault.TheVariants.{Refused, Words, BadValue, Memory, Storage, ClockOutOfRange, InputOutput}
@@ -23,8 +25,8 @@ fault_line Storage = Some (codes "storage failed")
 fault_line ClockOutOfRange = Some (codes "clock out of range")
 fault_line InputOutput = Some (codes "input or output failed")
 
--- the faults of words that can't be handed to clap
-abbrev pub IsOfWords : Fault → Type 0
-IsOfWords (Words error) = Unit {0}
-IsOfWords Memory = Unit {0}
-IsOfWords _ = ⊥
+-- the faults of words that aren't UTF-8
+abbrev pub IsNotText : Fault → Type 0
+IsNotText (Words error) = kind_of error ≡ kind.ValueValidation
+IsNotText Memory = Unit {0}
+IsNotText _ = ⊥

@@ -3,7 +3,7 @@
 ghost use Rattle.std.specs.Prelude.{◌≡◌, ◌∷◌, [], IfOk, false, map};
 ghost use Rattle.clap.specs.Words.{App, app_of, rule_of};
 ghost use Rattle.desk_commands.specs.Application as spec;
-ghost use Rattle.desk_commands.specs.Fault.{IsOfWords};
+ghost use Rattle.desk_commands.specs.Fault.{IsNotText};
 
 use crate::fault::Fault;
 use clap::{Arg, ArgAction, Command};
@@ -80,7 +80,7 @@ pub fn make_application<'a>(alloc: Global) -> Result<Command<'a>, AllocError>
 
 /// The fault of words that aren't UTF-8, which `clap` never sees here.
 pub fn not_text(alloc: Global) -> Fault
-    ensures { IsOfWords result }
+    ensures { IsNotText result }
 {
     let Ok(application) = make_application(alloc) else {
         return Fault::Memory;

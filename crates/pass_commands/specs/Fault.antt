@@ -1,6 +1,8 @@
 -- The exit status and the line of each answer (ours).
-use Rattle.std.specs.Prelude.{ℕ, List, ◌++◌, Option, Some, None, codes}
+use Rattle.std.specs.Prelude.{◌≡◌, ℕ, List, ◌++◌, Option, Some, None, codes}
 use Rattle.std.specs.Fmt.{decimal}
+use Rattle.clap.specs.Words.{kind_of}
+use Rattle.clap.specs.declared.error.kind.ErrorKind.TheVariants as kind
 use Rattle.pass_commands.specs.declared.answer.Fault.{Fault}
 use Rattle.pass_commands.specs.declared.answer.Fault.TheVariants.{Words, TooLong, Malformed, ThirdParty}
 use Rattle.pass_commands.specs.declared.answer.Fault.TheVariants.{TooMany, Memory, CaveatNotUnderstood, BadRoot, InputOutput}
@@ -44,8 +46,8 @@ of_form form.ThirdParty = ThirdParty
 of_form form.TooMany = TooMany
 of_form form.Memory = Memory
 
--- the faults of words that can't be handed to clap
-abbrev pub IsOfWords : Fault → Type 0
-IsOfWords (Words error) = Unit {0}
-IsOfWords Memory = Unit {0}
-IsOfWords _ = ⊥
+-- the faults of words that aren't UTF-8
+abbrev pub IsNotText : Fault → Type 0
+IsNotText (Words error) = kind_of error ≡ kind.ValueValidation
+IsNotText Memory = Unit {0}
+IsNotText _ = ⊥

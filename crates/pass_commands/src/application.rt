@@ -3,7 +3,7 @@
 ghost use Rattle.std.specs.Prelude.{◌≡◌, IfOk, IsOkAnd, false};
 ghost use Rattle.clap.specs.Words.{AddsSubcommand, app_of, rule_of};
 ghost use Rattle.pass_commands.specs.Application as spec;
-ghost use Rattle.pass_commands.specs.Fault.{IsOfWords};
+ghost use Rattle.pass_commands.specs.Fault.{IsNotText};
 
 use crate::answer::Fault;
 use crate::errors::text_error;
@@ -59,7 +59,7 @@ pub fn make_application<'a>(alloc: Global) -> Result<Command<'a>, AllocError>
 
 /// The fault of words that aren't UTF-8, which `clap` never sees here.
 pub fn not_text(alloc: Global) -> Fault
-    ensures { IsOfWords result }
+    ensures { IsNotText result }
 {
     let Ok(application) = make_application(alloc) else {
         return Fault::Memory;

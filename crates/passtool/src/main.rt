@@ -3,7 +3,7 @@
 #![tactic(auto)]
 
 ghost use Rattle.std.specs.Prelude.{IfErr};
-ghost use Rattle.pass_commands.specs.Fault.{IsOfWords};
+ghost use Rattle.pass_commands.specs.Fault.{IsNotText};
 
 pub use pass_commands::run;
 use pass_commands::{Fault, Outcome, not_text};
@@ -34,7 +34,7 @@ fn run_here(rt: &HostRuntime) -> Result<Outcome, Fault> {
 }
 
 fn given_words(rt: &HostRuntime) -> Result<Vec<String>, Fault>
-    ensures { IfErr result IsOfWords }
+    ensures { IfErr result IsNotText }
 {
     match env::args(rt) {
         Ok(words) => Ok(words.collect(rt.alloc())?),
