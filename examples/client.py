@@ -1,0 +1,176 @@
+#!/usr/bin/env python3
+"""A client of the desk, with Python's standard library: books, repeats, cancels and shows.
+
+    client.py book FACILITY DAY HOUR GUESTS   books under a number that it draws
+    client.py cancel NUMBER                   cancels the booking of that number
+    client.py repeat                          sends again each request that has no reply yet
+    client.py list                            shows the bookings on record
+    client.py show FACILITY DAY HOUR          shows a slot
+    client.py account                         shows the account
+
+The desk is at the address in DESK (or http://127.0.0.1:8080), the pass in the file PASS (or pass).
+The file RECORD (or record) keeps each booking and cancellation before it is sent, and its reply. A
+request is sent again for PATIENCE seconds (or 60). Prints replies. Ends with status 1 at a refusal,
+and with 3 where no reply came: `repeat` finishes then.
+"""
+import fcntl
+import json
+import os
+import random
+import sys
+import time
+from http.client import HTTPConnection, HTTPException, HTTPSConnection
+from urllib.parse import urlsplit
+
+NUMBER_USED, UNAVAILABLE = 13, 22
+LARGEST_NUMBER = 999_999_999
+TIMEOUT, FIRST_PAUSE, LONGEST_PAUSE = 10, 0.05, 5  # seconds
+
+
+class NoReply(Exception):
+    """No reply came, or one that isn't the desk's, or the desk was unavailable."""
+
+
+class Record:
+    """Bookings by their numbers, in a file that grows by a line for each request and reply."""
+
+    def __init__(self, path):
+        self.bookings = {}
+        self.file = open(path, "a+b")
+        fcntl.flock(self.file, fcntl.LOCK_EX)  # one program at a time
+        self.file.seek(0)
+        text = self.file.read()
+        # A request whose line was cut was never sent, and a reply whose line was cut comes again.
+        self.file.truncate(text.rfind(b"\n") + 1)
+        for line in text.splitlines(keepends=True):
+            if line.endswith(b"\n"):
+                self._add(json.loads(line))
+
+    def _add(self, line):
+        booking = self.bookings.setdefault(line["number"], {})
+        booking[line["action"]] = line.get("reply")
+        booking.update(line.get("words", {}))
+
+    def keep(self, **line):
+        """Adds a line. It is on the disk once this returns."""
+        self.file.write(json.dumps(line).encode() + b"\n")
+        self.file.flush()
+        os.fsync(self.file.fileno())
+        self._add(line)
+
+    def unfinished(self):
+        """Numbers and actions of the requests without a reply."""
+        return [(number, action) for number, booking in self.bookings.items()
+                for action in ("book", "cancel") if action in booking and booking[action] is None]
+
+
+class Client:
+    """Asks the desk. Each method returns its reply, a dict, which has a `fault` in a refusal."""
+
+    def __init__(self, address, text, record, patience=60):
+        self.address, self.text, self.record, self.patience = address, text, record, patience
+
+    def _exchange(self, method, path, body):
+        at = urlsplit(self.address)
+        kind = HTTPSConnection if at.scheme == "https" else HTTPConnection
+        connection = kind(at.hostname, at.port, timeout=TIMEOUT)
+        try:
+            fields = {"Authorization": b"Bearer " + self.text.encode()}
+            connection.request(method, path, body, fields)
+            response = connection.getresponse()
+            reply = json.loads(response.read())
+        except (OSError, HTTPException, ValueError) as fault:
+            raise NoReply(repr(fault)) from fault
+        finally:
+            connection.close()
+        fault = reply.get("fault") if isinstance(reply, dict) else None
+        if fault == UNAVAILABLE or (fault is None and response.status != 200):
+            raise NoReply(f"status {response.status}")
+        return reply
+
+    def _ask(self, method, path, body=None):
+        """Sends a request until the desk replies: none of them does anything twice."""
+        end, pause = time.monotonic() + self.patience, FIRST_PAUSE
+        while True:
+            try:
+                return self._exchange(method, path, body)
+            except NoReply:
+                if time.monotonic() > end:
+                    raise
+            time.sleep(random.uniform(0, pause))
+            pause = min(2 * pause, LONGEST_PAUSE)
+
+    def _finish(self, number, action):
+        """Sends a request on record, and keeps its reply."""
+        booking = self.record.bookings[number]
+        path = "/slots/{facility}/{day}/{hour}/bookings/{number}".format(number=number, **booking)
+        if action == "book":
+            reply = self._ask("PUT", path, b'{"guests":%d}' % booking["guests"])
+        else:
+            reply = self._ask("DELETE", path)
+        self.record.keep(number=number, action=action, reply=reply)
+        return reply
+
+    def book(self, facility, day, hour, guests):
+        """Books under a new number. One that another holder of the key used is drawn anew."""
+        while True:
+            number = random.randint(1, LARGEST_NUMBER)
+            if number in self.record.bookings:
+                continue
+            words = {"facility": facility, "day": day, "hour": hour, "guests": guests}
+            self.record.keep(number=number, action="book", words=words)
+            reply = self._finish(number, "book")
+            if reply.get("fault") != NUMBER_USED:
+                return reply
+
+    def cancel(self, number):
+        """Cancels a booking on record. Its request goes first where that has no reply yet."""
+        if self.record.bookings[number]["book"] is None:
+            self._finish(number, "book")
+        self.record.keep(number=number, action="cancel")
+        return self._finish(number, "cancel")
+
+    def repeat(self):
+        """Finishes each request without a reply; their replies."""
+        return [self._finish(number, action) for number, action in self.record.unfinished()]
+
+    def show(self, facility, day, hour):
+        return self._ask("GET", f"/slots/{facility}/{day}/{hour}")
+
+    def account(self):
+        return self._ask("GET", "/account")
+
+
+def main(action="", *words):
+    setting = os.environ.get
+    with open(setting("PASS", "pass"), encoding="utf-8") as file:
+        text = file.read().strip()
+    record = Record(setting("RECORD", "record"))
+    address, patience = setting("DESK", "http://127.0.0.1:8080"), int(setting("PATIENCE", "60"))
+    client = Client(address, text, record, patience)
+    match action, words:
+        case "book", (facility, day, hour, guests):
+            replies = [client.book(facility, day, hour, int(guests))]
+        case "cancel", (number,) if int(number) in record.bookings:
+            replies = [client.cancel(int(number))]
+        case "repeat", ():
+            replies = client.repeat()
+        case "list", ():
+            replies = [{"number": number, **booking} for number, booking in record.bookings.items()]
+        case "show", (facility, day, hour):
+            replies = [client.show(facility, day, hour)]
+        case "account", ():
+            replies = [client.account()]
+        case _:
+            sys.exit(__doc__)
+    for reply in replies:
+        print(json.dumps(reply, separators=(",", ":")))
+    return any("fault" in reply for reply in replies)
+
+
+if __name__ == "__main__":
+    try:
+        sys.exit(main(*sys.argv[1:]))
+    except NoReply as fault:
+        print(f"no reply: {fault}", file=sys.stderr)
+        sys.exit(3)

@@ -1,0 +1,63 @@
+// Narrows passes in V1, V2 or JSON with the package macaroon.v2: narrow CAVEAT.. < passes
+//
+// Reads passes, one a line, and prints each with the caveats behind its own, in the form it came
+// in. Wants Debian's golang-go and golang-gopkg-macaroon.v2-dev, and is built by
+//
+//	GO111MODULE=off GOPATH=/usr/share/gocode go build narrow.go
+package main
+
+import (
+	"bufio"
+	"encoding/base64"
+	"encoding/json"
+	"fmt"
+	"log"
+	"os"
+	"strings"
+
+	"gopkg.in/macaroon.v2"
+)
+
+// narrow returns the pass with the caveats added.
+func narrow(text string, caveats []string) (string, error) {
+	var pass macaroon.Macaroon
+	isJSON := strings.HasPrefix(text, "{")
+	if isJSON {
+		if err := json.Unmarshal([]byte(text), &pass); err != nil {
+			return "", err
+		}
+	} else {
+		raw, err := macaroon.Base64Decode([]byte(text))
+		if err != nil {
+			return "", err
+		}
+		if err := pass.UnmarshalBinary(raw); err != nil {
+			return "", err
+		}
+	}
+	for _, caveat := range caveats {
+		if err := pass.AddFirstPartyCaveat([]byte(caveat)); err != nil {
+			return "", err
+		}
+	}
+	if isJSON {
+		raw, err := json.Marshal(&pass)
+		return string(raw), err
+	}
+	raw, err := pass.MarshalBinary()
+	return base64.RawURLEncoding.EncodeToString(raw), err
+}
+
+func main() {
+	passes := bufio.NewScanner(os.Stdin)
+	for passes.Scan() {
+		narrowed, err := narrow(passes.Text(), os.Args[1:])
+		if err != nil {
+			log.Fatal(err)
+		}
+		fmt.Println(narrowed)
+	}
+	if err := passes.Err(); err != nil {
+		log.Fatal(err)
+	}
+}

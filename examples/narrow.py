@@ -1,0 +1,37 @@
+#!/usr/bin/env python3
+"""Narrows passes in V2 with Python's standard library: narrow.py CAVEAT.. < passes
+
+Reads passes, one a line, and prints each with the caveats behind its own. It needs no secret: the
+signature of a pass is the key that signs its next caveat.
+"""
+import hmac
+import sys
+from base64 import urlsafe_b64decode, urlsafe_b64encode
+
+# A pass in V2 ends with the end of its caveats, and a signature: its type, its length, 32 bytes.
+END = b"\x00\x06\x20"
+
+
+def varint(number):
+    """Seven bits a byte, the lowest seven first; the top bit is set on all bytes but the last."""
+    if number < 128:
+        return bytes([number])
+    return bytes([number % 128 + 128]) + varint(number // 128)
+
+
+def narrow(text, caveats):
+    """The pass with the caveats added, each signed under the signature before it."""
+    raw = urlsafe_b64decode(text + "=" * (-len(text) % 4))
+    if raw[:1] != b"\x02" or raw[-35:-32] != END:
+        raise ValueError("not a pass in V2")
+    body, signature = raw[:-35], raw[-32:]
+    for caveat in caveats:
+        data = caveat.encode()
+        body += b"\x02" + varint(len(data)) + data + b"\x00"
+        signature = hmac.digest(signature, data, "sha256")
+    return urlsafe_b64encode(body + END + signature).decode().rstrip("=")
+
+
+if __name__ == "__main__":
+    for line in sys.stdin:
+        print(narrow(line.strip(), sys.argv[1:]))

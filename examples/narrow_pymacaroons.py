@@ -1,0 +1,24 @@
+#!/usr/bin/env python3
+"""Narrows passes in V1, V2 or JSON with pymacaroons: narrow_pymacaroons.py CAVEAT.. < passes
+
+Reads passes, one a line, and prints each with the caveats behind its own, in the form it came in.
+Wants Debian's python3-pymacaroons.
+"""
+import sys
+
+from pymacaroons import Macaroon
+from pymacaroons.serializers import BinarySerializer, JsonSerializer
+
+
+def narrow(text, caveats):
+    """The pass with the caveats added."""
+    form = JsonSerializer() if text.startswith("{") else BinarySerializer()
+    macaroon = Macaroon.deserialize(text, form)
+    for caveat in caveats:
+        macaroon.add_first_party_caveat(caveat)
+    return macaroon.serialize(form)
+
+
+if __name__ == "__main__":
+    for line in sys.stdin:
+        print(narrow(line.strip(), sys.argv[1:]))
