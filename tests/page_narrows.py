@@ -1,0 +1,1058 @@
+"""Drives the page that narrows a pass, and compares it with passtool and with the formats, which are written here once more.
+
+Run by page_narrows.sh: PAGE PASSTOOL FOLDER, the folder for pictures."""
+import base64
+import hashlib
+import hmac
+import http.server
+import json
+import pathlib
+import random
+import re
+import subprocess
+import sys
+import threading
+from collections import Counter
+from datetime import date, timedelta
+
+from selenium import webdriver
+from selenium.webdriver.chrome.service import Service
+from selenium.webdriver.common.action_chains import ActionChains
+from selenium.webdriver.common.keys import Keys
+
+PAGE = pathlib.Path(sys.argv[1]).resolve()
+TOOL, PICTURES = sys.argv[2:]
+PASSES = 1000
+SPOILED = 2000
+CAVEATS = 2000
+# How many passes or texts go to the page in one call.
+BATCH = 25
+FORMS = ["v1", "v2", "json"]
+FAULTS = {"This text is too long for a pass.": 1, "This text isn't a whole pass.": 2, "This pass has a third-party caveat.": 3,
+          "This pass has too many limits.": 4}
+ACTIONS = ["view", "book", "cancel", "account"]
+WEEKDAYS = ["mon", "tue", "wed", "thu", "fri", "sat", "sun"]
+# The page's choices, in the order in which it adds them.
+CHOICES = ["kind", "facility", "actions", "days", "weekday", "hours", "until", "guests", "spend"]
+AMY = "AgEJY2x1Yi1kZXNrAglrZXk6YW15LTEAAAYgDsU-vMVpq3Ex5_BQk6D5VX6TimC0IfCk7Dn6nv7TIJk"
+draw = random.Random(20260501)
+
+
+def check(holds, *what):
+    if not holds:
+        sys.exit("doesn't hold: " + "\n  ".join(str(each) for each in what))
+
+
+# ---- The formats
+
+
+def unpadded(data):
+    return base64.urlsafe_b64encode(data).decode().rstrip("=")
+
+
+def packet(key, data):
+    return b"%04x%s %s\n" % (4 + len(key) + 1 + len(data) + 1, key, data)
+
+
+def bytes_v1(location, identifier, caveats, signature):
+    packets = [packet(b"cid", caveat) for caveat in caveats]
+    return packet(b"location", location) + packet(b"identifier", identifier) + b"".join(packets) + packet(b"signature", signature)
+
+
+def varint(number):
+    return bytes([number]) if number < 128 else bytes([number % 128 + 128]) + varint(number // 128)
+
+
+def field(kind, data):
+    return bytes([kind]) + varint(len(data)) + data
+
+
+def bytes_v2(location, identifier, caveats, signature):
+    header = (field(1, location) if location else b"") + field(2, identifier) + b"\0"
+    return b"\2" + header + b"".join(field(2, caveat) + b"\0" for caveat in caveats) + b"\0" + field(6, signature)
+
+
+def named(name, data):
+    try:
+        return {name: data.decode()}
+    except UnicodeDecodeError:
+        return {f"{name}64": unpadded(data)}
+
+
+def object_of(location, identifier, caveats, signature):
+    where = named("l", location) if location else {}
+    return {"c": [named("i", each) for each in caveats], **named("i", identifier), **where, "s64": unpadded(signature), "v": 2}
+
+
+def written(form, parts):
+    if form == "json":
+        return json.dumps(object_of(*parts), separators=(",", ":"), sort_keys=True, ensure_ascii=False)
+    return unpadded((bytes_v1 if form == "v1" else bytes_v2)(*parts))
+
+
+def narrowed(parts, lines):
+    location, identifier, caveats, signature = parts
+    for line in lines:
+        signature = hmac.new(signature, line.encode(), hashlib.sha256).digest()
+    return location, identifier, [*caveats, *(line.encode() for line in lines)], signature
+
+
+# ---- What passtool answers
+
+
+def tool(*words, given):
+    """The status, and what is printed: the output, or where there is a fault its line."""
+    done = subprocess.run([TOOL, *words], input=given.encode(), capture_output=True)
+    return done.returncode, (done.stderr if done.returncode else done.stdout).decode()
+
+
+def narrowed_by_tool(text, lines):
+    """The narrowed pass, or the line of its fault."""
+    status, output = tool("narrow", *lines, given=text)
+    check(status in (0, 3), "passtool narrow", text, lines, output)
+    return output.removesuffix("\n")
+
+
+def reading_by_tool(text):
+    """The number of the fault, or what the page should show: its facts and the texts of its caveats."""
+    status, output = tool("show", given=text.strip(" \t\r\n"))
+    if status == 3:
+        return int(output[len("fault ")])
+    check(status == 0, "passtool show", text, output)
+    lines = output.splitlines()
+    values = [line.partition(" ")[2] for line in lines]
+    key = re.fullmatch("key:([a-z0-9][a-z0-9-]{0,23})", values[2])
+    facts = {"Key": key[1]} if key else {"Identifier": values[2] or "(empty)"}
+    location = f"{values[1]} (a hint, which nobody checks)" if values[1] else "none"
+    facts |= {"Form": values[0].upper(), "Location": location}
+    return facts, [value.partition(" ")[2] or "(empty)" for value in values[3:-1]]
+
+
+def is_understood_by_tool(caveat):
+    status, output = tool("narrow", "--", caveat, given=AMY)
+    check(status in (0, 5), "passtool narrow", caveat, output)
+    return status == 0
+
+
+# ---- The browser
+
+# Functions for the calls below. They work the page's own fields and read its elements, as a person would.
+HELPERS = """
+const byId = (id) => document.getElementById(id);
+const changed = (field) => field.dispatchEvent(new Event("input", { bubbles: true }));
+const textsOf = (root, selector) => [...root.querySelectorAll(selector)].map((each) => each.textContent);
+const enter = (text) => { byId("given").value = text; changed(byId("given")); };
+const limitsOf = (root) => [...root.querySelectorAll("li")].map((limit) => ({
+  text: limit.querySelector("code").textContent, words: limit.firstChild.textContent,
+  understood: limit.querySelector(".odd") === null, isNew: limit.querySelector(".new") !== null }));
+const factsOf = (root) => Object.fromEntries(textsOf(root, "dt").map((name, place) => [name, textsOf(root, "dd")[place]]));
+const choose = (name, value) => {
+  for (const field of document.querySelectorAll(`[name="${name}"]`)) {
+    if (field.type === "checkbox" || field.type === "radio") field.checked = value.includes(field.value);
+    else field.value = value;
+  }
+  changed(document.querySelector(`[name="${name}"]`));
+};
+const outcome = async () => {
+  while (byId("result").hidden && byId("narrow-fault").textContent === "") await new Promise((next) => setTimeout(next));
+  return byId("result").hidden
+    ? { fault: byId("narrow-fault").textContent }
+    : { text: byId("narrowed").value, address: byId("address").value, limits: limitsOf(byId("result-pass")),
+        notes: textsOf(byId("result-notes"), "strong") };
+};
+const narrow = async ([text, fields]) => {
+  byId("choices").reset();
+  enter(text);
+  for (const [name, value] of fields) choose(name, value);
+  byId("choices").requestSubmit();
+  return outcome();
+};
+const read = (text) => {
+  enter(text);
+  const fault = [...byId("given-fault").children].map((each) => each.textContent);
+  return { fault, facts: factsOf(byId("given-pass")), limits: limitsOf(byId("given-pass")), shown: byId("given-pass").textContent };
+};
+"""
+
+
+class Browser:
+    """A chromium in which names lead nowhere but as the rules say; a script may run before the page's own."""
+
+    def __init__(self, rules="MAP * ~NOTFOUND", before=""):
+        options = webdriver.ChromeOptions()
+        for word in ["headless=new", "no-sandbox", "disable-gpu", "disable-dev-shm-usage", "lang=en-US", f"host-resolver-rules={rules}",
+                     "disable-features=HttpsUpgrades,HttpsFirstBalancedMode,HttpsFirstBalancedModeAutoEnable"]:
+            options.add_argument(f"--{word}")
+        options.set_capability("goog:loggingPrefs", {"browser": "ALL", "performance": "ALL"})
+        self.driver = webdriver.Chrome(options=options, service=Service("/usr/bin/chromedriver"))
+        self.driver.set_script_timeout(60)
+        if before:
+            self.command("Page.addScriptToEvaluateOnNewDocument", source=before)
+
+    def __enter__(self):
+        return self
+
+    def __exit__(self, *fault):
+        self.driver.quit()
+
+    def command(self, name, **words):
+        return self.driver.execute_cdp_cmd(name, words)
+
+    def open(self, address):
+        # By way of another page, so that an address with another end behind # is loaded anew.
+        self.driver.get("about:blank")
+        self.driver.get(address)
+
+    def run(self, script, *words):
+        return self.driver.execute_script(HELPERS + script, *words)
+
+    def each(self, function, items):
+        """What the helper returns of each item."""
+        script = HELPERS + f"""
+            const [items, done] = arguments;
+            (async () => {{
+              const answers = [];
+              for (const item of items) answers.push(await {function}(item));
+              done(answers);
+            }})();"""
+        answers = []
+        for place in range(0, len(items), BATCH):
+            answers += self.driver.execute_async_script(script, items[place:place + BATCH])
+        return answers
+
+    def press(self, *keys):
+        chain = ActionChains(self.driver)
+        for key in keys:
+            chain.send_keys(key)
+        chain.perform()
+
+    def click(self, name):
+        self.driver.find_element("id", name).click()
+
+    def focused(self):
+        return self.run("return document.activeElement.id || document.activeElement.value")
+
+    def sees(self, width, scheme, height=900):
+        self.command("Emulation.setEmulatedMedia", features=[{"name": "prefers-color-scheme", "value": scheme}])
+        self.command("Emulation.setDeviceMetricsOverride", width=width, height=height, deviceScaleFactor=1, mobile=width < 600)
+
+    def picture(self, top=0, height=None):
+        """A PNG in base64: of the whole page, or of a stripe of it."""
+        width, whole = self.run("const { offsetWidth, offsetHeight } = document.documentElement; return [offsetWidth, offsetHeight];")
+        clip = {"x": 0, "y": top, "width": width, "height": height or whole, "scale": 1}
+        return self.command("Page.captureScreenshot", captureBeyondViewport=True, clip=clip)["data"]
+
+    def sent_nothing(self, page):
+        """Nothing was loaded beside the page, and the console has no complaint."""
+        check(self.run("return performance.getEntriesByType('resource').length") == 0, "the page loads something")
+        messages = [json.loads(entry["message"])["message"] for entry in self.driver.get_log("performance")]
+        asked = [each["params"]["request"]["url"] for each in messages if each["method"] == "Network.requestWillBeSent"]
+        others = [address for address in asked if not address.startswith((page, "about:", "data:"))]
+        check(any(address.startswith(page) for address in asked) and not others, "the page asks for", others)
+        complaints = self.driver.get_log("browser")
+        check(not complaints, "the console says", complaints)
+
+
+# ---- Drawn passes and caveats
+
+
+def drawn_bytes(most):
+    size = draw.choice([0, 1, 5, draw.randint(0, most)])
+    kind = draw.randrange(4)
+    if kind == 0:
+        return draw.randbytes(size)
+    if kind == 1:
+        mark = draw.choice(["", "", "", "\ufeff"])  # a byte order mark is a character like any other
+        return (mark + "".join(draw.choices('é"\\/\n\t\x00\x1f\x7f\u2028😀 aä€', k=size))).encode()
+    return "".join(draw.choices("abcdefgh :/-=<0123456789", k=size)).encode()
+
+
+def drawn_name():
+    first = draw.choice("abcxyz0123456789")
+    return first + "".join(draw.choices("abcxyz-0123456789", k=draw.choice([0, 3, 6, 23])))
+
+
+def drawn_day():
+    return f"{date(2000, 1, 1) + timedelta(days=draw.choice([0, 36524, draw.randint(0, 36524)]))}"
+
+
+def some_of(words):
+    return ",".join([word for word in words if draw.random() < 0.5] or [draw.choice(words)])
+
+
+def drawn_line(choice):
+    if choice == "kind":
+        return "kind = " + draw.choice(["court", "boat", "room"])
+    if choice == "facility":
+        return "facility = " + ",".join(drawn_name() for _ in range(draw.choice([1, 1, 2, 3, 8])))
+    if choice == "actions":
+        return "actions = " + some_of(ACTIONS)
+    if choice == "weekday":
+        return "weekday = " + some_of(WEEKDAYS)
+    if choice == "days":
+        return "days = " + "..".join(sorted([drawn_day(), drawn_day()]))
+    if choice == "hours":
+        return "hours = {:02}-{:02}".format(*sorted(draw.sample(range(25), 2)))
+    if choice == "until":
+        return f"until < {drawn_day()}T{draw.randrange(24):02}:{draw.randrange(60):02}"
+    if choice == "guests":
+        return f"guests <= {draw.choice([0, 1, 9, 10, 49, draw.randrange(50)])}"
+    return f"spend <= {draw.choice([0, 7, 600, 10**9 - 1, draw.randrange(10**9)])}"
+
+
+def drawn_lines():
+    chosen = draw.sample(CHOICES, draw.randint(1, 5))
+    return [drawn_line(choice) for choice in CHOICES if choice in chosen]
+
+
+def fields_of(line):
+    """The fields of the page that make a line: names with values."""
+    name, _, value = re.split(" (=|<=|<) ", line)
+    if name in ("kind", "actions", "weekday"):
+        return [(name, value.split(","))]
+    if name in ("days", "hours"):
+        ends = ("first", "last") if name == "days" else ("from", "to")
+        return [(f"{name}-{end}", part) for end, part in zip(ends, value.split(".." if name == "days" else "-"))]
+    return [(name, value.replace(",", draw.choice([",", ", ", " "])))]
+
+
+def drawn_parts():
+    identifier = f"key:{drawn_name()}".encode() if draw.random() < 0.6 else drawn_bytes(300)
+    known = [drawn_line(draw.choice(CHOICES)).encode() for _ in range(draw.choice([0, 0, 1, 2, 5]))]
+    odd = [drawn_bytes(200) for _ in range(draw.choice([0, 0, 0, 1, 3]))]
+    caveats = known + odd
+    draw.shuffle(caveats)
+    location = draw.choice([b"", b"club-desk", drawn_bytes(200)])
+    return location, identifier, caveats, draw.randbytes(32)
+
+
+def drawn_spelling(form, parts):
+    """A text of the pass that a reader takes, mostly not the writer's."""
+    text = written(form, parts)
+    if form == "json":
+        names = object_of(*parts)
+        if draw.random() < 0.3:
+            del names["v"]
+        if draw.random() < 0.3:
+            names["i64"] = unpadded(parts[1])
+            names.pop("i", None)
+        shuffled = dict(draw.sample([*names.items()], len(names)))
+        text = json.dumps(shuffled, ensure_ascii=draw.random() < 0.5, indent=draw.choice([None, None, 1]))
+        return draw.choice([text, text, re.sub("=", "", base64.b64encode(text.encode()).decode())])
+    if draw.random() < 0.3:
+        text += "=" * (-len(text) % 4)
+    return text.replace("-", "+").replace("_", "/") if draw.random() < 0.3 else text
+
+
+# ---- The checks
+
+
+def narrows_as_passtool(page):
+    passes = [(FORMS[place % 3], drawn_parts(), drawn_lines()) for place in range(PASSES)]
+    texts = [drawn_spelling(form, parts) for form, parts, _ in passes]
+    fields = [[field for line in lines for field in fields_of(line)] for _, _, lines in passes]
+    answers = page.each("narrow", list(zip(texts, fields)))
+    for (form, parts, lines), text, answer in zip(passes, texts, answers):
+        wanted = written(form, narrowed(parts, lines))
+        by_tool = narrowed_by_tool(text, lines)
+        check(by_tool == wanted, "passtool and the formats differ", text, lines, by_tool, wanted)
+        check(answer.get("text") == wanted, "the page narrows otherwise", text, lines, answer, wanted)
+        check([limit["isNew"] for limit in answer["limits"]] == [False] * len(parts[2]) + [True] * len(lines), "new limits", text)
+    counts = Counter(form for form, _, _ in passes)
+    print(f"{len(passes)} passes narrowed by one to five choices, {counts['v1']} in V1, {counts['v2']} in V2 and {counts['json']} in JSON: "
+          "each is what passtool makes")
+
+
+def refuses_to_write_as_passtool(page):
+    signature = bytes(range(32))
+    full = written("v2", (b"", b"key:amy-1", [b"guests <= 1"] * 64, signature))
+    nearly = written("v2", (b"", b"key:amy-1", [b"guests <= 1"] * 62, signature))
+    long = {form: written(form, (b"", b"key:amy-1", [b"x" * (5900 if form != "json" else 8050)], signature)) for form in FORMS}
+    rows = [(full, ["kind = court"], "65"), (nearly, ["kind = court", "guests <= 1", "spend <= 1"], "65"),
+            (long["v1"], ["kind = court", "facility = " + ",".join(["a" * 24] * 8)], "bytes"),
+            (long["v2"], ["kind = court", "facility = " + ",".join(["a" * 24] * 8)], "bytes"),
+            (long["json"], ["kind = court", "facility = " + ",".join(["a" * 24] * 8)], "bytes")]
+    for text, lines, words in rows:
+        fault = narrowed_by_tool(text, lines)
+        answer = page.each("narrow", [(text, [field for line in lines for field in fields_of(line)])])[0]
+        check(fault == ("fault 1: too long" if words == "bytes" else "fault 4: too many caveats"), "passtool", lines, fault)
+        check("can't be narrowed like this" in answer.get("fault", ""), "a pass that grows too much", lines, answer)
+        check(words in answer["fault"], "how much it grows", lines, answer)
+    at_most = page.each("narrow", [(nearly, [("kind", ["court"]), ("guests", "1")])])[0]
+    check(at_most.get("text") == narrowed_by_tool(nearly, ["kind = court", "guests <= 1"]), "64 limits", at_most)
+    print(f"{len(rows)} passes that would grow too much are refused, as by passtool")
+
+
+README_PASS = (b"http://mybank/", b"we used our secret key", [b"test = caveat"],
+               bytes.fromhex("197bac7a044af33332865b9266e26d493bdd668a660e44d88ce1a998c23dbd67"))
+KEYID = (b"http://example.org/", b"keyid", [],
+         bytes.fromhex("7cdee792511c5bc6f528485805dfe9b24e785e28e2a99301f9d711c609e38ef7"))
+S64 = '"s64":"fN7nklEcW8b1KEhYBd_psk54XijiqZMB-dcRxgnjjvc"'
+SHORT = '"i":"keyid",' + S64 + "}"
+
+
+def faulty_texts():
+    """Texts that are no pass the desk takes: the number of the fault, and words of what the page says is wrong."""
+    v1, v2, known = bytes_v1(*README_PASS), bytes_v2(*KEYID), written("v2", KEYID)
+    third_v1 = v1.replace(packet(b"cid", b"test = caveat"), packet(b"cid", b"a") + packet(b"vid", b"b") + packet(b"cl", b""))
+    third_v2 = field(2, b"a") + field(4, b"") + b"\0"
+
+    def many(count, more=b"", behind=b""):
+        caveats = (field(2, b"guests <= 1") + b"\0") * count + more
+        return unpadded(b"\2" + field(2, b"keyid") + b"\0" + caveats + b"\0" + field(6, KEYID[3]) + behind)
+
+    def with_member(member):
+        return "{" + member + "," + SHORT
+
+    def nested(depth):
+        return '{"i":' + "[" * depth + "]" * depth + "," + SHORT
+
+    guests = '{"i":"guests <= 1"}'
+    return [
+        # base64
+        ("!", 2, "“!” at place 1"), ("Ag EJ", 2, "a space or a line break at place 3"),
+        ("AgEJ\nAgEJ", 2, "a space or a line break at place 5"),
+        ("\u00a0", 2, "a space or a line break at place 1"), ("A", 2, "breaks off"), ("Ag=E", 2, "“=” at place 3"), ("😀", 2, "“😀” at place 1"),
+        ("Bearer " + known, 2, "place 7"), ("https://club.example/" + known, 2, "“:” at place 6"),
+        (known.replace("_", "/").replace("-", "_"), 2, "two different alphabets"), (known + "==", 2, "isn't the right number"),
+        (known[:-1] + "d", 2, "ends with a character that can't be right"), ("====", 2, "isn't the right number"),
+        # no form
+        ("Aw", 2, "doesn't begin like a pass"), ("MDA", 2, "breaks off in the location"), ("Zw", 2, "doesn't begin like a pass"),
+        # V1
+        (unpadded(v1 + b"x"), 2, "goes on behind the signature"), (unpadded(b"0003"), 2, "a length of 3"),
+        (unpadded(b"0003location http://mybank/\n"), 2, "a length of 3"), (unpadded(b"001Clocation"), 2, "“001C”"),
+        (unpadded(v1.replace(b"001cloc", b"001Cloc")), 2, "“001C” where the length of the location should be"),
+        (unpadded(v1.replace(b"location", b"Location")), 2, "“Location” where the location should be"),
+        (unpadded(v1.replace(b"001cloc", b"001bloc")), 2, "The length of the location is wrong"),
+        (unpadded(v1.replace(b"cid ", b"vid ")), 2, "“vid” where a caveat or the signature should be"),
+        (unpadded(bytes_v1(*KEYID[:3], KEYID[3][:31])), 2, "31 bytes, not 32"),
+        # V2
+        (unpadded(b"\2\2\x85\0keyid"), 2, "isn't spelled in the shortest way"),
+        (unpadded(v2.replace(b"\5keyid", b"\x85\0keyid")), 2, "isn't spelled in the shortest way"),
+        (unpadded(v2 + b"\0"), 2, "goes on behind the signature"),
+        (unpadded(b"\2\2\xff\xff\xff\x7f"), 2, "more than the whole text"), (unpadded(b"\2"), 2, "breaks off in the identifier"),
+        (unpadded(b"\2\6\1a"), 2, "something else where the identifier should be"),
+        (unpadded(b"\2" + field(2, b"a") + field(4, b"a")), 2, "something else where the identifier should end"),
+        (unpadded(bytes_v2(*KEYID[:3], KEYID[3] + b"a")), 2, "33 bytes, not 32"), (unpadded(v2[:-40]), 2, "breaks off in"),
+        # JSON
+        ("{", 2, "breaks off"), ("{}", 2, "Its i is missing"), ("[]", 2, "“[” at place 1"), ("{i", 2, "at place 2"),
+        ('{"i":"keyid"}', 2, "Its s is missing"), ("{" + S64 + "}", 2, "Its i is missing"),
+        ("{" + SHORT + "x", 2, "more behind the end"),
+        ('{"i":"keyid","s64":"fN7nklEcW8b1KEhYBd_psk54XijiqZMB-dcRxgnjjg"}', 2, "31 bytes, not 32"),
+        ("\ufeff{" + SHORT, 2, "at place 1"), (unpadded(b'{"\xff'), 2, "isn't text in UTF-8"),
+        ('{"i":"a\nb",' + S64 + "}", 2, "text in quotes"),
+        ('{"i":"\\ud800",' + S64 + "}", 2, "half a character"), (nested(127), 2, "more than 127 brackets"),
+        (with_member('"v":1'), 2, "isn't the whole number 2"), (with_member('"v":2.0'), 2, "isn't the whole number 2"),
+        (with_member('"v":2e0'), 2, "isn't the whole number 2"), (with_member('"v":-2'), 2, "isn't the whole number 2"),
+        (with_member('"v":null'), 2, "isn't the whole number 2"), (with_member('"v":"2"'), 2, "isn't the whole number 2"),
+        (with_member('"v":1e999'), 2, "too large"), (with_member('"v":02'), 2, "a comma or }"),
+        (with_member('"i64":"_w"'), 2, "i and i64 are both there"), (with_member('"c":null'), 2, "aren't a list"),
+        (with_member('"c":{}'), 2, "aren't a list"), (with_member('"c":["a"]'), 2, "Caveat 1 isn't an object"),
+        (with_member('"c":[{"l":"x"}]'), 2, "Caveat 1's i is missing"), (with_member('"x":1'), 2, "the name “x”"),
+        (with_member('"c":[{"i":"a","i64":"_w"}]'), 2, "Caveat 1's i and i64"), (with_member('"l":null'), 2, "Its l isn't a text"),
+        (with_member('"l":"a","l64":"YQ"'), 2, "l and l64 are both there"), (with_member('"l64":"_"'), 2, "Its l64 breaks off"),
+        (with_member('"s":"0123456789abcdef0123456789abcdef"'), 2, "s and s64 are both there"),
+        (with_member('"c":[{"i":"a","v64":"_w","x":1}]'), 2, "Caveat 1 has the name “x”"),
+        (with_member('"__proto__":1'), 2, "“__proto__”"),
+        # third parties' caveats, too many of them, too long
+        (unpadded(third_v1), 3, "Its caveat 1"), (many(0, third_v2), 3, "Its caveat 1"),
+        (unpadded(b"\2" + field(2, b"a") + b"\0" + field(1, b"") + third_v2 + b"\0" + field(6, KEYID[3])), 3, "Its caveat 1"),
+        (with_member('"c":[{"i":"a"},{"i":"a","v":"b"}]'), 3, "Its caveat 2"),
+        (with_member('"c":[{"i":"a","v64":"_w"}]'), 3, "Its caveat 1"),
+        (with_member('"c":[{"i":"a","l":""}]'), 3, "Its caveat 1"), (with_member('"c":[{"i":"a","l64":""}]'), 3, "Its caveat 1"),
+        (many(65), 4, "It has 65 limits"), (many(64, third_v2), 3, "Its caveat 65"), (many(65, behind=b"\0"), 2, "goes on behind"),
+        (with_member('"c":[' + ",".join([guests] * 65) + "]"), 4, "It has 65 limits"),
+        (with_member('"c":[' + ",".join([guests] * 65) + ",{}]"), 2, "Caveat 66's i is missing"),
+        (with_member('"c":[' + ",".join([guests] * 65) + ',{"i":"x","v64":""}]'), 3, "Its caveat 66"),
+        ("{" * 8193, 1, "8,193 bytes"), ("A" * 8193, 1, "8,193 bytes"), ("é" * 4097, 1, "8,194 bytes"),
+        ("{" * 8192, 2, "in quotes"),
+        ("{" + SHORT + " " * 8128, 1, "8,193 bytes"),
+    ]
+
+
+def readable_texts():
+    """Texts at the edge of what is read."""
+    v2, known = bytes_v2(*KEYID), written("v2", KEYID)
+    third_as_text = packet(b"cid", b"vid a\n")
+    return [
+        known, known + "=", known.replace("_", "/").replace("-", "+"), known.replace("_", "/").replace("-", "+") + "=", f" \n{known}\n ",
+        written("v1", KEYID), written("json", KEYID), written("v1", README_PASS), unpadded(v2.replace(field(1, KEYID[0]), field(1, b""))),
+        unpadded(bytes_v1(b"", b"", [b"", b"x\n000acid y\n", third_as_text], bytes(32))), "{" + SHORT, "{" + SHORT + " " * 8127,
+        base64.b64encode(("{" + SHORT).encode()).decode(), '{"i":' + "[" * 126 + "]" * 126 + "," + SHORT, '{"v":1.5,"v":2,' + SHORT,
+        '{"i64":"_w",' + S64 + "}", '{"i":"a","i":"b",' + S64 + "}", '{"i":"\\"\\\\\\u0000\\u00e9\\/\\ud83d\\ude00",' + S64 + "}",
+        unpadded(b"\2" + field(2, b"k") + b"\0" + (field(2, b"guests <= 1") + b"\0") * 64 + b"\0" + field(6, bytes(32))),
+        unpadded(b"\2" + field(2, b"k") + b"\0" + field(2, b"x" * 128) + b"\0" + field(2, b"x" * 5000) + b"\0\0" + field(6, bytes(32))),
+        '{"s":"0123456789abcdef0123456789abcdef","i":"' + "\u2028é\x7f" + '","l":"","c":[]}', written("v2", (b"", b"amy-1", [], bytes(32))),
+    ]
+
+
+def compare_reading(text, answer):
+    """The page reads a text as passtool does. Returns the number of the fault or 0."""
+    # The one difference: it leaves out spaces round a text, but for the length.
+    cut = text.removesuffix("\n")
+    wanted = 1 if len(cut.encode()) > 8192 else reading_by_tool(cut)
+    if isinstance(wanted, int):
+        check(answer["fault"] and FAULTS[answer["fault"][0]] == wanted and not answer["shown"], "a faulty text", text, wanted, answer)
+        check(len(answer["fault"]) == 3 and all(answer["fault"]), "an answer without words", text, answer)
+        return wanted
+    facts, caveats = wanted
+    check(not answer["fault"] and answer["facts"] == facts, "a pass that is read otherwise", text, wanted, answer)
+    check([limit["text"] for limit in answer["limits"]] == caveats, "other limits", text, wanted, answer)
+    return 0
+
+
+def answers_faulty_texts(page):
+    rows = faulty_texts()
+    answers = page.each("read", [text for text, _, _ in rows])
+    for (text, fault, words), answer in zip(rows, answers):
+        check(compare_reading(text, answer) == fault, "another fault", text, fault, answer)
+        check(words in answer["fault"][1], "the page doesn't say what is wrong", text, words, answer)
+    # A known text that is cut anywhere. Nothing at all is no fault.
+    for form, parts in [("v1", README_PASS), ("v2", KEYID), ("json", README_PASS)]:
+        whole = written(form, parts)
+        cuts = [whole[:length] for length in range(1, len(whole))]
+        for text, answer in zip(cuts, page.each("read", cuts)):
+            check(compare_reading(text, answer) == 2, "a text that is cut", text, answer)
+    empty = page.each("read", ["", " \n"])
+    check(all(not answer["fault"] and not answer["shown"] for answer in empty), "an empty text", empty)
+    texts = readable_texts()
+    for text, answer in zip(texts, page.each("read", texts)):
+        check(compare_reading(text, answer) == 0, "a pass that isn't read", text, answer)
+    print(f"{len(rows)} faulty texts have their own answers, as have known passes that are cut anywhere; {len(texts)} odd ones are read")
+
+
+def spoiled(text):
+    """The text with something changed, mostly at one place."""
+    what, place = draw.randrange(9), draw.randrange(len(text))
+    if what == 0:
+        return text[:max(place, 1)]
+    if what == 1:
+        return text[:place] + text[place + 1:]
+    if what == 2:
+        return text[:place] + draw.choice("AZaz09-_+/=\n {}[]\",:\\") + text[place:]
+    if what == 3:
+        return text[:place] + text[place] * 2 + text[place + 1:]
+    if what == 4 and not text.startswith("{"):
+        return spoiled_bytes(text)
+    if what == 5:
+        return with_third_party(text)
+    return text[:place] + draw.choice("AQgwBCx019-_=\"{}\\u") + text[place + 1:]
+
+
+def bytes_of(text):
+    return bytearray(base64.urlsafe_b64decode(text + "=" * (-len(text) % 4)))
+
+
+def with_third_party(text):
+    """With a third party's field where one could stand, which makes a caveat theirs, if there is one."""
+    if text.startswith("{"):
+        return re.sub(r'\{"i', draw.choice(['{"v":"","i', '{"l64":"_w","i']), text, count=1)
+    data = bytes_of(text)
+    behind = b"cid " if data[0] != 2 else b"\0"
+    places = [found.start() for found in re.finditer(re.escape(behind), data)]
+    place = draw.choice(places or [0])
+    if data[0] == 2:
+        data[place:place] = b"\4\0"
+    else:
+        place += int(data[place - 4:place], 16) - 4 if places else 0
+        data[place:place] = draw.choice([b"0009vid \n", b"0008cl \n", b"000avid x\n0008cl \n"])
+    return unpadded(bytes(data))
+
+
+def spoiled_bytes(text):
+    data = bytes_of(text)
+    place = draw.randrange(len(data))
+    if draw.random() < 0.5:
+        data[place] = draw.choice([0, 1, 2, 4, 6, 10, 32, data[place] ^ 1, draw.randrange(256)])
+    else:
+        data[place:place] = draw.choice([b"\0", b"\1\0", b"\4\0", b"000acid y\n", b"0009vid \n", draw.randbytes(1)])
+    return unpadded(bytes(data))
+
+
+def reads_spoiled_texts(page):
+    texts = [spoiled(written(draw.choice(FORMS), drawn_parts())) for _ in range(SPOILED)]
+    counts = Counter(compare_reading(text, answer) for text, answer in zip(texts, page.each("read", texts)))
+    print(f"{len(texts)} spoiled passes are read as by passtool: {counts[0]} are passes still, {counts[2]} malformed, "
+          f"{counts[3]} have third-party caveats")
+
+
+NEAR_MISSES = [
+    "", " ", "kind", "kind =", "kind = ", "kind=court", "kind  = court", "kind = court ", " kind = court", "kind = Court",
+    "kind = courts",
+    "kind = court\n", "kind = court,boat", "kınd = court", "facility = ", "facility = ,", "facility = a,", "facility = ,a",
+    "facility = a, b",
+    "facility = a,,b", "facility = -a", "facility = A", "facility = a_b", "facility = " + "a" * 25, "facility = a,b,c,d,e,f,g,h,i",
+    "facility = é", "hours = 8-10", "hours = 08-8", "hours = 20-18", "hours = 18-18", "hours = 00-25", "hours = 24-24",
+    "hours = 18-20-22",
+    "hours = 18–20", "hours =  18-20", "hours = +8-10", "days = 2026-02-29..2026-03-01", "days = 2026-05-02..2026-05-01",
+    "days = 1999-12-31..2000-01-01", "days = 2099-12-31..2100-01-01", "days = 2026-5-1..2026-5-2", "days = 2026-05-01...2026-05-02",
+    "days = 2026-05-01", "days = 2026-05-01..", "days = 2026-04-31..2026-05-02", "days = 2026-00-01..2026-05-02", "days = now",
+    "days = 2026-05-00..2026-05-02", "days = 2026-13-01..2027-01-01", "days = 2100-02-28..2100-02-28", "until <= 2026-05-01T18:00",
+    "until < 2026-05-01T24:00", "until < 2026-05-01T18:60", "until < 2026-05-01 18:00", "until < 2026-05-01T18:00:00",
+    "until < 2026-05-01",
+    "until < 2026-05-01T8:00", "until < 2026-05-01T18:00Z", "until < 2026-02-30T18:00", "until < 2026-05-01t18:00", "guests <= ",
+    "guests <= 01",
+    "guests <= 50", "guests <= -1", "guests <= +1", "guests <= 1.0", "guests < 2", "guests <= 1 ", "guests <= ٣", "guests <= 100",
+    "guests <= 1e1", "spend <= ", "spend <= 00", "spend <= 1000000000", "spend <= 0600", "spend <= 1,000", "spend <= -0",
+    "spend < 600",
+    "actions = ", "actions = book,view", "actions = view,view", "actions = view,", "actions = View", "actions = view, book",
+    "actions = read",
+    "actions = ,view", "weekday = ", "weekday = tue,mon", "weekday = Fri", "weekday = fri,fri", "weekday = mon-fri",
+    "weekdays = mon",
+    "weekday = monday", "shoe = red", "test = caveat", "guests <= 1\0", "\0", "guests <= ¹", "-", "--", "--any", "-h",
+]
+EDGES = [
+    "kind = court", "kind = boat", "kind = room", "facility = a", "facility = 0-", "facility = " + ",".join(["a" * 24] * 8),
+    "facility = court-1,court-1", "hours = 00-24", "hours = 00-01", "hours = 23-24", "days = 2000-01-01..2099-12-31",
+    "days = 2024-02-29..2024-02-29", "days = 2000-02-29..2000-02-29", "until < 2000-01-01T00:00", "until < 2099-12-31T23:59",
+    "guests <= 0",
+    "guests <= 49", "spend <= 0", "spend <= 999999999", "actions = view", "actions = view,book,cancel,account", "actions = account",
+    "weekday = mon,tue,wed,thu,fri,sat,sun", "weekday = sun", "weekday = mon,sun",
+]
+
+
+def near_line():
+    line = drawn_line(draw.choice(CHOICES))
+    place = draw.randrange(len(line))
+    what = draw.randrange(6)
+    if what == 0:
+        return line[:place] + line[place + 1:]
+    if what == 1:
+        return line[:place] + draw.choice(" 0123456789abZ-,.<=:Té\n") + line[place:]
+    if what == 2:
+        return line[:place] + draw.choice(" 0123456789abZ-,.<=:Té\t") + line[place + 1:]
+    if what == 3:
+        return line + draw.choice([" ", ",", "0", "\n", line[-1], ",a", ",sun", ",view"])
+    if what == 4:
+        return line[:place] + line[place:place + 2][::-1] + line[place + 2:]
+    words = line.split(",")
+    draw.shuffle(words)
+    return ",".join(words)
+
+
+def understands_as_passtool(page):
+    texts = EDGES + NEAR_MISSES
+    texts += [drawn_line(draw.choice(CHOICES)) if draw.random() < 0.3 else near_line() for _ in range(CAVEATS - len(texts))]
+    passes = [texts[place:place + 50] for place in range(0, len(texts), 50)]
+    answers = page.each("read", [written("json", (b"", b"key:amy-1", [text.encode() for text in each], bytes(32))) for each in passes])
+    limits = [limit for answer in answers for limit in answer["limits"]]
+    check(len(limits) == len(texts), "limits that aren't shown", len(limits))
+    understood = 0
+    for text, limit in zip(texts, limits):
+        # No word of a command can hold a zero byte.
+        wanted = "\0" not in text and is_understood_by_tool(text)
+        check(limit["understood"] == wanted, "understood otherwise", repr(text), wanted, limit)
+        check(wanted or "isn't understood" in limit["words"], "a limit that isn't understood", limit)
+        understood += wanted
+    check(understood < len(texts) < understood * 5, "texts of both kinds", understood)
+    # Bytes that are no text.
+    odd = [b"\xff", b"kind = court\xa0", b"kind = caf\xe9", b"\xef\xbb\xbfkind = court"]
+    for limit in page.each("read", [written("v2", (b"", b"key:amy-1", odd, bytes(32)))])[0]["limits"]:
+        check(not limit["understood"], "bytes that are no text", limit)
+    print(f"{len(texts)} texts of caveats: the page understands the {understood} that passtool does")
+
+
+SENTENCES = {
+    "kind = court": "Only courts.",
+    "kind = boat": "Only boats.",
+    "facility = court-1": "Only court-1.",
+    "facility = court-1,court-1": "Only court-1.",
+    "facility = court-1,court-2,room-1": "Only court-1, court-2 or room-1.",
+    "hours = 18-20": "Only slots that begin at 18:00 or later and before 20:00.",
+    "days = 2026-05-01..2026-05-31": "Only from Friday 1 May 2026 to Sunday 31 May 2026, both included.",
+    "days = 2024-02-29..2024-02-29": "Only on Thursday 29 February 2024.",
+    "until < 2026-05-01T18:00": "Until Friday 1 May 2026, 18:00.",
+    "until < 2000-01-01T00:00": "Until Saturday 1 January 2000, 00:00.",
+    "until < 2099-12-31T23:59": "Until Thursday 31 December 2099, 23:59.",
+    "weekday = sat,sun": "Only on Saturdays or Sundays.",
+    "weekday = mon": "Only on Mondays.",
+    "guests <= 0": "Bookings with no guests.",
+    "guests <= 1": "Bookings with at most 1 guest.",
+    "guests <= 12": "Bookings with at most 12 guests.",
+    "spend <= 0": "Nothing that costs points.",
+    "spend <= 1": "Bookings only while all that the key ever spent comes to at most 1 point.",
+    "spend <= 123456789": "Bookings only while all that the key ever spent comes to at most 123,456,789 points.",
+    "actions = view,book": "Only to look at slots or book.",
+    "actions = view,cancel,account": "Only to look at slots, cancel bookings or look at the account.",
+    "shoe = red": "This one isn't understood: the desk refuses this pass.",
+}
+# Fields that make a line; None: the page says what it wants, and adds nothing.
+CHOSEN = [
+    ({"kind": ["boat"]}, "kind = boat"),
+    ({"facility": "court-1"}, "facility = court-1"),
+    ({"facility": " court-1 , court-2;room-1 "}, "facility = court-1,court-2,room-1"),
+    ({"facility": "Court-1"}, None), ({"facility": "court 1 -"}, None), ({"facility": "a b c d e f g h i"}, None),
+    ({"facility": "é"}, None),
+    ({"actions": ["view"]}, "actions = view"),
+    ({"actions": ["account", "view", "book"]}, "actions = view,book,account"),
+    ({"actions": ACTIONS}, "actions = view,book,cancel,account"),
+    ({"days-first": "2026-05-01", "days-last": "2026-05-31"}, "days = 2026-05-01..2026-05-31"),
+    ({"days-first": "2026-05-01", "days-last": "2026-05-01"}, "days = 2026-05-01..2026-05-01"),
+    ({"days-first": "2026-05-01"}, None), ({"days-last": "2026-05-01"}, None),
+    ({"days-first": "2026-05-02", "days-last": "2026-05-01"}, None),
+    ({"days-first": "1999-12-31", "days-last": "2026-05-01"}, None),
+    ({"days-first": "2026-05-01", "days-last": "2100-01-01"}, None),
+    ({"weekday": ["sun", "sat"]}, "weekday = sat,sun"),
+    ({"weekday": WEEKDAYS}, "weekday = mon,tue,wed,thu,fri,sat,sun"),
+    ({"hours-from": "18", "hours-to": "20"}, "hours = 18-20"),
+    ({"hours-from": "00", "hours-to": "24"}, "hours = 00-24"),
+    ({"hours-from": "18"}, None), ({"hours-to": "18"}, None), ({"hours-from": "20", "hours-to": "18"}, None),
+    ({"hours-from": "18", "hours-to": "18"}, None),
+    ({"until": "2026-05-01T18:00"}, "until < 2026-05-01T18:00"),
+    ({"until": "1999-12-31T23:59"}, None), ({"until": "2026-05-01T18:00:30"}, None),
+    ({"guests": "0"}, "guests <= 0"), ({"guests": " 49 "}, "guests <= 49"),
+    ({"guests": "50"}, None), ({"guests": "-1"}, None), ({"guests": "two"}, None), ({"guests": "01"}, None),
+    ({"guests": "1.5"}, None),
+    ({"spend": "600"}, "spend <= 600"), ({"spend": "999999999"}, "spend <= 999999999"),
+    ({"spend": "1000000000"}, None), ({"spend": "1,000"}, None), ({"spend": "1e3"}, None), ({"spend": "-5"}, None),
+]
+
+
+def choices_say_what_they_add(page):
+    for line, sentence in SENTENCES.items():
+        limits = page.each("read", [written("v2", (b"", b"key:amy-1", [line.encode()], bytes(32)))])[0]["limits"]
+        check(limits[0]["words"] == sentence and limits[0]["text"] == line, "a sentence", line, sentence, limits)
+    for fields, line in CHOSEN:
+        name = re.sub("-.*", "", [*fields][0])
+        answer = page.each("narrow", [(AMY, list(fields.items()))])[0]
+        made, wrong, marked = page.run("""const set = byId(arguments[0]);
+            const isMarked = set.querySelector("[aria-invalid=true]") !== null;
+            return [byId(set.id + "-made").innerText, byId(set.id + "-wrong").textContent, isMarked];""", name)
+        if line is None:
+            check("A choice isn't right yet" in answer.get("fault", ""), "a wrong choice", fields, answer)
+            check(wrong and marked and not made, "a wrong choice and its words", fields, made, wrong, marked)
+            # It is taken back as soon as the field is empty again.
+            page.run("for (const name of arguments[0]) choose(name, '');", [*fields])
+            wrong, marked = page.run("""const set = byId(arguments[0]);
+                return [byId(set.id + "-wrong").textContent, set.querySelector("[aria-invalid=true]") !== null];""", name)
+            check(not wrong and not marked, "an emptied choice", fields, wrong)
+            continue
+        check(not wrong and not marked and made.split("\n")[-1] == line, "what a choice says", fields, made, wrong)
+        sentence = page.run("return sentenceOf(bytesOf(arguments[0]))", line)
+        check(made.split("\n")[0] == sentence, "the sentence of a choice", fields, made)
+        check(answer.get("text") == narrowed_by_tool(AMY, [line]), "what a choice adds", fields, answer)
+    nothing = page.each("narrow", [(AMY, [])])[0]
+    check(nothing.get("fault") == "Choose at least one limit.", "no choice", nothing)
+    nothing = page.each("narrow", [("", [("guests", "1")])])[0]
+    check("First there must be a pass" in nothing.get("fault", ""), "no pass", nothing)
+    print(f"{len(SENTENCES)} sentences, and {len(CHOSEN)} choices that say and add their lines, or what they want")
+
+
+def half_a_date_is_no_date(page):
+    """A date that is half entered has no value; it isn't taken for an empty one."""
+    page.open(PAGE.as_uri() + "#" + AMY)
+    page.run("byId('days-first').focus()")
+    page.press("05", Keys.TAB)
+    page.run("byId('choices').requestSubmit()")
+    check(page.run("return byId('days-wrong').textContent") != "" and page.run("return byId('result').hidden"), "half a date")
+
+
+NOTES = [
+    ([], ["It can cancel.", "It shows the account."]),
+    (["actions = view,book"], []),
+    (["actions = view,book,account"], ["It shows the account."]),
+    (["actions = view,book,account", "kind = court"], []),
+    (["kind = court"], ["It can cancel."]),
+    (["weekday = sat", "spend <= 600"], ["It can cancel.", "Points count for the whole key."]),
+    (["until < 2026-05-01T18:00", "guests <= 1"], ["It can cancel.", "It shows the account."]),
+    (["shoe = red", "spend <= 600"], ["The desk refuses it."]),
+    (["actions = view,view"], ["The desk refuses it."]),
+]
+
+
+def notes_say_what_matters(page):
+    for lines, titles in NOTES:
+        given = written("v2", (b"", b"key:amy-1", [line.encode() for line in lines], bytes(32)))
+        answer = page.each("narrow", [(given, [("guests", "3")])])[0]
+        check(answer["notes"] == titles, "what a person should know of a pass", lines, titles, answer["notes"])
+    stranger = page.each("read", [written("v2", README_PASS)])[0]
+    check("The desk won't know it" in stranger["shown"], "a stranger's pass", stranger)
+    check(stranger["facts"]["Identifier"] == "we used our secret key", "whose a stranger's pass is", stranger)
+    text = page.run("return document.body.innerText")
+    for words in ["The desk counts all that the key ever spent", "let the office first make them a key of their own",
+                  "can also cancel the key's own bookings", "Days and times are the club's own"]:
+        check(words in re.sub(r"\s+", " ", text), "the page doesn't say", words)
+    print(f"{len(NOTES)} passes come with what matters of them")
+
+
+# One of each choice.
+NINE_LINES = ["kind = court", "facility = court-1,court-2", "actions = view,book", "days = 2026-05-01..2026-05-31", "weekday = sat,sun",
+              "hours = 18-20", "until < 2026-05-01T18:00", "guests <= 2", "spend <= 600"]
+
+
+def goes_by_keyboard(page):
+    """From an empty page to a pass on the clipboard, without a mouse; each stop shows that it has the focus."""
+    page.open(PAGE.as_uri())
+    stops = []
+
+    def tab(*keys):
+        page.press(Keys.TAB)
+        stops.append(page.focused())
+        outline = page.run("const style = getComputedStyle(document.activeElement); return [style.outlineStyle, style.outlineWidth];")
+        check(outline == ["solid", "3px"], "a focus that can't be seen", stops, outline)
+        page.press(*keys)
+
+    tab(AMY)
+    tab(Keys.ARROW_RIGHT)
+    tab("court-1, court-2")
+    for action in ACTIONS:
+        tab(*([" "] if action in ("view", "book") else []))
+    # A date is entered part by part; its picker is the last stop of it.
+    page.press(Keys.TAB)
+    check(page.focused() == "days-first", "the first day", page.focused())
+    page.press("05012026", Keys.TAB)
+    while page.focused() == "days-first":
+        page.press(Keys.TAB)
+    page.press("05312026")
+    while page.focused() == "days-last":
+        page.press(Keys.TAB)
+    for day in WEEKDAYS:
+        check(page.focused() == day, "a day of the week", day, page.focused())
+        page.press(*([" "] if day in ("sat", "sun") else []), Keys.TAB)
+    page.press("18", Keys.TAB, "20", Keys.TAB)
+    check(page.focused() == "until-moment", "the moment", page.focused())
+    page.press("050120260600PM")
+    while page.focused() == "until-moment":
+        page.press(Keys.TAB)
+    page.press("2", Keys.TAB, "600", Keys.TAB)
+    check(page.focused() == "narrow", "the button", page.focused())
+    page.press(Keys.ENTER)
+    page.run("return outcome()")
+    check(page.focused() == "result-title", "where the result begins", page.focused())
+    wanted = narrowed_by_tool(AMY, NINE_LINES)
+    got = page.run("return byId('narrowed').value")
+    check(got == wanted, "a pass narrowed by keyboard", got, wanted)
+    check("9 limits added" in page.run("return byId('outcome').textContent"), "the outcome")
+    page.press(Keys.TAB, Keys.TAB)
+    check(page.focused() == "copy", "the button that copies", page.focused())
+    page.press(Keys.ENTER)
+    page.run("return new Promise((done) => setTimeout(done, 200))")
+    copied = page.run("return byId('narrowed-message').textContent")
+    check(copied == "The pass is copied.", "copying by keyboard", copied)
+    pasted(page, wanted)
+    print("the whole way by keyboard, with nine choices, to a copied pass")
+
+
+def pasted(page, wanted):
+    """What is on the clipboard, by pasting it as the pass."""
+    page.run("byId('given').value = ''; byId('given').focus();")
+    ActionChains(page.driver).key_down(Keys.CONTROL).send_keys("v").key_up(Keys.CONTROL).perform()
+    value = page.run("return byId('given').value")
+    check(value == wanted, "what was copied", value, wanted)
+
+
+def hands_on(page):
+    """Addresses, copying, sharing."""
+    for form in FORMS:
+        parts = (b"club %23#", b"key:amy-1", [b"kind = court", b"100% & <\xff>"], bytes(range(32)))
+        text = written(form, parts)
+        answer = page.each("narrow", [(text, [("guests", "1")])])[0]
+        wanted = narrowed_by_tool(text, ["guests <= 1"])
+        address = answer["address"]
+        check(address.startswith(PAGE.as_uri() + "#"), "an address", address)
+        # On a click the address is copied; it opens the page with the pass, and may be entered as one.
+        page.click("copy-address")
+        page.run("return new Promise((done) => setTimeout(done, 100))")
+        pasted(page, address)
+        check(page.run("return byId('given-pass').textContent") != "", "an address that is entered", address)
+        page.open(address)
+        check(page.run("return byId('given').value") == wanted, "an address that is opened", address)
+        check(len(page.run("return limitsOf(byId('given-pass'))")) == 3, "limits of an address", address)
+    # The same page goes to another pass.
+    page.run("location.hash = '#' + arguments[0]", AMY)
+    page.run("return new Promise((done) => setTimeout(done, 100))")
+    check(page.run("return byId('given').value") == AMY, "another pass behind #")
+    # What is chosen or entered afterwards takes back a result.
+    page.each("narrow", [(AMY, [("guests", "1")])])
+    page.run("choose('guests', '2')")
+    check(page.run("return byId('result').hidden"), "a result of other choices")
+    page.each("narrow", [(AMY, [("guests", "1")])])
+    page.run("enter(arguments[0])", AMY[:-1])
+    check(page.run("return byId('result').hidden"), "a result of another pass")
+    page.run("""enter(arguments[0]); byId("choices").requestSubmit(); enter(arguments[0].slice(1));
+        return new Promise((done) => setTimeout(done, 300));""", AMY)
+    check(page.run("return byId('result').hidden"), "a result of a pass that was replaced while it was signed")
+    check(page.run("return byId('share').hidden"), "a browser that doesn't share")
+
+
+def shares(address):
+    record = "navigator.share = async (what) => { globalThis.shared = what; };"
+    with Browser(before=record) as page:
+        page.open(address)
+        answer = page.each("narrow", [(AMY, [("kind", ["court"])])])[0]
+        page.click("share")
+        check(page.run("return globalThis.shared") == {"text": answer["text"]}, "what is shared")
+    with Browser(before="navigator.clipboard.writeText = async () => { throw new Error(); };") as page:
+        page.open(address)
+        answer = page.each("narrow", [(AMY, [("kind", ["court"])])])[0]
+        page.click("copy")
+        check("is selected" in page.run("return byId('narrowed-message').textContent"), "a clipboard that refuses")
+        check(page.run("return String(getSelection())") == answer["text"], "what is selected")
+    print("addresses, copying and sharing hand on the pass")
+
+
+class Folder(http.server.SimpleHTTPRequestHandler):
+    asked = []
+
+    def __init__(self, *words):
+        super().__init__(*words, directory=PAGE.parent)
+
+    def log_message(self, form, *words):
+        self.asked.append(self.requestline)
+
+
+def only_shows_where_it_cannot_sign():
+    """Over http from a name that isn't this machine's, browsers don't sign. All that is asked of the server is the page."""
+    server = http.server.ThreadingHTTPServer(("127.0.0.1", 0), Folder)
+    threading.Thread(target=server.serve_forever, daemon=True).start()
+    with Browser(rules="MAP club.example 127.0.0.1, MAP * ~NOTFOUND") as page:
+        address = f"http://club.example:{server.server_port}/pass.html"
+        page.open(f"{address}#{AMY}")
+        check(page.run("return window.isSecureContext") is False, "a page over http is no secure context")
+        check("can't sign here" in page.run("return byId('unsigned').textContent"), "a page that can't sign says so")
+        check(page.run("return byId('narrow').disabled"), "a page that can't sign doesn't narrow")
+        check(page.run("return factsOf(byId('given-pass')).Key") == "amy-1", "a page that can't sign shows a pass")
+        answer = page.each("narrow", [(AMY, [("guests", "1")])])[0]
+        check("can't sign here" in answer.get("fault", ""), "a page that can't sign doesn't narrow, asked by whatever way", answer)
+        page.sent_nothing(address)
+    server.shutdown()
+    check(Folder.asked == ["GET /pass.html HTTP/1.1"], "what the server was asked", Folder.asked)
+    print("a page that can't sign shows a pass and narrows none; of its server one thing was asked, the page")
+
+
+def policy_holds():
+    """Nothing runs but the one script and the one style, by their hashes; nothing else can come from anywhere."""
+    text = PAGE.read_text()
+    policy = re.search('http-equiv="Content-Security-Policy" content="([^"]*)"', text)[1]
+    rules = dict(rule.strip().split(" ", 1) for rule in policy.split(";"))
+    for tag in ("script", "style"):
+        found = re.findall(f"<{tag}>(.*?)</{tag}>", text, re.DOTALL)
+        check(len(found) == 1 and text.count(f"<{tag}") == 1, f"one {tag}", len(found))
+        digest = base64.b64encode(hashlib.sha256(found[0].encode()).digest()).decode()
+        check(rules[f"{tag}-src"] == f"'sha256-{digest}'", f"the policy's hash of the {tag} should be", f"sha256-{digest}")
+    check(rules["default-src"] == "'none'" and "unsafe" not in policy, "a strict policy", policy)
+    check(rules["base-uri"] == rules["form-action"] == "'none'" and rules["img-src"] == "data:", "a strict policy", policy)
+    outside = re.sub("<(script|style)>.*?</", "", text, flags=re.DOTALL)
+    check(not re.search(r'\s(on[a-z]+|style|src|action|srcset)=', outside), "attributes that load or run something")
+    check(all(link.startswith("data:") for link in re.findall('href="([^"]*)"', outside)), "links")
+    misplaced = r"innerHTML|outerHTML|insertAdjacentHTML|document\.write|eval\(|fetch\(|XMLHttpRequest|localStorage|WebSocket"
+    check(not re.search(misplaced, text), "calls that have no place in the page")
+    check(not re.search(r"url\(|@import", text), "styles that load something")
+
+
+CONTRASTS = """
+const channels = (color) => color.match(/[0-9.]+/g).map(Number);
+const bright = (color) => channels(color).slice(0, 3).map((c) => c / 255)
+  .map((c) => c <= 0.04045 ? c / 12.92 : ((c + 0.055) / 1.055) ** 2.4)
+  .reduce((sum, c, place) => sum + c * [0.2126, 0.7152, 0.0722][place], 0);
+const ground = (each) => {
+  const color = getComputedStyle(each).backgroundColor;
+  return (channels(color)[3] ?? 1) > 0 ? color : each.parentElement ? ground(each.parentElement) : "rgb(255, 255, 255)";
+};
+const faint = [];
+let count = 0;
+for (const each of document.querySelectorAll("body *")) {
+  const hasText = [...each.childNodes].some((node) => node.nodeType === 3 && node.data.trim()) || each.matches("input, select, textarea");
+  if (!hasText || each.offsetParent === null || each.tagName === "SCRIPT") continue;
+  const [a, b] = [bright(getComputedStyle(each).color), bright(ground(each))].sort((x, y) => y - x);
+  count += 1;
+  if ((a + 0.05) / (b + 0.05) < 4.5) faint.push(`${each.tagName} ${each.className} ${(a + 0.05) / (b + 0.05)}: ${each.textContent}`);
+}
+return [count, faint];
+"""
+SMALL_TARGETS = """
+return [...document.querySelectorAll("button, select, textarea, input:not([type=radio]):not([type=checkbox]), .options label")]
+  .filter((each) => each.offsetParent !== null && each.getBoundingClientRect().height < 44).map((each) => each.outerHTML.slice(0, 80));
+"""
+
+
+def named_for_screen_readers(page):
+    tree = [node for node in page.command("Accessibility.getFullAXTree")["nodes"] if not node["ignored"]]
+    roles = Counter(node["role"]["value"] for node in tree)
+    check(roles["banner"] == roles["main"] == roles["contentinfo"] == 1 and roles["region"] == 3, "landmarks", roles)
+    check(roles["RootWebArea"] == 1 and page.run("return document.querySelectorAll('h1').length") == 1, "one heading of the page")
+    for node in tree:
+        properties = {each["name"]: each["value"].get("value") for each in node.get("properties", [])}
+        if properties.get("focusable") or node["role"]["value"] in ("region", "group"):
+            check(node["name"]["value"].strip(), "no name for a screen reader", node["role"], node.get("description"))
+    live = page.run("return [...document.querySelectorAll('[role=status], [role=alert], [aria-live]')].map((each) => each.id)")
+    wanted = {"given-pass", "given-fault", "narrow-fault", "outcome", "narrowed-message", "address-message", "unsigned"}
+    check(wanted <= set(live), "what a screen reader hears of when it changes", live)
+    check(page.run("return document.documentElement.lang") == "en", "the language")
+
+
+def keep(name, picture):
+    pathlib.Path(PICTURES, name).write_bytes(base64.b64decode(picture))
+
+
+def on_two_phones(page):
+    """Choices and a result side by side, as README shows them."""
+    page.sees(390, "light")
+    page.run("document.activeElement.blur()")
+    tops = page.run("return ['kind', 'result'].map((id) => byId(id).getBoundingClientRect().top + scrollY - 12)")
+    stripes = [page.picture(top, 820) for top in tops]
+    page.open("about:blank")
+    page.sees(800, "light", 820)
+    page.run("""document.body.style.cssText = "margin: 0; display: flex; gap: 20px; background: #c9d0ca";
+        for (const stripe of arguments[0]) document.body.append(Object.assign(new Image(), { src: "data:image/png;base64," + stripe }));
+        return Promise.all([...document.images].map((image) => image.decode()));""", stripes)
+    return page.picture()
+
+
+def looks_right(page):
+    """Pictures; no sideways scrolling on a phone; contrasts; names. With all that can stand in the page."""
+    everything = (b"club-desk", b"key:amy-1", [b"shoe = red" + b"x" * 300, b"facility = " + b",".join([b"a" * 24] * 8)], bytes(range(32)))
+    page.open(PAGE.as_uri())
+    choices = [field for line in ["kind = court", "facility = " + ",".join(["b" * 24] * 8), *NINE_LINES[2:]] for field in fields_of(line)]
+    texts = 0
+    states = [lambda: None, lambda: page.each("narrow", [(written("json", everything), choices)]),
+              lambda: page.each("narrow", [(AMY, [("guests", "x"), ("facility", "É"), ("until", "1999-01-01T00:00")])]),
+              lambda: page.run("enter(arguments[0])", "{" + '"x' * 200 + '":1,' + SHORT)]
+    for state in states:
+        state()
+        for scheme in ("light", "dark"):
+            for width in (360, 390, 1200):
+                page.sees(width, scheme)
+                across = page.run("return document.documentElement.scrollWidth")
+                check(across <= width, "sideways scrolling", width, across)
+            count, faint = page.run(CONTRASTS)
+            check(not faint, "faint texts", scheme, *faint)
+            texts += count
+        small = page.run(SMALL_TARGETS)
+        check(not small, "small targets", *small)
+        if not page.run("return byId('result').hidden"):
+            named_for_screen_readers(page)
+    page.open(PAGE.as_uri() + "#" + AMY)
+    page.each("narrow", [(AMY, [("kind", ["court"]), ("actions", ["view", "book"]), ("until", "2026-05-01T18:00"), ("spend", "600")])])
+    for width in (390, 1200):
+        for scheme in ("light", "dark"):
+            page.sees(width, scheme)
+            keep(f"pass-{width}-{scheme}.png", page.picture())
+    keep("pass-page.png", on_two_phones(page))
+    print(f"{texts} texts with a contrast of at least 4.5, names for screen readers, no sideways scrolling from 360 pixels on")
+
+
+def main():
+    policy_holds()
+    address = PAGE.as_uri()
+    with Browser() as page:
+        page.open(address)
+        check(page.run("return window.isSecureContext && crypto.subtle !== undefined"), "a browser that signs in a page from a folder")
+        narrows_as_passtool(page)
+        refuses_to_write_as_passtool(page)
+        answers_faulty_texts(page)
+        reads_spoiled_texts(page)
+        understands_as_passtool(page)
+        choices_say_what_they_add(page)
+        notes_say_what_matters(page)
+        half_a_date_is_no_date(page)
+        hands_on(page)
+        goes_by_keyboard(page)
+        page.sent_nothing(address)
+        looks_right(page)
+    shares(address)
+    only_shows_where_it_cannot_sign()
+    print("the page narrows")
+
+
+main()
