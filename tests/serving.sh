@@ -13,12 +13,12 @@ wants() {
     command -v "$command" >/dev/null || installs "$@" || exit 2
 }
 
-# Proves and builds the programs first, where that isn't done. Then they are run themselves, so that a signal meets the server.
-for program in clubdesk passtool; do
-    "$here/../bin/$program" --help >/dev/null || exit 2
-done
-desk=$here/../crates/clubdesk/out/clubdesk
-tool=$here/../crates/passtool/out/passtool
+# The programs are those of the variables CLUBDESK and PASSTOOL. One without a variable is proved and built first, where that isn't
+# done. Then it is run itself, so that a signal meets the server.
+desk=${CLUBDESK-}
+tool=${PASSTOOL-}
+[ -n "$desk" ] || { "$here/../bin/clubdesk" --help >/dev/null && desk=$here/../crates/clubdesk/out/clubdesk; } || exit 2
+[ -n "$tool" ] || { "$here/../bin/passtool" --help >/dev/null && tool=$here/../crates/passtool/out/passtool; } || exit 2
 
 work=$(mktemp -d)
 files=

@@ -1,0 +1,519 @@
+// A desk over SQLite's C library, to hold clubdesk's times against: the same file, statements and
+// replies, one connection after the other. It reads what an answer needs and no more: the key and
+// its older root, then the signature, and only then other rows. Of caveats it knows those that
+// beside.py writes: guests, until, spend, actions.
+//   desk FILE MOMENT      the moment in minutes since 1970; prints the port, and serves until it is killed
+#include <arpa/inet.h>
+#include <nettle/hmac.h>
+#include <sqlite3.h>
+#include <stdbool.h>
+#include <stdint.h>
+#include <stdio.h>
+#include <stdlib.h>
+#include <string.h>
+#include <sys/socket.h>
+#include <unistd.h>
+
+enum { MAX_REQUEST = 16640, MAX_REPLY = 512, SIGNATURE = 32, NAME = 25, WINDOW = 86400, DAY = 1440 };
+
+// ---- SQLite ----
+
+enum statement {
+    KEY, OLDER_ROOT, MEMBER, FACILITY, SLOT, BOOKING, COSTS, OPEN,
+    BEGIN, ADD_BOOKING, ADD_USED, ADD_TAKEN, COMMIT, STATEMENTS
+};
+
+static const char *const texts[STATEMENTS] = {
+    [KEY] = "SELECT name, member, root, revoked FROM keys WHERE name = ?1",
+    [OLDER_ROOT] = "SELECT root, until FROM old_roots WHERE pass_key = ?1",
+    [MEMBER] = "SELECT name, credited, quota, used FROM members WHERE name = ?1",
+    [FACILITY] = "SELECT name, kind, places, price, opens, shuts FROM facilities WHERE name = ?1",
+    [SLOT] = "SELECT closed, taken FROM slots WHERE facility = ?1 AND day = ?2 AND hour = ?3",
+    [BOOKING] = "SELECT pass_key, number, facility, day, hour, guests, charge, remains, cancelled,"
+        " refund FROM bookings WHERE pass_key = ?1 AND number = ?2",
+    [COSTS] = "SELECT charge, refund FROM bookings WHERE pass_key = ?1",
+    [OPEN] = "SELECT number FROM keys JOIN bookings ON name = pass_key WHERE member = ?1"
+        " AND cancelled = 0 AND day * 1440 + hour * 60 > ?2",
+    [BEGIN] = "BEGIN",
+    [ADD_BOOKING] = "INSERT INTO bookings (pass_key, number, facility, day, hour, guests, charge,"
+        " remains, cancelled, refund) VALUES (?1, ?2, ?3, ?4, ?5, ?6, ?7, ?8, ?9, ?10)",
+    [ADD_USED] = "UPDATE members SET used = used + ?2 WHERE name = ?1",
+    [ADD_TAKEN] = "INSERT INTO slots (facility, day, hour, closed, taken)"
+        " VALUES (?1, ?2, ?3, 0, ?4)"
+        " ON CONFLICT (facility, day, hour) DO UPDATE SET taken = taken + ?4",
+    [COMMIT] = "COMMIT",
+};
+
+static sqlite3 *database;
+static sqlite3_stmt *statements[STATEMENTS];
+
+static void fail(const char *what) {
+    fprintf(stderr, "%s: %s\n", what, database ? sqlite3_errmsg(database) : "");
+    exit(1);
+}
+
+static void open_file(const char *path) {
+    int flags = SQLITE_OPEN_READWRITE | SQLITE_OPEN_NOMUTEX;
+    if (sqlite3_open_v2(path, &database, flags, NULL) != SQLITE_OK) fail(path);
+    const char *pragmas = "PRAGMA locking_mode = EXCLUSIVE; PRAGMA journal_mode = WAL;"
+        " PRAGMA synchronous = FULL; PRAGMA foreign_keys = ON; PRAGMA cache_size = 2000";
+    if (sqlite3_exec(database, pragmas, NULL, NULL, NULL) != SQLITE_OK) fail(pragmas);
+    for (int n = 0; n < STATEMENTS; n++)
+        if (sqlite3_prepare_v3(database, texts[n], -1, SQLITE_PREPARE_PERSISTENT, &statements[n], NULL))
+            fail(texts[n]);
+}
+
+static void set_text(enum statement s, int place, const char *text) {
+    sqlite3_bind_text(statements[s], place, text, -1, SQLITE_STATIC);
+}
+
+static void set_number(enum statement s, int place, sqlite3_int64 number) {
+    sqlite3_bind_int64(statements[s], place, number);
+}
+
+static bool next_row(enum statement s) {
+    int status = sqlite3_step(statements[s]);
+    if (status == SQLITE_ROW) return true;
+    if (status != SQLITE_DONE) fail(texts[s]);
+    sqlite3_reset(statements[s]);
+    return false;
+}
+
+static void run(enum statement s) {
+    if (next_row(s)) fail(texts[s]);
+}
+
+static sqlite3_int64 number_in(enum statement s, int column) {
+    return sqlite3_column_int64(statements[s], column);
+}
+
+static void copy_text(enum statement s, int column, char to[NAME]) {
+    snprintf(to, NAME, "%s", (const char *)sqlite3_column_text(statements[s], column));
+}
+
+// ---- Passes: V2 in base64, URL-safe and unpadded ----
+
+struct bytes { const uint8_t *at; size_t len; };
+
+struct pass {
+    uint8_t room[6144];
+    struct bytes identifier, caveats[64];
+    int count;
+    uint8_t signature[SIGNATURE];
+};
+
+static int digit_of(char c) {
+    if (c >= 'A' && c <= 'Z') return c - 'A';
+    if (c >= 'a' && c <= 'z') return c - 'a' + 26;
+    if (c >= '0' && c <= '9') return c - '0' + 52;
+    return c == '-' ? 62 : c == '_' ? 63 : -1;
+}
+
+static size_t decode(const char *text, size_t len, uint8_t *to) {
+    uint32_t bits = 0;
+    size_t n = 0;
+    for (size_t i = 0, held = 0; i < len; i++) {
+        int digit = digit_of(text[i]);
+        if (digit < 0) return 0;
+        bits = bits << 6 | (uint32_t)digit;
+        if ((held += 6) >= 8) to[n++] = (uint8_t)(bits >> (held -= 8));
+    }
+    return n;
+}
+
+static bool take_length(const uint8_t **at, const uint8_t *end, size_t *length) {
+    *length = 0;
+    for (int shift = 0; *at < end && shift < 21; shift += 7) {
+        uint8_t byte = *(*at)++;
+        *length |= (size_t)(byte & 127) << shift;
+        if (byte < 128) return true;
+    }
+    return false;
+}
+
+static bool take_field(const uint8_t **at, const uint8_t *end, uint8_t type, struct bytes *field) {
+    if (*at >= end || **at != type) return false;
+    ++*at;
+    if (!take_length(at, end, &field->len) || field->len > (size_t)(end - *at)) return false;
+    field->at = *at;
+    *at += field->len;
+    return true;
+}
+
+static bool take_end(const uint8_t **at, const uint8_t *end) {
+    return *at < end && *(*at)++ == 0;
+}
+
+static bool read_pass(const char *text, size_t len, struct pass *pass) {
+    if (len > 8192) return false;
+    const uint8_t *at = pass->room, *end = at + decode(text, len, pass->room);
+    struct bytes field;
+    if (at == end || *at++ != 2) return false;
+    take_field(&at, end, 1, &field);
+    if (!take_field(&at, end, 2, &pass->identifier) || !take_end(&at, end)) return false;
+    for (pass->count = 0; at < end && *at == 2; pass->count++) {
+        if (pass->count == 64) return false;
+        if (!take_field(&at, end, 2, &pass->caveats[pass->count]) || !take_end(&at, end)) return false;
+    }
+    if (!take_end(&at, end) || !take_field(&at, end, 6, &field)) return false;
+    if (field.len != SIGNATURE || at != end) return false;
+    memcpy(pass->signature, field.at, SIGNATURE);
+    return true;
+}
+
+static void sign(const uint8_t *key, size_t key_len, struct bytes text, uint8_t to[SIGNATURE]) {
+    struct hmac_sha256_ctx hmac;
+    hmac_sha256_set_key(&hmac, key_len, key);
+    hmac_sha256_update(&hmac, text.len, text.at);
+    hmac_sha256_digest(&hmac, SIGNATURE, to);
+}
+
+// Keys that were derived, as clubdesk keeps them: the last 64 by their names, each beside its root.
+struct kept { char key[NAME]; uint8_t root[64], derived[SIGNATURE]; size_t root_len; uint64_t used; };
+static struct kept kept[64];
+
+static const uint8_t *derived_key(const char *key, const uint8_t *root, size_t root_len) {
+    static uint64_t now;
+    struct kept *oldest = kept;
+    for (struct kept *it = kept; it < kept + 64; it++) {
+        if (it->root_len == root_len && !strcmp(it->key, key) && !memcmp(it->root, root, root_len)) {
+            it->used = ++now;
+            return it->derived;
+        }
+        if (it->used < oldest->used) oldest = it;
+    }
+    static const char maker[] = "macaroons-key-generator";
+    snprintf(oldest->key, NAME, "%s", key);
+    memcpy(oldest->root, root, oldest->root_len = root_len);
+    sign((const uint8_t *)maker, sizeof maker - 1, (struct bytes){root, root_len}, oldest->derived);
+    oldest->used = ++now;
+    return oldest->derived;
+}
+
+static bool is_signed(const struct pass *pass, const char *key, const uint8_t *root, size_t root_len) {
+    uint8_t signature[SIGNATURE], next[SIGNATURE];
+    sign(derived_key(key, root, root_len), SIGNATURE, pass->identifier, signature);
+    for (int n = 0; n < pass->count; n++) {
+        sign(signature, SIGNATURE, pass->caveats[n], next);
+        memcpy(signature, next, SIGNATURE);
+    }
+    return !memcmp(signature, pass->signature, SIGNATURE);
+}
+
+// ---- Requests and replies ----
+
+enum action { VIEW, BOOK, ACCOUNT };
+
+struct request {
+    enum action action;
+    const char *pass;
+    size_t pass_len;
+    char facility[NAME];
+    int day, hour, number, guests;
+};
+
+static char reply[MAX_REPLY];
+static int reply_len;
+
+static void respond(int status, const char *phrase, const char *more, const char *body) {
+    reply_len = snprintf(reply, MAX_REPLY,
+        "HTTP/1.1 %d %s\r\nContent-Type: application/json\r\nContent-Length: %zu\r\n%s"
+        "Connection: close\r\n\r\n%s", status, phrase, strlen(body), more, body);
+}
+
+static void refuse(int fault, int caveat) {
+    static const struct { int status; const char *phrase, *text; } refusals[] = {
+        [1] = {400, "Bad Request", "bad request"}, [2] = {404, "Not Found", "no such path"},
+        [4] = {401, "Unauthorized", "no pass"}, [6] = {400, "Bad Request", "pass malformed"},
+        [9] = {401, "Unauthorized", "not verified"}, [10] = {403, "Forbidden", "key revoked"},
+        [11] = {403, "Forbidden", "caveat not understood"}, [12] = {403, "Forbidden", "caveat denies"},
+        [13] = {409, "Conflict", "number used"}, [14] = {404, "Not Found", "no such facility"},
+        [16] = {409, "Conflict", "not bookable"},
+        [17] = {409, "Conflict", "slot closed"}, [18] = {409, "Conflict", "no places"},
+        [19] = {409, "Conflict", "quota reached"}, [20] = {402, "Payment Required", "balance too low"},
+    };
+    char body[128];
+    int len = snprintf(body, sizeof body, "{\"fault\":%d,\"text\":\"%s\"", fault, refusals[fault].text);
+    if (caveat) len += snprintf(body + len, sizeof body - len, ",\"caveat\":%d", caveat);
+    snprintf(body + len, sizeof body - len, "}");
+    respond(refusals[fault].status, refusals[fault].phrase,
+        refusals[fault].status == 401 ? "WWW-Authenticate: Bearer\r\n" : "", body);
+}
+
+// Days since 1970-01-01 of a date (years that begin in March).
+static int day_number(int year, int month, int day) {
+    year -= month <= 2;
+    int era = year / 400, of_era = year % 400;
+    int of_year = (153 * (month + (month > 2 ? -3 : 9)) + 2) / 5 + day - 1;
+    return era * 146097 + of_era * 365 + of_era / 4 - of_era / 100 + of_year - 719468;
+}
+
+// Reads head and body; which of the desk's refusals comes isn't looked at beyond what is asked here.
+static bool read_request(char *bytes, struct request *it) {
+    char method[8], path[96];
+    int year, month, date;
+    if (sscanf(bytes, "%7s %95s HTTP/1.1\r\n", method, path) != 2) return refuse(1, 0), false;
+    char *field = strstr(bytes, "\r\nAuthorization: Bearer ");
+    if (!field) return refuse(4, 0), false;
+    it->pass = field + 24;
+    it->pass_len = strcspn(it->pass, "\r");
+    it->number = it->guests = 0;
+    if (!strcmp(path, "/account")) {
+        it->action = ACCOUNT;
+        return true;
+    }
+    int found = sscanf(path, "/slots/%24[a-z0-9-]/%4d-%2d-%2d/%2d/bookings/%9d",
+        it->facility, &year, &month, &date, &it->hour, &it->number);
+    if (found < 5) return refuse(2, 0), false;
+    it->day = day_number(year, month, date);
+    it->action = found == 5 ? VIEW : BOOK;
+    char *body = strstr(bytes, "\r\n\r\n") + 4;
+    if (it->action == BOOK && sscanf(body, "{\"guests\":%2d}", &it->guests) != 1) return refuse(1, 0), false;
+    return true;
+}
+
+// ---- The rules ----
+
+static sqlite3_int64 moment;
+
+struct row { char key[NAME], member[NAME]; bool revoked; };
+
+// The key that a pass names, where the pass is signed under a root of it that is good.
+static bool verify(const struct pass *pass, struct row *row) {
+    char name[NAME];
+    if (pass->identifier.len < 5 || pass->identifier.len > 28 || memcmp(pass->identifier.at, "key:", 4)) return false;
+    snprintf(name, NAME, "%.*s", (int)pass->identifier.len - 4, pass->identifier.at + 4);
+    set_text(KEY, 1, name);
+    if (!next_row(KEY)) return false;
+    copy_text(KEY, 0, row->key);
+    copy_text(KEY, 1, row->member);
+    row->revoked = number_in(KEY, 3);
+    bool good = is_signed(pass, name, sqlite3_column_blob(statements[KEY], 2), sqlite3_column_bytes(statements[KEY], 2));
+    while (next_row(KEY)) {}
+    set_text(OLDER_ROOT, 1, name);
+    while (next_row(OLDER_ROOT)) {
+        if (good || moment >= number_in(OLDER_ROOT, 1)) continue;
+        good = is_signed(pass, name, sqlite3_column_blob(statements[OLDER_ROOT], 0),
+            sqlite3_column_bytes(statements[OLDER_ROOT], 0));
+    }
+    return good;
+}
+
+static sqlite3_int64 spent_by(const char *key) {
+    sqlite3_int64 spent = 0;
+    set_text(COSTS, 1, key);
+    while (next_row(COSTS)) spent += number_in(COSTS, 0) - number_in(COSTS, 1);
+    return spent;
+}
+
+static sqlite3_int64 open_of(const char *member) {
+    sqlite3_int64 open = 0;
+    set_text(OPEN, 1, member);
+    set_number(OPEN, 2, moment);
+    while (next_row(OPEN)) open++;
+    return open;
+}
+
+struct facility { bool known; char kind[NAME]; int places, price, opens, shuts; };
+
+static struct facility facility_of(const char *name) {
+    struct facility it = {0};
+    set_text(FACILITY, 1, name);
+    while (next_row(FACILITY)) {
+        it.known = true;
+        copy_text(FACILITY, 1, it.kind);
+        it.places = number_in(FACILITY, 2), it.price = number_in(FACILITY, 3);
+        it.opens = number_in(FACILITY, 4), it.shuts = number_in(FACILITY, 5);
+    }
+    return it;
+}
+
+struct slot { bool closed; int taken; };
+
+static struct slot slot_of(const struct request *request) {
+    struct slot it = {0};
+    set_text(SLOT, 1, request->facility);
+    set_number(SLOT, 2, request->day);
+    set_number(SLOT, 3, request->hour);
+    while (next_row(SLOT)) it.closed = number_in(SLOT, 0), it.taken = number_in(SLOT, 1);
+    return it;
+}
+
+struct booking { bool known, cancelled; char facility[NAME]; int day, hour, guests, charge, left, refund; };
+
+static struct booking booking_of(const char *key, int number) {
+    struct booking it = {0};
+    set_text(BOOKING, 1, key);
+    set_number(BOOKING, 2, number);
+    while (next_row(BOOKING)) {
+        it.known = true;
+        copy_text(BOOKING, 2, it.facility);
+        it.day = number_in(BOOKING, 3), it.hour = number_in(BOOKING, 4), it.guests = number_in(BOOKING, 5);
+        it.charge = number_in(BOOKING, 6), it.left = number_in(BOOKING, 7);
+        it.cancelled = number_in(BOOKING, 8), it.refund = number_in(BOOKING, 9);
+    }
+    return it;
+}
+
+// The number of the first caveat that denies, or minus that of one that isn't understood; 0 for none.
+static int first_fault(const struct pass *pass, const struct request *request, const char *key, int owed) {
+    static const char *const actions[] = {"view", "book", "account"};
+    for (int n = 0; n < pass->count; n++) {
+        char text[257];
+        int limit, year, month, date, hour, minute;
+        if (pass->caveats[n].len > 256) return -(n + 1);
+        snprintf(text, sizeof text, "%.*s", (int)pass->caveats[n].len, pass->caveats[n].at);
+        if (sscanf(text, "guests <= %d", &limit) == 1) {
+            if (request->guests > limit) return n + 1;
+        } else if (sscanf(text, "until < %d-%d-%dT%d:%d", &year, &month, &date, &hour, &minute) == 5) {
+            if (moment >= day_number(year, month, date) * DAY + hour * 60 + minute) return n + 1;
+        } else if (sscanf(text, "spend <= %d", &limit) == 1) {
+            if (owed && spent_by(key) + owed > limit) return n + 1;
+        } else if (!strncmp(text, "actions = ", 10)) {
+            if (!strstr(text + 10, actions[request->action])) return n + 1;
+        } else {
+            return -(n + 1);
+        }
+    }
+    return 0;
+}
+
+static void write_booking(const struct row *row, const struct request *it, int charge, int left) {
+    run(BEGIN);
+    set_text(ADD_BOOKING, 1, row->key);
+    set_number(ADD_BOOKING, 2, it->number);
+    set_text(ADD_BOOKING, 3, it->facility);
+    set_number(ADD_BOOKING, 4, it->day);
+    set_number(ADD_BOOKING, 5, it->hour);
+    set_number(ADD_BOOKING, 6, it->guests);
+    set_number(ADD_BOOKING, 7, charge);
+    set_number(ADD_BOOKING, 8, left);
+    set_number(ADD_BOOKING, 9, 0);
+    set_number(ADD_BOOKING, 10, 0);
+    run(ADD_BOOKING);
+    set_text(ADD_USED, 1, row->member);
+    set_number(ADD_USED, 2, charge);
+    run(ADD_USED);
+    set_text(ADD_TAKEN, 1, it->facility);
+    set_number(ADD_TAKEN, 2, it->day);
+    set_number(ADD_TAKEN, 3, it->hour);
+    set_number(ADD_TAKEN, 4, it->guests + 1);
+    run(ADD_TAKEN);
+    run(COMMIT);
+}
+
+static void booked(const char *key, int number, int charge, int left) {
+    char body[128];
+    snprintf(body, sizeof body, "{\"booking\":\"%s/%d\",\"charge\":%d,\"left\":%d}", key, number, charge, left);
+    respond(200, "OK", "", body);
+}
+
+static void book(const struct row *row, const struct request *it, const struct facility *facility) {
+    sqlite3_int64 start = it->day * DAY + it->hour * 60;
+    if (it->hour < facility->opens || it->hour >= facility->shuts || start <= moment || start - moment > WINDOW)
+        return refuse(16, 0);
+    struct slot slot = slot_of(it);
+    if (slot.closed) return refuse(17, 0);
+    if (slot.taken + it->guests + 1 > facility->places) return refuse(18, 0);
+    sqlite3_int64 open = open_of(row->member), quota = 0, balance = 0;
+    set_text(MEMBER, 1, row->member);
+    while (next_row(MEMBER)) {
+        balance = number_in(MEMBER, 1) - number_in(MEMBER, 3);
+        quota = number_in(MEMBER, 2);
+    }
+    if (open >= quota) return refuse(19, 0);
+    int charge = facility->price * (it->guests + 1);
+    if (balance < charge) return refuse(20, 0);
+    int left = facility->places - slot.taken - it->guests - 1;
+    write_booking(row, it, charge, left);
+    booked(row->key, it->number, charge, left);
+}
+
+static void repeat(const struct row *row, const struct request *it, const struct booking *record) {
+    if (strcmp(record->facility, it->facility) || record->day != it->day || record->hour != it->hour
+        || record->guests != it->guests) return refuse(13, 0);
+    booked(row->key, it->number, record->charge, record->left);
+}
+
+static void show_slot(const struct request *it, const struct facility *facility, const char *date) {
+    char body[256];
+    struct slot slot = slot_of(it);
+    snprintf(body, sizeof body, "{\"facility\":\"%s\",\"day\":\"%.10s\",\"hour\":%d,\"kind\":\"%s\",\"price\":%d,"
+        "\"places\":%d,\"taken\":%d,\"closed\":%s}", it->facility, date, it->hour, facility->kind,
+        facility->price, facility->places, slot.taken, slot.closed ? "true" : "false");
+    respond(200, "OK", "", body);
+}
+
+static void show_account(const struct row *row) {
+    char body[256];
+    sqlite3_int64 spent = spent_by(row->key), open = open_of(row->member), quota = 0, balance = 0;
+    set_text(MEMBER, 1, row->member);
+    while (next_row(MEMBER)) {
+        balance = number_in(MEMBER, 1) - number_in(MEMBER, 3);
+        quota = number_in(MEMBER, 2);
+    }
+    snprintf(body, sizeof body, "{\"member\":\"%s\",\"balance\":%lld,\"quota\":%lld,\"open\":%lld,\"spent\":%lld}",
+        row->member, balance, quota, open, spent);
+    respond(200, "OK", "", body);
+}
+
+static void answer(char *bytes) {
+    static struct pass pass;
+    struct request it;
+    struct row row;
+    struct facility facility = {0};
+    struct booking record = {0};
+    if (!read_request(bytes, &it)) return;
+    if (!read_pass(it.pass, it.pass_len, &pass)) return refuse(6, 0);
+    if (!verify(&pass, &row)) return refuse(9, 0);
+    if (row.revoked) return refuse(10, 0);
+    if (it.action != ACCOUNT) facility = facility_of(it.facility);
+    if (it.number) record = booking_of(row.key, it.number);
+    int owed = it.action == BOOK && !record.known && facility.known ? facility.price * (it.guests + 1) : 0;
+    int fault = first_fault(&pass, &it, row.key, owed);
+    if (fault) return refuse(fault < 0 ? 11 : 12, abs(fault));
+    if (it.action == ACCOUNT) return show_account(&row);
+    if (record.known) return repeat(&row, &it, &record);
+    if (!facility.known) return refuse(14, 0);
+    if (it.action == BOOK) return book(&row, &it, &facility);
+    show_slot(&it, &facility, strstr(bytes, it.facility) + strlen(it.facility) + 1);
+}
+
+// ---- Connections ----
+
+static bool is_whole(const char *bytes, size_t len) {
+    const char *end = strstr(bytes, "\r\n\r\n");
+    if (!end) return false;
+    const char *field = strstr(bytes, "\r\nContent-Length: ");
+    return len >= (size_t)(end + 4 - bytes) + (field && field < end ? strtoul(field + 18, NULL, 10) : 0);
+}
+
+static void serve(int connection) {
+    static char bytes[MAX_REQUEST + 1];
+    size_t len = 0;
+    do {
+        ssize_t came = read(connection, bytes + len, MAX_REQUEST - len);
+        if (came <= 0) break;
+        bytes[len += (size_t)came] = 0;
+    } while (!is_whole(bytes, len));
+    answer(bytes);
+    if (write(connection, reply, (size_t)reply_len) != reply_len) fprintf(stderr, "short write\n");
+    close(connection);
+}
+
+int main(int count, char **words) {
+    if (count != 3) return fprintf(stderr, "usage: desk FILE MOMENT\n"), 2;
+    open_file(words[1]);
+    moment = atoll(words[2]);
+    struct sockaddr_in address = {.sin_family = AF_INET, .sin_addr.s_addr = htonl(INADDR_LOOPBACK)};
+    socklen_t len = sizeof address;
+    int listener = socket(AF_INET, SOCK_STREAM, 0);
+    if (bind(listener, (struct sockaddr *)&address, len) || listen(listener, 128)) return perror("listen"), 1;
+    getsockname(listener, (struct sockaddr *)&address, &len);
+    printf("%d\n", ntohs(address.sin_port));
+    fflush(stdout);
+    for (;;) {
+        int connection = accept(listener, NULL, NULL);
+        if (connection >= 0) serve(connection);
+    }
+}
