@@ -9,7 +9,7 @@
 #   the clauses of README's law.
 # - Each file that a page names is there, and each name `crate::..::name` or `Type::name` is defined.
 # - docs/MAP.md has each crate with what it stands on, as crates.txt does; LAYERS and TRUST name each.
-# - The toolchain that README.md and docs/TRUST.md name is this one, and bin/demo prints what tests/demo_tells.sh wants.
+# - The logic that README.md and docs/TRUST.md name by its sum is this toolchain's, and bin/demo prints what tests/demo_tells.sh wants.
 # Programs are proved and built by bin/proved where they have to be. Installs Debian's curl where it is missing. Not part of the gate.
 #   tests/docs_hold.sh                 every page
 #   tests/docs_hold.sh docs/DESK.md    these pages
@@ -317,7 +317,7 @@ for page; do
 done
 if [ -n "$whole" ]; then
     for page in README.md docs/TRUST.md; do
-        grep -qF "$(rt version)" "$page" || echo "$page: another toolchain than $(rt version)" >>"$faults"
+        grep -qF "$(rt version | sed 's/.* logic //')" "$page" || echo "$page: another logic than that of $(rt version)" >>"$faults"
     done
     [ -z "$runs" ] || tests/demo_tells.sh || echo 'tests/demo_tells.sh: bin/demo prints something else' >>"$faults"
 fi
