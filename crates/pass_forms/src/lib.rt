@@ -19,7 +19,7 @@ pub use envelope::{MAX_BYTES, MAX_TEXT, Unwrapped, decode_base64, unwrap_text};
 pub use fault::FormFault;
 pub use field_source::{Field, FieldSource};
 pub use form::Form;
-pub use pass::{MAX_CAVEATS, Pass, narrow};
+pub use pass::{MAX_CAVEATS, Pass, PassParts, narrow};
 pub use v1::{V1Fields, read_v1};
 pub use v2::{V2Fields, read_v2};
 pub use write::{write_v1, write_v2};

@@ -22,6 +22,19 @@ pub struct Pass {
     signature: [u8; 32],
 }
 
+/// The values of a pass, each with its name, as `Pass::into_parts` gives them back.
+#[derive(Drop)]
+pub struct PassParts {
+    /// A hint at where the pass is good.
+    pub location: Vec<u8>,
+    /// The identifier, which the signature covers.
+    pub identifier: Vec<u8>,
+    /// The caveats, in the order in which they were added.
+    pub caveats: Vec<Vec<u8>>,
+    /// The last signature of the chain.
+    pub signature: [u8; 32],
+}
+
 impl Model for Pass {
     ghost use Rattle.std.specs.Prelude.{◌≡◌, length, map};
     ghost use Rattle.pass_forms.specs.Pass.{Plain};
@@ -108,6 +121,27 @@ impl Pass {
             Field::Signature(bytes) => self.signature = bytes,
         }
         Ok(())
+    }
+
+    /// The values that the pass is made of, without a copy: no memory is taken.
+    pub fn into_parts(self) -> PassParts
+        ensures location { result.location.items ≡ self.location }
+        ensures identifier { result.identifier.items ≡ self.identifier }
+        ensures caveats { map (λ caveat. caveat.items) result.caveats.items ≡ self.caveats }
+        ensures signature { result.signature ≡ self.signature }
+    {
+        let Pass {
+            location,
+            identifier,
+            caveats,
+            signature,
+        } = self;
+        PassParts {
+            location,
+            identifier,
+            caveats,
+            signature,
+        }
     }
 
     /// A hint at where the pass is good. It isn't signed.

@@ -2,7 +2,7 @@
 //! in a fraction of the time.
 
 use pass_forms::{
-    Field, FieldSource, Form, FormFault, MAX_BYTES, Pass, Unwrapped, V1Fields, V2Fields,
+    Field, FieldSource, Form, FormFault, MAX_BYTES, Pass, PassParts, Unwrapped, V1Fields, V2Fields,
 };
 use pass_mac::Chain;
 use std::alloc::{AllocError, Global};
@@ -93,6 +93,10 @@ pub(crate) fn new_pass(
     signature: [u8; 32],
 ) -> Pass {
     Pass::new(location, identifier, caveats, signature)
+}
+
+pub(crate) fn into_parts(pass: Pass) -> PassParts {
+    pass.into_parts()
 }
 
 pub(crate) fn is_signed(pass: &Pass, root: &[u8]) -> bool {

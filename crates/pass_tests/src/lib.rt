@@ -10,6 +10,8 @@ mod envelope;
 #[cfg(test)]
 mod mint;
 #[cfg(test)]
+mod parts;
+#[cfg(test)]
 mod read;
 #[cfg(test)]
 mod rows;
