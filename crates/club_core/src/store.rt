@@ -35,12 +35,14 @@ impl Error for StoreFault {}
 /// A store of the rows of a club. What it tells and changes is promised while its disk is honest:
 /// while it returns what was written, and nobody else writes it.
 pub trait ClubStore {
-    ghost use Rattle.std.specs.Prelude.{◌≡◌, ◌∷◌, [], All, List, MatchResult};
+    ghost use Rattle.std.specs.Prelude.{◌≡◌, ◌∷◌, [], All, IfErr, List, MatchResult, Option, Some};
+    ghost use Rattle.club_core.specs.declared.change.Change.{Change};
+    ghost use Rattle.club_core.specs.declared.store.StoreFault.{StoreFault};
     ghost use Rattle.club_core.specs.After.{after};
     ghost use Rattle.club_core.specs.Club.{Club, IsSound, facility_named, key_named, member_named};
     ghost use Rattle.club_core.specs.Sheet.{AreRowsOf};
     ghost use Rattle.club_core.specs.Basis.{slot_use, view_in};
-    ghost use Rattle.club_core.specs.Store.{Fits, KeepsStanding, Tells};
+    ghost use Rattle.club_core.specs.Store.{Fits, KeepsStanding, ReadsOrFails, Tells};
 
     // the club that stands, and the clubs of which a crash may leave one in its place
     ghost stands: { Self → Club → List Club → Type 0 };
@@ -48,33 +50,41 @@ pub trait ClubStore {
     // whether the disk was honest so far
     ghost is_honest: { Self → Type 0 };
 
+    // since the first state a reading failed with this fault, or this change did, and left the
+    // second
+    ghost fails: { Option Change → Self → StoreFault → Self → Type 0 };
+
     /// The key of this name; `None` where there is none.
     fn key(&mut self, name: &Name) -> Result<Option<Key>, StoreFault>
         ensures honest { is_honest self.new → is_honest self.old }
         ensures kept { is_honest self.new → KeepsStanding stands self.old self.new }
         ensures told { is_honest self.new → Tells stands self.old result
-            (λ club key. key ≡ key_named name.now club) };
+            (λ club key. key ≡ key_named name.now club) }
+        ensures failed { is_honest self.new → ReadsOrFails fails self.old self.new result };
 
     /// The member of this name; `None` where there is none.
     fn member(&mut self, name: &Name) -> Result<Option<Member>, StoreFault>
         ensures honest { is_honest self.new → is_honest self.old }
         ensures kept { is_honest self.new → KeepsStanding stands self.old self.new }
         ensures told { is_honest self.new → Tells stands self.old result
-            (λ club member. member ≡ member_named name.now club) };
+            (λ club member. member ≡ member_named name.now club) }
+        ensures failed { is_honest self.new → ReadsOrFails fails self.old self.new result };
 
     /// The facility of this name; `None` where there is none.
     fn facility(&mut self, name: &Name) -> Result<Option<Facility>, StoreFault>
         ensures honest { is_honest self.new → is_honest self.old }
         ensures kept { is_honest self.new → KeepsStanding stands self.old self.new }
         ensures told { is_honest self.new → Tells stands self.old result
-            (λ club facility. facility ≡ facility_named name.now club) };
+            (λ club facility. facility ≡ facility_named name.now club) }
+        ensures failed { is_honest self.new → ReadsOrFails fails self.old self.new result };
 
     /// What is taken of a slot: nothing of one that nobody booked or closed.
     fn slot(&mut self, slot: &Slot) -> Result<SlotUse, StoreFault>
         ensures honest { is_honest self.new → is_honest self.old }
         ensures kept { is_honest self.new → KeepsStanding stands self.old self.new }
         ensures told { is_honest self.new → Tells stands self.old result
-            (λ club found. found ≡ slot_use club slot.now) };
+            (λ club found. found ≡ slot_use club slot.now) }
+        ensures failed { is_honest self.new → ReadsOrFails fails self.old self.new result };
 
     /// What a key sees of a request at a moment; `None` where the key is unknown.
     fn view(
@@ -86,14 +96,16 @@ pub trait ClubStore {
         ensures honest { is_honest self.new → is_honest self.old }
         ensures kept { is_honest self.new → KeepsStanding stands self.old self.new }
         ensures told { is_honest self.new → Tells stands self.old result
-            (λ club view. view ≡ view_in club key.now request.now moment) };
+            (λ club view. view ≡ view_in club key.now request.now moment) }
+        ensures failed { is_honest self.new → ReadsOrFails fails self.old self.new result };
 
     /// The day's bookings that aren't cancelled, in the order of the day sheet.
     fn day(&mut self, day: Day) -> Result<Vec<Booking>, StoreFault>
         ensures honest { is_honest self.new → is_honest self.old }
         ensures kept { is_honest self.new → KeepsStanding stands self.old self.new }
         ensures told { is_honest self.new → Tells stands self.old result
-            (λ club rows. AreRowsOf club day rows.items) };
+            (λ club rows. AreRowsOf club day rows.items) }
+        ensures failed { is_honest self.new → ReadsOrFails fails self.old self.new result };
 
     /// Makes a change that fits. Where it is refused the club stands as it was, and a crash may yet
     /// leave the changed one.
@@ -104,7 +116,9 @@ pub trait ClubStore {
             → Fits change.now club
             → MatchResult result
             (λ _. stands self.new (after change.now club) [])
-            (λ _. stands self.new club (after change.now club ∷ others)) };
+            (λ _. stands self.new club (after change.now club ∷ others)) }
+        ensures failed { is_honest self.new → IfErr result
+            (λ fault. fails (Some change.now) self.old fault self.new) };
 
     // what stands is sound, and so is each club that a crash may leave
     ghost sound: { (store : Self) (club : Club) (others : List Club)

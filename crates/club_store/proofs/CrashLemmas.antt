@@ -19,7 +19,7 @@ use Rattle.sqlite.proofs.Theorems.{opens_again}
 use Rattle.club_core.specs.Club.{Club, empty_club}
 use Rattle.club_tables.specs.Schema.{no_schema}
 use Rattle.club_tables.specs.Tables.{HoldsClub, IsLeftOf, Stands, IsFound}
-use Rattle.club_store.specs.Crash.{OneStands, HoldsOneOf, CrashLeaves}
+use Rattle.club_store.specs.Crash.{OneStands, OneIsFound, HoldsOneOf, CrashLeaves}
 
 -- every crash leaves what was committed last
 abbrev IsSettled : State → Type 0
@@ -66,6 +66,12 @@ module _ (now : State) (opened : Opens now) (live : IsLive now) (settled : IsSet
   one_stands next opens [] left = left
   one_stands next opens (club ∷ clubs) (inl here) = inl (opens club [] (finds club (holds_left club here.0 here.1 here.2)))
   one_stands next opens (club ∷ clubs) (inr there) = inr (one_stands next opens clubs there)
+
+  pub one_found : (next : State) → ((club : Club) (others : List Club) → IsFound now club others → IsFound next club others)
+      → (clubs : List Club) → IsLeftOf now.committed.trees clubs → OneIsFound next clubs
+  one_found next keeps [] left = left
+  one_found next keeps (club ∷ clubs) (inl here) = inl (keeps club [] (finds club (holds_left club here.0 here.1 here.2)))
+  one_found next keeps (club ∷ clubs) (inr there) = inr (one_found next keeps clubs there)
 
 -- the files that a crash leaves hold a database of one of the clubs
 pub files_hold : {D : Type 0} {g : Ghosts D} (it : FileStore D g) (clubs : List Club) (left : Image) → CrashLeaves it clubs left → ∥ HoldsOneOf left clubs ∥₁

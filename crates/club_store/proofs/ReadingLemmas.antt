@@ -53,7 +53,8 @@ after_reading g a b c first IsFirst clean reads after = record {
   counted = omega (arith, reads.survives.counts, after.counted);
 }
 
-later_fault : {S A : Type 0} (g : Ghosts S) (a b c : Held S) (first : Result A StoreFault) (IsFirst : Club → A → Type 0) (fault : StoreFault)
+-- a fault of a reading after it
+pub later_fault : {S A : Type 0} (g : Ghosts S) (a b c : Held S) (first : Result A StoreFault) (IsFirst : Club → A → Type 0) (fault : StoreFault)
     → HasCleanDisk (state g b) → ReadsClub g a b first IsFirst → IsReadFault g b c fault → IsReadFault g a c fault
 later_fault g a b c first IsFirst fault clean reads it =
     record { from = it.from; after = after_reading g a b it.from first IsFirst clean reads it.after; reading = it.reading; failed = it.failed }
@@ -97,7 +98,7 @@ on_err (Ok done) p f = tt
 on_err (Err e) p f = f p
 
 module _ {S A : Type 0} (g : Ghosts S) (a b : Held S) (first : Result A StoreFault) (IsFirst : Club → A → Type 0) (reads : ReadsClub g a b first IsFirst) where
-  change_fault : (c : Held S) (IsBefore IsIt : Club → Type 0) (change : Change) (fault : StoreFault) → HasCleanDisk (state g b)
+  pub change_fault : (c : Held S) (IsBefore IsIt : Club → Type 0) (change : Change) (fault : StoreFault) → HasCleanDisk (state g b)
       → ((club : Club) → IsBefore club → IfOk first (IsFirst club) → IsIt club)
       → IsChangeFault g IsIt change b c fault → IsChangeFault g IsBefore change a c fault
   change_fault c IsBefore IsIt change fault clean is (inl read) = inl (later_fault g a b c first IsFirst fault clean reads read)

@@ -10,7 +10,7 @@ use Rattle.sqlite.specs.Recovery.{Image}
 use Rattle.sqlite.specs.State.{State, Opens, IsLive}
 use Rattle.sqlite.specs.Files.{HoldsDatabase, over_files}
 use Rattle.club_core.specs.Club.{Club}
-use Rattle.club_tables.specs.Tables.{IsLeftOf, Stands}
+use Rattle.club_tables.specs.Tables.{IsLeftOf, Stands, IsFound}
 
 -- whatever a crash leaves of the store is a database of one of these clubs
 abbrev pub LeavesOneOf : {S : Type 0} → Ghosts S → S → List Club → Type 0
@@ -26,6 +26,11 @@ pub record IsOpenedOn (state : State) (clubs : List Club) : Type 0 where
 abbrev pub OneStands : State → List Club → Type 0
 OneStands state [] = ⊥
 OneStands state (club ∷ clubs) = Stands state club [] ⊎ OneStands state clubs
+
+-- one of these clubs is found, and every crash leaves that one
+abbrev pub OneIsFound : State → List Club → Type 0
+OneIsFound state [] = ⊥
+OneIsFound state (club ∷ clubs) = IsFound state club [] ⊎ OneIsFound state clubs
 
 -- the file and its log hold a database of one of these clubs
 abbrev pub HoldsOneOf : Image → List Club → Type 0

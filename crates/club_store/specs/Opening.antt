@@ -1,5 +1,5 @@
 -- What an opening makes of a file and its log (ours).
-use Rattle.std.specs.Prelude.{◌≡◌, ◌⊎◌, List, [], Option, None, Result, IfSome, IfErr, IsTrue}
+use Rattle.std.specs.Prelude.{◌≡◌, ◌⊎◌, false, List, [], Option, None, IfSome, IsTrue}
 use Rattle.sqlite_disk.specs.declared.Disk as disk
 use Rattle.sqlite_disk.specs.declared.Files.{Files}
 use Rattle.sqlite.specs.declared.FileStore.{FileStore}
@@ -12,19 +12,35 @@ use Rattle.sqlite.specs.Store.{Ghosts}
 use Rattle.sqlite.specs.State.{HasCleanDisk, Survives}
 use Rattle.sqlite.specs.Held.{Held, state}
 use Rattle.sqlite.specs.Steps.{over_memory, IsEmpty}
-use Rattle.sqlite.specs.Files.{over_files, file_state, IsOpened, IsCleanLeft, FailsToOpenFiles}
+use Rattle.sqlite.specs.Files.{over_files, file_state, image_of, IsOpened, IsCleanLeft, FailsToOpenFiles, LeavesFiles}
+use Rattle.sqlite.specs.WalFiles.{outcomes}
 use Rattle.sqlite.specs.Start.{FindsIn}
 use Rattle.club_core.specs.Club.{Club, empty_club}
+use Rattle.club_core.specs.Store.{KeepsStanding}
 use Rattle.club_core.specs.declared.store.StoreFault.{StoreFault}
 use Rattle.club_core.specs.declared.store.StoreFault.TheVariants.{Memory}
 use Rattle.club_tables.specs.Opening.{IsAccepted, IsOpeningBatch, IsOpeningFault}
-use Rattle.club_transactions.specs.Transaction.{MayCommit, fault_by}
+use Rattle.club_transactions.specs.Transaction.{MayCommit, IsKept, fault_by}
 use Rattle.club_tables.specs.Tables.{Stands, IsFound}
-use Rattle.club_store.specs.Crash.{HoldsOneOf, OneStands}
+use Rattle.club_tables.specs.Told.{found_in}
+use Rattle.club_store.specs.declared.remains.Remains.{Remains}
+use Rattle.club_store.specs.declared.remains.Remains.TheVariants as remains
+use Rattle.club_store.specs.Crash.{HoldsOneOf, IsOpenedOn, OneStands, OneIsFound}
 
 -- a crash may leave what it could before, or what the one batch of the opening left
 abbrev pub SurvivesOpening : {S : Type 0} → Ghosts S → Held S → Held S → Type 0
 SurvivesOpening g old new = Survives (state g old) (state g new) (MayCommit g IsOpeningBatch old)
+
+-- A connection whose tables aren't taken, as it is handed back: the clubs that were found in it are found in it still, a connection in no transaction
+-- holds the database that it held, and a crash may leave what it could before, or what the one batch of the opening left.
+pub record IsHandedBack {S : Type 0} (g : Ghosts S) (old new : Held S) : Type 0 where
+  pub clean : HasCleanDisk (state g new) → HasCleanDisk (state g old)
+  pub kept : HasCleanDisk (state g new) → KeepsStanding (found_in g) old new
+  pub mode : new.in_transaction ≡ old.in_transaction
+  pub untouched : old.in_transaction ≡ false → IsKept (state g old) (state g new)
+  pub survives : SurvivesOpening g old new
+  -- what a crash left of one of these clubs is found as that club, whole
+  pub again : HasCleanDisk (state g new) → (clubs : List Club) → IsOpenedOn (state g old) clubs → OneIsFound (state g new) clubs
 
 -- the files held a database, its tables were taken, and the club that was found in it stands
 pub record OpensFrom {D : Type 0} {g : disk.Ghosts D} (start : Image) (now : Held (FileStore D g)) : Type 0 where
@@ -43,22 +59,40 @@ pub record OpensFrom {D : Type 0} {g : disk.Ghosts D} (start : Image) (now : Hel
 abbrev pub IsMemoryFault : StoreFault → Type 0
 IsMemoryFault fault = (fault ≡ Memory) ⊎ ((was : _) × (now : _) × IsEmpty (state over_memory was) × IsOpeningFault over_memory was now fault)
 
--- a file that isn't opened, and the fault is that of the error: there was no file, no memory, or another has it open; or what it and its log hold
--- is refused
-pub record IsFileFault {D : Type 0} (g : disk.Ghosts D) (fault : StoreFault) : Type 0 where
+-- The fault of a file that isn't opened is that of the error. Nothing is left: there was no file, no memory, or another has it open. Or what it and
+-- its log held is refused.
+pub record IsFileFault {D : Type 0} {g : disk.Ghosts D} (start : Image) (rest : Option (Leftover D g)) (fault : StoreFault) : Type 0 where
   pub error : Error
-  pub rest : Option (Leftover D g)
   pub unopened : rest ≡ None → (error ≡ SqliteFailure CannotOpen) ⊎ ((error ≡ SqliteFailure OutOfMemory) ⊎ (error ≡ SqliteFailure DatabaseBusy))
-  pub cause : IfSome rest (λ left. (files : Files D) × (IsCleanLeft left → FailsToOpenFiles files left error))
+  pub cause : IfSome rest (λ left. (files : Files D) × (image_of g files ≡ start) × (IsCleanLeft left → FailsToOpenFiles files left error))
   pub told : fault ≡ fault_by error
 
--- the tables of a file that was opened, and they aren't taken
-pub record IsTablesFault {D : Type 0} (g : disk.Ghosts D) (start : Image) (fault : StoreFault) : Type 0 where
+-- the fault of a connection whose tables aren't taken
+pub record IsTablesFault {D : Type 0} {g : disk.Ghosts D} (start : Image) (now : Held (FileStore D g)) (fault : StoreFault) : Type 0 where
   pub was : Held (FileStore D g)
-  pub now : Held (FileStore D g)
   pub opened : HasCleanDisk (file_state was) → IsOpened was × FindsIn start (file_state was)
   pub failed : HasCleanDisk (file_state now) → IsOpeningFault over_files was now fault
 
 -- the fault of a file that isn't opened, or whose tables aren't taken
-abbrev pub FailsFrom : {D : Type 0} {g : disk.Ghosts D} → Image → Result (Held (FileStore D g)) StoreFault → Type 0
-FailsFrom {g = g} start result = IfErr result (λ fault. IsFileFault g fault ⊎ IsTablesFault g start fault)
+abbrev pub FailsFrom : {D : Type 0} {g : disk.Ghosts D} → Image → Remains D g → StoreFault → Type 0
+FailsFrom start (remains.Files rest) fault = IsFileFault start rest fault
+FailsFrom start (remains.Connection now) fault = IsTablesFault start now fault
+
+-- what is left of files that weren't opened, which held this and nothing else: a crash leaves of it what the engine says
+pub record IsLeftOfFiles {D : Type 0} {g : disk.Ghosts D} (start : Image) (left : Leftover D g) : Type 0 where
+  pub files : Files D
+  pub held : image_of g files ≡ start
+  pub settled : (image : Image) → outcomes g files.log files.db image → image ≡ start
+  pub leaves : IsCleanLeft left → LeavesFiles files left
+
+-- the connection of a file whose tables aren't taken is handed back: the club that the file held is found in it
+pub record IsLeftOpen {D : Type 0} {g : disk.Ghosts D} (start : Image) (now : Held (FileStore D g)) : Type 0 where
+  pub was : Held (FileStore D g)
+  pub opened : HasCleanDisk (file_state was) → IsOpened was × FindsIn start (file_state was)
+  pub back : IsHandedBack over_files was now
+  pub again : HasCleanDisk (file_state now) → (clubs : List Club) → HoldsOneOf start clubs → OneIsFound (file_state now) clubs
+
+-- what a refused opening of files that held this leaves
+abbrev pub LeavesFrom : {D : Type 0} {g : disk.Ghosts D} → Image → Remains D g → Type 0
+LeavesFrom start (remains.Files rest) = IfSome rest (IsLeftOfFiles start)
+LeavesFrom start (remains.Connection now) = IsLeftOpen start now

@@ -11,11 +11,14 @@ impl<S: Alter> ClubStore for Store<S> {
     ghost use Rattle.sqlite.specs.State.{HasCleanDisk};
     ghost use Rattle.sqlite.specs.Held.{state};
     ghost use Rattle.club_tables.specs.Told.{sound_in};
+    ghost use Rattle.club_store.specs.Failing.{Fails};
     ghost use Rattle.club_store.specs.Widened.{sound_widened};
 
     ghost stands = { sound_in S.Store };
 
     ghost is_honest = { λ store. HasCleanDisk (state S.Store store) };
+
+    ghost fails = { Fails S.Store };
 
     fn key(&mut self, name: &Name) -> Result<Option<Key>, StoreFault> {
         Store::key(self, name)

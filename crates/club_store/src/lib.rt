@@ -4,6 +4,8 @@
 mod club;
 mod figures;
 pub mod laws;
+mod remains;
 mod store;
 
+pub use remains::Remains;
 pub use store::Store;

@@ -10,10 +10,8 @@ ghost use Rattle.std.specs.Prelude.{
   IfErr,
   IfSome,
   option_map,
-  MatchResult,
   IsErrAnd,
   codes,
-  Err,
 };
 ghost use Rattle.sqlite.specs.State.{HasCleanDisk};
 ghost use Rattle.sqlite.specs.Held.{state};
@@ -21,7 +19,6 @@ ghost use Rattle.club_core.specs.Club.{Club, empty_club, key_named, member_named
 ghost use Rattle.club_core.specs.Sheet.{AreRowsOf};
 ghost use Rattle.club_core.specs.Sums.{booking_under};
 ghost use Rattle.club_core.specs.Basis.{slot_use, view_in};
-ghost use Rattle.club_core.specs.Store.{KeepsStanding};
 ghost use Rattle.club_rows.specs.Rows.{IsMember, IsFacility, IsKey, IsOlderRoot, IsBooking};
 ghost use Rattle.club_core.specs.declared.change.Change.TheVariants.{
   InsertMember,
@@ -39,11 +36,17 @@ ghost use Rattle.sqlite.specs.View.{IsClean};
 ghost use Rattle.sqlite.specs.Files.{file_state};
 ghost use Rattle.sqlite.specs.WalFiles.{image_at};
 ghost use Rattle.club_store.specs.Crash.{LeavesOneOf, IsOpenedOn, OneStands};
-ghost use Rattle.club_store.specs.Opening.{FailsFrom, IsMemoryFault, OpensFrom, SurvivesOpening};
+ghost use Rattle.club_store.specs.Opening.{
+  FailsFrom,
+  IsHandedBack,
+  IsMemoryFault,
+  LeavesFrom,
+  OpensFrom,
+  SurvivesOpening,
+};
 ghost use Rattle.club_tables.specs.Opening.{IsAccepted, IsOpeningFault};
 ghost use Rattle.club_tables.specs.Tables.{Stands, IsFound};
 ghost use Rattle.club_tables.specs.Told.{
-  found_in,
   ReadsClub,
   ChangesClub,
   ChangesClubWhere,
@@ -51,9 +54,9 @@ ghost use Rattle.club_tables.specs.Told.{
   HasNoneToCancel,
 };
 ghost use Rattle.club_tables.specs.Stored.{IsMemberRow, member_row, older_of, fresh};
-ghost use Rattle.club_transactions.specs.Transaction.{IsKept};
 ghost use Rattle.club_store.specs.Figures.{slot_state, seen, HasLimits};
 
+use crate::Remains;
 use crate::figures::{SlotState, account_at, booked};
 use club_core::laws::own_bookings_suffice;
 use club_core::{
@@ -108,25 +111,28 @@ impl Store<MemStore> {
 
 impl<Q: Start> Store<FileStore<FileFrom<Q>>> {
     /// The tables in the file at a path, which is made where there is none. `start` stands for what
-    /// the file and its log hold. A refusal is as that of `adopt`; a path that names no file is
-    /// Storage.
+    /// the file and its log hold. A refusal hands back what is left beside the fault: the
+    /// connection that `adopt` refused, or the files that weren't opened. A path that names no file
+    /// is Storage.
     pub fn open_file(
         rt: &HostRuntime,
         path: &str,
         start: Q,
-    ) -> Result<Store<FileStore<FileFrom<Q>>>, StoreFault>
-        ensures no_file { path.now ≡ codes ":memory:" → result ≡ Err StoreFault.Storage }
+    ) -> Result<Store<FileStore<FileFrom<Q>>>, (StoreFault, Remains<FileFrom<Q>>)>
+        ensures no_file { path.now ≡ codes ":memory:" → IsErrAnd result
+            (λ e. e.0 ≡ StoreFault.Storage) }
         ensures opened { IfOk result
             (λ store. HasCleanDisk (file_state store) → OpensFrom (image_at Q.Start) store) }
-        ensures fault { FailsFrom (image_at Q.Start) result }
+        ensures refused { IfErr result (λ e. LeavesFrom (image_at Q.Start) e.1) }
+        ensures fault { IfErr result (λ e. FailsFrom (image_at Q.Start) e.1 e.0) }
     {
         let connection = match Connection::open_from(rt, path, false, start) {
             Ok(connection) => connection,
-            Err((error, _left)) => return Err(fault_of(error)),
+            Err((error, left)) => return Err((fault_of(error), Remains::Files(left))),
         };
         match Store::adopt(rt.alloc(), connection) {
             Ok(store) => Ok(store),
-            Err((fault, _connection)) => Err(fault),
+            Err((fault, connection)) => Err((fault, Remains::Connection(connection))),
         }
     }
 }
@@ -140,9 +146,8 @@ impl<S: Alter + Drop> Store<S> {
         alloc: Global,
         mut connection: Connection<S>,
     ) -> Result<Store<S>, (StoreFault, Connection<S>)>
-        ensures honest { MatchResult result
-            (λ store. HasCleanDisk (state S.Store store) → HasCleanDisk (state S.Store connection))
-            (λ e. HasCleanDisk (state S.Store e.1) → HasCleanDisk (state S.Store connection)) }
+        ensures honest { IfOk result
+            (λ store. HasCleanDisk (state S.Store store) → HasCleanDisk (state S.Store connection)) }
         ensures opened { IfOk result
             (λ store. HasCleanDisk (state S.Store store) → (club : Club) (others : _) → IsFound
             (state S.Store connection) club others → Stands (state S.Store store) club others) }
@@ -151,16 +156,11 @@ impl<S: Alter + Drop> Store<S> {
             IsAccepted S.Store connection store) }
         ensures busy { IsTrue connection.in_transaction → IsErrAnd result
             (λ e. (e.0 ≡ StoreFault.Storage) × (e.1 ≡ connection)) }
-        ensures refused { IfErr result
-            (λ e. HasCleanDisk (state S.Store e.1) → KeepsStanding
-            (found_in S.Store) connection e.1) }
-        ensures untouched { connection.in_transaction ≡ false → IfErr result
-            (λ e. IsKept (state S.Store connection) (state S.Store e.1)) }
+        ensures refused { IfErr result (λ e. IsHandedBack S.Store connection e.1) }
         ensures fault { connection.in_transaction ≡ false → IfErr result
             (λ e. HasCleanDisk (state S.Store e.1) →
             IsOpeningFault S.Store connection e.1 e.0) }
-        ensures survives { MatchResult result (SurvivesOpening S.Store connection)
-            (λ e. SurvivesOpening S.Store connection e.1) }
+        ensures survives { IfOk result (SurvivesOpening S.Store connection) }
         ensures again { IfOk result (λ store. HasCleanDisk (state S.Store store) →
             (clubs : List Club) → IsOpenedOn (state S.Store connection) clubs → OneStands
             (state S.Store store) clubs) }

@@ -1,9 +1,11 @@
-use Rattle.std.proofs.Common.{List, [], ◌∷◌, Option, Some, None, IfSome, inl, inr, refl, subst, sym}
+use Rattle.std.proofs.Common.{ℕ, List, [], ◌∷◌, Option, Some, None, IfSome, inl, refl, subst, sym, ap₂}
 use Rattle.sqlite.specs.State.{HasCleanDisk}
 use Rattle.sqlite.specs.Files.{file_state}
+use Rattle.sqlite.specs.Recovery.{Image}
 use Rattle.club_core.specs.Club.{Club, empty_club}
 use Rattle.club_tables.specs.Tables.{IsLeftOf}
 use Rattle.club_store.proofs.CrashLemmas.{new_is_blank, the_one}
+use Rattle.club_store.proofs.FileLemmas.{seen, leaves_same}
 use Rattle.club_store.proofs.store.Store+FileStore+FileFrom+Q.open_file.Goals as goal
 
 pub returns-in-Ok-adopt-clause-opened : goal.returns-in-Ok-adopt-clause-opened
@@ -25,25 +27,51 @@ returns-in-Ok-adopt-clause-opened g c clean =
       fresh = λ none. the_one _ empty_club (again (empty_club ∷ []) (inl (was.committed, refl, new_is_blank _ was none found (opened.1 opened.0.is_open).1)));
     }
 
+abbrev image : List ℕ → List ℕ → Image
+image log db = record { log = log; db = db }
+
 weaker : {A : Type 0} (P Q : A → Type 0) (o : Option A) → IfSome o P → ((x : A) → P x → Q x) → IfSome o Q
 weaker P Q None p f = tt
 weaker P Q (Some x) p f = f x p
 
 pub returns-in-Err-clause-fault : goal.returns-in-Err-clause-fault
-returns-in-Err-clause-fault g c =
-    inl (record {
-      error = c.in-Err.error;
-      rest = c.in-Err._left;
-      unopened = c.in-Err.ensures.unopened;
-      cause = weaker _ _ c.in-Err._left c.in-Err.ensures.cause (λ left it. (it.0, λ clean. (it.3 clean).0));
-      told = c.fault_of.ensures;
-    })
+returns-in-Err-clause-fault g c = record {
+  error = c.in-Err.error;
+  unopened = c.in-Err.ensures.unopened;
+  cause = weaker _ _ c.in-Err.left c.in-Err.ensures.cause (λ left it.
+      (it.0, ap₂ image (ap₂ (seen g.Q.Start.log g.Q.Start.db) it.1.0 it.1.1) (ap₂ (seen g.Q.Start.log g.Q.Start.db) it.2.0 it.2.1), λ clean. (it.3 clean).0));
+  told = c.fault_of.ensures;
+}
+
+pub returns-in-Err-clause-refused : goal.returns-in-Err-clause-refused
+returns-in-Err-clause-refused g c = weaker _ _ c.in-Err.left c.in-Err.ensures.cause (λ left it. record {
+  files = it.0;
+  held = ap₂ image (ap₂ (seen g.Q.Start.log g.Q.Start.db) it.1.0 it.1.1) (ap₂ (seen g.Q.Start.log g.Q.Start.db) it.2.0 it.2.1);
+  settled = λ left may. ap₂ image
+      (leaves_same g.Q.Start.is_mixing g.Q.Start.log g.Q.Start.db _ _ _ _ it.1.0 it.1.1 left.log may.0)
+      (leaves_same g.Q.Start.is_mixing g.Q.Start.log g.Q.Start.db _ _ _ _ it.2.0 it.2.1 left.db may.1);
+  leaves = λ clean. (it.3 clean).1;
+})
 
 pub returns-in-Err-adopt-clause-fault : goal.returns-in-Err-adopt-clause-fault
-returns-in-Err-adopt-clause-fault g c =
-    inr (record {
+returns-in-Err-adopt-clause-fault g c = record {
+  was = c.in-Ok.connection;
+  opened = λ clean. (c.in-Ok.ensures.opened clean, c.in-Ok.ensures.found clean);
+  failed = c.in-Err-adopt.ensures.fault c.in-Ok.ensures.fresh.autocommit;
+}
+
+pub returns-in-Err-adopt-clause-refused : goal.returns-in-Err-adopt-clause-refused
+returns-in-Err-adopt-clause-refused g c =
+    let was = file_state c.in-Ok.connection in
+    let back = c.in-Err-adopt.ensures.refused in
+    record {
       was = c.in-Ok.connection;
-      now = c.in-Err-adopt._connection;
       opened = λ clean. (c.in-Ok.ensures.opened clean, c.in-Ok.ensures.found clean);
-      failed = c.in-Err-adopt.ensures.fault c.in-Ok.ensures.fresh.autocommit;
-    })
+      back = back;
+      again = λ clean clubs held.
+          let early = back.clean clean in
+          let opened = c.in-Ok.ensures.opened early in
+          let found = c.in-Ok.ensures.found early in
+          let left : IsLeftOf was.committed.trees clubs = subst (λ trees. IsLeftOf trees clubs) (sym (found.holds held.0 held.1)) held.2 in
+          back.again clean clubs (record { opened = opened.0; live = opened.1; left = left });
+    }

@@ -1,9 +1,9 @@
-use Rattle.std.proofs.Common.{[], ◌∷◌, inl, inr, refl, sym, ap, ◌∙◌}
+use Rattle.std.proofs.Common.{◌≡◌, Bool, true, false, not, [], ◌∷◌, IsTrue, inl, inr, refl, sym, ap, ◌∙◌}
 use Rattle.sqlite.specs.Effect.{Database}
 use Rattle.sqlite.specs.Held.{state}
 use Rattle.club_core.specs.Club.{empty_club}
 use Rattle.club_tables.specs.Tables.{HoldsClub}
-use Rattle.club_store.proofs.CrashLemmas.{one_stands, the_one}
+use Rattle.club_store.proofs.CrashLemmas.{one_found, one_stands, the_one}
 use Rattle.club_store.proofs.ReadingLemmas.{opens_nothing}
 use Rattle.club_store.proofs.store.Store.adopt.Goals as goal
 
@@ -28,5 +28,34 @@ returns-in-Ok-clause-empty g c clean empty =
 pub returns-in-Ok-clause-accepted : goal.returns-in-Ok-clause-accepted
 returns-in-Ok-clause-accepted g c clean is_open = c.in-Ok.ensures.accepted clean is_open (c.is_autocommit.ensures.settled c.if-not-is_autocommit.false)
 
-pub returns-then-not-is_autocommit-clause-survives : goal.returns-then-not-is_autocommit-clause-survives
-returns-then-not-is_autocommit-clause-survives g c = opens_nothing g.S.Store c.args.connection
+pub returns-then-not-is_autocommit-clause-refused : goal.returns-then-not-is_autocommit-clause-refused
+returns-then-not-is_autocommit-clause-refused g c =
+    let was = c.args.connection in
+    record {
+      clean = λ clean. clean;
+      kept = λ clean club others found. found;
+      mode = refl;
+      untouched = λ idle. absurd cc;
+      survives = opens_nothing g.S.Store was;
+      again = λ clean clubs on. one_found (state g.S.Store was) on.opened on.live (λ is_open trees may.
+          g.met.S.Store.settled was.store trees is_open may) _ (λ club others found. found) clubs on.left;
+    }
+
+-- a connection that was in no transaction is in none
+still_idle : (was now tested : Bool) → tested ≡ not was → IsTrue tested → now ≡ false → now ≡ was
+still_idle false now tested is test idle = idle
+still_idle true now tested is test idle = absurd cc
+
+pub returns-in-Err-clause-refused : goal.returns-in-Err-clause-refused
+returns-in-Err-clause-refused g c =
+    let was = c.args.connection in
+    let left = c.in-Err.ensures in
+    record {
+      clean = left.honest;
+      kept = left.refused;
+      mode = still_idle _ _ _ c.is_autocommit.ensures.value c.if-not-is_autocommit.false left.idle;
+      untouched = λ idle. left.untouched;
+      survives = left.survives;
+      again = λ clean clubs on. one_found (state g.S.Store was) on.opened on.live (λ is_open trees may.
+          g.met.S.Store.settled was.store trees is_open may) _ (left.refused clean) clubs on.left;
+    }
