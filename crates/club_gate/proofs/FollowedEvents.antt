@@ -13,7 +13,7 @@ use Rattle.club_laws.specs.Failed.{has_failed, IsStep, IsRun}
 use Rattle.club_gate.specs.Desk.{IsAnsweredBy, IsRefusedBy, Steps, change_by, change_of, others_after}
 use Rattle.club_gate.specs.declared.event.Event.{Event as DeskEvent}
 use Rattle.club_gate.specs.declared.event.EventReply.{EventReply}
-use Rattle.club_gate.specs.Runs.{IsFollowed, MayBeLeft, Told, events_of, failed, told_all}
+use Rattle.club_gate.specs.Runs.{IsFollowed, IsLeftBehind, Told, events_of, failed, told_all}
 use Rattle.club_gate.specs.Told.{event_of, told_by, telling}
 
 -- of some events of a list, the next one too
@@ -60,24 +60,24 @@ among_failed : (event : Event) (one : Told) → has_failed telling event one ≡
 among_failed event one h = rw h (0, omega arith, refl)
 
 -- what a crash may leave, after more events that failed
-left_with_more : (club : Club) (others : List Club) (last : Club) (refused more : List Event) (left : Club) → MayBeLeft club others last refused left
-    → MayBeLeft club others last (refused ++ more) left
+left_with_more : (club : Club) (others : List Club) (last : Club) (refused more : List Event) (left : Club) → IsLeftBehind club others last refused left
+    → IsLeftBehind club others last (refused ++ more) left
 left_with_more club others last refused more left (inl h) = inl h
 left_with_more club others last refused more left (inr h) = inr (h.0, Contains-append_left refused more h.0 h.1, h.2)
 
 all_with_more : (club : Club) (others : List Club) (last : Club) (refused more all : List Event) (left : List Club) → all ≡ refused ++ more
-    → All (MayBeLeft club others last refused) left → All (MayBeLeft club others last all) left
+    → All (IsLeftBehind club others last refused) left → All (IsLeftBehind club others last all) left
 all_with_more club others last refused more all left e h =
-    subst (λ (events : List Event). All (MayBeLeft club others last events) left) (sym e)
-    (All-weaker (MayBeLeft club others last refused) (MayBeLeft club others last (refused ++ more)) (left_with_more club others last refused more) left h)
+    subst (λ (events : List Event). All (IsLeftBehind club others last events) left) (sym e)
+    (All-weaker (IsLeftBehind club others last refused) (IsLeftBehind club others last (refused ++ more)) (left_with_more club others last refused more) left h)
 
 -- what it may leave after an event that was answered
 left_by_answer : (club : Club) (others : List Club) (last : Club) (all : List Event) (event : Event) (left : List Club) (change : Option Change)
-    → change_of last event ≡ change → All (MayBeLeft club others last all) left
-    → All (MayBeLeft club others (step last event).club all) (others_after change left)
+    → change_of last event ≡ change → All (IsLeftBehind club others last all) left
+    → All (IsLeftBehind club others (step last event).club all) (others_after change left)
 left_by_answer club others last all event left None e h =
-    subst (λ (c : Club). All (MayBeLeft club others c all) left) (sym (kept_by last event e)) h
-left_by_answer club others last all event left (Some change) e h = All-nil (MayBeLeft club others (step last event).club all)
+    subst (λ (c : Club). All (IsLeftBehind club others c all) left) (sym (kept_by last event e)) h
+left_by_answer club others last all event left (Some change) e h = All-nil (IsLeftBehind club others (step last event).club all)
 
 module _ {S : Type 0} (Stands : S → Club → List Club → Type 0) where
   answered_more : (new : S) (now : S) (club : Club) (others : List Club) (events : List Event) (told : List Told) (event : Event) (one : Told)
@@ -105,7 +105,7 @@ module _ {S : Type 0} (Stands : S → Club → List Club → Type 0) where
       let refused = failed events told in
       let more = failed (event ∷ []) (one ∷ []) in
       let all = failed (events ++ event ∷ []) (told ++ one ∷ []) in
-      let Left : Club → Type 0 = MayBeLeft club others f.last all in
+      let Left : Club → Type 0 = IsLeftBehind club others f.last all in
       let ran = ran_more club f.last f.last events told event one f.ran (inr (record { failed = r.failed; kept = refl })) in
       let each = all_with_more club others f.last refused more all f.left (failed_more events told event one e) f.each in
       let among : Contains all event =
@@ -129,7 +129,7 @@ module _ {S : Type 0} (Stands : S → Club → List Club → Type 0) where
     ran = refl;
     left = others;
     stands = h;
-    each = All-weaker (Contains others) (MayBeLeft club others club []) (λ left among. inl (refl, among)) others (All-contains_itself others);
+    each = All-weaker (Contains others) (IsLeftBehind club others club []) (λ left among. inl (refl, among)) others (All-contains_itself others);
   }
 
   pub followed_more : (new : S) (now : S) (club : Club) (others : List Club) (events : List Event) (told : List Told) (event : Event) (one : Told)

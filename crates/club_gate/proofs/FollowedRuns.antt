@@ -1,6 +1,6 @@
 -- What the laws of runs say of a list of events that was followed.
-use Rattle.std.proofs.Common.{◌≡◌, ◌<◌, inl, inr, arith, Contains, List, [], ◌∷◌, ◌++◌, All, Some, Result, Ok, Err, IfOk, OnOk, sym, subst}
-use Rattle.std.proofs.lemmas.List.Elements.{All-cons, All-weaker}
+use Rattle.std.proofs.Common.{◌≡◌, inl, inr, List, ◌∷◌, ◌++◌, All, Some, Result, Ok, Err, IfOk, OnOk, sym, subst}
+use Rattle.std.proofs.lemmas.List.Elements.{All-weaker}
 use Rattle.club_core.specs.Club.{Club, empty_club, member_named, IsSound}
 use Rattle.club_core.specs.Events.{IsEvent}
 use Rattle.club_core.specs.Run.{Event, Asked, replies_of}
@@ -9,8 +9,8 @@ use Rattle.club_laws.specs.AsTold.{TellsRepeatsTheSame}
 use Rattle.club_laws.specs.Conservation.{IsConserved, SoundClubsHavePlaces}
 use Rattle.club_laws.specs.Failed.{IsRun, LeavesOutFailed}
 use Rattle.club_gate.specs.declared.event.OfficeReply.{OfficeReply}
-use Rattle.club_gate.specs.Runs.{Conserves, IsAnswered, IsAsInAnother, IsFollowed, IsNeverNegative, IsNeverOverbooked, IsOnce, IsSolo, KeepsServed}
-use Rattle.club_gate.specs.Runs.{LeavesStanding, MayBeLeft, Told, answered, club_left, failed}
+use Rattle.club_gate.specs.Runs.{Conserves, IsAnswered, IsAsInAnother, IsFollowed, IsNeverNegative, IsNeverOverbooked, IsOnce, IsSolo}
+use Rattle.club_gate.specs.Runs.{IsLeftBehind, LeavesStanding, MayBeLeft, Told, answered, club_left, failed}
 use Rattle.club_gate.specs.Told.{telling}
 
 -- What follows of a followed list follows of what an answer tells.
@@ -28,12 +28,23 @@ module _ {S : Type 0} (Stands : S → Club → List Club → Type 0) (new : S) (
   pub answered_by : IsAnswered club events told
   answered_by = subst (IsRun telling club events told) left_by f.ran
 
-  pub standing : LeavesStanding Stands new club others events told
-  standing = record {
-    left = f.left;
-    stands = subst (λ (c : Club). Stands new c f.left) left_by f.stands;
-    each = subst (λ (c : Club). All (MayBeLeft club others c (failed events told)) f.left) left_by f.each;
-  }
+  pub standing : TellsAgainAfterOneMore OfficeReply → LeavesStanding Stands new club others events told
+  standing law =
+      let last = club_left club events told in
+      let refused = failed events told in
+      let again = law telling club last events told answered_by in
+      let At : Club → Type 0 = λ c. TellsAgain c events told in
+      let one : (c : Club) → IsLeftBehind club others last refused c → MayBeLeft club others events told c =
+      λ c is. elim is [ inl before ↦ inl before | inr after ↦ inr (after, subst At (sym after.2) (again.1 after.0)) ]
+      in
+      record {
+        left = f.left;
+        stands = subst (λ (c : Club). Stands new c f.left) left_by f.stands;
+        again = again.0;
+        each =
+            All-weaker (IsLeftBehind club others last refused) (MayBeLeft club others events told) one f.left
+            (subst (λ (c : Club). All (IsLeftBehind club others c refused) f.left) left_by f.each);
+      }
 
   pub solo_by : SoloLawAsTold OfficeReply → IsSound club → IsSolo club events told
   solo_by law sound = λ name. law telling name club f.last events told sound f.ran
@@ -70,22 +81,3 @@ module _ {S : Type 0} (Stands : S → Club → List Club → Type 0) (new : S) (
 
   pub never_overbooked_by : SoundAsTold OfficeReply → SoundClubsHavePlaces → All IsEvent events → IsSound club → IsNeverOverbooked (club_left club events told)
   never_overbooked_by law places within sound = λ slot. places (club_left club events told) slot (sound_left law within sound)
-
-nowhere : (c : Club) → Contains [] c → ⊥
-nowhere c among = let bound : among.0 < 0 = among.1 in omega arith
-
-pub kept_served : {S : Type 0} (Stands : S → Club → List Club → Type 0) (new : S) (club : Club) (events : List Event) (told : List Told)
-    → LeavesOutFailed OfficeReply → TellsAgainAfterOneMore OfficeReply → IsFollowed Stands new club [] events told → KeepsServed Stands new club events told
-kept_served Stands new club events told leaves law f =
-    let last = club_left club events told in
-    let s = standing Stands new club [] events told leaves f in
-    let again = law telling club last events told (answered_by Stands new club [] events told leaves f) in
-    let At : Club → Type 0 = λ c. TellsAgain c events told in
-    let one : (c : Club) → MayBeLeft club [] last (failed events told) c → At c =
-    λ c may. elim may [ inl h ↦ absurd (nowhere c h.1) | inr h ↦ subst At (sym h.2) (again.1 h.0) ]
-    in
-    record {
-      left = s.left;
-      stands = s.stands;
-      again = All-cons At last s.left again.0 (All-weaker (MayBeLeft club [] last (failed events told)) At one s.left s.each);
-    }

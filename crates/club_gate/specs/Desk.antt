@@ -2,13 +2,18 @@
 use Rattle.std.specs.Prelude.{◌≡◌, ◌⊎◌, IsTrue, IsFalse, List, [], ◌∷◌, Option, Some, None, Result, Ok, Err}
 use Rattle.club_core.specs.declared.change.Change.{Change}
 use Rattle.club_core.specs.declared.command.OfficeFault.{OfficeFault}
+use Rattle.club_core.specs.declared.store.StoreFault.{StoreFault}
 use Rattle.club_core.specs.Answer.{verdict_in}
 use Rattle.club_core.specs.Club.{Club, IsSound}
 use Rattle.club_core.specs.Office.{office_verdict}
 use Rattle.club_core.specs.Run.{Event, Asked, Ordered, after_change, step}
+use Rattle.club_core.specs.Store.{IsRead}
 use Rattle.club_laws.specs.Failed.{Told, told_of, has_failed}
 use Rattle.club_gate.specs.declared.event.OfficeReply.{OfficeReply}
-use Rattle.club_gate.specs.Told.{telling}
+use Rattle.club_gate.specs.declared.event.OfficeReply.TheVariants.{Refused}
+use Rattle.club_gate.specs.declared.fault.Fault.{Fault}
+use Rattle.club_gate.specs.declared.fault.Fault.TheVariants.{Memory}
+use Rattle.club_gate.specs.Told.{fault_of_store, telling}
 
 abbrev pub change_by : Result Change OfficeFault → Option Change
 change_by (Ok change) = Some change
@@ -47,3 +52,17 @@ abbrev pub Steps : {S : Type 0} → (S → Club → List Club → Type 0) → S 
 Steps Stands old new event told =
     (club : Club) (others : List Club) → Stands old club others
     → IsAnsweredBy Stands new club others event told ⊎ IsRefusedBy Stands new club others event told
+
+-- The store failed with this fault: at a reading, or at the change that the event makes of the club.
+abbrev pub FailsAt : {S : Type 0} → (Option Change → S → StoreFault → S → Type 0) → S → S → Club → Event → StoreFault → Type 0
+FailsAt Fails old new club event fault = Fails None old fault new ⊎ Fails (change_of club event) old fault new
+
+-- The office gets a fault of the store for its answer only where the store failed with that very fault.
+abbrev pub NamesItsFault : {S : Type 0} → (Option Change → S → StoreFault → S → Type 0) → S → S → Club → Event → OfficeReply → Type 0
+NamesItsFault Fails old new club event reply =
+    (fault : StoreFault) → reply ≡ Refused (fault_of_store fault) → FailsAt Fails old new club event fault
+
+-- A sheet's fault is that with which the store failed at the reading of its rows; or they were read, and there was no memory for the text.
+abbrev pub IsSheetFault : {S : Type 0} → (Option Change → S → StoreFault → S → Type 0) → S → S → Fault → Type 0
+IsSheetFault Fails old new fault =
+    ((refusal : StoreFault) × Fails None old refusal new × (fault ≡ fault_of_store refusal)) ⊎ ((fault ≡ Memory) × IsRead Fails old new)

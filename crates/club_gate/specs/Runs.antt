@@ -49,27 +49,29 @@ club_left club events told = club_after club (answered events told)
 abbrev pub IsAnswered : Club → List machine.Event → List Told → Type 0
 IsAnswered club events told = IsRun telling club events told (club_left club events told)
 
--- A club that a crash may leave in place of the last that stands: one that it could leave before, if nothing was changed; or the
--- last one after one event that failed.
-abbrev pub MayBeLeft : Club → List Club → Club → List machine.Event → Club → Type 0
-MayBeLeft club others last refused left =
-    ((last ≡ club) × Contains others left)
-    ⊎ ((event : machine.Event) × Contains refused event × (left ≡ (step last event).club))
+-- a club that a crash could leave before, where nothing was changed
+abbrev pub WasLeftBefore : Club → List Club → Club → Club → Type 0
+WasLeftBefore club others last left = (last ≡ club) × Contains others left
 
--- the club that the answered events leave stands, and a crash may leave no others than these
+-- the last club after one of these events
+abbrev pub IsAfterOneOf : Club → List machine.Event → Club → Type 0
+IsAfterOneOf last events left = (event : machine.Event) × Contains events event × (left ≡ (step last event).club)
+
+-- A club that a crash may leave after a run, in place of the one that stands: one that it could leave before, if nothing was changed;
+-- or that one after one event that failed, where what was served is answered again, and changes nothing.
+abbrev pub MayBeLeft : Club → List Club → List machine.Event → List Told → Club → Type 0
+MayBeLeft club others events told left =
+    WasLeftBefore club others (club_left club events told) left
+    ⊎ (IsAfterOneOf (club_left club events told) (failed events told) left × TellsAgain left events told)
+
+-- The club that the answered events leave stands, and what was served is answered again there, and changes nothing. A crash may leave no
+-- others than these.
 pub record LeavesStanding {S : Type 0} (Stands : S → Club → List Club → Type 0) (new : S) (club : Club) (others : List Club) (events : List machine.Event)
     (told : List Told) : Type 0 where
   pub left : List Club
   pub stands : Stands new (club_left club events told) left
-  pub each : All (MayBeLeft club others (club_left club events told) (failed events told)) left
-
--- The same where a crash could leave no other club before: whichever club it leaves now, there what was served is told again, and
--- changes nothing.
-pub record KeepsServed {S : Type 0} (Stands : S → Club → List Club → Type 0) (new : S) (club : Club) (events : List machine.Event) (told : List Told) : Type 0
-  where
-    pub left : List Club
-    pub stands : Stands new (club_left club events told) left
-    pub again : All (λ (c : Club). TellsAgain c events told) (club_left club events told ∷ left)
+  pub again : TellsAgain (club_left club events told) events told
+  pub each : All (MayBeLeft club others events told) left
 
 -- the replies to a member's requests are those that the member's part and own events give
 abbrev pub IsSolo : Club → List machine.Event → List Told → Type 0
@@ -118,6 +120,10 @@ IsNeverNegative club = All (λ (member : Member). sum_by cost_of (bookings_of me
 abbrev pub IsNeverOverbooked : Club → Type 0
 IsNeverOverbooked club = (slot : Slot) → HasPlaces slot club
 
+-- a club that a crash may leave in place of the last: one of before, or the last after one of the events that failed
+abbrev pub IsLeftBehind : Club → List Club → Club → List machine.Event → Club → Type 0
+IsLeftBehind club others last refused left = WasLeftBefore club others last left ⊎ IsAfterOneOf last refused left
+
 -- The desk has followed a list of events: each was answered or failed, one after the other.
 pub record IsFollowed {S : Type 0} (Stands : S → Club → List Club → Type 0) (new : S) (club : Club) (others : List Club) (events : List machine.Event)
     (told : List Told) : Type 0 where
@@ -125,4 +131,4 @@ pub record IsFollowed {S : Type 0} (Stands : S → Club → List Club → Type 0
   pub ran : IsRun telling club events told last
   pub left : List Club
   pub stands : Stands new last left
-  pub each : All (MayBeLeft club others last (failed events told)) left
+  pub each : All (IsLeftBehind club others last (failed events told)) left

@@ -1,5 +1,5 @@
 -- What the desk tells, beside what the machine answers (ours).
-use Rattle.std.specs.Prelude.{ℕ, Bool, true, false, List, Result, Ok, Err}
+use Rattle.std.specs.Prelude.{ℕ, Bool, true, false, List, ◌++◌, codes, Result, Ok, Err}
 use Rattle.club_core.specs.declared.command.OfficeFault.{OfficeFault}
 use Rattle.club_core.specs.declared.command.OfficeFault.TheVariants as refusals
 use Rattle.club_core.specs.declared.event.OfficeAnswer.{OfficeAnswer}
@@ -42,6 +42,12 @@ fault_text OutOfRange = office_fault_text refusals.OutOfRange
 fault_text SlotInUse = office_fault_text refusals.SlotInUse
 fault_text Memory = store_fault_text store.Memory
 fault_text Storage = store_fault_text store.Storage
+
+-- what is printed for debugging: of a new key or root no byte of the signature
+abbrev pub printed : OfficeReply → List ℕ
+printed replies.Done = codes "Done"
+printed (replies.Key signature) = codes "Key(..)"
+printed (replies.Refused fault) = codes "Refused(" ++ fault_text fault ++ codes ")"
 
 -- memory or storage was refused
 abbrev pub unavailable : Reply

@@ -21,10 +21,17 @@ ghost use Rattle.club_core.specs.Office.{order_view};
 ghost use Rattle.club_core.specs.Run as machine;
 ghost use Rattle.club_core.specs.Run.{after_change};
 ghost use Rattle.club_core.specs.Sheet.{IsSheet};
-ghost use Rattle.club_core.specs.Store.{KeepsStanding, Tells};
+ghost use Rattle.club_core.specs.Store.{KeepsStanding, ReadsOrFails, Tells};
 ghost use Rattle.club_laws.specs.Failed.{ToMember, ToOffice};
 ghost use Rattle.club_gate.specs.declared.fault.Fault.TheVariants as faults;
-ghost use Rattle.club_gate.specs.Desk.{FitsIfAny, Steps, others_after};
+ghost use Rattle.club_gate.specs.Desk.{
+  FailsAt,
+  FitsIfAny,
+  IsSheetFault,
+  NamesItsFault,
+  Steps,
+  others_after,
+};
 ghost use Rattle.club_gate.specs.Said.{fault_of, words_said};
 ghost use Rattle.club_gate.specs.Served.{
   AnswersItsForms,
@@ -116,6 +123,8 @@ impl<S: ClubStore> Desk<S> {
             (λ _. S.stands self.new (after_change change club) (others_after change others))
             (λ _. S.stands self.new club (after_change change club ∷ others)) }
         ensures nothing { change ≡ None → (result ≡ Ok tt) × (self.new ≡ self.old) }
+        ensures failed { S.is_honest self.new → IfErr result
+            (λ fault. S.fails change self.old fault self.new) }
     {
         match change {
             Some(change) => self.store.apply(&change),
@@ -149,6 +158,7 @@ impl<S: ClubStore> Desk<S> {
         ensures kept { S.is_honest self.new → KeepsStanding S.stands self.old self.new }
         ensures told { S.is_honest self.new → Tells S.stands self.old result
             (λ club view. view ≡ order_view club command.now) }
+        ensures failed { S.is_honest self.new → ReadsOrFails S.fails self.old self.new result }
     {
         let mut view = OrderView {
             member: None,
@@ -184,6 +194,10 @@ impl<S: ClubStore> Desk<S> {
         ensures honest { S.is_honest self.new → S.is_honest self.old }
         ensures steps { S.is_honest self.new → Steps S.stands self.old self.new
             (machine.Ordered command.now) (ToOffice (answer_or_fault result)) }
+        ensures failed { S.is_honest self.new → (club : Club) (others : List Club)
+            → S.stands self.old club others
+            → IfErr result
+            (FailsAt S.fails self.old self.new club (machine.Ordered command.now)) }
     {
         steps_keep_sound();
         command.within();
@@ -259,6 +273,9 @@ impl<S: ClubStore> Desk<S> {
         ensures honest { S.is_honest self.new → S.is_honest self.old }
         ensures steps { S.is_honest self.new → Steps S.stands self.old self.new
             (machine.Ordered command.now) (ToOffice result) }
+        ensures failed { S.is_honest self.new → (club : Club) (others : List Club)
+            → S.stands self.old club others
+            → NamesItsFault S.fails self.old self.new club (machine.Ordered command.now) result }
     {
         match self.answer_to(command) {
             Ok(answer) => OfficeReply::showing(answer),
@@ -290,6 +307,8 @@ impl<S: ClubStore> Desk<S> {
             (λ club text. IsSheet club day (string_bytes text)) }
         ensures faults { IfErr result
             (λ fault. (fault ≡ faults.Memory) ⊎ (fault ≡ faults.Storage)) }
+        ensures failed { S.is_honest self.new → IfErr result
+            (IsSheetFault S.fails self.old self.new) }
     {
         let rows = match self.store.day(day) {
             Ok(rows) => rows,

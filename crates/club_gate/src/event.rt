@@ -25,6 +25,11 @@ pub enum OfficeReply {
 
 /// Tells nothing of a signature, which makes a pass.
 impl fmt::Debug for OfficeReply {
+    ghost use Rattle.std.specs.Prelude.{Some};
+    ghost use Rattle.club_gate.specs.Told.{printed};
+
+    ghost debug_output = { λ reply. Some (printed reply) };
+
     fn fmt<W: fmt::Write>(&self, f: &mut fmt::Formatter<W>) -> fmt::Result {
         match self {
             OfficeReply::Done => write!(f, "Done"),

@@ -1,6 +1,6 @@
 //! Runs: lists of events, answered one after the other.
 
-ghost use Rattle.std.specs.Prelude.{◌≡◌, [], All, List, IfOk, OnOk, OnErr};
+ghost use Rattle.std.specs.Prelude.{◌≡◌, All, List, IfOk, OnOk, OnErr};
 ghost use Rattle.club_core.specs.Club.{Club};
 ghost use Rattle.club_core.specs.Events.{IsEvent};
 ghost use Rattle.club_core.specs.Store.{Tells};
@@ -13,7 +13,6 @@ ghost use Rattle.club_gate.specs.Runs.{
   IsNeverOverbooked,
   IsOnce,
   IsSolo,
-  KeepsServed,
   LeavesStanding,
   club_left,
   events_of,
@@ -56,10 +55,6 @@ impl<S: ClubStore> Desk<S> {
         ensures stands { S.is_honest self.new → (club : Club) (others : List Club)
             → S.stands self.old club others
             → IfOk result (λ replies. LeavesStanding S.stands self.new club others
-            (events_of events.now) (told_all replies.items)) }
-        ensures crash { S.is_honest self.new → (club : Club)
-            → S.stands self.old club []
-            → IfOk result (λ replies. KeepsServed S.stands self.new club
             (events_of events.now) (told_all replies.items)) }
         ensures solo { S.is_honest self.new → Tells S.stands self.old result
             (λ club replies. IsSolo club (events_of events.now) (told_all replies.items)) }

@@ -1,10 +1,9 @@
-use Rattle.std.proofs.Common.{[]}
 use Rattle.std.proofs.lemmas.List.Elements.{All-head}
 use Rattle.club_core.specs.Club.{IsSound}
-use Rattle.club_gate.specs.Runs.{Conserves, IsAnswered, IsAsInAnother, IsNeverNegative, IsNeverOverbooked, IsOnce, IsSolo, KeepsServed, LeavesStanding}
+use Rattle.club_gate.specs.Runs.{Conserves, IsAnswered, IsAsInAnother, IsNeverNegative, IsNeverOverbooked, IsOnce, IsSolo, LeavesStanding}
 use Rattle.club_gate.specs.Runs.{club_left, events_of, told_all}
 use Rattle.club_gate.proofs.FollowedRuns.{answered_by, standing, solo_by, as_in_another, once_by, conserved_by, never_negative_by, never_overbooked_by}
-use Rattle.club_gate.proofs.FollowedRuns.{kept_served, of_told}
+use Rattle.club_gate.proofs.FollowedRuns.{of_told}
 use Rattle.club_gate.proofs.desk.Desk.run.Goals as goal
 
 pub returns-clause-answered : goal.returns-clause-answered
@@ -24,7 +23,7 @@ returns-clause-stands g c = λ h club others s.
     of_told Stands new club others events c.follow.result (λ replies. told_all replies.items) (LeavesStanding Stands new club others events)
     c.follow.ensures.within
     (c.follow.ensures.followed h club others s)
-    (λ told within f. standing Stands new club others events told c.leaves_out_failed.ensures f)
+    (λ told within f. standing Stands new club others events told c.leaves_out_failed.ensures f c.tells_again_after_one_more.ensures)
 
 pub returns-clause-solo : goal.returns-clause-solo
 returns-clause-solo g c = λ h club others s.
@@ -86,12 +85,3 @@ returns-clause-never_overbooked g c = λ h club others s.
     (c.follow.ensures.followed h club others s)
     (λ told within f. never_overbooked_by Stands new club others events told c.leaves_out_failed.ensures f c.keeps_sound.ensures
     c.sound_clubs_have_places.ensures within sound)
-
-pub returns-clause-crash : goal.returns-clause-crash
-returns-clause-crash g c = λ h club s.
-    let Stands = g.S.ClubStore.stands in
-    let new = c.follow.new.self in
-    let events = events_of c.args.events.now in
-    of_told Stands new club [] events c.follow.result (λ replies. told_all replies.items) (KeepsServed Stands new club events) c.follow.ensures.within
-    (c.follow.ensures.followed h club [] s)
-    (λ told within f. kept_served Stands new club events told c.leaves_out_failed.ensures c.tells_again_after_one_more.ensures f)
