@@ -1,7 +1,8 @@
 //! What a crash leaves of a desk over a file.
 
-ghost use Rattle.std.specs.Prelude.{[], List, All, IfOk};
-ghost use Rattle.sqlite.specs.Files.{file_state};
+ghost use Rattle.std.specs.Prelude.{List, All, IfOk};
+ghost use Rattle.sqlite.specs.FileStore as file;
+ghost use Rattle.sqlite.specs.Files.{file_state, over_files};
 ghost use Rattle.sqlite.specs.Recovery.{Image};
 ghost use Rattle.sqlite.specs.View.{IsClean};
 ghost use Rattle.club_core.specs.Club.{Club};
@@ -10,14 +11,14 @@ ghost use Rattle.club_laws.specs.AsTold.{TellsAgain};
 ghost use Rattle.club_store.specs.Crash.{CrashLeaves};
 ghost use Rattle.club_store.specs.Opening.{OpensFrom};
 ghost use Rattle.club_store.specs.Told.{sound_in};
-ghost use Rattle.club_gate.specs.Runs.{Told, events_of, told_all};
-ghost use Rattle.desk_law.specs.Crash.{LeavesServed, StandsAgain};
+ghost use Rattle.club_gate.specs.Runs.{IsAnswered, Told, events_of, told_all};
+ghost use Rattle.desk_law.specs.Crash.{OpensAgain, StandsAgain};
 
 use club_core::StoreFault;
 use club_gate::{Desk, Event, EventReply};
 use club_store::Store;
-use club_store::laws::one_stands_again;
-use sqlite::{Alter, FileFrom, FileStore, Start};
+use club_store::laws::{files_hold_one_of, one_stands_again};
+use sqlite::{FileFrom, FileStore, Start};
 use sqlite_disk::Disk;
 
 /// The crash law. A store that is opened on what a crash left of another one's file and log stands
@@ -36,22 +37,34 @@ pub fn served_survives_a_crash<D: Disk, Q: Start>(
     one_stands_again(before, after);
 }
 
-/// Runs a list of events at a desk, and gives up the store below it. A crash in a call is a disk
-/// that fails from there on, so this speaks of every crash in the run.
+/// Runs a list of events at a desk over a file, and gives up the store below it. The machine may
+/// stop in the run or after it: a crash in a call is a disk that fails from there on. A store that
+/// is opened on what was left, over a disk `E`, has every answer in it.
 ///
 /// # Errors
 ///
 /// Memory was refused to the replies; no event was looked at.
-pub fn run_and_leave<S: Alter + Drop>(
-    mut desk: Desk<Store<S>>,
+pub fn run_and_leave<D: Disk + Drop, E: Disk>(
+    mut desk: Desk<Store<FileStore<D>>>,
     events: &[Event],
-) -> Result<(Vec<EventReply>, S), StoreFault>
-    ensures { IfOk result (λ left. IsClean (S.Store.view left.1) → (club : Club)
-        → sound_in S.Store desk club []
-        → LeavesServed S.Store left.1 club (events_of events.now) (told_all left.0.items)) }
+) -> Result<(Vec<EventReply>, FileStore<D>), StoreFault>
+    // The replies are those of the machine, with failed events left out.
+    ensures answered { IfOk result (λ left. IsClean (file.view left.1)
+        → (club : Club) (others : List Club)
+        → sound_in over_files desk club others
+        → IsAnswered club (events_of events.now) (told_all left.0.items)) }
+    // Whatever a crash leaves, a store that is opened on it holds their club, whole, or that after
+    // one event that failed; what was served is answered again there.
+    ensures again { IfOk result (λ left. (club : Club) (others : List Club)
+        → sound_in over_files desk club others
+        → OpensAgain E.Disk left.1 club others (events_of events.now) (told_all left.0.items)) }
 {
     match desk.run(events) {
-        Ok(replies) => Ok((replies, desk.into_store().into_store())),
+        Ok(replies) => {
+            let store = desk.into_store().into_store();
+            files_hold_one_of(&store);
+            Ok((replies, store))
+        }
         Err(_) => Err(StoreFault::Memory),
     }
 }

@@ -1,15 +1,17 @@
-//! Lists of events from an empty database, a request behind one, and the store that one leaves.
+//! Lists of events from an empty database, a request behind one, and the files that one leaves.
 
-use crate::counter::empty_desk;
 use crate::expect::expect_eq;
 use crate::known;
 use crate::office::Order;
 use crate::said::{ACCOUNT, ACCOUNT_AFTER, Asked, BOOK_7, BOOKED_7, NOT_VERIFIED, Told};
 use crate::values::{NOON, at, push};
 use club_core::Request;
-use club_gate::{Event, EventReply, OfficeReply, Words};
+use club_gate::{Desk, Event, EventReply, OfficeReply, Words};
+use club_store::Store;
 use desk_law::{reply_from_nothing, run_and_leave, run_from_nothing};
 use pass_caveats::Kind;
+use sqlite::{Connection, FileStore, Files, Options};
+use sqlite_disk::{Disk, Memory};
 use std::alloc::Global;
 use std::process::Abort;
 use std::test::*;
@@ -114,13 +116,43 @@ fn answers_after_a_list(rt: HostRuntime) {
     tells_behind(&rt, &[], &NOT_VERIFIED);
 }
 
-// The replies come back with the store that lay below.
+/// A desk over the club in these files.
+fn desk_over(
+    rt: &(impl Abort + Alloc<A = Global>),
+    files: Files<Memory>,
+) -> Desk<Store<FileStore<Memory>>> {
+    let connection = connected(rt.alloc(), files).expect(rt, "a database");
+    let store = Store::adopt(rt.alloc(), connection).ok();
+    Desk::new(rt.alloc(), store.expect(rt, "tables"))
+}
+
+fn connected(alloc: Global, files: Files<Memory>) -> Option<Connection<FileStore<Memory>>> {
+    if !files.may_be_used() {
+        return None;
+    }
+    Connection::open_files(alloc, files, Options::new(7)).ok()
+}
+
+/// What is left of these files once the rows happened at a desk over them.
+fn left_by(
+    rt: &(impl Abort + Alloc<A = Global>),
+    files: Files<Memory>,
+    rows: &[Happens],
+) -> Files<Memory> {
+    let events = events(rt, rows);
+    let run = run_and_leave::<Memory, Memory>(desk_over(rt, files), events.as_slice());
+    let (replies, store) = run.expect(rt, "replies");
+    are_told(rt, replies.as_slice(), rows);
+    store.close()
+}
+
+// The booking is answered alike once the files are opened again.
 #[test]
-fn gives_the_store_back(rt: HostRuntime) {
-    let rows = &BOOKS[..2];
-    let events = events(&rt, rows);
-    let (replies, _store) = run_and_leave(empty_desk(&rt), events.as_slice()).expect(
-        &rt, "replies",
-    );
-    are_told(&rt, replies.as_slice(), rows);
+fn books_once_over_two_openings(rt: HostRuntime) {
+    let files = Files {
+        log: Memory::new(rt.alloc()),
+        db: Memory::new(rt.alloc()),
+    };
+    let left = left_by(&rt, files, &BOOKS[..5]);
+    left_by(&rt, left, &BOOKS[5..]);
 }

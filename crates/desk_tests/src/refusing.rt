@@ -43,6 +43,8 @@ impl ClubStore for Refusing {
 
     ghost is_honest = { λ store. ⊥ };
 
+    ghost fails = { λ wish old fault new. ⊥ };
+
     ghost sound = { λ store club others stands. absurd stands };
 
     ghost widens = { λ store club other others stands sound. stands };
