@@ -23,6 +23,10 @@ wanted_more bytes more r wanted needed few n short whole = elim (cases_lt n (len
       needed (take (n - length bytes) more) fewer (rw (take_behind bytes more n behind) at whole)
 ]
 
+-- as many as a request may have
+pub within_request : (room : List ℕ) (n : ℕ) → n ≤ 16640 → length (take n room) ≤ 16640
+within_request room n few = rw (length-take n room) (omega arith)
+
 -- what a room holds that was filled from a place on
 pub filled : (room part : List ℕ) (len n k : ℕ) → len ≤ length room → n ≤ length part → take (len + n) (put_mid len k room part) ≡ take len room ++ take n part
 filled room part len n k within few =

@@ -8,10 +8,9 @@ use Rattle.club_http.specs.Received.{Receives}
 use Rattle.club_http.specs.Replied.{Asks, IsReplied}
 use Rattle.club_replies.specs.Text.{text_of}
 
--- the desk replied to what was received
+-- the desk replied to the bytes that were received
 pub record Replies {Desk : Type 0} (Answers : Asks Desk) (before after : Option (List ℕ))
-    (old : Desk) (reply : Reply) (new : Desk) : Type 0 where
-  pub bytes : List ℕ
+    (bytes : List ℕ) (old : Desk) (reply : Reply) (new : Desk) : Type 0 where
   pub received : Receives before after bytes
   pub replied : IsReplied Answers bytes old reply new
   -- which is the reply to all that the reader gives until its end

@@ -1,5 +1,5 @@
 -- What was received of a request.
-use Rattle.std.specs.Prelude.{◌≡◌, ℕ, ◌<◌, ◌⊎◌, false, List, length, take, nat_eq, Option}
+use Rattle.std.specs.Prelude.{◌≡◌, ℕ, ◌<◌, ◌≤◌, ◌⊎◌, false, List, length, take, nat_eq, Option}
 use Rattle.std.specs.List.{ends_with}
 use Rattle.std.specs.Io.KnownBytes.{Consumes, IsAtEnd}
 use Rattle.club_words.specs.Frame.{IsWhole, HasNoPiece}
@@ -17,15 +17,16 @@ NoHeadBefore bytes = (n : ℕ) → n < length bytes → ends_with nat_eq (take n
 abbrev pub AwaitsHead : List ℕ → Type 0
 AwaitsHead bytes = HasNoPiece bytes × (length bytes < 16384)
 
--- the bytes came, and they are a whole request or the whole input; no byte behind it was taken
+-- the bytes came, at most as many as a request may have, and they are a whole request or the whole input; no byte behind it was taken
 pub record Receives (old new : Option (List ℕ)) (bytes : List ℕ) : Type 0 where
   pub came : Consumes old new bytes
+  pub within : length bytes ≤ 16640
   pub wanted : IsWanted bytes
   pub ends : IsWhole bytes ⊎ IsAtEnd new
 
--- what came before the reader failed wasn't a whole request
-pub record IsCutOff (old new : Option (List ℕ)) : Type 0 where
-  pub bytes : List ℕ
+-- the bytes that came before the reader failed weren't a whole request
+pub record IsCutOff (old new : Option (List ℕ)) (bytes : List ℕ) : Type 0 where
   pub came : Consumes old new bytes
+  pub within : length bytes ≤ 16640
   pub wanted : IsWanted bytes
   pub cut : ¬ (IsWhole bytes)

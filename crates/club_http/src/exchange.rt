@@ -16,7 +16,8 @@ use pass_caveats::Moment;
 /// Reads a request, asks the desk, and writes the text of its reply.
 ///
 /// The request is read till it is whole; where the input ends before, what came is the request.
-/// Bytes behind it aren't taken. Memory is taken for the body of a request and by the desk, never
+/// Bytes behind it aren't taken, and never more than `MAX_REQUEST_LEN`; those that were stay in the
+/// face. Memory is taken for the body of a request and by the desk, never
 /// once the desk has answered.
 ///
 /// # Errors
@@ -33,8 +34,8 @@ pub fn answer<D: Responder, R: Inlet, W: Outlet>(
 ) -> Result<Reply, AnswerFault>
     ensures exchanged { Exchanges
         (λ reply. Replies (D.answers moment) (R.to_come reader.old) (R.to_come reader.new)
-        desk.old reply desk.new)
-        (IsCutOff (R.to_come reader.old) (R.to_come reader.new)
+        face.new desk.old reply desk.new)
+        (IsCutOff (R.to_come reader.old) (R.to_come reader.new) face.new
         × (desk.new ≡ desk.old)
         × (writer.new ≡ writer.old))
         (Appends (W.taken writer.old) (W.taken writer.new))

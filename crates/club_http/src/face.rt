@@ -1,6 +1,6 @@
 //! The face of the desk to its connections.
 
-ghost use Rattle.std.specs.Prelude.{◌≡◌, vec_len, MatchOption};
+ghost use Rattle.std.specs.Prelude.{◌≡◌, [], IfOk, MatchOption};
 ghost use Rattle.club_http.specs.Ends.{read_failures};
 ghost use Rattle.club_http.specs.Received.{IsCutOff};
 ghost use Rattle.club_http.specs.Replied.{IsReplied};
@@ -14,14 +14,25 @@ use club_words::laws::{body_stays, whole_keeps_its_reading};
 use club_words::{MAX_REQUEST_LEN, Routes, words_of};
 use pass_caveats::Moment;
 use std::alloc::{AllocError, Global};
+use std::marker::Model;
 
 /// What an exchange reads by: the routes of the desk, and a buffer with room for any request. It is
-/// made once.
+/// made once, and keeps what was read of the last request. Contracts see it as these bytes.
 #[derive(Drop)]
 pub struct Face {
     routes: Routes,
     buffer: Vec<u8>,
-    ghost has_room: { vec_len buffer ≡ 16640 },
+    len: usize,
+}
+
+impl Model for Face {
+    ghost use Rattle.std.specs.Prelude.{◌≡◌, ℕ, ◌≤◌, List, take, vec_len};
+
+    ghost Value = { List ℕ };
+
+    ghost view = { λ face. take face.len face.buffer.items };
+
+    ghost invariant = { λ face. (vec_len face.buffer ≡ 16640) × (face.len ≤ 16640) };
 }
 
 /// The reply to the bytes of a request.
@@ -35,15 +46,28 @@ fn reply_to<D: Responder>(routes: &Routes, bytes: &[u8], desk: &mut D, moment: M
 }
 
 impl Face {
-    /// A face with the routes, and a buffer of `MAX_REQUEST_LEN` bytes.
+    /// A face with the routes, and a buffer of `MAX_REQUEST_LEN` bytes. Nothing was read yet.
     ///
     /// # Errors
     ///
     /// Memory was refused.
-    pub fn new(alloc: Global) -> Result<Face, AllocError> {
+    pub fn new(alloc: Global) -> Result<Face, AllocError>
+        ensures { IfOk result (λ face. face ≡ []) }
+    {
         let routes = Routes::new(alloc)?;
         let buffer = vec![in alloc; 0; MAX_REQUEST_LEN]?;
-        Ok(Face { routes, buffer })
+        Ok(Face {
+            routes,
+            buffer,
+            len: 0,
+        })
+    }
+
+    /// What was read of the last request: all of it, or what came before its reader failed.
+    pub fn request(&self) -> &[u8]
+        ensures { result.now ≡ self.now }
+    {
+        &self.buffer[..self.len]
     }
 
     /// The reply to the request that is read; `None` where the reader fails before it is whole.
@@ -54,14 +78,23 @@ impl Face {
         reader: &mut R,
     ) -> Option<Reply>
         ensures replied { MatchOption result
-            (IsCutOff (R.to_come reader.old) (R.to_come reader.new) × (desk.new ≡ desk.old))
+            (IsCutOff (R.to_come reader.old) (R.to_come reader.new) self.new
+            × (desk.new ≡ desk.old))
             (λ reply. Replies (D.answers moment) (R.to_come reader.old) (R.to_come reader.new)
-            desk.old reply desk.new) }
+            self.new desk.old reply desk.new) }
         ensures counted { R.failures reader.new ≡ read_failures (R.failures reader.old) result }
     {
-        let len = receive(reader, &mut self.buffer)?;
-        whole_keeps_its_reading();
-        body_stays();
-        Some(reply_to(&self.routes, &self.buffer[..len], desk, moment))
+        match receive(reader, &mut self.buffer) {
+            Ok(len) => {
+                self.len = len;
+                whole_keeps_its_reading();
+                body_stays();
+                Some(reply_to(&self.routes, &self.buffer[..len], desk, moment))
+            }
+            Err(len) => {
+                self.len = len;
+                None
+            }
+        }
     }
 }

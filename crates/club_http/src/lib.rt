@@ -18,3 +18,4 @@ pub use exchange::answer;
 pub use face::Face;
 pub use fault::AnswerFault;
 pub use responder::Responder;
+pub use send::put_all;

@@ -1,9 +1,9 @@
 //! How a request is received.
 
 ghost use Rattle.std.specs.Prelude.{◌≡◌, ℕ, ◌<◌, ◌≤◌, ◌+◌, ◌++◌, ◌↔◌, List, length, take};
-ghost use Rattle.std.specs.Prelude.{MatchOption, false};
+ghost use Rattle.std.specs.Prelude.{MatchResult, Ok, Err, false};
 ghost use Rattle.club_words.specs.Frame.{IsWhole};
-ghost use Rattle.club_http.specs.Ends.{read_failures};
+ghost use Rattle.club_http.specs.Ends.{one_more};
 ghost use Rattle.club_http.specs.Received.{Receives, IsCutOff, AwaitsHead, NoHeadBefore};
 
 use crate::ends::Inlet;
@@ -38,14 +38,21 @@ fn wanted(bytes: &[u8], has_head: bool) -> usize
 }
 
 /// Reads a request into the room, till it is whole or the input ends, and answers how many bytes it
-/// has. No byte behind it is taken. `None` where the reader fails before.
-pub(crate) fn receive<R: Inlet>(reader: &mut R, room: &mut [u8]) -> Option<usize>
+/// has. No byte behind it is taken.
+///
+/// # Errors
+///
+/// How many bytes came, where the reader failed before it was whole.
+pub(crate) fn receive<R: Inlet>(reader: &mut R, room: &mut [u8]) -> Result<usize, usize>
     requires { length room.old ≡ 16640 }
-    ensures received { MatchOption result
-        (IsCutOff (R.to_come reader.old) (R.to_come reader.new))
+    ensures received { MatchResult result
         (λ n. (n ≤ 16640)
-        × Receives (R.to_come reader.old) (R.to_come reader.new) (take n room.new)) }
-    ensures counted { R.failures reader.new ≡ read_failures (R.failures reader.old) result }
+        × Receives (R.to_come reader.old) (R.to_come reader.new) (take n room.new))
+        (λ n. (n ≤ 16640)
+        × IsCutOff (R.to_come reader.old) (R.to_come reader.new) (take n room.new)) }
+    ensures counted { MatchResult result
+        (λ _. R.failures reader.new ≡ R.failures reader.old)
+        (λ _. R.failures reader.new ≡ one_more (R.failures reader.old)) }
 {
     let mut len = 0;
     let mut head = false;
@@ -53,12 +60,12 @@ pub(crate) fn receive<R: Inlet>(reader: &mut R, room: &mut [u8]) -> Option<usize
         head = has_head(&room[..len], head);
         let more = wanted(&room[..len], head);
         if more == 0 {
-            return Some(len);
+            return Ok(len);
         }
-        let came = reader.fill(&mut room[len..len + more])?;
-        if came == 0 {
-            return Some(len);
+        match reader.fill(&mut room[len..len + more]) {
+            None => return Err(len),
+            Some(0) => return Ok(len),
+            Some(came) => len += came,
         }
-        len += came;
     }
 }

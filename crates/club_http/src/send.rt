@@ -14,7 +14,7 @@ use club_replies::{MAX_REPLY_LEN, reply_bytes};
 /// # Errors
 ///
 /// How many bytes went out, where the writer failed or took nothing.
-fn put_all<W: Outlet>(writer: &mut W, bytes: &[u8]) -> Result<(), usize>
+pub fn put_all<W: Outlet>(writer: &mut W, bytes: &[u8]) -> Result<(), usize>
     ensures { MatchResult result
         (λ _. Appends (W.taken writer.old) (W.taken writer.new) bytes.now
         × (W.failures writer.new ≡ W.failures writer.old))
