@@ -1,2 +1,3 @@
 pub mod ZoneLemmas
+pub mod RequestLineLemmas
 pub mod ServedLemmas

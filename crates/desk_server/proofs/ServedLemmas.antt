@@ -1,38 +1,65 @@
 -- Lemmas on what a server does.
-use Rattle.std.proofs.Common.{◌≡◌, ℕ, ◌+◌, arith}
+use Rattle.std.proofs.Common.{◌≡◌, ℕ, ◌+◌, List, [], ◌∷◌, ◌++◌, length, arith, add-one, length-append, refl, Ok, Err}
+use Rattle.std.specs.Prelude.{Option, Result}
+use Rattle.club_core.specs.declared.reply.Reply.{Reply}
+use Rattle.club_http.specs.Ends.{one_more}
+use Rattle.club_http.specs.Exchange.{Exchanges, Replies}
 use Rattle.club_http.specs.Replied.{Asks}
-use Rattle.desk_server.specs.Served.{AreAnswered, AreServed, CountsOn, IsStopped, Tells}
+use Rattle.club_http.specs.declared.fault.AnswerFault.{AnswerFault}
+use Rattle.club_http.specs.declared.fault.AnswerFault.TheVariants.{Read, Write}
+use Rattle.desk_server.specs.Served.{AreServed, CountsOn, Ends, HasAnswered, IsExchanged, IsServed, Tells, failures_after}
 use Rattle.desk_server.specs.Served as spec
+use Rattle.desk_server.specs.declared.log.Fate.{Fate}
+use Rattle.desk_server.specs.declared.log.Fate.TheVariants.{Absent, Unanswered, Exchanged}
 
 -- one more than so many
-pub one_more : (waited i now new : ℕ) → CountsOn waited i now → CountsOn now 1 new → CountsOn waited (i + 1) new
-one_more waited i now new so_far more fits = let before : now ≡ waited + i = so_far (omega arith) in let last : new ≡ now + 1 = more (omega arith) in
+pub counts_more : (waited i now new : ℕ) → CountsOn waited i now → CountsOn now 1 new → CountsOn waited (i + 1) new
+counts_more waited i now new so_far more fits = let before : now ≡ waited + i = so_far (omega arith) in let last : new ≡ now + 1 = more (omega arith) in
     omega arith
 
--- behind the last
-pub all_of : {Clock Desk : Type 0} (Told : Tells Clock) (Answers : ℕ → Asks Desk) (clock : Clock) (desk : Desk) (i count : ℕ) (clock' : Clock) (desk' : Desk)
-    (waited waited' told told' : ℕ) → i ≡ count → AreServed Told Answers clock desk i clock' desk' → CountsOn waited i waited' → CountsOn told i told'
-    → AreServed Told Answers clock desk count clock' desk' × CountsOn waited count waited' × CountsOn told count told'
-all_of Told Answers clock desk i count clock' desk' waited waited' told told' last served counted logged = rw (← last) (served, counted, logged)
+-- what an exchange did to a desk, of all that it did
+pub exchanged : {Desk : Type 0} (Answers : Asks Desk) (before after : Option (List ℕ)) (bytes : List ℕ) (old new : Desk) (Cut Silent : Type 0)
+    (Writes : List ℕ → Type 0) (outcome : Result Reply AnswerFault)
+    → Exchanges (λ reply. Replies Answers before after bytes old reply new) (Cut × (new ≡ old) × Silent) Writes outcome
+    → IsExchanged Answers bytes old outcome new
+exchanged Answers before after bytes old new Cut Silent Writes (Ok reply) (decides, written) = (decides.replied, tt)
+exchanged Answers before after bytes old new Cut Silent Writes (Err Read) (cut, same, silent) = same
+exchanged Answers before after bytes old new Cut Silent Writes (Err (Write n)) (reply, decides, fewer, written) = (reply, decides.replied, fewer, tt)
 
--- what is counted besides may be left out
-pub stopped_too : {Clock Desk : Type 0} (Told : Tells Clock) (Answers : ℕ → Asks Desk) (clock : Clock) (desk : Desk) (count : ℕ) (clock' : Clock) (desk' : Desk)
-    (Counted Besides : ℕ → Type 0) → IsStopped Told Answers clock desk count clock' desk' (λ n. Counted n × Besides n)
-    → IsStopped Told Answers clock desk count clock' desk' Counted
-stopped_too Told Answers clock desk count clock' desk' Counted Besides stopped = record {
-  served = stopped.served;
-  last = stopped.last;
-  fewer = stopped.fewer;
-  before = stopped.before;
-  no_moment = stopped.no_moment;
-  counted = stopped.counted.0;
-}
+-- of a list that is one longer
+pub length_more : (fates : List Fate) (fate : Fate) → length (fates ++ fate ∷ []) ≡ length fates + 1
+length_more fates fate = length-append fates (fate ∷ [])
 
--- what the desk did, of all that was done
-pub answered : {Clock Desk : Type 0} (Told : Tells Clock) (Answers : ℕ → Asks Desk) (clock : Clock) (desk : Desk) (n : ℕ) (clock' : Clock) (desk' : Desk)
-    → AreServed Told Answers clock desk n clock' desk' → AreAnswered Answers desk n desk'
-answered Told Answers clock desk _ _ _ spec.none = spec.nobody
-answered Told Answers clock desk _ _ _ (spec.more n c d c' d' before (spec.failed same kept)) =
-    rw kept (spec.one_failed n d (answered Told Answers clock desk n c d before))
-answered Told Answers clock desk _ _ _ (spec.more n c d c' d' before (spec.exchanged moment outcome told exchange)) =
-    spec.one_more n d d' moment outcome (answered Told Answers clock desk n c d before) exchange
+one_failure : (failures failed : ℕ) → one_more (failures_after failures failed) ≡ failures_after failures (failed + 1)
+one_failure failures failed = rw (add-one failed) refl
+
+module _ {Clock Desk Connection : Type 0} (Told : Tells Clock) (Answers : ℕ → Asks Desk) (Ended : Ends Connection) where
+  -- one connection more
+  answered_more : (n : ℕ) (desk : Desk) (failures : ℕ) (clock : Clock) (d : Desk) (f : ℕ) (fate : Fate) (clock' : Clock) (desk' : Desk) (failures' : ℕ)
+      → HasAnswered Answers n desk failures d f → IsServed Told Answers Ended clock d f fate clock' desk' failures'
+      → HasAnswered Answers (n + 1) desk failures desk' failures'
+  answered_more n desk failures clock d f Absent clock' desk' failures' so_far (one, same, kept) = record {
+    exchanges = so_far.exchanges;
+    failed = so_far.failed + 1;
+    all = omega (arith, so_far.all);
+    counted = rw (one, so_far.counted) (one_failure failures so_far.failed);
+    answered = rw kept so_far.answered;
+  }
+  answered_more n desk failures clock d f (Exchanged moment line outcome) clock' desk' failures' so_far (same, told, (bytes, begins, exchange), ended) = record {
+    exchanges = so_far.exchanges + 1;
+    failed = so_far.failed;
+    all = omega (arith, so_far.all);
+    counted = rw same so_far.counted;
+    answered = spec.another so_far.exchanges d desk' moment bytes outcome so_far.answered exchange;
+  }
+  answered_more n desk failures clock d f Unanswered clock' desk' failures' so_far never = absurd never
+
+  -- what the desk did, of all that was done
+  pub answered : (clock : Clock) (desk : Desk) (failures : ℕ) (fates : List Fate) (clock' : Clock) (desk' : Desk) (failures' : ℕ)
+      → AreServed Told Answers Ended clock desk failures fates clock' desk' failures'
+      → HasAnswered Answers (length fates) desk failures desk' failures'
+  answered clock desk failures _ _ _ _ spec.none =
+      record { exchanges = 0; failed = 0; all = refl; counted = refl; answered = spec.nobody }
+  answered clock desk failures _ _ _ _ (spec.more fates fate c d f c' d' f' before one) =
+      rw (length_more fates fate) (answered_more (length fates) desk failures c d f fate c' d' f'
+      (answered clock desk failures fates c d f before) one)

@@ -1,3 +1,4 @@
 pub mod Zone
-pub mod Served
 pub mod RequestLine
+pub mod Log
+pub mod Served

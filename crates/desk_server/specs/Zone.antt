@@ -1,6 +1,7 @@
 -- The club's civil time in a zone (ours).
-use Rattle.std.specs.Prelude.{◌≡◌, ℕ, ◌+◌, ◌*◌, ℤ, pos, ◌+ℤ◌, ◌≤ℤ◌, ◌<ℤ◌, List, is_some, if◌then◌else◌, Option, Some, None}
+use Rattle.std.specs.Prelude.{◌≡◌, ℕ, ◌+◌, ◌*◌, ℤ, pos, ◌+ℤ◌, ◌≤ℤ◌, ◌<ℤ◌, List, is_some, if◌then◌else◌, Option, Some, None, MatchOption}
 use Rattle.jiff_core.specs.Timestamp.{nanos_of_seconds}
+use Rattle.jiff_core.specs.declared.timestamp.Timestamp.{Timestamp}
 use Rattle.jiff_tz.specs.PosixReader.{read_whole}
 use Rattle.jiff_tz.specs.PosixRule.{offset_at}
 use Rattle.jiff_tz.specs.PosixText.{tz_view}
@@ -26,3 +27,8 @@ pub record IsShown (rule : List ℕ) (instant : ℤ) (moment : Option ℕ) : Typ
   pub zone : TimeZone
   pub of_rule : IsZoneOf rule zone
   pub minute : Reads (λ n. IsMoment n × IsInMinute (instant +ℤ nanos_of_seconds (offset_at zone instant).seconds) n) moment
+
+-- what is shown in the zone of a rule of the instant that was given, and none where none was
+abbrev pub ShowsIn : List ℕ → (Option Timestamp → Type 0) → Option ℕ → Type 0
+ShowsIn rule Given moment = (given : Option Timestamp) × Given given
+    × MatchOption given (moment ≡ None) (λ instant. IsShown rule instant.nanosecond moment)

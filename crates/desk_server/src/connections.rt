@@ -1,78 +1,48 @@
 //! Connections, and what they come from.
 
-ghost use Rattle.desk_server.specs.Served.{IsExchanged};
-
-use crate::request_line::RequestLine;
 use club_core::Reply;
-use club_http::{AnswerFault, Face, Inlet, ReadInlet, Responder, WriteOutlet, answer};
+use club_http::{AnswerFault, Face, ReadInlet, Responder, WriteOutlet, answer};
 use club_values::Moment;
 use std::net::{TcpListener, TcpStream};
 
-/// An exchange that was made.
-#[derive(Clone, Copy)]
-pub struct Exchange {
-    /// How the request began.
-    pub line: RequestLine,
-    /// The reply, or the fault, of `club_http::answer`.
-    pub outcome: Result<Reply, AnswerFault>,
-}
-
 /// A connection.
 pub trait Connection {
-    /// One exchange with the desk, at a moment. Its outcome tells what the desk did.
-    fn exchange<D: Responder>(&mut self, face: &mut Face, desk: &mut D, moment: Moment) -> Exchange
-        ensures { IsExchanged (D.answers moment) desk.old result.outcome desk.new };
-}
+    ghost use Rattle.desk_server.specs.Served.{Ends, IsExchanged};
 
-impl Connection for TcpStream {
+    // how an exchange with it may end
+    ghost ends: { Ends Self };
+
+    /// One exchange with the desk, at a moment. Its outcome tells what the desk did; what was read
+    /// of the request stays in the face.
+    ///
+    /// # Errors
+    ///
+    /// As `club_http::answer`.
     fn exchange<D: Responder>(
         &mut self,
         face: &mut Face,
         desk: &mut D,
         moment: Moment,
-    ) -> Exchange {
+    ) -> Result<Reply, AnswerFault>
+        ensures exchanged { IsExchanged (D.answers moment) face.new desk.old result desk.new }
+        ensures ended { ends self.old result };
+}
+
+/// As `club_http::answer` says, over the two ends of a stream. What they gave and took is known to
+/// no contract.
+impl Connection for TcpStream {
+    ghost ends = { λ _ _. Unit {0} };
+
+    fn exchange<D: Responder>(
+        &mut self,
+        face: &mut Face,
+        desk: &mut D,
+        moment: Moment,
+    ) -> Result<Reply, AnswerFault> {
         let stream = &*self;
-        let mut reader = NotingInlet::new(ReadInlet::new(stream));
+        let mut reader = ReadInlet::new(stream);
         let mut writer = WriteOutlet::new(stream);
-        let outcome = answer(face, desk, moment, &mut reader, &mut writer);
-        Exchange {
-            line: reader.line,
-            outcome,
-        }
-    }
-}
-
-/// A reader, of whose bytes the first are kept for the log.
-#[derive(Drop)]
-pub struct NotingInlet<R> {
-    reader: R,
-    /// Those bytes.
-    pub line: RequestLine,
-}
-
-impl<R: Inlet> NotingInlet<R> {
-    ghost use Rattle.std.specs.Prelude.{◌≡◌};
-
-    /// Nothing was read yet.
-    pub fn new(reader: R) -> NotingInlet<R>
-        ensures { result.reader ≡ reader }
-    {
-        NotingInlet {
-            reader,
-            line: RequestLine::new(),
-        }
-    }
-}
-
-impl<R: Inlet> Inlet for NotingInlet<R> {
-    ghost to_come = { λ noting. R.to_come noting.reader };
-
-    ghost failures = { λ noting. R.failures noting.reader };
-
-    fn fill(&mut self, room: &mut [u8]) -> Option<usize> {
-        let count = self.reader.fill(room)?;
-        self.line.keep(&room[..count]);
-        Some(count)
+        answer(face, desk, moment, &mut reader, &mut writer)
     }
 }
 
@@ -80,15 +50,20 @@ impl<R: Inlet> Inlet for NotingInlet<R> {
 pub trait Connections {
     type Connection: Connection + Drop;
 
-    ghost use Rattle.std.specs.Prelude.{ℕ};
+    ghost use Rattle.std.specs.Prelude.{◌≡◌, ℕ};
+    ghost use Rattle.club_http.specs.Ends.{read_failures};
     ghost use Rattle.desk_server.specs.Served.{CountsOn};
 
     // how many were waited for
     ghost waited: { Self → ℕ };
 
+    // how many of them failed before they were there
+    ghost failures: { Self → ℕ };
+
     /// Waits for the next one; `None` where it failed.
     fn accept(&mut self) -> Option<Self::Connection>
-        ensures { CountsOn (waited self.old) 1 (waited self.new) };
+        ensures waited { CountsOn (waited self.old) 1 (waited self.new) }
+        ensures counted { failures self.new ≡ read_failures (failures self.old) result };
 }
 
 /// The connections that a listener accepts.
@@ -96,6 +71,7 @@ pub trait Connections {
 pub struct Listening<'a> {
     listener: &'a TcpListener,
     waited: u64,
+    failures: u64,
 }
 
 impl<'a> Listening<'a> {
@@ -103,11 +79,12 @@ impl<'a> Listening<'a> {
 
     /// None was waited for yet.
     pub fn new(listener: &'a TcpListener) -> Listening<'a>
-        ensures { result ≡ record { listener = listener.entry; waited = 0 } }
+        ensures { result ≡ record { listener = listener.entry; waited = 0; failures = 0 } }
     {
         Listening {
             listener,
             waited: 0,
+            failures: 0,
         }
     }
 }
@@ -117,11 +94,16 @@ impl Connections for Listening<'_> {
 
     ghost waited = { λ listening. listening.waited };
 
+    ghost failures = { λ listening. listening.failures };
+
     fn accept(&mut self) -> Option<TcpStream> {
         self.waited = self.waited.saturating_add(1);
         match self.listener.accept() {
             Ok((stream, _)) => Some(stream),
-            Err(_) => None,
+            Err(_) => {
+                self.failures = self.failures.saturating_add(1);
+                None
+            }
         }
     }
 }

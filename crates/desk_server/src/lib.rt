@@ -3,15 +3,16 @@
 #![tactic(auto)]
 
 mod connections;
+mod line;
 mod log;
 mod moments;
 mod request_line;
 mod serve;
 mod zone;
 
-pub use connections::{Connection, Connections, Exchange, Listening, NotingInlet};
+pub use connections::{Connection, Connections, Listening};
 pub use log::{Fate, Log, LogLines, Unlogged};
-pub use moments::{ClockIn, Fixed, Moments};
+pub use moments::{ClockIn, Fixed, Instants, Moments};
 pub use request_line::{MAX_KEPT, RequestLine};
 pub use serve::{ClockOutOfRange, serve_logged, serve_on};
 pub use zone::Zone;

@@ -1,91 +1,85 @@
 //! The log of a server.
 
-use crate::connections::Exchange;
-use club_core::Reply;
-use club_http::AnswerFault;
-use club_values::Moment;
-use std::fmt;
-use std::fmt::InlineText;
-use std::io::Write;
-use std::time::{Clock, Instant};
+ghost use Rattle.std.specs.Prelude.{◌≡◌, ◌≤◌, ◌+◌, ◌++◌, length};
+ghost use Rattle.desk_server.specs.Log as spec;
+ghost use Rattle.desk_server.specs.RequestLine.{bytes_of};
 
-/// The most bytes of a line: a moment has 16, a method 7, a path 93, a status 3, a number of
-/// microseconds 20, and four spaces and the line feed stand between and behind them.
-const MAX_LINE: usize = 160;
+use crate::line::Line;
+use crate::request_line::RequestLine;
+use club_core::Reply;
+use club_http::{AnswerFault, Outlet, put_all};
+use club_values::Moment;
+use std::time::{Clock, Instant};
 
 /// The status of a reply that serves.
 const OK: u16 = 200;
 
 /// What became of a connection.
-#[derive(Clone, Copy)]
+#[derive(Drop)]
 pub enum Fate {
     /// It failed before it was there.
     Absent,
     /// It was closed unanswered, since the clock told no moment.
     Unanswered,
-    /// It had its exchange at a moment.
-    Exchanged { moment: Moment, exchange: Exchange },
+    /// It had its exchange at a moment: how the request began, and the reply, or the fault, of
+    /// `club_http::answer`.
+    Exchanged {
+        moment: Moment,
+        line: RequestLine,
+        outcome: Result<Reply, AnswerFault>,
+    },
 }
 
 /// What is told of each connection. It learns what became of it, and can change nothing of it.
 pub trait Log {
-    ghost use Rattle.std.specs.Prelude.{◌≡◌, ℕ};
-    ghost use Rattle.desk_server.specs.Served.{CountsOn};
+    ghost use Rattle.desk_server.specs.Served.{Notes};
 
-    // how many connections it was told of
-    ghost told: { Self → ℕ };
+    // what it becomes where a connection begins
+    ghost begins: { Self → Self → Type 0 };
+
+    // what it becomes where one came to its end
+    ghost notes: { Notes Self };
 
     /// A connection is there.
     fn begin(&mut self)
-        ensures { told self.new ≡ told self.old };
+        ensures { begins self.old self.new };
 
     /// A connection came to its end.
-    fn tell(&mut self, fate: &Fate)
-        ensures { CountsOn (told self.old) 1 (told self.new) };
+    fn note(&mut self, fate: &Fate)
+        ensures { notes self.old fate.now self.new };
 }
 
 /// Keeps no log.
 #[derive(Drop)]
-pub struct Unlogged {
-    told: u64,
-}
-
-impl Unlogged {
-    /// It was told of no connection yet.
-    pub fn new() -> Unlogged {
-        Unlogged { told: 0 }
-    }
-}
+pub struct Unlogged;
 
 impl Log for Unlogged {
-    ghost told = { λ log. log.told };
+    ghost begins = { λ _ _. Unit {0} };
+
+    ghost notes = { λ _ _ _. Unit {0} };
 
     fn begin(&mut self) {}
 
-    fn tell(&mut self, _fate: &Fate) {
-        self.told = self.told.saturating_add(1);
-    }
+    fn note(&mut self, _fate: &Fate) {}
 }
 
 /// Writes a line for each connection: the moment, the method, the path, the status of the reply and
 /// the microseconds that it took, with spaces between them. A dash stands for what isn't there; for
-/// the status, where no reply was written whole.
+/// the status, where no reply was written whole. A log that can't be written ends nothing.
 #[derive(Drop)]
 pub struct LogLines<'a, W, C> {
     writer: &'a mut W,
     clock: &'a C,
     began: Option<Instant>,
-    told: u64,
 }
 
-impl<'a, W: Write, C: Clock> LogLines<'a, W, C> {
+impl<'a, W: Outlet, C: Clock> LogLines<'a, W, C> {
     /// Writes to this writer, with the times of this clock.
     pub fn new(writer: &'a mut W, clock: &'a C) -> LogLines<'a, W, C> {
         LogLines {
             writer,
             clock,
             began: None,
-            told: 0,
         }
     }
 
@@ -101,58 +95,102 @@ impl<'a, W: Write, C: Clock> LogLines<'a, W, C> {
     }
 }
 
-impl<'a, W: Write, C: Clock> Log for LogLines<'a, W, C> {
-    ghost told = { λ log. log.told };
+impl<'a, W: Outlet, C: Clock> Log for LogLines<'a, W, C> {
+    ghost use Rattle.std.specs.Prelude.{◌≡◌, ℕ};
+    ghost use Rattle.desk_server.specs.Log.{IsWritten, line_text};
+
+    ghost begins = { λ old new. new.writer ≡ old.writer };
+
+    ghost notes = { λ old fate new. (microseconds : ℕ) × IsWritten
+        (W.taken old.writer.now) (W.taken new.writer.now)
+        (W.failures old.writer.now) (W.failures new.writer.now)
+        (line_text fate microseconds) };
 
     fn begin(&mut self) {
         self.began = Instant::now(self.clock).ok();
     }
 
-    fn tell(&mut self, fate: &Fate) {
-        let microseconds = self.microseconds();
+    fn note(&mut self, fate: &Fate) {
+        let line = line_of(fate, self.microseconds());
         self.began = None;
-        self.told = self.told.saturating_add(1);
-        let line = Line {
-            fate: *fate,
-            microseconds,
-        };
-        let text = InlineText::<MAX_LINE>::of(line);
-        // A log that can't be written ends nothing.
-        let _ = self.writer.write_all(text.as_str().as_bytes());
-        let _ = self.writer.flush();
+        let _ = put_all(&mut *self.writer, line.bytes());
     }
 }
 
-/// A line of the log.
-#[derive(Clone, Copy)]
-struct Line {
-    fate: Fate,
-    microseconds: u64,
+// The line of a connection.
+#[tactic(auto, unfolding(crate::specs::Log::line_text))]
+fn line_of(fate: &Fate, microseconds: u64) -> Line
+    ensures { result ≡ spec.line_text fate.now microseconds }
+{
+    let mut line = front_of(fate);
+    line.push(b" ");
+    line.push_number(microseconds);
+    line.push(b"\n");
+    line
 }
 
-impl fmt::Display for Line {
-    fn fmt<W: fmt::Write>(&self, f: &mut fmt::Formatter<W>) -> fmt::Result {
-        let microseconds = self.microseconds;
-        match &self.fate {
-            Fate::Absent | Fate::Unanswered => writeln!(f, "- - - - {microseconds}"),
-            Fate::Exchanged { moment, exchange } => {
-                let method = exchange.line.method().unwrap_or("-");
-                let path = exchange.line.path().unwrap_or("-");
-                write!(f, "{moment} {method} {path} ")?;
-                match &exchange.outcome {
-                    Ok(reply) => {
-                        let status = status_of(reply);
-                        writeln!(f, "{status} {microseconds}")
-                    }
-                    Err(_) => writeln!(f, "- {microseconds}"),
-                }
-            }
+// The moment, the method, the path and the status.
+#[tactic(auto, unfolding(crate::specs::Log::front_text))]
+fn front_of(fate: &Fate) -> Line
+    ensures text { result ≡ spec.front_text fate.now }
+    ensures len { length result ≤ 142 }
+{
+    let mut front = Line::new();
+    match fate {
+        Fate::Absent | Fate::Unanswered => front.push(b"- - - -"),
+        Fate::Exchanged {
+            moment,
+            line,
+            outcome,
+        } => {
+            front.push(&moment.text());
+            push_request(&mut front, line);
+            push_status(&mut front, outcome);
         }
+    }
+    front
+}
+
+// The method and the path of a request.
+#[tactic(auto, unfolding(crate::specs::Log::request_text))]
+fn push_request(front: &mut Line, line: &RequestLine)
+    requires { length front.old ≤ 16 }
+    ensures text { front.new ≡ front.old ++ spec.request_text line.now }
+    ensures len { length front.new ≤ length front.old + 106 }
+{
+    front.push(b" ");
+    front.push(or_dash(line.method()));
+    front.push(b" ");
+    front.push(or_dash(line.path()));
+    front.push(b" ");
+}
+
+// The status of a reply that was written whole.
+fn push_status(front: &mut Line, outcome: &Result<Reply, AnswerFault>)
+    requires { length front.old ≤ 122 }
+    ensures text { front.new ≡ front.old ++ spec.status_text outcome.now }
+    ensures len { length front.new ≤ length front.old + 20 }
+{
+    match outcome {
+        Ok(reply) => front.push_number(u64::from(status_of(reply))),
+        Err(_) => front.push(b"-"),
+    }
+}
+
+// A word, or a dash where there is none.
+fn or_dash<'a>(word: Option<&'a [u8]>) -> &'a [u8]
+    ensures { result.now ≡ spec.or_dash (bytes_of word.entry) }
+{
+    match word {
+        Some(word) => word,
+        None => b"-",
     }
 }
 
 // The HTTP status of a reply.
-fn status_of(reply: &Reply) -> u16 {
+fn status_of(reply: &Reply) -> u16
+    ensures { result ≡ spec.status_number reply.now }
+{
     match reply {
         Reply::Refused(refusal) => refusal.status(),
         _ => OK,

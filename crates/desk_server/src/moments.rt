@@ -1,5 +1,9 @@
 //! Where the moments of connections come from.
 
+ghost use Rattle.std.specs.Prelude.{◌≡◌, pos, MatchOption};
+ghost use Rattle.std.specs.Time.{system_time_nanos};
+ghost use Rattle.jiff_core.specs.Timestamp.{IsTimestampNanos};
+
 use crate::zone::Zone;
 use club_values::Moment;
 use jiff_core::Timestamp;
@@ -33,14 +37,46 @@ impl Moments for Fixed {
     }
 }
 
-/// A clock in a zone.
+/// What shows instants.
+pub trait Instants {
+    ghost use Rattle.std.specs.Prelude.{Option};
+    ghost use Rattle.jiff_core.specs.declared.timestamp.Timestamp.{Timestamp};
+
+    // what it may show
+    ghost shows: { Self → Option Timestamp → Type 0 };
+
+    /// The instant now; `None` where it can't be told.
+    fn instant(&self) -> Option<Timestamp>
+        ensures { shows self.now result };
+}
+
+/// Those of a clock, of which nothing is promised.
+impl<C: Clock> Instants for C {
+    ghost shows = { λ _ _. Unit {0} };
+
+    fn instant(&self) -> Option<Timestamp> {
+        instant_of(SystemTime::now(self).ok()?)
+    }
+}
+
+// The instant of a time; `None` where it is too late for one.
+fn instant_of(time: SystemTime) -> Option<Timestamp>
+    ensures { MatchOption result
+        (¬ (IsTimestampNanos (pos (system_time_nanos time))))
+        (λ instant. instant.nanosecond ≡ pos (system_time_nanos time)) }
+{
+    let since = time.duration_since(SystemTime::UNIX_EPOCH).ok()?;
+    Timestamp::from_nanosecond(i128::try_from(since.as_nanos()).ok()?).ok()
+}
+
+/// What shows instants, in a zone.
 #[derive(Drop)]
 pub struct ClockIn<'z, 'c, C> {
     zone: Zone<'z>,
     clock: &'c C,
 }
 
-impl<'z, 'c, C: Clock> ClockIn<'z, 'c, C> {
+impl<'z, 'c, C: Instants> ClockIn<'z, 'c, C> {
     ghost use Rattle.std.specs.Prelude.{◌≡◌};
 
     /// The moments that the clock shows in the zone.
@@ -51,25 +87,16 @@ impl<'z, 'c, C: Clock> ClockIn<'z, 'c, C> {
     }
 }
 
-// The instant that a clock shows; `None` where it can't be read.
-fn instant_of(clock: &impl Clock) -> Option<Timestamp> {
-    let since = SystemTime::now(clock)
-        .ok()?
-        .duration_since(SystemTime::UNIX_EPOCH)
-        .ok()?;
-    Timestamp::from_nanosecond(i128::try_from(since.as_nanos()).ok()?).ok()
-}
+impl<'z, 'c, C: Instants> Moments for ClockIn<'z, 'c, C> {
+    ghost use Rattle.std.specs.Prelude.{◌≡◌};
+    ghost use Rattle.desk_server.specs.Zone.{ShowsIn};
 
-impl<'z, 'c, C: Clock> Moments for ClockIn<'z, 'c, C> {
-    ghost use Rattle.std.specs.Prelude.{◌≡◌, ◌⊎◌, ℤ, None};
-    ghost use Rattle.desk_server.specs.Zone.{IsShown};
-
-    // that of some instant, or none where the clock can't be read
+    // that of the instant which the clock gave, and none where it gave none
     ghost tells = { λ old told new.
-        ((instant : ℤ) × IsShown old.zone instant told) ⊎ (told ≡ None) };
+        ShowsIn old.zone (C.shows old.clock.now) told × (new ≡ old) };
 
     fn now(&mut self) -> Option<Moment> {
-        let instant = instant_of(self.clock)?;
+        let instant = self.clock.instant()?;
         self.zone.moment_at(instant)
     }
 }

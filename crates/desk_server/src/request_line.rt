@@ -1,9 +1,12 @@
 //! The beginning of a request, for the log.
 
-ghost use Rattle.std.specs.Prelude.{◌≡◌, ◌≤◌};
+ghost use Rattle.std.specs.Prelude.{◌≡◌, ◌≢◌, ℕ, ◌<◌, ◌≤◌, EachIndex, length, slice_index};
+ghost use Rattle.std.specs.Prelude.{IfSome, MatchOption, true, false};
 ghost use Rattle.std.specs.Char.{is_ascii_uppercase};
-ghost use Rattle.std.specs.List.{list_all};
+ghost use Rattle.std.specs.List.{after_first, before_first, list_all};
 ghost use Rattle.desk_server.specs.RequestLine as spec;
+
+use std::marker::Model;
 
 /// The most bytes that are kept: the longest request line of the desk has 80, that of the
 /// cancellation of a booking at a facility whose name has 24 letters.
@@ -12,78 +15,144 @@ pub const MAX_KEPT: usize = 96;
 /// The most letters of a method that is told; `DELETE` is the longest of the desk's.
 const MAX_METHOD_LEN: usize = 7;
 
-/// The first bytes of a request as it was read. Contracts see it as these bytes.
+/// The first bytes of a request. Contracts see it as these bytes.
 ///
 /// It tells the method and the path where they are made of the letters that the desk's own are made
 /// of. So it tells no pass: the text of every pass has a capital letter or a brace in it.
-#[derive(Clone, Copy)]
+#[derive(Drop)]
 pub struct RequestLine {
     bytes: [u8; MAX_KEPT],
     len: usize,
-    ghost within: { len ≤ 96 },
+}
+
+impl Model for RequestLine {
+    ghost use Rattle.std.specs.Prelude.{ℕ, ◌≤◌, List, take};
+
+    ghost Value = { List ℕ };
+
+    ghost view = { λ line. take line.len line.bytes };
+
+    ghost invariant = { λ line. line.len ≤ 96 };
 }
 
 impl RequestLine {
-    ghost use Rattle.std.specs.Prelude.{IfSome, true};
+    ghost use Rattle.std.specs.Prelude.{◌≡◌, ◌≤◌, IfSome, length, take};
+    ghost use Rattle.desk_server.specs.RequestLine.{bytes_of, method_of, path_of};
 
-    /// Nothing was read yet.
-    pub fn new() -> RequestLine {
-        RequestLine {
-            bytes: [0; MAX_KEPT],
-            len: 0,
-        }
-    }
-
-    /// Keeps more bytes behind those that it has, as far as there is room.
-    pub fn keep(&mut self, bytes: &[u8]) {
-        let count = bytes.len().min(MAX_KEPT - self.len);
-        let end = self.len + count;
-        self.bytes[self.len..end].copy_from_slice(&bytes[..count]);
-        self.len = end;
+    /// The first bytes of a request, as many as are kept.
+    pub fn of(request: &[u8]) -> RequestLine
+        ensures { result ≡ take 96 request.now }
+    {
+        let len = request.len().min(MAX_KEPT);
+        let mut bytes = [0; MAX_KEPT];
+        bytes[..len].copy_from_slice(&request[..len]);
+        RequestLine { bytes, len }
     }
 
     /// The method, where it is 1 to 7 capital letters.
-    pub fn method(&self) -> Option<&str>
-        ensures { IfSome result (λ text. list_all is_ascii_uppercase text.now ≡ true) }
+    pub fn method(&self) -> Option<&[u8]>
+        ensures word { bytes_of result ≡ method_of self.now }
+        ensures len { IfSome result (λ word. length word.now ≤ 7) }
     {
-        let method = self.words()?.0;
-        if method.is_empty() || method.len() > MAX_METHOD_LEN || !are_capitals(method) {
-            return None;
-        }
-        str::from_utf8(method).ok()
+        method_in(self.kept())
     }
 
     /// The path, where it is made of small letters, digits, dashes and slashes.
-    pub fn path(&self) -> Option<&str>
-        ensures { IfSome result (λ text. list_all spec.is_path_byte text.now ≡ true) }
+    pub fn path(&self) -> Option<&[u8]>
+        ensures word { bytes_of result ≡ path_of self.now }
+        ensures len { IfSome result (λ word. length word.now ≤ 96) }
     {
-        let path = self.words()?.1;
-        if path.is_empty() || !are_of_a_path(path) {
-            return None;
-        }
-        str::from_utf8(path).ok()
+        path_in(self.kept())
     }
 
-    // The first two words, behind each of which a space stands.
-    fn words(&self) -> Option<(&[u8], &[u8])> {
-        let kept = &self.bytes[..self.len];
-        let method_len = kept.iter().position(|byte| *byte == b' ')?;
-        let rest = &kept[method_len + 1..];
-        let path_len = rest.iter().position(|byte| *byte == b' ')?;
-        Some((&kept[..method_len], &rest[..path_len]))
+    fn kept(&self) -> &[u8]
+        ensures bytes { result.now ≡ self.now }
+        ensures len { length result.now ≤ 96 }
+    {
+        &self.bytes[..self.len]
     }
 }
 
-fn are_capitals(text: &[u8]) -> bool
-    ensures { result ≡ list_all is_ascii_uppercase text.now }
+fn method_in(bytes: &[u8]) -> Option<&[u8]>
+    ensures word { spec.bytes_of result ≡ spec.method_of bytes.now }
+    ensures len { IfSome result (λ word. length word.now ≤ 7) }
 {
-    text.iter().all(|byte| byte.is_ascii_uppercase())
+    let (method, _) = two_words(bytes)?;
+    if is_method(method) {
+        Some(method)
+    } else {
+        None
+    }
 }
 
-fn are_of_a_path(text: &[u8]) -> bool
-    ensures { result ≡ list_all spec.is_path_byte text.now }
+fn path_in(bytes: &[u8]) -> Option<&[u8]>
+    ensures word { spec.bytes_of result ≡ spec.path_of bytes.now }
+    ensures len { IfSome result (λ word. length word.now ≤ length bytes.now) }
 {
-    text.iter().all(|byte| is_path_byte(*byte))
+    let (_, path) = two_words(bytes)?;
+    if is_path(path) { Some(path) } else { None }
+}
+
+// The first two words, where a space stands behind each.
+fn two_words(bytes: &[u8]) -> Option<(&[u8], &[u8])>
+    ensures words { MatchOption result (spec.has_two_words bytes.now ≡ false)
+        (λ words. (spec.has_two_words bytes.now ≡ true)
+        × (words.0.now ≡ spec.first_word bytes.now)
+        × (words.1.now ≡ spec.second_word bytes.now)) }
+    ensures len { IfSome result (λ words. length words.1.now ≤ length bytes.now) }
+{
+    let (first, rest) = split_at_space(bytes)?;
+    let (second, _) = split_at_space(rest)?;
+    Some((first, second))
+}
+
+// What stands before the first space, and what behind it; `None` without one.
+fn split_at_space(bytes: &[u8]) -> Option<(&[u8], &[u8])>
+    ensures parts { MatchOption result (spec.has_space bytes.now ≡ false)
+        (λ parts. (spec.has_space bytes.now ≡ true)
+        × (parts.0.now ≡ before_first spec.is_space bytes.now)
+        × (parts.1.now ≡ after_first spec.is_space bytes.now)) }
+    ensures len { IfSome result (λ parts. (length parts.0.now ≤ length bytes.now)
+        × (length parts.1.now ≤ length bytes.now)) }
+{
+    match place_of_space(bytes) {
+        None => None,
+        Some(place) => Some((&bytes[..place], &bytes[place + 1..])),
+    }
+}
+
+// How many bytes stand before the first space.
+fn place_of_space(bytes: &[u8]) -> Option<usize>
+    ensures { MatchOption result (EachIndex bytes.now (λ k. slice_index bytes.now k ≢ 32))
+        (λ place. (place < length bytes.now)
+        × (slice_index bytes.now place ≡ 32)
+        × ((k : ℕ) → k < place → slice_index bytes.now k ≢ 32)) }
+{
+    bytes.iter().position(|byte| *byte == b' ')
+}
+
+fn is_method(word: &[u8]) -> bool
+    ensures { result ≡ spec.is_method word.now }
+{
+    !word.is_empty() && word.len() <= MAX_METHOD_LEN && are_capitals(word)
+}
+
+fn are_capitals(word: &[u8]) -> bool
+    ensures { result ≡ list_all is_ascii_uppercase word.now }
+{
+    word.iter().all(|byte| byte.is_ascii_uppercase())
+}
+
+fn is_path(word: &[u8]) -> bool
+    ensures { result ≡ spec.is_path word.now }
+{
+    !word.is_empty() && are_of_a_path(word)
+}
+
+fn are_of_a_path(word: &[u8]) -> bool
+    ensures { result ≡ list_all spec.is_path_byte word.now }
+{
+    word.iter().all(|byte| is_path_byte(*byte))
 }
 
 fn is_path_byte(byte: u8) -> bool

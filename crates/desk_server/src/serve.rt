@@ -1,11 +1,14 @@
 //! The server.
 
-ghost use Rattle.std.specs.Prelude.{◌≡◌, ◌<◌, ℕ, MatchResult};
-ghost use Rattle.desk_server.specs.Served.{AreAnswered, AreServed, CountsOn, IsServed, IsStopped};
+ghost use Rattle.std.specs.Prelude.{◌≡◌, length, MatchResult, Some, None};
+ghost use Rattle.desk_server.specs.Served.{AreNoted, CountsOn, IsNoted, IsServed, Serves, Steps};
+ghost use Rattle.desk_server.specs.declared.log.Fate.{Fate};
+ghost use Rattle.desk_server.specs.declared.log.Fate.TheVariants.{Unanswered};
 
 use crate::connections::{Connection, Connections};
 use crate::log::{Fate, Log, Unlogged};
 use crate::moments::Moments;
+use crate::request_line::RequestLine;
 use club_http::{Face, Responder};
 use std::error::Error;
 use std::fmt;
@@ -41,24 +44,15 @@ pub fn serve_on<L: Connections, M: Moments, D: Responder>(
     face: &mut Face,
     desk: &mut D,
 ) -> Result<(), ClockOutOfRange>
-    ensures served { MatchResult result
-        (λ _. AreServed M.tells D.answers moments.old desk.old count moments.new desk.new
-        × CountsOn (L.waited connections.old) count (L.waited connections.new))
-        (λ _. IsStopped M.tells D.answers moments.old desk.old count moments.new desk.new
-        (λ n. CountsOn (L.waited connections.old) n (L.waited connections.new))) }
-    // Of the desk alone: it stepped by an exchange for each connection that was served.
-    ensures answered { MatchResult result
-        (λ _. AreAnswered D.answers desk.old count desk.new)
-        (λ _. (n : ℕ) × (n < count) × AreAnswered D.answers desk.old n desk.new) }
+    ensures served { Serves M.tells D.answers L.Connection.ends count
+        moments.old desk.old (L.failures connections.old) result
+        moments.new desk.new (L.failures connections.new)
+        (λ fates. CountsOn (L.waited connections.old) (length fates) (L.waited connections.new)) }
+    // Of the desk alone: it stepped by an exchange for each connection that was there.
+    ensures answered { Steps D.answers count
+        desk.old (L.failures connections.old) result desk.new (L.failures connections.new) }
 {
-    serve_logged(
-        connections,
-        count,
-        moments,
-        face,
-        desk,
-        &mut Unlogged::new(),
-    )
+    serve_logged(connections, count, moments, face, desk, &mut Unlogged)
 }
 
 /// Serves connections as `serve_on`, and tells a log of each. What is served is the same whatever
@@ -75,16 +69,13 @@ pub fn serve_logged<L: Connections, M: Moments, D: Responder, G: Log>(
     desk: &mut D,
     log: &mut G,
 ) -> Result<(), ClockOutOfRange>
-    ensures served { MatchResult result
-        (λ _. AreServed M.tells D.answers moments.old desk.old count moments.new desk.new
-        × CountsOn (L.waited connections.old) count (L.waited connections.new)
-        × CountsOn (G.told log.old) count (G.told log.new))
-        (λ _. IsStopped M.tells D.answers moments.old desk.old count moments.new desk.new
-        (λ n. CountsOn (L.waited connections.old) n (L.waited connections.new)
-        × CountsOn (G.told log.old) n (G.told log.new))) }
-    ensures answered { MatchResult result
-        (λ _. AreAnswered D.answers desk.old count desk.new)
-        (λ _. (n : ℕ) × (n < count) × AreAnswered D.answers desk.old n desk.new) }
+    ensures served { Serves M.tells D.answers L.Connection.ends count
+        moments.old desk.old (L.failures connections.old) result
+        moments.new desk.new (L.failures connections.new)
+        (λ fates. CountsOn (L.waited connections.old) (length fates) (L.waited connections.new)
+        × AreNoted G.begins G.notes log.old fates log.new) }
+    ensures answered { Steps D.answers count
+        desk.old (L.failures connections.old) result desk.new (L.failures connections.new) }
 {
     for served in 0..count {
         match serve_next(connections, moments, face, desk, log) {
@@ -104,31 +95,33 @@ fn serve_next<L: Connections, M: Moments, D: Responder, G: Log>(
     log: &mut G,
 ) -> Result<(), ClockOutOfRange>
     ensures waited { CountsOn (L.waited connections.old) 1 (L.waited connections.new) }
-    ensures told { CountsOn (G.told log.old) 1 (G.told log.new) }
     ensures served { MatchResult result
-        (λ _. IsServed M.tells D.answers moments.old desk.old moments.new desk.new)
-        (λ _. M.tells moments.old None moments.new × (desk.new ≡ desk.old)) }
+        (λ _. (fate : Fate) × IsNoted G.begins G.notes log.old fate log.new
+        × IsServed M.tells D.answers L.Connection.ends
+        moments.old desk.old (L.failures connections.old) fate
+        moments.new desk.new (L.failures connections.new))
+        (λ _. IsNoted G.begins G.notes log.old Unanswered log.new
+        × M.tells moments.old None moments.new
+        × (desk.new ≡ desk.old)
+        × (L.failures connections.new ≡ L.failures connections.old)) }
 {
-    match connections.accept() {
-        None => {
-            log.tell(&Fate::Absent);
-            Ok(())
-        }
-        Some(mut connection) => {
-            log.begin();
-            match moments.now() {
-                None => {
-                    log.tell(&Fate::Unanswered);
-                    Err(ClockOutOfRange)
-                }
-                Some(moment) => {
-                    // Whatever comes of it, the next one is served.
-                    let exchange = connection.exchange(face, desk, moment);
-                    drop(connection);
-                    log.tell(&Fate::Exchanged { moment, exchange });
-                    Ok(())
-                }
-            }
-        }
-    }
+    let Some(mut connection) = connections.accept() else {
+        log.note(&Fate::Absent);
+        return Ok(());
+    };
+    log.begin();
+    let Some(moment) = moments.now() else {
+        log.note(&Fate::Unanswered);
+        return Err(ClockOutOfRange);
+    };
+    // Whatever comes of it, the next one is served.
+    let outcome = connection.exchange(face, desk, moment);
+    drop(connection);
+    let line = RequestLine::of(face.request());
+    log.note(&Fate::Exchanged {
+        moment,
+        line,
+        outcome,
+    });
+    Ok(())
 }

@@ -1,7 +1,7 @@
 //! Bookings: whole, cut short, and with odd bodies.
 
 use crate::asked::{BAD_REQUEST, PASS, Want, asked, asks, book, carries};
-use crate::rows::expect_row;
+use crate::rows::{Piece, expect_row, joined};
 use club_core::Refusal;
 use club_words::{Routes, missing, words_of};
 use std::process::Abort;
@@ -83,14 +83,28 @@ static BODIES: [(&str, Want); 19] = [
     ("{\"guests\":18446744073709551616}", BAD_REQUEST),
 ];
 
+fn ask_with(rt: &(impl Abort + AllocGlobal), body: &str, want: &Want) {
+    let text = format!(in rt.alloc();
+        "{PUT}\r\n{PASS}Content-Length: {}\r\n\r\n{body}",
+        body.len()
+    )
+    .expect(rt, "memory");
+    asks(rt, text.as_str(), want);
+}
+
 fn ask_by_body(rt: &(impl Abort + AllocGlobal), rows: &[(&'static str, Want)]) {
     for (body, want) in rows {
-        let text = format!(in rt.alloc();
-            "{PUT}\r\n{PASS}Content-Length: {}\r\n\r\n{body}",
-            body.len()
-        )
-        .expect(rt, "memory");
-        asks(rt, text.as_str(), want);
+        ask_with(rt, body, want);
+    }
+}
+
+// So many spaces in a body that has 12 bytes without them: the longest has 256.
+static SPACES: [(usize, Want); 2] = [(244, Want::Book(2)), (245, BAD_REQUEST)];
+
+fn ask_by_spaces(rt: &(impl Abort + AllocGlobal), rows: &[(usize, Want)]) {
+    for (spaces, want) in rows {
+        let body = joined(rt, &[(1, "{\"guests\":2"), (*spaces, " "), (1, "}")]);
+        ask_with(rt, body.as_str(), want);
     }
 }
 
@@ -98,6 +112,32 @@ fn ask_by_body(rt: &(impl Abort + AllocGlobal), rows: &[(&'static str, Want)]) {
 fn bodies(rt: HostRuntime) {
     ask_by_length(&rt, &LENGTHS);
     ask_by_body(&rt, &BODIES);
+    ask_by_spaces(&rt, &SPACES);
+}
+
+/// A head of 16,384 bytes, and a body of 256.
+static LONGEST: [Piece; 7] = [
+    (1, PUT),
+    (
+        1,
+        "\r\nAuthorization: Bearer AgEJ\r\nContent-Length: 256\r\nHost: ",
+    ),
+    (16_384 - 113, "h"),
+    (1, "\r\n\r\n"),
+    (1, "{\"guests\":2"),
+    (244, " "),
+    (1, "}"),
+];
+
+// The longest request that the desk takes: it is whole, and one byte short it isn't.
+#[test]
+fn longest(rt: HostRuntime) {
+    let text = joined(&rt, &LONGEST);
+    let bytes = text.as_bytes();
+    expect_row(&rt, &bytes.len(), &16_640, &"the longest");
+    expect_row(&rt, &missing(bytes), &0, &"it is whole");
+    asks(&rt, text.as_str(), &Want::Book(2));
+    is_cut(&rt, &bytes[..bytes.len().saturating_sub(1)], 1);
 }
 
 /// With any allocation refused, as `rt try --test --fail-alloc N` refuses the Nth: no routes, the

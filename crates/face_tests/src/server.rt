@@ -1,19 +1,19 @@
 //! Zones, and servers over memory and over a socket. What clocks show was computed by a program of
 //! another language, from the zones' own database.
 
+mod clocks;
 mod doubles;
 mod logs;
+mod over_sockets;
 mod request_lines;
 mod zones;
 
 use crate::expect::{expect_eq, expect_shown};
 use crate::rows::{NOON, moment};
-use crate::sockets::{client_of, connected, expect_reply, listening};
 use club_http::Face;
-use desk_server::{ClockOutOfRange, Connections, Fixed, Listening, Moments, serve_on};
+use desk_server::{ClockOutOfRange, Connections, Fixed, Moments, serve_on};
 use doubles::{Countdown, Noting, Script, Wire};
 use std::alloc::Global;
-use std::net::TcpListener;
 use std::process::Abort;
 
 const REQUEST: &[u8] = b"GET /account HTTP/1.1\r\nAuthorization: Bearer AgEJ\r\n\r\n";
@@ -50,11 +50,12 @@ fn serves<L: Connections, M: Moments>(
 }
 
 /// Failing connections, and refused requests.
-static FAILING: [Wire<'static>; 6] = [
+static FAILING: [Wire<'static>; 7] = [
     Wire::Whole(REQUEST),
     Wire::Absent,
     Wire::Broken,
     Wire::Whole(b"x"),
+    Wire::Deaf(REQUEST),
     Wire::Whole(REQUEST),
     Wire::Whole(REQUEST),
 ];
@@ -67,7 +68,7 @@ fn serves_and_asks(rt: &(impl Abort + Alloc<A = Global>), count: u32, asked: u64
     expect_eq(rt, &connections.waited, &u64::from(count));
 }
 
-static COUNTS: [(u32, u64); 6] = [(0, 0), (1, 1), (2, 1), (3, 1), (4, 1), (5, 2)];
+static COUNTS: [(u32, u64); 7] = [(0, 0), (1, 1), (2, 1), (3, 1), (4, 1), (5, 2), (6, 3)];
 
 // Failing connections count, and refused requests end nothing.
 #[test]
@@ -91,22 +92,4 @@ fn stops_without_a_moment(rt: HostRuntime) {
     expect_eq(&rt, &served, &(Err(ClockOutOfRange), 1));
     expect_eq(&rt, &connections.waited, &3);
     expect_shown(&rt, &ClockOutOfRange, "clock out of range");
-}
-
-/// The next two connections of the listener are served, and one request is asked.
-fn serves_two(rt: &(impl Abort + Alloc<A = Global>), listener: &TcpListener) {
-    let mut connections = Listening::new(listener);
-    let served = serves(rt, &mut connections, 2, &mut noon(rt));
-    expect_eq(rt, &served, &(Ok(()), 1));
-}
-
-// Bound, connected, written, served and read, one after the other. The first client is gone by
-// then.
-#[test]
-fn serves_over_a_socket(rt: HostRuntime) {
-    let listener = listening(&rt);
-    drop(connected(&rt, &listener));
-    let mut client = client_of(&rt, &listener, REQUEST);
-    serves_two(&rt, &listener);
-    expect_reply(&rt, &mut client, REPLY);
 }

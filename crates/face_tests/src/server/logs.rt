@@ -1,65 +1,20 @@
 //! Logs of connections.
 
-use super::doubles::{Noting, Script, Wire};
+use super::doubles::{Noting, Script, Taken, Ticking, Wire};
 use super::{REQUEST, noon, noons};
 use crate::expect::{expect_eq, expect_told};
 use crate::rows::{NOON, moment};
-use club_http::Face;
+use club_http::{Face, WriteOutlet};
 use desk_server::{ClockOutOfRange, Log, LogLines, Moments, serve_logged};
 use std::alloc::Global;
-use std::cell::Cell;
-use std::io::{self, ErrorKind, Write};
+use std::io::Write;
 use std::process::Abort;
-use std::time::{Clock, Duration};
 
-/// Shows 1,533 microseconds more each time.
-#[derive(Drop)]
-struct Ticking {
-    shown: Cell<u64>,
-}
-
-impl Ticking {
-    fn new() -> Ticking {
-        Ticking {
-            shown: Cell::new(0),
-        }
-    }
-
-    fn tick(&self) -> Duration {
-        let now = self.shown.get().saturating_add(1_533);
-        self.shown.set(now);
-        Duration::from_micros(now)
-    }
-}
-
-impl Clock for Ticking {
-    fn monotonic(&self) -> io::Result<Duration> {
-        Ok(self.tick())
-    }
-
-    fn since_1970(&self) -> io::Result<Duration> {
-        Ok(self.tick())
-    }
-}
-
-/// Fails at each write.
-#[derive(Drop)]
-struct Broken;
-
-impl Write for Broken {
-    fn write(&mut self, _bytes: &[u8]) -> io::Result<usize> {
-        Err(io::Error::from(ErrorKind::BrokenPipe))
-    }
-
-    fn flush(&mut self) -> io::Result<()> {
-        Err(io::Error::from(ErrorKind::BrokenPipe))
-    }
-}
-
-static SCRIPT: [Wire<'static>; 7] = [
+static SCRIPT: [Wire<'static>; 8] = [
     Wire::Whole(REQUEST),
     Wire::Absent,
     Wire::Broken,
+    Wire::Deaf(REQUEST),
     Wire::Whole(b"x"),
     Wire::Whole(b"PUT /slots/court-1/2026-05-01/18/bookings/7 HTTP/1.1\r\n\r\n"),
     Wire::Whole(b"GET /AgEJY2x1Yi1kZXNr HTTP/1.1\r\n\r\n"),
@@ -69,6 +24,7 @@ static SCRIPT: [Wire<'static>; 7] = [
 const LINES: &str = "2026-04-20T12:00 GET /account 503 1533
 - - - - 0
 2026-04-20T12:00 - - - 1533
+2026-04-20T12:00 GET /account - 1533
 2026-04-20T12:00 - - 400 1533
 2026-04-20T12:00 PUT /slots/court-1/2026-05-01/18/bookings/7 400 1533
 2026-04-20T12:00 GET - 404 1533
@@ -88,7 +44,7 @@ fn served<M: Moments, G: Log>(
     let mut connections = Script::new(&SCRIPT);
     let mut face = Face::new(rt.alloc()).expect(rt, "a face");
     let mut desk = Noting::new(moment(rt, NOON));
-    let outcome = serve_logged(&mut connections, 7, moments, &mut face, &mut desk, log);
+    let outcome = serve_logged(&mut connections, 8, moments, &mut face, &mut desk, log);
     (outcome, connections.waited, desk.asked)
 }
 
@@ -98,8 +54,9 @@ fn logged<M: Moments, W: Write>(
     moments: &mut M,
     writer: &mut W,
 ) -> Served {
-    let clock = Ticking::new();
-    let mut log = LogLines::new(writer, &clock);
+    let clock = Ticking::new(0, 1_533);
+    let mut outlet = WriteOutlet::new(writer);
+    let mut log = LogLines::new(&mut outlet, &clock);
     served(rt, moments, &mut log)
 }
 
@@ -107,7 +64,7 @@ fn logged<M: Moments, W: Write>(
 fn a_line_for_each_connection(rt: HostRuntime) {
     let mut written = Vec::new(rt.alloc());
     let told = logged(&rt, &mut noon(&rt), &mut written);
-    expect_eq(&rt, &told, &(Ok(()), 7, 1));
+    expect_eq(&rt, &told, &(Ok(()), 8, 2));
     expect_told(&rt, &written, LINES.as_bytes(), "the script");
 }
 
@@ -122,6 +79,6 @@ fn a_line_for_a_connection_without_a_moment(rt: HostRuntime) {
 // What is served is the same.
 #[test]
 fn a_log_that_fails(rt: HostRuntime) {
-    let told = logged(&rt, &mut noon(&rt), &mut Broken);
-    expect_eq(&rt, &told, &(Ok(()), 7, 1));
+    let told = logged(&rt, &mut noon(&rt), &mut Taken { fails: true });
+    expect_eq(&rt, &told, &(Ok(()), 8, 2));
 }

@@ -1,75 +1,82 @@
 //! The lines that requests are told by in a log.
 
-use crate::expect::expect_eq;
+use crate::expect::{expect_eq, expect_told};
 use desk_server::RequestLine;
 use std::process::Abort;
 
-/// What is read of a request, a byte a call, and the method and the path that are told of it.
-static LINES: [(&[u8], Option<&str>, Option<&str>); 9] = [
-    (b"GET /account HTTP/1.1\r\n", Some("GET"), Some("/account")),
+/// A word that is told, if any.
+type Word = Option<&'static [u8]>;
+
+/// The beginning of a request, and the method and the path that are told of it.
+static LINES: [(&[u8], Word, Word); 9] = [
+    (
+        b"GET /account HTTP/1.1\r\n",
+        Some(b"GET"),
+        Some(b"/account"),
+    ),
     (
         b"DELETE /a/2026-05-01 ",
-        Some("DELETE"),
-        Some("/a/2026-05-01"),
+        Some(b"DELETE"),
+        Some(b"/a/2026-05-01"),
     ),
-    (b"OPTIONS * HTTP/1.1", Some("OPTIONS"), None),
-    (b"PROPFIND / HTTP/1.1", None, Some("/")),
+    (b"OPTIONS * HTTP/1.1", Some(b"OPTIONS"), None),
+    (b"PROPFIND / HTTP/1.1", None, Some(b"/")),
     (b"GET /account", None, None),
-    (b"GET  HTTP/1.1", Some("GET"), None),
-    (b" / HTTP/1.1", None, Some("/")),
+    (b"GET  HTTP/1.1", Some(b"GET"), None),
+    (b" / HTTP/1.1", None, Some(b"/")),
     (b"get /a?b HTTP/1.1", None, None),
     (b"", None, None),
 ];
 
-fn line_of(read: &[u8]) -> RequestLine {
-    let mut line = RequestLine::new();
-    for byte in read {
-        line.keep(&[*byte]);
-    }
-    line
+// Ends the test unless this is the word of a request.
+fn expect_word(rt: &impl Abort, word: Option<&[u8]>, want: &Word) {
+    expect_eq(rt, &word.is_some(), &want.is_some());
+    expect_told(rt, word.unwrap_or(b""), want.unwrap_or(b""), "a word");
 }
 
-fn tells(rt: &impl Abort, line: &RequestLine, method: &Option<&str>, path: &Option<&str>) {
-    expect_eq(rt, &line.method(), method);
-    expect_eq(rt, &line.path(), path);
+fn tells(rt: &impl Abort, request: &[u8], method: &Word, path: &Word) {
+    let line = RequestLine::of(request);
+    expect_word(rt, line.method(), method);
+    expect_word(rt, line.path(), path);
 }
 
 #[test]
 fn request_lines(rt: HostRuntime) {
-    for (read, method, path) in &LINES {
-        tells(&rt, &line_of(read), method, path);
+    for (request, method, path) in &LINES {
+        tells(&rt, request, method, path);
     }
 }
 
-/// As many bytes as are kept.
-const AS: &[u8] = &[b'a'; 96];
+/// The path of the longest request line of the desk.
+const LONGEST_PATH: &[u8] = b"/slots/abcdefghijklmnopqrstuvwx/2026-05-01/18/bookings/999999999";
 
-/// Three pieces of a request, and what is told of it. The longest request line of the desk is told,
-/// and bytes behind the room are left out.
-static LONG_LINES: [([&[u8]; 3], Option<&str>, Option<&str>); 2] = [
+/// Long request lines. The longest of the desk is told, and bytes behind the first 96 are left out.
+static LONG_LINES: [(&[u8], Word, Word); 3] = [
     (
-        [
-            b"DELETE /slots/abcdefghijklmnopqrstuvwx/2026-05-01/18/bookings/999999999 HTTP/1.1\r\n",
-            AS,
-            b"",
-        ],
-        Some("DELETE"),
-        Some("/slots/abcdefghijklmnopqrstuvwx/2026-05-01/18/bookings/999999999"),
+        b"DELETE /slots/abcdefghijklmnopqrstuvwx/2026-05-01/18/bookings/999999999 HTTP/1.1\r\n\
+        Host: a-host-whose-name-is-long.example\r\n",
+        Some(b"DELETE"),
+        Some(LONGEST_PATH),
     ),
-    ([b"GET /", AS, b" HTTP/1.1"], None, None),
+    (
+        b"GET /aaaaaaaaaaaaaaaaaaaaaaaaaaaaaaaaaaaaaaaaaaaaaaaaaaaaaaaaaaaaaaaaaaaaaaaaaaaaaaaaaaaaaaaaaa \
+        HTTP/1.1",
+        Some(b"GET"),
+        Some(
+            b"/aaaaaaaaaaaaaaaaaaaaaaaaaaaaaaaaaaaaaaaaaaaaaaaaaaaaaaaaaaaaaaaaaaaaaaaaaaaaaaaaaaaaaaaaaa",
+        ),
+    ),
+    (
+        b"GET /aaaaaaaaaaaaaaaaaaaaaaaaaaaaaaaaaaaaaaaaaaaaaaaaaaaaaaaaaaaaaaaaaaaaaaaaaaaaaaaaaaaaaaaaaaa \
+        HTTP/1.1",
+        None,
+        None,
+    ),
 ];
-
-fn line_of_pieces(pieces: &[&[u8]]) -> RequestLine {
-    let mut line = RequestLine::new();
-    for piece in pieces {
-        line.keep(piece);
-    }
-    line
-}
 
 #[test]
 fn long_request_lines(rt: HostRuntime) {
-    for (pieces, method, path) in &LONG_LINES {
-        tells(&rt, &line_of_pieces(pieces), method, path);
+    for (request, method, path) in &LONG_LINES {
+        tells(&rt, request, method, path);
     }
 }

@@ -1,18 +1,16 @@
 //! Zones, and the moments that they show. What clocks show was computed by a program of another
 //! language, from the zones' own database.
 
-use super::noon;
 use crate::expect::{expect_eq, expect_shown};
-use crate::rows::{NOON, moment};
 use club_values::Moment;
-use desk_server::{ClockIn, Moments, Zone};
+use desk_server::Zone;
 use jiff_core::Timestamp;
 use std::alloc::Global;
 use std::process::Abort;
 
 const NANOSECONDS_A_SECOND: i128 = 1_000_000_000;
 
-const BERLIN: &str = "CET-1CEST,M3.5.0,M10.5.0/3";
+pub(super) const BERLIN: &str = "CET-1CEST,M3.5.0,M10.5.0/3";
 
 /// What a clock in the zone of this rule shows so many seconds after 1970 began.
 static SHOWN: [(&str, i64, &str); 11] = [
@@ -80,22 +78,4 @@ fn rules_of_no_zone(rt: HostRuntime) {
     for rule in &NO_ZONES {
         is_no_zone(&rt, rule);
     }
-}
-
-// The machine's clock stands in this century.
-#[test]
-fn tells_the_moment_of_the_clock(rt: HostRuntime) {
-    let zone = Zone::from_rule("UTC0").expect(&rt, "a zone");
-    let mut clock = ClockIn::new(zone, &rt);
-    let told = clock.now().expect(&rt, "a moment");
-    let noon = moment(&rt, NOON);
-    expect_eq(&rt, &(told.number() > noon.number() - 1_000_000), &true);
-}
-
-#[test]
-fn tells_one_moment(rt: HostRuntime) {
-    let mut fixed = noon(&rt);
-    let moment = fixed.moment;
-    expect_eq(&rt, &fixed.now(), &Some(moment));
-    expect_eq(&rt, &fixed.now(), &Some(moment));
 }

@@ -1,40 +1,53 @@
-use Rattle.std.proofs.Common.{◌≡◌, arith}
+use Rattle.std.proofs.Common.{◌≡◌, [], ◌∷◌, ◌++◌, arith, refl}
 use Rattle.desk_server.specs.Served as spec
-use Rattle.desk_server.proofs.ServedLemmas.{all_of, answered, one_more}
+use Rattle.desk_server.specs.declared.log.Fate.TheVariants.{Unanswered}
+use Rattle.desk_server.proofs.ServedLemmas.{answered, counts_more, length_more}
 use Rattle.desk_server.proofs.serve.serve_logged.Goals as goal
 
 pub loop-served-init : goal.loop-served-init
-loop-served-init g c = record { served = spec.none; waited = λ fits. omega arith; told = λ fits. omega arith }
+loop-served-init g c = record { fates = []; so_many = refl; served = spec.none; waited = λ fits. omega arith; noted = spec.nothing }
 
 pub loop-served-preserved : goal.loop-served-preserved
-loop-served-preserved g c = record {
-  served = spec.more c.loop-served.served _ _ _ _ c.loop-served.invariant.served c.in-Ok.ensures.served;
-  waited = one_more _ c.loop-served.served _ _ c.loop-served.invariant.waited c.in-Ok.ensures.waited;
-  told = one_more _ c.loop-served.served _ _ c.loop-served.invariant.told c.in-Ok.ensures.told;
-}
+loop-served-preserved g c =
+    let inv = c.loop-served.invariant in
+    let fate = c.in-Ok.ensures.served.0 in
+    record {
+      fates = inv.fates ++ fate ∷ [];
+      so_many = omega (arith, length_more inv.fates fate, inv.so_many);
+      served = spec.more inv.fates fate _ _ _ _ _ _ inv.served c.in-Ok.ensures.served.2;
+      waited = counts_more _ c.loop-served.served _ _ inv.waited c.in-Ok.ensures.waited;
+      noted = spec.one_noted inv.fates fate _ _ inv.noted c.in-Ok.ensures.served.1;
+    }
 
 pub returns-in-Err-clause-served : goal.returns-in-Err-clause-served
-returns-in-Err-clause-served g c = record {
-  served = c.loop-served.served;
-  last = c.loop-served.moments;
-  fewer = omega arith;
-  before = rw c.in-Err.ensures.served.1 c.loop-served.invariant.served;
-  no_moment = c.in-Err.ensures.served.0;
-  counted = (
-    one_more _ c.loop-served.served _ _ c.loop-served.invariant.waited c.in-Err.ensures.waited,
-    one_more _ c.loop-served.served _ _ c.loop-served.invariant.told c.in-Err.ensures.told,
-  );
-}
+returns-in-Err-clause-served g c =
+    let inv = c.loop-served.invariant in
+    let stop = c.in-Err.ensures.served in
+    record {
+      fates = inv.fates;
+      last = c.loop-served.moments;
+      fewer = omega (arith, inv.so_many);
+      before = rw (stop.2, stop.3) inv.served;
+      no_moment = stop.1;
+      besides = (
+        rw (length_more inv.fates Unanswered, inv.so_many) (counts_more _ c.loop-served.served _ _ inv.waited c.in-Err.ensures.waited),
+        spec.one_noted inv.fates Unanswered _ _ inv.noted stop.0,
+      );
+    }
 
 pub returns-clause-served : goal.returns-clause-served
 returns-clause-served g c =
-    all_of _ _ _ _ c.loop-served.served c.args.count _ _ _ _ _ _ (omega arith) c.loop-served.invariant.served c.loop-served.invariant.waited
-    c.loop-served.invariant.told
+    let inv = c.loop-served.invariant in
+    (inv.fates, omega (arith, inv.so_many), inv.served, (rw inv.so_many inv.waited, inv.noted))
 
 pub returns-in-Err-clause-answered : goal.returns-in-Err-clause-answered
 returns-in-Err-clause-answered g c =
-    (c.loop-served.served, omega arith, rw c.in-Err.ensures.served.1 (answered _ _ _ _ _ _ _ c.loop-served.invariant.served))
+    let inv = c.loop-served.invariant in
+    let stop = c.in-Err.ensures.served in
+    (c.loop-served.served, omega arith, rw (stop.2, stop.3, ← inv.so_many) (answered _ _ _ _ _ _ _ _ _ _ inv.served))
 
 pub returns-clause-answered : goal.returns-clause-answered
 returns-clause-answered g c =
-    let last : c.loop-served.served ≡ c.args.count = omega arith in rw (← last) (answered _ _ _ _ _ _ _ c.loop-served.invariant.served)
+    let inv = c.loop-served.invariant in
+    let last : c.args.count ≡ c.loop-served.served = omega arith in
+    rw (last, ← inv.so_many) (answered _ _ _ _ _ _ _ _ _ _ inv.served)

@@ -1,10 +1,15 @@
 -- The connections so far.
-use Rattle.desk_server.specs.Served.{AreServed, CountsOn}
+use Rattle.std.proofs.Common.{◌≡◌, List, length}
+use Rattle.desk_server.specs.Served.{AreNoted, AreServed, CountsOn}
+use Rattle.desk_server.specs.declared.log.Fate.{Fate}
 use Rattle.desk_server.proofs.serve.serve_logged.Given as goal
 
 abbrev pub invariant-loop-served : goal.invariant-loop-served
 invariant-loop-served g l = record {
-  served : AreServed g.M.Moments.tells g.D.Responder.answers l.initial.moments l.initial.desk l.served l.moments l.desk;
+  fates : List Fate;
+  so_many : length fates ≡ l.served;
+  served : AreServed g.M.Moments.tells g.D.Responder.answers g.L.Connection.Connection.ends l.initial.moments l.initial.desk
+      (g.L.Connections.failures l.initial.connections) fates l.moments l.desk (g.L.Connections.failures l.connections);
   waited : CountsOn (g.L.Connections.waited l.initial.connections) l.served (g.L.Connections.waited l.connections);
-  told : CountsOn (g.G.Log.told l.initial.log) l.served (g.G.Log.told l.log);
+  noted : AreNoted g.G.Log.begins g.G.Log.notes l.initial.log fates l.log;
 }

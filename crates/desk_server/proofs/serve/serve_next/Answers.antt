@@ -1,5 +1,14 @@
-use Rattle.desk_server.specs.Served as spec
+use Rattle.desk_server.specs.declared.log.Fate.TheVariants.{Exchanged}
 use Rattle.desk_server.proofs.serve.serve_next.Goals as goal
 
-pub returns-in-Some-now-clause-served : goal.returns-in-Some-now-clause-served
-returns-in-Some-now-clause-served g c = spec.exchanged c.in-Some-now.moment _ c.in-Some-now.ensures c.exchange-exchange.ensures
+pub returns-clause-served : goal.returns-clause-served
+returns-clause-served g c = (
+  Exchanged c.in-Some-now.moment c.of-line.result c.exchange-outcome.result,
+  (c.begin.new.self, c.begin.ensures, c.note-2.ensures),
+  (
+    c.in-Some.ensures.counted,
+    c.in-Some-now.ensures,
+    (c.request.result.now, c.of-line.ensures, rw (← c.request.ensures) at c.exchange-outcome.ensures.exchanged),
+    (c.in-Some.connection, c.exchange-outcome.ensures.ended),
+  ),
+)

@@ -1,0 +1,48 @@
+-- The lines of a log (ours).
+use Rattle.std.specs.Prelude.{◌≡◌, ℕ, ◌<◌, ◌⊎◌, List, ◌++◌, length, take, codes, Option, Some, None, Result, Ok, Err}
+use Rattle.std.specs.Fmt.{decimal}
+use Rattle.std.specs.Io.KnownBytes.{Appends}
+use Rattle.club_core.specs.declared.reply.Reply.{Reply}
+use Rattle.club_core.specs.declared.reply.Reply.TheVariants.{Refused}
+use Rattle.club_core.specs.Refusal.{telling_of}
+use Rattle.club_http.specs.Ends.{one_more}
+use Rattle.club_http.specs.declared.fault.AnswerFault.{AnswerFault}
+use Rattle.club_values.specs.Moment.{moment_text}
+use Rattle.desk_server.specs.RequestLine.{method_of, path_of}
+use Rattle.desk_server.specs.declared.log.Fate.{Fate}
+use Rattle.desk_server.specs.declared.log.Fate.TheVariants.{Absent, Unanswered, Exchanged}
+
+-- a word, or a dash where there is none
+abbrev pub or_dash : Option (List ℕ) → List ℕ
+or_dash None = codes "-"
+or_dash (Some word) = word
+
+-- the HTTP status of a reply
+abbrev pub status_number : Reply → ℕ
+status_number (Refused refusal) = (telling_of refusal).status
+status_number reply = 200
+
+-- the status, where the reply was written whole
+abbrev pub status_text : Result Reply AnswerFault → List ℕ
+status_text (Ok reply) = decimal (status_number reply)
+status_text (Err fault) = codes "-"
+
+-- the method and the path of a request
+unfoldable pub request_text : List ℕ → List ℕ
+request_text line = codes " " ++ or_dash (method_of line) ++ codes " " ++ or_dash (path_of line) ++ codes " "
+
+-- the moment, the method, the path and the status of a connection
+unfoldable pub front_text : Fate → List ℕ
+front_text Absent = codes "- - - -"
+front_text Unanswered = codes "- - - -"
+front_text (Exchanged moment line outcome) = moment_text moment ++ request_text line ++ status_text outcome
+
+-- a line: these, and the microseconds that the connection took
+unfoldable pub line_text : Fate → ℕ → List ℕ
+line_text fate microseconds = front_text fate ++ codes " " ++ decimal microseconds ++ codes "\n"
+
+-- a text was written whole; or, where the writer failed, a beginning of it
+abbrev pub IsWritten : Option (List ℕ) → Option (List ℕ) → ℕ → ℕ → List ℕ → Type 0
+IsWritten taken taken' failures failures' text =
+    (Appends taken taken' text × (failures' ≡ failures))
+    ⊎ ((n : ℕ) × (n < length text) × Appends taken taken' (take n text) × (failures' ≡ one_more failures))

@@ -1,0 +1,79 @@
+//! Servers and exchanges over sockets. What a socket gives and takes is known to no contract, so
+//! these tests alone refuse a listener that accepts nobody, and an exchange that reads nothing from
+//! its socket or writes nothing to it.
+
+use super::doubles::Noting;
+use super::{REPLY, REQUEST, noon, serves};
+use crate::expect::{expect_eq, expect_told};
+use crate::rows::{NOON, moment};
+use crate::sockets::{client_of, connected, expect_reply, listening};
+use club_http::Face;
+use desk_server::{Connection, Connections, Listening};
+use std::alloc::Global;
+use std::net::TcpListener;
+use std::process::Abort;
+
+/// The next two connections of the listener are served, and one request is asked.
+fn serves_two(rt: &(impl Abort + Alloc<A = Global>), listener: &TcpListener) {
+    let mut connections = Listening::new(listener);
+    let served = serves(rt, &mut connections, 2, &mut noon(rt));
+    expect_eq(rt, &served, &(Ok(()), 1));
+}
+
+// Bound, connected, written, served and read, one after the other. The first client is gone by
+// then.
+#[test]
+fn serves_over_a_socket(rt: HostRuntime) {
+    let listener = listening(&rt);
+    drop(connected(&rt, &listener));
+    let mut client = client_of(&rt, &listener, REQUEST);
+    serves_two(&rt, &listener);
+    expect_reply(&rt, &mut client, REPLY);
+}
+
+#[test]
+fn accepts_a_client(rt: HostRuntime) {
+    let listener = listening(&rt);
+    let _client = connected(&rt, &listener);
+    let accepted = Listening::new(&listener).accept();
+    expect_eq(&rt, &accepted.is_some(), &true);
+}
+
+const BAD_REQUEST: &[u8] =
+    b"HTTP/1.1 400 Bad Request\r\nContent-Type: application/json\r\nContent-Length: 32\r\n\
+    Connection: close\r\n\r\n{\"fault\":1,\"text\":\"bad request\"}";
+
+/// A request, how many requests the desk is asked, and the reply.
+static EXCHANGES: [(&[u8], u64, &[u8]); 2] = [(REQUEST, 1, REPLY), (b"x\r\n\r\n", 0, BAD_REQUEST)];
+
+/// How many requests the desk is asked in an exchange of the listener's next connection.
+fn exchanged(rt: &impl Abort, listener: &TcpListener, face: &mut Face) -> u64 {
+    let accepted = Listening::new(listener).accept();
+    let mut connection = accepted.expect(rt, "a connection");
+    let noon = moment(rt, NOON);
+    let mut desk = Noting::new(noon);
+    let _ = connection.exchange(face, &mut desk, noon);
+    desk.asked
+}
+
+/// The next connection of the listener has its exchange, and the face keeps its request.
+fn exchanges(
+    rt: &(impl Abort + Alloc<A = Global>),
+    listener: &TcpListener,
+    request: &[u8],
+    asked: u64,
+) {
+    let mut face = Face::new(rt.alloc()).expect(rt, "a face");
+    expect_eq(rt, &exchanged(rt, listener, &mut face), &asked);
+    expect_told(rt, face.request(), request, "a request over a socket");
+}
+
+#[test]
+fn exchanges_over_a_socket(rt: HostRuntime) {
+    for (request, asked, reply) in &EXCHANGES {
+        let listener = listening(&rt);
+        let mut client = client_of(&rt, &listener, request);
+        exchanges(&rt, &listener, request, *asked);
+        expect_reply(&rt, &mut client, reply);
+    }
+}
