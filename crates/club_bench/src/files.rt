@@ -25,7 +25,10 @@ impl Files for OnDisk {
         rt: &HostRuntime,
         path: &str,
     ) -> Result<Store<FileStore<FileFrom<Unknown>>>, StoreFault> {
-        Store::open_file(rt, path, Unknown)
+        match Store::open_file(rt, path, Unknown) {
+            Ok(store) => Ok(store),
+            Err((fault, _left)) => Err(fault),
+        }
     }
 
     fn close(&self, store: Store<FileStore<FileFrom<Unknown>>>) -> Result<(), Error> {

@@ -1,5 +1,5 @@
 -- What a run ends with, and what it leaves unwritten.
-use Rattle.std.proofs.Common.{◌≡◌, ◌⊎◌, List, [], ◌∷◌, false, Option, Some, None, Result, Ok, Err, inl, inr, refl, ℕ, arith}
+use Rattle.std.proofs.Common.{◌≡◌, ◌⊎◌, List, [], ◌∷◌, false, Some, None, Result, Ok, Err, inl, inr, refl, ℕ, arith}
 use Rattle.std.proofs.lemmas.Bool.Decides.{nat_tests}
 use Rattle.std.specs.Prelude.{IsSome, IfErr}
 use Rattle.clap.specs.Words.{IsAmong, Kinds, Text}
@@ -14,7 +14,8 @@ use Rattle.club_gate.specs.declared.fault.Fault.TheVariants as desk
 use Rattle.desk_commands.specs.Application.{refusals}
 use Rattle.desk_commands.specs.Commanded.{Commanded}
 use Rattle.desk_commands.specs.Office as office
-use Rattle.desk_commands.specs.Office.{IsOrderedOnce, TellsOrder, TellsSheet, WritesText, fault_of_desk}
+use Rattle.desk_commands.specs.Office.{TellsOrder, TellsSheet, fault_of_desk}
+use Rattle.desk_commands.specs.Output.{Output, WritesText}
 use Rattle.desk_commands.specs.Run.{Announces, AnswersWords, Does, EndsFor, IsOfTask, IsSilent, job_of}
 use Rattle.desk_commands.specs.Words.{AsksText, IsFaultOf, ReadsWords, asked, commanded}
 use Rattle.desk_commands.specs.declared.fault.Fault.{Fault}
@@ -91,45 +92,45 @@ of_desk Silent desk.SlotInUse result is silent = rw is (record { of_task = tt; s
 of_desk Silent desk.Memory result is silent = rw is (record { of_task = tt; silent = λ s. silent })
 of_desk Silent desk.Storage result is silent = rw is (record { of_task = tt; silent = λ s. silent })
 
-of_text : (Silent : Type 0) (text : List ℕ) (held held' : Option (List ℕ)) (result : Result Unit Fault) → WritesText text held held' result
-    → EndsWell Silent result
-of_text Silent text held held' (Ok done) h = record { of_task = tt; silent = tt }
-of_text Silent text held held' (Err InputOutput) h = record { of_task = tt; silent = λ s. absurd s }
-of_text Silent text held held' (Err (Refused fault)) h = absurd h
-of_text Silent text held held' (Err (Words error)) h = absurd h
-of_text Silent text held held' (Err BadValue) h = absurd h
-of_text Silent text held held' (Err Memory) h = absurd h
-of_text Silent text held held' (Err Storage) h = absurd h
-of_text Silent text held held' (Err ClockOutOfRange) h = absurd h
+text_ends : (written : Output) (text : List ℕ) (result : Result Unit Fault) → WritesText text written result → EndsWell written.unchanged result
+text_ends written text (Ok done) h = record { of_task = tt; silent = tt }
+text_ends written text (Err InputOutput) h = record { of_task = tt; silent = λ s. absurd s }
+text_ends written text (Err (Refused fault)) h = absurd h
+text_ends written text (Err (Words error)) h = absurd h
+text_ends written text (Err BadValue) h = absurd h
+text_ends written text (Err Memory) h = absurd h
+text_ends written text (Err Storage) h = absurd h
+text_ends written text (Err ClockOutOfRange) h = absurd h
 
-of_order : (Silent : Type 0) (text : List ℕ) (held held' : Option (List ℕ)) (reply : OfficeReply) (result : Result Unit Fault)
-    → TellsOrder text held held' Silent reply result → EndsWell Silent result
-of_order Silent text held held' (replies.Refused fault) result h = of_desk Silent fault result h.0 h.1
-of_order Silent text held held' replies.Done result h = of_text Silent text held held' result h
-of_order Silent text held held' (replies.Key signature) result h = of_text Silent text held held' result h
+module _ (written : Output) (result : Result Unit Fault) where
+  of_text : (text : List ℕ) → WritesText text written result → EndsWell written.unchanged result
+  of_text text h = text_ends written text result h
 
-of_sheet : (Silent : Type 0) (held held' : Option (List ℕ)) (read : Result (List ℕ) DeskFault) (result : Result Unit Fault)
-    → TellsSheet held held' Silent read result → EndsWell Silent result
-of_sheet Silent held held' (Ok text) result h = of_text Silent text held held' result h
-of_sheet Silent held held' (Err fault) result h = of_desk Silent fault result h.0 h.1
+  of_order : (text : List ℕ) (reply : OfficeReply) → TellsOrder text written result reply → EndsWell written.unchanged result
+  of_order text (replies.Refused fault) h = of_desk written.unchanged fault result h.0 h.1
+  of_order text replies.Done h = of_text text h
+  of_order text (replies.Key signature) h = of_text text h
 
-of_server : (Silent : Type 0) (held held' : Option (List ℕ)) (result : Result Unit Fault) → Announces held held' Silent result → EndsWell Silent result
-of_server Silent held held' (Ok done) h = record { of_task = tt; silent = tt }
-of_server Silent held held' (Err InputOutput) h = record { of_task = tt; silent = λ s. absurd s }
-of_server Silent held held' (Err ClockOutOfRange) h = record { of_task = tt; silent = λ s. absurd s }
-of_server Silent held held' (Err Memory) h = record { of_task = tt; silent = λ s. h }
-of_server Silent held held' (Err (Refused fault)) h = absurd h
-of_server Silent held held' (Err (Words error)) h = absurd h
-of_server Silent held held' (Err BadValue) h = absurd h
-of_server Silent held held' (Err Storage) h = absurd h
+  of_sheet : (read : Result (List ℕ) DeskFault) → TellsSheet written result read → EndsWell written.unchanged result
+  of_sheet (Ok text) h = of_text text h
+  of_sheet (Err fault) h = of_desk written.unchanged fault result h.0 h.1
 
-module _ {S : Type 0} (Honest : S → Type 0) (Stands : S → Club → List Club → Type 0) (old new : S) (held held' : Option (List ℕ)) (Silent : Type 0)
-    (result : Result Unit Fault) where
-  pub ends_well : (task : Task) → Does Honest Stands task old new held held' Silent result → EndsWell Silent result
-  ends_well (Order given) h = of_order Silent _ held held' h.reply result h.told
+of_server : (port : ℕ) (written : Output) (result : Result Unit Fault) → Announces port written result → EndsWell written.unchanged result
+of_server port written (Ok done) h = record { of_task = tt; silent = tt }
+of_server port written (Err InputOutput) h = record { of_task = tt; silent = λ s. absurd s }
+of_server port written (Err ClockOutOfRange) h = record { of_task = tt; silent = λ s. absurd s }
+of_server port written (Err Memory) h = record { of_task = tt; silent = λ s. h }
+of_server port written (Err (Refused fault)) h = absurd h
+of_server port written (Err (Words error)) h = absurd h
+of_server port written (Err BadValue) h = absurd h
+of_server port written (Err Storage) h = absurd h
+
+module _ {S : Type 0} (Honest : S → Type 0) (Stands : S → Club → List Club → Type 0) (old new : S) (written : Output) (result : Result Unit Fault) where
+  pub ends_well : (task : Task) → Does Honest Stands task written result old new → EndsWell written.unchanged result
+  ends_well (Order given) h = of_order written result _ h.reply h.told
   ends_well (AddKey name member root form) (office.starved starved untouched) = rw starved (record { of_task = tt; silent = λ s. untouched.1 })
-  ends_well (AddKey name member root form) (office.ordered line made h) = of_order Silent line held held' h.reply result h.told
+  ends_well (AddKey name member root form) (office.ordered line made h) = of_order written result line h.reply h.told
   ends_well (RotateKey name root until form) (office.starved starved untouched) = rw starved (record { of_task = tt; silent = λ s. untouched.1 })
-  ends_well (RotateKey name root until form) (office.ordered line made h) = of_order Silent line held held' h.reply result h.told
-  ends_well (Sheet day) h = of_sheet Silent held held' h.1.read result h.1.told
-  ends_well (Serve service) h = of_server Silent held held' result h.1
+  ends_well (RotateKey name root until form) (office.ordered line made h) = of_order written result line h.reply h.told
+  ends_well (Sheet day) h = of_sheet written result h.1.read h.1.told
+  ends_well (Serve service) h = of_server service.port written result h.1

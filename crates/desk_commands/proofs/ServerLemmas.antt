@@ -1,37 +1,149 @@
--- What a server tells and serves, by how it ends.
-use Rattle.std.proofs.Common.{◌≡◌, ◌∙◌, ℕ, List, Option, Result, Ok, Err, inr, refl}
-use Rattle.std.specs.Prelude.{IfErr}
+-- What a server writes and serves, by how it ends.
+use Rattle.std.proofs.Common.{◌≡◌, ◌∙◌, ℕ, List, [], ◌∷◌, ◌++◌, Option, Some, None, Result, Ok, Err, inl, inr, refl}
 use Rattle.std.specs.Io.KnownBytes.{Appends}
-use Rattle.std.specs.declared.net.socket_addr.SocketAddr.{SocketAddr}
 use Rattle.pass_commands.specs.Output.{AppendsFront}
 use Rattle.club_http.specs.Replied.{Asks}
-use Rattle.desk_commands.specs.Run.{Announces, IsAnnounced, Serves, StopsBefore, listening_line}
+use Rattle.desk_server.specs.Served.{AreServed, Ends, IsServed, IsStopped, Tells}
+use Rattle.desk_server.specs.Served as served
+use Rattle.desk_server.specs.Zone.{ShowsIn}
+use Rattle.desk_server.specs.declared.log.Fate.{Fate}
+use Rattle.desk_server.specs.declared.log.Fate.TheVariants.{Absent, Unanswered, Exchanged}
+use Rattle.jiff_core.specs.declared.timestamp.Timestamp.{Timestamp}
+use Rattle.desk_commands.specs.Output.{Output}
+use Rattle.desk_commands.specs.Run.{Announces, IsAnnounced, IsPortFor, Serves, ServesAll, Shows, StopsBefore, WritesLine, listening_line, over_socket, showing}
+use Rattle.desk_commands.specs.declared.clock.Clock.{Clock}
+use Rattle.desk_commands.specs.declared.clock.Clock.TheVariants.{InZone}
 use Rattle.desk_commands.specs.declared.fault.Fault.{Fault}
 use Rattle.desk_commands.specs.declared.fault.Fault.TheVariants.{Refused, Words, BadValue, Memory, Storage, ClockOutOfRange, InputOutput}
+use Rattle.desk_commands.specs.declared.task.Service.{Service}
 
--- a text that is the line of an address was written
-pub line_told : (held held' : Option (List ℕ)) (text line : List ℕ) (address : SocketAddr) → text ≡ line → line ≡ listening_line address
-    → Appends held held' text → IsAnnounced held held'
-line_told held held' text line address same is told = (address, rw (same ∙ is) at told)
+-- ---- the line
 
-module _ (held held' : Option (List ℕ)) (Silent : Type 0) where
-  -- the same of a beginning, where the writer failed
-  pub front_told : (text line : List ℕ) (address : SocketAddr) → text ≡ line → line ≡ listening_line address → AppendsFront held held' text
-      → StopsBefore held held' Silent InputOutput
-  front_told text line address same is told = inr (address, rw (same ∙ is) at told)
+-- the line of a port, or a beginning of it
+module _ (text line : List ℕ) (port : ℕ) (before after : Option (List ℕ)) (same : text ≡ line) (is : line ≡ listening_line port) where
+  pub line_written : Appends before after text → Appends before after (listening_line port)
+  line_written wrote = rw (same ∙ is) at wrote
 
+  pub front_written : AppendsFront before after text → AppendsFront before after (listening_line port)
+  front_written wrote = rw (same ∙ is) at wrote
+
+module _ (asked port : ℕ) (written : Output) (for_it : IsPortFor asked port) where
+  pub announced_at : WritesLine port written (Ok tt) → IsAnnounced asked written
+  announced_at wrote = (port, for_it, wrote)
+
+  pub stopped_at : (fault : Fault) → WritesLine port written (Err fault) → StopsBefore asked written fault
+  stopped_at Memory wrote = wrote
+  stopped_at InputOutput wrote = inr (port, for_it, wrote)
+  stopped_at (Refused fault) wrote = absurd wrote
+  stopped_at (Words error) wrote = absurd wrote
+  stopped_at BadValue wrote = absurd wrote
+  stopped_at Storage wrote = absurd wrote
+  stopped_at ClockOutOfRange wrote = absurd wrote
+
+-- ---- the moments
+
+-- the instant that a clock gave, as the zone shows it
+pub in_zone : (rule : List ℕ) (Given : Option Timestamp → Type 0) (shown : Option ℕ) → ShowsIn rule Given shown → Shows (InZone rule) shown
+in_zone rule Given shown (None, given, none) = inr none
+in_zone rule Given shown (Some instant, given, is_shown) = inl (instant.nanosecond, is_shown)
+
+-- ---- the connections
+
+-- what is served over connections is served over some whose ends nobody knows
+module _ {Clock Desk Connection : Type 0} (Told : Tells Clock) (Answers : ℕ → Asks Desk) (Ended : Ends Connection) where
+  one_over_socket : (clock : Clock) (desk : Desk) (f : ℕ) (fate : Fate) (clock' : Clock) (desk' : Desk) (f' : ℕ)
+      → IsServed Told Answers Ended clock desk f fate clock' desk' f' → IsServed Told Answers over_socket clock desk f fate clock' desk' f'
+  one_over_socket clock desk f Absent clock' desk' f' one = one
+  one_over_socket clock desk f Unanswered clock' desk' f' never = absurd never
+  one_over_socket clock desk f (Exchanged moment line outcome) clock' desk' f' (counted, told, exchange, ended) =
+      (counted, told, exchange, (tt, tt))
+
+  are_over_socket : (clock : Clock) (desk : Desk) (f : ℕ) (fates : List Fate) (clock' : Clock) (desk' : Desk) (f' : ℕ)
+      → AreServed Told Answers Ended clock desk f fates clock' desk' f' → AreServed Told Answers over_socket clock desk f fates clock' desk' f'
+  are_over_socket clock desk f _ _ _ _ served.none = served.none
+  are_over_socket clock desk f _ _ _ _ (served.more fates fate c d f1 c' d' f' before one) =
+      served.more fates fate c d f1 c' d' f' (are_over_socket clock desk f fates c d f1 before) (one_over_socket c d f1 fate c' d' f' one)
+
+  module _ (count : ℕ) (clock : Clock) (desk : Desk) (clock' : Clock) (desk' : Desk) (failures : ℕ) (Besides : List Fate → Type 0) where
+    pub all_over_socket : served.Serves Told Answers Ended count clock desk 0 (Ok tt) clock' desk' failures Besides
+        → ServesAll Told Answers count clock desk clock' desk' (Ok tt)
+    all_over_socket (fates, so_many, were, besides) =
+        (fates, failures, so_many, are_over_socket clock desk 0 fates clock' desk' failures were)
+
+    pub stopped_over_socket : IsStopped Told Answers Ended count clock desk 0 clock' desk' failures Besides
+        → ServesAll Told Answers count clock desk clock' desk' (Err ClockOutOfRange)
+    stopped_over_socket stop = (failures, record {
+      fates = stop.fates;
+      last = stop.last;
+      fewer = stop.fewer;
+      before = are_over_socket clock desk 0 stop.fates stop.last desk' failures stop.before;
+      no_moment = stop.no_moment;
+      besides = tt;
+    })
+
+-- what is served by a clock that stays as it is, is served at the moments that it shows
+module _ {Told_by Desk : Type 0} (Told : Tells Told_by) (clock : Clock) (Answers : ℕ → Asks Desk) (moments : Told_by) (desk : Desk)
+    (stays : (shown : Option ℕ) (next : Told_by) → Told moments shown next → (next ≡ moments) × Shows clock shown) where
+  abbrev ByShowing : List Fate → Told_by → Desk → ℕ → Type 0
+  ByShowing fates last left failures = (last ≡ moments) × AreServed (showing clock) Answers over_socket tt desk 0 fates tt left failures
+
+  one_more : (fates : List Fate) (fate : Fate) (d : Desk) (f : ℕ) (next : Told_by) (d' : Desk) (f' : ℕ)
+      → AreServed (showing clock) Answers over_socket tt desk 0 fates tt d f → IsServed Told Answers over_socket moments d f fate next d' f'
+      → ByShowing (fates ++ fate ∷ []) next d' f'
+  one_more fates Absent d f next d' f' before (counted, same, kept) =
+      (same, served.more fates Absent tt d f tt d' f' before (counted, refl, kept))
+  one_more fates Unanswered d f next d' f' before never = absurd never
+  one_more fates (Exchanged moment line outcome) d f next d' f' before (counted, told, exchange, ended) =
+      let shows = stays (Some moment) next told in
+      (shows.0, served.more fates (Exchanged moment line outcome) tt d f tt d' f' before (counted, shows.1, exchange, ended))
+
+  by_showing : (fates : List Fate) (last : Told_by) (left : Desk) (failures : ℕ)
+      → AreServed Told Answers over_socket moments desk 0 fates last left failures → ByShowing fates last left failures
+  by_showing _ _ _ _ served.none = (refl, served.none)
+  by_showing _ _ _ _ (served.more fates fate c d f c' d' f' before one) =
+      let so_far = by_showing fates c d f before in one_more fates fate d f c' d' f' so_far.1 (rw so_far.0 at one)
+
+  stopped : (count : ℕ) (last : Told_by) (left : Desk) (failures : ℕ)
+      → IsStopped Told Answers over_socket count moments desk 0 last left failures (λ _. Unit {0})
+      → IsStopped (showing clock) Answers over_socket count tt desk 0 tt left failures (λ _. Unit {0})
+  stopped count last left failures stop =
+      let so_far = by_showing stop.fates stop.last left failures stop.before in
+      record {
+        fates = stop.fates;
+        last = tt;
+        fewer = stop.fewer;
+        before = so_far.1;
+        no_moment = (stays None last (rw so_far.0 at stop.no_moment)).1;
+        besides = tt;
+      }
+
+  pub serves_by_showing : (count : ℕ) (last : Told_by) (left : Desk) (result : Result Unit Fault)
+      → ServesAll Told Answers count moments desk last left result → ServesAll (showing clock) Answers count tt desk tt left result
+  serves_by_showing count last left (Ok done) (fates, failures, so_many, were) =
+      (fates, failures, so_many, (by_showing fates last left failures were).1)
+  serves_by_showing count last left (Err ClockOutOfRange) (failures, stop) = (failures, stopped count last left failures stop)
+  serves_by_showing count last left (Err Memory) h = absurd h
+  serves_by_showing count last left (Err InputOutput) h = absurd h
+  serves_by_showing count last left (Err (Refused fault)) h = absurd h
+  serves_by_showing count last left (Err (Words error)) h = absurd h
+  serves_by_showing count last left (Err BadValue) h = absurd h
+  serves_by_showing count last left (Err Storage) h = absurd h
+
+-- ---- a server
+
+module _ (service : Service) (written : Output) where
   -- one that doesn't listen serves nobody
-  pub serves_nobody : {Desk : Type 0} (Answers : ℕ → Asks Desk) (count : ℕ) (desk : Desk) (fault : Fault) → StopsBefore held held' Silent fault
-      → Serves Answers count desk desk (Err fault)
-  serves_nobody Answers count desk Memory h = refl
-  serves_nobody Answers count desk InputOutput h = refl
-  serves_nobody Answers count desk (Refused fault) h = absurd h
-  serves_nobody Answers count desk (Words error) h = absurd h
-  serves_nobody Answers count desk BadValue h = absurd h
-  serves_nobody Answers count desk Storage h = absurd h
-  serves_nobody Answers count desk ClockOutOfRange h = absurd h
+  pub serves_nobody : {Desk : Type 0} (Answers : ℕ → Asks Desk) (desk : Desk) (fault : Fault) → StopsBefore service.port written fault
+      → Serves Answers service desk desk (Err fault)
+  serves_nobody Answers desk Memory h = refl
+  serves_nobody Answers desk InputOutput h = refl
+  serves_nobody Answers desk (Refused fault) h = absurd h
+  serves_nobody Answers desk (Words error) h = absurd h
+  serves_nobody Answers desk BadValue h = absurd h
+  serves_nobody Answers desk Storage h = absurd h
+  serves_nobody Answers desk ClockOutOfRange h = absurd h
 
-  pub announces_nothing : (fault : Fault) → StopsBefore held held' Silent fault → Announces held held' Silent (Err fault)
+  pub announces_nothing : (fault : Fault) → StopsBefore service.port written fault → Announces service.port written (Err fault)
   announces_nothing Memory h = h
   announces_nothing InputOutput h = h
   announces_nothing (Refused fault) h = absurd h
@@ -40,7 +152,29 @@ module _ (held held' : Option (List ℕ)) (Silent : Type 0) where
   announces_nothing Storage h = absurd h
   announces_nothing ClockOutOfRange h = absurd h
 
-  -- one that listens told where, however it ends
-  pub announced : (result : Result Unit Fault) → IsAnnounced held held' → IfErr result (λ fault. fault ≡ ClockOutOfRange) → Announces held held' Silent result
-  announced (Ok done) h ends = h
-  announced (Err fault) h ends = rw ends h
+module _ (service : Service) {Desk : Type 0} (Answers : ℕ → Asks Desk) (old new : Desk) where
+  abbrev All : Result Unit Fault → Type 0
+  All result = ServesAll (showing service.clock) Answers service.count tt old tt new result
+
+  -- one that listens serves all, or stops
+  pub serves : (result : Result Unit Fault) → All result → Serves Answers service old new result
+  serves (Ok done) h = h
+  serves (Err ClockOutOfRange) h = h
+  serves (Err Memory) h = absurd h
+  serves (Err InputOutput) h = absurd h
+  serves (Err (Refused fault)) h = absurd h
+  serves (Err (Words error)) h = absurd h
+  serves (Err BadValue) h = absurd h
+  serves (Err Storage) h = absurd h
+
+  -- and told where, however it ends
+  pub announces : (written : Output) (result : Result Unit Fault) → IsAnnounced service.port written → All result
+      → Announces service.port written result
+  announces written (Ok done) h all = h
+  announces written (Err ClockOutOfRange) h all = h
+  announces written (Err Memory) h all = absurd all
+  announces written (Err InputOutput) h all = absurd all
+  announces written (Err (Refused fault)) h all = absurd all
+  announces written (Err (Words error)) h all = absurd all
+  announces written (Err BadValue) h all = absurd all
+  announces written (Err Storage) h all = absurd all

@@ -2,6 +2,7 @@ pub mod Application
 pub mod Values
 pub mod Commanded
 pub mod Fault
+pub mod Output
 pub mod Words
 pub mod Laws
 pub mod Office

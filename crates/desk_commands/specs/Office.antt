@@ -1,6 +1,5 @@
 -- What the commands of the office do (ours).
-use Rattle.std.specs.Prelude.{◌≡◌, ℕ, List, ◌∷◌, [], ◌++◌, Option, Result, Ok, Err}
-use Rattle.std.specs.Io.KnownBytes.{Appends}
+use Rattle.std.specs.Prelude.{◌≡◌, ℕ, List, ◌∷◌, [], ◌++◌, Result, Ok, Err}
 use Rattle.club_core.specs.declared.command.Command.{Command}
 use Rattle.club_core.specs.declared.command.OfficeFault.TheVariants as refusals
 use Rattle.club_core.specs.Club.{Club}
@@ -14,12 +13,12 @@ use Rattle.club_gate.specs.declared.event.OfficeReply.TheVariants as replies
 use Rattle.club_gate.specs.declared.fault.Fault.{Fault as DeskFault}
 use Rattle.club_gate.specs.declared.fault.Fault.TheVariants as desk
 use Rattle.club_laws.specs.Failed.{ToOffice}
-use Rattle.pass_commands.specs.Output.{AppendsFront}
 use Rattle.pass_forms.specs.declared.form.Form.{Form}
 use Rattle.pass_forms.specs.declared.fault.FormFault.{FormFault}
 use Rattle.pass_json.specs.AnyForm.{writing}
 use Rattle.desk_commands.specs.declared.fault.Fault.{Fault}
-use Rattle.desk_commands.specs.declared.fault.Fault.TheVariants.{Refused, Memory, Storage, InputOutput}
+use Rattle.desk_commands.specs.declared.fault.Fault.TheVariants.{Refused, Memory, Storage}
+use Rattle.desk_commands.specs.Output.{Output, WritesText}
 
 -- a fault of the desk as the program tells it
 abbrev pub fault_of_desk : DeskFault → Fault
@@ -30,16 +29,10 @@ fault_of_desk desk.SlotInUse = Refused refusals.SlotInUse
 fault_of_desk desk.Memory = Memory
 fault_of_desk desk.Storage = Storage
 
--- a text was written whole, or where the writer failed a beginning of it
-abbrev pub WritesText : List ℕ → Option (List ℕ) → Option (List ℕ) → Result Unit Fault → Type 0
-WritesText text held held' (Ok done) = Appends held held' text
-WritesText text held held' (Err InputOutput) = AppendsFront held held' text
-WritesText text held held' (Err fault) = ⊥
-
--- an order that was refused is told so and nothing was written; else the text was
-abbrev pub TellsOrder : List ℕ → Option (List ℕ) → Option (List ℕ) → Type 0 → OfficeReply → Result Unit Fault → Type 0
-TellsOrder text held held' Silent (replies.Refused fault) result = (result ≡ Err (fault_of_desk fault)) × Silent
-TellsOrder text held held' Silent reply result = WritesText text held held' result
+-- an order that was refused fails so and nothing was written; else the text was
+abbrev pub TellsOrder : List ℕ → Output → Result Unit Fault → OfficeReply → Type 0
+TellsOrder text written result (replies.Refused fault) = (result ≡ Err (fault_of_desk fault)) × written.unchanged
+TellsOrder text written result reply = WritesText text written result
 
 -- The desk was given an order, and what it replied was told.
 pub record IsOrdered {S : Type 0} (Stands : S → Club → List Club → Type 0) (Honest : Type 0) (old new : S) (order : Command) (Told : OfficeReply
@@ -63,10 +56,17 @@ pub data IsOrderedOnce (made : Result (List ℕ) FormFault) (Starved Untouched :
   starved : Starved → Untouched → IsOrderedOnce made Starved Untouched Ordered
   ordered : (line : List ℕ) → IsPassLine made line → Ordered line → IsOrderedOnce made Starved Untouched Ordered
 
+-- The same of an order whose text is a pass's line; out of memory leaves the desk and the writer unchanged.
+abbrev pub IsPassOrdered : {S : Type 0} → (S → Club → List Club → Type 0) → Type 0 → S → S → Command → Result (List ℕ) FormFault → Output
+    → Result Unit Fault → Type 0
+IsPassOrdered Stands Honest old new order made written result =
+    IsOrderedOnce made (result ≡ Err Memory) ((new ≡ old) × written.unchanged)
+    (λ line. IsOrdered Stands Honest old new order (TellsOrder line written result))
+
 -- what is told of a sheet that was read or wasn't
-abbrev pub TellsSheet : Option (List ℕ) → Option (List ℕ) → Type 0 → Result (List ℕ) DeskFault → Result Unit Fault → Type 0
-TellsSheet held held' Silent (Ok text) result = WritesText text held held' result
-TellsSheet held held' Silent (Err fault) result = (result ≡ Err (fault_of_desk fault)) × Silent
+abbrev pub TellsSheet : Output → Result Unit Fault → Result (List ℕ) DeskFault → Type 0
+TellsSheet written result (Ok text) = WritesText text written result
+TellsSheet written result (Err fault) = (result ≡ Err (fault_of_desk fault)) × written.unchanged
 
 -- The sheet of a day was read, and written.
 pub record IsSheetTold {S : Type 0} (Stands : S → Club → List Club → Type 0) (Honest : Type 0) (old : S) (day : ℕ) (Told : Result (List ℕ) DeskFault

@@ -1,8 +1,6 @@
 -- What a run of the program does (ours).
-use Rattle.std.specs.Prelude.{◌≡◌, ◌⊎◌, ℕ, ◌<◌, List, [], ◌∷◌, ◌++◌, Option, Some, None, Result, Ok, Err, IsSome, IfErr, Bool, false, codes}
+use Rattle.std.specs.Prelude.{◌≡◌, ◌⊎◌, ℕ, ◌≤◌, ℤ, List, [], ◌∷◌, ◌++◌, length, Option, Some, None, Result, Ok, Err, IsSome, IfErr, Bool, false, codes, decimal}
 use Rattle.std.specs.Io.KnownBytes.{Appends}
-use Rattle.std.specs.Net.Text.{socket_text}
-use Rattle.std.specs.declared.net.socket_addr.SocketAddr.{SocketAddr}
 use Rattle.clap.specs.Words.{Text}
 use Rattle.club_core.specs.declared.command.Command.TheVariants as order
 use Rattle.club_core.specs.declared.store.StoreFault.{StoreFault}
@@ -11,13 +9,19 @@ use Rattle.club_core.specs.Club.{Club}
 use Rattle.club_core.specs.Store.{KeepsStanding}
 use Rattle.club_http.specs.Desk.{AnswersBy}
 use Rattle.club_http.specs.Replied.{Asks}
-use Rattle.desk_server.specs.Served.{AreAnswered}
+use Rattle.desk_server.specs.Served.{AreServed, Ends, IsStopped, Tells}
+use Rattle.desk_server.specs.Zone.{IsShown}
+use Rattle.desk_server.specs.declared.log.Fate.{Fate}
 use Rattle.pass_commands.specs.Output.{AppendsFront}
 use Rattle.desk_commands.specs.Commanded.{Commanded}
-use Rattle.desk_commands.specs.Office.{IsOrdered, IsOrderedOnce, IsSheetTold, TellsOrder, TellsSheet, pass_text}
+use Rattle.desk_commands.specs.Office.{IsOrdered, IsPassOrdered, IsSheetTold, TellsOrder, TellsSheet, pass_text}
+use Rattle.desk_commands.specs.Output.{Output, WritesText}
 use Rattle.desk_commands.specs.Words.{AsksText, IsFaultOf, asked}
+use Rattle.desk_commands.specs.declared.clock.Clock.{Clock}
+use Rattle.desk_commands.specs.declared.clock.Clock.TheVariants.{Fixed, InZone}
 use Rattle.desk_commands.specs.declared.fault.Fault.{Fault}
 use Rattle.desk_commands.specs.declared.fault.Fault.TheVariants.{Refused, Words, BadValue, Memory, Storage, ClockOutOfRange, InputOutput}
+use Rattle.desk_commands.specs.declared.task.Service.{Service}
 use Rattle.desk_commands.specs.declared.task.Task.{Task}
 use Rattle.desk_commands.specs.declared.task.Task.TheVariants.{Order, AddKey, RotateKey, Sheet, Serve}
 use Rattle.desk_commands.specs.declared.words.Asked.{Asked}
@@ -25,52 +29,76 @@ use Rattle.desk_commands.specs.declared.words.Asked.TheVariants.{Perform, ShowTe
 
 -- ---- the server
 
--- A server's end: all connections were served; or the clock told no moment at one; or nothing was listened for or told of it.
-abbrev pub Serves : {Desk : Type 0} → (ℕ → Asks Desk) → ℕ → Desk → Desk → Result Unit Fault → Type 0
-Serves Answers count old new (Ok done) = AreAnswered Answers old count new
-Serves Answers count old new (Err ClockOutOfRange) = (n : ℕ) × (n < count) × AreAnswered Answers old n new
-Serves Answers count old new (Err Memory) = new ≡ old
-Serves Answers count old new (Err InputOutput) = new ≡ old
-Serves Answers count old new (Err fault) = ⊥
+-- the moments of a server's clock: the fixed one always; or that which a clock shows in the zone at some instant, or none where it can't be read
+abbrev pub Shows : Clock → Option ℕ → Type 0
+Shows (Fixed moment) shown = shown ≡ Some moment
+Shows (InZone rule) shown = ((instant : ℤ) × IsShown rule instant shown) ⊎ (shown ≡ None)
 
--- where a server listens, in its line
-abbrev pub listening_line : SocketAddr → List ℕ
-listening_line address = codes "listening on " ++ socket_text address ++ 10 ∷ []
+-- the same as what a clock tells that stays as it is
+abbrev pub showing : Clock → Tells (Unit {0})
+showing clock old shown new = Shows clock shown
+
+-- how an exchange over a socket may end: what a socket gave and took is known to no contract
+abbrev pub over_socket : Ends (Unit {0})
+over_socket socket outcome = Unit {0}
+
+-- All connections were served, each that was there at a moment that the clock told; or it told none at one.
+abbrev pub ServesAll : {Clock Desk : Type 0} → Tells Clock → (ℕ → Asks Desk) → ℕ → Clock → Desk → Clock → Desk → Result Unit Fault → Type 0
+ServesAll Told Answers count clock old clock' new (Ok done) =
+    (fates : List Fate) × (failures : ℕ) × (length fates ≡ count) × AreServed Told Answers over_socket clock old 0 fates clock' new failures
+ServesAll Told Answers count clock old clock' new (Err ClockOutOfRange) =
+    (failures : ℕ) × IsStopped Told Answers over_socket count clock old 0 clock' new failures (λ _. Unit {0})
+ServesAll Told Answers count clock old clock' new (Err fault) = ⊥
+
+-- A server's end: the same by its clock; or nothing was listened for or told of it, and nobody served.
+abbrev pub Serves : {Desk : Type 0} → (ℕ → Asks Desk) → Service → Desk → Desk → Result Unit Fault → Type 0
+Serves Answers service old new (Err Memory) = new ≡ old
+Serves Answers service old new (Err InputOutput) = new ≡ old
+Serves Answers service old new result = ServesAll (showing service.clock) Answers service.count tt old tt new result
+
+-- where a server listens, in its line: at a port of the loopback address
+abbrev pub listening_line : ℕ → List ℕ
+listening_line port = codes "listening on 127.0.0.1:" ++ decimal port ++ 10 ∷ []
+
+-- the port of a server: that which was asked for, or any where 0 was
+abbrev pub IsPortFor : ℕ → ℕ → Type 0
+IsPortFor asked port = (port ≤ 65_535) × ((asked ≡ 0) ⊎ (port ≡ asked))
+
+-- it was written, or where the writer failed a beginning of it, or out of memory nothing
+abbrev pub WritesLine : ℕ → Output → Result Unit Fault → Type 0
+WritesLine port written (Err Memory) = written.unchanged
+WritesLine port written result = WritesText (listening_line port) written result
 
 -- a server that listens told where, and nothing else
-abbrev pub IsAnnounced : Option (List ℕ) → Option (List ℕ) → Type 0
-IsAnnounced held held' = (address : SocketAddr) × Appends held held' (listening_line address)
+abbrev pub IsAnnounced : ℕ → Output → Type 0
+IsAnnounced asked written = (port : ℕ) × IsPortFor asked port × Appends written.before written.after (listening_line port)
 
 -- one that doesn't told nothing, or a beginning of that where the writer failed
-abbrev pub StopsBefore : Option (List ℕ) → Option (List ℕ) → Type 0 → Fault → Type 0
-StopsBefore held held' Silent InputOutput = Silent ⊎ ((address : SocketAddr) × AppendsFront held held' (listening_line address))
-StopsBefore held held' Silent Memory = Silent
-StopsBefore held held' Silent fault = ⊥
+abbrev pub StopsBefore : ℕ → Output → Fault → Type 0
+StopsBefore asked written InputOutput =
+    written.unchanged ⊎ ((port : ℕ) × IsPortFor asked port × AppendsFront written.before written.after (listening_line port))
+StopsBefore asked written Memory = written.unchanged
+StopsBefore asked written fault = ⊥
 
 -- what a server tells at its start
-abbrev pub Announces : Option (List ℕ) → Option (List ℕ) → Type 0 → Result Unit Fault → Type 0
-Announces held held' Silent (Ok done) = IsAnnounced held held'
-Announces held held' Silent (Err ClockOutOfRange) = IsAnnounced held held'
-Announces held held' Silent (Err fault) = StopsBefore held held' Silent fault
+abbrev pub Announces : ℕ → Output → Result Unit Fault → Type 0
+Announces asked written (Ok done) = IsAnnounced asked written
+Announces asked written (Err ClockOutOfRange) = IsAnnounced asked written
+Announces asked written (Err fault) = StopsBefore asked written fault
 
 -- ---- a task
 
--- What a task does at a store, whose trait tells how it stands, and what it writes.
-abbrev pub Does : {S : Type 0} → (S → Type 0) → (S → Club → List Club → Type 0) → Task → S → S
-    → Option (List ℕ) → Option (List ℕ) → Type 0 → Result Unit Fault → Type 0
-Does Honest Stands (Order given) old new held held' Silent result =
-    IsOrdered Stands (Honest new) old new given (λ reply. TellsOrder (codes "done\n") held held' Silent reply result)
-Does Honest Stands (AddKey name member root form) old new held held' Silent result =
-    IsOrderedOnce (pass_text name root form) (result ≡ Err Memory) ((new ≡ old) × Silent)
-    (λ text. IsOrdered Stands (Honest new) old new (order.AddKey name member root) (λ reply. TellsOrder text held held' Silent reply result))
-Does Honest Stands (RotateKey name root until form) old new held held' Silent result =
-    IsOrderedOnce (pass_text name root form) (result ≡ Err Memory) ((new ≡ old) × Silent)
-    (λ text. IsOrdered Stands (Honest new) old new (order.RotateKey name root until) (λ reply. TellsOrder text held held' Silent reply result))
-Does Honest Stands (Sheet day) old new held held' Silent result =
-    (Honest new → KeepsStanding Stands old new)
-    × IsSheetTold Stands (Honest new) old day (λ read. TellsSheet held held' Silent read result)
-Does Honest Stands (Serve service) old new held held' Silent result =
-    Serves (AnswersBy Honest Stands) service.count old new result × Announces held held' Silent result
+-- What a task writes and how it ends, and what it does at a store, whose trait tells how it stands.
+abbrev pub Does : {S : Type 0} → (S → Type 0) → (S → Club → List Club → Type 0) → Task → Output → Result Unit Fault → S → S → Type 0
+Does Honest Stands (Order given) written result old new = IsOrdered Stands (Honest new) old new given (TellsOrder (codes "done\n") written result)
+Does Honest Stands (AddKey name member root form) written result old new =
+    IsPassOrdered Stands (Honest new) old new (order.AddKey name member root) (pass_text name root form) written result
+Does Honest Stands (RotateKey name root until form) written result old new =
+    IsPassOrdered Stands (Honest new) old new (order.RotateKey name root until) (pass_text name root form) written result
+Does Honest Stands (Sheet day) written result old new =
+    (Honest new → KeepsStanding Stands old new) × IsSheetTold Stands (Honest new) old day (TellsSheet written result)
+Does Honest Stands (Serve service) written result old new =
+    Serves (AnswersBy Honest Stands) service old new result × Announces service.port written result
 
 -- ---- a run
 
@@ -86,12 +114,20 @@ fault_of_opening store.Storage = Storage
 -- A run that was asked for a task: the database of its name was opened once, the task was done at it, and then it was closed. Or it
 -- couldn't be opened; or memory was refused before, and none was.
 pub data Performs {Databases Store : Type 0} (Opens : Opening Databases Store) (Closes : Databases → Store → Databases → Type 0)
-    (Done : Store → Store → Type 0) (file : List ℕ) (old new : Databases) (Silent : Type 0) (result : Result Unit Fault) : Type 0 where
-  starved : result ≡ Err Memory → new ≡ old → Silent → Performs Opens Closes Done file old new Silent result
-  unopened : (fault : StoreFault) → Opens old file (Err fault) new → result ≡ Err (fault_of_opening fault) → Silent
-      → Performs Opens Closes Done file old new Silent result
-  performed : (store left : Store) (between : Databases) → Opens old file (Ok store) between → Done store left → Closes between left new
-      → Performs Opens Closes Done file old new Silent result
+    (Honest : Store → Type 0) (Stands : Store → Club → List Club → Type 0) (job : Commanded) (old new : Databases) (written : Output)
+    (result : Result Unit Fault) : Type 0 where
+  starved : result ≡ Err Memory → new ≡ old → written.unchanged → Performs Opens Closes Honest Stands job old new written result
+  unopened : (fault : StoreFault) → Opens old job.file (Err fault) new → result ≡ Err (fault_of_opening fault) → written.unchanged
+      → Performs Opens Closes Honest Stands job old new written result
+  performed : (store left : Store) (between : Databases) → Opens old job.file (Ok store) between
+      → Does Honest Stands job.task written result store left → Closes between left new
+      → Performs Opens Closes Honest Stands job old new written result
+
+-- the same where a task is asked for
+abbrev pub PerformsAsked : {Databases Store : Type 0} → Opening Databases Store → (Databases → Store → Databases → Type 0)
+    → (Store → Type 0) → (Store → Club → List Club → Type 0) → Option Commanded → Databases → Databases → Output → Result Unit Fault → Type 0
+PerformsAsked Opens Closes Honest Stands asked_for old new written result =
+    (job : Commanded) → asked_for ≡ Some job → Performs Opens Closes Honest Stands job old new written result
 
 -- what the words decide of a run's end
 abbrev pub AnswersWords : List Text → Result Unit Fault → Type 0

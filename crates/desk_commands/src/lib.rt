@@ -18,7 +18,7 @@ pub use application::not_text;
 pub use clock::Clock;
 pub use fault::Fault;
 pub use office::{give_order, order_pass, show_sheet};
-pub use program::{Databases, run};
+pub use program::{Databases, run, run_with_clock};
 pub use server::serve;
 pub use task::{Job, Service, Task};
 pub use words::{Asked, command_of};

@@ -4,6 +4,7 @@ ghost use Rattle.std.specs.Prelude.{◌≡◌, ◌++◌, ◌∷◌, [], IfSome, 
 ghost use Rattle.std.specs.String.{string_bytes};
 ghost use Rattle.club_core.specs.Store.{KeepsStanding};
 ghost use Rattle.desk_commands.specs.Office as spec;
+ghost use Rattle.desk_commands.specs.Output.{WritesText, output};
 
 use crate::fault::Fault;
 use club_core::{ClubStore, Command};
@@ -31,8 +32,7 @@ pub fn give_order<S: ClubStore, W: Write>(
     writer: &mut W,
 ) -> Result<(), Fault>
     ensures { spec.IsOrdered S.stands (S.is_honest desk.new) desk.old desk.new order.now
-        (λ reply. spec.TellsOrder (codes "done\n") (W.contents writer.old) (W.contents writer.new)
-        (writer.new ≡ writer.old) reply result) }
+        (spec.TellsOrder (codes "done\n") (output W.contents writer.old writer.new) result) }
 {
     carry_out(desk, order, DONE, writer)
 }
@@ -52,12 +52,8 @@ pub fn order_pass<S: ClubStore, W: Write>(
     order: &Command,
     writer: &mut W,
 ) -> Result<(), Fault>
-    ensures { spec.IsOrderedOnce (spec.pass_text name.now root.now form)
-        (result ≡ Err Fault.Memory)
-        ((desk.new ≡ desk.old) × (writer.new ≡ writer.old))
-        (λ text. spec.IsOrdered S.stands (S.is_honest desk.new) desk.old desk.new order.now
-        (λ reply. spec.TellsOrder text (W.contents writer.old) (W.contents writer.new)
-        (writer.new ≡ writer.old) reply result)) }
+    ensures { spec.IsPassOrdered S.stands (S.is_honest desk.new) desk.old desk.new order.now
+        (spec.pass_text name.now root.now form) (output W.contents writer.old writer.new) result }
 {
     match pass_line(alloc, name, root, form) {
         None => Err(Fault::Memory),
@@ -78,8 +74,7 @@ pub fn show_sheet<S: ClubStore, W: Write>(
 ) -> Result<(), Fault>
     ensures kept { S.is_honest desk.new → KeepsStanding S.stands desk.old desk.new }
     ensures told { spec.IsSheetTold S.stands (S.is_honest desk.new) desk.old day
-        (λ read. spec.TellsSheet (W.contents writer.old) (W.contents writer.new)
-        (writer.new ≡ writer.old) read result) }
+        (spec.TellsSheet (output W.contents writer.old writer.new) result) }
 {
     match desk.sheet(day) {
         Ok(text) => written(writer, text.as_str()),
@@ -107,8 +102,7 @@ fn carry_out<S: ClubStore, W: Write>(
     writer: &mut W,
 ) -> Result<(), Fault>
     ensures { spec.IsOrdered S.stands (S.is_honest desk.new) desk.old desk.new order.now
-        (λ reply. spec.TellsOrder text.now (W.contents writer.old) (W.contents writer.new)
-        (writer.new ≡ writer.old) reply result) }
+        (spec.TellsOrder text.now (output W.contents writer.old writer.new) result) }
 {
     match desk.office(order) {
         OfficeReply::Refused(fault) => Err(Fault::from(fault)),
@@ -117,7 +111,7 @@ fn carry_out<S: ClubStore, W: Write>(
 }
 
 fn written<W: Write>(writer: &mut W, text: &str) -> Result<(), Fault>
-    ensures { spec.WritesText text.now (W.contents writer.old) (W.contents writer.new) result }
+    ensures { WritesText text.now (output W.contents writer.old writer.new) result }
 {
     match write_text(writer, text) {
         Ok(()) => Ok(()),

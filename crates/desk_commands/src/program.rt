@@ -1,8 +1,8 @@
 //! A run of the program, over words, a reader and writers.
 
-ghost use Rattle.std.specs.Prelude.{◌≡◌, None, Some, IfErr, MatchResult, false, map};
-ghost use Rattle.desk_commands.specs.Commanded.{Commanded};
-ghost use Rattle.desk_commands.specs.Run.{AnswersWords, Does, EndsFor, IsOfTask, IsSilent, Performs, asks_log, job_of, logs};
+ghost use Rattle.std.specs.Prelude.{◌≡◌, None, IfErr, false, map};
+ghost use Rattle.desk_commands.specs.Output.{output};
+ghost use Rattle.desk_commands.specs.Run as spec;
 ghost use Rattle.desk_commands.specs.Words.{asked};
 
 use crate::fault::Fault;
@@ -14,6 +14,7 @@ use club_core::{ClubStore, Command, StoreFault};
 use club_gate::Desk;
 use std::convert::AsStr;
 use std::io::{Read, Write};
+use std::time::Clock;
 
 /// Where databases are.
 pub trait Databases {
@@ -52,75 +53,106 @@ pub fn run<D: Databases, S: AsStr, R: Read, W: Write, E: Write>(
     rt: &HostRuntime,
     databases: &mut D,
     words: &[S],
-    _reader: &mut R,
+    reader: &mut R,
     writer: &mut W,
     errors: &mut E,
 ) -> Result<(), Fault>
     // The fault of the words, or what they ask for.
-    ensures words { AnswersWords (map S.text words.now) result }
+    ensures words { spec.AnswersWords (map S.text words.now) result }
     // Where they ask for a task, it was done at the database of the name that they give.
-    ensures command { (job : Commanded) → asked (map S.text words.now) ≡ Some job
-        → Performs D.opens D.closes
-        (λ store left. Does D.Store.is_honest D.Store.stands job.task store left
-        (W.contents writer.old) (W.contents writer.new) (writer.new ≡ writer.old) result)
-        job.file databases.old databases.new (writer.new ≡ writer.old) result }
+    ensures command { spec.PerformsAsked D.opens D.closes D.Store.is_honest D.Store.stands
+        (asked (map S.text words.now)) databases.old databases.new
+        (output W.contents writer.old writer.new) result }
     // Where they ask for none, no database was opened.
     ensures unopened { asked (map S.text words.now) ≡ None → databases.new ≡ databases.old }
-    ensures silent { IfErr result (λ fault. IsSilent fault → writer.new ≡ writer.old) }
-    ensures unlogged { asks_log (asked (map S.text words.now)) ≡ false → errors.new ≡ errors.old }
-    ensures unread { _reader.new ≡ _reader.old }
+    ensures silent { IfErr result (λ fault. spec.IsSilent fault → writer.new ≡ writer.old) }
+    ensures unlogged { spec.asks_log (asked (map S.text words.now)) ≡ false
+        → errors.new ≡ errors.old }
+    ensures unread { reader.new ≡ reader.old }
 {
+    run_with_clock(rt, rt, databases, words, reader, writer, errors)
+}
+
+/// Runs the program as `run`, with another clock of the machine: that by which a server without
+/// `--at` has its moments and its log the microseconds.
+///
+/// # Errors
+///
+/// As `run`.
+pub fn run_with_clock<C: Clock, D: Databases, S: AsStr, R: Read, W: Write, E: Write>(
+    rt: &HostRuntime,
+    machine: &C,
+    databases: &mut D,
+    words: &[S],
+    reader: &mut R,
+    writer: &mut W,
+    errors: &mut E,
+) -> Result<(), Fault>
+    // The fault of the words, or what they ask for.
+    ensures words { spec.AnswersWords (map S.text words.now) result }
+    // Where they ask for a task, it was done at the database of the name that they give.
+    ensures command { spec.PerformsAsked D.opens D.closes D.Store.is_honest D.Store.stands
+        (asked (map S.text words.now)) databases.old databases.new
+        (output W.contents writer.old writer.new) result }
+    // Where they ask for none, no database was opened.
+    ensures unopened { asked (map S.text words.now) ≡ None → databases.new ≡ databases.old }
+    ensures silent { IfErr result (λ fault. spec.IsSilent fault → writer.new ≡ writer.old) }
+    ensures unlogged { spec.asks_log (asked (map S.text words.now)) ≡ false
+        → errors.new ≡ errors.old }
+    ensures unread { reader.new ≡ reader.old }
+{
+    // Nothing is read of it.
+    let _ = reader;
     match command_of(rt.alloc(), words) {
-        Ok(asked) => answer(rt, databases, asked, writer, errors),
+        Ok(asked) => answer(rt, machine, databases, asked, writer, errors),
         Err(fault) => Err(fault),
     }
 }
 
 // Shows a text, or does what is asked for.
-fn answer<D: Databases, W: Write, E: Write>(
+fn answer<C: Clock, D: Databases, W: Write, E: Write>(
     rt: &HostRuntime,
+    machine: &C,
     databases: &mut D,
     asked: Asked<'_>,
     writer: &mut W,
     errors: &mut E,
 ) -> Result<(), Fault>
-    ensures ends { EndsFor asked.entry result }
-    ensures command { (job : Commanded) → job_of asked.entry ≡ Some job
-        → Performs D.opens D.closes
-        (λ store left. Does D.Store.is_honest D.Store.stands job.task store left
-        (W.contents writer.old) (W.contents writer.new) (writer.new ≡ writer.old) result)
-        job.file databases.old databases.new (writer.new ≡ writer.old) result }
-    ensures unopened { job_of asked.entry ≡ None → databases.new ≡ databases.old }
-    ensures silent { IfErr result (λ fault. IsSilent fault → writer.new ≡ writer.old) }
-    ensures unlogged { asks_log (job_of asked.entry) ≡ false → errors.new ≡ errors.old }
+    ensures ends { spec.EndsFor asked.entry result }
+    ensures command { spec.PerformsAsked D.opens D.closes D.Store.is_honest D.Store.stands
+        (spec.job_of asked.entry) databases.old databases.new
+        (output W.contents writer.old writer.new) result }
+    ensures unopened { spec.job_of asked.entry ≡ None → databases.new ≡ databases.old }
+    ensures silent { IfErr result (λ fault. spec.IsSilent fault → writer.new ≡ writer.old) }
+    ensures unlogged { spec.asks_log (spec.job_of asked.entry) ≡ false → errors.new ≡ errors.old }
 {
     match asked {
         Asked::ShowText(text) => show(&text, writer),
-        Asked::Perform(job) => perform(rt, databases, job, writer, errors),
+        Asked::Perform(job) => perform(rt, machine, databases, job, writer, errors),
     }
 }
 
 // Opens the database, does the task at it, and closes it.
-fn perform<D: Databases, W: Write, E: Write>(
+fn perform<C: Clock, D: Databases, W: Write, E: Write>(
     rt: &HostRuntime,
+    machine: &C,
     databases: &mut D,
     job: Job<'_>,
     writer: &mut W,
     errors: &mut E,
 ) -> Result<(), Fault>
-    ensures done { Performs D.opens D.closes
-        (λ store left. Does D.Store.is_honest D.Store.stands job.entry.task store left
-        (W.contents writer.old) (W.contents writer.new) (writer.new ≡ writer.old) result)
-        job.entry.file databases.old databases.new (writer.new ≡ writer.old) result }
-    ensures of_task { IfErr result IsOfTask }
-    ensures silent { IfErr result (λ fault. IsSilent fault → writer.new ≡ writer.old) }
-    ensures unlogged { logs job.entry.task ≡ false → errors.new ≡ errors.old }
+    ensures done { spec.Performs D.opens D.closes D.Store.is_honest D.Store.stands
+        job.entry databases.old databases.new
+        (output W.contents writer.old writer.new) result }
+    ensures of_task { IfErr result spec.IsOfTask }
+    ensures silent { IfErr result (λ fault. spec.IsSilent fault → writer.new ≡ writer.old) }
+    ensures unlogged { spec.logs job.entry.task ≡ false → errors.new ≡ errors.old }
 {
     let Job { file, task } = job;
     match databases.open(file) {
         Ok(store) => {
             let mut desk = Desk::new(rt.alloc(), store);
-            let outcome = carry_out(rt, &mut desk, task, writer, errors);
+            let outcome = carry_out(rt, machine, &mut desk, task, writer, errors);
             databases.close(desk.into_store());
             outcome
         }
@@ -130,16 +162,17 @@ fn perform<D: Databases, W: Write, E: Write>(
 }
 
 // Does a task at a desk.
-fn carry_out<S: ClubStore, W: Write, E: Write>(
+fn carry_out<C: Clock, S: ClubStore, W: Write, E: Write>(
     rt: &HostRuntime,
+    machine: &C,
     desk: &mut Desk<S>,
     task: Task<'_>,
     writer: &mut W,
     errors: &mut E,
 ) -> Result<(), Fault>
-    ensures done { Does S.is_honest S.stands task.entry desk.old desk.new
-        (W.contents writer.old) (W.contents writer.new) (writer.new ≡ writer.old) result }
-    ensures unlogged { logs task.entry ≡ false → errors.new ≡ errors.old }
+    ensures done { spec.Does S.is_honest S.stands task.entry
+        (output W.contents writer.old writer.new) result desk.old desk.new }
+    ensures unlogged { spec.logs task.entry ≡ false → errors.new ≡ errors.old }
 {
     let alloc = rt.alloc();
     match task {
@@ -163,7 +196,7 @@ fn carry_out<S: ClubStore, W: Write, E: Write>(
             order_pass(alloc, desk, &name, &root, form, &order, writer)
         }
         Task::Sheet(day) => show_sheet(desk, day, writer),
-        Task::Serve(service) => serve(rt, desk, service, writer, errors),
+        Task::Serve(service) => serve(rt, machine, desk, service, writer, errors),
     }
 }
 

@@ -42,7 +42,10 @@ impl<'a> Databases for Files<'a> {
 
     fn open(&mut self, name: &str) -> Result<Store<FileStore<FileFrom<Unknown>>>, StoreFault> {
         self.tried = self.tried.saturating_add(1);
-        Store::open_file(self.rt, name, Unknown)
+        match Store::open_file(self.rt, name, Unknown) {
+            Ok(store) => Ok(store),
+            Err((fault, _left)) => Err(fault),
+        }
     }
 
     // What was committed stands in the log beside the file until it is copied into the file, which

@@ -24,7 +24,7 @@ returns-in-Err-Storage-clause-done g c =
     spec.unopened store.Storage (rw (file_is, c.in-Err-Storage.field-0-is) at c.in-Err-Storage.ensures) refl refl
 
 pub returns-in-Ok-clause-of_task : goal.returns-in-Ok-clause-of_task
-returns-in-Ok-clause-of_task g c = (ends_well _ _ _ _ _ _ _ _ _ c.carry_out-outcome.ensures.done).of_task
+returns-in-Ok-clause-of_task g c = (ends_well _ _ _ _ _ _ _ c.carry_out-outcome.ensures.done).of_task
 
 pub returns-in-Ok-clause-silent : goal.returns-in-Ok-clause-silent
-returns-in-Ok-clause-silent g c = (ends_well _ _ _ _ _ _ _ _ _ c.carry_out-outcome.ensures.done).silent
+returns-in-Ok-clause-silent g c = (ends_well _ _ _ _ _ _ _ c.carry_out-outcome.ensures.done).silent

@@ -2,7 +2,7 @@ use Rattle.std.proofs.Common.{◌≡◌, ◌∙◌, inl, inr, refl, sym, ap, Non
 use Rattle.desk_commands.specs.Run.{asks_log}
 use Rattle.desk_commands.specs.Run as spec
 use Rattle.desk_commands.proofs.RunLemmas.{nothing_asked, run_words, task_asked}
-use Rattle.desk_commands.proofs.program.run.Goals as goal
+use Rattle.desk_commands.proofs.program.run_with_clock.Goals as goal
 
 pub returns-in-Ok-clause-words : goal.returns-in-Ok-clause-words
 returns-in-Ok-clause-words g c = run_words _ c.in-Ok.asked _ c.in-Ok.ensures c.answer.ensures.ends
