@@ -197,7 +197,7 @@ static DECODED: [Decoded; 12] = [
     (b" Zg", None),
 ];
 
-fn decodes(rt: &(impl Abort + AllocGlobal), text: &[u8], want: Option<&[u8]>) {
+pub(crate) fn decodes(rt: &(impl Abort + AllocGlobal), text: &[u8], want: Option<&[u8]>) {
     match decode_base64(rt.alloc(), text).expect(rt, "memory") {
         Some(bytes) => expect_eq(rt, &Some(bytes.as_slice()), &want, &text),
         None => expect_eq(rt, &None, &want, &text),

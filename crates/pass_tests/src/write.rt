@@ -1,6 +1,7 @@
 //! Passes that are narrowed, and written in V1 and V2.
 
-use crate::calls::{narrow, new_pass, read, unwrap_text, write};
+use crate::calls::{mint, narrow, new_pass, read, unwrap_text, write};
+use crate::envelope::decodes;
 use crate::rows::{Piece, expect_eq, joined};
 use pass_forms::{Form, FormFault, MAX_BYTES, Pass};
 use std::alloc::Global;
@@ -106,6 +107,30 @@ fn are_written(rt: &(impl Abort + AllocGlobal), rows: &[Written]) {
 #[test]
 fn narrows_and_writes_what_was_read(rt: HostRuntime) {
     are_written(&rt, &WRITTEN);
+}
+
+// The pass of `KNOWN_V1`, made under its root.
+fn known(rt: &(impl Abort + AllocGlobal)) -> Pass {
+    let root = b"this is our super secret key; only we should know it";
+    let minted = mint(
+        rt.alloc(),
+        root,
+        b"http://mybank/",
+        b"we used our secret key",
+    );
+    let mut pass = minted.expect(rt, "a pass");
+    narrows(rt, &mut pass, &[b"test = caveat"]);
+    pass
+}
+
+// With ample memory each call answers, and doesn't end for want of it.
+#[test]
+fn answers_with_ample_memory(rt: HostRuntime) {
+    let pass = known(&rt);
+    expect_text(&rt, &pass, Form::V1, KNOWN_V1);
+    expect_text(&rt, &pass, Form::V2, KNOWN_V2);
+    are_written(&rt, &WRITTEN);
+    decodes(&rt, b"_w", Some(b"\xff"));
 }
 
 // A pass with no location, an identifier of so many bytes and so many empty caveats.
