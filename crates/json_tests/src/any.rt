@@ -1,14 +1,14 @@
 //! Passes that are read and written in any form.
 
-use crate::calls::{read_any, write_any};
+use crate::calls::{read_any, read_json, write_any, write_json};
 use crate::rows::{Fields, KEYID_FIELDS, Piece, expect_eq, expect_pass, joined, pass_of};
 use pass_forms::{Form, FormFault, Pass};
 use std::alloc::Global;
 use std::process::Abort;
 
-// The pass of libmacaroons' README, and one of location `http://example.org/` and identifier
-// `keyid`, in each form.
-static KNOWN: [(Form, &str); 3] = [
+// The pass of libmacaroons' README, the same without its caveat, and one of location
+// `http://example.org/` and identifier `keyid`, in each form.
+pub(crate) static KNOWN: [(Form, &str); 3] = [
     (
         Form::V1,
         "MDAxY2xvY2F0aW9uIGh0dHA6Ly9teWJhbmsvCjAwMjZpZGVudGlmaWVyIHdlIHVzZWQgb3VyIHNlY3JldCBrZXkKMDAxNmNpZCB0ZXN0ID0gY2F2ZWF0CjAwMmZzaWduYXR1cmUgGXusegRK8zMyhluSZuJtSTvdZopmDkTYjOGpmMI9vWcK",
@@ -23,7 +23,22 @@ static KNOWN: [(Form, &str); 3] = [
     ),
 ];
 
-static EXAMPLE: [(Form, &str); 3] = [
+pub(crate) static BARE: [(Form, &str); 3] = [
+    (
+        Form::V1,
+        "MDAxY2xvY2F0aW9uIGh0dHA6Ly9teWJhbmsvCjAwMjZpZGVudGlmaWVyIHdlIHVzZWQgb3VyIHNlY3JldCBrZXkKMDAyZnNpZ25hdHVyZSDj2eApCFJsTAA5rhURQRXZf91ovyujebNCqvD2F9BVLwo",
+    ),
+    (
+        Form::V2,
+        "AgEOaHR0cDovL215YmFuay8CFndlIHVzZWQgb3VyIHNlY3JldCBrZXkAAAYg49ngKQhSbEwAOa4VEUEV2X_daL8ro3mzQqrw9hfQVS8",
+    ),
+    (
+        Form::Json,
+        "{\"c\":[],\"i\":\"we used our secret key\",\"l\":\"http://mybank/\",\"s64\":\"49ngKQhSbEwAOa4VEUEV2X_daL8ro3mzQqrw9hfQVS8\",\"v\":2}",
+    ),
+];
+
+pub(crate) static EXAMPLE: [(Form, &str); 3] = [
     (
         Form::V1,
         "MDAyMWxvY2F0aW9uIGh0dHA6Ly9leGFtcGxlLm9yZy8KMDAxNWlkZW50aWZpZXIga2V5aWQKMDAyZnNpZ25hdHVyZSB83ueSURxbxvUoSFgF3-myTnheKOKpkwH51xHGCeOO9wo",
@@ -32,11 +47,11 @@ static EXAMPLE: [(Form, &str); 3] = [
         Form::V2,
         "AgETaHR0cDovL2V4YW1wbGUub3JnLwIFa2V5aWQAAAYgfN7nklEcW8b1KEhYBd_psk54XijiqZMB-dcRxgnjjvc",
     ),
-    (
-        Form::Json,
-        "{\"c\":[],\"i\":\"keyid\",\"l\":\"http://example.org/\",\"s64\":\"fN7nklEcW8b1KEhYBd_psk54XijiqZMB-dcRxgnjjvc\",\"v\":2}",
-    ),
+    (Form::Json, EXAMPLE_JSON),
 ];
+
+pub(crate) const EXAMPLE_JSON: &str =
+    "{\"c\":[],\"i\":\"keyid\",\"l\":\"http://example.org/\",\"s64\":\"fN7nklEcW8b1KEhYBd_psk54XijiqZMB-dcRxgnjjvc\",\"v\":2}";
 
 // The pass of a text that is told to have this form.
 fn read(rt: &(impl Abort + AllocGlobal), text: &str, form: Form) -> Pass {
@@ -59,10 +74,20 @@ fn convert(rt: &(impl Abort + AllocGlobal), texts: &[(Form, &str)]) {
     }
 }
 
+// The calls of JSON alone.
+fn convert_json(rt: &(impl Abort + AllocGlobal), text: &str) {
+    let pass = read_json(rt.alloc(), text.as_bytes()).expect(rt, "a pass");
+    let written = write_json(rt.alloc(), &pass).expect(rt, "a text");
+    expect_eq(rt, &written.as_str(), &text, &"JSON");
+}
+
+// With ample memory each call answers, and doesn't end for want of it.
 #[test]
-fn reads_and_writes_any_form(rt: HostRuntime) {
+fn answers_with_ample_memory(rt: HostRuntime) {
     convert(&rt, &KNOWN);
+    convert(&rt, &BARE);
     convert(&rt, &EXAMPLE);
+    convert_json(&rt, EXAMPLE_JSON);
 }
 
 // JSON of the pass that has an identifier alone, without what may be left out, plainly and in
@@ -123,6 +148,25 @@ fn are_refused(rt: &(impl Abort + AllocGlobal), rows: &[(&'static [Piece], FormF
 #[test]
 fn tells_each_fault(rt: HostRuntime) {
     are_refused(&rt, &FAULTS);
+}
+
+fn is_refused_cut_short(rt: &(impl Abort + AllocGlobal), text: &str) {
+    for len in 0..text.len() {
+        let told = form_of(rt.alloc(), &text.as_bytes()[..len]);
+        expect_eq(rt, &told, &Err(FormFault::Malformed), &len);
+    }
+}
+
+fn are_refused_cut_short(rt: &(impl Abort + AllocGlobal), texts: &[(Form, &'static str)]) {
+    for (_, text) in texts {
+        is_refused_cut_short(rt, text);
+    }
+}
+
+#[test]
+fn refuses_texts_cut_short(rt: HostRuntime) {
+    are_refused_cut_short(&rt, &KNOWN);
+    are_refused_cut_short(&rt, &EXAMPLE);
 }
 
 static FORMS: [Form; 3] = [Form::V1, Form::V2, Form::Json];

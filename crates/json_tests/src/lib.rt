@@ -10,6 +10,8 @@ mod members;
 #[cfg(test)]
 mod read;
 #[cfg(test)]
+mod refused_memory;
+#[cfg(test)]
 mod rows;
 #[cfg(test)]
 mod write;

@@ -1,5 +1,6 @@
 //! Passes that are read from JSON, and handed out field by field.
 
+use crate::any::EXAMPLE_JSON;
 use crate::calls::{fields_of, is_signed, next, read_json};
 use crate::rows::{
     Fields, KEYID_FIELDS, KNOWN_FIELDS, Piece, SIGNATURE, expect_eq, expect_pass, joined,
@@ -241,8 +242,9 @@ fn is_refused_cut_short(rt: &(impl Abort + AllocGlobal), text: &str) {
 }
 
 #[test]
-fn refuses_the_known_text_cut_short(rt: HostRuntime) {
+fn refuses_the_known_texts_cut_short(rt: HostRuntime) {
     is_refused_cut_short(&rt, KNOWN);
+    is_refused_cut_short(&rt, EXAMPLE_JSON);
 }
 
 static SIGNED: [&str; 2] = [KNOWN, IN_OTHER_ORDER];
