@@ -7,7 +7,11 @@ mod crash;
 #[cfg(test)]
 mod expect;
 #[cfg(test)]
+mod limits;
+#[cfg(test)]
 mod read;
+#[cfg(test)]
+mod refused_memory;
 #[cfg(test)]
 mod rows;
 #[cfg(test)]

@@ -167,6 +167,15 @@ fn makes_the_writes_of_keys_and_slots(rt: HostRuntime) {
     plays(&rt, &mut empty(&rt), &KEYS_AND_SLOTS);
 }
 
+/// With ample memory each call answers, and doesn't end for want of it.
+#[test]
+fn answers_with_ample_memory(rt: HostRuntime) {
+    plays(&rt, &mut empty(&rt), &OFFICE);
+    plays(&rt, &mut empty(&rt), &KEYS_AND_SLOTS);
+    plays(&rt, &mut with_rows(&rt), &DAYS);
+    plays_again(&rt, with_bookings(&rt), &VIEWS, &VIEWS);
+}
+
 static TWICE: [Step; 3] = [
     Step::Calls(Write::Member(0)),
     Step::Refuses(Write::Member(0)),

@@ -11,29 +11,49 @@ use std::alloc::Global;
 use std::process::Abort;
 use std::test::*;
 
+const DESK: &str = "CREATE TABLE desk (version INTEGER NOT NULL) STRICT";
+
+const FACILITIES: &str = "CREATE TABLE facilities (\
+    name TEXT NOT NULL PRIMARY KEY, \
+    kind TEXT NOT NULL, \
+    places INTEGER NOT NULL CHECK (places BETWEEN 1 AND 50), \
+    price INTEGER NOT NULL CHECK (price BETWEEN 0 AND 9999), \
+    opens INTEGER NOT NULL CHECK (opens BETWEEN 0 AND 23), \
+    shuts INTEGER NOT NULL CHECK (shuts BETWEEN 1 AND 24)\
+) STRICT";
+
+const KEYS: &str = "CREATE TABLE keys (\
+    name TEXT NOT NULL PRIMARY KEY, \
+    member TEXT NOT NULL REFERENCES members (name), \
+    root BLOB NOT NULL, \
+    revoked INTEGER NOT NULL CHECK (revoked BETWEEN 0 AND 1)\
+) STRICT";
+
+const BOOKINGS: &str = "CREATE TABLE bookings (\
+    pass_key TEXT NOT NULL REFERENCES keys (name), \
+    number INTEGER NOT NULL CHECK (number BETWEEN 1 AND 999999999), \
+    facility TEXT NOT NULL REFERENCES facilities (name), \
+    day INTEGER NOT NULL CHECK (day BETWEEN 10957 AND 47481), \
+    hour INTEGER NOT NULL CHECK (hour BETWEEN 0 AND 23), \
+    guests INTEGER NOT NULL CHECK (guests BETWEEN 0 AND 49), \
+    charge INTEGER NOT NULL CHECK (charge BETWEEN 0 AND 499950), \
+    remains INTEGER NOT NULL CHECK (remains BETWEEN 0 AND 49), \
+    cancelled INTEGER NOT NULL CHECK (cancelled BETWEEN 0 AND 1), \
+    refund INTEGER NOT NULL CHECK (refund BETWEEN 0 AND 499950), \
+    PRIMARY KEY (pass_key, number)\
+) STRICT";
+
 /// The tables of version 1.
 static TABLES: [&str; 8] = [
-    "CREATE TABLE desk (version INTEGER NOT NULL) STRICT",
+    DESK,
     "CREATE TABLE members (\
         name TEXT NOT NULL PRIMARY KEY, \
         credited INTEGER NOT NULL CHECK (credited BETWEEN 0 AND 999999999), \
         quota INTEGER NOT NULL CHECK (quota BETWEEN 0 AND 99), \
         used INTEGER NOT NULL CHECK (used BETWEEN 0 AND 999999999)\
     ) STRICT",
-    "CREATE TABLE facilities (\
-        name TEXT NOT NULL PRIMARY KEY, \
-        kind TEXT NOT NULL, \
-        places INTEGER NOT NULL CHECK (places BETWEEN 1 AND 50), \
-        price INTEGER NOT NULL CHECK (price BETWEEN 0 AND 9999), \
-        opens INTEGER NOT NULL CHECK (opens BETWEEN 0 AND 23), \
-        shuts INTEGER NOT NULL CHECK (shuts BETWEEN 1 AND 24)\
-    ) STRICT",
-    "CREATE TABLE keys (\
-        name TEXT NOT NULL PRIMARY KEY, \
-        member TEXT NOT NULL REFERENCES members (name), \
-        root BLOB NOT NULL, \
-        revoked INTEGER NOT NULL CHECK (revoked BETWEEN 0 AND 1)\
-    ) STRICT",
+    FACILITIES,
+    KEYS,
     "CREATE TABLE slots (\
         facility TEXT NOT NULL REFERENCES facilities (name), \
         day INTEGER NOT NULL CHECK (day BETWEEN 10957 AND 47481), \
@@ -42,19 +62,7 @@ static TABLES: [&str; 8] = [
         taken INTEGER NOT NULL, \
         PRIMARY KEY (facility, day, hour)\
     ) STRICT",
-    "CREATE TABLE bookings (\
-        pass_key TEXT NOT NULL REFERENCES keys (name), \
-        number INTEGER NOT NULL CHECK (number BETWEEN 1 AND 999999999), \
-        facility TEXT NOT NULL REFERENCES facilities (name), \
-        day INTEGER NOT NULL CHECK (day BETWEEN 10957 AND 47481), \
-        hour INTEGER NOT NULL CHECK (hour BETWEEN 0 AND 23), \
-        guests INTEGER NOT NULL CHECK (guests BETWEEN 0 AND 49), \
-        charge INTEGER NOT NULL CHECK (charge BETWEEN 0 AND 499950), \
-        remains INTEGER NOT NULL CHECK (remains BETWEEN 0 AND 49), \
-        cancelled INTEGER NOT NULL CHECK (cancelled BETWEEN 0 AND 1), \
-        refund INTEGER NOT NULL CHECK (refund BETWEEN 0 AND 499950), \
-        PRIMARY KEY (pass_key, number)\
-    ) STRICT",
+    BOOKINGS,
     "CREATE INDEX keys_by_member ON keys (member)",
     "INSERT INTO desk (version) VALUES (1)",
 ];
@@ -73,7 +81,7 @@ static ROWS: [&str; 8] = [
 ];
 
 /// Runs these statements.
-fn runs<S: Alter>(rt: &impl Abort, connection: &mut Connection<S>, texts: &[&str]) {
+pub(crate) fn runs<S: Alter>(rt: &impl Abort, connection: &mut Connection<S>, texts: &[&str]) {
     for text in texts {
         connection.execute_batch(text).expect(rt, text);
     }
@@ -85,7 +93,7 @@ pub(crate) fn fill<S: Alter>(rt: &impl Abort, connection: &mut Connection<S>) {
     runs(rt, connection, &ROWS);
 }
 
-fn database(rt: &(impl Abort + Alloc<A = Global>)) -> Connection<MemStore> {
+pub(crate) fn database(rt: &(impl Abort + Alloc<A = Global>)) -> Connection<MemStore> {
     Connection::open_in_memory(rt.alloc()).expect(rt, "memory")
 }
 
@@ -106,7 +114,7 @@ fn adopted(
 }
 
 /// The account, and both bookings.
-static MIGRATED: [Step; 3] = [
+pub(crate) static MIGRATED: [Step; 3] = [
     Step::Shows(Shown::View(Asked::Account, 0, None)),
     Step::Shows(Shown::View(Asked::Cancel(7), 3, Some(COURT_7))),
     Step::Shows(Shown::View(Asked::Cancel(8), 3, Some(CANCELLED_8))),
@@ -175,8 +183,6 @@ struct Other {
     version: Option<i64>,
 }
 
-const DESK: &str = "CREATE TABLE desk (version INTEGER NOT NULL) STRICT";
-
 /// Another version, a version without its tables, a table of another kind, and a transaction.
 static OTHERS: [Other; 4] = [
     Other {
@@ -209,8 +215,34 @@ static CHANGED: [Other; 2] = [
     },
 ];
 
+/// Tables of version 1 as they were before they held what a member has used and what is taken of a
+/// slot.
+static WITHOUT_TOTALS: Other = Other {
+    texts: &[
+        DESK,
+        "CREATE TABLE members (\
+            name TEXT NOT NULL PRIMARY KEY, \
+            credited INTEGER NOT NULL CHECK (credited BETWEEN 0 AND 999999999), \
+            quota INTEGER NOT NULL CHECK (quota BETWEEN 0 AND 99)\
+        ) STRICT",
+        FACILITIES,
+        KEYS,
+        "CREATE TABLE slots (\
+            facility TEXT NOT NULL REFERENCES facilities (name), \
+            day INTEGER NOT NULL CHECK (day BETWEEN 10957 AND 47481), \
+            hour INTEGER NOT NULL CHECK (hour BETWEEN 0 AND 23), \
+            closed INTEGER NOT NULL CHECK (closed BETWEEN 0 AND 1), \
+            PRIMARY KEY (facility, day, hour)\
+        ) STRICT",
+        BOOKINGS,
+        "INSERT INTO desk (version) VALUES (1)",
+        "INSERT INTO members VALUES ('amy', 10000, 5)",
+    ],
+    version: Some(1),
+};
+
 /// The version of a database, where it has one.
-fn version(connection: &mut Connection<MemStore>) -> Option<i64> {
+pub(crate) fn version<S: Alter>(connection: &mut Connection<S>) -> Option<i64> {
     let row = connection.query_row("SELECT version FROM desk", &[]).ok()?;
     row.get(0).ok()
 }
@@ -235,6 +267,11 @@ fn refuses_other_databases(rt: HostRuntime) {
     }
 }
 
+#[test]
+fn refuses_tables_without_totals(rt: HostRuntime) {
+    is_refused(&rt, database(&rt), &WITHOUT_TOTALS);
+}
+
 /// Another version is left as it was.
 #[test]
 fn migrates_no_other_tables(rt: HostRuntime) {
@@ -243,7 +280,7 @@ fn migrates_no_other_tables(rt: HostRuntime) {
     }
 }
 
-static NOBODY: [Step; 1] = [Step::Shows(Shown::Member(None))];
+pub(crate) static NOBODY: [Step; 1] = [Step::Shows(Shown::Member(None))];
 
 #[test]
 fn makes_tables_where_there_are_none(rt: HostRuntime) {

@@ -1,0 +1,225 @@
+//! Openings of a store where an allocation is refused. `tests/refused_memory_tests.sh` refuses each
+//! in turn, and none after it: an opening that is out of memory leaves the database as it was, and
+//! a second one opens it.
+
+use crate::expect::expect_eq;
+use crate::steps::{Step, plays};
+use crate::versions::{MIGRATED, NOBODY, database, fill, runs, version};
+use club_core::StoreFault;
+use club_store::Store;
+use sqlite::{
+    Alter, Connection, Error, ErrorCode, FileFrom, FileStore, Files, MemStore, Options, Unknown,
+};
+use sqlite_disk::Memory;
+use std::alloc::Global;
+use std::process::Abort;
+use std::test::Fail;
+use std::{env, fs, process};
+
+/// What a database holds before it is opened.
+#[derive(Clone, Copy)]
+enum Tables {
+    /// None.
+    No,
+    /// Those of version 1 with the rows of its tests.
+    First,
+    /// The same with older roots.
+    Second,
+}
+
+static OLDER_ROOTS: [&str; 2] = [
+    "CREATE TABLE old_roots (\
+        pass_key TEXT NOT NULL PRIMARY KEY REFERENCES keys (name), \
+        root BLOB NOT NULL, \
+        until INTEGER NOT NULL CHECK (until BETWEEN 15778080 AND 68374079)\
+    ) STRICT",
+    "UPDATE desk SET version = 2",
+];
+
+impl Tables {
+    fn make<S: Alter>(self, rt: &impl Abort, connection: &mut Connection<S>) {
+        match self {
+            Tables::No => {}
+            Tables::First => fill(rt, connection),
+            Tables::Second => {
+                fill(rt, connection);
+                runs(rt, connection, &OLDER_ROOTS);
+            }
+        }
+    }
+
+    /// The version that is read in them.
+    fn version(self) -> Option<i64> {
+        match self {
+            Tables::No => None,
+            Tables::First => Some(1),
+            Tables::Second => Some(2),
+        }
+    }
+
+    /// What the store over them shows.
+    fn shown(self) -> &'static [Step] {
+        match self {
+            Tables::No => &NOBODY,
+            Tables::First | Tables::Second => &MIGRATED,
+        }
+    }
+}
+
+/// The store over a database, by the second opening where the first is out of memory.
+fn opened<S: Alter + Drop>(
+    rt: &(impl Abort + Alloc<A = Global>),
+    connection: Connection<S>,
+    tables: Tables,
+) -> Store<S> {
+    match Store::adopt(rt.alloc(), connection) {
+        Ok(store) => store,
+        Err((fault, mut left)) => {
+            expect_eq(rt, &fault, &StoreFault::Memory);
+            expect_eq(rt, &version(&mut left), &tables.version());
+            Store::adopt(rt.alloc(), left).ok().expect(rt, "opened")
+        }
+    }
+}
+
+fn opens<S: Alter + Drop>(
+    rt: &(impl Abort + Alloc<A = Global>),
+    connection: Connection<S>,
+    tables: Tables,
+) {
+    let mut store = opened(rt, connection, tables);
+    plays(rt, &mut store, tables.shown());
+}
+
+fn opens_in_memory(rt: &(impl Abort + Alloc<A = Global>), tables: Tables) {
+    let mut connection = database(rt);
+    tables.make(rt, &mut connection);
+    opens(rt, connection, tables);
+}
+
+#[test]
+fn empty_database(rt: HostRuntime) {
+    opens_in_memory(&rt, Tables::No);
+}
+
+#[test]
+fn tables_of_version_1(rt: HostRuntime) {
+    opens_in_memory(&rt, Tables::First);
+}
+
+#[test]
+fn tables_of_version_2(rt: HostRuntime) {
+    opens_in_memory(&rt, Tables::Second);
+}
+
+/// A new store in memory.
+fn new_store(rt: &(impl Abort + Alloc<A = Global>)) -> Store<MemStore> {
+    match Store::open_in_memory(rt.alloc()) {
+        Ok(store) => store,
+        Err(fault) => {
+            expect_eq(rt, &fault, &StoreFault::Memory);
+            Store::open_in_memory(rt.alloc()).expect(rt, "a store")
+        }
+    }
+}
+
+#[test]
+fn store_in_memory(rt: HostRuntime) {
+    plays(&rt, &mut new_store(&rt), &NOBODY);
+}
+
+type FileConnection = Connection<FileStore<Memory>>;
+
+fn open_files(
+    alloc: Global,
+    files: Files<Memory>,
+) -> Result<FileConnection, (Error, Files<Memory>)> {
+    if !files.may_be_used() {
+        return Err((Error::SqliteFailure(ErrorCode::CannotOpen), files));
+    }
+    match Connection::open_files(alloc, files, Options::new(7)) {
+        Ok(connection) => Ok(connection),
+        Err((error, left)) => Err((error, left.into_files())),
+    }
+}
+
+/// The database in files, by the second opening where the first is out of memory.
+fn connected(rt: &(impl Abort + Alloc<A = Global>), files: Files<Memory>) -> FileConnection {
+    match open_files(rt.alloc(), files) {
+        Ok(connection) => connection,
+        Err((error, left)) => {
+            expect_eq(rt, &error, &Error::SqliteFailure(ErrorCode::OutOfMemory));
+            open_files(rt.alloc(), left).ok().expect(rt, "opened")
+        }
+    }
+}
+
+/// Files that hold tables.
+fn files_of(rt: &(impl Abort + Alloc<A = Global>), tables: Tables) -> Files<Memory> {
+    let files = Files {
+        log: Memory::new(rt.alloc()),
+        db: Memory::new(rt.alloc()),
+    };
+    let mut connection = connected(rt, files);
+    tables.make(rt, &mut connection);
+    connection.into_store().close()
+}
+
+fn opens_files(rt: &(impl Abort + Alloc<A = Global>), tables: Tables) {
+    let connection = connected(rt, files_of(rt, tables));
+    opens(rt, connection, tables);
+}
+
+#[test]
+fn empty_files(rt: HostRuntime) {
+    opens_files(&rt, Tables::No);
+}
+
+#[test]
+fn files_of_version_1(rt: HostRuntime) {
+    opens_files(&rt, Tables::First);
+}
+
+#[test]
+fn files_of_version_2(rt: HostRuntime) {
+    opens_files(&rt, Tables::Second);
+}
+
+/// The store in the file at a path, by the second opening where the first is out of memory.
+fn opened_at(
+    host: &HostRuntime,
+    rt: &impl Abort,
+    path: &str,
+) -> Store<FileStore<FileFrom<Unknown>>> {
+    match Store::open_file(host, path, Unknown) {
+        Ok(store) => store,
+        Err((fault, left)) => {
+            drop(left);
+            expect_eq(rt, &fault, &StoreFault::Memory);
+            let again = Store::open_file(host, path, Unknown);
+            again.ok().expect(rt, "opened")
+        }
+    }
+}
+
+fn shows_nobody_at(host: &HostRuntime, rt: &(impl Abort + Alloc<A = Global>), path: &str) {
+    plays(rt, &mut opened_at(host, rt, path), &NOBODY);
+}
+
+/// A path of this process alone.
+fn path_of(host: &HostRuntime) -> Result<String, Fail> {
+    let folder = env::temp_dir(host)?;
+    let folder = folder.as_str();
+    let id = process::id(host.process());
+    Ok(format!(in host.alloc(); "{folder}/club-{id}")?)
+}
+
+/// A file that isn't there yet, and one that is.
+#[test]
+fn file_at_a_path(rt: HostRuntime) -> Result<(), Fail> {
+    let path = path_of(&rt)?;
+    shows_nobody_at(&rt, &rt, path.as_str());
+    shows_nobody_at(&rt, &rt, path.as_str());
+    fs::remove_file(&rt, path.as_str())?;
+    Ok(())
+}
