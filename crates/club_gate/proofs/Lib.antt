@@ -1,5 +1,6 @@
 pub mod Walking
 pub mod SigningLemmas
+pub mod Signers
 pub mod Identifiers
 pub mod Verifying
 pub mod Stepping

@@ -1,21 +1,13 @@
 -- The chains of a pass are those under the roots that are good.
-use Rattle.std.proofs.Common.{◌≡◌, ℕ, ◌||◌, Bool, false, List, [], ◌∷◌, fold, option_map, map, Option, Some, None, Ok, refl, ap, ◌∙◌}
+use Rattle.std.proofs.Common.{◌≡◌, ℕ, ◌||◌, Bool, false, List, [], ◌∷◌, fold, option_map, Option, Some, None, refl, ap, ◌∙◌}
 use Rattle.std.specs.Option.{option_map_or}
 use Rattle.pass_mac.specs.Chain.{chain, derived_key}
 use Rattle.pass_mac.specs.Hmac.{hmac}
-use Rattle.pass_caveats.specs.declared.ask.Ask.{Ask}
-use Rattle.pass_caveats.specs.declared.fault.CaveatFault.{CaveatFault}
-use Rattle.pass_caveats.specs.CaveatOf.{caveat_of, first_fault_of}
 use Rattle.pass_forms.specs.Pass.{Plain, is_signed}
 use Rattle.club_rows.specs.declared.key.Key.{Key}
 use Rattle.club_rows.specs.Key.{older_root_at}
-use Rattle.club_core.specs.declared.request.Request.{Request}
-use Rattle.club_core.specs.declared.verdict.Verdict.{Verdict}
-use Rattle.club_core.specs.declared.view.View.{View}
-use Rattle.club_core.specs.Answer.{answer_by_view, answer_to, ask_of}
 use Rattle.club_core.specs.Pass.{is_signed_under}
 use Rattle.club_gate.specs.declared.signing.Signing.{Signing}
-use Rattle.club_gate.specs.declared.walk.Found.{Found}
 use Rattle.club_gate.specs.Said.{pass_of}
 use Rattle.club_gate.specs.Signing.{begun, grown, is_one_of}
 
@@ -43,24 +35,14 @@ signed_as root (Some older) pass =
     (grown_by_all (chain (derived_key root) pass.identifier []) (Some (chain (derived_key older) pass.identifier [])) pass.caveats)
 
 -- so the signature is one of them where the pass is signed
-pub signed_alike : (pass : Plain) (key : Key) (moment : ℕ)
+signed_alike : (pass : Plain) (key : Key) (moment : ℕ)
     → is_one_of (fold grown (begun key moment pass.identifier) pass.caveats) pass.signature ≡ is_signed_under (pass_of pass) key moment
 signed_alike pass key moment = signed_as key.root (older_root_at key.older moment) pass
 
--- and what is found of a pass answers as the pass does
-pub judged_alike : (pass : Plain) (view : View) (request : Request) (moment : ℕ) (identifier : List ℕ) (signing : Signing)
-    (ask : Ask) (found : Found) (verdict : Verdict) → identifier ≡ pass.identifier → signing ≡ begun view.key moment identifier
-    → ask ≡ ask_of view request moment
-    → found ≡ record { is_signed = is_one_of (fold grown signing pass.caveats) pass.signature; fault = first_fault_of (map caveat_of pass.caveats) ask }
-    → verdict ≡ answer_by_view (Some view) found.is_signed found.fault request moment
-    → verdict ≡ answer_to (Ok (pass_of pass)) request moment (Some view)
-judged_alike pass view request moment identifier signing ask found verdict i s a f v =
-    let begins : signing ≡ begun view.key moment pass.identifier = s ∙ ap (λ (xs : List ℕ). begun view.key moment xs) i in
-    let is_signed : found.is_signed ≡ is_signed_under (pass_of pass) view.key moment =
-    ap (λ (r : Found). r.is_signed) f ∙ (ap (λ (x : Signing). is_one_of (fold grown x pass.caveats) pass.signature) begins ∙ signed_alike pass view.key moment)
-    in
-    let fault : found.fault ≡ first_fault_of (map caveat_of pass.caveats) (ask_of view request moment) =
-    ap (λ (r : Found). r.fault) f ∙ ap (λ (x : Ask). first_fault_of (map caveat_of pass.caveats) x) a
-    in
-    v ∙ (ap (λ (b : Bool). answer_by_view (Some view) b found.fault request moment) is_signed
-    ∙ ap (λ (x : Option CaveatFault). answer_by_view (Some view) (is_signed_under (pass_of pass) view.key moment) x request moment) fault)
+-- so the test of a walk that began with them is the test of the pass
+pub tested_alike : (pass : Plain) (key : Key) (moment : ℕ) (identifier : List ℕ) (signing : Signing) (found : Bool)
+    → identifier ≡ pass.identifier → signing ≡ begun key moment identifier
+    → found ≡ is_one_of (fold grown signing pass.caveats) pass.signature → found ≡ is_signed_under (pass_of pass) key moment
+tested_alike pass key moment identifier signing found i s f =
+    let begins : signing ≡ begun key moment pass.identifier = s ∙ ap (λ (xs : List ℕ). begun key moment xs) i in
+    f ∙ (ap (λ (x : Signing). is_one_of (fold grown x pass.caveats) pass.signature) begins ∙ signed_alike pass key moment)

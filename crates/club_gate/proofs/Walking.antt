@@ -1,6 +1,6 @@
 -- What a walk over the fields of a pass finds.
 use Rattle.std.proofs.Common.{Bor, ◌≡◌, ℕ, ◌+◌, ◌-◌, ◌^◌, ◌≤◌, ◌<◌, min, List, [], ◌∷◌, ◌++◌, fold, length, map, Option, Some, None, Bool, true, false, cond}
-use Rattle.std.proofs.Common.{◌⊎◌, inl, inr, refl, sym, ap, ◌∙◌, arith}
+use Rattle.std.proofs.Common.{◌⊎◌, inl, inr, is_some, refl, sym, ap, ◌∙◌, arith}
 use Rattle.std.specs.Option.{option_or}
 use Rattle.pass_caveats.specs.declared.ask.Ask.{Ask}
 use Rattle.pass_caveats.specs.declared.caveat.Caveat.{Caveat}
@@ -9,31 +9,62 @@ use Rattle.pass_caveats.specs.declared.fault.CaveatFault.TheVariants.{Denied}
 use Rattle.pass_caveats.specs.CaveatOf.{caveat_of, first_fault_from, permits}
 use Rattle.pass_forms.specs.declared.field_source.Field.{Field}
 use Rattle.pass_forms.specs.declared.field_source.Field.TheVariants as fields
-use Rattle.pass_forms.specs.FieldSource.{PassField, caveat_field, signature_field, location_field, identifier_field, told}
+use Rattle.pass_forms.specs.FieldSource.{PassField, caveat_field, signature_field, location_field, identifier_field, fields_of, told}
+use Rattle.pass_forms.specs.Pass.{Plain}
 use Rattle.club_gate.specs.declared.signing.Signing.{Signing}
-use Rattle.club_gate.specs.declared.walk.Found.{Found}
-use Rattle.club_gate.specs.declared.walk.Progress.{Progress}
 use Rattle.club_gate.specs.Signing.{grown, is_one_of}
-use Rattle.club_gate.specs.Walk.{ended, with_caveat}
+use Rattle.club_gate.specs.Verify.{fields_behind}
 
--- what is found from here on
-abbrev pub found_in : Ask → Progress → List PassField → Found
-found_in ask progress [] = record { is_signed = false; fault = progress.fault }
-found_in ask progress (location_field bytes ∷ fields) = record { is_signed = false; fault = progress.fault }
-found_in ask progress (identifier_field bytes ∷ fields) = record { is_signed = false; fault = progress.fault }
-found_in ask progress (caveat_field bytes ∷ fields) = found_in ask (with_caveat progress bytes ask) fields
-found_in ask progress (signature_field bytes ∷ fields) = ended progress bytes
+-- ---- the signature
 
-abbrev first : Signing → Progress
-first signing = record { signing = signing; number = 1; fault = None }
+-- whether these fields end in the signature of a chain
+abbrev pub signed_in : Signing → List PassField → Bool
+signed_in signing [] = false
+signed_in signing (location_field bytes ∷ fields) = false
+signed_in signing (identifier_field bytes ∷ fields) = false
+signed_in signing (caveat_field bytes ∷ fields) = signed_in (grown signing bytes) fields
+signed_in signing (signature_field bytes ∷ fields) = is_one_of signing bytes
 
-or_none : (fault : Option CaveatFault) → fault ≡ option_or fault None
-or_none None = refl
-or_none (Some fault) = refl
+signed_behind : (signature : List ℕ) (signing : Signing) (caveats : List (List ℕ))
+    → signed_in signing (map caveat_field caveats ++ signature_field signature ∷ []) ≡ is_one_of (fold grown signing caveats) signature
+signed_behind signature signing [] = refl
+signed_behind signature signing (caveat ∷ caveats) = signed_behind signature (grown signing caveat) caveats
 
-or_or : (a b c : Option CaveatFault) → option_or (option_or a b) c ≡ option_or a (option_or b c)
-or_or None b c = refl
-or_or (Some a) b c = refl
+-- the answer of a walk, of which this is left
+pub signed_at_last : (signing now : Signing) (fields left : List PassField) (answer : Bool) → answer ≡ signed_in now left
+    → signed_in now left ≡ signed_in signing fields → (pass : Plain) → fields ≡ fields_behind pass
+    → answer ≡ is_one_of (fold grown signing pass.caveats) pass.signature
+signed_at_last signing now fields left answer e f pass g =
+    e ∙ (f ∙ (ap (λ (fs : List PassField). signed_in signing fs) g ∙ signed_behind pass.signature signing pass.caveats))
+
+-- where the next field is a signature, another one or none
+module _ (now : Signing) (left : List PassField) where
+  pub signature_comes : (rest : List PassField) (field : Field) (signature : List ℕ) (answer : Bool) → left ≡ told field ∷ rest
+      → field ≡ fields.Signature signature → answer ≡ is_one_of now signature → answer ≡ signed_in now left
+  signature_comes rest field signature answer l f e =
+      e ∙ sym (ap (λ (fs : List PassField). signed_in now fs) l ∙ ap (λ (x : Field). signed_in now (told x ∷ rest)) f)
+
+  pub other_comes : (rest : List PassField) (field : Field) → left ≡ told field ∷ rest
+      → ((x : Bor (List ℕ)) × (field ≡ fields.Location x)) ⊎ ((x : Bor (List ℕ)) × (field ≡ fields.Identifier x))
+      → false ≡ signed_in now left
+  other_comes rest field l (inl f) =
+      sym (ap (λ (fs : List PassField). signed_in now fs) l ∙ ap (λ (x : Field). signed_in now (told x ∷ rest)) f.1)
+  other_comes rest field l (inr f) =
+      sym (ap (λ (fs : List PassField). signed_in now fs) l ∙ ap (λ (x : Field). signed_in now (told x ∷ rest)) f.1)
+
+  pub none_comes : left ≡ [] → false ≡ signed_in now left
+  none_comes l = sym (ap (λ (fs : List PassField). signed_in now fs) l)
+
+-- ---- the caveats
+
+-- the first fault of the caveats among these fields, of which the first has this number
+abbrev pub fault_in : Ask → ℕ → List PassField → Option CaveatFault
+fault_in ask n [] = None
+fault_in ask n (location_field bytes ∷ fields) = fault_in ask n fields
+fault_in ask n (identifier_field bytes ∷ fields) = fault_in ask n fields
+fault_in ask n (caveat_field bytes ∷ fields) =
+    option_or (first_fault_from n (caveat_of bytes ∷ []) ask) (fault_in ask (min (n + 1) (2 ^ 64 - 1)) fields)
+fault_in ask n (signature_field bytes ∷ fields) = fault_in ask n fields
 
 -- the first of the caveats is at fault, or the others are asked
 fault_on : (n : ℕ) (caveat : Option Caveat) (caveats : List (Option Caveat)) (ask : Ask)
@@ -47,57 +78,37 @@ fault_on n (Some caveat) caveats ask = go (permits caveat ask)
     go true = refl
     go false = refl
 
-module _ (ask : Ask) (signature : List ℕ) where
-  abbrev to_come : List (List ℕ) → List PassField
-  to_come caveats = map caveat_field caveats ++ signature_field signature ∷ []
+fault_behind : (ask : Ask) (signature : List ℕ) (n : ℕ) (caveats : List (List ℕ)) → n + length caveats < 2 ^ 64
+    → fault_in ask n (map caveat_field caveats ++ signature_field signature ∷ []) ≡ first_fault_from n (map caveat_of caveats) ask
+fault_behind ask signature n [] short = refl
+fault_behind ask signature n (caveat ∷ caveats) short =
+    let one = first_fault_from n (caveat_of caveat ∷ []) ask in
+    let next : min (n + 1) (2 ^ 64 - 1) ≡ n + 1 = omega arith in
+    ap (λ (m : ℕ). option_or one (fault_in ask m (map caveat_field caveats ++ signature_field signature ∷ []))) next
+    ∙ (ap (λ (o : Option CaveatFault). option_or one o) (fault_behind ask signature (n + 1) caveats (omega arith))
+    ∙ fault_on n (caveat_of caveat) (map caveat_of caveats) ask)
 
-  -- what is found of caveats and a signature
-  pub found_all : (progress : Progress) (caveats : List (List ℕ)) → progress.number + length caveats < 2 ^ 64
-      → found_in ask progress (to_come caveats) ≡ record {
-        is_signed = is_one_of (fold grown progress.signing caveats) signature;
-        fault =
-            option_or progress.fault (first_fault_from progress.number (map caveat_of caveats) ask);
-      }
-  found_all progress [] short = ap made (or_none progress.fault)
-    where
-      made : Option CaveatFault → Found
-      made fault = record { is_signed = is_one_of progress.signing signature; fault = fault }
-  found_all progress (caveat ∷ caveats) short =
-      let n = progress.number in
-      let next : min (n + 1) (2 ^ 64 - 1) ≡ n + 1 = omega arith in
-      let one = first_fault_from n (caveat_of caveat ∷ []) ask in
-      let is_signed = is_one_of (fold grown (grown progress.signing caveat) caveats) signature in
-      let made : Option CaveatFault → Found = λ fault. record { is_signed = is_signed; fault = fault } in
-      found_all (with_caveat progress caveat ask) caveats (omega arith)
-      ∙ (ap (λ (m : ℕ). made (option_or (option_or progress.fault one) (first_fault_from m (map caveat_of caveats) ask))) next
-      ∙ (ap made (or_or progress.fault one (first_fault_from (n + 1) (map caveat_of caveats) ask))
-      ∙ ap (λ (fault : Option CaveatFault). made (option_or progress.fault fault)) (fault_on n (caveat_of caveat) (map caveat_of caveats) ask)))
+-- the answer of a walk, of which this is left
+pub fault_at_last : (ask : Ask) (n : ℕ) (fields left : List PassField) (answer : Option CaveatFault) → answer ≡ fault_in ask n left
+    → fault_in ask n left ≡ fault_in ask 1 fields → (pass : Plain) → fields ≡ fields_of pass → length pass.caveats ≤ 64
+    → answer ≡ first_fault_from 1 (map caveat_of pass.caveats) ask
+fault_at_last ask n fields left answer e f pass g short =
+    e ∙ (f ∙ (ap (λ (fs : List PassField). fault_in ask 1 fs) g ∙ fault_behind ask pass.signature 1 pass.caveats (omega arith)))
 
-  -- the answer of a walk, of which this is left
-  pub walked : (signing : Signing) (fields : List PassField) (now : Progress) (left : List PassField) (caveats : List (List ℕ))
-      (answer : Found) → answer ≡ found_in ask now left → found_in ask now left ≡ found_in ask (first signing) fields
-      → fields ≡ to_come caveats → length caveats ≤ 64
-      → answer ≡ record { is_signed = is_one_of (fold grown signing caveats) signature; fault = first_fault_from 1 (map caveat_of caveats) ask }
-  walked signing fields now left caveats answer e f g short =
-      e ∙ (f ∙ (ap (λ (fs : List PassField). found_in ask (first signing) fs) g ∙ found_all (first signing) caveats (omega arith)))
+-- where the next caveat is at fault, or no field is left
+module _ (ask : Ask) (n : ℕ) (left : List PassField) where
+  decided : (fault later : Option CaveatFault) → is_some fault ≡ true → option_or fault later ≡ fault
+  decided None later h = absurd (cc)
+  decided (Some fault) later h = refl
 
--- where the next field is a signature, another one or none
-module _ (ask : Ask) (now : Progress) (left : List PassField) where
-  abbrev unsigned : Found
-  unsigned = record { is_signed = false; fault = now.fault }
+  pub fault_comes : (rest : List PassField) (field : Field) (caveat : Bor (List ℕ)) (answer : Option CaveatFault) → left ≡ told field ∷ rest
+      → field ≡ fields.Caveat caveat → answer ≡ first_fault_from n (caveat_of caveat.now ∷ []) ask → is_some answer ≡ true
+      → answer ≡ fault_in ask n left
+  fault_comes rest field caveat answer l f e h =
+      let later = fault_in ask (min (n + 1) (2 ^ 64 - 1)) rest in
+      sym (ap (λ (fs : List PassField). fault_in ask n fs) l
+      ∙ (ap (λ (x : Field). fault_in ask n (told x ∷ rest)) f
+      ∙ (ap (λ (o : Option CaveatFault). option_or o later) (sym e) ∙ decided answer later h)))
 
-  pub signature_comes : (rest : List PassField) (field : Field) (signature : List ℕ) (answer : Found) → left ≡ told field ∷ rest
-      → field ≡ fields.Signature signature → answer ≡ ended now signature → answer ≡ found_in ask now left
-  signature_comes rest field signature answer l f e =
-      e ∙ sym (ap (λ (fs : List PassField). found_in ask now fs) l ∙ ap (λ (x : Field). found_in ask now (told x ∷ rest)) f)
-
-  pub other_comes : (rest : List PassField) (field : Field) → left ≡ told field ∷ rest
-      → ((x : Bor (List ℕ)) × (field ≡ fields.Location x)) ⊎ ((x : Bor (List ℕ)) × (field ≡ fields.Identifier x))
-      → unsigned ≡ found_in ask now left
-  other_comes rest field l (inl f) =
-      sym (ap (λ (fs : List PassField). found_in ask now fs) l ∙ ap (λ (x : Field). found_in ask now (told x ∷ rest)) f.1)
-  other_comes rest field l (inr f) =
-      sym (ap (λ (fs : List PassField). found_in ask now fs) l ∙ ap (λ (x : Field). found_in ask now (told x ∷ rest)) f.1)
-
-  pub none_comes : left ≡ [] → unsigned ≡ found_in ask now left
-  none_comes l = sym (ap (λ (fs : List PassField). found_in ask now fs) l)
+  pub no_fault_comes : left ≡ [] → None ≡ fault_in ask n left
+  no_fault_comes l = sym (ap (λ (fs : List PassField). fault_in ask n fs) l)

@@ -1,7 +1,6 @@
 pub mod Minted
 pub mod Identifier
 pub mod Signing
-pub mod Walk
 pub mod Said
 pub mod Verify
 pub mod Told

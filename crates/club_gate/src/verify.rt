@@ -1,4 +1,5 @@
-//! The verifier: what the rules answer to the pass of a request, while its fields are read.
+//! The verifier: what the rules answer to the pass of a request. The signature comes first: until
+//! it was compared, nothing is read of the club but the row of the key that the pass names.
 
 ghost use Rattle.std.specs.Prelude.{
   ◌≡◌,
@@ -18,25 +19,32 @@ ghost use Rattle.pass_forms.specs.FieldSource.{fields_of};
 ghost use Rattle.pass_forms.specs.Pass.{Plain};
 ghost use Rattle.pass_forms.specs.Reading.{max_caveats};
 ghost use Rattle.pass_json.specs.AnyForm.{reading, reading_in_form};
-ghost use Rattle.club_core.specs.declared.refusal.Refusal.TheVariants.{NotVerified};
-ghost use Rattle.club_core.specs.Answer.{answer_to, form_refusal, verdict_in};
+ghost use Rattle.club_core.specs.Answer.{form_refusal, verdict_in};
 ghost use Rattle.club_core.specs.Store.{KeepsStanding, Tells};
 ghost use Rattle.club_core.specs.Verdict.{refused};
 ghost use Rattle.club_laws.specs.DeskLaw.{words_with};
 ghost use Rattle.club_gate.specs.Said.{fault_of, pass_of, words_said};
 ghost use Rattle.club_gate.specs.Served.{IsReadInPlace};
-ghost use Rattle.club_gate.specs.Verify.{answer_to_fault, fields_behind, view_named, words_read};
+ghost use Rattle.club_gate.specs.Verify.{
+  answer_to_fault,
+  fields_behind,
+  key_in,
+  refusal_by_row,
+  signer_in,
+  words_read,
+};
 
 use crate::desk::Desk;
 use crate::identifier::name_in;
 use crate::signing::Signing;
-use crate::walk::walk;
+use crate::walk::{first_fault, is_signed};
 use club_core::laws::views_decide;
 use club_core::{
-    ClubStore, FormFault as PassFault, Request, SentWords, StoreFault, Verdict, View, answer,
+    ClubStore, FormFault as PassFault, Key, Refusal, Request, SentWords, StoreFault, Verdict,
+    answer,
 };
 use kept_keys::KeptKeys;
-use pass_caveats::Moment;
+use pass_caveats::{Moment, Name};
 use pass_forms::laws::{reads_v1_exactly, reads_v2_exactly};
 use pass_forms::{Field, FieldSource, Form, FormFault, MAX_BYTES, V1Fields, V2Fields, unwrap_text};
 use pass_json::laws::{reads_what_is_wrapped, refuses_what_wraps_nothing};
@@ -57,30 +65,28 @@ fn identifier_from<'a, F: FieldSource<'a>>(source: &mut F) -> Option<&'a [u8]>
     }
 }
 
-/// The answer by what the key of a pass sees. The source has handed out the identifier.
-fn judged<'a, F: FieldSource<'a>>(
+/// Why a pass is refused by the row of its key, whatever else it holds: it isn't signed under a
+/// root of the row that is good at the moment, or the key is revoked. The source has yielded the
+/// identifier.
+fn row_refusal<'a, F: FieldSource<'a>>(
     kept: &mut KeptKeys,
     source: &mut F,
     identifier: &[u8],
-    view: &View,
-    request: &Request,
+    key: &Key,
     moment: Moment,
-) -> Verdict
+) -> Option<Refusal>
     ensures { (pass : Plain) → identifier.now ≡ pass.identifier
         → F.left source.old ≡ fields_behind pass
-        → length pass.caveats ≤ max_caveats
-        → result ≡ answer_to (Ok (pass_of pass)) request.now moment (Some view.now) }
+        → result ≡ refusal_by_row pass key.now moment }
 {
-    let signing = Signing::start(kept, &view.key, moment, identifier);
-    let found = walk(source, signing, &view.ask(request, moment));
-    answer(Some(view), found.is_signed, found.fault, request, moment)
-}
-
-/// The answer to a pass that names no key of the club.
-fn unknown(request: &Request, moment: Moment) -> Verdict
-    ensures { result ≡ refused NotVerified }
-{
-    answer(None, false, None, request, moment)
+    let signing = Signing::start(kept, key, moment, identifier);
+    if !is_signed(source, signing) {
+        return Some(Refusal::NotVerified);
+    }
+    if key.revoked {
+        return Some(Refusal::KeyRevoked);
+    }
+    None
 }
 
 /// The answer to a text that is no pass; memory that was refused to its reading is no answer.
@@ -99,52 +105,97 @@ fn faulty(fault: FormFault) -> Result<Verdict, StoreFault>
 }
 
 impl<S: ClubStore> Desk<S> {
-    /// What the key in an identifier sees of a request; `None` where it names no key of the club.
-    fn view_by(
-        &mut self,
-        identifier: &[u8],
-        request: &Request,
-        moment: Moment,
-    ) -> Result<Option<View>, StoreFault>
+    /// The row of the key that an identifier names; `None` where it names no key of the club.
+    fn key_row(&mut self, identifier: &[u8]) -> Result<Option<Key>, StoreFault>
         ensures honest { S.is_honest self.new → S.is_honest self.old }
         ensures kept { S.is_honest self.new → KeepsStanding S.stands self.old self.new }
-        ensures told { S.is_honest self.new → Tells S.stands self.old result
-            (λ club view. view ≡ view_named club identifier.now request.now moment) }
+        ensures found { S.is_honest self.new → Tells S.stands self.old result
+            (λ club key. key ≡ key_in club identifier.now) }
     {
         match name_in(identifier) {
-            Some(name) => self.store.view(&name, request, moment),
+            Some(name) => self.store.key(&name),
             None => Ok(None),
         }
     }
 
-    /// The answer to a request with the pass whose fields a source hands out, and the change that
-    /// goes with it.
-    fn verdict_of<'a, F: FieldSource<'a>>(
+    /// The name of the key that a pass names and is signed under, or why the pass is refused. Of
+    /// the club it reads the row of that key with its older root, and nothing else. An unknown key
+    /// and a wrong signature are refused alike.
+    fn signer<'a, F: FieldSource<'a>>(
         &mut self,
+        source: &mut F,
+        moment: Moment,
+    ) -> Result<Result<Name, Refusal>, StoreFault>
+        ensures honest { S.is_honest self.new → S.is_honest self.old }
+        ensures kept { S.is_honest self.new → KeepsStanding S.stands self.old self.new }
+        ensures found { S.is_honest self.new → (pass : Plain) → F.left source.old ≡ fields_of pass
+            → Tells S.stands self.old result (λ club signer. signer ≡ signer_in club pass moment) }
+    {
+        let Some(identifier) = identifier_from(source) else {
+            return Ok(Err(Refusal::NotVerified));
+        };
+        let Some(key) = self.key_row(identifier)? else {
+            return Ok(Err(Refusal::NotVerified));
+        };
+        match row_refusal(&mut self.kept, source, identifier, &key, moment) {
+            Some(refusal) => Ok(Err(refusal)),
+            None => Ok(Ok(key.name)),
+        }
+    }
+
+    /// The answer to a request with a pass that is signed under this key, and the change that goes
+    /// with it.
+    fn verdict_under<'a, F: FieldSource<'a>>(
+        &mut self,
+        key: &Name,
         source: &mut F,
         request: &Request,
         moment: Moment,
     ) -> Result<Verdict, StoreFault>
         ensures honest { S.is_honest self.new → S.is_honest self.old }
         ensures kept { S.is_honest self.new → KeepsStanding S.stands self.old self.new }
+        ensures found { S.is_honest self.new → (pass : Plain) → F.left source.old ≡ fields_of pass
+            → length pass.caveats ≤ max_caveats
+            → Tells S.stands self.old result
+            (λ club verdict. signer_in club pass moment ≡ Ok key.now
+            → verdict ≡ verdict_in club (words_with (pass_of pass) request.now) moment) }
+    {
+        views_decide();
+        let Some(view) = self.store.view(key, request, moment)? else {
+            return Ok(answer(None, false, None, request, moment));
+        };
+        let fault = first_fault(source, &view.ask(request, moment));
+        Ok(answer(Some(&view), true, fault, request, moment))
+    }
+
+    /// The answer to a request with the pass whose fields two sources yield, and the change that
+    /// goes with it. The first source is read for the signature; the second for the caveats, and
+    /// only where the pass is signed.
+    fn verdict_of<'a, F: FieldSource<'a>>(
+        &mut self,
+        source: &mut F,
+        again: &mut F,
+        request: &Request,
+        moment: Moment,
+    ) -> Result<Verdict, StoreFault>
+        ensures honest { S.is_honest self.new → S.is_honest self.old }
+        ensures kept { S.is_honest self.new → KeepsStanding S.stands self.old self.new }
         ensures told { S.is_honest self.new → (pass : Plain) → F.left source.old ≡ fields_of pass
+            → F.left again.old ≡ fields_of pass
             → length pass.caveats ≤ max_caveats
             → Tells S.stands self.old result (λ club verdict. verdict
             ≡ verdict_in club (words_with (pass_of pass) request.now) moment) }
     {
         views_decide();
-        let Some(identifier) = identifier_from(source) else {
-            return Ok(unknown(request, moment));
-        };
-        let Some(view) = self.view_by(identifier, request, moment)? else {
-            return Ok(unknown(request, moment));
-        };
-        let kept = &mut self.kept;
-        Ok(judged(kept, source, identifier, &view, request, moment))
+        match self.signer(source, moment)? {
+            Ok(key) => self.verdict_under(&key, again, request, moment),
+            Err(refusal) => Ok(Verdict::refused(refusal)),
+        }
     }
 
     /// The answer to a request with the pass that these bytes spell in a form. A pass in JSON is
-    /// read first, which wants memory; the fields of the others are handed out where they lie.
+    /// read first, which wants memory; the fields of the others are parts of the bytes, which are
+    /// opened once for each walk.
     fn verdict_on(
         &mut self,
         form: Form,
@@ -168,15 +219,25 @@ impl<S: ClubStore> Desk<S> {
         reads_v2_exactly();
         match form {
             Form::V1 => match V1Fields::open(bytes) {
-                Ok(mut fields) => self.verdict_of(&mut fields, request, moment),
+                Ok(mut fields) => match V1Fields::open(bytes) {
+                    Ok(mut again) => self.verdict_of(&mut fields, &mut again, request, moment),
+                    Err(fault) => faulty(fault),
+                },
                 Err(fault) => faulty(fault),
             },
             Form::V2 => match V2Fields::open(bytes) {
-                Ok(mut fields) => self.verdict_of(&mut fields, request, moment),
+                Ok(mut fields) => match V2Fields::open(bytes) {
+                    Ok(mut again) => self.verdict_of(&mut fields, &mut again, request, moment),
+                    Err(fault) => faulty(fault),
+                },
                 Err(fault) => faulty(fault),
             },
             Form::Json => match read_json(self.alloc, bytes) {
-                Ok(pass) => self.verdict_of(&mut JsonFields::over(&pass), request, moment),
+                Ok(pass) => {
+                    let mut fields = JsonFields::over(&pass);
+                    let mut again = JsonFields::over(&pass);
+                    self.verdict_of(&mut fields, &mut again, request, moment)
+                }
                 Err(fault) => faulty(fault),
             },
         }

@@ -1,0 +1,185 @@
+-- The key that a pass is signed under, by the key's row alone, and the answer that follows.
+use Rattle.std.proofs.Common.{◌≡◌, ◌≢◌, ℕ, zero, suc, ◌<◌, Bool, true, false, cond, not, List, [], ◌∷◌, length, get_or, map, refl, sym, ap, ◌∙◌, arith}
+use Rattle.std.proofs.Common.{Option, Some, None, Ok, Err, option_map, option_and_then}
+use Rattle.std.specs.Prelude.{Contains, find}
+use Rattle.std.specs.Str.{bytes_eq}
+use Rattle.std.proofs.lemmas.List.Elements.{All-contains}
+use Rattle.std.proofs.lemmas.Slice.Eq.{bytes_eq-Decides}
+use Rattle.pass_caveats.specs.declared.fault.CaveatFault.{CaveatFault}
+use Rattle.pass_caveats.specs.CaveatOf.{first_fault_of}
+use Rattle.pass_forms.specs.Pass.{Plain}
+use Rattle.club_rows.specs.declared.key.Key.{Key}
+use Rattle.club_rows.specs.declared.member.Member.{Member}
+use Rattle.club_core.specs.declared.refusal.Refusal.{Refusal}
+use Rattle.club_core.specs.declared.refusal.Refusal.TheVariants.{KeyRevoked, NotVerified}
+use Rattle.club_core.specs.declared.request.Request.{Request}
+use Rattle.club_core.specs.declared.verdict.Verdict.{Verdict}
+use Rattle.club_core.specs.declared.view.View.{View}
+use Rattle.club_core.specs.Answer.{answer_by_view, answer_to, ask_of, verdict_in}
+use Rattle.club_core.specs.Basis.{Basis, basis_under, state_of, view_in, view_of}
+use Rattle.club_core.specs.Club.{Club, IsSound, bookings_of, key_named, member_named}
+use Rattle.club_core.specs.Laws.{ViewsDecide}
+use Rattle.club_core.specs.Lines.{line, first_of}
+use Rattle.club_core.specs.Pass.{is_signed_under}
+use Rattle.club_core.specs.Request.{slot_of}
+use Rattle.club_core.specs.Verdict.{refused}
+use Rattle.club_laws.specs.DeskLaw.{words_with}
+use Rattle.club_gate.specs.Identifier.{name_in}
+use Rattle.club_gate.specs.Said.{pass_of}
+use Rattle.club_gate.specs.Verify.{name_unless, refusal_by_row, signer_by, signer_in}
+
+-- ---- rows that are found
+
+-- what is found is an element, and passes
+found : {X : Type 0} (p : X → Bool) (xs : List X) (x : X) → find p xs ≡ Some x → Contains xs x × (p x ≡ true)
+found p [] x h = absurd (cc)
+found {X} p (y ∷ xs) x h = go (p y) refl (λ e. found p xs x e) h
+  where
+    go : (b : Bool) → p y ≡ b → (find p xs ≡ Some x → Contains xs x × (p x ≡ true)) → cond b (Some y) (find p xs) ≡ Some x → Contains (y ∷ xs) x × (p x ≡ true)
+    go true passes more e = let same : y ≡ x = cc in ((0, omega arith, same), ap p (sym same) ∙ passes)
+    go false fails more e = let later = more e in ((suc later.0.0, omega (arith, later.0.1), later.0.2), later.1)
+
+-- a member of a name is found
+member_there : (members : List Member) (name : List ℕ) → Contains (map (λ (m : Member). m.name) members) name
+    → find (λ (m : Member). bytes_eq m.name name) members ≢ None
+member_there [] name h e = omega (arith, h.1)
+member_there (member ∷ members) name h e =
+    go (bytes_eq member.name name) refl (λ later none. member_there members name later none) h.0 h.1 h.2 e
+  where
+    go : (b : Bool) → bytes_eq member.name name ≡ b
+        → (Contains (map (λ (m : Member). m.name) members) name → find (λ (m : Member). bytes_eq m.name name) members ≢ None) → (k : ℕ)
+        → k < length (map (λ (m : Member). m.name) (member ∷ members))
+        → get_or (map (λ (m : Member). m.name) (member ∷ members)) k name ≡ name
+        → cond b (Some member) (find (λ (m : Member). bytes_eq m.name name) members) ≡ None → ⊥
+    go true passes rest k short same e = cc
+    go false fails rest zero short same e = let passes = (bytes_eq-Decides member.name name).1 same in cc
+    go false fails rest (suc k) short same e = rest (k, omega arith, same) e
+
+-- so each key of a sound club has its member
+owned : (club : Club) (name : List ℕ) (key : Key) → IsSound club → key_named name club ≡ Some key → member_named key.member club ≢ None
+owned club name key sound e =
+    let there = (found (λ (k : Key). bytes_eq k.name name) club.keys key e).0 in
+    let P : Key → Type 0 = λ k. Contains (map (λ (m : Member). m.name) club.members) k.member in
+    member_there club.members key.member (All-contains P club.keys key sound.references.keys there)
+
+named : (club : Club) (name : List ℕ) (key : Key) → key_named name club ≡ Some key → key.name ≡ name
+named club name key e = (bytes_eq-Decides key.name name).0 (found (λ (k : Key). bytes_eq k.name name) club.keys key e).1
+
+-- ---- the lines of a row
+
+module _ (pass : Plain) (key : Key) (moment : ℕ) where
+  abbrev by_lines : Bool → Bool → Option Refusal
+  by_lines is_signed revoked = first_of (line (not is_signed) (Some NotVerified) ∷ line revoked (Some KeyRevoked) ∷ []) None
+
+  pub unsigned_row : (found : Bool) → found ≡ is_signed_under (pass_of pass) key moment → found ≡ false → Some NotVerified ≡ refusal_by_row pass key moment
+  unsigned_row found e f = ap (λ (b : Bool). by_lines b key.revoked) (sym f ∙ e)
+
+  pub revoked_row : (found : Bool) → found ≡ is_signed_under (pass_of pass) key moment → found ≡ true → key.revoked ≡ true
+      → Some KeyRevoked ≡ refusal_by_row pass key moment
+  revoked_row found e f r = ap (λ (b : Bool). by_lines true b) (sym r) ∙ ap (λ (b : Bool). by_lines b key.revoked) (sym f ∙ e)
+
+  pub standing_row : (found : Bool) → found ≡ is_signed_under (pass_of pass) key moment → found ≡ true → key.revoked ≡ false
+      → None ≡ refusal_by_row pass key moment
+  standing_row found e f r = ap (λ (b : Bool). by_lines true b) (sym r) ∙ ap (λ (b : Bool). by_lines b key.revoked) (sym f ∙ e)
+
+-- what the row refuses is so refused
+refused_alike : (is_signed revoked : Bool) (name : List ℕ) (last : Verdict) (refusal : Refusal)
+    → name_unless name (first_of (line (not is_signed) (Some NotVerified) ∷ line revoked (Some KeyRevoked) ∷ []) None) ≡ Err refusal
+    → first_of (line (not is_signed) (refused NotVerified) ∷ line revoked (refused KeyRevoked) ∷ []) last ≡ refused refusal
+refused_alike false revoked name last refusal e = let same : NotVerified ≡ refusal = cc in ap refused same
+refused_alike true true name last refusal e = let same : KeyRevoked ≡ refusal = cc in ap refused same
+refused_alike true false name last refusal e = absurd (cc)
+
+-- and what it doesn't is signed
+signed_row : (is_signed revoked : Bool) (name other : List ℕ)
+    → name_unless name (first_of (line (not is_signed) (Some NotVerified) ∷ line revoked (Some KeyRevoked) ∷ []) None) ≡ Ok other
+    → (is_signed ≡ true) × (name ≡ other)
+signed_row false revoked name other e = absurd (cc)
+signed_row true true name other e = absurd (cc)
+signed_row true false name other e = let same : name ≡ other = cc in (refl, same)
+
+-- the view of a key
+abbrev view_by : Club → Request → ℕ → Option Key → Option View
+view_by club request moment key = option_map (λ (b : Basis). view_of b request moment) (option_and_then (basis_under club request) key)
+
+abbrev view_with : Club → Request → ℕ → Key → Option Member → Option View
+view_with club request moment key member =
+    option_map (λ (b : Basis). view_of b request moment)
+    (option_map (λ (m : Member). record { key = key; member = m; bookings = bookings_of m.name club; state = state_of club (slot_of request) }) member)
+
+module _ (club : Club) (pass : Plain) (request : Request) (moment : ℕ) where
+  abbrev answer_by : Option View → Verdict
+  answer_by view = answer_to (Ok (pass_of pass)) request moment view
+
+  -- ---- refused
+
+  of_member : (key : Key) (member : Option Member) → member ≢ None → (refusal : Refusal) → signer_by pass moment (Some key) ≡ Err refusal
+      → answer_by (view_with club request moment key member) ≡ refused refusal
+  of_member key None some refusal e = absurd (some refl)
+  of_member key (Some member) some refusal e =
+      refused_alike (is_signed_under (pass_of pass) key moment) key.revoked key.name _ refusal e
+
+  of_row : IsSound club → (name : List ℕ) (key : Option Key) → key_named name club ≡ key → (refusal : Refusal) → signer_by pass moment key ≡ Err refusal
+      → answer_by (view_by club request moment key) ≡ refused refusal
+  of_row sound name None row refusal e = let same : NotVerified ≡ refusal = cc in ap refused same
+  of_row sound name (Some key) row refusal e = of_member key (member_named key.member club) (owned club name key sound row) refusal e
+
+  of_name : IsSound club → (name : Option (List ℕ)) (refusal : Refusal)
+      → signer_by pass moment (option_and_then (λ (n : List ℕ). key_named n club) name) ≡ Err refusal
+      → answer_by (option_and_then (λ (n : List ℕ). view_in club n request moment) name) ≡ refused refusal
+  of_name sound None refusal e = let same : NotVerified ≡ refusal = cc in ap refused same
+  of_name sound (Some name) refusal e = of_row sound name (key_named name club) refl refusal e
+
+  -- who isn't signed, or whose key is revoked, is refused, whatever else the club holds
+  pub refused_by_row : ViewsDecide → IsSound club → (refusal : Refusal) → signer_in club pass moment ≡ Err refusal
+      → refused refusal ≡ verdict_in club (words_with (pass_of pass) request) moment
+  refused_by_row decides sound refusal e =
+      sym (decides club (words_with (pass_of pass) request) moment ∙ of_name sound (name_in pass.identifier) refusal e)
+
+  -- ---- signed
+
+  name_of_row : (name : List ℕ) (key : Option Key) → key_named name club ≡ key → (signer : List ℕ) → signer_by pass moment key ≡ Ok signer → name ≡ signer
+  name_of_row name None row signer e = absurd (cc)
+  name_of_row name (Some key) row signer e =
+      sym (named club name key row) ∙ (signed_row (is_signed_under (pass_of pass) key moment) key.revoked key.name signer e).1
+
+  name_of : (name : Option (List ℕ)) (signer : List ℕ) → signer_by pass moment (option_and_then (λ (n : List ℕ). key_named n club) name) ≡ Ok signer
+      → name ≡ Some signer
+  name_of None signer e = absurd (cc)
+  name_of (Some name) signer e = ap Some (name_of_row name (key_named name club) refl signer e)
+
+  signed_key : (key : Key) (member : Option Member) (signer : List ℕ) → signer_by pass moment (Some key) ≡ Ok signer → (view : View)
+      → Some view ≡ view_with club request moment key member → is_signed_under (pass_of pass) view.key moment ≡ true
+  signed_key key None signer e view v = absurd (cc)
+  signed_key key (Some member) signer e view v =
+      let same : key ≡ view.key = let w = v in cc in
+      ap (λ (k : Key). is_signed_under (pass_of pass) k moment) (sym same)
+      ∙ (signed_row (is_signed_under (pass_of pass) key moment) key.revoked key.name signer e).0
+
+  signed_view : (key : Option Key) (signer : List ℕ) → signer_by pass moment key ≡ Ok signer → (view : View) → Some view ≡ view_by club request moment key
+      → is_signed_under (pass_of pass) view.key moment ≡ true
+  signed_view None signer e view v = absurd (cc)
+  signed_view (Some key) signer e view v = signed_key key (member_named key.member club) signer e view v
+
+  -- the signer's view answers
+  pub answered_by : ViewsDecide → (signer : List ℕ) → signer_in club pass moment ≡ Ok signer
+      → verdict_in club (words_with (pass_of pass) request) moment ≡ answer_by (view_in club signer request moment)
+  answered_by decides signer e =
+      decides club (words_with (pass_of pass) request) moment
+      ∙ ap (λ (n : Option (List ℕ)). answer_by (option_and_then (λ (m : List ℕ). view_in club m request moment) n)) (name_of (name_in pass.identifier) signer e)
+
+  pub answered_by_none : ViewsDecide → (signer : List ℕ) → signer_in club pass moment ≡ Ok signer → None ≡ view_in club signer request moment
+      → refused NotVerified ≡ verdict_in club (words_with (pass_of pass) request) moment
+  answered_by_none decides signer e v = sym (answered_by decides signer e ∙ ap answer_by (sym v))
+
+  pub answered_by_view : ViewsDecide → (signer : List ℕ) → signer_in club pass moment ≡ Ok signer → (view : View)
+      → Some view ≡ view_in club signer request moment → (fault : Option CaveatFault)
+      → fault ≡ first_fault_of (pass_of pass).caveats (ask_of view request moment)
+      → answer_by_view (Some view) true fault request moment ≡ verdict_in club (words_with (pass_of pass) request) moment
+  answered_by_view decides signer e view v fault f =
+      let name = name_of (name_in pass.identifier) signer e in
+      let row = ap (λ (n : Option (List ℕ)). signer_by pass moment (option_and_then (λ (m : List ℕ). key_named m club) n)) (sym name) ∙ e in
+      let is_signed = signed_view (key_named signer club) signer row view v in
+      ap (λ (b : Bool). answer_by_view (Some view) b fault request moment) (sym is_signed)
+      ∙ (ap (λ (x : Option CaveatFault). answer_by_view (Some view) (is_signed_under (pass_of pass) view.key moment) x request moment) f
+      ∙ (ap answer_by v ∙ sym (answered_by decides signer e)))
