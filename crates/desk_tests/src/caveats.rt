@@ -15,7 +15,7 @@ const BOOK_8_AT_19: Asked = Asked::Book(PlainSlot { hour: 19, ..COURT }, 8, 0);
 
 const BOOKED_8: Told = Told::Booked(b"amy-1", 8, 200, 3);
 
-static SPENDS: [Step; 4] = [
+pub(crate) static SPENDS: [Step; 4] = [
     Step::Asks(NOON, SPENDS_600, BOOK_7, BOOKED_7),
     Step::Asks(NOON, SPENDS_600, BOOK_8_AT_19, DENIED_1),
     Step::Asks(NOON, SPENDS_600, CANCEL_7, CANCELLED_7),
@@ -35,7 +35,7 @@ const BOOK_7_ALONE: Asked = Asked::Book(COURT, 7, 0);
 
 const NOT_UNDERSTOOD_2: Told = Told::Refused(Refusal::CaveatNotUnderstood(2));
 
-static CAVEATS: [Step; 3] = [
+pub(crate) static CAVEATS: [Step; 3] = [
     Step::Asks(NOON, AT_THE_COURT, ACCOUNT, DENIED_1),
     Step::Asks(NOON, ODD, BOOK_7, DENIED_1),
     Step::Asks(NOON, ODD, BOOK_7_ALONE, NOT_UNDERSTOOD_2),
@@ -71,7 +71,7 @@ const BOOK_8_A_DAY_LATER: Asked = Asked::Book(A_DAY_LATER, 8, 0);
 const NOT_UNDERSTOOD_1: Told = Told::Refused(Refusal::CaveatNotUnderstood(1));
 
 /// The slot's day is a Friday.
-static WEEKDAYS: [Step; 8] = [
+pub(crate) static WEEKDAYS: [Step; 8] = [
     Step::Asks(NOON, FRIDAYS, BOOK_7, BOOKED_7),
     Step::Asks(NOON, FRIDAYS, BOOK_8_A_DAY_LATER, DENIED_1),
     Step::Asks(NOON, ALL_WEEK, ACCOUNT, DENIED_1),

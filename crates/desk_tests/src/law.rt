@@ -1,12 +1,14 @@
 //! Lists of events from an empty database, a request behind one, and the files that one leaves.
 
 use crate::expect::expect_eq;
+use crate::happens::{Happens, are_told, events};
 use crate::known;
+use crate::known::SIGNED;
 use crate::office::Order;
-use crate::said::{ACCOUNT, ACCOUNT_AFTER, Asked, BOOK_7, BOOKED_7, NOT_VERIFIED, Told};
-use crate::values::{NOON, at, push};
+use crate::said::{ACCOUNT, ACCOUNT_AFTER, BOOK_7, BOOKED_7, NOT_VERIFIED, Told};
+use crate::values::{NOON, at};
 use club_core::Request;
-use club_gate::{Desk, Event, EventReply, OfficeReply, Words};
+use club_gate::{Desk, OfficeReply, Words};
 use club_store::Store;
 use desk_law::{reply_from_nothing, run_and_leave, run_from_nothing};
 use pass_caveats::Kind;
@@ -15,19 +17,6 @@ use sqlite_disk::{Disk, Memory};
 use std::alloc::Global;
 use std::process::Abort;
 use std::test::*;
-
-/// An event, and what is told to it.
-#[derive(Clone, Copy)]
-enum Happens {
-    /// An order of the office, and its answer.
-    Ordered(Order, OfficeReply),
-    /// What is asked at noon under the text of a pass, and the reply.
-    Asked(&'static str, Asked, Told),
-}
-
-const SIGNED: OfficeReply = OfficeReply::Key {
-    signature: known::SIGNATURE,
-};
 
 /// Four orders that are done, a booking, its repeat in two other forms, and the account, which was
 /// charged once.
@@ -45,54 +34,15 @@ static BOOKS: [Happens; 8] = [
     Happens::Asked(known::V1, ACCOUNT, ACCOUNT_AFTER),
 ];
 
-impl Happens {
-    fn event(&self, rt: &impl Abort) -> Event<'static> {
-        match *self {
-            Happens::Ordered(order, _) => Event::Ordered(order.command(rt)),
-            Happens::Asked(pass, asked, _) => Event::Asked {
-                words: Words {
-                    pass: pass.as_bytes(),
-                    request: asked.request(rt),
-                },
-                moment: at(rt, NOON),
-            },
-        }
-    }
-
-    fn reply(&self, rt: &impl Abort) -> EventReply {
-        match *self {
-            Happens::Ordered(_, answer) => EventReply::Answered(answer),
-            Happens::Asked(_, _, told) => EventReply::Replied(told.reply(rt)),
-        }
-    }
-}
-
-fn events(rt: &(impl Abort + Alloc<A = Global>), rows: &[Happens]) -> Vec<Event<'static>> {
-    let mut events = Vec::new(rt.alloc());
-    for row in rows {
-        push(rt, &mut events, row.event(rt));
-    }
-    events
-}
-
-fn replies(rt: &(impl Abort + Alloc<A = Global>), rows: &[Happens]) -> Vec<EventReply> {
-    let mut replies = Vec::new(rt.alloc());
-    for row in rows {
-        push(rt, &mut replies, row.reply(rt));
-    }
-    replies
-}
-
-fn are_told(rt: &(impl Abort + Alloc<A = Global>), told: &[EventReply], rows: &[Happens]) {
-    let want = replies(rt, rows);
-    expect_eq(rt, &told, &want.as_slice());
+pub(crate) fn books_from_nothing(rt: &(impl Abort + Alloc<A = Global>)) {
+    let events = events(rt, &BOOKS);
+    let replies = run_from_nothing(rt.alloc(), events.as_slice()).expect(rt, "replies");
+    are_told(rt, replies.as_slice(), &BOOKS);
 }
 
 #[test]
 fn books_once_in_three_forms(rt: HostRuntime) {
-    let events = events(&rt, &BOOKS);
-    let replies = run_from_nothing(rt.alloc(), events.as_slice()).expect(&rt, "replies");
-    are_told(&rt, replies.as_slice(), &BOOKS);
+    books_from_nothing(&rt);
 }
 
 /// The account is asked for behind some events.
@@ -110,10 +60,14 @@ fn tells_behind(rt: &(impl Abort + Alloc<A = Global>), rows: &[Happens], want: &
 }
 
 // A request behind a list, and one under a key that no list made.
+pub(crate) fn answers_behind_lists(rt: &(impl Abort + Alloc<A = Global>)) {
+    tells_behind(rt, &BOOKS[..5], &ACCOUNT_AFTER);
+    tells_behind(rt, &[], &NOT_VERIFIED);
+}
+
 #[test]
 fn answers_after_a_list(rt: HostRuntime) {
-    tells_behind(&rt, &BOOKS[..5], &ACCOUNT_AFTER);
-    tells_behind(&rt, &[], &NOT_VERIFIED);
+    answers_behind_lists(&rt);
 }
 
 /// A desk over the club in these files.

@@ -19,7 +19,7 @@ use std::test::*;
 const ONE_LEFT: Told = Told::Account(9_099, 1, 901);
 
 /// The sum of a member's charges and refunds follows a cancellation for half the charge.
-static TOTALS: [Step; 4] = [
+pub(crate) static TOTALS: [Step; 4] = [
     Step::Asks(NOON, AMY, BOOK_7, BOOKED_7),
     Step::Asks(NOON, AMY, BOOK_ROOM, ROOM_BOOKED),
     Step::Asks(START - 1439, AMY, CANCEL_ROOM, HALF_BACK),

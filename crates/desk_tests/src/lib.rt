@@ -3,6 +3,10 @@
 #![tactic(auto)]
 
 #[cfg(test)]
+mod ample;
+#[cfg(test)]
+mod at_once;
+#[cfg(test)]
 mod caveats;
 #[cfg(test)]
 mod counter;
@@ -10,6 +14,8 @@ mod counter;
 mod drawn;
 #[cfg(test)]
 mod expect;
+#[cfg(test)]
+mod happens;
 #[cfg(test)]
 mod judge;
 #[cfg(test)]
@@ -26,6 +32,8 @@ mod office;
 mod passes;
 #[cfg(test)]
 mod refusals;
+#[cfg(test)]
+mod refused_memory;
 #[cfg(test)]
 mod refusing;
 #[cfg(test)]

@@ -24,10 +24,10 @@ fn play(rt: &(impl Abort + Alloc<A = Global>), mut trial: Trial, numbers: &mut N
     trial.audited(rt)
 }
 
-/// Plays the lists of a row of numbers, and audits the club behind each of them.
-fn play_lists(rt: &(impl Abort + Alloc<A = Global>), first: u64) {
+/// Plays so many pairs of lists of a row of numbers, and audits the club behind each of them.
+pub(crate) fn play_lists(rt: &(impl Abort + Alloc<A = Global>), first: u64, pairs: u32) {
     let mut numbers = Numbers::new(first);
-    for _ in 0..PAIRS {
+    for _ in 0..pairs {
         let trial = play(rt, Trial::begin(rt), &mut numbers);
         let _audited = play(rt, trial, &mut numbers);
     }
@@ -58,27 +58,27 @@ fn run_lists(rt: &(impl Abort + Alloc<A = Global>), first: u64) {
 
 #[test]
 fn answers_as_the_plain_machines(rt: HostRuntime) {
-    play_lists(&rt, 2_026);
+    play_lists(&rt, 2_026, PAIRS);
 }
 
 #[test]
 fn answers_a_second_row_of_lists(rt: HostRuntime) {
-    play_lists(&rt, 2_027);
+    play_lists(&rt, 2_027, PAIRS);
 }
 
 #[test]
 fn answers_a_third_row_of_lists(rt: HostRuntime) {
-    play_lists(&rt, 2_028);
+    play_lists(&rt, 2_028, PAIRS);
 }
 
 #[test]
 fn answers_a_fourth_row_of_lists(rt: HostRuntime) {
-    play_lists(&rt, 2_029);
+    play_lists(&rt, 2_029, PAIRS);
 }
 
 #[test]
 fn answers_a_fifth_row_of_lists(rt: HostRuntime) {
-    play_lists(&rt, 2_030);
+    play_lists(&rt, 2_030, PAIRS);
 }
 
 #[test]

@@ -48,7 +48,7 @@ const SIGNED_ANEW: OfficeReply = OfficeReply::Key {
 
 /// Passes under the root before are good until the moment and not at it. A booking is repeated
 /// under the new one.
-static FOR_A_WHILE: [Step; 6] = [
+pub(crate) static FOR_A_WHILE: [Step; 6] = [
     Step::Asks(NOON, AMY, BOOK_7, BOOKED_7),
     Step::IsAnswered(
         Order::RotateKey(b"amy-1", SECOND_ROOT, SATURDAY),
@@ -66,7 +66,7 @@ fn serves_both_roots_for_a_while(rt: HostRuntime) {
 }
 
 /// The derived key of the root before is kept when that root is no longer good.
-static PAST: [Step; 3] = [
+pub(crate) static PAST: [Step; 3] = [
     Step::Asks(NOON, AMY, ACCOUNT, ACCOUNT_BEFORE),
     Step::Orders(Order::RotateKey(b"amy-1", SECOND_ROOT, LONG_AGO)),
     Step::Asks(NOON, AMY, ACCOUNT, NOT_VERIFIED),
@@ -78,7 +78,7 @@ fn forgets_a_root_that_is_past(rt: HostRuntime) {
 }
 
 /// The root that the key has is refused. Of two rotations the first root is dropped.
-static TWICE: [Step; 6] = [
+pub(crate) static TWICE: [Step; 6] = [
     Step::IsAnswered(
         Order::RotateKey(b"amy-1", ROOT, FAR_AHEAD),
         OfficeReply::Refused(Fault::Exists),

@@ -24,7 +24,7 @@ const BOOK_7_FOR_TWO: Asked = Asked::Book(COURT, 7, 1);
 const NUMBER_USED: Told = Told::Refused(Refusal::NumberUsed);
 
 /// A repeat is told the same, when the slot has begun and after its cancellation too.
-static REPEATS: [Step; 8] = [
+pub(crate) static REPEATS: [Step; 8] = [
     Step::Asks(NOON, AMY, BOOK_7, BOOKED_7),
     Step::Asks(START + 30, AMY, BOOK_7, BOOKED_7),
     Step::Asks(NOON, AMY, BOOK_7_FOR_TWO, NUMBER_USED),
@@ -49,7 +49,7 @@ const ALL_BACK: Told = Told::Cancelled(b"amy-1", 8, 601);
 const SLOT_HAS_BEGUN: Told = Told::Refused(Refusal::SlotHasBegun);
 
 /// The whole charge a day before the start, half of it a minute later, nothing from the start on.
-static REFUNDS: [[Step; 3]; 3] = [
+pub(crate) static REFUNDS: [[Step; 3]; 3] = [
     [
         Step::Asks(NOON, AMY, BOOK_ROOM, ROOM_BOOKED),
         Step::Asks(NOON, AMY, CANCEL_OTHER, NO_SUCH_BOOKING),
@@ -78,7 +78,7 @@ const STRANGER: Shown = Shown::Of(b"zed-1", ROOT, &[]);
 
 const KEY_REVOKED: Told = Told::Refused(Refusal::KeyRevoked);
 
-static VERIFIES: [Step; 6] = [
+pub(crate) static VERIFIES: [Step; 6] = [
     Step::Asks(NOON, STRANGER, ACCOUNT, NOT_VERIFIED),
     Step::Asks(NOON, Shown::Changed, ACCOUNT, NOT_VERIFIED),
     Step::Asks(NOON, Shown::Unnamed, ACCOUNT, NOT_VERIFIED),
@@ -99,14 +99,14 @@ const BOOKED_2: Told = Told::Booked(b"bob-1", 2, 200, 3);
 const FILLED_BY_7: Told = Told::Booked(b"amy-1", 7, 600, 0);
 
 /// What amy is told, whatever others do in other slots.
-static ALONE: [Step; 3] = [
+pub(crate) static ALONE: [Step; 3] = [
     Step::Asks(NOON, AMY, BOOK_7, BOOKED_7),
     Step::Asks(NOON, AMY, ACCOUNT, ACCOUNT_AFTER),
     Step::Asks(NOON, AMY, CANCEL_7, CANCELLED_7),
 ];
 
 /// A place of bob's in her slot changes the places that are left, and nothing else.
-static BESIDE_BOB: [Step; 4] = [
+pub(crate) static BESIDE_BOB: [Step; 4] = [
     Step::Asks(NOON, BOB, BOOK_2, BOOKED_2),
     Step::Asks(NOON, AMY, BOOK_7, FILLED_BY_7),
     Step::Asks(NOON, AMY, ACCOUNT, ACCOUNT_AFTER),
@@ -174,7 +174,7 @@ const BOOK_7_AT_22: Asked = Asked::Book(PlainSlot { hour: 22, ..COURT }, 7, 2);
 const NOT_BOOKABLE: Told = Told::Refused(Refusal::NotBookable);
 
 /// No more than 86,400 minutes ahead, before the start, and in the hours of opening.
-static WINDOW: [Step; 6] = [
+pub(crate) static WINDOW: [Step; 6] = [
     Step::Asks(START - 86_400, AMY, BOOK_7, BOOKED_7),
     Step::Asks(START - 86_401, AMY, BOOK_7, NOT_BOOKABLE),
     Step::Asks(START - 1, AMY, BOOK_7, BOOKED_7),
@@ -202,7 +202,7 @@ const BALANCE_TOO_LOW: Told = Told::Refused(Refusal::BalanceTooLow);
 
 const QUOTA_REACHED: Told = Told::Refused(Refusal::QuotaReached);
 
-static LIMITS: [Step; 9] = [
+pub(crate) static LIMITS: [Step; 9] = [
     Step::Orders(Order::AddMember(b"cy", 1)),
     Step::Orders(Order::Credit(b"cy", 100)),
     Step::Orders(Order::AddKey(b"cy-1", b"cy", ROOT)),
@@ -225,7 +225,7 @@ const BOOK_8: Asked = Asked::Book(COURT, 8, 0);
 
 const SLOT_CLOSED: Told = Told::Refused(Refusal::SlotClosed);
 
-static CLOSES: [Step; 7] = [
+pub(crate) static CLOSES: [Step; 7] = [
     Step::Asks(NOON, AMY, BOOK_7, BOOKED_7),
     Step::IsAnswered(CLOSE, OfficeReply::Refused(Fault::SlotInUse)),
     Step::Asks(NOON, AMY, VIEW, Told::Shown(3, false)),
@@ -265,11 +265,15 @@ fn hangs_out(rt: &impl Abort, counter: &mut Counter, day: u16, want: &str) {
     expect_eq(rt, &sheet.as_str(), &want);
 }
 
+pub(crate) fn expect_sheets(rt: &(impl Abort + Alloc<A = Global>)) {
+    let mut counter = opened(rt, Form::V2);
+    counter.plays(rt, &FILLED);
+    for (day, want) in &SHEETS {
+        hangs_out(rt, &mut counter, *day, want);
+    }
+}
+
 #[test]
 fn hangs_out_the_sheet_of_a_day(rt: HostRuntime) {
-    let mut counter = opened(&rt, Form::V2);
-    counter.plays(&rt, &FILLED);
-    for (day, want) in &SHEETS {
-        hangs_out(&rt, &mut counter, *day, want);
-    }
+    expect_sheets(&rt);
 }

@@ -3,20 +3,17 @@
 use crate::counter::{Counter, Step, empty_desk, opened, reply};
 use crate::expect::{expect_at, expect_eq};
 use crate::known;
+use crate::known::SIGNED;
 use crate::office::Order;
 use crate::passes::text_of;
 use crate::said::{ACCOUNT, Told};
 use crate::values::{NOON, name};
 use club_core::{Refusal, Reply};
-use club_gate::{OfficeReply, minted};
+use club_gate::minted;
 use pass_forms::Form;
 use std::alloc::Global;
 use std::process::Abort;
 use std::test::*;
-
-const SIGNED: OfficeReply = OfficeReply::Key {
-    signature: known::SIGNATURE,
-};
 
 static ADDS_A_KEY: [Step; 2] = [
     Step::Orders(Order::AddMember(b"amy", 5)),
@@ -24,7 +21,7 @@ static ADDS_A_KEY: [Step; 2] = [
 ];
 
 /// The pass of the key in V2 is this text.
-fn expect_text(rt: &(impl Abort + Alloc<A = Global>)) {
+pub(crate) fn expect_text(rt: &(impl Abort + Alloc<A = Global>)) {
     let name = name(rt, b"amy-1");
     let pass = minted(rt.alloc(), &name, known::SIGNATURE).expect(rt, "memory");
     let text = text_of(rt, Form::V2, &pass);
