@@ -31,6 +31,8 @@ mod office;
 #[cfg(test)]
 mod passes;
 #[cfg(test)]
+mod readings;
+#[cfg(test)]
 mod refusals;
 #[cfg(test)]
 mod refused_memory;
