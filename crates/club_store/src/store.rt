@@ -147,7 +147,8 @@ impl<S: Alter + Drop> Store<S> {
         mut connection: Connection<S>,
     ) -> Result<Store<S>, (StoreFault, Connection<S>)>
         ensures honest { IfOk result
-            (λ store. HasCleanDisk (state S.Store store) → HasCleanDisk (state S.Store connection)) }
+            (λ store. HasCleanDisk (state S.Store store)
+            → HasCleanDisk (state S.Store connection)) }
         ensures opened { IfOk result
             (λ store. HasCleanDisk (state S.Store store) → (club : Club) (others : _) → IsFound
             (state S.Store connection) club others → Stands (state S.Store store) club others) }

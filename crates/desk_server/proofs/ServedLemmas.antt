@@ -45,7 +45,8 @@ module _ {Clock Desk Connection : Type 0} (Told : Tells Clock) (Answers : â„• â†
     counted = rw (one, so_far.counted) (one_failure failures so_far.failed);
     answered = rw kept so_far.answered;
   }
-  answered_more n desk failures clock d f (Exchanged moment line outcome) clock' desk' failures' so_far (same, told, (bytes, begins, exchange), ended) = record {
+  answered_more n desk failures clock d f (Exchanged moment line outcome) clock' desk' failures' so_far
+      (same, told, (bytes, begins, exchange), ended) = record {
     exchanges = so_far.exchanges + 1;
     failed = so_far.failed;
     all = omega (arith, so_far.all);

@@ -76,9 +76,11 @@ fn tells_that_memory_is_refused(rt: HostRuntime) {
     expect_refusals(&rt, 1, StoreFault::Memory, Fault::Memory);
 }
 
+// The booking's second call is its view, and its third the change.
 #[test]
 fn tells_that_storage_is_refused(rt: HostRuntime) {
     expect_refusals(&rt, 2, StoreFault::Storage, Fault::Storage);
+    expect_refusals(&rt, 3, StoreFault::Storage, Fault::Storage);
 }
 
 // One byte too many.
