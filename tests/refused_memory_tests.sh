@@ -21,10 +21,9 @@ store_tests refused_memory::store_in_memory
 store_tests refused_memory::empty_database
 store_tests refused_memory::tables_of_version_1
 store_tests refused_memory::tables_of_version_2
-store_tests refused_memory::empty_files
-store_tests refused_memory::files_of_version_1
-store_tests refused_memory::files_of_version_2
-store_tests refused_memory::file_at_a_path
+store_tests refused_memory::new_file
+store_tests refused_memory::file_of_version_1
+store_tests refused_memory::file_of_version_2
 desk_tests refused_memory::orders
 desk_tests refused_memory::ask_in_v1
 desk_tests refused_memory::ask_in_v2
@@ -93,7 +92,8 @@ build() {
 
 # run NUMBER: the test with this allocation refused, or none for 0. Then there is the file `met` where it was reached.
 run() {
-    rm -f "$work/met"
+    rm -rf "$work/met" "$work/room"
+    mkdir "$work/room"
     status=0
     timeout 60 env TMPDIR="$work/room" REFUSED_ALLOCATION="$1" REFUSAL_TOLD="$work/met" LD_PRELOAD="$work/refuse.so" \
         "$program" "$test" >"$work/out" 2>&1 || status=$?
@@ -131,7 +131,6 @@ command -v cc >/dev/null || apt-get install -y gcc libc6-dev >/dev/null
 work=$(mktemp -d)
 trap 'rm -rf "$work"' EXIT
 trap 'exit 2' INT TERM
-mkdir "$work/room"
 cc -shared -fPIC -O1 -o "$work/refuse.so" "$here/refused_memory.c" -ldl
 
 if [ $# -gt 1 ]; then

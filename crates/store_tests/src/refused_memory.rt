@@ -7,10 +7,7 @@ use crate::steps::{Step, plays};
 use crate::versions::{MIGRATED, NOBODY, database, fill, runs, version};
 use club_core::StoreFault;
 use club_store::Store;
-use sqlite::{
-    Alter, Connection, Error, ErrorCode, FileFrom, FileStore, Files, MemStore, Options, Unknown,
-};
-use sqlite_disk::Memory;
+use sqlite::{Alter, Connection, FileFrom, FileStore, MemStore, Unknown};
 use std::alloc::Global;
 use std::process::Abort;
 use std::test::Fail;
@@ -128,61 +125,11 @@ fn store_in_memory(rt: HostRuntime) {
     plays(&rt, &mut new_store(&rt), &NOBODY);
 }
 
-type FileConnection = Connection<FileStore<Memory>>;
-
-fn open_files(
-    alloc: Global,
-    files: Files<Memory>,
-) -> Result<FileConnection, (Error, Files<Memory>)> {
-    if !files.may_be_used() {
-        return Err((Error::SqliteFailure(ErrorCode::CannotOpen), files));
-    }
-    match Connection::open_files(alloc, files, Options::new(7)) {
-        Ok(connection) => Ok(connection),
-        Err((error, left)) => Err((error, left.into_files())),
-    }
-}
-
-/// The database in files, by the second opening where the first is out of memory.
-fn connected(rt: &(impl Abort + Alloc<A = Global>), files: Files<Memory>) -> FileConnection {
-    match open_files(rt.alloc(), files) {
-        Ok(connection) => connection,
-        Err((error, left)) => {
-            expect_eq(rt, &error, &Error::SqliteFailure(ErrorCode::OutOfMemory));
-            open_files(rt.alloc(), left).ok().expect(rt, "opened")
-        }
-    }
-}
-
-/// Files that hold tables.
-fn files_of(rt: &(impl Abort + Alloc<A = Global>), tables: Tables) -> Files<Memory> {
-    let files = Files {
-        log: Memory::new(rt.alloc()),
-        db: Memory::new(rt.alloc()),
-    };
-    let mut connection = connected(rt, files);
+/// Makes tables in a file that isn't there yet.
+fn make_file(host: &HostRuntime, rt: &impl Abort, path: &str, tables: Tables) {
+    let mut connection = Connection::open(host, path).expect(rt, "a file");
     tables.make(rt, &mut connection);
-    connection.into_store().close()
-}
-
-fn opens_files(rt: &(impl Abort + Alloc<A = Global>), tables: Tables) {
-    let connection = connected(rt, files_of(rt, tables));
-    opens(rt, connection, tables);
-}
-
-#[test]
-fn empty_files(rt: HostRuntime) {
-    opens_files(&rt, Tables::No);
-}
-
-#[test]
-fn files_of_version_1(rt: HostRuntime) {
-    opens_files(&rt, Tables::First);
-}
-
-#[test]
-fn files_of_version_2(rt: HostRuntime) {
-    opens_files(&rt, Tables::Second);
+    connection.close().expect(rt, "closed");
 }
 
 /// The store in the file at a path, by the second opening where the first is out of memory.
@@ -202,8 +149,8 @@ fn opened_at(
     }
 }
 
-fn shows_nobody_at(host: &HostRuntime, rt: &(impl Abort + Alloc<A = Global>), path: &str) {
-    plays(rt, &mut opened_at(host, rt, path), &NOBODY);
+fn opens_at(host: &HostRuntime, rt: &(impl Abort + Alloc<A = Global>), path: &str, tables: Tables) {
+    plays(rt, &mut opened_at(host, rt, path), tables.shown());
 }
 
 /// A path of this process alone.
@@ -214,12 +161,40 @@ fn path_of(host: &HostRuntime) -> Result<String, Fail> {
     Ok(format!(in host.alloc(); "{folder}/club-{id}")?)
 }
 
+/// Removes a file, and its log, which may be gone already.
+fn remove(host: &HostRuntime, path: &str) -> Result<(), Fail> {
+    fs::remove_file(host, path)?;
+    let log = format!(in host.alloc(); "{path}-wal")?;
+    let _ = fs::remove_file(host, log.as_str());
+    Ok(())
+}
+
 /// A file that isn't there yet, and one that is.
 #[test]
-fn file_at_a_path(rt: HostRuntime) -> Result<(), Fail> {
+fn new_file(rt: HostRuntime) -> Result<(), Fail> {
     let path = path_of(&rt)?;
-    shows_nobody_at(&rt, &rt, path.as_str());
-    shows_nobody_at(&rt, &rt, path.as_str());
-    fs::remove_file(&rt, path.as_str())?;
-    Ok(())
+    opens_at(&rt, &rt, path.as_str(), Tables::No);
+    opens_at(&rt, &rt, path.as_str(), Tables::No);
+    remove(&rt, path.as_str())
+}
+
+fn opens_file(
+    host: &HostRuntime,
+    rt: &(impl Abort + Alloc<A = Global>),
+    tables: Tables,
+) -> Result<(), Fail> {
+    let path = path_of(host)?;
+    make_file(host, rt, path.as_str(), tables);
+    opens_at(host, rt, path.as_str(), tables);
+    remove(host, path.as_str())
+}
+
+#[test]
+fn file_of_version_1(rt: HostRuntime) -> Result<(), Fail> {
+    opens_file(&rt, &rt, Tables::First)
+}
+
+#[test]
+fn file_of_version_2(rt: HostRuntime) -> Result<(), Fail> {
+    opens_file(&rt, &rt, Tables::Second)
 }
