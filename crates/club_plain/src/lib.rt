@@ -5,6 +5,7 @@
 mod apply;
 mod club;
 mod edits;
+mod lists;
 mod rows;
 mod solo;
 mod step;

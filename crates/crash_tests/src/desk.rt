@@ -1,0 +1,87 @@
+//! Events at a desk, and the texts of their replies.
+
+use crate::events::{Event, moment};
+use crate::expect::{expect_eq, push, text};
+use club_core::{ClubStore, Reply};
+use club_gate::OfficeReply;
+use club_http::{
+    Desk, Face, MAX_REPLY_LEN, ReadInlet, Routes, WriteOutlet, answer, reply_bytes, words_of,
+};
+use std::alloc::Global;
+use std::process::Abort;
+
+/// The bytes of a reply.
+pub(crate) fn reply_text(rt: &(impl Abort + Alloc<A = Global>), reply: &Reply) -> String {
+    let mut room = [0; MAX_REPLY_LEN];
+    let len = reply_bytes(reply, &mut room);
+    let bytes = room[..len].to_vec(rt.alloc()).expect(rt, "memory");
+    String::from_utf8(bytes).ok().expect(rt, "a text")
+}
+
+/// What the office is answered: `done`, the signature of a pass, or why nothing was done.
+pub(crate) fn office_text(rt: &(impl Abort + Alloc<A = Global>), reply: &OfficeReply) -> String {
+    match reply {
+        OfficeReply::Done => text(rt, format!(in rt.alloc(); "done")),
+        OfficeReply::Key { signature } => text(rt, hex::encode(rt.alloc(), *signature)),
+        OfficeReply::Refused(fault) => text(rt, format!(in rt.alloc(); "{fault}")),
+    }
+}
+
+/// The desk is asked what the bytes of a request ask.
+fn asked<S: ClubStore>(
+    rt: &(impl Abort + Alloc<A = Global>),
+    desk: &mut Desk<S>,
+    at: &str,
+    bytes: &str,
+) -> String {
+    let routes = Routes::new(rt.alloc()).expect(rt, "routes");
+    let Ok(words) = words_of(&routes, bytes.as_bytes()) else {
+        panic!(rt; "no words");
+    };
+    let reply = desk.ask(moment(rt, at), &words);
+    reply_text(rt, &reply)
+}
+
+/// The bytes of a request are read, and what is written is the reply and nothing else.
+fn exchanged<S: ClubStore>(
+    rt: &(impl Abort + Alloc<A = Global>),
+    desk: &mut Desk<S>,
+    at: &str,
+    bytes: &str,
+) -> String {
+    let mut face = Face::new(rt.alloc()).expect(rt, "a face");
+    let mut reader = ReadInlet::new(bytes.as_bytes());
+    let mut output = Vec::new(rt.alloc());
+    let mut writer = WriteOutlet::new(&mut output);
+    let reply = answer(&mut face, desk, moment(rt, at), &mut reader, &mut writer);
+    let reply = reply.ok().expect(rt, "a reply");
+    let written = String::from_utf8(output).ok().expect(rt, "a text");
+    expect_eq(rt, "written", &written, &reply_text(rt, &reply));
+    written
+}
+
+/// The reply to an event.
+fn reply<S: ClubStore>(
+    rt: &(impl Abort + Alloc<A = Global>),
+    desk: &mut Desk<S>,
+    event: &Event,
+) -> String {
+    match event {
+        Event::Orders(order) => office_text(rt, &desk.office(&order.command(rt))),
+        Event::Asks(at, bytes) => asked(rt, desk, at, bytes),
+        Event::Exchanges(at, bytes) => exchanged(rt, desk, at, bytes),
+    }
+}
+
+/// The replies to events, one after the other.
+pub(crate) fn replies<S: ClubStore>(
+    rt: &(impl Abort + Alloc<A = Global>),
+    desk: &mut Desk<S>,
+    events: &[Event],
+) -> Vec<String> {
+    let mut replies = Vec::new(rt.alloc());
+    for event in events {
+        push(rt, &mut replies, reply(rt, desk, event));
+    }
+    replies
+}

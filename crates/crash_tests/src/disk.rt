@@ -1,0 +1,98 @@
+//! Two files in memory, of which one stops after so many calls.
+
+use sqlite::Files;
+use sqlite_disk::{Crash, Disk, Fuse, Memory};
+use std::alloc::Global;
+use std::process::Abort;
+
+/// A file that fails from some call on.
+pub(crate) type Stops = Fuse<Memory>;
+
+/// The log beside the database, and the database itself.
+#[derive(Clone, Copy)]
+pub(crate) enum Part {
+    Log,
+    Database,
+}
+
+/// What the files hold.
+#[derive(Drop)]
+pub(crate) struct Bytes {
+    log: Vec<u8>,
+    db: Vec<u8>,
+}
+
+/// A disk of these bytes.
+fn disk(rt: &(impl Abort + Alloc<A = Global>), bytes: &[u8]) -> Memory {
+    let mut disk = Memory::new(rt.alloc());
+    if disk.may_be_used() && !bytes.is_empty() {
+        disk.write_at(0, bytes).expect(rt, "written");
+        disk.sync().expect(rt, "synced");
+    }
+    disk
+}
+
+/// Whatever is in the file, synced or not.
+fn bytes_in(rt: &(impl Abort + Alloc<A = Global>), file: &Stops) -> Vec<u8> {
+    Vec::from_slice(rt.alloc(), file.inner().bytes()).expect(rt, "memory")
+}
+
+impl Bytes {
+    /// None.
+    pub fn none(rt: &impl Alloc<A = Global>) -> Bytes {
+        Bytes {
+            log: Vec::new(rt.alloc()),
+            db: Vec::new(rt.alloc()),
+        }
+    }
+
+    /// What a process leaves in these files that ends where the machine goes on: all of it.
+    pub fn left_in(rt: &(impl Abort + Alloc<A = Global>), files: &Files<Stops>) -> Bytes {
+        Bytes {
+            log: bytes_in(rt, &files.log),
+            db: bytes_in(rt, &files.db),
+        }
+    }
+
+    /// Files that never stop.
+    pub fn files(&self, rt: &(impl Abort + Alloc<A = Global>)) -> Files<Stops> {
+        self.stopping(rt, Part::Log, u64::MAX)
+    }
+
+    /// Files of which one stops after so many calls.
+    pub fn stopping(
+        &self,
+        rt: &(impl Abort + Alloc<A = Global>),
+        part: Part,
+        calls: u64,
+    ) -> Files<Stops> {
+        let (log, db) = match part {
+            Part::Log => (calls, u64::MAX),
+            Part::Database => (u64::MAX, calls),
+        };
+        Files {
+            log: Fuse::new(disk(rt, self.log.as_slice()), log),
+            db: Fuse::new(disk(rt, self.db.as_slice()), db),
+        }
+    }
+}
+
+/// Whether a file would take a call more.
+fn takes_a_call(file: &mut Stops) -> bool {
+    file.may_be_used() && file.len().is_ok()
+}
+
+/// Whether that one of the files would have taken a call more.
+pub(crate) fn has_calls_left(files: &mut Files<Stops>, part: Part) -> bool {
+    match part {
+        Part::Log => takes_a_call(&mut files.log),
+        Part::Database => takes_a_call(&mut files.db),
+    }
+}
+
+/// The machine comes back: what was not synced is lost, and no call stops.
+pub(crate) fn restarted(mut files: Files<Stops>) -> Files<Stops> {
+    files.log.crash();
+    files.db.crash();
+    files
+}

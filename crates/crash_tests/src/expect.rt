@@ -1,0 +1,25 @@
+//! What a test expects.
+
+use std::alloc::AllocError;
+use std::fmt::Debug;
+use std::process::Abort;
+
+/// Ends the test unless the values are equal, and names the case.
+pub(crate) fn expect_eq<T: PartialEq + Debug>(rt: &impl Abort, case: &str, found: &T, want: &T) {
+    assert_eq!(rt; found, want, "{case}");
+}
+
+/// Adds a value at the end.
+pub(crate) fn push<T: Drop>(rt: &impl Abort, values: &mut Vec<T>, value: T) {
+    values.push(value).expect(rt, "memory");
+}
+
+/// Adds lines at the end of others.
+pub(crate) fn append(rt: &impl Abort, lines: &mut Vec<String>, mut more: Vec<String>) {
+    lines.append(&mut more).expect(rt, "memory");
+}
+
+/// A text for which there was memory.
+pub(crate) fn text(rt: &impl Abort, text: Result<String, AllocError>) -> String {
+    text.expect(rt, "memory")
+}

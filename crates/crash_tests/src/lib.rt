@@ -1,0 +1,26 @@
+//! Tests of crashes: a task at a desk over two files, of which one stops at each of its calls in
+//! turn, and the club that a store finds which is opened on what the crash left.
+#![tactic(auto)]
+
+#[cfg(test)]
+mod crash;
+#[cfg(test)]
+mod desk;
+#[cfg(test)]
+mod disk;
+#[cfg(test)]
+mod events;
+#[cfg(test)]
+mod expect;
+#[cfg(test)]
+mod plain;
+#[cfg(test)]
+mod tables;
+#[cfg(test)]
+mod tasks;
+#[cfg(test)]
+mod texts;
+#[cfg(test)]
+mod version_1;
+#[cfg(test)]
+mod work;

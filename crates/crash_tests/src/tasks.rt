@@ -1,0 +1,145 @@
+//! The tasks in which a disk stops.
+
+use crate::crash::{Beginning, Trial};
+use crate::events::{Event, Order, ROOT, SECOND_ROOT};
+use crate::texts::{
+    ACCOUNT, AMY_1_ANEW, AMY_2, BALANCE_9099, BALANCE_9400, BALANCE_10000, BOOK_7, BOOK_8,
+    BOOKED_7, BOOKED_8, CANCEL_7, CANCEL_8, CANCELLED_7, DAY_BEFORE, DONE, EXISTS, NOON,
+};
+use std::test::*;
+
+/// By `Desk::ask`.
+static BOOKS: Trial = Trial {
+    beginning: Beginning::Made(&[]),
+    task: &[Event::Asks(NOON, BOOK_7)],
+    again: &[Event::Asks(NOON, BOOK_7), Event::Asks(NOON, ACCOUNT)],
+    first: &[BOOKED_7, BALANCE_9400],
+    repeated: &[BOOKED_7, BALANCE_9400],
+    calls: [52, 62],
+};
+
+#[test]
+fn books_whole_or_not_at_all(rt: HostRuntime) {
+    BOOKS.holds(&rt);
+}
+
+/// By `answer`.
+static EXCHANGES: Trial = Trial {
+    beginning: Beginning::Made(&[]),
+    task: &[Event::Exchanges(NOON, BOOK_7)],
+    again: &[
+        Event::Exchanges(NOON, BOOK_7),
+        Event::Exchanges(NOON, ACCOUNT),
+    ],
+    first: &[BOOKED_7, BALANCE_9400],
+    repeated: &[BOOKED_7, BALANCE_9400],
+    calls: [52, 62],
+};
+
+#[test]
+fn exchanges_a_booking_whole_or_not_at_all(rt: HostRuntime) {
+    EXCHANGES.holds(&rt);
+}
+
+static CANCELS: Trial = Trial {
+    beginning: Beginning::Made(&[Event::Asks(NOON, BOOK_7)]),
+    task: &[Event::Asks(NOON, CANCEL_7)],
+    again: &[
+        Event::Asks(NOON, CANCEL_7),
+        Event::Asks(NOON, BOOK_7),
+        Event::Asks(NOON, ACCOUNT),
+    ],
+    first: &[CANCELLED_7, BOOKED_7, BALANCE_10000],
+    repeated: &[CANCELLED_7, BOOKED_7, BALANCE_10000],
+    calls: [48, 60],
+};
+
+#[test]
+fn cancels_whole_or_not_at_all(rt: HostRuntime) {
+    CANCELS.holds(&rt);
+}
+
+const ADD_KEY: Event = Event::Orders(Order::AddKey("amy-2", "amy", ROOT));
+
+static ADDS_A_KEY: Trial = Trial {
+    beginning: Beginning::Made(&[]),
+    task: &[ADD_KEY],
+    again: &[ADD_KEY],
+    first: &[AMY_2],
+    repeated: &[EXISTS],
+    calls: [48, 60],
+};
+
+#[test]
+fn adds_a_key_whole_or_not_at_all(rt: HostRuntime) {
+    ADDS_A_KEY.holds(&rt);
+}
+
+/// While the slot before it is booked.
+const CLOSE_AT_19: Event = Event::Orders(Order::CloseSlot(19));
+
+static CLOSES: Trial = Trial {
+    beginning: Beginning::Made(&[Event::Asks(NOON, BOOK_7)]),
+    task: &[CLOSE_AT_19],
+    again: &[CLOSE_AT_19],
+    first: &[DONE],
+    repeated: &[EXISTS],
+    calls: [46, 59],
+};
+
+#[test]
+fn closes_a_slot_or_not(rt: HostRuntime) {
+    CLOSES.holds(&rt);
+}
+
+const ROTATE: Event = Event::Orders(Order::RotateKey("amy-1", SECOND_ROOT, "2026-04-25T00:00"));
+
+static ROTATES: Trial = Trial {
+    beginning: Beginning::Made(&[]),
+    task: &[ROTATE],
+    again: &[ROTATE, Event::Asks(NOON, ACCOUNT)],
+    first: &[AMY_1_ANEW, BALANCE_10000],
+    repeated: &[EXISTS, BALANCE_10000],
+    calls: [48, 60],
+};
+
+#[test]
+fn rotates_a_key_whole_or_not_at_all(rt: HostRuntime) {
+    ROTATES.holds(&rt);
+}
+
+static MAKES_TABLES: Trial = Trial {
+    beginning: Beginning::Nothing,
+    task: &[],
+    again: &[],
+    first: &[],
+    repeated: &[],
+    calls: [61, 31],
+};
+
+#[test]
+fn makes_all_tables_or_none(rt: HostRuntime) {
+    MAKES_TABLES.holds(&rt);
+}
+
+static MIGRATES: Trial = Trial {
+    beginning: Beginning::First(&[
+        Event::Asks(NOON, BOOK_7),
+        Event::Asks(NOON, BOOK_8),
+        Event::Asks(DAY_BEFORE, CANCEL_8),
+    ]),
+    task: &[],
+    again: &[
+        Event::Asks(NOON, BOOK_7),
+        Event::Asks(NOON, BOOK_8),
+        Event::Asks(NOON, ACCOUNT),
+    ],
+    first: &[BOOKED_7, BOOKED_8, BALANCE_9099],
+    repeated: &[BOOKED_7, BOOKED_8, BALANCE_9099],
+    calls: [50, 55],
+};
+
+#[test]
+fn migrates_whole_or_not_at_all(rt: HostRuntime) {
+    MIGRATES.holds(&rt);
+}
