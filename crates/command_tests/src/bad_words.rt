@@ -116,7 +116,14 @@ static HELP: [(Words, Words); 8] = [
     (&["passtool", "help", "mint"], &[USAGE, EXAMPLE]),
     (&["passtool", "mint", "--help"], &[USAGE, EXAMPLE]),
     (&["passtool", "show", "-h"], &[USAGE, EXAMPLE]),
-    (&["passtool", "narrow", "--help"], &[USAGE, EXAMPLE]),
+    (
+        &["passtool", "narrow", "--help"],
+        &[
+            USAGE,
+            EXAMPLE,
+            "\n  weekday = DAY,..          weekday = sat,sun (of mon,tue,wed,thu,fri,sat,sun, in this order)\n",
+        ],
+    ),
     (&["passtool", "convert", "--help"], &[USAGE, EXAMPLE]),
     (
         &["passtool", "verify", "--root", ROOT, "--help"],
@@ -155,6 +162,7 @@ const CAVEATS: Words = &[
     "guests <= 2",
     "spend <= 600",
     "actions = view,book",
+    "weekday = sat,sun",
 ];
 
 #[test]

@@ -2,8 +2,9 @@
 
 use crate::runs::End::{Begins, Writes};
 use crate::runs::{
-    BARE_TEXT, End, IDENTIFIER, JSON_TEXT, MALFORMED, NARROW, OTHER_JSON, OTHER_TEXT, OTHER_V2,
-    ROOT, Row, TEXT, TO_JSON, TO_V1, TO_V2, V2_TEXT, Words, expect, expect_all_unread, expect_rows,
+    BARE_TEXT, End, IDENTIFIER, JSON_TEXT, MALFORMED, MINT, NARROW, OTHER_JSON, OTHER_TEXT,
+    OTHER_V2, ROOT, Row, SHOW, SHOWN, TEXT, TO_JSON, TO_V1, TO_V2, V2_TEXT, VERIFY, Words, expect,
+    expect_all_unread, expect_rows,
 };
 
 static CONVERSIONS: [Row; 12] = [
@@ -20,6 +21,23 @@ static CONVERSIONS: [Row; 12] = [
     Row(TO_V2, OTHER_V2, Writes(OTHER_V2)),
     Row(TO_JSON, OTHER_V2, Writes(OTHER_JSON)),
 ];
+
+// Each command.
+static ANSWERED: [Row; 7] = [
+    Row(VERIFY, TEXT, Writes("signed")),
+    Row(SHOW, TEXT, Writes(SHOWN)),
+    Row(TO_V1, TEXT, Writes(TEXT)),
+    Row(TO_V1, OTHER_V2, Writes(OTHER_TEXT)),
+    Row(TO_JSON, OTHER_V2, Writes(OTHER_JSON)),
+    Row(NARROW, BARE_TEXT, Writes(TEXT)),
+    Row(MINT, "", Writes(V2_TEXT)),
+];
+
+// With ample memory each command answers, and doesn't end for want of it.
+#[test]
+fn answers_with_ample_memory(rt: HostRuntime) {
+    expect_rows(&rt, &ANSWERED);
+}
 
 #[test]
 fn converts_every_form_to_every_form(rt: HostRuntime) {
@@ -192,6 +210,37 @@ static NARROWED: [Row; 3] = [
 #[test]
 fn narrows_in_the_form_it_came_in(rt: HostRuntime) {
     expect_rows(&rt, &NARROWED);
+}
+
+const FRIDAYS: Words = &["passtool", "narrow", "weekday = fri"];
+
+static NARROWED_TO_FRIDAYS: [Row; 3] = [
+    Row(
+        FRIDAYS,
+        TEXT,
+        Writes(
+            "MDAxY2xvY2F0aW9uIGh0dHA6Ly9teWJhbmsvCjAwMjZpZGVudGlmaWVyIHdlIHVzZWQgb3VyIHNlY3JldCBrZXkKMDAxNmNpZCB0ZXN0ID0gY2F2ZWF0CjAwMTZjaWQgd2Vla2RheSA9IGZyaQowMDJmc2lnbmF0dXJlIOCJPKhxcZk4uV_uzhE34LHxO85T7Ga7-rsgg_EtqqKICg",
+        ),
+    ),
+    Row(
+        FRIDAYS,
+        V2_TEXT,
+        Writes(
+            "AgEOaHR0cDovL215YmFuay8CFndlIHVzZWQgb3VyIHNlY3JldCBrZXkAAg10ZXN0ID0gY2F2ZWF0AAINd2Vla2RheSA9IGZyaQAABiDgiTyocXGZOLlf7s4RN-Cx8TvOU-xmu_q7IIPxLaqiiA",
+        ),
+    ),
+    Row(
+        FRIDAYS,
+        JSON_TEXT,
+        Writes(
+            "{\"c\":[{\"i\":\"test = caveat\"},{\"i\":\"weekday = fri\"}],\"i\":\"we used our secret key\",\"l\":\"http://mybank/\",\"s64\":\"4Ik8qHFxmTi5X-7OETfgsfE7zlPsZrv6uyCD8S2qoog\",\"v\":2}",
+        ),
+    ),
+];
+
+#[test]
+fn narrows_to_a_weekday_in_each_form(rt: HostRuntime) {
+    expect_rows(&rt, &NARROWED_TO_FRIDAYS);
 }
 
 static NOT_UNDERSTOOD: [(Words, End); 3] = [
