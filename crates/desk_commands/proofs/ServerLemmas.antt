@@ -72,14 +72,17 @@ module _ {Clock Desk Connection : Type 0} (Told : Tells Clock) (Answers : ℕ �
 
     pub stopped_over_socket : IsStopped Told Answers Ended count clock desk 0 clock' desk' failures Besides
         → ServesAll Told Answers count clock desk clock' desk' (Err ClockOutOfRange)
-    stopped_over_socket stop = (failures, record {
-      fates = stop.fates;
-      last = stop.last;
-      fewer = stop.fewer;
-      before = are_over_socket clock desk 0 stop.fates stop.last desk' failures stop.before;
-      no_moment = stop.no_moment;
-      besides = tt;
-    })
+    stopped_over_socket stop = (
+      failures,
+      record {
+        fates = stop.fates;
+        last = stop.last;
+        fewer = stop.fewer;
+        before = are_over_socket clock desk 0 stop.fates stop.last desk' failures stop.before;
+        no_moment = stop.no_moment;
+        besides = tt;
+      },
+    )
 
 -- what is served by a clock that stays as it is, is served at the moments that it shows
 module _ {Told_by Desk : Type 0} (Told : Tells Told_by) (clock : Clock) (Answers : ℕ → Asks Desk) (moments : Told_by) (desk : Desk)

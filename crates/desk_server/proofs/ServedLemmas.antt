@@ -47,12 +47,12 @@ module _ {Clock Desk Connection : Type 0} (Told : Tells Clock) (Answers : â„• â†
   }
   answered_more n desk failures clock d f (Exchanged moment line outcome) clock' desk' failures' so_far
       (same, told, (bytes, begins, exchange), ended) = record {
-    exchanges = so_far.exchanges + 1;
-    failed = so_far.failed;
-    all = omega (arith, so_far.all);
-    counted = rw same so_far.counted;
-    answered = spec.another so_far.exchanges d desk' moment bytes outcome so_far.answered exchange;
-  }
+        exchanges = so_far.exchanges + 1;
+        failed = so_far.failed;
+        all = omega (arith, so_far.all);
+        counted = rw same so_far.counted;
+        answered = spec.another so_far.exchanges d desk' moment bytes outcome so_far.answered exchange;
+      }
   answered_more n desk failures clock d f Unanswered clock' desk' failures' so_far never = absurd never
 
   -- what the desk did, of all that was done
