@@ -1,14 +1,18 @@
 // Refuses the allocation whose number the variable REFUSED_ALLOCATION tells, counted from 1, and then makes the file whose path
-// the variable REFUSAL_TOLD tells, if any. Loaded before the C library.
+// the variable REFUSAL_TOLD tells, if any. A program that ends by itself writes how many allocations it made into the file whose
+// path the variable ALLOCATIONS_COUNTED tells, if any. Loaded before the C library.
 #define _GNU_SOURCE
 #include <dlfcn.h>
 #include <errno.h>
 #include <fcntl.h>
+#include <stdio.h>
 #include <stdlib.h>
 #include <unistd.h>
 
+static long seen;
+
 static int refuses(void) {
-    static long refused = -1, seen;
+    static long refused = -1;
     if (refused < 0) {
         const char *number = getenv("REFUSED_ALLOCATION");
         refused = number ? atol(number) : 0;
@@ -31,4 +35,14 @@ void *realloc(void *old, size_t size) {
     static void *(*next)(void *, size_t);
     if (!next) next = dlsym(RTLD_NEXT, "realloc");
     return refuses() ? NULL : next(old, size);
+}
+
+__attribute__((destructor)) static void count(void) {
+    const char *counted = getenv("ALLOCATIONS_COUNTED");
+    if (!counted) return;
+    char text[24];
+    int length = snprintf(text, sizeof text, "%ld\n", seen);
+    int file = open(counted, O_CREAT | O_TRUNC | O_WRONLY, 0600);
+    if (write(file, text, length) != length) abort();
+    close(file);
 }

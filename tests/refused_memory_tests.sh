@@ -90,47 +90,59 @@ build() {
     touch -r "$out/tests.started" "$program"
 }
 
-# run NUMBER: the test with this allocation refused, or none for 0. Then there is the file `met` where it was reached.
-run() {
-    rm -rf "$work/met" "$work/room"
-    mkdir "$work/room"
-    status=0
-    timeout 60 env TMPDIR="$work/room" REFUSED_ALLOCATION="$1" REFUSAL_TOLD="$work/met" LD_PRELOAD="$work/refuse.so" \
-        "$program" "$test" >"$work/out" 2>&1 || status=$?
-}
+# Runs one test with each of these allocations refused, in a folder of its own for each. Leaves a line in `refused` for each that
+# was refused, one in `ended` for each run that ends with out of memory, and in the folder `bad` the output of one that fails
+# otherwise.
+if [ "${1:-}" = --refuse ]; then
+    work=$2 room=$3 program=$4 test=$5
+    shift 5
+    for number; do
+        mkdir "$room/$number"
+        status=0
+        timeout 60 env TMPDIR="$room/$number" REFUSED_ALLOCATION="$number" REFUSAL_TOLD="$room/$number/refused" \
+            LD_PRELOAD="$work/refuse.so" "$program" "$test" >"$room/$number/output" 2>&1 || status=$?
+        if [ -e "$room/$number/refused" ]; then echo "$number" >>"$work/refused"; fi
+        if [ "$status" = 0 ]; then
+            :
+        elif grep -Eq 'Memory|AllocError|AllocFailed' "$room/$number/output"; then
+            echo "$number" >>"$work/ended"
+        else
+            { echo "status $status"; cat "$room/$number/output"; } >"$work/bad/$number"
+        fi
+        rm -rf "$room/$number"
+    done
+    exit 0
+fi
 
-# Runs one test with each allocation refused.
+# Runs one test with ample memory, and then with each of its allocations refused, as many runs side by side as there are processors.
 refuse() {
     "$program" --list >"$work/tests"
     grep -qxF "$test: test" "$work/tests" || fail "$crate has no test $test"
-    run 0
-    [ "$status" = 0 ] || { cat "$work/out" >&2; fail "$crate $test: status $status with ample memory"; }
-    ended=0
-    number=1
-    while :; do
-        run "$number"
-        # The run made fewer allocations.
-        [ -e "$work/met" ] || break
-        if [ "$status" != 0 ]; then
-            if ! grep -Eq 'Memory|AllocError|AllocFailed' "$work/out"; then
-                cat "$work/out" >&2
-                fail "$crate $test, allocation $number refused: status $status"
-            fi
-            ended=$((ended + 1))
-        fi
-        number=$((number + 1))
-    done
-    number=$((number - 1))
-    [ "$number" -gt 0 ] || fail "$crate $test: no allocation was seen"
-    echo "$crate $test: of $number allocations, refused in turn, $ended ended the run, each with out of memory"
+    : >"$work/counted"
+    : >"$work/refused"
+    : >"$work/ended"
+    timeout 60 env TMPDIR="$room" ALLOCATIONS_COUNTED="$work/counted" LD_PRELOAD="$work/refuse.so" \
+        "$program" "$test" >"$work/output" 2>&1 || { cat "$work/output" >&2; fail "$crate $test fails with ample memory"; }
+    seq "$(cat "$work/counted")" |
+        xargs -r -P "$(nproc)" -n 20 "$here/refused_memory_tests.sh" --refuse "$work" "$room" "$program" "$test" ||
+        fail "$crate $test: could not be run"
+    bad=$(ls "$work/bad" | sort -n | head -n 1)
+    [ -z "$bad" ] || { cat "$work/bad/$bad" >&2; fail "$crate $test: fails otherwise where allocation $bad is refused"; }
+    count=$(wc -l <"$work/refused")
+    [ "$count" -gt 0 ] || fail "$crate $test: no allocation was seen"
+    echo "$crate $test: of $count allocations, refused in turn, $(wc -l <"$work/ended") ended the run, each with out of memory"
     tests=$((tests + 1))
-    allocations=$((allocations + number))
+    allocations=$((allocations + count))
 }
 
 command -v cc >/dev/null || apt-get install -y gcc libc6-dev >/dev/null
 work=$(mktemp -d)
-trap 'rm -rf "$work"' EXIT
+# Files of the tests lie in memory, where a sync costs nothing.
+room=$work/room
+if [ -w /dev/shm ]; then room=$(mktemp -d -p /dev/shm); else mkdir "$room"; fi
+trap 'rm -rf "$work" "$room"' EXIT
 trap 'exit 2' INT TERM
+mkdir "$work/bad"
 cc -shared -fPIC -O1 -o "$work/refuse.so" "$here/refused_memory.c" -ldl
 
 if [ $# -gt 1 ]; then
