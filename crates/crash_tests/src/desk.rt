@@ -7,6 +7,7 @@ use club_gate::OfficeReply;
 use club_http::{
     Desk, Face, MAX_REPLY_LEN, ReadInlet, Routes, WriteOutlet, answer, reply_bytes, words_of,
 };
+use pass_caveats::Day;
 use std::alloc::Global;
 use std::process::Abort;
 
@@ -84,4 +85,15 @@ pub(crate) fn replies<S: ClubStore>(
         push(rt, &mut replies, reply(rt, desk, event));
     }
     replies
+}
+
+/// The sheet of 2026-05-01.
+pub(crate) fn sheet<S: ClubStore>(
+    rt: &(impl Abort + Alloc<A = Global>),
+    desk: &mut Desk<S>,
+) -> Vec<String> {
+    let day = Day::read(b"2026-05-01").expect(rt, "a day");
+    let mut lines = Vec::new(rt.alloc());
+    push(rt, &mut lines, desk.sheet(day).expect(rt, "a sheet"));
+    lines
 }

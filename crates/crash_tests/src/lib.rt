@@ -15,6 +15,8 @@ mod expect;
 #[cfg(test)]
 mod plain;
 #[cfg(test)]
+mod real_files;
+#[cfg(test)]
 mod tables;
 #[cfg(test)]
 mod tasks;

@@ -1,6 +1,6 @@
 //! What is done over a database in two files.
 
-use crate::desk::replies;
+use crate::desk::{replies, sheet};
 use crate::disk::Stops;
 use crate::events::Event;
 use crate::expect::append;
@@ -19,7 +19,9 @@ pub(crate) enum Work {
     Runs(&'static [&'static str]),
     /// A desk is opened, at which this happens.
     Serves(&'static [Event]),
-    /// The same, between two readings of each row of each table.
+    /// The sheet of 2026-05-01 is printed.
+    Prints,
+    /// As `Serves`, between two readings of each row of each table.
     Inspects(&'static [Event]),
 }
 
@@ -45,6 +47,21 @@ fn served<S: Alter + Drop>(
     }
 }
 
+/// The sheet that a desk over the database prints; `None` where no store takes it.
+fn printed<S: Alter + Drop>(
+    rt: &(impl Abort + Alloc<A = Global>),
+    connection: Connection<S>,
+) -> (Option<Vec<String>>, Connection<S>) {
+    match Store::adopt(rt.alloc(), connection) {
+        Ok(store) => {
+            let mut desk = Desk::new(rt.alloc(), store);
+            let lines = sheet(rt, &mut desk);
+            (Some(lines), desk.into_store().into_connection())
+        }
+        Err((_, connection)) => (None, connection),
+    }
+}
+
 /// The rows of the database, the replies of a desk over it, and the rows then.
 fn inspected<S: Alter + Drop>(
     rt: &(impl Abort + Alloc<A = Global>),
@@ -58,7 +75,8 @@ fn inspected<S: Alter + Drop>(
     (Some(lines), connection)
 }
 
-fn worked<S: Alter + Drop>(
+/// Does this over a database: the lines that come of it, `None` where no store takes it.
+pub(crate) fn worked<S: Alter + Drop>(
     rt: &(impl Abort + Alloc<A = Global>),
     mut connection: Connection<S>,
     work: Work,
@@ -69,6 +87,7 @@ fn worked<S: Alter + Drop>(
             (Some(Vec::new(rt.alloc())), connection)
         }
         Work::Serves(events) => served(rt, connection, events),
+        Work::Prints => printed(rt, connection),
         Work::Inspects(events) => inspected(rt, connection, events),
     }
 }

@@ -1,0 +1,121 @@
+//! Real files: one whose last booking lies in its log alone, and the laws of crashes at two.
+
+use crate::events::{Event, FIXTURE};
+use crate::expect::expect_eq;
+use crate::texts::{BOOK_7, BOOKED_7, DONE, NOON};
+use crate::work::{Work, worked};
+use club_store::Store;
+use club_store::laws::{files_hold_one_of, memory_is_honest, one_stands_again};
+use desk_law::served_survives_a_crash;
+use sqlite::{FileFrom, FileStore, MemStore, Unknown};
+use std::alloc::Global;
+use std::process::Abort;
+use std::test::*;
+use std::{env, fs, process};
+
+/// A store over a real file.
+type RealStore = Store<FileStore<FileFrom<Unknown>>>;
+
+/// A path of this process alone.
+fn new_path(rt: &HostRuntime, name: &str) -> Result<String, Fail> {
+    let folder = env::temp_dir(rt)?;
+    let folder = folder.as_str();
+    let id = process::id(rt.process());
+    Ok(format!(in rt.alloc(); "{folder}/crash-{name}-{id}")?)
+}
+
+/// Removes a database and its log.
+fn remove(rt: &HostRuntime, path: &str) {
+    let _ = fs::remove_file(rt, path);
+    if let Ok(log) = format!(in rt.alloc(); "{path}-wal") {
+        let _ = fs::remove_file(rt, log.as_str());
+    }
+}
+
+/// The store over the file at a path.
+fn opened(rt: &HostRuntime, path: &str) -> Result<RealStore, Fail> {
+    match Store::open_file(rt, path, Unknown) {
+        Ok(store) => Ok(store),
+        Err(_) => Err("not opened".into()),
+    }
+}
+
+/// What is done over a real file.
+#[derive(Clone, Copy)]
+enum Visit {
+    /// The fixture is made, and the file is closed.
+    Makes,
+    /// The booking is made, and the desk and the file are dropped.
+    Books,
+    /// The sheet of the day is printed.
+    Prints,
+}
+
+const SHEET: &str = "Day sheet 2026-05-01\n\
+    court-1                  18:00 amy-1                            7  3    600\n\
+    Total bookings 1, persons 3, charge 600\n";
+
+static BOOKS: [Event; 1] = [Event::Asks(NOON, BOOK_7)];
+
+impl Visit {
+    fn work(self) -> Work {
+        match self {
+            Visit::Makes => Work::Serves(&FIXTURE),
+            Visit::Books => Work::Serves(&BOOKS),
+            Visit::Prints => Work::Prints,
+        }
+    }
+
+    /// The last line that comes of it.
+    fn line(self) -> &'static str {
+        match self {
+            Visit::Makes => DONE,
+            Visit::Books => BOOKED_7,
+            Visit::Prints => SHEET,
+        }
+    }
+}
+
+fn visited(rt: &(impl Abort + Alloc<A = Global>), store: RealStore, visit: Visit) {
+    let (lines, connection) = worked(rt, store.into_connection(), visit.work());
+    let lines = lines.expect(rt, "a desk");
+    let last = lines.last().map(|line| line.as_str());
+    expect_eq(rt, "the last line", &last, &Some(visit.line()));
+    if matches!(visit, Visit::Makes) {
+        connection.close().ok().expect(rt, "closed");
+    }
+}
+
+// The booking leaves the file as it was, and its log has it: the sheet that is printed then too.
+#[test]
+fn prints_a_booking_that_lies_in_the_log_alone(rt: HostRuntime) -> Result<(), Fail> {
+    let path = new_path(&rt, "log")?;
+    let path = path.as_str();
+    visited(&rt, opened(&rt, path)?, Visit::Makes);
+    let closed = fs::read(&rt, path)?;
+    visited(&rt, opened(&rt, path)?, Visit::Books);
+    let dropped = fs::read(&rt, path)?;
+    expect_eq(&rt, "the file", &dropped.as_slice(), &closed.as_slice());
+    visited(&rt, opened(&rt, path)?, Visit::Prints);
+    remove(&rt, path);
+    Ok(())
+}
+
+/// Each law, at these stores.
+fn hold(before: &FileStore<FileFrom<Unknown>>, after: &RealStore, memory: &Store<MemStore>) {
+    files_hold_one_of(before);
+    one_stands_again(before, after);
+    served_survives_a_crash(before, after);
+    memory_is_honest(memory);
+}
+
+#[test]
+fn laws_of_crashes(rt: HostRuntime) -> Result<(), Fail> {
+    let (first, second) = (new_path(&rt, "first")?, new_path(&rt, "second")?);
+    let before = opened(&rt, first.as_str())?.into_store();
+    let after = opened(&rt, second.as_str())?;
+    hold(&before, &after, &Store::open_in_memory(rt.alloc())?);
+    remove(&rt, first.as_str());
+    remove(&rt, second.as_str());
+    Ok(())
+}
