@@ -1,8 +1,11 @@
-//! Runs of `clubdesk` over clubs in files.
+//! Runs of `clubdesk` over clubs in files, and over one in memory.
 
+mod callers;
 mod clubs;
 mod ends;
 mod files;
+mod memory;
 mod orders;
 mod runs;
 mod served;
+mod servers;

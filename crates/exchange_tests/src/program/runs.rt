@@ -83,13 +83,13 @@ pub fn remove(rt: &HostRuntime, path: &str) {
     }
 }
 
-// The words of a line.
-fn words_of<'a>(rt: &HostRuntime, line: &'a str) -> Result<Vec<&'a str>, AllocError> {
+/// The words of a line.
+pub fn words_of<'a>(rt: &HostRuntime, line: &'a str) -> Result<Vec<&'a str>, AllocError> {
     line.split(' ').collect(rt.alloc())
 }
 
-// What a run told.
-fn told_of(
+/// What a run told.
+pub fn told_of(
     rt: &HostRuntime,
     outcome: &Result<(), Fault>,
     written: &[u8],
@@ -115,7 +115,8 @@ pub enum Work<'a> {
     Serve(&'a str, &'a TcpListener),
 }
 
-fn run_over<D: Databases>(
+/// Runs the program on a line of words, to a writer with this much room.
+pub fn run_over<D: Databases>(
     rt: &HostRuntime,
     databases: &mut D,
     line: &str,
