@@ -1,7 +1,7 @@
 //! Runs of the program over files, one after the other, and a server between them.
 
 use super::runs::{Row, expect_rows, log_of, new_path, remove};
-use super::served::reply_to;
+use super::served::{Leaving, reply_by, reply_to};
 use std::test::Fail;
 use std::{env, fs};
 
@@ -84,6 +84,40 @@ fn a_day_in_a_file(rt: HostRuntime) -> Result<(), Fail> {
     expect_rows(&rt, path.as_str(), &OFFICE)?;
     expect_replies(&rt, path.as_str(), &BOOKINGS)?;
     expect_rows(&rt, path.as_str(), &SHEETS)?;
+    remove(&rt, path.as_str());
+    Ok(())
+}
+
+static AMYS_SHEET: [Row; 1] = [Row(
+    "sheet",
+    "2026-05-01",
+    "0 Day sheet 2026-05-01\n\
+    court-1                  18:00 amy-1                            7  3    600\n\
+    Total bookings 1, persons 3, charge 600\n",
+)];
+
+// Fails unless the file still has these bytes.
+fn expect_file(rt: &HostRuntime, path: &str, bytes: &[u8]) -> Result<(), Fail> {
+    if fs::read(rt, path)?.as_slice() != bytes {
+        return Err("the file has changed".into());
+    }
+    Ok(())
+}
+
+// A server that drops its database leaves a booking in the log alone: the file is as it was. The
+// run that prints the day's sheet finds it there.
+#[test]
+fn a_booking_in_the_log_alone(rt: HostRuntime) -> Result<(), Fail> {
+    let path = new_path(&rt, "left")?;
+    expect_rows(&rt, path.as_str(), &OFFICE)?;
+    let before = fs::read(&rt, path.as_str())?;
+    let (request, wanted) = BOOKINGS[0];
+    let reply = reply_by(&rt, path.as_str(), request, Leaving::Drops)?;
+    if reply.as_slice() != wanted.as_bytes() {
+        return Err("amy's booking is refused".into());
+    }
+    expect_file(&rt, path.as_str(), before.as_slice())?;
+    expect_rows(&rt, path.as_str(), &AMYS_SHEET)?;
     remove(&rt, path.as_str());
     Ok(())
 }

@@ -1,6 +1,6 @@
 //! Runs of the program, as texts.
 
-use super::served::serve_over;
+use super::served::{Leaving, serve_over};
 use desk_commands::{Databases, Fault, run};
 use desk_files::Files;
 use std::alloc::AllocError;
@@ -111,8 +111,8 @@ pub fn told_of(
 pub enum Work<'a> {
     /// The program runs on a line of words, to a writer with this much room.
     Run(&'a str, usize),
-    /// A server answers one request, over the database at a path.
-    Serve(&'a str, &'a TcpListener),
+    /// A server answers one request, over the database at a path, and leaves that so.
+    Serve(&'a str, &'a TcpListener, Leaving),
 }
 
 /// Runs the program on a line of words, to a writer with this much room.
@@ -152,8 +152,8 @@ fn work_over<D: Databases>(
 ) -> Result<Output, Fail> {
     match work {
         Work::Run(line, room) => Ok(run_over(rt, databases, line, room)?),
-        Work::Serve(path, listener) => {
-            serve_over(rt, databases, path, listener)?;
+        Work::Serve(path, listener, leaving) => {
+            serve_over(rt, databases, path, listener, leaving)?;
             Ok(Output {
                 told: String::new(rt.alloc()),
                 taken: 0,

@@ -30,25 +30,49 @@ fn serve_at<S: ClubStore>(
     Ok(())
 }
 
-/// The same over a database that is opened for it and closed behind it.
+/// How a server leaves its database.
+#[derive(Clone, Copy)]
+pub enum Leaving {
+    /// It closes it.
+    Closes,
+    /// It drops it, as a server does that is killed.
+    Drops,
+}
+
+/// The same over a database that is opened for it, and left so.
 pub fn serve_over<D: Databases>(
     rt: &HostRuntime,
     databases: &mut D,
     path: &str,
     listener: &TcpListener,
+    leaving: Leaving,
 ) -> Result<(), Fail> {
     let mut desk = Desk::new(rt.alloc(), databases.open(path)?);
     serve_at(rt, listener, &mut desk)?;
-    databases.close(desk.into_store());
+    match leaving {
+        Leaving::Closes => databases.close(desk.into_store()),
+        Leaving::Drops => drop(desk),
+    }
     Ok(())
 }
 
-/// The bytes of the reply to a request, by a server over the database in a file.
-pub fn reply_to(rt: &HostRuntime, path: &str, request: &str) -> Result<Vec<u8>, Fail> {
+/// The bytes of the reply to a request, by a server over the database in a file, which it leaves
+/// so.
+pub fn reply_by(
+    rt: &HostRuntime,
+    path: &str,
+    request: &str,
+    leaving: Leaving,
+) -> Result<Vec<u8>, Fail> {
     let listener = TcpListener::bind(rt, "127.0.0.1:0")?;
     let mut client = client_of(rt, &listener, request)?;
-    done(rt, Work::Serve(path, &listener))?;
+    done(rt, Work::Serve(path, &listener, leaving))?;
     let mut reply = Vec::new(rt.alloc());
     client.read_to_end(&mut reply)?;
     Ok(reply)
+}
+
+/// The bytes of the reply to a request, by a server over the database in a file, which it closes.
+pub fn reply_to(rt: &HostRuntime, path: &str, request: &str) -> Result<Vec<u8>, Fail> {
+    reply_by(rt, path, request, Leaving::Closes)
 }
