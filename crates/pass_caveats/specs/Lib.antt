@@ -7,3 +7,4 @@ pub mod Caveat
 pub mod Fault
 pub mod CaveatOf
 pub mod Laws
+pub mod Spending

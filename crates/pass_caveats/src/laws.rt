@@ -9,6 +9,7 @@ ghost use Rattle.pass_caveats.specs.Laws.{
   TestsTheSet,
   IsUnderstoodOnce,
 };
+ghost use Rattle.pass_caveats.specs.Spending.{LimitsNoMore, OwesNothing};
 
 /// What a list of caveats allows with more caveats added, it allows without them.
 pub fn narrows()
@@ -44,4 +45,15 @@ pub fn tests_the_set()
 /// A text is understood as one caveat at most.
 pub fn is_understood_once()
     ensures { IsUnderstoodOnce }
+{}
+
+/// Where nothing is owed, the first fault of a list is the same whatever the key has spent.
+pub fn owes_nothing()
+    ensures { OwesNothing }
+{}
+
+/// No spend limit is above 999,999,999 points: where the first fault of a list is the same with
+/// nothing spent and with that much or more, it is so whatever was spent.
+pub fn limits_no_more()
+    ensures { LimitsNoMore }
 {}
