@@ -32,6 +32,11 @@ pub trait FieldSource<'a> {
     fn next(&mut self) -> Option<Field<'a>>
         ensures some { IfSome result (λ field. left self.old ≡ told field ∷ left self.new) }
         ensures none { IfNone result ((left self.old ≡ []) × (left self.new ≡ [])) };
+
+    /// Another source of the fields still to come, so that they can be gone over more than once. It
+    /// takes no memory either.
+    fn again(&self) -> Self
+        ensures { left result ≡ left self.now };
 }
 
 /// Copies the fields of a source into a pass, which has room for so many caveats from the start.

@@ -32,14 +32,14 @@ pub struct Caveat<'a> {
 }
 
 /// So many caveats at the front of some bytes.
-#[derive(Drop)]
+#[derive(Clone, Copy)]
 pub struct Caveats<'a> {
     pub count: usize,
     pub bytes: &'a [u8],
 }
 
 /// The fields of a pass that are still to come. Those that were handed out are gone.
-#[derive(Drop)]
+#[derive(Clone, Copy)]
 pub struct Walk<'a> {
     pub location: Option<&'a [u8]>,
     pub identifier: Option<&'a [u8]>,

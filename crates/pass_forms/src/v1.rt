@@ -180,6 +180,10 @@ impl<'a> FieldSource<'a> for V1Fields<'a> {
     fn next(&mut self) -> Option<Field<'a>> {
         self.walk.next::<Packets>()
     }
+
+    fn again(&self) -> V1Fields<'a> {
+        V1Fields { walk: self.walk }
+    }
 }
 
 /// The pass that the packets of V1 spell, all of the bytes. They are libmacaroons' packets, without

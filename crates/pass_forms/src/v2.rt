@@ -194,6 +194,10 @@ impl<'a> FieldSource<'a> for V2Fields<'a> {
     fn next(&mut self) -> Option<Field<'a>> {
         self.walk.next::<Sections>()
     }
+
+    fn again(&self) -> V2Fields<'a> {
+        V2Fields { walk: self.walk }
+    }
 }
 
 /// The pass that the bytes of V2 spell, all of the bytes. They are libmacaroons' binary form,

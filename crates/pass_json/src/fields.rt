@@ -57,4 +57,13 @@ impl<'a> FieldSource<'a> for JsonFields<'a> {
         let signature = self.signature.take()?;
         Some(Field::Signature(signature))
     }
+
+    fn again(&self) -> JsonFields<'a> {
+        JsonFields {
+            location: self.location,
+            identifier: self.identifier,
+            caveats: self.caveats,
+            signature: self.signature,
+        }
+    }
 }
