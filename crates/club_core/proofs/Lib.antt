@@ -3,3 +3,4 @@ pub mod Ordered
 pub mod SheetOrder
 pub mod SheetText
 pub mod AnswerLemmas
+pub mod LooksLemmas

@@ -5,6 +5,7 @@ use Rattle.club_rows.specs.declared.member.Member.{Member}
 use Rattle.club_rows.specs.declared.facility.Facility.{Facility}
 use Rattle.club_rows.specs.declared.key.Key.{Key}
 use Rattle.club_rows.specs.declared.booking.Booking.{Booking}
+use Rattle.club_core.specs.declared.account.MemberAccount.{MemberAccount}
 use Rattle.club_core.specs.declared.form_fault.FormFault.{FormFault}
 use Rattle.club_core.specs.declared.request.Request.{Request}
 use Rattle.club_core.specs.declared.slot_use.SlotUse.{SlotUse}
@@ -22,6 +23,13 @@ use_by bookings club (Some slot) = record { taken = taken_in slot bookings; clos
 -- by all bookings
 abbrev pub slot_use : Club → Slot → SlotUse
 slot_use club slot = use_by club.bookings club (Some slot)
+
+-- a member with the points that it has
+abbrev pub account_of : Club → Member → MemberAccount
+account_of club member = record { member = member; balance = balance_of member (bookings_of member.name club) }
+
+abbrev pub account_named : List ℕ → Club → Option MemberAccount
+account_named name club = option_map (account_of club) (member_named name club)
 
 -- the state of a slot: its facility if there is one, and what is taken of it
 pub record SlotState : Type 0 where

@@ -17,5 +17,6 @@ pub mod Refusal
 pub mod Faults
 pub mod Examples
 pub mod Sheet
+pub mod Looks
 pub mod Store
 pub mod Laws

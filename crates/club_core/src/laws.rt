@@ -8,6 +8,7 @@ ghost use Rattle.club_core.specs.Laws.{
   OneSheet,
   SomeSheet,
 };
+ghost use Rattle.club_core.specs.Looks.{LooksNoFurther};
 ghost use Rattle.club_core.specs.Examples.{
   BooksAndCancels,
   RepeatsAfterACancellation,
@@ -44,6 +45,12 @@ pub fn refusals_change_nothing()
 /// Who has the sums of a view decides as one who has the bookings.
 pub fn views_decide()
     ensures { ViewsDecide }
+{}
+
+/// The answer to a request rests on parts of its view: the caveats see the record and the facility
+/// beside what the key has spent, and the decision of each request its own part.
+pub fn looks_no_further()
+    ensures { LooksNoFurther }
 {}
 
 /// A pass passes the test of its signature exactly where it is signed under a root of the key that

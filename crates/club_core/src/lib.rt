@@ -3,6 +3,7 @@
 #![tactic(auto)]
 
 mod acceptance;
+mod account;
 mod change;
 mod command;
 mod decisions;
@@ -23,6 +24,7 @@ mod view;
 mod words;
 
 pub use acceptance::answer;
+pub use account::MemberAccount;
 pub use change::Change;
 pub use club_rows::{
     Booking, BookingColumns, BookingNumber, Facility, FacilityColumns, Guests, Key, LAST_HOUR,

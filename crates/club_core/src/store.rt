@@ -1,8 +1,7 @@
+use crate::account::MemberAccount;
 use crate::change::Change;
-use crate::request::Request;
 use crate::slot_use::SlotUse;
-use crate::view::View;
-use club_rows::{Booking, Facility, Key, Member};
+use club_rows::{Booking, BookingNumber, Facility, Key, Member};
 use pass_caveats::{Day, Moment, Name, Slot};
 use std::error::Error;
 use std::fmt;
@@ -39,9 +38,11 @@ pub trait ClubStore {
     ghost use Rattle.club_core.specs.declared.change.Change.{Change};
     ghost use Rattle.club_core.specs.declared.store.StoreFault.{StoreFault};
     ghost use Rattle.club_core.specs.After.{after};
-    ghost use Rattle.club_core.specs.Club.{Club, IsSound, facility_named, key_named, member_named};
+    ghost use Rattle.club_core.specs.Club.{Club, IsSound, bookings_of};
+    ghost use Rattle.club_core.specs.Club.{facility_named, key_named, member_named};
     ghost use Rattle.club_core.specs.Sheet.{AreRowsOf};
-    ghost use Rattle.club_core.specs.Basis.{slot_use, view_in};
+    ghost use Rattle.club_core.specs.Basis.{account_named, slot_use};
+    ghost use Rattle.club_core.specs.Sums.{booking_under, count_to_come, spent_under};
     ghost use Rattle.club_core.specs.Store.{Fits, KeepsStanding, ReadsOrFails, Tells};
 
     // the club that stands, and the clubs of which a crash may leave one in its place
@@ -86,17 +87,37 @@ pub trait ClubStore {
             (λ club found. found ≡ slot_use club slot.now) }
         ensures failed { is_honest self.new → ReadsOrFails fails self.old self.new result };
 
-    /// What a key sees of a request at a moment; `None` where the key is unknown.
-    fn view(
-        &mut self,
-        key: &Name,
-        request: &Request,
-        moment: Moment,
-    ) -> Result<Option<View>, StoreFault>
+    /// The booking of a key under a number; `None` where there is none.
+    fn booking(&mut self, key: &Name, number: BookingNumber) -> Result<Option<Booking>, StoreFault>
         ensures honest { is_honest self.new → is_honest self.old }
         ensures kept { is_honest self.new → KeepsStanding stands self.old self.new }
         ensures told { is_honest self.new → Tells stands self.old result
-            (λ club view. view ≡ view_in club key.now request.now moment) }
+            (λ club booking. booking ≡ booking_under key.now number club.bookings) }
+        ensures failed { is_honest self.new → ReadsOrFails fails self.old self.new result };
+
+    /// The member of this name with the points that it has; `None` where there is none.
+    fn account(&mut self, member: &Name) -> Result<Option<MemberAccount>, StoreFault>
+        ensures honest { is_honest self.new → is_honest self.old }
+        ensures kept { is_honest self.new → KeepsStanding stands self.old self.new }
+        ensures told { is_honest self.new → Tells stands self.old result
+            (λ club account. account ≡ account_named member.now club) }
+        ensures failed { is_honest self.new → ReadsOrFails fails self.old self.new result };
+
+    /// How many of a member's bookings are open: not cancelled, of slots that begin later than the
+    /// moment.
+    fn open_count(&mut self, member: &Name, moment: Moment) -> Result<u64, StoreFault>
+        ensures honest { is_honest self.new → is_honest self.old }
+        ensures kept { is_honest self.new → KeepsStanding stands self.old self.new }
+        ensures told { is_honest self.new → Tells stands self.old result
+            (λ club count. count ≡ count_to_come moment (bookings_of member.now club)) }
+        ensures failed { is_honest self.new → ReadsOrFails fails self.old self.new result };
+
+    /// The points that a key has spent.
+    fn spent(&mut self, key: &Name) -> Result<u64, StoreFault>
+        ensures honest { is_honest self.new → is_honest self.old }
+        ensures kept { is_honest self.new → KeepsStanding stands self.old self.new }
+        ensures told { is_honest self.new → Tells stands self.old result
+            (λ club spent. spent ≡ spent_under key.now club.bookings) }
         ensures failed { is_honest self.new → ReadsOrFails fails self.old self.new result };
 
     /// The day's bookings that aren't cancelled, in the order of the day sheet.

@@ -1,4 +1,5 @@
 ghost use Rattle.std.specs.Prelude.{◌≡◌, is_some};
+ghost use Rattle.club_core.specs.Looks.{bare_view, books_anew as is_new};
 
 use crate::request::Request;
 use club_rows::{Booking, Facility, Key, Member};
@@ -28,6 +29,34 @@ pub struct View {
 
 impl View {
     ghost use Rattle.club_core.specs.Answer.{ask_of, owed_at};
+
+    /// The view of a key that shows nothing else: no record, no facility, no sum.
+    pub fn of_key(key: &Key) -> View
+        ensures { result ≡ bare_view key.now }
+    {
+        View {
+            key: *key,
+            spent: 0,
+            member: Member {
+                name: key.member,
+                credited: 0,
+                quota: 0,
+            },
+            balance: 0,
+            open_count: 0,
+            facility: None,
+            taken: 0,
+            closed: false,
+            booking: None,
+        }
+    }
+
+    /// Whether a booking under the number would be a new one at a known facility.
+    pub fn books_anew(&self) -> bool
+        ensures { result ≡ is_new self.now }
+    {
+        self.booking.is_none() && self.facility.is_some()
+    }
 
     /// What the request would charge: the charge of a booking under a new number at a known
     /// facility, and else 0.
