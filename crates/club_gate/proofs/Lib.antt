@@ -7,3 +7,4 @@ pub mod Stepping
 pub mod DeskLaws
 pub mod FollowedEvents
 pub mod FollowedRuns
+pub mod Reading

@@ -1,12 +1,10 @@
--- The key that a pass is signed under, by the key's row alone, and the answer that follows.
+-- The key that a pass is signed under, by the key's row alone.
 use Rattle.std.proofs.Common.{◌≡◌, ◌≢◌, ℕ, zero, suc, ◌<◌, Bool, true, false, cond, not, List, [], ◌∷◌, length, get_or, map, refl, sym, ap, ◌∙◌, arith}
 use Rattle.std.proofs.Common.{Option, Some, None, Ok, Err, option_map, option_and_then}
 use Rattle.std.specs.Prelude.{Contains, find}
 use Rattle.std.specs.Str.{bytes_eq}
 use Rattle.std.proofs.lemmas.List.Elements.{All-contains}
 use Rattle.std.proofs.lemmas.Slice.Eq.{bytes_eq-Decides}
-use Rattle.pass_caveats.specs.declared.fault.CaveatFault.{CaveatFault}
-use Rattle.pass_caveats.specs.CaveatOf.{first_fault_of}
 use Rattle.pass_forms.specs.Pass.{Plain}
 use Rattle.club_rows.specs.declared.key.Key.{Key}
 use Rattle.club_rows.specs.declared.member.Member.{Member}
@@ -15,7 +13,7 @@ use Rattle.club_core.specs.declared.refusal.Refusal.TheVariants.{KeyRevoked, Not
 use Rattle.club_core.specs.declared.request.Request.{Request}
 use Rattle.club_core.specs.declared.verdict.Verdict.{Verdict}
 use Rattle.club_core.specs.declared.view.View.{View}
-use Rattle.club_core.specs.Answer.{answer_by_view, answer_to, ask_of, verdict_in}
+use Rattle.club_core.specs.Answer.{answer_to, verdict_in}
 use Rattle.club_core.specs.Basis.{Basis, basis_under, state_of, view_in, view_of}
 use Rattle.club_core.specs.Club.{Club, IsSound, bookings_of, key_named, member_named}
 use Rattle.club_core.specs.Laws.{ViewsDecide}
@@ -26,12 +24,12 @@ use Rattle.club_core.specs.Verdict.{refused}
 use Rattle.club_laws.specs.DeskLaw.{words_with}
 use Rattle.club_gate.specs.Identifier.{name_in}
 use Rattle.club_gate.specs.Said.{pass_of}
-use Rattle.club_gate.specs.Verify.{name_unless, refusal_by_row, signer_by, signer_in}
+use Rattle.club_gate.specs.Verify.{key_unless, refusal_by_row, signer_by, signer_in}
 
 -- ---- rows that are found
 
 -- what is found is an element, and passes
-found : {X : Type 0} (p : X → Bool) (xs : List X) (x : X) → find p xs ≡ Some x → Contains xs x × (p x ≡ true)
+pub found : {X : Type 0} (p : X → Bool) (xs : List X) (x : X) → find p xs ≡ Some x → Contains xs x × (p x ≡ true)
 found p [] x h = absurd (cc)
 found {X} p (y ∷ xs) x h = go (p y) refl (λ e. found p xs x e) h
   where
@@ -56,7 +54,7 @@ member_there (member ∷ members) name h e =
     go false fails rest (suc k) short same e = rest (k, omega arith, same) e
 
 -- so each key of a sound club has its member
-owned : (club : Club) (name : List ℕ) (key : Key) → IsSound club → key_named name club ≡ Some key → member_named key.member club ≢ None
+pub owned : (club : Club) (name : List ℕ) (key : Key) → IsSound club → key_named name club ≡ Some key → member_named key.member club ≢ None
 owned club name key sound e =
     let there = (found (λ (k : Key). bytes_eq k.name name) club.keys key e).0 in
     let P : Key → Type 0 = λ k. Contains (map (λ (m : Member). m.name) club.members) k.member in
@@ -83,20 +81,20 @@ module _ (pass : Plain) (key : Key) (moment : ℕ) where
   standing_row found e f r = ap (λ (b : Bool). by_lines true b) (sym r) ∙ ap (λ (b : Bool). by_lines b key.revoked) (sym f ∙ e)
 
 -- what the row refuses is so refused
-refused_alike : (is_signed revoked : Bool) (name : List ℕ) (last : Verdict) (refusal : Refusal)
-    → name_unless name (first_of (line (not is_signed) (Some NotVerified) ∷ line revoked (Some KeyRevoked) ∷ []) None) ≡ Err refusal
+refused_alike : (is_signed revoked : Bool) (key : Key) (last : Verdict) (refusal : Refusal)
+    → key_unless key (first_of (line (not is_signed) (Some NotVerified) ∷ line revoked (Some KeyRevoked) ∷ []) None) ≡ Err refusal
     → first_of (line (not is_signed) (refused NotVerified) ∷ line revoked (refused KeyRevoked) ∷ []) last ≡ refused refusal
-refused_alike false revoked name last refusal e = let same : NotVerified ≡ refusal = cc in ap refused same
-refused_alike true true name last refusal e = let same : KeyRevoked ≡ refusal = cc in ap refused same
-refused_alike true false name last refusal e = absurd (cc)
+refused_alike false revoked key last refusal e = let same : NotVerified ≡ refusal = cc in ap refused same
+refused_alike true true key last refusal e = let same : KeyRevoked ≡ refusal = cc in ap refused same
+refused_alike true false key last refusal e = absurd (cc)
 
 -- and what it doesn't is signed
-signed_row : (is_signed revoked : Bool) (name other : List ℕ)
-    → name_unless name (first_of (line (not is_signed) (Some NotVerified) ∷ line revoked (Some KeyRevoked) ∷ []) None) ≡ Ok other
-    → (is_signed ≡ true) × (name ≡ other)
-signed_row false revoked name other e = absurd (cc)
-signed_row true true name other e = absurd (cc)
-signed_row true false name other e = let same : name ≡ other = cc in (refl, same)
+signed_row : (is_signed revoked : Bool) (key other : Key)
+    → key_unless key (first_of (line (not is_signed) (Some NotVerified) ∷ line revoked (Some KeyRevoked) ∷ []) None) ≡ Ok other
+    → (is_signed ≡ true) × (revoked ≡ false) × (key ≡ other)
+signed_row false revoked key other e = absurd (cc)
+signed_row true true key other e = absurd (cc)
+signed_row true false key other e = let same : key ≡ other = cc in (refl, refl, same)
 
 -- the view of a key
 abbrev view_by : Club → Request → ℕ → Option Key → Option View
@@ -117,7 +115,7 @@ module _ (club : Club) (pass : Plain) (request : Request) (moment : ℕ) where
       → answer_by (view_with club request moment key member) ≡ refused refusal
   of_member key None some refusal e = absurd (some refl)
   of_member key (Some member) some refusal e =
-      refused_alike (is_signed_under (pass_of pass) key moment) key.revoked key.name _ refusal e
+      refused_alike (is_signed_under (pass_of pass) key moment) key.revoked key _ refusal e
 
   of_row : IsSound club → (name : List ℕ) (key : Option Key) → key_named name club ≡ key → (refusal : Refusal) → signer_by pass moment key ≡ Err refusal
       → answer_by (view_by club request moment key) ≡ refused refusal
@@ -138,48 +136,31 @@ module _ (club : Club) (pass : Plain) (request : Request) (moment : ℕ) where
 
   -- ---- signed
 
-  name_of_row : (name : List ℕ) (key : Option Key) → key_named name club ≡ key → (signer : List ℕ) → signer_by pass moment key ≡ Ok signer → name ≡ signer
-  name_of_row name None row signer e = absurd (cc)
-  name_of_row name (Some key) row signer e =
-      sym (named club name key row) ∙ (signed_row (is_signed_under (pass_of pass) key moment) key.revoked key.name signer e).1
+  -- the row of a key by which a pass is signed
+  pub record IsSigner (name : Option (List ℕ)) (key : Key) : Type 0 where
+    pub named : List ℕ
+    pub names : name ≡ Some named
+    pub row : key_named named club ≡ Some key
+    pub signed : is_signed_under (pass_of pass) key moment ≡ true
+    pub standing : key.revoked ≡ false
 
-  name_of : (name : Option (List ℕ)) (signer : List ℕ) → signer_by pass moment (option_and_then (λ (n : List ℕ). key_named n club) name) ≡ Ok signer
-      → name ≡ Some signer
-  name_of None signer e = absurd (cc)
-  name_of (Some name) signer e = ap Some (name_of_row name (key_named name club) refl signer e)
+  of_signer : (named : List ℕ) (row : Option Key) → key_named named club ≡ row → (key : Key) → signer_by pass moment row ≡ Ok key
+      → IsSigner (Some named) key
+  of_signer named None is key e = absurd (cc)
+  of_signer named (Some row) is key e =
+      let found = signed_row (is_signed_under (pass_of pass) row moment) row.revoked row key e in
+      record {
+        named = named;
+        names = refl;
+        row = is ∙ ap Some found.2;
+        signed = ap (λ (k : Key). is_signed_under (pass_of pass) k moment) (sym found.2) ∙ found.0;
+        standing = ap (λ (k : Key). k.revoked) (sym found.2) ∙ found.1;
+      }
 
-  signed_key : (key : Key) (member : Option Member) (signer : List ℕ) → signer_by pass moment (Some key) ≡ Ok signer → (view : View)
-      → Some view ≡ view_with club request moment key member → is_signed_under (pass_of pass) view.key moment ≡ true
-  signed_key key None signer e view v = absurd (cc)
-  signed_key key (Some member) signer e view v =
-      let same : key ≡ view.key = let w = v in cc in
-      ap (λ (k : Key). is_signed_under (pass_of pass) k moment) (sym same)
-      ∙ (signed_row (is_signed_under (pass_of pass) key moment) key.revoked key.name signer e).0
+  signer_named : (name : Option (List ℕ)) (key : Key) → signer_by pass moment (option_and_then (λ (n : List ℕ). key_named n club) name) ≡ Ok key
+      → IsSigner name key
+  signer_named None key e = absurd (cc)
+  signer_named (Some name) key e = of_signer name (key_named name club) refl key e
 
-  signed_view : (key : Option Key) (signer : List ℕ) → signer_by pass moment key ≡ Ok signer → (view : View) → Some view ≡ view_by club request moment key
-      → is_signed_under (pass_of pass) view.key moment ≡ true
-  signed_view None signer e view v = absurd (cc)
-  signed_view (Some key) signer e view v = signed_key key (member_named key.member club) signer e view v
-
-  -- the signer's view answers
-  pub answered_by : ViewsDecide → (signer : List ℕ) → signer_in club pass moment ≡ Ok signer
-      → verdict_in club (words_with (pass_of pass) request) moment ≡ answer_by (view_in club signer request moment)
-  answered_by decides signer e =
-      decides club (words_with (pass_of pass) request) moment
-      ∙ ap (λ (n : Option (List ℕ)). answer_by (option_and_then (λ (m : List ℕ). view_in club m request moment) n)) (name_of (name_in pass.identifier) signer e)
-
-  pub answered_by_none : ViewsDecide → (signer : List ℕ) → signer_in club pass moment ≡ Ok signer → None ≡ view_in club signer request moment
-      → refused NotVerified ≡ verdict_in club (words_with (pass_of pass) request) moment
-  answered_by_none decides signer e v = sym (answered_by decides signer e ∙ ap answer_by (sym v))
-
-  pub answered_by_view : ViewsDecide → (signer : List ℕ) → signer_in club pass moment ≡ Ok signer → (view : View)
-      → Some view ≡ view_in club signer request moment → (fault : Option CaveatFault)
-      → fault ≡ first_fault_of (pass_of pass).caveats (ask_of view request moment)
-      → answer_by_view (Some view) true fault request moment ≡ verdict_in club (words_with (pass_of pass) request) moment
-  answered_by_view decides signer e view v fault f =
-      let name = name_of (name_in pass.identifier) signer e in
-      let row = ap (λ (n : Option (List ℕ)). signer_by pass moment (option_and_then (λ (m : List ℕ). key_named m club) n)) (sym name) ∙ e in
-      let is_signed = signed_view (key_named signer club) signer row view v in
-      ap (λ (b : Bool). answer_by_view (Some view) b fault request moment) (sym is_signed)
-      ∙ (ap (λ (x : Option CaveatFault). answer_by_view (Some view) (is_signed_under (pass_of pass) view.key moment) x request moment) f
-      ∙ (ap answer_by v ∙ sym (answered_by decides signer e)))
+  pub is_signer : (key : Key) → signer_in club pass moment ≡ Ok key → IsSigner (name_in pass.identifier) key
+  is_signer key e = signer_named (name_in pass.identifier) key e

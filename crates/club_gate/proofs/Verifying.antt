@@ -5,7 +5,6 @@ use Rattle.pass_forms.specs.declared.fault.FormFault.{FormFault}
 use Rattle.pass_forms.specs.declared.form.Form.{Form}
 use Rattle.pass_forms.specs.declared.form.Form.TheVariants.{Json}
 use Rattle.pass_forms.specs.Envelope.{unwrapped}
-use Rattle.pass_forms.specs.FieldSource.{PassField}
 use Rattle.pass_forms.specs.Pass.{Plain}
 use Rattle.pass_forms.specs.Reading.{max_text_len}
 use Rattle.pass_forms.specs.Text.{in_form}
@@ -19,11 +18,6 @@ use Rattle.club_laws.specs.DeskLaw.{words_with}
 use Rattle.club_gate.specs.Said.{pass_of, said_by, without_form, words_said}
 use Rattle.club_gate.specs.Served.{IsReadInPlace}
 use Rattle.club_gate.specs.Verify.{words_read}
-
--- bytes that are opened once more give the same fields
-pub opened_again : (read : Result (List PassField) FormFault) (fields again these : List PassField) → Ok fields ≡ read → Ok again ≡ read
-    → fields ≡ these → again ≡ these
-opened_again read fields again these first second e = let same : again ≡ fields = cc in same ∙ e
 
 abbrev IsVerdict : Result Verdict StoreFault → Verdict → Type 0
 IsVerdict result verdict = IfOk result (λ found. found ≡ verdict)

@@ -3,6 +3,7 @@ pub mod Identifier
 pub mod Signing
 pub mod Said
 pub mod Verify
+pub mod Reading
 pub mod Told
 pub mod Desk
 pub mod Served

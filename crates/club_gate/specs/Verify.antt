@@ -35,16 +35,16 @@ abbrev pub refusal_by_row : Plain → Key → ℕ → Option Refusal
 refusal_by_row pass key moment =
     first_of (line (not (is_signed_under (pass_of pass) key moment)) (Some NotVerified) ∷ line key.revoked (Some KeyRevoked) ∷ []) None
 
-abbrev pub name_unless : List ℕ → Option Refusal → Result (List ℕ) Refusal
-name_unless name None = Ok name
-name_unless name (Some refusal) = Err refusal
+abbrev pub key_unless : Key → Option Refusal → Result Key Refusal
+key_unless key None = Ok key
+key_unless key (Some refusal) = Err refusal
 
-abbrev pub signer_by : Plain → ℕ → Option Key → Result (List ℕ) Refusal
+abbrev pub signer_by : Plain → ℕ → Option Key → Result Key Refusal
 signer_by pass moment None = Err NotVerified
-signer_by pass moment (Some key) = name_unless key.name (refusal_by_row pass key moment)
+signer_by pass moment (Some key) = key_unless key (refusal_by_row pass key moment)
 
--- the name of the key that a pass names and is signed under, or why the pass is refused: by the key's row alone
-abbrev pub signer_in : Club → Plain → ℕ → Result (List ℕ) Refusal
+-- the row of the key that a pass names and is signed under, or why the pass is refused: by that row alone
+abbrev pub signer_in : Club → Plain → ℕ → Result Key Refusal
 signer_in club pass moment = signer_by pass moment (key_in club pass.identifier)
 
 -- the words of a request with bytes in a form

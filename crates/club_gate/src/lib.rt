@@ -8,6 +8,7 @@ mod fault;
 mod identifier;
 pub mod laws;
 mod mint;
+mod readings;
 mod run;
 mod signing;
 mod verify;

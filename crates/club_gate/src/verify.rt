@@ -1,5 +1,6 @@
 //! The verifier: what the rules answer to the pass of a request. The signature comes first: until
-//! it was compared, nothing is read of the club but the row of the key that the pass names.
+//! it was compared, nothing is read of the club but the row of the key that the pass names. Then
+//! comes what the caveats look at, and then what the decision does.
 
 ghost use Rattle.std.specs.Prelude.{
   ◌≡◌,
@@ -33,18 +34,19 @@ ghost use Rattle.club_gate.specs.Verify.{
   signer_in,
   words_read,
 };
+ghost use Rattle.club_gate.specs.Reading.{verdict_read};
 
 use crate::desk::Desk;
 use crate::identifier::name_in;
 use crate::signing::Signing;
-use crate::walk::{first_fault, is_signed};
-use club_core::laws::views_decide;
+use crate::walk::is_signed;
+use club_core::laws::{looks_no_further, own_bookings_suffice, views_decide};
 use club_core::{
     ClubStore, FormFault as PassFault, Key, Refusal, Request, SentWords, StoreFault, Verdict,
     answer,
 };
 use kept_keys::KeptKeys;
-use pass_caveats::{Moment, Name};
+use pass_caveats::Moment;
 use pass_forms::laws::{reads_v1_exactly, reads_v2_exactly};
 use pass_forms::{Field, FieldSource, Form, FormFault, MAX_BYTES, V1Fields, V2Fields, unwrap_text};
 use pass_json::laws::{reads_what_is_wrapped, refuses_what_wraps_nothing};
@@ -118,14 +120,14 @@ impl<S: ClubStore> Desk<S> {
         }
     }
 
-    /// The name of the key that a pass names and is signed under, or why the pass is refused. Of
-    /// the club it reads the row of that key with its older root, and nothing else. An unknown key
-    /// and a wrong signature are refused alike.
-    fn signer<'a, F: FieldSource<'a>>(
+    /// The row of the key that a pass names and is signed under, or why the pass is refused. Its
+    /// fields are taken from the source. Of the club it reads that row with its older root, and
+    /// nothing else. An unknown key and a wrong signature are refused alike.
+    fn signer_of_fields<'a, F: FieldSource<'a>>(
         &mut self,
         source: &mut F,
         moment: Moment,
-    ) -> Result<Result<Name, Refusal>, StoreFault>
+    ) -> Result<Result<Key, Refusal>, StoreFault>
         ensures honest { S.is_honest self.new → S.is_honest self.old }
         ensures kept { S.is_honest self.new → KeepsStanding S.stands self.old self.new }
         ensures found { S.is_honest self.new → (pass : Plain) → F.left source.old ≡ fields_of pass
@@ -139,63 +141,77 @@ impl<S: ClubStore> Desk<S> {
         };
         match row_refusal(&mut self.kept, source, identifier, &key, moment) {
             Some(refusal) => Ok(Err(refusal)),
-            None => Ok(Ok(key.name)),
+            None => Ok(Ok(key)),
         }
     }
 
-    /// The answer to a request with a pass that is signed under this key, and the change that goes
-    /// with it.
-    fn verdict_under<'a, F: FieldSource<'a>>(
+    /// The same of a pass whose fields a source yields, which is left as it is.
+    fn signer<'a, F: FieldSource<'a> + Drop>(
         &mut self,
-        key: &Name,
-        source: &mut F,
-        request: &Request,
+        source: &F,
         moment: Moment,
-    ) -> Result<Verdict, StoreFault>
+    ) -> Result<Result<Key, Refusal>, StoreFault>
         ensures honest { S.is_honest self.new → S.is_honest self.old }
         ensures kept { S.is_honest self.new → KeepsStanding S.stands self.old self.new }
-        ensures found { S.is_honest self.new → (pass : Plain) → F.left source.old ≡ fields_of pass
-            → length pass.caveats ≤ max_caveats
-            → Tells S.stands self.old result
-            (λ club verdict. signer_in club pass moment ≡ Ok key.now
-            → verdict ≡ verdict_in club (words_with (pass_of pass) request.now) moment) }
+        ensures found { S.is_honest self.new → (pass : Plain) → F.left source.now ≡ fields_of pass
+            → Tells S.stands self.old result (λ club signer. signer ≡ signer_in club pass moment) }
     {
-        views_decide();
-        let Some(view) = self.store.view(key, request, moment)? else {
-            return Ok(answer(None, false, None, request, moment));
-        };
-        let fault = first_fault(source, &view.ask(request, moment));
-        Ok(answer(Some(&view), true, fault, request, moment))
+        let mut fields = source.again();
+        self.signer_of_fields(&mut fields, moment)
     }
 
-    /// The answer to a request with the pass whose fields two sources yield, and the change that
-    /// goes with it. The first source is read for the signature; the second for the caveats, and
-    /// only where the pass is signed.
-    fn verdict_of<'a, F: FieldSource<'a>>(
+    /// The answer to a request with a pass that is signed under the key of this row, and the change
+    /// that goes with it. What is refused by a caveat is answered before any sum is read.
+    fn verdict_under<'a, F: FieldSource<'a> + Drop>(
         &mut self,
-        source: &mut F,
-        again: &mut F,
+        key: &Key,
+        source: &F,
         request: &Request,
         moment: Moment,
     ) -> Result<Verdict, StoreFault>
         ensures honest { S.is_honest self.new → S.is_honest self.old }
         ensures kept { S.is_honest self.new → KeepsStanding S.stands self.old self.new }
-        ensures told { S.is_honest self.new → (pass : Plain) → F.left source.old ≡ fields_of pass
-            → F.left again.old ≡ fields_of pass
+        ensures found { S.is_honest self.new → (pass : Plain) → F.left source.now ≡ fields_of pass
+            → length pass.caveats ≤ max_caveats
+            → Tells S.stands self.old result
+            (λ club verdict. verdict ≡ verdict_read club key.now pass request.now moment) }
+    {
+        let view = self.first_view(key, request)?;
+        let fault = self.caveat_fault(source, &key.name, &view.ask(request, moment))?;
+        if fault.is_some() {
+            return Ok(answer(Some(&view), true, fault, request, moment));
+        }
+        let view = self.last_view(view, request, moment)?;
+        Ok(answer(view.as_ref(), true, None, request, moment))
+    }
+
+    /// The answer to a request with the pass whose fields a source yields, and the change that goes
+    /// with it. The fields are gone over for the signature, and only where the pass is signed for
+    /// the caveats.
+    fn verdict_of<'a, F: FieldSource<'a> + Drop>(
+        &mut self,
+        source: &F,
+        request: &Request,
+        moment: Moment,
+    ) -> Result<Verdict, StoreFault>
+        ensures honest { S.is_honest self.new → S.is_honest self.old }
+        ensures kept { S.is_honest self.new → KeepsStanding S.stands self.old self.new }
+        ensures told { S.is_honest self.new → (pass : Plain) → F.left source.now ≡ fields_of pass
             → length pass.caveats ≤ max_caveats
             → Tells S.stands self.old result (λ club verdict. verdict
             ≡ verdict_in club (words_with (pass_of pass) request.now) moment) }
     {
         views_decide();
+        own_bookings_suffice();
+        looks_no_further();
         match self.signer(source, moment)? {
-            Ok(key) => self.verdict_under(&key, again, request, moment),
+            Ok(key) => self.verdict_under(&key, source, request, moment),
             Err(refusal) => Ok(Verdict::refused(refusal)),
         }
     }
 
     /// The answer to a request with the pass that these bytes spell in a form. A pass in JSON is
-    /// read first, which wants memory; the fields of the others are parts of the bytes, which are
-    /// opened once for each walk.
+    /// read first, which wants memory; the fields of the others are parts of the bytes.
     fn verdict_on(
         &mut self,
         form: Form,
@@ -219,25 +235,15 @@ impl<S: ClubStore> Desk<S> {
         reads_v2_exactly();
         match form {
             Form::V1 => match V1Fields::open(bytes) {
-                Ok(mut fields) => match V1Fields::open(bytes) {
-                    Ok(mut again) => self.verdict_of(&mut fields, &mut again, request, moment),
-                    Err(fault) => faulty(fault),
-                },
+                Ok(fields) => self.verdict_of(&fields, request, moment),
                 Err(fault) => faulty(fault),
             },
             Form::V2 => match V2Fields::open(bytes) {
-                Ok(mut fields) => match V2Fields::open(bytes) {
-                    Ok(mut again) => self.verdict_of(&mut fields, &mut again, request, moment),
-                    Err(fault) => faulty(fault),
-                },
+                Ok(fields) => self.verdict_of(&fields, request, moment),
                 Err(fault) => faulty(fault),
             },
             Form::Json => match read_json(self.alloc, bytes) {
-                Ok(pass) => {
-                    let mut fields = JsonFields::over(&pass);
-                    let mut again = JsonFields::over(&pass);
-                    self.verdict_of(&mut fields, &mut again, request, moment)
-                }
+                Ok(pass) => self.verdict_of(&JsonFields::over(&pass), request, moment),
                 Err(fault) => faulty(fault),
             },
         }

@@ -1,7 +1,8 @@
-//! Two walks over the fields of a pass: one for its signature, and one for its caveats.
+//! Walks over the fields of a pass: one for its signature, and one for its caveats.
 
-ghost use Rattle.std.specs.Prelude.{◌≡◌, ◌≤◌, fold, length, map};
+ghost use Rattle.std.specs.Prelude.{◌≡◌, ℕ, ◌≤◌, false, fold, length, map};
 ghost use Rattle.pass_caveats.specs.CaveatOf.{caveat_of, first_fault_of};
+ghost use Rattle.pass_caveats.specs.Spending.{after_spending};
 ghost use Rattle.pass_forms.specs.FieldSource.{fields_of};
 ghost use Rattle.pass_forms.specs.Pass.{Plain};
 ghost use Rattle.pass_forms.specs.Reading.{max_caveats};
@@ -9,6 +10,7 @@ ghost use Rattle.club_gate.specs.Signing.{grown, is_one_of};
 ghost use Rattle.club_gate.specs.Verify.{fields_behind};
 
 use crate::signing::Signing;
+use pass_caveats::laws::{limits_no_more, owes_nothing};
 use pass_caveats::{Ask, CaveatFault, fault_at};
 use pass_forms::{Field, FieldSource};
 
@@ -31,7 +33,7 @@ pub(crate) fn is_signed<'a, F: FieldSource<'a>>(source: &mut F, signing: Signing
 
 /// The first caveat of a pass that isn't understood or denies the request; `None` where each allows
 /// it.
-pub(crate) fn first_fault<'a, F: FieldSource<'a>>(source: &mut F, ask: &Ask) -> Option<CaveatFault>
+fn first_fault<'a, F: FieldSource<'a>>(source: &mut F, ask: &Ask) -> Option<CaveatFault>
     ensures { (pass : Plain) → F.left source.old ≡ fields_of pass
         → length pass.caveats ≤ max_caveats
         → result ≡ first_fault_of (map caveat_of pass.caveats) ask.now }
@@ -47,4 +49,32 @@ pub(crate) fn first_fault<'a, F: FieldSource<'a>>(source: &mut F, ask: &Ask) -> 
         }
     }
     None
+}
+
+/// The first caveat at fault of a pass whose key has spent this much before.
+pub(crate) fn fault_after<'a, F: FieldSource<'a> + Drop>(
+    source: &F,
+    ask: &Ask,
+    spent: u64,
+) -> Option<CaveatFault>
+    ensures { (pass : Plain) → F.left source.now ≡ fields_of pass
+        → length pass.caveats ≤ max_caveats
+        → result ≡ first_fault_of (map caveat_of pass.caveats) (after_spending spent ask.now) }
+{
+    let mut source = source.again();
+    first_fault(&mut source, &Ask { spent, ..*ask })
+}
+
+/// Whether the first caveat at fault of a pass depends on what its key has spent: something is
+/// owed, and a spend limit denies it to one who has spent more than any limit.
+pub(crate) fn depends_on_spent<'a, F: FieldSource<'a> + Drop>(source: &F, ask: &Ask) -> bool
+    ensures { (pass : Plain) → F.left source.now ≡ fields_of pass
+        → length pass.caveats ≤ max_caveats
+        → result ≡ false
+        → (spent : ℕ) → first_fault_of (map caveat_of pass.caveats) (after_spending spent ask.now)
+        ≡ first_fault_of (map caveat_of pass.caveats) (after_spending 0 ask.now) }
+{
+    owes_nothing();
+    limits_no_more();
+    ask.owed != 0 && fault_after(source, ask, u64::MAX) != fault_after(source, ask, 0)
 }

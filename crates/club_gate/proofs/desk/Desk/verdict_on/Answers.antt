@@ -1,26 +1,24 @@
 use Rattle.std.proofs.Common.{◌∙◌, ap, Ok}
 use Rattle.pass_forms.specs.declared.form.Form.{Form}
 use Rattle.pass_json.specs.AnyForm.{reading_in_form}
-use Rattle.club_gate.proofs.Verifying.{opened_again, told_of_bytes}
+use Rattle.club_gate.proofs.Verifying.{told_of_bytes}
 use Rattle.club_gate.proofs.desk.Desk.verdict_on.Goals as goal
+
+pub returns-in-Ok-clause-told : goal.returns-in-Ok-clause-told
+returns-in-Ok-clause-told g c = λ honest club others stands.
+    let read = c.in-Ok.ensures.spelled in
+    let bytes = c.args.bytes.now in
+    let found = ap (λ (f : Form). reading_in_form f bytes) c.in-V1.is ∙ (c.reads_v1_exactly.ensures bytes (Ok read.0)).0 read.1 in
+    told_of_bytes club c.args.request.now c.args.moment c.args.form bytes read.0 c.verdict_of.result found
+    (c.verdict_of.ensures.told honest read.0 read.2 read.1.2 club others stands)
 
 pub returns-in-Ok-open-clause-told : goal.returns-in-Ok-open-clause-told
 returns-in-Ok-open-clause-told g c = λ honest club others stands.
-    let read = c.in-Ok.ensures.spelled in
+    let read = c.in-Ok-open.ensures.spelled in
     let bytes = c.args.bytes.now in
-    let again = opened_again _ _ c.in-Ok-open.again _ c.in-Ok.ensures.computed c.in-Ok-open.ensures.computed read.2 in
-    let found = ap (λ (f : Form). reading_in_form f bytes) c.in-V1.is ∙ (c.reads_v1_exactly.ensures bytes (Ok read.0)).0 read.1 in
-    told_of_bytes club c.args.request.now c.args.moment c.args.form bytes read.0 c.verdict_of.result found
-    (c.verdict_of.ensures.told honest read.0 read.2 again read.1.2 club others stands)
-
-pub returns-in-Ok-open-3-clause-told : goal.returns-in-Ok-open-3-clause-told
-returns-in-Ok-open-3-clause-told g c = λ honest club others stands.
-    let read = c.in-Ok-open-2.ensures.spelled in
-    let bytes = c.args.bytes.now in
-    let again = opened_again _ _ c.in-Ok-open-3.again _ c.in-Ok-open-2.ensures.computed c.in-Ok-open-3.ensures.computed read.2 in
     let found = ap (λ (f : Form). reading_in_form f bytes) c.in-V2.is ∙ (c.reads_v2_exactly.ensures bytes (Ok read.0)).0 read.1 in
-    told_of_bytes club c.args.request.now c.args.moment c.args.form bytes read.0 c.verdict_of-in-Ok-open-3.result found
-    (c.verdict_of-in-Ok-open-3.ensures.told honest read.0 read.2 again read.1.2 club others stands)
+    told_of_bytes club c.args.request.now c.args.moment c.args.form bytes read.0 c.verdict_of-in-Ok-open.result found
+    (c.verdict_of-in-Ok-open.ensures.told honest read.0 read.2 read.1.2 club others stands)
 
 pub returns-in-Ok-read_json-clause-told : goal.returns-in-Ok-read_json-clause-told
 returns-in-Ok-read_json-clause-told g c = λ honest club others stands.
@@ -28,4 +26,4 @@ returns-in-Ok-read_json-clause-told g c = λ honest club others stands.
     let pass = c.in-Ok-read_json.pass in
     let found = ap (λ (f : Form). reading_in_form f bytes) c.in-Json.is ∙ c.in-Ok-read_json.ensures.computed in
     told_of_bytes club c.args.request.now c.args.moment c.args.form bytes pass c.verdict_of-in-Ok-read_json.result found
-    (c.verdict_of-in-Ok-read_json.ensures.told honest pass c.over-fields.ensures c.over-again.ensures c.in-Ok-read_json.ensures.spelled.2 club others stands)
+    (c.verdict_of-in-Ok-read_json.ensures.told honest pass c.over.ensures c.in-Ok-read_json.ensures.spelled.2 club others stands)

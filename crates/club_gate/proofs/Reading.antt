@@ -1,0 +1,202 @@
+-- What is read for a signed pass answers as the whole view.
+use Rattle.std.proofs.Common.{◌≡◌, ◌≢◌, ℕ, Bool, true, false, cond, List, [], ◌∷◌, map, refl, sym, ap, ◌∙◌, subst}
+use Rattle.std.proofs.Common.{Option, Some, None, Ok, option_map, option_and_then}
+use Rattle.std.specs.Str.{bytes_eq}
+use Rattle.std.proofs.lemmas.Slice.Eq.{bytes_eq-Decides}
+use Rattle.pass_caveats.specs.declared.ask.Ask.{Ask}
+use Rattle.pass_caveats.specs.declared.fault.CaveatFault.{CaveatFault}
+use Rattle.pass_caveats.specs.declared.fault.CaveatFault.TheVariants.{Denied, NotUnderstood}
+use Rattle.pass_caveats.specs.CaveatOf.{caveat_of, first_fault_of}
+use Rattle.pass_caveats.specs.Spending.{after_spending}
+use Rattle.pass_forms.specs.Pass.{Plain}
+use Rattle.club_values.specs.declared.slot.Slot.{Slot}
+use Rattle.club_rows.specs.declared.booking.Booking.{Booking}
+use Rattle.club_rows.specs.declared.key.Key.{Key}
+use Rattle.club_rows.specs.declared.member.Member.{Member}
+use Rattle.club_core.specs.declared.request.Request.{Request}
+use Rattle.club_core.specs.declared.request.Request.TheVariants as asked
+use Rattle.club_core.specs.declared.verdict.Verdict.{Verdict}
+use Rattle.club_core.specs.declared.view.View.{View}
+use Rattle.club_core.specs.Answer.{answer_by_view, answer_to, ask_of, verdict_in}
+use Rattle.club_core.specs.Basis.{Basis, account_of, basis_under, state_of, view_of}
+use Rattle.club_core.specs.Club.{Club, IsSound, bookings_of, key_named, member_named}
+use Rattle.club_core.specs.Laws.{HasOwnBookings, OwnBookings}
+use Rattle.club_core.specs.Looks.{LooksNoFurther, RestsOnItsParts, bare_view, books_anew, seen_by_caveats, seen_by_decision}
+use Rattle.club_core.specs.Request.{number_of, slot_of}
+use Rattle.club_core.specs.Sums.{booking_under, spent_under}
+use Rattle.club_core.specs.Lines.{line, first_of}
+use Rattle.club_core.specs.Verdict.{refused, verdict_of}
+use Rattle.club_core.specs.declared.refusal.Refusal.TheVariants.{KeyRevoked, NotVerified}
+use Rattle.club_laws.specs.DeskLaw.{words_with}
+use Rattle.club_gate.specs.Identifier.{name_in}
+use Rattle.club_gate.specs.Reading.{answer_read, fault_read, first_view, last_view, verdict_read, with_account, with_member, with_slot, with_spent}
+use Rattle.club_gate.specs.Said.{pass_of}
+use Rattle.club_gate.specs.Verify.{signer_in}
+use Rattle.club_gate.proofs.Signers.{IsSigner, found, is_signer, owned}
+
+-- ---- the parts of the whole view
+
+module _ (club : Club) (key : Key) (member : Member) (request : Request) (moment : ℕ) where
+  abbrev pub whole_basis : Basis
+  whole_basis = record { key = key; member = member; bookings = bookings_of member.name club; state = state_of club (slot_of request) }
+
+  abbrev pub whole : View
+  whole = view_of whole_basis request moment
+
+-- a key's own bookings stand among those of its member
+own_member : (club : Club) (key : Key) (name : List ℕ) → key.member ≡ name → HasOwnBookings club key
+    → (spent_under key.name (bookings_of name club) ≡ spent_under key.name club.bookings)
+    × ((number : ℕ) → booking_under key.name number (bookings_of name club) ≡ booking_under key.name number club.bookings)
+own_member club key name same own =
+    let P : List ℕ → Type 0 = λ m. (spent_under key.name (bookings_of m club) ≡ spent_under key.name club.bookings)
+    × ((number : ℕ) → booking_under key.name number (bookings_of m club) ≡ booking_under key.name number club.bookings) in
+    subst P same (own.spent, own.booked)
+
+at_number : (key : List ℕ) (some all : List Booking) → ((number : ℕ) → booking_under key number some ≡ booking_under key number all)
+    → (number : Option ℕ)
+    → option_and_then (λ (n : ℕ). booking_under key n all) number ≡ option_and_then (λ (n : ℕ). booking_under key n some) number
+at_number key some all same None = refl
+at_number key some all same (Some number) = sym (same number)
+
+first_part : (club : Club) (key : Key) (member : Member) (request : Request) (moment : ℕ)
+    → ((number : ℕ) → booking_under key.name number (bookings_of member.name club) ≡ booking_under key.name number club.bookings)
+    → first_view club key request ≡ seen_by_caveats (whole club key member request moment)
+first_part club key member request moment same =
+    ap (λ (b : Option Booking).
+    let view : View = record (bare_view key) { facility = (state_of club (slot_of request)).facility; booking = b } in view)
+    (at_number key.name (bookings_of member.name club) club.bookings same (number_of request))
+
+-- the member's sums, where the club has the member
+with_its_member : (club : Club) (moment : ℕ) (view : View) (member : Member) → member_named view.key.member club ≡ Some member
+    → with_member club moment view ≡ Some (with_account club moment view (account_of club member))
+with_its_member club moment view member e =
+    ap (λ (m : Option Member). option_map (with_account club moment view) (option_map (account_of club) m)) e
+
+last_part : (club : Club) (key : Key) (member : Member) (request : Request) (moment : ℕ)
+    → member_named key.member club ≡ Some member
+    → spent_under key.name (bookings_of member.name club) ≡ spent_under key.name club.bookings
+    → last_view club request moment (seen_by_caveats (whole club key member request moment))
+    ≡ Some (seen_by_decision request (whole club key member request moment))
+last_part club key member (asked.View slot) moment has spent = refl
+last_part club key member (asked.Book slot number guests) moment has spent =
+    go (books_anew (whole club key member (asked.Book slot number guests) moment))
+  where
+    go : (anew : Bool)
+        → cond anew (with_member club moment (with_slot club slot (seen_by_caveats (whole club key member (asked.Book slot number guests) moment))))
+        (Some (seen_by_caveats (whole club key member (asked.Book slot number guests) moment)))
+        ≡ Some (cond anew (record (whole club key member (asked.Book slot number guests) moment) { spent = 0 })
+        (seen_by_caveats (whole club key member (asked.Book slot number guests) moment)))
+    go true =
+        with_its_member club moment (with_slot club slot (seen_by_caveats (whole club key member (asked.Book slot number guests) moment))) member has
+    go false = refl
+last_part club key member (asked.Cancel slot number) moment has spent = refl
+last_part club key member asked.Account moment has spent =
+    ap (λ (v : Option View). option_map (with_spent club) v)
+    (with_its_member club moment (seen_by_caveats (whole club key member asked.Account moment)) member has)
+    ∙ ap (λ (n : ℕ). Some (let view : View = record (seen_by_decision asked.Account (whole club key member asked.Account moment)) { spent = n } in view))
+    (sym spent)
+
+-- a new booking reads the slot and the member's sums
+pub of_new_booking : (club : Club) (request : Request) (moment : ℕ) (view : View) (slot : Slot) (number guests : ℕ)
+    → request ≡ asked.Book slot number guests → books_anew view ≡ true
+    → with_member club moment (with_slot club slot view) ≡ last_view club request moment view
+of_new_booking club request moment view slot number guests is anew =
+    ap (λ (b : Bool). cond b (with_member club moment (with_slot club slot view)) (Some view)) (sym anew)
+    ∙ ap (λ (r : Request). last_view club r moment view) (sym is)
+
+-- ---- the answer by the parts
+
+same_key : (request : Request) (view : View) → (seen_by_decision request view).key ≡ view.key
+same_key (asked.View slot) view = refl
+same_key (asked.Book slot number guests) view = go (books_anew view)
+  where
+    go : (anew : Bool) → (let seen : View = cond anew (record view { spent = 0 }) (seen_by_caveats view) in seen).key ≡ view.key
+    go true = refl
+    go false = refl
+same_key (asked.Cancel slot number) view = refl
+same_key asked.Account view = refl
+
+-- what a fault refuses, it refuses whatever else the key sees
+refused_by_fault : (view : View) (fault : CaveatFault) (request : Request) (moment : ℕ)
+    → answer_by_view (Some (seen_by_caveats view)) true (Some fault) request moment
+    ≡ answer_by_view (Some view) true (Some fault) request moment
+refused_by_fault view (NotUnderstood n) request moment = refl
+refused_by_fault view (Denied n) request moment = refl
+
+-- the line of a revoked key, and then the decision
+by_key : Key → Verdict → Verdict
+by_key key verdict = first_of (line false (refused NotVerified) ∷ line key.revoked (refused KeyRevoked) ∷ []) verdict
+
+decided_by_part : (view : View) (request : Request) (moment : ℕ) → RestsOnItsParts view request moment
+    → answer_by_view (Some (seen_by_decision request view)) true None request moment ≡ answer_by_view (Some view) true None request moment
+unfolding by_key
+decided_by_part view request moment law =
+    ap (λ (k : Key). by_key k (verdict_of (seen_by_decision request view) request moment)) (same_key request view)
+    ∙ ap (λ (v : Verdict). by_key view.key v) law.decision
+
+-- ---- the answer to a signed pass
+
+module _ (club : Club) (key : Key) (pass : Plain) (request : Request) (moment : ℕ) (member : Member)
+    (first : first_view club key request ≡ seen_by_caveats (whole club key member request moment))
+    (spent : spent_under key.name (bookings_of member.name club) ≡ spent_under key.name club.bookings)
+    (law : RestsOnItsParts (whole club key member request moment) request moment) where
+  same_fault : fault_read club key pass request moment
+      ≡ first_fault_of (map caveat_of pass.caveats) (ask_of (whole club key member request moment) request moment)
+  same_fault =
+      ap (λ (v : View). first_fault_of (map caveat_of pass.caveats)
+      (after_spending (spent_under key.name club.bookings) (ask_of v request moment))) first
+      ∙ (ap (λ (a : Ask). first_fault_of (map caveat_of pass.caveats) (after_spending (spent_under key.name club.bookings) a)) law.caveats
+      ∙ ap (λ (n : ℕ). first_fault_of (map caveat_of pass.caveats)
+      (after_spending n (ask_of (whole club key member request moment) request moment))) (sym spent))
+
+  same_answer : member_named key.member club ≡ Some member → (fault : Option CaveatFault)
+      → answer_read club key request moment fault ≡ answer_by_view (Some (whole club key member request moment)) true fault request moment
+  same_answer has None =
+      ap (λ (v : View). answer_by_view (last_view club request moment v) true None request moment) first
+      ∙ (ap (λ (v : Option View). answer_by_view v true None request moment) (last_part club key member request moment has spent)
+      ∙ decided_by_part (whole club key member request moment) request moment law)
+  same_answer has (Some fault) =
+      ap (λ (v : View). answer_by_view (Some v) true (Some fault) request moment) first
+      ∙ refused_by_fault (whole club key member request moment) fault request moment
+
+  whole_answer : member_named key.member club ≡ Some member → IsSigner club pass request moment (name_in pass.identifier) key
+      → verdict_in club (words_with (pass_of pass) request) moment
+      ≡ answer_by_view (Some (whole club key member request moment)) true
+      (first_fault_of (map caveat_of pass.caveats) (ask_of (whole club key member request moment) request moment))
+      request moment
+  whole_answer has is =
+      ap (λ (n : Option (List ℕ)). answer_to (Ok (pass_of pass)) request moment
+      (option_map (λ (b : Basis). view_of b request moment)
+      (option_and_then (basis_under club request) (option_and_then (λ (m : List ℕ). key_named m club) n)))) is.names
+      ∙ (ap (λ (k : Option Key). answer_to (Ok (pass_of pass)) request moment
+      (option_map (λ (b : Basis). view_of b request moment) (option_and_then (basis_under club request) k))) is.row
+      ∙ (ap (λ (m : Option Member). answer_to (Ok (pass_of pass)) request moment
+      (option_map (λ (b : Basis). view_of b request moment)
+      (option_map (λ (it : Member). whole_basis club key it request moment) m))) has
+      ∙ ap (λ (b : Bool). answer_by_view (Some (whole club key member request moment)) b
+      (first_fault_of (map caveat_of pass.caveats) (ask_of (whole club key member request moment) request moment))
+      request moment) is.signed))
+
+  answers_alike : member_named key.member club ≡ Some member → IsSigner club pass request moment (name_in pass.identifier) key
+      → verdict_read club key pass request moment ≡ verdict_in club (words_with (pass_of pass) request) moment
+  answers_alike has is =
+      ap (λ (f : Option CaveatFault). answer_read club key request moment f) same_fault
+      ∙ (same_answer has (first_fault_of (map caveat_of pass.caveats) (ask_of (whole club key member request moment) request moment))
+      ∙ sym (whole_answer has is))
+
+there : (member : Option Member) → member ≢ None → (found : Member) × (member ≡ Some found)
+there None some = absurd (some refl)
+there (Some member) some = (member, refl)
+
+-- what is read for a signed pass answers as the machine
+pub read_alike : OwnBookings → LooksNoFurther → (club : Club) (key : Key) (pass : Plain) (request : Request) (moment : ℕ) → IsSound club
+    → signer_in club pass moment ≡ Ok key → verdict_read club key pass request moment ≡ verdict_in club (words_with (pass_of pass) request) moment
+read_alike own law club key pass request moment sound e =
+    let is = is_signer club pass request moment key e in
+    let has = there (member_named key.member club) (owned club is.named key sound is.row) in
+    let its = found (λ (m : Member). bytes_eq m.name key.member) club.members has.0 has.1 in
+    let same : key.member ≡ has.0.name = sym ((bytes_eq-Decides has.0.name key.member).0 its.1) in
+    let among = found (λ (k : Key). bytes_eq k.name is.named) club.keys key is.row in
+    let both = own_member club key has.0.name same (own club key among.0) in
+    answers_alike club key pass request moment has.0 (first_part club key has.0 request moment both.1) both.0
+    (law (whole club key has.0 request moment) request moment) has.1 is

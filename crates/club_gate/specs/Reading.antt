@@ -1,0 +1,72 @@
+-- What the desk reads of the club for the answer to a pass that is signed (ours).
+use Rattle.std.specs.Prelude.{ℕ, true, map, Option, Some, None, option_map, option_and_then, if◌then◌else◌}
+use Rattle.pass_caveats.specs.declared.fault.CaveatFault.{CaveatFault}
+use Rattle.pass_caveats.specs.CaveatOf.{caveat_of, first_fault_of}
+use Rattle.pass_caveats.specs.Spending.{after_spending}
+use Rattle.pass_forms.specs.Pass.{Plain}
+use Rattle.club_values.specs.declared.slot.Slot.{Slot}
+use Rattle.club_rows.specs.declared.key.Key.{Key}
+use Rattle.club_core.specs.declared.account.MemberAccount.{MemberAccount}
+use Rattle.club_core.specs.declared.request.Request.{Request}
+use Rattle.club_core.specs.declared.request.Request.TheVariants as asked
+use Rattle.club_core.specs.declared.verdict.Verdict.{Verdict}
+use Rattle.club_core.specs.declared.view.View.{View}
+use Rattle.club_core.specs.Answer.{answer_by_view, ask_of}
+use Rattle.club_core.specs.Basis.{account_named, slot_use, state_of}
+use Rattle.club_core.specs.Club.{Club, bookings_of}
+use Rattle.club_core.specs.Looks.{bare_view, books_anew}
+use Rattle.club_core.specs.Request.{number_of, slot_of}
+use Rattle.club_core.specs.Sums.{booking_under, count_to_come, spent_under}
+
+-- the view of a key with the record under the number that is asked for, and the facility
+abbrev pub first_view : Club → Key → Request → View
+first_view club key request = record (bare_view key) {
+  facility = (state_of club (slot_of request)).facility;
+  booking = option_and_then (λ (number : ℕ). booking_under key.name number club.bookings) (number_of request);
+}
+
+-- with the state of a slot
+abbrev pub with_slot : Club → Slot → View → View
+with_slot club slot view = record view { taken = (slot_use club slot).taken; closed = (slot_use club slot).closed }
+
+-- with a member's row, balance and open bookings
+abbrev pub with_account : Club → ℕ → View → MemberAccount → View
+with_account club moment view account = record view {
+  member = account.member;
+  balance = account.balance;
+  open_count = count_to_come moment (bookings_of account.member.name club);
+}
+
+-- with those of the key's member; none where the club has no such member
+abbrev pub with_member : Club → ℕ → View → Option View
+with_member club moment view = option_map (with_account club moment view) (account_named view.key.member club)
+
+-- with what the key has spent
+abbrev pub with_spent : Club → View → View
+with_spent club view = record view { spent = spent_under view.key.name club.bookings }
+
+-- with what the decision looks at: a slot that is shown, its state; a new booking, the slot's state and the member's sums; the account,
+-- the member's sums and the key's
+abbrev pub last_view : Club → Request → ℕ → View → Option View
+last_view club (asked.View slot) moment view = Some (with_slot club slot view)
+last_view club (asked.Book slot number guests) moment view =
+    if books_anew view then with_member club moment (with_slot club slot view) else Some view
+last_view club (asked.Cancel slot number) moment view = Some view
+last_view club asked.Account moment view = option_map (with_spent club) (with_member club moment view)
+
+-- the first caveat at fault of a pass, by what its key has spent
+abbrev pub fault_read : Club → Key → Plain → Request → ℕ → Option CaveatFault
+fault_read club key pass request moment =
+    first_fault_of (map caveat_of pass.caveats)
+    (after_spending (spent_under key.name club.bookings) (ask_of (first_view club key request) request moment))
+
+abbrev pub answer_read : Club → Key → Request → ℕ → Option CaveatFault → Verdict
+answer_read club key request moment None =
+    answer_by_view (last_view club request moment (first_view club key request)) true None request moment
+answer_read club key request moment (Some fault) =
+    answer_by_view (Some (first_view club key request)) true (Some fault) request moment
+
+-- the answer to a pass that is signed under the key of a row
+abbrev pub verdict_read : Club → Key → Plain → Request → ℕ → Verdict
+verdict_read club key pass request moment =
+    answer_read club key request moment (fault_read club key pass request moment)
