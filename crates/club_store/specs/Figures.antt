@@ -1,9 +1,10 @@
 -- The parts of a view, by the rows of the club (ours).
-use Rattle.std.specs.Prelude.{ℕ, List, Option, option_and_then, IfSome}
+use Rattle.std.specs.Prelude.{ℕ, ◌-◌, List, Option, option_and_then, IfSome}
 use Rattle.club_values.specs.declared.slot.Slot.{Slot}
 use Rattle.club_rows.specs.declared.booking.Booking.{Booking}
 use Rattle.club_rows.specs.declared.key.Key.{Key}
 use Rattle.club_rows.specs.declared.member.Member.{Member}
+use Rattle.club_core.specs.declared.account.MemberAccount.{MemberAccount}
 use Rattle.club_core.specs.declared.request.Request.{Request}
 use Rattle.club_core.specs.declared.view.View.{View}
 use Rattle.club_core.specs.Basis.{state_of}
@@ -11,8 +12,13 @@ use Rattle.club_core.specs.Club.{Club, bookings_of}
 use Rattle.club_core.specs.Request.{slot_of, number_of}
 use Rattle.club_rows.specs.Rows.{IsMember, IsFacility, IsKey, IsBooking}
 use Rattle.club_core.specs.Sums.{spent_under, balance_of, count_to_come, booking_under}
+use Rattle.club_tables.specs.declared.row.MemberRow.{MemberRow}
 use Rattle.club_store.specs.declared.figures.Account.{Account}
 use Rattle.club_store.specs.declared.figures.SlotState.{SlotState}
+
+-- the account of the member of a row
+abbrev pub member_account : MemberRow → MemberAccount
+member_account row = record { member = row.member; balance = row.member.credited - row.used }
 
 -- what a key spent, and what its member has open at a moment
 abbrev pub account_of : Club → List ℕ → List ℕ → ℕ → Account

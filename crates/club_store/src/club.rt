@@ -2,7 +2,8 @@
 
 use crate::store::Store;
 use club_core::{
-    Booking, Change, ClubStore, Facility, Key, Member, Request, SlotUse, StoreFault, View,
+    Booking, BookingNumber, Change, ClubStore, Facility, Key, Member, MemberAccount, SlotUse,
+    StoreFault,
 };
 use pass_caveats::{Day, Moment, Name, Slot};
 use sqlite::Alter;
@@ -36,13 +37,24 @@ impl<S: Alter> ClubStore for Store<S> {
         Store::slot(self, slot)
     }
 
-    fn view(
+    fn booking(
         &mut self,
         key: &Name,
-        request: &Request,
-        moment: Moment,
-    ) -> Result<Option<View>, StoreFault> {
-        Store::view(self, key, request, moment)
+        number: BookingNumber,
+    ) -> Result<Option<Booking>, StoreFault> {
+        Store::booking(self, key, number)
+    }
+
+    fn account(&mut self, member: &Name) -> Result<Option<MemberAccount>, StoreFault> {
+        Store::account(self, member)
+    }
+
+    fn open_count(&mut self, member: &Name, moment: Moment) -> Result<u64, StoreFault> {
+        Store::open_count(self, member, moment)
+    }
+
+    fn spent(&mut self, key: &Name) -> Result<u64, StoreFault> {
+        Store::spent(self, key)
     }
 
     fn day(&mut self, day: Day) -> Result<Vec<Booking>, StoreFault> {

@@ -3,10 +3,10 @@
 ghost use Rattle.std.specs.Prelude.{◌≡◌, false, IfOk, IfSome};
 ghost use Rattle.club_rows.specs.Rows.{IsBooking};
 ghost use Rattle.club_tables.specs.Told.{ReadsClub};
-ghost use Rattle.club_store.specs.Figures.{account_of, booked_under};
+ghost use Rattle.club_store.specs.Figures.{account_of, booked_under, member_account};
 
-use club_core::{Booking, BookingNumber, Facility, StoreFault};
-use club_tables::reads;
+use club_core::{Booking, BookingNumber, Facility, MemberAccount, StoreFault};
+use club_tables::{MemberRow, reads};
 use pass_caveats::{Moment, Name};
 use sqlite::{Alter, Connection};
 
@@ -28,6 +28,16 @@ pub(crate) struct SlotState {
     pub(crate) taken: u32,
     /// Whether the slot is closed.
     pub(crate) closed: bool,
+}
+
+/// The account of the member of a row: what it was credited, less what its bookings cost.
+pub(crate) fn account_in(row: &MemberRow) -> MemberAccount
+    ensures { result ≡ member_account row.now }
+{
+    MemberAccount {
+        member: row.member,
+        balance: row.member.credited.saturating_sub(row.used),
+    }
 }
 
 /// The account of a key at a moment: its own bookings' costs, and its member's bookings to come.

@@ -15,10 +15,11 @@ ghost use Rattle.std.specs.Prelude.{
 };
 ghost use Rattle.sqlite.specs.State.{HasCleanDisk};
 ghost use Rattle.sqlite.specs.Held.{state};
-ghost use Rattle.club_core.specs.Club.{Club, empty_club, key_named, member_named, facility_named};
+ghost use Rattle.club_core.specs.Club.{Club, bookings_of, empty_club};
+ghost use Rattle.club_core.specs.Club.{key_named, member_named, facility_named};
 ghost use Rattle.club_core.specs.Sheet.{AreRowsOf};
-ghost use Rattle.club_core.specs.Sums.{booking_under};
-ghost use Rattle.club_core.specs.Basis.{slot_use, view_in};
+ghost use Rattle.club_core.specs.Sums.{booking_under, count_to_come, spent_under};
+ghost use Rattle.club_core.specs.Basis.{account_named, slot_use, view_in};
 ghost use Rattle.club_rows.specs.Rows.{IsMember, IsFacility, IsKey, IsOlderRoot, IsBooking};
 ghost use Rattle.club_core.specs.declared.change.Change.TheVariants.{
   InsertMember,
@@ -57,11 +58,11 @@ ghost use Rattle.club_tables.specs.Stored.{IsMemberRow, member_row, older_of, fr
 ghost use Rattle.club_store.specs.Figures.{slot_state, seen, HasLimits};
 
 use crate::Remains;
-use crate::figures::{SlotState, account_at, booked};
+use crate::figures::{SlotState, account_at, account_in, booked};
 use club_core::laws::own_bookings_suffice;
 use club_core::{
-    Booking, BookingNumber, Change, Facility, Key, Member, OlderRoot, Request, Root, SlotUse,
-    StoreFault, View,
+    Booking, BookingNumber, Change, Facility, Key, Member, MemberAccount, OlderRoot, Request, Root,
+    SlotUse, StoreFault, View,
 };
 use club_tables::{MemberRow, Rotation, open_tables, reads, writes};
 use club_transactions::fault_of;
@@ -266,6 +267,35 @@ impl<S: Alter> Store<S> {
         reads::member(&mut self.connection, name)
     }
 
+    /// The member of this name with the points that it has; `None` where there is none. A row out of
+    /// its limits is a fault of storage.
+    pub fn account(&mut self, member: &Name) -> Result<Option<MemberAccount>, StoreFault>
+        ensures reads { ReadsClub S.Store self.old self.new result
+            (λ club account. account ≡ account_named member.now club) }
+        ensures limits { IfOk result (λ account. IfSome account (λ it. IsMember it.member)) }
+    {
+        match self.member_row(member)? {
+            Some(row) => Ok(Some(account_in(&row))),
+            None => Ok(None),
+        }
+    }
+
+    /// How many of a member's bookings are open at a moment: not cancelled, of slots that begin later.
+    pub fn open_count(&mut self, member: &Name, moment: Moment) -> Result<u64, StoreFault>
+        ensures reads { ReadsClub S.Store self.old self.new result
+            (λ club count. count ≡ count_to_come moment (bookings_of member.now club)) }
+    {
+        reads::open_count(&mut self.connection, member, moment)
+    }
+
+    /// The points that a key has spent.
+    pub fn spent(&mut self, key: &Name) -> Result<u64, StoreFault>
+        ensures reads { ReadsClub S.Store self.old self.new result
+            (λ club spent. spent ≡ spent_under key.now club.bookings) }
+    {
+        reads::spent(&mut self.connection, key)
+    }
+
     /// The facility of this name; `None` where there is none. A row out of its limits is a fault of
     /// storage.
     pub fn facility(&mut self, name: &Name) -> Result<Option<Facility>, StoreFault>
@@ -419,7 +449,7 @@ impl<S: Alter> Store<S> {
         ensures makes { ChangesClub S.Store
             (MarkCancelled key.now number refund) self.old self.new result }
     {
-        let found = match self.booking_under(key, number) {
+        let found = match self.booking(key, number) {
             Ok(found) => found,
             Err(fault) => return Err(fault),
         };
@@ -429,14 +459,16 @@ impl<S: Alter> Store<S> {
         }
     }
 
-    /// The booking of a key with a number.
-    fn booking_under(
+    /// The booking of a key under a number; `None` where there is none. A row out of its limits is a
+    /// fault of storage.
+    pub fn booking(
         &mut self,
         key: &Name,
         number: BookingNumber,
     ) -> Result<Option<Booking>, StoreFault>
         ensures reads { ReadsClub S.Store self.old self.new result
             (λ club found. found ≡ booking_under key.now number club.bookings) }
+        ensures limits { IfOk result (λ found. IfSome found IsBooking) }
         ensures named { IfOk result (λ found. IfSome found
             (λ booking. (booking.key ≡ key.now) × (booking.number ≡ number))) }
     {

@@ -14,7 +14,7 @@ returns-in-Some g c =
     let number = c.args.number in
     let refund = c.args.refund in
     let booking = c.in-Some.booking in
-    let mid = c.booking_under.new.self in
+    let mid = c.booking.new.self in
     let new = c.give_back.new.self in
     let named : (booking.key ≡ key) × (booking.number ≡ number) =
     subst (λ (o : Option Booking). IfSome o (λ (b : Booking). (b.key ≡ key) × (b.number ≡ number))) c.in-Some.is c.in-Ok.ensures.named in
@@ -33,7 +33,7 @@ returns-in_default g c =
     let number = c.args.number in
     let IsDone : Booking → Type 0 = λ b. IsTrue b.cancelled in
     record {
-      makes = change_after g.S.Store c.args.self.now c.booking_under.new.self _ _ c.in-Ok.ensures.reads c.mark_cancelled.new.self c.mark_cancelled.result (λ _.
+      makes = change_after g.S.Store c.args.self.now c.booking.new.self _ _ c.in-Ok.ensures.reads c.mark_cancelled.new.self c.mark_cancelled.result (λ _.
           Unit {0}) (HasNoneToCancel key number) (MarkCancelled key number c.args.refund) c.mark_cancelled.ensures.makes
           (λ club before told. elim c.in_default.branch [
             | in_default-via-in-Some+else-not-booking w ↦ subst (λ (o : Option Booking).
@@ -44,6 +44,6 @@ returns-in_default g c =
 
 pub returns-in-Err : goal.returns-in-Err
 returns-in-Err g c = record {
-  makes = refuse_unread g.S.Store c.args.self.now c.booking_under.new.self _ _ c.in-Err.ensures.reads c.in-Err.fault (λ _.
+  makes = refuse_unread g.S.Store c.args.self.now c.booking.new.self _ _ c.in-Err.ensures.reads c.in-Err.fault (λ _.
       Unit {0}) (MarkCancelled c.args.key.now c.args.number c.args.refund) refl;
 }

@@ -1,6 +1,0 @@
-use Rattle.club_store.proofs.FailingLemmas.{reads_or_fails}
-use Rattle.club_store.proofs.club.StoreClubStore.view.Goals as goal
-
-pub returns-clause-failed : goal.returns-clause-failed
-returns-clause-failed g c = λ honest.
-    reads_or_fails g.S.Store c.args.self.now c.view.new.self c.view.result _ c.view.ensures.reads honest
