@@ -1,6 +1,6 @@
-//! How long a view and a booking take over the tables. The view is what the desk looks at before it
-//! books. COUNT are made over each number of ROWS, and the last column is how often the first
-//! line's time both take.
+//! How long a view and a booking take over the tables. The view is all that a key sees of a booking
+//! that it asks for. COUNT are made over each number of ROWS, and the last column is how often the
+//! first line's time both take.
 //!
 //! The place is `memory`, or a path, which gets the number of rows behind it. A file that isn't
 //! there yet is made with so many bookings, and one that is there is taken for what a run with

@@ -3,7 +3,7 @@
 use crate::expect::expect_of_row;
 use crate::fixture::{
     AFTER_7, AT_18, AT_19, BEFORE_START, BOOKING_7, Booked, DAY_AHEAD, FIRST, FRESH, LATER, NOON,
-    START, Seen, Site,
+    START, Seen, Site, key,
 };
 use crate::said::{Asked, BOOK_7, CANCEL_7, Shown, Told};
 use crate::values::{Place, moment};
@@ -219,5 +219,35 @@ fn asks_so(rt: &impl Abort, number: usize, row: &AskRow) {
 fn asks(rt: HostRuntime) {
     for (number, row) in ASKS.iter().enumerate() {
         asks_so(&rt, number, row);
+    }
+}
+
+/// What it sees that has nothing but the key, whose member's name is known from the key's row.
+const BARE: Seen = Seen {
+    quota: 0,
+    balance: 0,
+    facility: None,
+    ..FRESH
+};
+
+#[test]
+fn a_bare_view(rt: HostRuntime) {
+    let mut want = BARE.view(&rt);
+    want.member.credited = 0;
+    expect_of_row(&rt, 0, &View::of_key(&key(&rt, false)), &want);
+}
+
+/// What it sees, and whether a booking would be a new one at a known facility.
+static ANEW: [(Seen, bool); 4] = [
+    (FRESH, true),
+    (NO_COURT, false),
+    (RECORDED, false),
+    (BARE, false),
+];
+
+#[test]
+fn new_bookings(rt: HostRuntime) {
+    for (number, (seen, is_new)) in ANEW.iter().enumerate() {
+        expect_of_row(&rt, number, &seen.view(&rt).books_anew(), is_new);
     }
 }

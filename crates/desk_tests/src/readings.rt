@@ -1,13 +1,17 @@
-//! What the desk reads of its store before it refuses a pass.
+//! What the desk reads of its store for an answer, and no more.
 
 use crate::counter::{carry_out, opened, reply};
-use crate::expect::expect_at;
+use crate::expect::{expect_at, expect_eq};
 use crate::office::Order;
 use crate::passes::{AMY, BOB, FORMS, Shown};
-use crate::said::{ACCOUNT, ACCOUNT_BEFORE, Asked, BOOK_7, BOOKED_7, DENIED_1, NOT_VERIFIED, Told};
-use crate::values::{NOON, ROOT, SECOND_ROOT};
+use crate::said::{
+    ACCOUNT, ACCOUNT_BEFORE, Asked, BOOK_7, BOOKED_7, CANCEL_7, CANCELLED_7, COURT, DENIED_1,
+    NOT_VERIFIED, PlainSlot, Told,
+};
+use crate::values::{FRIDAY, NOON, ROOT, SECOND_ROOT};
 use club_core::{
-    Booking, Change, ClubStore, Facility, Key, Member, Refusal, Request, SlotUse, StoreFault, View,
+    Booking, BookingNumber, Change, ClubStore, Facility, Key, Member, MemberAccount, Refusal,
+    SlotUse, StoreFault,
 };
 use club_gate::Desk;
 use club_store::Store;
@@ -18,23 +22,85 @@ use std::alloc::Global;
 use std::process::Abort;
 use std::test::*;
 
-/// Tables in memory, how often a key's row was read, and how often anything else was asked of them.
-/// Nothing is promised of it.
-#[derive(Drop)]
-struct Counting {
-    store: Store<MemStore>,
+/// How often each thing was asked of a store: a key's row, a record under a number, a facility, the
+/// state of a slot, a member's account, its open bookings, what a key has spent; and how often
+/// anything else, as a change.
+#[derive(Clone, Copy, Debug, PartialEq, Eq)]
+struct Calls {
     keys: u32,
+    records: u32,
+    facilities: u32,
+    slots: u32,
+    accounts: u32,
+    open_counts: u32,
+    spent: u32,
     others: u32,
 }
 
-impl Counting {
-    fn read_a_key(&mut self) {
-        self.keys = self.keys.saturating_add(1);
-    }
+const NONE: Calls = Calls {
+    keys: 0,
+    records: 0,
+    facilities: 0,
+    slots: 0,
+    accounts: 0,
+    open_counts: 0,
+    spent: 0,
+    others: 0,
+};
 
-    fn asked_for_more(&mut self) {
-        self.others = self.others.saturating_add(1);
-    }
+const KEY: Calls = Calls { keys: 1, ..NONE };
+
+const KEY_AND_FACILITY: Calls = Calls {
+    facilities: 1,
+    ..KEY
+};
+
+const SLOT: Calls = Calls {
+    slots: 1,
+    ..KEY_AND_FACILITY
+};
+
+const RECORD: Calls = Calls {
+    records: 1,
+    ..KEY_AND_FACILITY
+};
+
+const CANCELLATION: Calls = Calls {
+    others: 1,
+    ..RECORD
+};
+
+const BOOKING: Calls = Calls {
+    slots: 1,
+    accounts: 1,
+    open_counts: 1,
+    others: 1,
+    ..RECORD
+};
+
+const LIMITED_BOOKING: Calls = Calls {
+    spent: 1,
+    ..BOOKING
+};
+
+const OVER_THE_LIMIT: Calls = Calls { spent: 1, ..RECORD };
+
+const SUMS: Calls = Calls {
+    accounts: 1,
+    open_counts: 1,
+    spent: 1,
+    ..KEY
+};
+
+/// Tables in memory that count what is asked of them. Nothing is promised of them.
+#[derive(Drop)]
+struct Counting {
+    store: Store<MemStore>,
+    calls: Calls,
+}
+
+fn count(calls: &mut u32) {
+    *calls = calls.saturating_add(1);
 }
 
 impl ClubStore for Counting {
@@ -49,107 +115,180 @@ impl ClubStore for Counting {
     ghost widens = { λ store club other others stands sound. stands };
 
     fn key(&mut self, name: &Name) -> Result<Option<Key>, StoreFault> {
-        self.read_a_key();
+        count(&mut self.calls.keys);
         self.store.key(name)
     }
 
     fn member(&mut self, name: &Name) -> Result<Option<Member>, StoreFault> {
-        self.asked_for_more();
+        count(&mut self.calls.others);
         self.store.member(name)
     }
 
     fn facility(&mut self, name: &Name) -> Result<Option<Facility>, StoreFault> {
-        self.asked_for_more();
+        count(&mut self.calls.facilities);
         self.store.facility(name)
     }
 
     fn slot(&mut self, slot: &Slot) -> Result<SlotUse, StoreFault> {
-        self.asked_for_more();
+        count(&mut self.calls.slots);
         self.store.slot(slot)
     }
 
-    fn view(
+    fn booking(
         &mut self,
         key: &Name,
-        request: &Request,
-        moment: Moment,
-    ) -> Result<Option<View>, StoreFault> {
-        self.asked_for_more();
-        self.store.view(key, request, moment)
+        number: BookingNumber,
+    ) -> Result<Option<Booking>, StoreFault> {
+        count(&mut self.calls.records);
+        self.store.booking(key, number)
+    }
+
+    fn account(&mut self, member: &Name) -> Result<Option<MemberAccount>, StoreFault> {
+        count(&mut self.calls.accounts);
+        self.store.account(member)
+    }
+
+    fn open_count(&mut self, member: &Name, moment: Moment) -> Result<u64, StoreFault> {
+        count(&mut self.calls.open_counts);
+        self.store.open_count(member, moment)
+    }
+
+    fn spent(&mut self, key: &Name) -> Result<u64, StoreFault> {
+        count(&mut self.calls.spent);
+        self.store.spent(key)
     }
 
     fn day(&mut self, day: Day) -> Result<Vec<Booking>, StoreFault> {
-        self.asked_for_more();
+        count(&mut self.calls.others);
         self.store.day(day)
     }
 
     fn apply(&mut self, change: &Change) -> Result<(), StoreFault> {
-        self.asked_for_more();
+        count(&mut self.calls.others);
         self.store.apply(change)
     }
 }
 
-/// The fixture, in which bob's key is revoked.
-fn counted_fixture(rt: &(impl Abort + Alloc<A = Global>)) -> Counting {
+/// The fixture, in which bob's key is revoked, after number 7 was booked or before.
+fn counted_fixture(rt: &(impl Abort + Alloc<A = Global>), is_booked: bool) -> Counting {
     let mut desk = opened(rt, Form::V2).desk;
     carry_out(rt, &mut desk, &Order::RevokeKey(b"bob-1"));
+    if is_booked {
+        let text = AMY.text(rt, Form::V2);
+        let told = reply(rt, &mut desk, NOON, text.as_bytes(), &BOOK_7);
+        expect_eq(rt, &told, &BOOKED_7.reply(rt));
+    }
     Counting {
         store: desk.into_store(),
-        keys: 0,
-        others: 0,
+        calls: NONE,
     }
 }
 
-/// A pass, what is asked under it, the reply, how many keys' rows were read, and how often anything
-/// else was asked of the store.
-type Row = (Shown, Asked, Told, u32, u32);
+/// A pass, what is asked under it, the reply, and what is read for it.
+type Row = (Shown, Asked, Told, Calls);
 
-static ROWS: [Row; 8] = [
+const BOOKS_AT_18: Shown = Shown::Of(b"amy-1", ROOT, &["hours = 18-19"]);
+
+/// A pass that allows no booking, whatever its key has spent.
+const VIEWS: Shown = Shown::Of(b"amy-1", ROOT, &["actions = view"]);
+
+const VIEWS_THEN_SPENDS: Shown = Shown::Of(b"amy-1", ROOT, &["actions = view", "spend <= 700"]);
+
+const SPENDS_700: Shown = Shown::Of(b"amy-1", ROOT, &["spend <= 700"]);
+
+/// A facility that the club lacks.
+const NOWHERE: PlainSlot = PlainSlot {
+    facility: b"court-9",
+    day: FRIDAY,
+    hour: 18,
+};
+
+// Before a signature is compared, and for a revoked key, the key's row is read and nothing else.
+static REFUSED: [Row; 5] = [
     // The identifier is no key's.
-    (Shown::Unnamed, BOOK_7, NOT_VERIFIED, 0, 0),
-    (Shown::Of(b"nobody", ROOT, &[]), BOOK_7, NOT_VERIFIED, 1, 0),
-    (Shown::Changed, BOOK_7, NOT_VERIFIED, 1, 0),
+    (Shown::Unnamed, BOOK_7, NOT_VERIFIED, NONE),
+    (Shown::Of(b"nobody", ROOT, &[]), BOOK_7, NOT_VERIFIED, KEY),
+    (Shown::Changed, BOOK_7, NOT_VERIFIED, KEY),
     (
         Shown::Of(b"amy-1", SECOND_ROOT, &["hours = 18-20"]),
         BOOK_7,
         NOT_VERIFIED,
-        1,
-        0,
+        KEY,
     ),
-    (BOB, BOOK_7, Told::Refused(Refusal::KeyRevoked), 1, 0),
-    // A signed pass is asked for its view, too.
-    (
-        Shown::Of(b"amy-1", ROOT, &["actions = view"]),
-        BOOK_7,
-        DENIED_1,
-        1,
-        1,
-    ),
-    (AMY, ACCOUNT, ACCOUNT_BEFORE, 1, 1),
-    // And its booking is written.
-    (AMY, BOOK_7, BOOKED_7, 1, 2),
+    (BOB, BOOK_7, Told::Refused(Refusal::KeyRevoked), KEY),
 ];
 
-fn reads(rt: &(impl Abort + Alloc<A = Global>), form: Form, place: usize, row: &Row) {
-    let (shown, asked, told, keys, others) = row;
-    let mut desk = Desk::new(rt.alloc(), counted_fixture(rt));
+// Number 7 isn't booked.
+static FIRST: [Row; 10] = [
+    (AMY, Asked::View(COURT), Told::Shown(0, false), SLOT),
+    (AMY, ACCOUNT, ACCOUNT_BEFORE, SUMS),
+    (AMY, BOOK_7, BOOKED_7, BOOKING),
+    (BOOKS_AT_18, BOOK_7, BOOKED_7, BOOKING),
+    (SPENDS_700, BOOK_7, BOOKED_7, LIMITED_BOOKING),
+    // What is refused by a caveat reads no sum.
+    (VIEWS, BOOK_7, DENIED_1, RECORD),
+    (VIEWS_THEN_SPENDS, BOOK_7, DENIED_1, RECORD),
+    (VIEWS, ACCOUNT, DENIED_1, KEY),
+    (AMY, CANCEL_7, Told::Refused(Refusal::NoSuchBooking), RECORD),
+    (
+        AMY,
+        Asked::Book(NOWHERE, 7, 2),
+        Told::Refused(Refusal::NoSuchFacility),
+        RECORD,
+    ),
+];
+
+// Number 7 is booked, for 600 points.
+static AGAIN: [Row; 6] = [
+    (AMY, BOOK_7, BOOKED_7, RECORD),
+    // A repeat owes nothing, so a spend limit has no say.
+    (SPENDS_700, BOOK_7, BOOKED_7, RECORD),
+    (AMY, CANCEL_7, CANCELLED_7, CANCELLATION),
+    (SPENDS_700, CANCEL_7, CANCELLED_7, CANCELLATION),
+    (AMY, ACCOUNT, Told::Account(9_400, 1, 600), SUMS),
+    // Number 8 would come to 800 points.
+    (
+        SPENDS_700,
+        Asked::Book(COURT, 8, 0),
+        DENIED_1,
+        OVER_THE_LIMIT,
+    ),
+];
+
+fn reads(
+    rt: &(impl Abort + Alloc<A = Global>),
+    form: Form,
+    is_booked: bool,
+    place: usize,
+    row: &Row,
+) {
+    let (shown, asked, told, calls) = row;
+    let mut desk = Desk::new(rt.alloc(), counted_fixture(rt, is_booked));
     let text = shown.text(rt, form);
     let answered = reply(rt, &mut desk, NOON, text.as_bytes(), asked);
     expect_at(rt, place, &answered, &told.reply(rt));
-    let store = desk.into_store();
-    expect_at(rt, place, &store.keys, keys);
-    expect_at(rt, place, &store.others, others);
+    expect_at(rt, place, &desk.into_store().calls, calls);
 }
 
-fn reads_each(rt: &(impl Abort + Alloc<A = Global>), form: Form) {
-    for (place, row) in ROWS.iter().enumerate() {
-        reads(rt, form, place, row);
+fn reads_each(rt: &(impl Abort + Alloc<A = Global>), is_booked: bool, rows: &[Row]) {
+    for form in &FORMS {
+        for (place, row) in rows.iter().enumerate() {
+            reads(rt, *form, is_booked, place, row);
+        }
     }
 }
 
 #[test]
 fn a_refused_pass_reads_its_key_alone(rt: HostRuntime) {
-    for form in &FORMS {
-        reads_each(&rt, *form);
-    }
+    reads_each(&rt, false, &REFUSED);
+}
+
+#[test]
+fn an_answer_reads_what_it_needs(rt: HostRuntime) {
+    reads_each(&rt, false, &FIRST);
+}
+
+#[test]
+fn a_repeat_and_a_cancellation_read_no_sum(rt: HostRuntime) {
+    reads_each(&rt, true, &AGAIN);
 }

@@ -76,11 +76,13 @@ fn tells_that_memory_is_refused(rt: HostRuntime) {
     expect_refusals(&rt, 1, StoreFault::Memory, Fault::Memory);
 }
 
-// The booking's second call is its view, and its third the change.
+// A booking's first six calls read: the key, the record, the facility, the slot, the account, the
+// open bookings. The seventh writes.
 #[test]
 fn tells_that_storage_is_refused(rt: HostRuntime) {
-    expect_refusals(&rt, 2, StoreFault::Storage, Fault::Storage);
-    expect_refusals(&rt, 3, StoreFault::Storage, Fault::Storage);
+    for first in 2..=7 {
+        expect_refusals(&rt, first, StoreFault::Storage, Fault::Storage);
+    }
 }
 
 // One byte too many.

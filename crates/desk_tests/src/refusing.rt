@@ -1,7 +1,8 @@
 //! A store that counts its calls, and refuses from one of them on. Nothing is promised of it.
 
 use club_core::{
-    Booking, Change, ClubStore, Facility, Key, Member, Request, SlotUse, StoreFault, View,
+    Booking, BookingNumber, Change, ClubStore, Facility, Key, Member, MemberAccount, SlotUse,
+    StoreFault,
 };
 use club_store::Store;
 use pass_caveats::{Day, Moment, Name, Slot};
@@ -69,14 +70,28 @@ impl ClubStore for Refusing {
         self.store.slot(slot)
     }
 
-    fn view(
+    fn booking(
         &mut self,
         key: &Name,
-        request: &Request,
-        moment: Moment,
-    ) -> Result<Option<View>, StoreFault> {
+        number: BookingNumber,
+    ) -> Result<Option<Booking>, StoreFault> {
         self.called()?;
-        self.store.view(key, request, moment)
+        self.store.booking(key, number)
+    }
+
+    fn account(&mut self, member: &Name) -> Result<Option<MemberAccount>, StoreFault> {
+        self.called()?;
+        self.store.account(member)
+    }
+
+    fn open_count(&mut self, member: &Name, moment: Moment) -> Result<u64, StoreFault> {
+        self.called()?;
+        self.store.open_count(member, moment)
+    }
+
+    fn spent(&mut self, key: &Name) -> Result<u64, StoreFault> {
+        self.called()?;
+        self.store.spent(key)
     }
 
     fn day(&mut self, day: Day) -> Result<Vec<Booking>, StoreFault> {

@@ -29,6 +29,10 @@ pub(crate) fn next<'a>(fields: &mut JsonFields<'a>) -> Option<Field<'a>> {
     fields.next()
 }
 
+pub(crate) fn again<'a>(fields: &JsonFields<'a>) -> JsonFields<'a> {
+    fields.again()
+}
+
 pub(crate) fn is_signed(pass: &Pass, root: &[u8]) -> bool {
     pass.is_signed(root)
 }

@@ -1,7 +1,7 @@
 //! Passes that are read from JSON, and handed out field by field.
 
 use crate::any::EXAMPLE_JSON;
-use crate::calls::{fields_of, is_signed, next, read_json};
+use crate::calls::{again, fields_of, is_signed, next, read_json};
 use crate::rows::{
     Fields, KEYID_FIELDS, KNOWN_FIELDS, Piece, SIGNATURE, expect_eq, expect_pass, joined,
 };
@@ -40,21 +40,28 @@ fn ends<'a>(rt: &impl Abort, fields: &mut JsonFields<'a>, want: &Fields<'a>) {
 }
 
 // The fields come in their order, all caveats among them.
-fn hands_out<'a>(rt: &impl Abort, pass: &'a Pass, want: &Fields<'a>) {
-    let mut fields = fields_of(pass);
-    expect_next(rt, &mut fields, Some(Field::Location(want.location)));
-    expect_next(rt, &mut fields, Some(Field::Identifier(want.identifier)));
+fn hands_out<'a>(rt: &impl Abort, fields: &mut JsonFields<'a>, want: &Fields<'a>) {
+    expect_next(rt, fields, Some(Field::Location(want.location)));
+    expect_next(rt, fields, Some(Field::Identifier(want.identifier)));
     for caveat in want.caveats {
-        expect_next(rt, &mut fields, Some(Field::Caveat(caveat)));
+        expect_next(rt, fields, Some(Field::Caveat(caveat)));
     }
-    ends(rt, &mut fields, want);
+    ends(rt, fields, want);
+}
+
+// They come, and come again from a second source, which was made before the first one was gone over.
+fn hands_out_twice<'a>(rt: &impl Abort, pass: &'a Pass, want: &Fields<'a>) {
+    let mut fields = fields_of(pass);
+    let mut others = again(&fields);
+    hands_out(rt, &mut fields, want);
+    hands_out(rt, &mut others, want);
 }
 
 fn is_read(rt: &(impl Abort + AllocGlobal), row: &Read) {
     let text = joined(rt, row.pieces);
     let pass = read_json(rt.alloc(), text.as_bytes()).expect(rt, "a pass");
     expect_pass(rt, &pass, &row.fields);
-    hands_out(rt, &pass, &row.fields);
+    hands_out_twice(rt, &pass, &row.fields);
 }
 
 fn are_read(rt: &(impl Abort + AllocGlobal), rows: &[Read]) {

@@ -64,6 +64,10 @@ pub(crate) fn next<'a, S: FieldSource<'a>>(fields: &mut S) -> Option<Field<'a>> 
     fields.next()
 }
 
+pub(crate) fn again<'a, S: FieldSource<'a>>(fields: &S) -> S {
+    fields.again()
+}
+
 // A pass as a text of V1 or V2.
 pub(crate) fn write(alloc: Global, form: Form, pass: &Pass) -> Result<String, FormFault> {
     match form {

@@ -1,6 +1,6 @@
 //! Passes that are read from V1 and V2, all at once and field by field.
 
-use crate::calls::{next, open_v1, open_v2, read};
+use crate::calls::{again, next, open_v1, open_v2, read};
 use crate::rows::{Fields, Piece, expect_eq, expect_pass, joined};
 use pass_forms::{Field, FieldSource, Form, FormFault};
 use std::process::Abort;
@@ -32,11 +32,23 @@ fn hands_out<'a, S: FieldSource<'a>>(rt: &impl Abort, fields: &mut S, want: &Fie
     ends(rt, fields, want);
 }
 
+// The fields come, and come again from a second source, which was made before the first one was
+// gone over.
+fn hands_out_twice<'a, S: FieldSource<'a> + Drop>(
+    rt: &impl Abort,
+    fields: &mut S,
+    want: &Fields<'a>,
+) {
+    let mut others = again(fields);
+    hands_out(rt, fields, want);
+    hands_out(rt, &mut others, want);
+}
+
 fn walks<'a>(rt: &impl Abort, form: Form, bytes: &'a [u8], want: &Fields<'a>) {
     if form == Form::V1 {
-        hands_out(rt, &mut open_v1(bytes).expect(rt, "fields"), want);
+        hands_out_twice(rt, &mut open_v1(bytes).expect(rt, "fields"), want);
     } else {
-        hands_out(rt, &mut open_v2(bytes).expect(rt, "fields"), want);
+        hands_out_twice(rt, &mut open_v2(bytes).expect(rt, "fields"), want);
     }
 }
 

@@ -3,8 +3,9 @@
 
 use crate::rows::{COURT_AT_18, day, moment, name, number, slot};
 use crate::versions::{database, runs};
-use club_core::{ClubStore, Request, StoreFault};
+use club_core::{Request, StoreFault};
 use club_store::Store;
+use sqlite::Alter;
 use std::alloc::Global;
 use std::process::Abort;
 use std::test::*;
@@ -205,7 +206,7 @@ fn request(rt: &impl Abort) -> Request {
 }
 
 /// The fault of a reading, if any.
-fn fault_of<C: ClubStore>(rt: &impl Abort, store: &mut C, read: Read) -> Option<StoreFault> {
+fn fault_of<S: Alter>(rt: &impl Abort, store: &mut Store<S>, read: Read) -> Option<StoreFault> {
     match read {
         Read::Member => store.member(&name(rt, "amy")).err(),
         Read::Key => store.key(&name(rt, "amy-1")).err(),

@@ -6,7 +6,7 @@ use crate::rows::{
     day, facility, key, moment, name, number, slot,
 };
 use crate::write::{Write, change};
-use club_core::{Change, ClubStore, Request, SlotUse, StoreFault, View, sheet_text};
+use club_core::{Change, ClubStore, MemberAccount, Request, SlotUse, StoreFault, View, sheet_text};
 use club_store::Store;
 use sqlite::{Alter, MemStore};
 use std::alloc::Global;
@@ -98,27 +98,52 @@ fn request(rt: &impl Abort, asked: &Asked) -> Request {
     }
 }
 
+/// The day before the slots.
+const DAY_BEFORE: &str = "2026-04-30T17:00";
+
 /// What `amy-1` sees of a request on the day before the slots.
-fn view<C: ClubStore>(rt: &impl Abort, store: &mut C, asked: &Asked) -> View {
+fn view<S: Alter>(rt: &impl Abort, store: &mut Store<S>, asked: &Asked) -> View {
     let request = request(rt, asked);
-    let at = moment(rt, "2026-04-30T17:00");
+    let at = moment(rt, DAY_BEFORE);
     let found = store.view(&name(rt, "amy-1"), &request, at);
     found.expect(rt, "an answer").expect(rt, "a view")
 }
 
 /// Of 10,000 points 600 are spent on the court, and of 601 for the room 300 came back.
-fn shows_view<C: ClubStore>(
-    rt: &impl Abort,
-    store: &mut C,
-    asked: &Asked,
-    taken: u64,
-    booked: &Option<Booked>,
-) {
+fn shows_view<S: Alter>(rt: &impl Abort, store: &mut Store<S>, shown: &Shown) {
+    let Shown::View(asked, taken, booked) = shown else {
+        return;
+    };
     let view = view(rt, store, asked);
     let account = (view.spent, view.balance, view.open_count);
     expect_eq(rt, &account, &(901, 9_099, 1));
-    expect_eq(rt, &(view.taken, view.closed), &(taken, false));
+    expect_eq(rt, &(view.taken, view.closed), &(*taken, false));
     expect_eq(rt, &view.booking, &booking_of(rt, booked));
+}
+
+/// The same sums, each by a reading of its own.
+fn shows_sums<C: ClubStore>(rt: &impl Abort, store: &mut C) {
+    expect_eq(rt, &store.spent(&name(rt, "amy-1")), &Ok(901));
+    let at = moment(rt, DAY_BEFORE);
+    expect_eq(rt, &store.open_count(&name(rt, "amy"), at), &Ok(1));
+    let account = MemberAccount {
+        member: amy(rt, 10_000),
+        balance: 9_099,
+    };
+    expect_eq(rt, &store.account(&name(rt, "amy")), &Ok(Some(account)));
+}
+
+/// And the booking, where a number is asked for.
+fn shows_booking<C: ClubStore>(
+    rt: &impl Abort,
+    store: &mut C,
+    asked: &Asked,
+    booked: &Option<Booked>,
+) {
+    if let Some(number) = request(rt, asked).number() {
+        let want = Ok(booking_of(rt, booked));
+        expect_eq(rt, &store.booking(&name(rt, "amy-1"), number), &want);
+    }
 }
 
 fn shows_sheet<C: ClubStore>(
@@ -145,7 +170,10 @@ fn shows<C: ClubStore>(rt: &(impl Abort + Alloc<A = Global>), store: &mut C, sho
             };
             shows_slot(rt, store, at, want);
         }
-        Shown::View(asked, taken, booked) => shows_view(rt, store, asked, *taken, booked),
+        Shown::View(asked, _, booked) => {
+            shows_sums(rt, store);
+            shows_booking(rt, store, asked, booked);
+        }
         Shown::Sheet(date, text) => shows_sheet(rt, store, date, text),
     }
 }
@@ -189,7 +217,11 @@ fn plays_any<C: ClubStore>(rt: &(impl Abort + Alloc<A = Global>), store: &mut C,
 
 fn play<S: Alter>(rt: &(impl Abort + Alloc<A = Global>), store: &mut Store<S>, step: &Step) {
     match step {
-        Step::Applies(_) | Step::Shows(_) => plays_any(rt, store, step),
+        Step::Applies(_) => plays_any(rt, store, step),
+        Step::Shows(shown) => {
+            plays_any(rt, store, step);
+            shows_view(rt, store, shown);
+        }
         Step::Calls(write) => calls(rt, store, write, Ok(())),
         Step::Refuses(write) => calls(rt, store, write, Err(StoreFault::Storage)),
     }

@@ -4,7 +4,7 @@ use crate::known::known;
 use anyhow::Result;
 use club_core::{
     Booking, BookingNumber, Change, ClubStore, Facility, FacilityColumns, Guests, Key, Member,
-    Request, Root, View, slot_from_columns,
+    Root, View, slot_from_columns,
 };
 use pass_caveats::{Moment, Name, Slot};
 
@@ -55,14 +55,21 @@ fn join<S: ClubStore>(store: &mut S, index: u32) -> Result<()> {
     Ok(store.apply(&Change::InsertKey(known(key(index), "a key")?))?)
 }
 
-/// Reads what the key of a booking sees when it asks for that at a moment.
+/// Reads what the key of a booking sees when it asks for that at a moment, part by part.
 pub(crate) fn view<S: ClubStore>(store: &mut S, booking: &Booking, moment: Moment) -> Result<View> {
-    let request = Request::Book {
-        slot: booking.slot,
-        number: booking.number,
-        guests: booking.guests,
-    };
-    known(store.view(&booking.key, &request, moment)?, "the key")
+    let key = known(store.key(&booking.key)?, "the key")?;
+    let account = known(store.account(&key.member)?, "the member")?;
+    let mut view = View::of_key(&key);
+    view.member = account.member;
+    view.balance = account.balance;
+    view.spent = store.spent(&key.name)?;
+    view.open_count = store.open_count(&key.member, moment)?;
+    view.booking = store.booking(&key.name, booking.number)?;
+    view.facility = store.facility(&booking.slot.facility)?;
+    let held = store.slot(&booking.slot)?;
+    view.taken = u64::from(held.taken);
+    view.closed = held.closed;
+    Ok(view)
 }
 
 pub(crate) fn book<S: ClubStore>(store: &mut S, booking: &Booking) -> Result<()> {
