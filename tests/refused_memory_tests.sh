@@ -20,9 +20,11 @@ json_tests refused_memory::example
 store_tests refused_memory::store_in_memory
 store_tests refused_memory::empty_database
 store_tests refused_memory::tables_of_version_1
+store_tests refused_memory::tables_without_the_index
 store_tests refused_memory::tables_of_version_2
 store_tests refused_memory::new_file
 store_tests refused_memory::file_of_version_1
+store_tests refused_memory::file_without_the_index
 store_tests refused_memory::file_of_version_2
 desk_tests refused_memory::orders
 desk_tests refused_memory::ask_in_v1

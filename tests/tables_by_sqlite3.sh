@@ -230,7 +230,7 @@ done
 
 # A file of version 1 is migrated as it is opened: the rows are the same, and no key has an older root.
 cp club first
-sql first 'DROP TABLE old_roots; UPDATE desk SET version = 1'
+sql first 'DROP TABLE old_roots; DROP INDEX bookings_by_key; UPDATE desk SET version = 1'
 tells club >shown
 same 'a file of version 1' "$(tells first)" <shown
 same 'a file of version 1, by sqlite3' "$(sql first 'PRAGMA integrity_check; SELECT * FROM desk; SELECT count(*) FROM old_roots')" <<'ROWS'
@@ -239,6 +239,15 @@ ok
 0
 ROWS
 same 'the schema of a migrated file' "$(sql first 'SELECT type, name, sql FROM sqlite_schema')" <<ROWS
+$(sql club 'SELECT type, name, sql FROM sqlite_schema')
+ROWS
+
+# A file of version 2 without the index of the bookings gets it as it is opened.
+cp club unindexed
+sql unindexed 'DROP INDEX bookings_by_key'
+same 'a file without the index' "$(tells unindexed)" <shown
+same 'a file that got the index, by sqlite3' "$(sql unindexed 'PRAGMA integrity_check; SELECT type, name, sql FROM sqlite_schema')" <<ROWS
+ok
 $(sql club 'SELECT type, name, sql FROM sqlite_schema')
 ROWS
 

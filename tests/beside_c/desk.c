@@ -33,7 +33,7 @@ static const char *const texts[STATEMENTS] = {
         " refund FROM bookings WHERE pass_key = ?1 AND number = ?2",
     [COSTS] = "SELECT charge, refund FROM bookings WHERE pass_key = ?1",
     [OPEN] = "SELECT number FROM keys JOIN bookings ON name = pass_key WHERE member = ?1"
-        " AND cancelled = 0 AND day * 1440 + hour * 60 > ?2",
+        " AND cancelled = 0 AND day * 1440 + hour * 60 > ?2 AND day >= ?3",
     [BEGIN] = "BEGIN",
     [ADD_BOOKING] = "INSERT INTO bookings (pass_key, number, facility, day, hour, guests, charge,"
         " remains, cancelled, refund) VALUES (?1, ?2, ?3, ?4, ?5, ?6, ?7, ?8, ?9, ?10)",
@@ -310,6 +310,7 @@ static sqlite3_int64 open_of(const char *member) {
     sqlite3_int64 open = 0;
     set_text(OPEN, 1, member);
     set_number(OPEN, 2, moment);
+    set_number(OPEN, 3, moment / DAY);
     while (next_row(OPEN)) open++;
     return open;
 }

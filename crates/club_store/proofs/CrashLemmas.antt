@@ -38,7 +38,8 @@ database_once one other p q same =
     λ i. record { schema = schemas i; trees = same i }
 
 pub is_database : (db : Database) (club : Club) → HoldsClub db club → IsDatabase db
-is_database db club (inl tables) = tables.lies.database
+is_database db club (inl (inl tables)) = tables.lies.database
+is_database db club (inl (inr unindexed)) = unindexed.lies.database
 is_database db club (inr (inl first)) = first.lies.database
 is_database db club (inr (inr blank)) = blank.2
 

@@ -86,7 +86,7 @@ module _ (old new : State) (schema : Schema) (has : old.now.schema ≡ schema) (
   pub indexes : (at : ℕ) (table : Table) (index : Index) → slice_get schema.tables at ≡ Some table → command_of (understood schema text) ≡ CreateIndex at
       → statement_of text (understood schema text) ≡ text
       → index_defined_by table text ≡ Ok index → (count : ℕ) → Executes text [] old new (Ok count) → (new.now.schema ≡ indexed schema table index)
-      × KeepsRows schema.tables old.now.trees new.now.trees
+      × KeepsRows schema.tables old.now.trees new.now.trees × IsDatabase new.now
   indexes at table index listed is whole defined count h =
       let w = subst (λ t. Writes old new None (CreateIndex at) t [] count) whole (runs_as text [] old new schema has (CreateIndex at) is plain count h) in
       let does = subst (λ s. Does old.step_limit (mode_of old) [] (record old.now { schema = s }) text None (CreateIndex at) (Ok (w.tally, new.now))) has
@@ -98,6 +98,7 @@ module _ (old new : State) (schema : Schema) (has : old.now.schema ≡ schema) (
       let now : new.now ≡ made.0 = ap (λ (p : Tally × Database). p.1) (same_value made.2) in (
         ap (λ (d : Database). d.schema) now ∙ it.is ∙ ap (indexed schema table) same,
         subst (λ (d : Database). KeepsRows schema.tables old.now.trees d.trees) (sym now) it.rows,
+        w.sound,
       )
 
   -- INSERT puts a row at the next rowid, and keeps the other tables

@@ -34,6 +34,7 @@ pub mod SumLemmas
 pub mod PutRows
 pub mod PutLemmas
 pub mod MigrateLemmas
+pub mod IndexLemmas
 pub mod OlderLemmas
 pub mod FindLemmas
 pub mod ReadLemmas

@@ -13,9 +13,9 @@ use Rattle.sqlite.specs.Does.{lacks_sequence}
 use Rattle.sqlite.specs.Listing.{understood}
 use Rattle.sqlite.proofs.Callers.{IsPlain, command_of, statement_of}
 use Rattle.club_tables.specs.Schema.{no_schema, desk_table, members_table, facilities_table, keys_table, slots_table, bookings_table, six_tables}
-use Rattle.club_tables.specs.Schema.{old_roots_table, keys_by_member, first_schema, club_schema}
+use Rattle.club_tables.specs.Schema.{old_roots_table, keys_by_member, first_schema, unindexed_schema, bookings_by_key, club_schema}
 use Rattle.club_tables.specs.declared.texts.TheConstants.{MAKE_DESK, MAKE_MEMBERS, MAKE_FACILITIES, MAKE_KEYS, MAKE_SLOTS, MAKE_BOOKINGS, MAKE_KEYS_BY_MEMBER}
-use Rattle.club_tables.specs.declared.texts.TheConstants.{MAKE_OLD_ROOTS}
+use Rattle.club_tables.specs.declared.texts.TheConstants.{MAKE_OLD_ROOTS, MAKE_BOOKINGS_BY_KEY, DROP_BOOKINGS_BY_KEY}
 
 -- the text makes the table
 pub record Makes (schema : Schema) (text : List ℕ) (table : Table) : Type 0 where
@@ -83,10 +83,31 @@ pub makes_old_roots : Makes first_schema MAKE_OLD_ROOTS.now old_roots_table
 unfolding understood everything
 makes_old_roots = record { plain = (refl, refl); is = refl; whole = refl; defined = refl; uncounted = refl }
 
--- over the club's tables the first text is refused, and over those of version 1
+abbrev pub bookings_made : Table
+bookings_made = record bookings_table { tree = 9 }
+
+pub makes_bookings_by_key : MakesIndex unindexed_schema MAKE_BOOKINGS_BY_KEY.now 5 bookings_made bookings_by_key
+unfolding understood everything
+makes_bookings_by_key = record { plain = (refl, refl); listed = refl; is = refl; whole = refl; defined = refl }
+
+-- the index is made once
+pub indexes_again : is_ok (understood club_schema MAKE_BOOKINGS_BY_KEY.now) ≡ false
+unfolding understood everything
+indexes_again = refl
+
+-- where there is none, none can be dropped
+pub drops_none : is_ok (understood unindexed_schema DROP_BOOKINGS_BY_KEY.now) ≡ false
+unfolding understood everything
+drops_none = refl
+
+-- over the club's tables the first text is refused, over those without the index, and over those of version 1
 pub makes_again : is_ok (understood club_schema MAKE_DESK.now) ≡ false
 unfolding understood everything
 makes_again = refl
+
+pub makes_over_unindexed : is_ok (understood unindexed_schema MAKE_DESK.now) ≡ false
+unfolding understood everything
+makes_over_unindexed = refl
 
 pub makes_over_first : is_ok (understood first_schema MAKE_DESK.now) ≡ false
 unfolding understood everything

@@ -1,10 +1,10 @@
 -- What is asked of the bookings of all keys of a member.
-use Rattle.std.proofs.Common.{◌≡◌, ◌≢◌, ℕ, ◌+◌, ◌*◌, ◌<◌, ◌^◌, pos, ℤ, Bool, true, false, not, cond, ◌&&◌, ◌||◌, List, [], ◌∷◌, map, codes, length, refl, sym}
-use Rattle.std.proofs.Common.{ap, subst, ◌∙◌, arith}
-use Rattle.std.specs.Prelude.{filter, flat_map, slice_index_or, nat_lt, All, AllPairs, IsPermutation}
+use Rattle.std.proofs.Common.{◌≡◌, ◌≢◌, ℕ, ◌+◌, ◌*◌, ◌/◌, ◌<◌, ◌≤◌, ◌^◌, pos, ℤ, Bool, true, false, not, cond, ◌&&◌, ◌||◌, List, [], ◌∷◌, map, codes, length, refl}
+use Rattle.std.proofs.Common.{sym, ap, subst, ◌∙◌, arith}
+use Rattle.std.specs.Prelude.{filter, flat_map, slice_index_or, nat_lt, nat_le, All, AllPairs, IsPermutation}
 use Rattle.std.specs.List.{list_any}
 use Rattle.std.specs.Str.{bytes_eq}
-use Rattle.std.specs.Ordering.{is_gt, int_cmp}
+use Rattle.std.specs.Ordering.{is_gt, is_ge, int_cmp}
 use Rattle.std.proofs.lemmas.Bool.{and_parts, lt-ltb, false_from_ne_true}
 use Rattle.std.proofs.lemmas.Bool.Decides.{nat_tests}
 use Rattle.std.proofs.lemmas.List.{length-map}
@@ -18,7 +18,7 @@ use Rattle.sqlite_value.specs.declared.keys.Collation.TheVariants.{Binary}
 use Rattle.sqlite_value.proofs.OrderLemmas.{value_cmp-Int}
 use Rattle.sqlite_sql.specs.declared.ops.ArithOp.TheVariants.{Add, Mul}
 use Rattle.sqlite_sql.specs.declared.ops.BinaryOp.TheVariants.{Arith, Compare}
-use Rattle.sqlite_sql.specs.declared.ops.CompareOp.TheVariants.{Eq, Gt}
+use Rattle.sqlite_sql.specs.declared.ops.CompareOp.TheVariants.{Eq, Gt, Ge}
 use Rattle.sqlite_sql.specs.Ops.{binary, is_true}
 use Rattle.sqlite.specs.Order.{Row}
 use Rattle.sqlite.specs.Store.{Ghosts}
@@ -59,10 +59,13 @@ abbrev begins_later : Term
 begins_later = op2 (Compare Gt Binary) (op2 (Arith Add) (op2 (Arith Mul) (col 2 4) (lit (Int (pos 1440)))) (op2 (Arith Mul) (col 2 5) (lit (Int (pos 60)))))
     (col 0 1)
 
+abbrev from_day : Term
+from_day = op2 (Compare Ge Binary) (col 2 4) (col 0 2)
+
 open_is : command_of (understood club_schema OPEN.now)
     ≡ Select (record {
       lets = [];
-      body = select (inner keys_tree (inner bookings_tree end)) (under_it ∷ is_given 2 0 ∷ stands_still ∷ begins_later ∷ [])
+      body = select (inner keys_tree (inner bookings_tree end)) (under_it ∷ is_given 2 0 ∷ stands_still ∷ begins_later ∷ from_day ∷ [])
           (col 2 2 ∷ []);
     }) (codes "number" ∷ [])
 unfolding understood everything
@@ -85,6 +88,21 @@ int_gt m n = grind (arith, nat_tests)
 whole_above : (m n : ℕ) → is_true (binary (Compare Gt Binary) (Int (pos m)) (Int (pos n))) ≡ nat_lt n m
 unfolding binary
 whole_above m n = told _ ∙ ap is_gt (value_cmp-Int (pos m) (pos n)) ∙ int_gt m n
+
+-- `>=` of two whole numbers
+int_ge : (m n : ℕ) → is_ge (int_cmp (pos m) (pos n)) ≡ nat_le n m
+int_ge m n = grind (arith, nat_tests)
+
+whole_from : (m n : ℕ) → is_true (binary (Compare Ge Binary) (Int (pos m)) (Int (pos n))) ≡ nat_le n m
+unfolding binary
+whole_from m n = told _ ∙ ap is_ge (value_cmp-Int (pos m) (pos n)) ∙ int_ge m n
+
+-- what begins after a moment lies on its day or a later one
+day_after : (moment day hour : ℕ) → hour < 24 → nat_lt moment (day * 1440 + hour * 60) ≡ true → nat_le (moment / 1440) day ≡ true
+day_after moment day hour low later =
+    let after : moment < day * 1440 + hour * 60 = grind (arith, nat_tests) in
+    let reached : moment / 1440 ≤ day = omega arith in
+    grind (arith, nat_tests)
 
 -- a product and a sum that 64 bits hold
 product : (m n : ℕ) → m * n < 2 ^ 63 → binary (Arith Mul) (Int (pos m)) (Int (pos n)) ≡ Int (pos (m * n))
@@ -173,18 +191,30 @@ all_pass (x ∷ xs) = ap (λ ys. x ∷ ys) (all_pass xs)
 
 -- whether a booking is still to come, as the statement asks it
 abbrev comes : ℕ → Booking → Bool
-comes moment b = not b.cancelled && is_true (binary (Compare Gt Binary) (start_value b) (whole moment))
+comes moment b =
+    not b.cancelled
+    && (is_true (binary (Compare Gt Binary) (start_value b) (whole moment)) && is_true (binary (Compare Ge Binary) (whole b.slot.day) (whole (moment / 1440))))
 
+-- a second test that holds wherever the first does
+both_if_first : (a b : Bool) → (a ≡ true → b ≡ true) → (a && b) ≡ a
+both_if_first true b follows = follows refl
+both_if_first false b follows = refl
+
+-- the bound by the day leaves out nothing
 comes_is : (moment : ℕ) (b : Booking) → IsBooking b → comes moment b ≡ is_to_come moment b
-comes_is moment b row = ap (λ v. not b.cancelled && is_true (binary (Compare Gt Binary) v (whole moment))) (start_value_is b row)
-    ∙ ap (λ t. not b.cancelled && t) (whole_above (start_of b.slot) moment)
+comes_is moment b row =
+    let later = ap (λ v. is_true (binary (Compare Gt Binary) v (whole moment))) (start_value_is b row) ∙ whole_above (start_of b.slot) moment in
+    let from = whole_from b.slot.day (moment / 1440) in
+    let first = both_if_first (nat_lt moment (start_of b.slot)) (nat_le (moment / 1440) b.slot.day)
+    (day_after moment b.slot.day b.slot.hour row.slot.hour) in
+    rw (later, from, first) refl
 
 filter_where : {X : Type 0} (P : X → Type 0) (p q : X → Bool) → ((x : X) → P x → p x ≡ q x) → (xs : List X) → All P xs → filter p xs ≡ filter q xs
 filter_where P p q same [] all = refl
 filter_where P p q same (x ∷ xs) all = let e = same x (All-head P x xs all) in let more = filter_where P p q same xs (All-tail P x xs all) in rw (e, more) refl
 
 pub open_told : {S : Type 0} (g : Ghosts S) (old : Held S) (member : List ℕ) (moment : ℕ) (rows : List Row) → HasCleanDisk (state g old)
-    → Asked g OPEN.now (Text member ∷ whole moment ∷ []) old rows
+    → Asked g OPEN.now (Text member ∷ whole moment ∷ whole (moment / 1440) ∷ []) old rows
     → (club : Club) (others : List Club) → Stands (state g old) club others → length rows ≡ count_to_come moment (bookings_of member club)
 open_told g old member moment rows clean asked club others stands =
     let tables = asked_tables g OPEN.now _ old rows asked clean club others stands in
@@ -194,13 +224,14 @@ open_told g old member moment rows clean asked club others stands =
     let e = text_equal k.name b.key in
     let f = text_equal k.member member in
     let t = whole_equal (truth b.cancelled) 0 ∙ no_truth b.cancelled in
-    let l = and_true (is_true (binary (Compare Gt Binary) (start_value b) (whole moment))) in
+    let l = and_true (is_true (binary (Compare Ge Binary) (whole b.slot.day) (whole (moment / 1440)))) in
     let h : (is_true (binary (Compare Eq Binary) (Text k.name) (Text b.key)) && (is_true (binary (Compare Eq Binary) (Text k.member) (Text member))
     && (is_true (binary (Compare Eq Binary) (whole (truth b.cancelled)) (whole 0))
-    && (is_true (binary (Compare Gt Binary) (start_value b) (whole moment)) && true))))
+    && (is_true (binary (Compare Gt Binary) (start_value b) (whole moment))
+    && (is_true (binary (Compare Ge Binary) (whole b.slot.day) (whole (moment / 1440))) && true)))))
     ≡ is_owned member (comes moment) k b = cc in h in
-    let both = selected_both key_values booking_values (Text member ∷ whole moment ∷ []) (under_it ∷ is_given 2 0 ∷ stands_still ∷ begins_later ∷ []) (col 2 2
-    ∷ []) (is_owned member (comes moment)) number tests (λ i j k b. refl)
+    let both = selected_both key_values booking_values (Text member ∷ whole moment ∷ whole (moment / 1440) ∷ [])
+    (under_it ∷ is_given 2 0 ∷ stands_still ∷ begins_later ∷ from_day ∷ []) (col 2 2 ∷ []) (is_owned member (comes moment)) number tests (λ i j k b. refl)
     keys_tree bookings_tree (codes "number" ∷ []) (state g old).now club.keys club.bookings rows (keys_held _ club tables) (bookings_held _ club tables)
     reads in
     let own = bookings_of member club in

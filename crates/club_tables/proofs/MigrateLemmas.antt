@@ -14,8 +14,8 @@ use Rattle.sqlite.specs.Held.{Held, state}
 use Rattle.sqlite.proofs.Callers.{IsPlain, command_of}
 use Rattle.club_core.specs.Club.{Club}
 use Rattle.club_core.specs.Store.{KeepsStanding}
-use Rattle.club_tables.specs.declared.texts.TheConstants.{MAKE_OLD_ROOTS, SET_VERSION}
-use Rattle.club_tables.specs.Schema.{desk_table, old_roots_table, first_schema, club_schema}
+use Rattle.club_tables.specs.declared.texts.TheConstants.{MAKE_OLD_ROOTS, MAKE_BOOKINGS_BY_KEY, SET_VERSION}
+use Rattle.club_tables.specs.Schema.{desk_table, old_roots_table, bookings_by_key, first_schema, unindexed_schema, club_schema}
 use Rattle.club_tables.specs.Columns.{version_values, member_values, facility_values, key_values, slot_values, booking_values}
 use Rattle.club_tables.specs.Opening.{migration}
 use Rattle.club_tables.specs.Statements.{select}
@@ -24,8 +24,8 @@ use Rattle.club_tables.specs.Tables.{Tables, FirstTables, FirstLies, Lies, Holds
 use Rattle.club_tables.specs.Told.{first_in}
 use Rattle.club_transactions.specs.Transaction.{Ran, IsKept, begun}
 use Rattle.club_tables.proofs.ChangeLemmas.{nothing_more}
-use Rattle.club_tables.proofs.InsertLemmas.{creates, cast_int}
-use Rattle.club_tables.proofs.MakesLemmas.{makes_old_roots}
+use Rattle.club_tables.proofs.InsertLemmas.{creates, indexes, cast_int}
+use Rattle.club_tables.proofs.MakesLemmas.{makes_old_roots, makes_bookings_by_key, bookings_made}
 use Rattle.club_tables.proofs.OpenLemmas.{IsSettled, settles}
 use Rattle.club_tables.proofs.ReplaceLemmas.{replaced}
 use Rattle.club_tables.proofs.RowLemmas.{holds_none}
@@ -51,28 +51,33 @@ module _ {S : Type 0} (g : Ghosts S) (old : Held S) (db : Database) (ran : Ran g
   lies_on rows lies =
       let t1 = ran.turns in
       let t2 = t1.3 in
-      let mid = (state g t1.0).now in
+      let t3 = t2.3 in
+      let mid = (state g t2.0).now in
       let c1 = creates (state g (begun old)) (state g t1.0) first_schema lies.schema MAKE_OLD_ROOTS.now makes_old_roots.plain old_roots_table makes_old_roots.is
       makes_old_roots.whole makes_old_roots.defined makes_old_roots.uncounted t1.1 t1.2 in
-      let c2 = updates (state g t1.0) (state g t2.0) c1.1 SET_VERSION.now version_plain 0 version_table (select (inner desk_tree end) [] version_terms) [] refl
-      version_is t2.1 t2.2 in
-      let next = (state g t2.0).now in
-      let others = c2.4 in
-      let is : db ≡ next = ran.is ∙ ap (λ h. (state g h).now) t2.3 in
-      let one : Holds version_values (mid.trees desk_tree) (1 ∷ []) = subst (λ rs. Holds version_values rs (1 ∷ [])) (sym c1.3.0) lies.version in
+      let c2 = indexes (state g t1.0) (state g t2.0) unindexed_schema c1.1 MAKE_BOOKINGS_BY_KEY.now makes_bookings_by_key.plain 5 bookings_made bookings_by_key
+      makes_bookings_by_key.listed makes_bookings_by_key.is makes_bookings_by_key.whole makes_bookings_by_key.defined t2.1 t2.2 in
+      let c3 = updates (state g t2.0) (state g t3.0) c2.0 SET_VERSION.now version_plain 0 version_table (select (inner desk_tree end) [] version_terms) [] refl
+      version_is t3.1 t3.2 in
+      let next = (state g t3.0).now in
+      let kept = c2.1 in
+      let others = c3.4 in
+      let is : db ≡ next = ran.is ∙ ap (λ h. (state g h).now) t3.3 in
+      let one : Holds version_values (mid.trees desk_tree) (1 ∷ []) = subst (λ rs. Holds version_values rs (1 ∷ [])) (sym (kept.0 ∙ c1.3.0)) lies.version in
       let two = replaced version_values (λ _. true) (λ _. 2) (λ n fails. absurd cc) [] [] version_terms (λ id n.
-      refl) version_table (record { schema = club_schema; trees = mid.trees }) (1 ∷ []) c2.0
-      (λ _. Unit {0}) (nothing_more {X = ℕ} (1 ∷ [])) (λ id n _ passes. refl) (λ id n. rw (cast_int id, cast_int (pos n)) refl) one (omega arith) c2.1 in
+      refl) version_table (record { schema = club_schema; trees = mid.trees }) (1 ∷ []) c3.0
+      (λ _. Unit {0}) (nothing_more {X = ℕ} (1 ∷ [])) (λ id n _ passes. refl) (λ id n. rw (cast_int id, cast_int (pos n)) refl) one (omega arith) c3.1 in
       let left : Lies next rows = record {
-        schema = c2.2;
-        version = subst (λ rs. Holds version_values rs (2 ∷ [])) (sym c2.3) two;
-        members = subst (λ rs. Holds member_values rs rows.members) (sym (others.1.0 (λ e. omega arith) ∙ c1.3.1.0)) lies.members;
-        facilities = subst (λ rs. Holds facility_values rs rows.facilities) (sym (others.1.1.0 (λ e. omega arith) ∙ c1.3.1.1.0)) lies.facilities;
-        keys = subst (λ rs. Holds key_values rs rows.keys) (sym (others.1.1.1.0 (λ e. omega arith) ∙ c1.3.1.1.1.0)) lies.keys;
-        slots = subst (λ rs. Holds slot_values rs rows.slots) (sym (others.1.1.1.1.0 (λ e. omega arith) ∙ c1.3.1.1.1.1.0)) lies.slots;
-        bookings = subst (λ rs. Holds booking_values rs rows.bookings) (sym (others.1.1.1.1.1.0 (λ e. omega arith) ∙ c1.3.1.1.1.1.1.0)) lies.bookings;
-        olders = subst (Holds _ (next.trees 12)) (sym lies.olders) (holds_none _ _ (others.1.1.1.1.1.1.0 (λ e. omega arith) ∙ c1.2));
-        database = c2.5;
+        schema = c3.2;
+        version = subst (λ rs. Holds version_values rs (2 ∷ [])) (sym c3.3) two;
+        members = subst (λ rs. Holds member_values rs rows.members) (sym (others.1.0 (λ e. omega arith) ∙ kept.1.0 ∙ c1.3.1.0)) lies.members;
+        facilities = subst (λ rs. Holds facility_values rs rows.facilities) (sym (others.1.1.0 (λ e. omega arith) ∙ kept.1.1.0 ∙ c1.3.1.1.0)) lies.facilities;
+        keys = subst (λ rs. Holds key_values rs rows.keys) (sym (others.1.1.1.0 (λ e. omega arith) ∙ kept.1.1.1.0 ∙ c1.3.1.1.1.0)) lies.keys;
+        slots = subst (λ rs. Holds slot_values rs rows.slots) (sym (others.1.1.1.1.0 (λ e. omega arith) ∙ kept.1.1.1.1.0 ∙ c1.3.1.1.1.1.0)) lies.slots;
+        bookings = subst (λ rs. Holds booking_values rs rows.bookings) (sym (others.1.1.1.1.1.0 (λ e. omega arith) ∙ kept.1.1.1.1.1.0 ∙ c1.3.1.1.1.1.1.0))
+            lies.bookings;
+        olders = subst (Holds _ (next.trees 12)) (sym lies.olders) (holds_none _ _ (others.1.1.1.1.1.1.0 (λ e. omega arith) ∙ kept.1.1.1.1.1.1.0 ∙ c1.2));
+        database = c3.5;
       } in
       subst (λ (d : Database). Lies d rows) (sym is) left
 
@@ -103,6 +108,6 @@ module _ {S : Type 0} (g : Ghosts S) (old new : Held S) where
         settled = λ clean is_open. let k = kept clean is_open in k.1 ∙ sym k.2;
         left = λ clean trees may. elim (survives.crash clean trees may) [
           | inl was ↦ first.left (earlier clean) trees was
-          | inr made ↦ inl (made.0, sym made.2, inl (holds_first made.0 made.1 (earlier clean) club others first))
+          | inr made ↦ inl (made.0, sym made.2, inl (inl (holds_first made.0 made.1 (earlier clean) club others first)))
         ];
       }

@@ -3,6 +3,7 @@ use Rattle.std.proofs.Common.{◌≡◌, ◌⊎◌, ℕ, List, [], ◌∷◌, Is
 use Rattle.std.specs.Prelude.{is_ok}
 use Rattle.sqlite_tied.specs.Compute.{everything}
 use Rattle.sqlite.specs.Order.{Row, column}
+use Rattle.sqlite.specs.Schema.{Schema}
 use Rattle.sqlite.specs.Term.{col}
 use Rattle.sqlite.specs.Query.{inner, end}
 use Rattle.sqlite.specs.Command.TheVariants.{Select}
@@ -20,14 +21,14 @@ use Rattle.sqlite.specs.Steps.{over_memory, IsEmpty}
 use Rattle.sqlite.specs.Held.{Held, state}
 use Rattle.club_core.specs.Club.{Club, empty_club}
 use Rattle.club_core.specs.Store.{KeepsStanding}
-use Rattle.club_tables.specs.Schema.{club_schema, first_schema, no_schema}
-use Rattle.club_tables.specs.Tables.{Tables, FirstTables, HoldsClub, Stands, FirstStands, IsFound, desk_tree}
+use Rattle.club_tables.specs.Schema.{club_schema, first_schema, unindexed_schema, no_schema}
+use Rattle.club_tables.specs.Tables.{Tables, SecondTables, HoldsClub, Holds, Stands, FirstStands, SecondStands, IsFound, desk_tree}
 use Rattle.club_tables.specs.Told.{found_in}
 use Rattle.club_tables.specs.Opening.{table_batch}
 use Rattle.club_transactions.specs.Transaction.{Asked, Ran, IsKept}
 use Rattle.club_tables.proofs.SelectLemmas.{selected, short_permutation}
-use Rattle.club_tables.proofs.StandLemmas.{asked_open, asked_tables, asked_reads, first_reads}
-use Rattle.club_tables.proofs.MakingLemmas.{made_tables, makes_no_more, makes_no_second}
+use Rattle.club_tables.proofs.StandLemmas.{asked_open, reads_over}
+use Rattle.club_tables.proofs.MakingLemmas.{made_tables, makes_no_more, makes_no_unindexed, makes_no_second}
 
 -- every crash leaves what was committed last
 abbrev pub IsSettled : State → Type 0
@@ -39,7 +40,7 @@ pub settles : (now : State) (club : Club) (others : List Club) → (HasCleanDisk
 settles now club others held opens same settled = record {
   held = held;
   settled = λ clean is_open. same;
-  left = λ clean trees may. inl (now.committed, sym (settled (opens clean) trees may), inl (held clean (opens clean)));
+  left = λ clean trees may. inl (now.committed, sym (settled (opens clean) trees may), inl (inl (held clean (opens clean))));
 }
 
 module _ {S : Type 0} (g : Ghosts S) (old new : Held S) where
@@ -50,7 +51,8 @@ module _ {S : Type 0} (g : Ghosts S) (old new : Held S) where
       let is_open = ran.opened (omega arith) in
       let now = found.settled clean is_open in
       elim (found.held clean is_open) [
-        | inl tables ↦ absurd (makes_no_more g old db ran (ap (λ (d : Database). d.schema) now ∙ tables.lies.schema))
+        | inl (inl tables) ↦ absurd (makes_no_more g old db ran (ap (λ (d : Database). d.schema) now ∙ tables.lies.schema))
+        | inl (inr unindexed) ↦ absurd (makes_no_unindexed g old db ran (ap (λ (d : Database). d.schema) now ∙ unindexed.lies.schema))
         | inr (inl first) ↦ absurd (makes_no_second g old db ran (ap (λ (d : Database). d.schema) now ∙ first.lies.schema))
         | inr (inr blank) ↦ subst (Tables db) (sym blank.1) (made_tables g old db ran (ap (λ (d : Database). d.schema) now ∙ blank.0))
       ]
@@ -70,7 +72,7 @@ module _ {S : Type 0} (g : Ghosts S) (old new : Held S) where
         settled = λ clean is_open. let k = kept clean is_open in k.1 ∙ sym k.2;
         left = λ clean trees may. elim (survives.crash clean trees may) [
           | inl was ↦ found.left (earlier clean) trees was
-          | inr made ↦ inl (made.0, sym made.2, inl (holds_found made.0 made.1 (earlier clean) club others found))
+          | inr made ↦ inl (made.0, sym made.2, inl (inl (holds_found made.0 made.1 (earlier clean) club others found)))
         ];
       }
 
@@ -79,58 +81,65 @@ no_version : is_ok (understood no_schema VERSION.now) ≡ false
 unfolding understood listing_schema everything
 no_version = refl
 
-version_is : command_of (understood club_schema VERSION.now) ≡ Select (record { lets = []; body = select (inner desk_tree end) [] (col 1 1 ∷ []) })
-    (codes "version" ∷ [])
+-- over these tables the version is a query of the one row
+record AsksVersion (schema : Schema) : Type 0 where
+  is : command_of (understood schema VERSION.now)
+      ≡ Select (record { lets = []; body = select (inner desk_tree end) [] (col 1 1 ∷ []) }) (codes "version" ∷ [])
+  plain : IsPlain (understood schema VERSION.now)
+  unlisted : reads_listing schema VERSION.now ≡ false
+
+asks_club : AsksVersion club_schema
 unfolding understood everything
-version_is = refl
+asks_club = record { is = refl; plain = (refl, refl); unlisted = refl }
 
-version_plain : IsPlain (understood club_schema VERSION.now)
+asks_unindexed : AsksVersion unindexed_schema
 unfolding understood everything
-version_plain = (refl, refl)
+asks_unindexed = record { is = refl; plain = (refl, refl); unlisted = refl }
 
-version_unlisted : reads_listing club_schema VERSION.now ≡ false
-unfolding everything
-version_unlisted = refl
-
-first_version_is : command_of (understood first_schema VERSION.now) ≡ Select (record { lets = []; body = select (inner desk_tree end) [] (col 1 1 ∷ []) })
-    (codes "version" ∷ [])
+asks_first : AsksVersion first_schema
 unfolding understood everything
-first_version_is = refl
+asks_first = record { is = refl; plain = (refl, refl); unlisted = refl }
 
-first_version_plain : IsPlain (understood first_schema VERSION.now)
-unfolding understood everything
-first_version_plain = (refl, refl)
-
-first_version_unlisted : reads_listing first_schema VERSION.now ≡ false
-unfolding everything
-first_version_unlisted = refl
+-- and that row is the version
+version_row : {S : Type 0} (g : Ghosts S) (old : Held S) (rows : List Row) → Asked g VERSION.now [] old rows → (schema : Schema) → AsksVersion schema
+    → (state g old).now.schema ≡ schema → (version : ℕ) → Holds version_values ((state g old).now.trees desk_tree) (version ∷ [])
+    → rows ≡ version_values version ∷ []
+version_row g old rows asked schema asks over version held =
+    let reads = reads_over g VERSION.now [] old rows asked schema over _ asks.is asks.plain asks.unlisted in
+    let same = selected version_values [] [] (col 1 1 ∷ []) (λ _. true) version_values (λ id n. refl) (λ id n.
+    refl) desk_tree (codes "version" ∷ []) (state g old).now (version ∷ []) rows held reads in
+    short_permutation (version_values version ∷ []) rows (omega arith) same
 
 -- a database whose version was read has the tables of the club that was found
 pub version_told : {S : Type 0} (g : Ghosts S) (old : Held S) (rows : List Row) → HasCleanDisk (state g old) → Asked g VERSION.now [] old rows
-    → (club : Club) (others : List Club) → IsFound (state g old) club others → (Stands (state g old) club others × (rows ≡ version_values 2 ∷ []))
+    → (club : Club) (others : List Club) → IsFound (state g old) club others → (SecondStands (state g old) club others × (rows ≡ version_values 2 ∷ []))
     ⊎ (FirstStands (state g old) club others × (rows ≡ version_values 1 ∷ []))
 unfolding Shown
 version_told g old rows clean asked club others found =
     let is_open = asked_open g VERSION.now [] old rows asked in
     let now = found.settled clean is_open in
+    let schema = ap (λ (d : Database). d.schema) now in
+    let second : SecondTables (state g old).committed club → SecondStands (state g old) club others = λ held.
+    record { held = λ _ _. held; settled = found.settled; left = found.left } in
     elim (found.held clean is_open) [
-      | inl tables ↦
-          let stands : Stands (state g old) club others = record { held = λ _ _. tables; settled = found.settled; left = found.left } in
-          let here = asked_tables g VERSION.now [] old rows asked clean club others stands in
-          let reads = asked_reads g VERSION.now [] old rows asked here.lies.schema _ version_is version_plain version_unlisted in
-          let same = selected version_values [] [] (col 1 1 ∷ []) (λ _. true) version_values (λ id n. refl) (λ id n.
-          refl) desk_tree (codes "version" ∷ []) (state g old).now (2 ∷ []) rows here.lies.version reads in
-          inl (stands, short_permutation (version_values 2 ∷ []) rows (omega arith) same)
-      | inr (inl first) ↦
-          let stands : FirstStands (state g old) club others = record { held = λ _ _. first; settled = found.settled; left = found.left } in
-          let here : FirstTables (state g old).now club = subst (λ (db : Database). FirstTables db club) (sym now) first in
-          let reads = first_reads g VERSION.now [] old rows asked here.lies.schema _ first_version_is first_version_plain first_version_unlisted in
-          let same = selected version_values [] [] (col 1 1 ∷ []) (λ _. true) version_values (λ id n. refl) (λ id n.
-          refl) desk_tree (codes "version" ∷ []) (state g old).now (1 ∷ []) rows here.lies.version reads in
-          inr (stands, short_permutation (version_values 1 ∷ []) rows (omega arith) same)
+      | inl (inl tables) ↦ inl (
+        second (inl tables),
+        version_row g old rows asked club_schema asks_club (schema ∙ tables.lies.schema) 2
+            (subst (λ (d : Database). Holds version_values (d.trees desk_tree) (2 ∷ [])) (sym now) tables.lies.version),
+      )
+      | inl (inr unindexed) ↦ inl (
+        second (inr unindexed),
+        version_row g old rows asked unindexed_schema asks_unindexed (schema ∙ unindexed.lies.schema) 2
+            (subst (λ (d : Database). Holds version_values (d.trees desk_tree) (2 ∷ [])) (sym now) unindexed.lies.version),
+      )
+      | inr (inl first) ↦ inr (
+        record { held = λ _ _. first; settled = found.settled; left = found.left },
+        version_row g old rows asked first_schema asks_first (schema ∙ first.lies.schema) 1
+            (subst (λ (d : Database). Holds version_values (d.trees desk_tree) (1 ∷ [])) (sym now) first.lies.version),
+      )
       | inr (inr blank) ↦
-          let none : is_ok (understood (state g old).now.schema VERSION.now) ≡ false = ap (λ (d : Database). is_ok (understood d.schema VERSION.now)) now
-          ∙ ap (λ s. is_ok (understood s VERSION.now)) blank.0 ∙ no_version in
+          let none : is_ok (understood (state g old).now.schema VERSION.now) ≡ false = ap (λ s. is_ok (understood s VERSION.now)) (schema ∙ blank.0)
+          ∙ no_version in
           absurd (true≢false (sym (ap is_ok asked.shown.1.is) ∙ none))
     ]
 
@@ -140,6 +149,9 @@ one_version rows m n is one =
     let same : one.0 ≡ version_values m = let e : one.0 ∷ [] ≡ version_values m ∷ [] = sym one.1 ∙ is in cc in
     let values : whole m ≡ whole n = subst (λ (row : Row). column row 0 ≡ whole n) same one.2.0 in
     cc
+
+pub second_found : (s : State) (club : Club) (others : List Club) → SecondStands s club others → IsFound s club others
+second_found s club others second = record { held = λ clean is_open. inl (second.held clean is_open); settled = second.settled; left = second.left }
 
 pub first_found : (s : State) (club : Club) (others : List Club) → FirstStands s club others → IsFound s club others
 first_found s club others first = record { held = λ clean is_open. inr (inl (first.held clean is_open)); settled = first.settled; left = first.left }

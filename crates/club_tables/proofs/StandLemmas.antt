@@ -2,6 +2,7 @@
 use Rattle.std.proofs.Common.{◌≡◌, ℕ, ◌+◌, ◌≤◌, List, [], ◌∷◌, IsTrue, Option, Some, None, Result, Ok, Err, IfOk, OnOk, OnErr, true, inl, inr, refl, sym, subst}
 use Rattle.std.proofs.Common.{ap, ◌∙◌, arith}
 use Rattle.sqlite.specs.Order.{Row}
+use Rattle.sqlite.specs.Schema.{Schema}
 use Rattle.sqlite.specs.Store.{Ghosts}
 use Rattle.sqlite.specs.Effect.{Database, Reads}
 use Rattle.sqlite.specs.Command.{Command}
@@ -14,10 +15,10 @@ use Rattle.sqlite.proofs.StateLemmas.{survives_then}
 use Rattle.sqlite.proofs.Callers.{IsPlain, command_of, reads_as}
 use Rattle.club_core.specs.Club.{Club}
 use Rattle.club_core.specs.Store.{KeepsStanding}
-use Rattle.club_tables.specs.Schema.{first_schema, club_schema}
+use Rattle.club_tables.specs.Schema.{club_schema}
 use Rattle.club_tables.specs.Columns.{key_values, booking_values}
-use Rattle.club_tables.specs.Tables.{Tables, FirstTables, Holds, HoldsClub, Rests, Stands, keys_tree, bookings_tree}
-use Rattle.club_tables.specs.Told.{stands_in, first_in, found_in}
+use Rattle.club_tables.specs.Tables.{Tables, FirstTables, SecondTables, Holds, HoldsClub, Rests, Stands, keys_tree, bookings_tree}
+use Rattle.club_tables.specs.Told.{stands_in, first_in, second_in, found_in}
 use Rattle.club_transactions.specs.Transaction.{Asked, IsKept, begun}
 
 -- the same clubs stand, whatever is held of them
@@ -61,13 +62,13 @@ pub asked_reads : {S : Type 0} (g : Ghosts S) (sql : List ℕ) (params : Row) (o
 asked_reads g sql params old rows asked schema command is plain unlisted =
     reads_as sql params (state g (begun old)) (state g asked.mid) club_schema schema command is plain unlisted rows asked.shown
 
--- the same over tables of version 1
-pub first_reads : {S : Type 0} (g : Ghosts S) (sql : List ℕ) (params : Row) (old : Held S) (rows : List Row) → Asked g sql params old rows
-    → (state g old).now.schema ≡ first_schema
-    → (command : Command) → command_of (understood first_schema sql) ≡ command → IsPlain (understood first_schema sql)
-    → reads_listing first_schema sql ≡ Rattle.std.proofs.Common.false → Reads command (state g old).now params rows
-first_reads g sql params old rows asked schema command is plain unlisted =
-    reads_as sql params (state g (begun old)) (state g asked.mid) first_schema schema command is plain unlisted rows asked.shown
+-- the same over other tables
+pub reads_over : {S : Type 0} (g : Ghosts S) (sql : List ℕ) (params : Row) (old : Held S) (rows : List Row) → Asked g sql params old rows
+    → (schema : Schema) → (state g old).now.schema ≡ schema
+    → (command : Command) → command_of (understood schema sql) ≡ command → IsPlain (understood schema sql)
+    → reads_listing schema sql ≡ Rattle.std.proofs.Common.false → Reads command (state g old).now params rows
+reads_over g sql params old rows asked schema is_over command is plain unlisted =
+    reads_as sql params (state g (begun old)) (state g asked.mid) schema is_over command is plain unlisted rows asked.shown
 
 pub told_if : {A E : Type 0} (P Q : A → Type 0) (r : Result A E) → IfOk r P → ((x : A) → P x → Q x) → IfOk r Q
 told_if P Q (Ok x) p f = f x p
@@ -92,6 +93,10 @@ keeps_found g old new kept quiet club others found = rests_on HoldsClub (state g
 pub keeps_first : {S : Type 0} (g : Ghosts S) (old new : Held S) → IsKept (state g old) (state g new) → Survives (state g old) (state g new) (λ _. ⊥)
     → KeepsStanding (first_in g) old new
 keeps_first g old new kept quiet club others first = rests_on FirstTables (state g old) (state g new) kept quiet club others first
+
+pub keeps_second : {S : Type 0} (g : Ghosts S) (old new : Held S) → IsKept (state g old) (state g new)
+    → Survives (state g old) (state g new) (λ _. ⊥) → KeepsStanding (second_in g) old new
+keeps_second g old new kept quiet club others second = rests_on SecondTables (state g old) (state g new) kept quiet club others second
 
 pub survives_same : (s : State) → Survives s s (λ _. ⊥)
 survives_same s = record {

@@ -7,7 +7,9 @@ use Rattle.sqlite.specs.State.{State, HasCleanDisk, Survives}
 use Rattle.sqlite.specs.Held.{Held, state}
 use Rattle.sqlite.proofs.StateLemmas.{survives_then}
 use Rattle.club_transactions.specs.Transaction.{Words, Ran, IsUntouched, MayCommit}
+use Rattle.club_core.specs.declared.store.StoreFault.{StoreFault}
 use Rattle.club_tables.specs.Answers.{IsAfterReadings}
+use Rattle.club_tables.specs.Opening.{IsOpeningFault}
 
 survives_as : (old new : State) (P Q : Trees → Type 0) → Survives old new P → (HasCleanDisk new → (trees : Trees) → P trees → Q trees) → Survives old new Q
 survives_as old new P Q s leaves = record {
@@ -82,3 +84,7 @@ module _ {S : Type 0} (g : Ghosts S) where
   pub after_one : (old new : Held S) → HasCleanDisk (state g new) → IsUntouched (state g old) (state g new) → Survives (state g old) (state g new) (λ _. ⊥)
       → IsAfterReadings g old new
   after_one old new clean same survives = record { same = same; clean = clean; counted = survives.counts }
+
+  -- an opening after a reading
+  pub opened_after : (a b c : Held S) (fault : StoreFault) → IsAfterReadings g a b → IsOpeningFault g b c fault → IsOpeningFault g a c fault
+  opened_after a b c fault first it = record { from = it.from; after = after_then a b it.from first it.after; failed = it.failed }

@@ -41,7 +41,7 @@ module _ {S : Type 0} (g : Ghosts S) (all : List Words) (some : 0 < length all) 
     settled = λ clean is_open. let k = kept clean is_open in k.1 ∙ sym k.2;
     left = λ clean trees may. elim (survives.crash clean trees may) [
       | inl was ↦ elim (stands.left earlier trees was) [ inl here ↦ inl here | inr there ↦ inr (inr there) ]
-      | inr new ↦ inr (inl (new.0, sym new.2, inl (made new.0 new.1)))
+      | inr new ↦ inr (inl (new.0, sym new.2, inl (inl (made new.0 new.1))))
     ];
   }
 

@@ -1,10 +1,12 @@
 -- What the rows of a statement tell, whatever the tables hold, and why a reading gives no answer (ours).
-use Rattle.std.specs.Prelude.{◌≡◌, ◌⊎◌, ℕ, ◌<◌, ◌≤◌, ◌^◌, List, [], ◌∷◌, length, sum_by, All, Option, None, Result, IfOk, IfErr, IsSomeAnd}
+use Rattle.std.specs.Prelude.{◌≡◌, ◌⊎◌, ℕ, ◌<◌, ◌≤◌, ◌^◌, ◌/◌, List, [], ◌∷◌, length, sum_by, All}
+use Rattle.std.specs.Prelude.{Option, None, Result, IfOk, IfErr, IsSomeAnd}
 use Rattle.sqlite_value.specs.declared.value.Value.TheVariants.{Text}
 use Rattle.sqlite_value.specs.Order.{Row}
 use Rattle.sqlite.specs.Store.{Ghosts}
 use Rattle.sqlite.specs.State.{HasCleanDisk}
 use Rattle.sqlite.specs.Held.{Held, state}
+use Rattle.club_values.specs.Moment.{minutes_a_day}
 use Rattle.club_values.specs.declared.slot.Slot.{Slot}
 use Rattle.club_rows.specs.declared.facility.Facility.{Facility}
 use Rattle.club_rows.specs.declared.key.Key.{Key}
@@ -116,7 +118,7 @@ words_for (OfSlot slot) = (SLOT.now, name_values slot)
 words_for (OfBooking key number) = (BOOKING.now, Text key ∷ whole number ∷ [])
 words_for (OfCosts key) = (COSTS_UNDER_KEY.now, Text key ∷ [])
 words_for (OfDay day) = (DAY.now, whole day ∷ [])
-words_for (OfOpen member moment) = (OPEN.now, Text member ∷ whole moment ∷ [])
+words_for (OfOpen member moment) = (OPEN.now, Text member ∷ whole moment ∷ whole (moment / minutes_a_day) ∷ [])
 
 -- which rows tell something
 abbrev pub CanRead : Reading → List Row → Type 0

@@ -1,20 +1,21 @@
 -- What an opening finds, what it takes for the tables of a club, and what it makes (ours).
-use Rattle.std.specs.Prelude.{◌≡◌, ◌≢◌, ◌⊎◌, ℕ, List, [], ◌∷◌, map, All, Ok, IsTrue, false, codes}
+use Rattle.std.specs.Prelude.{◌≡◌, ◌≢◌, ◌⊎◌, ℕ, List, [], ◌∷◌, ◌++◌, map, All, Ok, IsTrue, false, codes}
 use Rattle.sqlite.specs.Order.{Row}
 use Rattle.sqlite.specs.Schema.{Schema}
 use Rattle.sqlite.specs.Change.{is_used}
 use Rattle.sqlite.specs.Store.{Ghosts}
 use Rattle.sqlite.specs.Effect.{Database, Reads}
 use Rattle.sqlite.specs.Listing.{understood}
-use Rattle.sqlite.specs.State.{State}
+use Rattle.sqlite.specs.State.{State, HasCleanDisk}
 use Rattle.sqlite.specs.Held.{Held, state}
 use Rattle.sqlite_resolve.specs.declared.compiled.Compiled.{Compiled}
 use Rattle.club_tables.specs.declared.texts.TheConstants.{VERSION, KEY, MEMBER, FACILITY, SLOT, BOOKING, OLDER_ROOT, MAKE_DESK, MAKE_MEMBERS, MAKE_FACILITIES}
 use Rattle.club_tables.specs.declared.texts.TheConstants.{MAKE_KEYS, MAKE_SLOTS, MAKE_BOOKINGS, MAKE_KEYS_BY_MEMBER, MAKE_OLD_ROOTS, ADD_VERSION, SET_VERSION}
+use Rattle.club_tables.specs.declared.texts.TheConstants.{MAKE_BOOKINGS_BY_KEY, DROP_BOOKINGS_BY_KEY}
 use Rattle.club_tables.specs.Columns.{HasValues, version_values}
 use Rattle.club_core.specs.declared.store.StoreFault.{StoreFault}
 use Rattle.club_core.specs.declared.store.StoreFault.TheVariants.{Memory, Storage}
-use Rattle.club_transactions.specs.Transaction.{Words, Asked, Ran, IsUnderstood}
+use Rattle.club_transactions.specs.Transaction.{Words, Asked, Ran, IsKept, IsUnderstood}
 use Rattle.club_transactions.specs.Fault.{FailsToAsk, FailsToPrepare, FailsToRun}
 use Rattle.club_tables.specs.Answers.{IsAfterReadings}
 
@@ -25,14 +26,22 @@ first_texts = KEY.now ∷ MEMBER.now ∷ FACILITY.now ∷ SLOT.now ∷ BOOKING.n
 abbrev pub texts_by_key : List (List ℕ)
 texts_by_key = KEY.now ∷ MEMBER.now ∷ FACILITY.now ∷ SLOT.now ∷ BOOKING.now ∷ OLDER_ROOT.now ∷ []
 
--- the batch that makes the tables, and the one that makes version 2 of version 1
+-- a statement only where there is an index of the bookings' name; it is never run
+abbrev pub index_text : List ℕ
+index_text = DROP_BOOKINGS_BY_KEY.now
+
+-- those, and the index
+abbrev pub indexed_texts : List (List ℕ)
+indexed_texts = texts_by_key ++ index_text ∷ []
+
+-- the batch that makes the tables, the one that makes version 2 of version 1, and the one that makes the index of the bookings
 abbrev pub table_texts : List (List ℕ)
 table_texts =
     MAKE_DESK.now ∷ MAKE_MEMBERS.now ∷ MAKE_FACILITIES.now ∷ MAKE_KEYS.now ∷ MAKE_SLOTS.now ∷ MAKE_BOOKINGS.now
-    ∷ MAKE_KEYS_BY_MEMBER.now ∷ MAKE_OLD_ROOTS.now ∷ ADD_VERSION.now ∷ []
+    ∷ MAKE_KEYS_BY_MEMBER.now ∷ MAKE_OLD_ROOTS.now ∷ MAKE_BOOKINGS_BY_KEY.now ∷ ADD_VERSION.now ∷ []
 
 abbrev pub migration_texts : List (List ℕ)
-migration_texts = MAKE_OLD_ROOTS.now ∷ SET_VERSION.now ∷ []
+migration_texts = MAKE_OLD_ROOTS.now ∷ MAKE_BOOKINGS_BY_KEY.now ∷ SET_VERSION.now ∷ []
 
 -- texts without parameters
 abbrev pub batch : List (List ℕ) → List Words
@@ -44,9 +53,12 @@ table_batch = batch table_texts
 abbrev pub migration : List Words
 migration = batch migration_texts
 
--- what an opening may run: the batch that makes the tables, or the migration
+abbrev pub index_batch : List Words
+index_batch = batch (MAKE_BOOKINGS_BY_KEY.now ∷ [])
+
+-- what an opening may run: the batch that makes the tables, the migration, or the one that makes the index
 abbrev pub IsOpeningBatch : List Words → Type 0
-IsOpeningBatch words = (words ≡ table_batch) ⊎ (words ≡ migration)
+IsOpeningBatch words = (words ≡ table_batch) ⊎ ((words ≡ migration) ⊎ (words ≡ index_batch))
 
 -- nothing is called `desk`, in capitals or not, and so no version can be asked for
 pub record HasNoDesk (schema : Schema) : Type 0 where
@@ -67,19 +79,41 @@ pub record FoundReady (version : ℕ) (texts : List (List ℕ)) (old new : State
   pub ready : IsReady version texts new.committed
   pub same : new.committed ≡ old.committed
 
--- tables of version 1 were there, and the whole migration was run over them
-pub record Migrated {S : Type 0} (g : Ghosts S) (old new : Held S) : Type 0 where
+-- tables of a version were there, and this whole batch was run over them
+pub record Upgrade (version : ℕ) (texts : List (List ℕ)) (words : List Words) {S : Type 0} (g : Ghosts S) (old new : Held S) : Type 0 where
   pub from : Held S
-  pub found : FoundReady 1 first_texts (state g old) (state g from)
+  pub found : FoundReady version texts (state g old) (state g from)
   pub same : (state g from).now ≡ (state g old).committed
-  pub ran : Ran g migration from (state g new).committed
+  pub ran : Ran g words from (state g new).committed
 
--- what was there was understood, and the whole migration was run over it
-abbrev pub HasMigrated : {S : Type 0} → Ghosts S → Held S → Held S → Type 0
-HasMigrated {S} g old new =
-    (from : Held S) × IsTrue (state g old).is_open × (All (IsUnderstood (state g old).committed.schema) first_texts)
+-- what was there was understood, and this whole batch was run over it
+abbrev pub HasRunOver : List (List ℕ) → List Words → {S : Type 0} → Ghosts S → Held S → Held S → Type 0
+HasRunOver texts words {S} g old new =
+    (from : Held S) × IsTrue (state g old).is_open × (All (IsUnderstood (state g old).committed.schema) texts)
     × ((state g from).committed ≡ (state g old).committed)
-    × ((state g from).now ≡ (state g old).committed) × Ran g migration from (state g new).committed
+    × ((state g from).now ≡ (state g old).committed) × Ran g words from (state g new).committed
+
+-- tables of version 1 were there, and the whole migration was run over them
+abbrev pub Migrated : {S : Type 0} → Ghosts S → Held S → Held S → Type 0
+Migrated g old new = Upgrade 1 first_texts migration g old new
+
+abbrev pub HasMigrated : {S : Type 0} → Ghosts S → Held S → Held S → Type 0
+HasMigrated g old new = HasRunOver first_texts migration g old new
+
+-- tables of version 2 were there, and the index of the bookings was made
+abbrev pub AddsIndex : {S : Type 0} → Ghosts S → Held S → Held S → Type 0
+AddsIndex g old new = Upgrade 2 texts_by_key index_batch g old new
+
+-- the index could be named, and nothing was changed; or it was made after a reading
+abbrev pub HasOrGetsIndex : {S : Type 0} → Ghosts S → Held S → Held S → Type 0
+HasOrGetsIndex {S} g old new =
+    (IsUnderstood (state g old).now.schema index_text × IsKept (state g old) (state g new))
+    ⊎ ((from : Held S) × HasCleanDisk (state g from) × IsKept (state g old) (state g from) × Ran g index_batch from (state g new).committed)
+
+-- what was there was understood with the index, and is as it was; or it was understood, and the index was made
+abbrev pub EnsuresIndex : {S : Type 0} → Ghosts S → Held S → Held S → Type 0
+EnsuresIndex g old new =
+    (IsKept (state g old) (state g new) × All (IsUnderstood (state g new).committed.schema) indexed_texts) ⊎ HasRunOver texts_by_key index_batch g old new
 
 -- there was no version, and the whole batch was run over what was there
 pub record MadeAll {S : Type 0} (g : Ghosts S) (old new : Held S) : Type 0 where
@@ -88,10 +122,11 @@ pub record MadeAll {S : Type 0} (g : Ghosts S) (old new : Held S) : Type 0 where
   pub unversioned : HasNoDesk (state g old).committed.schema
   pub ran : Ran g table_batch from (state g new).committed
 
--- what an opening takes: tables of version 2 that were there, those of version 1 once they are migrated, or those that the whole batch made where
--- there was no version
+-- what an opening takes: tables of version 2 that were there with the index of the bookings, those without it once it is made, those of version 1
+-- once they are migrated, or those that the whole batch made where there was no version
 abbrev pub IsAccepted : {S : Type 0} → Ghosts S → Held S → Held S → Type 0
-IsAccepted g old new = FoundReady 2 texts_by_key (state g old) (state g new) ⊎ (Migrated g old new ⊎ MadeAll g old new)
+IsAccepted g old new =
+    FoundReady 2 indexed_texts (state g old) (state g new) ⊎ (AddsIndex g old new ⊎ (Migrated g old new ⊎ MadeAll g old new))
 
 abbrev pub version_text : List ℕ
 version_text = VERSION.now
@@ -107,11 +142,11 @@ pub record FailsToPrepareOne {S : Type 0} (g : Ghosts S) (texts : List (List ℕ
   pub after : IsAfterReadings g old from
   pub failed : OneOf (λ text. FailsToPrepare g text from new fault) texts
 
--- why tables aren't taken: there is no memory to read their version; the batch that makes or migrates them is refused; a row can't be asked for by its
--- key; the version is another one
+-- why tables aren't taken: there is no memory to read their version, or to look for the index; the batch that makes them, migrates them or makes the
+-- index is refused; a row can't be asked for by its key; the version is another one
 abbrev pub FailsToTake : {S : Type 0} → Ghosts S → Held S → Held S → StoreFault → Type 0
 FailsToTake g old new fault =
-    ((fault ≡ Memory) × FailsToAsk g (version_text, []) old new fault)
+    ((fault ≡ Memory) × (FailsToAsk g (version_text, []) old new fault ⊎ FailsToPrepare g index_text old new fault))
     ⊎ (((words : List Words) × IsOpeningBatch words × FailsToRun g words old new fault)
     ⊎ (OneOf (λ text. FailsToPrepare g text old new fault) texts_by_key
     ⊎ ((fault ≡ Storage) × (rows : List Row) × Asked g version_text [] old rows × (rows ≢ version_values 2 ∷ []) × (rows ≢ version_values 1 ∷ []))))

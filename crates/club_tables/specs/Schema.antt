@@ -132,6 +132,21 @@ six_tables =
 abbrev pub first_schema : Schema
 first_schema = indexed six_tables (record keys_table { tree = 5 }) keys_by_member
 
+-- those of version 2 without the index of the bookings
+abbrev pub unindexed_schema : Schema
+unindexed_schema = created first_schema old_roots_table
+
+-- a key's bookings in the order of `cancelled`, `day`, `hour` and `number`, with `charge` and `refund`
+abbrev pub bookings_by_key : Index
+bookings_by_key = record {
+  name = codes "bookings_by_key";
+  tree = 0;
+  table = 9;
+  columns = 1 ∷ 9 ∷ 4 ∷ 5 ∷ 2 ∷ 7 ∷ 10 ∷ [];
+  order = plain;
+  is_unique = false;
+}
+
 -- those of version 2
 abbrev pub club_schema : Schema
-club_schema = created first_schema old_roots_table
+club_schema = indexed unindexed_schema (record bookings_table { tree = 9 }) bookings_by_key

@@ -4,10 +4,11 @@ use Rattle.std.specs.List.{AllZip}
 use Rattle.sqlite_value.specs.declared.value.Value.TheVariants.{Int}
 use Rattle.sqlite_value.specs.Order.{Row}
 use Rattle.sqlite_trees.specs.Tree.{Trees, IsTable}
+use Rattle.sqlite.specs.Schema.{Schema}
 use Rattle.sqlite.specs.Effect.{Database, IsDatabase}
 use Rattle.sqlite.specs.State.{State, HasCleanDisk}
 use Rattle.club_core.specs.Club.{Club, IsSound, empty_club}
-use Rattle.club_tables.specs.Schema.{no_schema, first_schema, club_schema}
+use Rattle.club_tables.specs.Schema.{no_schema, first_schema, unindexed_schema, club_schema}
 use Rattle.club_tables.specs.Columns.{version_values, member_values, facility_values, key_values, slot_values, booking_values, older_values}
 use Rattle.club_tables.specs.Stored.{Rows, IsStoredAs}
 
@@ -42,9 +43,9 @@ pub record Holds {X : Type 0} (values : X → Row) (rows : List Row) (xs : List 
   pub rising : IsTable rows
   pub same : AllZip (λ row x. IsRowOf (values x) row) rows xs
 
--- the tables of version 2 hold these rows and no others
-pub record Lies (db : Database) (rows : Rows) : Type 0 where
-  pub schema : db.schema ≡ club_schema
+-- tables of version 2, with these indexes, hold these rows and no others
+pub record LiesWith (tables : Schema) (db : Database) (rows : Rows) : Type 0 where
+  pub schema : db.schema ≡ tables
   pub version : Holds version_values (db.trees desk_tree) (2 ∷ [])
   pub members : Holds member_values (db.trees members_tree) rows.members
   pub facilities : Holds facility_values (db.trees facilities_tree) rows.facilities
@@ -55,10 +56,21 @@ pub record Lies (db : Database) (rows : Rows) : Type 0 where
   -- the trees list this schema, and obey it
   pub database : IsDatabase db
 
+-- the tables of version 2 hold these rows and no others
+abbrev pub Lies : Database → Rows → Type 0
+Lies = LiesWith club_schema
+
 -- the tables hold the rows of the club, which is sound, and no others
 pub record Tables (db : Database) (club : Club) : Type 0 where
   pub rows : Rows
   pub lies : Lies db rows
+  pub stored : IsStoredAs club rows
+  pub sound : IsSound club
+
+-- the same of tables of version 2 without the index of the bookings
+pub record UnindexedTables (db : Database) (club : Club) : Type 0 where
+  pub rows : Rows
+  pub lies : LiesWith unindexed_schema db rows
   pub stored : IsStoredAs club rows
   pub sound : IsSound club
 
@@ -84,9 +96,13 @@ pub record FirstTables (db : Database) (club : Club) : Type 0 where
 abbrev pub IsBlank : Database → Club → Type 0
 IsBlank db club = (db.schema ≡ no_schema) × (club ≡ empty_club) × IsDatabase db
 
+-- tables of version 2, with the index of the bookings or without it
+abbrev pub SecondTables : Database → Club → Type 0
+SecondTables db club = Tables db club ⊎ UnindexedTables db club
+
 -- tables of version 2, tables of version 1, or none
 abbrev pub HoldsClub : Database → Club → Type 0
-HoldsClub db club = Tables db club ⊎ (FirstTables db club ⊎ IsBlank db club)
+HoldsClub db club = SecondTables db club ⊎ (FirstTables db club ⊎ IsBlank db club)
 
 -- a crash left a database of one of these clubs
 abbrev pub IsLeftOf : Trees → List Club → Type 0
@@ -108,6 +124,10 @@ Stands = Rests Tables
 abbrev pub FirstStands : State → Club → List Club → Type 0
 FirstStands = Rests FirstTables
 
--- the tables stand, or are still to be migrated or made
+-- tables of version 2 stand, with the index of the bookings or without it
+abbrev pub SecondStands : State → Club → List Club → Type 0
+SecondStands = Rests SecondTables
+
+-- the tables stand, or are still to be indexed, migrated or made
 abbrev pub IsFound : State → Club → List Club → Type 0
 IsFound = Rests HoldsClub

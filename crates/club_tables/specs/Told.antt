@@ -23,7 +23,7 @@ use Rattle.club_core.specs.Club.{Club, IsSound, key_named}
 use Rattle.club_rows.specs.declared.key.Key.{Key}
 use Rattle.club_rows.specs.declared.booking.Booking.{Booking}
 use Rattle.club_core.specs.Sums.{booking_under}
-use Rattle.club_tables.specs.Tables.{Stands, FirstStands, IsFound}
+use Rattle.club_tables.specs.Tables.{Stands, FirstStands, SecondStands, IsFound}
 use Rattle.club_transactions.specs.Transaction.{Words, IsUntouched, MayCommit}
 use Rattle.club_transactions.specs.Fault.{FailsToRun}
 use Rattle.club_tables.specs.Answers.{IsAfterReadings, IsReadFault}
@@ -38,6 +38,9 @@ sound_in g held club others = All IsSound (club ∷ others) × Stands (state g h
 
 abbrev pub first_in : {S : Type 0} → Ghosts S → Held S → Club → List Club → Type 0
 first_in g held = FirstStands (state g held)
+
+abbrev pub second_in : {S : Type 0} → Ghosts S → Held S → Club → List Club → Type 0
+second_in g held = SecondStands (state g held)
 
 abbrev pub found_in : {S : Type 0} → Ghosts S → Held S → Club → List Club → Type 0
 found_in g held = IsFound (state g held)

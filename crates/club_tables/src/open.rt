@@ -1,5 +1,5 @@
-//! The tables of a database: found, migrated where they are of version 1, or made where there are
-//! none.
+//! The tables of a database: found, completed where they are of version 1 or lack the index of the
+//! bookings, or made where there are none.
 
 ghost use Rattle.std.specs.Prelude.{
   ◌≡◌,
@@ -19,9 +19,9 @@ ghost use Rattle.sqlite.specs.State.{HasCleanDisk, Survives};
 ghost use Rattle.sqlite.specs.Held.{state};
 ghost use Rattle.club_core.specs.Club.{Club};
 ghost use Rattle.club_core.specs.Store.{KeepsStanding};
-ghost use Rattle.club_tables.specs.Told.{stands_in, first_in, found_in};
+ghost use Rattle.club_tables.specs.Told.{first_in, second_in, found_in};
 ghost use Rattle.club_tables.specs.Columns.{version_values, HasValues};
-ghost use Rattle.club_tables.specs.Tables.{IsFound, Stands, FirstStands};
+ghost use Rattle.club_tables.specs.Tables.{IsFound, Stands, FirstStands, SecondStands};
 ghost use Rattle.club_transactions.specs.Transaction.{
   Asked,
   IsAtRest,
@@ -37,9 +37,12 @@ ghost use Rattle.club_tables.specs.Opening.{
   IsAnswered,
   IsOpeningFault,
   HasMigrated,
+  EnsuresIndex,
+  HasOrGetsIndex,
   IsOpeningBatch,
   table_batch,
   migration,
+  index_batch,
   version_text,
 };
 
@@ -68,7 +71,8 @@ fn version<S: Alter>(conn: &mut Connection<S>) -> Result<Vec<Row>, StoreFault>
     ensures same { IsKept (state S.Store conn.old) (state S.Store conn.new) }
     ensures told { HasCleanDisk (state S.Store conn.new) → IfOk result
         (λ rows. (club : Club) (others : _) → IsFound (state S.Store conn.old) club others →
-        (Stands (state S.Store conn.new) club others × (rows.items ≡ version_values 2 ∷ [])) ⊎
+        (SecondStands (state S.Store conn.new) club others ×
+        (rows.items ≡ version_values 2 ∷ [])) ⊎
         (FirstStands (state S.Store conn.new) club others × (rows.items ≡ version_values 1 ∷ []))) }
     ensures kept { HasCleanDisk (state S.Store conn.new) → KeepsStanding
         (found_in S.Store) conn.old conn.new }
@@ -132,6 +136,10 @@ fn make_tables<S: Alter>(conn: &mut Connection<S>) -> Result<(), StoreFault>
                 params: &[],
             },
             Statement {
+                text: texts::MAKE_BOOKINGS_BY_KEY,
+                params: &[],
+            },
+            Statement {
                 text: texts::ADD_VERSION,
                 params: &[],
             },
@@ -155,10 +163,6 @@ fn is_version(rows: &[Row], version: u8) -> bool
 fn prepare_all<S: Alter>(conn: &mut Connection<S>, texts: &[&str]) -> Result<(), StoreFault>
     requires { conn.old.in_transaction ≡ false }
     ensures idle { conn.new.in_transaction ≡ false }
-    ensures stands { HasCleanDisk (state S.Store conn.new) → KeepsStanding
-        (stands_in S.Store) conn.old conn.new }
-    ensures found { HasCleanDisk (state S.Store conn.new) → KeepsStanding
-        (found_in S.Store) conn.old conn.new }
     ensures same { IsAtRest (state S.Store conn.old) → IsKept (state S.Store conn.old)
         (state S.Store conn.new) }
     ensures understood { HasCleanDisk (state S.Store conn.new) → OnOk result
@@ -178,7 +182,8 @@ fn prepare_all<S: Alter>(conn: &mut Connection<S>, texts: &[&str]) -> Result<(),
     Ok(())
 }
 
-/// Makes tables of version 1 those of version 2, in one transaction: no key has an older root yet.
+/// Makes tables of version 1 those of version 2, in one transaction: no key has an older root yet,
+/// and the bookings get their index.
 fn add_old_roots<S: Alter>(conn: &mut Connection<S>) -> Result<(), StoreFault>
     requires { conn.old.in_transaction ≡ false }
     ensures idle { conn.new.in_transaction ≡ false }
@@ -201,6 +206,10 @@ fn add_old_roots<S: Alter>(conn: &mut Connection<S>) -> Result<(), StoreFault>
         &[
             Statement {
                 text: texts::MAKE_OLD_ROOTS,
+                params: &[],
+            },
+            Statement {
+                text: texts::MAKE_BOOKINGS_BY_KEY,
                 params: &[],
             },
             Statement {
@@ -238,7 +247,90 @@ fn migrate<S: Alter>(conn: &mut Connection<S>) -> Result<(), StoreFault>
     }
 }
 
-/// Finds the tables, migrates those of version 1, or makes them where the version cannot be read.
+/// Makes the index of the bookings, in one transaction. Where there is one of this name it is
+/// refused.
+fn add_index<S: Alter>(conn: &mut Connection<S>) -> Result<(), StoreFault>
+    requires { conn.old.in_transaction ≡ false }
+    ensures idle { conn.new.in_transaction ≡ false }
+    ensures honest { HasCleanDisk (state S.Store conn.new) → HasCleanDisk (state S.Store conn.old) }
+    ensures indexed { HasCleanDisk (state S.Store conn.new) → OnOk result
+        ((club : Club) (others : _) → SecondStands (state S.Store conn.old) club others → Stands
+        (state S.Store conn.new) club others) }
+    ensures ran { HasCleanDisk (state S.Store conn.new) → OnOk result
+        (Ran S.Store index_batch conn.old (state S.Store conn.new).committed) }
+    ensures fault { HasCleanDisk (state S.Store conn.new) → IfErr result
+        (FailsToRun S.Store index_batch conn.old conn.new) }
+    ensures refused { HasCleanDisk (state S.Store conn.new) → OnErr result
+        (KeepsStanding (second_in S.Store) conn.old conn.new) }
+    ensures untouched { OnErr result (IsKept (state S.Store conn.old) (state S.Store conn.new)) }
+    ensures survives { Survives (state S.Store conn.old) (state S.Store conn.new)
+        (MayCommit S.Store IsOpeningBatch conn.old) }
+{
+    run(
+        conn,
+        &[Statement {
+            text: texts::MAKE_BOOKINGS_BY_KEY,
+            params: &[],
+        }],
+    )
+}
+
+/// Finds the index of the bookings, or makes it where none can be named.
+fn ensure_index<S: Alter>(conn: &mut Connection<S>) -> Result<(), StoreFault>
+    requires { conn.old.in_transaction ≡ false }
+    ensures idle { conn.new.in_transaction ≡ false }
+    ensures honest { HasCleanDisk (state S.Store conn.new) → HasCleanDisk (state S.Store conn.old) }
+    ensures indexed { HasCleanDisk (state S.Store conn.new) → OnOk result
+        ((club : Club) (others : _) → SecondStands (state S.Store conn.old) club others → Stands
+        (state S.Store conn.new) club others) }
+    ensures ensured { HasCleanDisk (state S.Store conn.new) → OnOk result
+        (HasOrGetsIndex S.Store conn.old conn.new) }
+    ensures fault { HasCleanDisk (state S.Store conn.new) → IfErr result
+        (IsOpeningFault S.Store conn.old conn.new) }
+    ensures refused { HasCleanDisk (state S.Store conn.new) → OnErr result
+        (KeepsStanding (second_in S.Store) conn.old conn.new) }
+    ensures untouched { OnErr result (IsKept (state S.Store conn.old) (state S.Store conn.new)) }
+    ensures survives { Survives (state S.Store conn.old) (state S.Store conn.new)
+        (MayCommit S.Store IsOpeningBatch conn.old) }
+{
+    match prepare(conn, texts::DROP_BOOKINGS_BY_KEY) {
+        Ok(()) => Ok(()),
+        Err(StoreFault::Memory) => Err(StoreFault::Memory),
+        Err(StoreFault::Storage) => add_index(conn),
+    }
+}
+
+/// Takes tables of version 2, once each of their rows can be asked for by its key, with the index
+/// of the bookings. A refusal leaves them as they were, and a crash leaves them so or with the
+/// index.
+fn complete<S: Alter>(conn: &mut Connection<S>) -> Result<(), StoreFault>
+    requires { conn.old.in_transaction ≡ false }
+    ensures idle { conn.new.in_transaction ≡ false }
+    ensures honest { HasCleanDisk (state S.Store conn.new) → HasCleanDisk (state S.Store conn.old) }
+    ensures indexed { HasCleanDisk (state S.Store conn.new) → OnOk result
+        (IsAtRest (state S.Store conn.old) → (club : Club) (others : _) → SecondStands
+        (state S.Store conn.old) club others → Stands (state S.Store conn.new) club others) }
+    ensures ensured { HasCleanDisk (state S.Store conn.new) → OnOk result
+        (IsTrue (state S.Store conn.new).is_open → IsAtRest (state S.Store conn.old) →
+        EnsuresIndex S.Store conn.old conn.new) }
+    ensures refused { HasCleanDisk (state S.Store conn.new) → OnErr result
+        (IsAtRest (state S.Store conn.old) → KeepsStanding (second_in S.Store) conn.old conn.new) }
+    ensures untouched { OnErr result
+        (IsAtRest (state S.Store conn.old) → IsKept (state S.Store conn.old)
+        (state S.Store conn.new)) }
+    ensures fault { HasCleanDisk (state S.Store conn.new) → IfErr result
+        (IsOpeningFault S.Store conn.old conn.new) }
+    ensures survives { Survives (state S.Store conn.old) (state S.Store conn.new)
+        (MayCommit S.Store IsOpeningBatch conn.old) }
+{
+    match prepare_all(conn, &texts::ROWS_BY_KEY) {
+        Ok(()) => ensure_index(conn),
+        Err(fault) => Err(fault),
+    }
+}
+
+/// Finds the tables, migrates those of version 1, makes the index of the bookings where it is
+/// missing, or makes all where the version cannot be read.
 pub fn open_tables<S: Alter>(conn: &mut Connection<S>) -> Result<(), StoreFault>
     requires { conn.old.in_transaction ≡ false }
     ensures idle { conn.new.in_transaction ≡ false }
@@ -264,7 +356,7 @@ pub fn open_tables<S: Alter>(conn: &mut Connection<S>) -> Result<(), StoreFault>
     };
     let rows = found.as_slice();
     if is_version(rows, VERSION) {
-        return prepare_all(conn, &texts::ROWS_BY_KEY);
+        return complete(conn);
     }
     if is_version(rows, FIRST_VERSION) {
         return migrate(conn);

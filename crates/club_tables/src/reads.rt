@@ -262,7 +262,12 @@ pub fn open_count<S: Alter>(
     ensures gives { Answers S.Store (words_for (OfOpen member.now moment)) IsCount
         conn.old conn.new result }
 {
-    let rows = match ask(conn, texts::OPEN, params![member.as_str(), moment.number()]) {
+    let params = params![
+        member.as_str(),
+        moment.number(),
+        u32::from(moment.day().number())
+    ];
+    let rows = match ask(conn, texts::OPEN, params) {
         Ok(rows) => rows,
         Err(fault) => return Err(fault),
     };

@@ -65,6 +65,15 @@ pub(crate) const MAKE_OLD_ROOTS: &str = "\
 /// The keys of a member are found without a walk over all keys.
 pub(crate) const MAKE_KEYS_BY_MEMBER: &str = "CREATE INDEX keys_by_member ON keys (member)";
 
+/// What is summed of a key's bookings is read from this index alone, and those that are cancelled
+/// or begun are passed over.
+pub(crate) const MAKE_BOOKINGS_BY_KEY: &str = "\
+    CREATE INDEX bookings_by_key \
+    ON bookings (pass_key, cancelled, day, hour, number, charge, refund)";
+
+/// It is a statement only where there is an index of this name. It is prepared, and never run.
+pub(crate) const DROP_BOOKINGS_BY_KEY: &str = "DROP INDEX bookings_by_key";
+
 pub(crate) const ADD_VERSION: &str = "INSERT INTO desk (version) VALUES (2)";
 
 /// Makes tables of version 1 those of version 2, once they have older roots.
@@ -153,10 +162,11 @@ pub(crate) const DAY: &str = "\
     WHERE day = ?1 AND cancelled = 0 \
     ORDER BY facility, hour, pass_key, number";
 
+/// The last parameter is the moment's day: what lies on an earlier one has begun.
 pub(crate) const OPEN: &str = "\
     SELECT number \
     FROM keys JOIN bookings ON name = pass_key \
-    WHERE member = ?1 AND cancelled = 0 AND day * 1440 + hour * 60 > ?2";
+    WHERE member = ?1 AND cancelled = 0 AND day * 1440 + hour * 60 > ?2 AND day >= ?3";
 
 /// The statements that give a row by its key over tables of version 1.
 pub(crate) const FIRST_ROWS_BY_KEY: [&str; 5] = [KEY, MEMBER, FACILITY, SLOT, BOOKING];

@@ -5,7 +5,7 @@ use crate::events::{Event, FIXTURE};
 use crate::expect::{append, expect_eq, push, text};
 use crate::plain::{Version, lines_of, replies};
 use crate::texts::FAILURES;
-use crate::version_1::STATEMENTS;
+use crate::version_1::{OLDER_ROOTS, STATEMENTS};
 use crate::work::{Work, done};
 use club_plain::Club;
 use sqlite::Files;
@@ -21,6 +21,8 @@ pub(crate) enum Beginning {
     Made(&'static [Event]),
     /// Statements have made tables of version 1 with such a club.
     First(&'static [Event]),
+    /// And then those of version 2 without the index of the bookings.
+    Unindexed(&'static [Event]),
 }
 
 /// A task, and what comes of it.
@@ -51,7 +53,7 @@ impl Beginning {
     fn version(&self) -> Version {
         match self {
             Beginning::Nothing => Version::None,
-            Beginning::Made(_) => Version::Second,
+            Beginning::Made(_) | Beginning::Unindexed(_) => Version::Second,
             Beginning::First(_) => Version::First,
         }
     }
@@ -59,9 +61,12 @@ impl Beginning {
     /// The plain machine's club.
     fn club(&self, rt: &(impl Abort + Alloc<A = Global>)) -> Club {
         let mut club = Club::new(rt.alloc());
-        if let Beginning::Made(events) | Beginning::First(events) = *self {
-            replies(rt, &mut club, &FIXTURE);
-            replies(rt, &mut club, events);
+        match *self {
+            Beginning::Nothing => {}
+            Beginning::Made(events) | Beginning::First(events) | Beginning::Unindexed(events) => {
+                replies(rt, &mut club, &FIXTURE);
+                replies(rt, &mut club, events);
+            }
         }
         club
     }
@@ -76,6 +81,10 @@ impl Beginning {
                 done(rt, files, Work::Serves(events)).1
             }
             Beginning::First(_) => done(rt, none.files(rt), Work::Runs(&STATEMENTS)).1,
+            Beginning::Unindexed(_) => {
+                let (_, files) = done(rt, none.files(rt), Work::Runs(&STATEMENTS));
+                done(rt, files, Work::Runs(&OLDER_ROOTS)).1
+            }
         };
         Bytes::left_in(rt, &files)
     }

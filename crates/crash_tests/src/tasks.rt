@@ -143,3 +143,25 @@ static MIGRATES: Trial = Trial {
 fn migrates_whole_or_not_at_all(rt: HostRuntime) {
     MIGRATES.holds(&rt);
 }
+
+static ADDS_THE_INDEX: Trial = Trial {
+    beginning: Beginning::Unindexed(&[
+        Event::Asks(NOON, BOOK_7),
+        Event::Asks(NOON, BOOK_8),
+        Event::Asks(DAY_BEFORE, CANCEL_8),
+    ]),
+    task: &[],
+    again: &[
+        Event::Asks(NOON, BOOK_7),
+        Event::Asks(NOON, BOOK_8),
+        Event::Asks(NOON, ACCOUNT),
+    ],
+    first: &[BOOKED_7, BOOKED_8, BALANCE_9099],
+    repeated: &[BOOKED_7, BOOKED_8, BALANCE_9099],
+    calls: [50, 55],
+};
+
+#[test]
+fn adds_the_index_or_not(rt: HostRuntime) {
+    ADDS_THE_INDEX.holds(&rt);
+}

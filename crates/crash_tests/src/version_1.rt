@@ -1,4 +1,5 @@
-//! Tables of version 1 with a club.
+//! Tables of version 1 with a club, and what makes them those of version 2 without the index of
+//! the bookings.
 
 /// Makes the tables, and the rows of the fixture: amy's booking of the court under number 7, and
 /// her booking of the room under number 8, which is cancelled with a refund of 300.
@@ -57,4 +58,14 @@ pub(crate) static STATEMENTS: [&str; 18] = [
     "INSERT INTO slots VALUES ('room-1', 20574, 18, 0, 0)",
     "INSERT INTO bookings VALUES ('amy-1', 7, 'court-1', 20574, 18, 2, 600, 1, 0, 0)",
     "INSERT INTO bookings VALUES ('amy-1', 8, 'room-1', 20574, 18, 0, 601, 0, 1, 300)",
+];
+
+/// Makes the tables of version 2 without the index of the bookings.
+pub(crate) static OLDER_ROOTS: [&str; 2] = [
+    "CREATE TABLE old_roots (\
+        pass_key TEXT NOT NULL PRIMARY KEY REFERENCES keys (name), \
+        root BLOB NOT NULL, \
+        until INTEGER NOT NULL CHECK (until BETWEEN 15778080 AND 68374079)\
+    ) STRICT",
+    "UPDATE desk SET version = 2",
 ];

@@ -4,7 +4,7 @@
 
 use crate::expect::expect_eq;
 use crate::steps::{Step, plays};
-use crate::versions::{MIGRATED, NOBODY, database, fill, runs, version};
+use crate::versions::{MIGRATED, NOBODY, OLDER_ROOTS, database, fill, runs, version};
 use club_core::StoreFault;
 use club_store::Store;
 use sqlite::{Alter, Connection, FileFrom, FileStore, MemStore, Unknown};
@@ -21,16 +21,14 @@ enum Tables {
     /// Those of version 1 with the rows of its tests.
     First,
     /// The same with older roots.
+    Unindexed,
+    /// Those of version 2, which have the index of the bookings beside.
     Second,
 }
 
-static OLDER_ROOTS: [&str; 2] = [
-    "CREATE TABLE old_roots (\
-        pass_key TEXT NOT NULL PRIMARY KEY REFERENCES keys (name), \
-        root BLOB NOT NULL, \
-        until INTEGER NOT NULL CHECK (until BETWEEN 15778080 AND 68374079)\
-    ) STRICT",
-    "UPDATE desk SET version = 2",
+static INDEX: [&str; 1] = [
+    "CREATE INDEX bookings_by_key \
+    ON bookings (pass_key, cancelled, day, hour, number, charge, refund)",
 ];
 
 impl Tables {
@@ -38,9 +36,14 @@ impl Tables {
         match self {
             Tables::No => {}
             Tables::First => fill(rt, connection),
+            Tables::Unindexed => {
+                fill(rt, connection);
+                runs(rt, connection, &OLDER_ROOTS);
+            }
             Tables::Second => {
                 fill(rt, connection);
                 runs(rt, connection, &OLDER_ROOTS);
+                runs(rt, connection, &INDEX);
             }
         }
     }
@@ -50,7 +53,7 @@ impl Tables {
         match self {
             Tables::No => None,
             Tables::First => Some(1),
-            Tables::Second => Some(2),
+            Tables::Unindexed | Tables::Second => Some(2),
         }
     }
 
@@ -58,7 +61,7 @@ impl Tables {
     fn shown(self) -> &'static [Step] {
         match self {
             Tables::No => &NOBODY,
-            Tables::First | Tables::Second => &MIGRATED,
+            Tables::First | Tables::Unindexed | Tables::Second => &MIGRATED,
         }
     }
 }
@@ -102,6 +105,11 @@ fn empty_database(rt: HostRuntime) {
 #[test]
 fn tables_of_version_1(rt: HostRuntime) {
     opens_in_memory(&rt, Tables::First);
+}
+
+#[test]
+fn tables_without_the_index(rt: HostRuntime) {
+    opens_in_memory(&rt, Tables::Unindexed);
 }
 
 #[test]
@@ -192,6 +200,11 @@ fn opens_file(
 #[test]
 fn file_of_version_1(rt: HostRuntime) -> Result<(), Fail> {
     opens_file(&rt, &rt, Tables::First)
+}
+
+#[test]
+fn file_without_the_index(rt: HostRuntime) -> Result<(), Fail> {
+    opens_file(&rt, &rt, Tables::Unindexed)
 }
 
 #[test]

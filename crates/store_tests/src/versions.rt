@@ -1,4 +1,5 @@
-//! Tables of version 1, databases of other kinds, and the older roots of version 2.
+//! Tables of version 1, those of version 2 without the index of the bookings, databases of other
+//! kinds, and the older roots of version 2.
 
 use crate::expect::expect_eq;
 use crate::rows::{AMY_1, CANCELLED_8, COURT_7, FIRST, Kept, Older, SECOND, THIRD};
@@ -67,6 +68,16 @@ static TABLES: [&str; 8] = [
     "INSERT INTO desk (version) VALUES (1)",
 ];
 
+/// What makes tables of version 1 those of version 2, without the index of the bookings.
+pub(crate) static OLDER_ROOTS: [&str; 2] = [
+    "CREATE TABLE old_roots (\
+        pass_key TEXT NOT NULL PRIMARY KEY REFERENCES keys (name), \
+        root BLOB NOT NULL, \
+        until INTEGER NOT NULL CHECK (until BETWEEN 15778080 AND 68374079)\
+    ) STRICT",
+    "UPDATE desk SET version = 2",
+];
+
 /// Booking 7 was charged 600 for three persons; booking 8 was charged 601 and is cancelled with a
 /// refund of 300.
 static ROWS: [&str; 8] = [
@@ -103,6 +114,12 @@ fn first_version(rt: &(impl Abort + Alloc<A = Global>)) -> Connection<MemStore> 
     connection
 }
 
+fn without_the_index(rt: &(impl Abort + Alloc<A = Global>)) -> Connection<MemStore> {
+    let mut connection = first_version(rt);
+    runs(rt, &mut connection, &OLDER_ROOTS);
+    connection
+}
+
 /// The store over a database that it takes over.
 fn adopted(
     rt: &(impl Abort + Alloc<A = Global>),
@@ -123,6 +140,35 @@ pub(crate) static MIGRATED: [Step; 3] = [
 #[test]
 fn migrates_tables_of_version_1(rt: HostRuntime) {
     plays(&rt, &mut adopted(&rt, first_version(&rt)), &MIGRATED);
+}
+
+#[test]
+fn opens_tables_without_the_index(rt: HostRuntime) {
+    plays(&rt, &mut adopted(&rt, without_the_index(&rt)), &MIGRATED);
+}
+
+/// How many indexes of the bookings' name are listed.
+fn indexes<S: Alter>(rt: &impl Abort, connection: &mut Connection<S>) -> i64 {
+    let listed = "SELECT count(*) FROM sqlite_schema \
+        WHERE type = 'index' AND name = 'bookings_by_key' AND tbl_name = 'bookings'";
+    let row = connection.query_row(listed, &[]).expect(rt, "a count");
+    row.get(0).expect(rt, "a number")
+}
+
+/// Ends the test unless a database without the index has it once it is opened, and once more.
+fn gets_the_index(rt: &(impl Abort + Alloc<A = Global>), mut connection: Connection<MemStore>) {
+    expect_eq(rt, &indexes(rt, &mut connection), &0);
+    let mut opened = adopted(rt, connection).into_connection();
+    expect_eq(rt, &indexes(rt, &mut opened), &1);
+    let mut again = adopted(rt, opened).into_connection();
+    expect_eq(rt, &indexes(rt, &mut again), &1);
+}
+
+#[test]
+fn makes_the_index_of_the_bookings(rt: HostRuntime) {
+    gets_the_index(&rt, database(&rt));
+    gets_the_index(&rt, first_version(&rt));
+    gets_the_index(&rt, without_the_index(&rt));
 }
 
 static NO_OLDER_ROOT: [Step; 1] = [Step::Shows(Shown::Key(AMY_1))];
@@ -204,7 +250,7 @@ static OTHERS: [Other; 4] = [
 ];
 
 /// Tables of version 1 under another version, and such in which a statement finds no table.
-static CHANGED: [Other; 2] = [
+static CHANGED: [Other; 3] = [
     Other {
         texts: &["UPDATE desk SET version = 9"],
         version: Some(9),
@@ -212,6 +258,23 @@ static CHANGED: [Other; 2] = [
     Other {
         texts: &["DROP TABLE slots"],
         version: Some(1),
+    },
+    Other {
+        texts: &["CREATE TABLE bookings_by_key (name TEXT) STRICT"],
+        version: Some(1),
+    },
+];
+
+/// Tables of version 2 without the index, where a statement finds no table, or another table has
+/// the index's name.
+static UNINDEXED: [Other; 2] = [
+    Other {
+        texts: &["DROP TABLE slots"],
+        version: Some(2),
+    },
+    Other {
+        texts: &["CREATE TABLE bookings_by_key (name TEXT) STRICT"],
+        version: Some(2),
     },
 ];
 
@@ -277,6 +340,13 @@ fn refuses_tables_without_totals(rt: HostRuntime) {
 fn migrates_no_other_tables(rt: HostRuntime) {
     for other in &CHANGED {
         is_refused(&rt, first_version(&rt), other);
+    }
+}
+
+#[test]
+fn indexes_no_other_tables(rt: HostRuntime) {
+    for other in &UNINDEXED {
+        is_refused(&rt, without_the_index(&rt), other);
     }
 }
 

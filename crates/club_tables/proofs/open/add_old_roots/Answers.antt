@@ -1,4 +1,4 @@
-use Rattle.std.proofs.Common.{inr, refl, arith}
+use Rattle.std.proofs.Common.{inl, inr, refl, arith}
 use Rattle.sqlite.specs.State.{HasCleanDisk}
 use Rattle.sqlite.specs.Held.{state}
 use Rattle.club_tables.proofs.StandLemmas.{on_ok, on_err}
@@ -20,4 +20,4 @@ returns-clause-refused g c clean =
     on_err c.run.result c.run.ensures.kept (λ kept. refused_first g.S.Store c.args.conn.now c.run.new.conn kept c.run.ensures.survives)
 
 pub returns-clause-survives : goal.returns-clause-survives
-returns-clause-survives g c = may_commit g.S.Store migration IsOpeningBatch (inr refl) c.args.conn.now c.run.new.conn c.run.ensures.survives
+returns-clause-survives g c = may_commit g.S.Store migration IsOpeningBatch (inr (inl refl)) c.args.conn.now c.run.new.conn c.run.ensures.survives

@@ -64,7 +64,7 @@ returns-in-Ok-clause-fault g c clean =
     (λ fault failed. record {
       from = mid;
       after = after_one g.S.Store old mid earlier c.prepare_all.ensures.same c.prepare_all.ensures.survives;
-      failed = inr (inl (migration, inr refl, failed));
+      failed = inr (inl (migration, inr (inl refl), failed));
     })
 
 pub returns-in-Err-clause-fault : goal.returns-in-Err-clause-fault

@@ -1,41 +1,98 @@
-use Rattle.std.proofs.Common.{◌≡◌, ◌≢◌, ℕ, [], ◌∷◌, All, inl, inr, refl, sym, subst, ◌∙◌, arith}
+use Rattle.std.proofs.Common.{◌≡◌, ◌≢◌, ℕ, List, [], ◌∷◌, All, IsTrue, inl, inr, refl, sym, subst, ◌∙◌, arith}
+use Rattle.sqlite.specs.Order.{Row}
 use Rattle.sqlite.specs.Store.{Ghosts}
-use Rattle.sqlite.specs.Held.{Held}
-use Rattle.club_core.specs.declared.store.StoreFault.{StoreFault}
-use Rattle.club_transactions.specs.Fault.{FailsToRun}
-use Rattle.club_tables.specs.Answers.{IsAfterReadings}
 use Rattle.sqlite.specs.Effect.{Database}
 use Rattle.sqlite.specs.State.{HasCleanDisk}
-use Rattle.sqlite.specs.Held.{state}
+use Rattle.sqlite.specs.Held.{Held, state}
+use Rattle.club_transactions.specs.Fault.{FailsToRun}
+use Rattle.club_transactions.specs.Transaction.{Words, IsAtRest, IsKept, IsUnderstood}
 use Rattle.club_tables.specs.declared.texts.TheConstants.{VERSION}
-use Rattle.club_tables.specs.Columns.{version_values}
-use Rattle.club_transactions.specs.Transaction.{IsAtRest}
-use Rattle.club_tables.specs.Opening.{HasNoDesk, IsAnswered, IsOpeningBatch, first_texts, table_batch, texts_by_key}
-use Rattle.club_transactions.specs.Transaction.{IsUnderstood}
-use Rattle.club_tables.specs.Opening.{FailsToPrepareOne, IsOpeningFault}
-use Rattle.club_tables.proofs.StandLemmas.{on_ok, on_err, survives_none}
+use Rattle.club_tables.specs.Columns.{HasValues, version_values}
+use Rattle.club_tables.specs.Opening.{HasNoDesk, IsAccepted, IsAnswered, IsOpeningBatch, IsOpeningFault, HasRunOver, Upgrade, EnsuresIndex}
+use Rattle.club_tables.specs.Opening.{first_texts, texts_by_key, indexed_texts, table_batch, migration, index_batch}
+use Rattle.club_tables.proofs.StandLemmas.{on_ok, on_err}
 use Rattle.club_tables.proofs.MakingLemmas.{makes_free}
-use Rattle.club_tables.proofs.OpenLemmas.{one_version, first_found}
+use Rattle.club_tables.proofs.OpenLemmas.{one_version, first_found, second_found}
+use Rattle.club_tables.proofs.PrepareLemmas.{kept_then}
 use Rattle.club_tables.proofs.ReadyLemmas.{found_ready}
-use Rattle.club_tables.proofs.SurviveLemmas.{after_one, after_then, commits_after, commits_nothing}
+use Rattle.club_tables.proofs.SurviveLemmas.{after_one, opened_after, commits_after, commits_nothing}
 use Rattle.club_tables.proofs.ReadLemmas.{at_once, fault_if}
 use Rattle.club_tables.proofs.open.open_tables.Goals as goal
 
--- an opening after the version was read
-opened_after : {S : Type 0} (g : Ghosts S) (a b c : Held S) (fault : StoreFault) → IsAfterReadings g a b → IsOpeningFault g b c fault
-    → IsOpeningFault g a c fault
-opened_after g a b c fault first it = record { from = it.from; after = after_then g a b it.from first it.after; failed = it.failed }
+-- where a batch was run over what was there, tables of the version that was read were there
+upgraded : {S : Type 0} (g : Ghosts S) (old mid new : Held S) (version : ℕ) (texts : List (List ℕ)) (words : List Words) (rows : List Row)
+    → HasCleanDisk (state g mid) → IsAtRest (state g old) → IsKept (state g old) (state g mid)
+    → (row : Row) × (rows ≡ row ∷ []) × HasValues row (version_values version) → IsAnswered VERSION.now (state g old).now rows
+    → HasRunOver texts words g mid new → Upgrade version texts words g old new
+upgraded g old mid new version texts words rows earlier rest kept one answered it =
+    let before = kept earlier it.1 in
+    let same = it.3 ∙ before.2 in
+    let here = rest before.0 ∙ sym same in
+    let told = subst (λ db. IsAnswered VERSION.now db (one.0 ∷ [])) here (subst (IsAnswered VERSION.now (state g old).now) one.1 answered) in
+    record {
+      from = it.0;
+      found = record {
+        ready = record { told = (one.0, told, one.2); by_key = subst (λ (db : Database). All (IsUnderstood db.schema) texts) (sym it.3) it.2 };
+        same = same;
+      };
+      same = it.4 ∙ before.2;
+      ran = it.5;
+    }
+
+-- tables of version 2 with the index were there, or got it
+ensured : {S : Type 0} (g : Ghosts S) (old mid new : Held S) (rows : List Row) → HasCleanDisk (state g mid) → HasCleanDisk (state g new)
+    → IsTrue (state g new).is_open → IsAtRest (state g old) → IsKept (state g old) (state g mid)
+    → (row : Row) × (rows ≡ row ∷ []) × HasValues row (version_values 2) → IsAnswered VERSION.now (state g old).now rows
+    → EnsuresIndex g mid new → IsAccepted g old new
+ensured g old mid new rows earlier clean is_open rest kept one answered (inl it) =
+    inl (found_ready (state g old) (state g mid) (state g new) earlier clean is_open rest kept (λ _. it.0) 2 indexed_texts rows one answered (λ _. it.1))
+ensured g old mid new rows earlier clean is_open rest kept one answered (inr it) =
+    inr (inl (upgraded g old mid new 2 texts_by_key index_batch rows earlier rest kept one answered it))
+
+-- a connection that a reading kept is at rest
+rests : {S : Type 0} (g : Ghosts S) (old new : Held S) → HasCleanDisk (state g new) → IsKept (state g old) (state g new) → IsAtRest (state g new)
+rests g old new clean kept opened = let k = kept clean opened in k.1 ∙ sym k.2
 
 pub returns-then-is_version-clause-accepted : goal.returns-then-is_version-clause-accepted
 returns-then-is_version-clause-accepted g c clean =
-    let old = state g.S.Store c.args.conn.now in
-    let mid = state g.S.Store c.version.new.conn in
-    let new = state g.S.Store c.prepare_all.new.conn in
-    let earlier : HasCleanDisk mid = omega (arith, c.prepare_all.ensures.survives.clean) in
+    let old = c.args.conn.now in
+    let mid = c.version.new.conn in
+    let earlier : HasCleanDisk (state g.S.Store mid) = c.complete.ensures.honest clean in
     let one = rw c.as_slice-rows.ensures.value at (c.is_version.ensures.only c.if-is_version.true) in
-    on_ok c.prepare_all.result (c.prepare_all.ensures.understood clean) (λ known is_open rest.
-    inl (found_ready old mid new earlier clean is_open rest c.version.ensures.same c.prepare_all.ensures.same 2 texts_by_key c.in-Ok.found.items one
-    (c.in-Ok.ensures.answered earlier) (known is_open)))
+    on_ok c.complete.result (c.complete.ensures.ensured clean) (λ it is_open rest.
+    ensured g.S.Store old mid c.complete.new.conn c.in-Ok.found.items earlier clean is_open rest c.version.ensures.same one
+    (c.in-Ok.ensures.answered earlier) (it is_open (rests g.S.Store old mid earlier c.version.ensures.same)))
+
+pub returns-then-is_version-clause-opened : goal.returns-then-is_version-clause-opened
+returns-then-is_version-clause-opened g c clean =
+    let mid = c.version.new.conn in
+    let earlier : HasCleanDisk (state g.S.Store mid) = c.complete.ensures.honest clean in
+    let one = rw c.as_slice-rows.ensures.value at (c.is_version.ensures.only c.if-is_version.true) in
+    on_ok c.complete.result (c.complete.ensures.indexed clean) (λ indexed club others found.
+    elim (c.in-Ok.ensures.told earlier club others found) [
+      | inl second ↦ indexed (rests g.S.Store c.args.conn.now mid earlier c.version.ensures.same) club others second.0
+      | inr first ↦ absurd (let e : ◌≡◌ {A = ℕ} 1 2 = one_version c.in-Ok.found.items 1 2 first.1 one in omega (arith, e))
+    ])
+
+pub returns-then-is_version-clause-refused : goal.returns-then-is_version-clause-refused
+returns-then-is_version-clause-refused g c clean =
+    let mid = c.version.new.conn in
+    let earlier : HasCleanDisk (state g.S.Store mid) = c.complete.ensures.honest clean in
+    let one = rw c.as_slice-rows.ensures.value at (c.is_version.ensures.only c.if-is_version.true) in
+    on_err c.complete.result (c.complete.ensures.refused clean) (λ keeps club others found.
+    elim (c.in-Ok.ensures.told earlier club others found) [
+      | inl second ↦ second_found (state g.S.Store c.complete.new.conn) club others
+          (keeps (rests g.S.Store c.args.conn.now mid earlier c.version.ensures.same) club others second.0)
+      | inr first ↦ absurd (let e : ◌≡◌ {A = ℕ} 1 2 = one_version c.in-Ok.found.items 1 2 first.1 one in omega (arith, e))
+    ])
+
+pub returns-then-is_version-clause-untouched : goal.returns-then-is_version-clause-untouched
+returns-then-is_version-clause-untouched g c =
+    on_err c.complete.result c.complete.ensures.untouched (λ untouched clean is_open.
+    let earlier = c.complete.ensures.honest clean in
+    kept_then (state g.S.Store c.args.conn.now) (state g.S.Store c.version.new.conn) (state g.S.Store c.complete.new.conn)
+    c.complete.ensures.honest c.version.ensures.same
+    (untouched (rests g.S.Store c.args.conn.now c.version.new.conn earlier c.version.ensures.same)) clean is_open)
 
 pub returns-in-Err-Storage-clause-accepted : goal.returns-in-Err-Storage-clause-accepted
 returns-in-Err-Storage-clause-accepted g c clean =
@@ -44,7 +101,7 @@ returns-in-Err-Storage-clause-accepted g c clean =
     let same = (c.version.ensures.same earlier (ran.opened (omega arith))).1 in
     let unversioned = subst (λ (db : Database). HasNoDesk db.schema) same
     (makes_free g.S.Store c.version.new.conn (state g.S.Store c.make_tables.new.conn).committed ran) in
-    inr (inr (record { from = c.version.new.conn; same = same; unversioned = unversioned; ran = ran })))
+    inr (inr (inr (record { from = c.version.new.conn; same = same; unversioned = unversioned; ran = ran }))))
 
 pub returns-then-is_version-2-clause-opened : goal.returns-then-is_version-2-clause-opened
 returns-then-is_version-2-clause-opened g c clean =
@@ -60,27 +117,13 @@ returns-then-is_version-2-clause-opened g c clean =
 
 pub returns-then-is_version-2-clause-accepted : goal.returns-then-is_version-2-clause-accepted
 returns-then-is_version-2-clause-accepted g c clean =
-    let old = state g.S.Store c.args.conn.now in
-    let mid = state g.S.Store c.version.new.conn in
-    let earlier : HasCleanDisk mid = c.migrate.ensures.honest clean in
-    let settled : IsAtRest mid = λ opened. let k = c.version.ensures.same earlier opened in k.1 ∙ sym k.2 in
+    let old = c.args.conn.now in
+    let mid = c.version.new.conn in
+    let earlier : HasCleanDisk (state g.S.Store mid) = c.migrate.ensures.honest clean in
     let one = rw c.as_slice-rows.ensures.value at (c.is_version-2.ensures.only c.if-is_version-2.true) in
     on_ok c.migrate.result (c.migrate.ensures.ran clean) (λ ran is_open rest.
-    let it = ran settled in
-    let kept = c.version.ensures.same earlier it.1 in
-    let same = it.3 ∙ kept.2 in
-    let here = rest kept.0 ∙ sym same in
-    let answered = subst (λ db. IsAnswered VERSION.now db (one.0 ∷ [])) here
-    (subst (IsAnswered VERSION.now old.now) one.1 (c.in-Ok.ensures.answered earlier)) in
-    inr (inl (record {
-      from = it.0;
-      found = record {
-        ready = record { told = (one.0, answered, one.2); by_key = subst (λ (db : Database). All (IsUnderstood db.schema) first_texts) (sym it.3) it.2 };
-        same = same;
-      };
-      same = it.4 ∙ kept.2;
-      ran = it.5;
-    })))
+    inr (inr (inl (upgraded g.S.Store old mid c.migrate.new.conn 1 first_texts migration c.in-Ok.found.items earlier rest c.version.ensures.same one
+    (c.in-Ok.ensures.answered earlier) (ran (rests g.S.Store old mid earlier c.version.ensures.same))))))
 
 pub returns-then-is_version-2-clause-refused : goal.returns-then-is_version-2-clause-refused
 returns-then-is_version-2-clause-refused g c clean =
@@ -104,9 +147,8 @@ returns-in-Err-Storage-clause-survives g c =
 
 pub returns-then-is_version-clause-survives : goal.returns-then-is_version-clause-survives
 returns-then-is_version-clause-survives g c =
-    commits_nothing g.S.Store IsOpeningBatch c.args.conn.now c.prepare_all.new.conn
-    (survives_none (state g.S.Store c.args.conn.now) (state g.S.Store c.version.new.conn) (state g.S.Store c.prepare_all.new.conn) c.version.ensures.survives
-    c.prepare_all.ensures.survives)
+    commits_after g.S.Store IsOpeningBatch c.args.conn.now c.version.new.conn c.complete.new.conn (λ _.
+    c.version.ensures.same) c.version.ensures.survives c.complete.ensures.survives
 
 pub returns-then-is_version-2-clause-survives : goal.returns-then-is_version-2-clause-survives
 returns-then-is_version-2-clause-survives g c =
@@ -120,7 +162,11 @@ pub returns-in-Err-Memory-clause-fault : goal.returns-in-Err-Memory-clause-fault
 returns-in-Err-Memory-clause-fault g c clean =
     let old = c.args.conn.now in
     let earlier : HasCleanDisk (state g.S.Store old) = omega (arith, c.version.ensures.survives.clean) in
-    record { from = old; after = at_once g.S.Store old earlier; failed = inl (refl, rw c.in-Err-Memory.field-0-is at (c.in-Err-Memory.ensures.fault clean)) }
+    record {
+      from = old;
+      after = at_once g.S.Store old earlier;
+      failed = inl (refl, inl (rw c.in-Err-Memory.field-0-is at (c.in-Err-Memory.ensures.fault clean)));
+    }
 
 pub returns-in-Err-Storage-clause-fault : goal.returns-in-Err-Storage-clause-fault
 returns-in-Err-Storage-clause-fault g c clean =
@@ -136,11 +182,11 @@ pub returns-then-is_version-clause-fault : goal.returns-then-is_version-clause-f
 returns-then-is_version-clause-fault g c clean =
     let old = c.args.conn.now in
     let mid = c.version.new.conn in
-    let new = c.prepare_all.new.conn in
-    let earlier : HasCleanDisk (state g.S.Store mid) = omega (arith, c.prepare_all.ensures.survives.clean) in
+    let new = c.complete.new.conn in
+    let earlier : HasCleanDisk (state g.S.Store mid) = c.complete.ensures.honest clean in
     let first = after_one g.S.Store old mid earlier (λ rest. c.version.ensures.same) c.version.ensures.survives in
-    fault_if (FailsToPrepareOne g.S.Store texts_by_key mid new) (IsOpeningFault g.S.Store old new) c.prepare_all.result (c.prepare_all.ensures.fault clean)
-    (λ fault it. record { from = it.from; after = after_then g.S.Store old mid it.from first it.after; failed = inr (inr (inl it.failed)) })
+    fault_if (IsOpeningFault g.S.Store mid new) (IsOpeningFault g.S.Store old new) c.complete.result (c.complete.ensures.fault clean) (λ fault it.
+    opened_after g.S.Store old mid new fault first it)
 
 pub returns-then-is_version-2-clause-fault : goal.returns-then-is_version-2-clause-fault
 returns-then-is_version-2-clause-fault g c clean =

@@ -1,7 +1,7 @@
 use Rattle.std.proofs.Common.{arith}
 use Rattle.sqlite.specs.State.{HasCleanDisk}
 use Rattle.sqlite.specs.Held.{state}
-use Rattle.club_tables.proofs.StandLemmas.{survives_same, survives_none, keeps_standing, keeps_found}
+use Rattle.club_tables.proofs.StandLemmas.{survives_same, survives_none}
 use Rattle.club_tables.proofs.PrepareLemmas.{kept_at_rest, kept_then, one_at, none_understood, one_understood, all_understood}
 use Rattle.club_transactions.specs.Fault.{FailsToPrepare}
 use Rattle.club_tables.proofs.open.prepare_all.Goals as goal
@@ -10,10 +10,8 @@ pub loop-text-init : goal.loop-text-init
 loop-text-init g c = record {
   idle = c.requires;
   survives = survives_same (state g.S.Store c.args.conn.now);
-  stands = λ _ club others stands. stands;
   kept = λ rest. kept_at_rest (state g.S.Store c.args.conn.now) rest;
   known = λ rest clean is_open. none_understood (state g.S.Store c.args.conn.now).committed c.args.texts.now;
-  found = λ _ club others found. found;
 }
 
 pub loop-text-preserved : goal.loop-text-preserved
@@ -25,8 +23,6 @@ loop-text-preserved g c =
     record {
       idle = c.prepare.ensures.idle;
       survives = survives_none _ (state g.S.Store was) (state g.S.Store now) c.loop-text.invariant.survives quiet;
-      stands = λ clean club others stands. keeps_standing g.S.Store was now c.prepare.ensures.kept quiet club others
-          (c.loop-text.invariant.stands (earlier clean) club others stands);
       kept = λ rest. kept_then (state g.S.Store c.args.conn.now) (state g.S.Store was) (state g.S.Store now) earlier (c.loop-text.invariant.kept rest)
           c.prepare.ensures.kept;
       known = λ rest clean is_open.
@@ -34,8 +30,6 @@ loop-text-preserved g c =
           one_understood (state g.S.Store c.args.conn.now).committed c.args.texts.now c.loop-text.text-index _ (state g.S.Store was).now
           (c.loop-text.invariant.kept rest (earlier clean) opened).1 c.loop-text-test.true (c.loop-text.invariant.known rest (earlier clean) opened)
           (c.in-Ok.ensures.understood clean);
-      found = λ clean club others found. keeps_found g.S.Store was now c.prepare.ensures.kept quiet club others
-          (c.loop-text.invariant.found (earlier clean) club others found);
     }
 
 pub returns-in-Err-clause-same : goal.returns-in-Err-clause-same
@@ -49,18 +43,6 @@ returns-in-Err-clause-same g c rest =
 pub returns-in-Err-clause-survives : goal.returns-in-Err-clause-survives
 returns-in-Err-clause-survives g c =
     survives_none _ (state g.S.Store c.loop-text.conn) (state g.S.Store c.prepare.new.conn) c.loop-text.invariant.survives c.prepare.ensures.survives
-
-pub returns-in-Err-clause-stands : goal.returns-in-Err-clause-stands
-returns-in-Err-clause-stands g c clean club others stands =
-    let earlier : HasCleanDisk (state g.S.Store c.loop-text.conn) = omega (arith, c.prepare.ensures.survives.clean) in
-    keeps_standing g.S.Store c.loop-text.conn c.prepare.new.conn c.prepare.ensures.kept c.prepare.ensures.survives club others
-    (c.loop-text.invariant.stands earlier club others stands)
-
-pub returns-in-Err-clause-found : goal.returns-in-Err-clause-found
-returns-in-Err-clause-found g c clean club others found =
-    let earlier : HasCleanDisk (state g.S.Store c.loop-text.conn) = omega (arith, c.prepare.ensures.survives.clean) in
-    keeps_found g.S.Store c.loop-text.conn c.prepare.new.conn c.prepare.ensures.kept c.prepare.ensures.survives club others
-    (c.loop-text.invariant.found earlier club others found)
 
 pub returns-clause-understood : goal.returns-clause-understood
 returns-clause-understood g c clean is_open rest =

@@ -6,7 +6,16 @@ use Rattle.club_tables.proofs.reads.open_count.Goals as goal
 
 pub returns-in-Err-clause-gives : goal.returns-in-Err-clause-gives
 returns-in-Err-clause-gives g c =
-    let failed = rw (c.params-to_sql.ensures, c.params-to_sql-2.ensures, c.as_str.ensures.value, c.number.ensures.value) at c.in-Err.ensures.fault in
+    let failed = rw (
+      c.params-to_sql.ensures,
+      c.params-to_sql-2.ensures,
+      c.params-to_sql-3.ensures,
+      c.as_str.ensures.value,
+      c.number.ensures.value,
+      c.from.ensures,
+      c.number-2.ensures.value,
+      c.day.ensures.value,
+    ) at c.in-Err.ensures.fault in
     record { told = λ clean. tt; failed = λ clean. inl (failed clean) }
 
 pub returns-in-Err-clause-reads : goal.returns-in-Err-clause-reads
@@ -17,7 +26,16 @@ returns-in-Err-clause-reads g c =
 
 pub returns-clause-gives : goal.returns-clause-gives
 returns-clause-gives g c =
-    let asked = rw (c.params-to_sql.ensures, c.params-to_sql-2.ensures, c.as_str.ensures.value, c.number.ensures.value) at c.in-Ok.ensures.asked in
+    let asked = rw (
+      c.params-to_sql.ensures,
+      c.params-to_sql-2.ensures,
+      c.params-to_sql-3.ensures,
+      c.as_str.ensures.value,
+      c.number.ensures.value,
+      c.from.ensures,
+      c.number-2.ensures.value,
+      c.day.ensures.value,
+    ) at c.in-Ok.ensures.asked in
     record { told = λ clean. (c.in-Ok.rows.items, asked clean, search rules); failed = λ clean. tt }
 
 pub returns-clause-reads : goal.returns-clause-reads

@@ -1,0 +1,107 @@
+-- The index of the bookings over tables of version 2 without it.
+use Rattle.std.proofs.Common.{◌≡◌, true≢false, List, [], ◌∷◌, IsTrue, inl, inr, refl, sym, ap, subst, ◌∙◌, arith}
+use Rattle.std.specs.Prelude.{is_ok}
+use Rattle.sqlite.specs.Store.{Ghosts}
+use Rattle.sqlite.specs.Effect.{Database}
+use Rattle.sqlite.specs.Listing.{understood}
+use Rattle.sqlite.specs.State.{HasCleanDisk, Survives, ExecutesIn}
+use Rattle.sqlite.specs.Held.{Held, state}
+use Rattle.club_core.specs.Club.{Club}
+use Rattle.club_core.specs.Store.{KeepsStanding}
+use Rattle.club_tables.specs.declared.texts.TheConstants.{MAKE_BOOKINGS_BY_KEY, DROP_BOOKINGS_BY_KEY}
+use Rattle.club_tables.specs.Schema.{bookings_by_key, unindexed_schema, club_schema}
+use Rattle.club_tables.specs.Columns.{version_values, member_values, facility_values, key_values, slot_values, booking_values, older_values}
+use Rattle.club_tables.specs.Opening.{index_batch}
+use Rattle.club_tables.specs.Stored.{Rows}
+use Rattle.club_tables.specs.Tables.{Tables, UnindexedTables, SecondTables, LiesWith, Lies, Holds, Stands, SecondStands}
+use Rattle.club_tables.specs.Told.{second_in}
+use Rattle.club_transactions.specs.Transaction.{Ran, IsKept, IsUnderstood, begun}
+use Rattle.club_tables.proofs.InsertLemmas.{indexes}
+use Rattle.club_tables.proofs.MakesLemmas.{makes_bookings_by_key, bookings_made, indexes_again, drops_none}
+use Rattle.club_tables.proofs.OpenLemmas.{IsSettled, settles}
+use Rattle.club_tables.proofs.StandLemmas.{keeps_second}
+
+module _ {S : Type 0} (g : Ghosts S) (old : Held S) (db : Database) (ran : Ran g index_batch old db) where
+  -- every row stays
+  indexed_lies : (rows : Rows) → LiesWith unindexed_schema (state g old).now rows → Lies db rows
+  indexed_lies rows lies =
+      let t1 = ran.turns in
+      let c1 = indexes (state g (begun old)) (state g t1.0) unindexed_schema lies.schema MAKE_BOOKINGS_BY_KEY.now makes_bookings_by_key.plain 5 bookings_made
+      bookings_by_key makes_bookings_by_key.listed makes_bookings_by_key.is makes_bookings_by_key.whole makes_bookings_by_key.defined t1.1 t1.2 in
+      let kept = c1.1 in
+      let next = (state g t1.0).now in
+      let is : db ≡ next = ran.is ∙ ap (λ h. (state g h).now) t1.3 in
+      let left : Lies next rows = record {
+        schema = c1.0;
+        version = subst (λ rs. Holds version_values rs (2 ∷ [])) (sym kept.0) lies.version;
+        members = subst (λ rs. Holds member_values rs rows.members) (sym kept.1.0) lies.members;
+        facilities = subst (λ rs. Holds facility_values rs rows.facilities) (sym kept.1.1.0) lies.facilities;
+        keys = subst (λ rs. Holds key_values rs rows.keys) (sym kept.1.1.1.0) lies.keys;
+        slots = subst (λ rs. Holds slot_values rs rows.slots) (sym kept.1.1.1.1.0) lies.slots;
+        bookings = subst (λ rs. Holds booking_values rs rows.bookings) (sym kept.1.1.1.1.1.0) lies.bookings;
+        olders = subst (λ rs. Holds older_values rs rows.olders) (sym kept.1.1.1.1.1.1.0) lies.olders;
+        database = c1.2;
+      } in
+      subst (λ (d : Database). Lies d rows) (sym is) left
+
+  indexed_tables : (club : Club) → UnindexedTables (state g old).now club → Tables db club
+  indexed_tables club it = record { rows = it.rows; lies = indexed_lies it.rows it.lies; stored = it.stored; sound = it.sound }
+
+  -- it doesn't run where the index is there
+  indexes_no_more : (state g old).now.schema ≡ club_schema → ⊥
+  unfolding ExecutesIn
+  indexes_no_more has =
+      let statement = ran.turns.2.1 in
+      true≢false (sym (ap is_ok statement.is) ∙ ap (λ s. is_ok (understood s MAKE_BOOKINGS_BY_KEY.now)) has ∙ indexes_again)
+
+module _ {S : Type 0} (g : Ghosts S) (old new : Held S) where
+  -- what the index is added to holds the club that stood
+  holds_second : (db : Database) → Ran g index_batch old db → HasCleanDisk (state g old) → (club : Club) (others : List Club)
+      → SecondStands (state g old) club others → Tables db club
+  holds_second db ran clean club others second =
+      let is_open = ran.opened (omega arith) in
+      let now = second.settled clean is_open in
+      elim (second.held clean is_open) [
+        | inl tables ↦ absurd (indexes_no_more g old db ran (ap (λ (d : Database). d.schema) now ∙ tables.lies.schema))
+        | inr it ↦ indexed_tables g old db ran club (subst (λ (d : Database). UnindexedTables d club) (sym now) it)
+      ]
+
+  pub indexed_stands : HasCleanDisk (state g old) → IsTrue (state g new).is_open → Ran g index_batch old (state g new).committed
+      → (state g new).now ≡ (state g new).committed → IsSettled (state g new)
+      → (club : Club) (others : List Club) → SecondStands (state g old) club others → Stands (state g new) club others
+  indexed_stands clean is_open ran same settled club others second =
+      settles (state g new) club others (λ _ _. holds_second (state g new).committed ran clean club others second) (λ _. is_open) same settled
+
+  -- an index that is refused leaves the tables as they were, and a crash those or the ones with the index
+  pub refused_second : IsKept (state g old) (state g new) → Survives (state g old) (state g new) (λ trees. (db : Database) × Ran g index_batch old db
+      × (trees ≡ db.trees)) → KeepsStanding (second_in g) old new
+  refused_second kept survives club others second =
+      let earlier = λ (clean : HasCleanDisk (state g new)). let e : HasCleanDisk (state g old) = omega (arith, survives.clean) in e in
+      record {
+        held = λ clean is_open. let k = kept clean is_open in subst (λ db. SecondTables db club) (sym k.2) (second.held (earlier clean) k.0);
+        settled = λ clean is_open. let k = kept clean is_open in k.1 ∙ sym k.2;
+        left = λ clean trees may. elim (survives.crash clean trees may) [
+          | inl was ↦ second.left (earlier clean) trees was
+          | inr made ↦ inl (made.0, sym made.2, inl (inl (holds_second made.0 made.1 (earlier clean) club others second)))
+        ];
+      }
+
+  -- the index is there where it can be named
+  pub named_stands : IsKept (state g old) (state g new) → Survives (state g old) (state g new) (λ _. ⊥)
+      → IsUnderstood (state g old).now.schema DROP_BOOKINGS_BY_KEY.now
+      → (club : Club) (others : List Club) → SecondStands (state g old) club others → Stands (state g new) club others
+  named_stands kept quiet named club others second =
+      let next = keeps_second g old new kept quiet club others second in
+      let earlier = λ (clean : HasCleanDisk (state g new)). let e : HasCleanDisk (state g old) = omega (arith, quiet.clean) in e in
+      record {
+        held = λ clean is_open. elim (next.held clean is_open) [
+          | inl tables ↦ tables
+          | inr it ↦
+              let k = kept clean is_open in
+              let same : (state g old).now.schema ≡ unindexed_schema =
+              ap (λ (d : Database). d.schema) (second.settled (earlier clean) k.0 ∙ sym k.2) ∙ it.lies.schema in
+              absurd (let none = ap (λ s. is_ok (understood s DROP_BOOKINGS_BY_KEY.now)) same ∙ drops_none in cc)
+        ];
+        settled = next.settled;
+        left = next.left;
+      }
