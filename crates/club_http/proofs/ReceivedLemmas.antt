@@ -1,27 +1,9 @@
 -- A request, received in pieces.
-use Rattle.std.proofs.Common.{◌≡◌, ℕ, ◌+◌, ◌-◌, ◌<◌, ◌≤◌, inl, inr, List, ◌++◌, length, take, sym, ap, ◌∙◌, arith, length-append}
-use Rattle.std.proofs.Math.Seq.{take-append-add, take-length}
-use Rattle.std.proofs.lemmas.Bool.{cases_lt}
+use Rattle.std.proofs.Common.{◌≡◌, ℕ, ◌+◌, ◌≤◌, ◌↔◌, Bool, false, List, ◌++◌, length, take, sym, ap, ◌∙◌, arith}
+use Rattle.std.specs.Prelude.{IsTrue}
+use Rattle.std.proofs.Math.Seq.{take-append-add}
 use Rattle.std.proofs.lemmas.List.{take-append-le, length-take, length-take-le}
-use Rattle.club_http.specs.Received.{IsWanted, AwaitsHead, NoHeadBefore}
-use Rattle.club_words.specs.Frame.{IsWhole, HasNoPiece}
 use borrow.Rule.Slice.PartMut.{put_mid}
-
--- the bytes behind the seam
-take_behind : (bytes more : List ℕ) (n : ℕ) → length bytes ≤ n → take n (bytes ++ more) ≡ bytes ++ take (n - length bytes) more
-take_behind bytes more n behind =
-    let e : n ≡ length bytes + (n - length bytes) = omega arith in
-    ap (λ (k : ℕ). take k (bytes ++ more)) e ∙ take-append-add bytes more (n - length bytes)
-
-pub wanted_more : (bytes more : List ℕ) (r : ℕ) → IsWanted bytes → ((next : List ℕ) → length next < r → ¬ (IsWhole (bytes ++ next))) → length more ≤ r
-    → IsWanted (bytes ++ more)
-wanted_more bytes more r wanted needed few n short whole = elim (cases_lt n (length bytes)) [
-  | inl before ↦ wanted n before (rw (take-append-le n bytes more (omega arith)) at whole)
-  | inr behind ↦
-      let inside : n < length bytes + length more = rw (← length-append bytes more) short in
-      let fewer : length (take (n - length bytes) more) < r = rw (length-take (n - length bytes) more) (omega arith) in
-      needed (take (n - length bytes) more) fewer (rw (take_behind bytes more n behind) at whole)
-]
 
 -- as many as a request may have
 pub within_request : (room : List ℕ) (n : ℕ) → n ≤ 16640 → length (take n room) ≤ 16640
@@ -35,17 +17,6 @@ filled room part len n k within few =
     ∙ take-append-add (take len room) _ n
     ∙ ap (λ (l : List ℕ). take len room ++ l) (take-append-le n part _ few)
 
--- as many bytes more as a head's end lacks at least, or fewer
-pub no_head_more : (bytes more : List ℕ) (lacks : ℕ) → AwaitsHead bytes → (0 < lacks → length bytes + lacks ≤ 16384)
-    → ((next : List ℕ) → length next < lacks → HasNoPiece (bytes ++ next)) → length more ≤ lacks → NoHeadBefore (bytes ++ more)
-no_head_more bytes more lacks awaits room needed few n short =
-    let inside : n < length bytes + length more = rw (← length-append bytes more) short in
-    elim (cases_lt n (length bytes)) [
-      | inl before ↦ rw (take-append-le n bytes more (omega arith)) (awaits.0 n (omega arith) (omega (arith, awaits.1)))
-      | inr behind ↦
-          let next = take (n - length bytes) more in
-          let fewer : length next < lacks = rw (length-take (n - length bytes) more) (omega arith) in
-          let whole : length (bytes ++ next) ≤ 16384 = rw (length-append bytes next) (omega (arith, room (omega arith))) in
-          let headless = needed next fewer (length (bytes ++ next)) (omega arith) whole in
-          rw (take_behind bytes more n behind) (rw (take-length (bytes ++ next)) at headless)
-    ]
+-- what a test that came out false tests doesn't hold
+pub not_so : (test : Bool) (P : Type 0) → test ≡ false → IsTrue test ↔ P → ¬ P
+not_so test P fails is holds = let passes : IsTrue test = is.1 holds in cc

@@ -1,5 +1,6 @@
 pub mod Ends
 pub mod Received
+pub mod Calls
 pub mod Replied
 pub mod Exchange
 pub mod Desk

@@ -5,6 +5,7 @@ use std::io::{Read, Write};
 /// What a request is read from.
 pub trait Inlet {
     ghost use Rattle.std.specs.Prelude.{◌≡◌, ◌≤◌, ℕ, List, length, Option, IfSome};
+    ghost use Rattle.club_http.specs.Calls.{Call};
     ghost use Rattle.club_http.specs.Ends.{Fills, read_failures};
 
     // the bytes to come, where they are known
@@ -13,12 +14,16 @@ pub trait Inlet {
     // how often it failed
     ghost failures: { Self → ℕ };
 
+    // what a call does, as far as it is known
+    ghost fills: { Call Self };
+
     /// Puts the next bytes at the front of the room, and answers how many; none in a room that has
     /// room is the end of the input. `None` is a failure.
     fn fill(&mut self, room: &mut [u8]) -> Option<usize>
         ensures within { IfSome result (λ n. n ≤ length room.new) }
         ensures bytes { Fills (to_come self.old) (to_come self.new) result room.new }
-        ensures counted { failures self.new ≡ read_failures (failures self.old) result };
+        ensures counted { failures self.new ≡ read_failures (failures self.old) result }
+        ensures called { fills self.old result room.new self.new };
 }
 
 /// What a reply is written to.
@@ -61,9 +66,14 @@ impl<R: Read> ReadInlet<R> {
 }
 
 impl<R: Read> Inlet for ReadInlet<R> {
+    ghost use Rattle.club_http.specs.Ends.{Fills};
+
     ghost to_come = { λ inlet. R.remaining inlet.reader };
 
     ghost failures = { λ inlet. inlet.failures };
+
+    ghost fills = { λ old result room new.
+        Fills (R.remaining old.reader) (R.remaining new.reader) result room };
 
     fn fill(&mut self, room: &mut [u8]) -> Option<usize> {
         match self.reader.read(room) {

@@ -2,6 +2,7 @@
 
 ghost use Rattle.std.specs.Prelude.{◌≡◌};
 ghost use Rattle.std.specs.Io.KnownBytes.{Appends};
+ghost use Rattle.club_http.specs.Calls.{ReadsNoFurther};
 ghost use Rattle.club_http.specs.Received.{IsCutOff};
 ghost use Rattle.club_http.specs.Exchange.{Replies, Exchanges, reader_failures, writer_failures};
 
@@ -15,10 +16,11 @@ use pass_caveats::Moment;
 
 /// Reads a request, asks the desk, and writes the text of its reply.
 ///
-/// The request is read till it is whole; where the input ends before, what came is the request.
-/// Bytes behind it aren't taken, and never more than `MAX_REQUEST_LEN`; those that were stay in the
-/// face. Memory is taken for the body of a request and by the desk, never
-/// once the desk has answered.
+/// The request is read till it is whole; where the input ends before, what came is the request. A
+/// call of the reader is given all the room that is left, so bytes behind the request may be taken
+/// with it: they change nothing, and never are more than `MAX_REQUEST_LEN` taken in all. No call is
+/// made once the request is whole. What was taken stays in the face. Memory is taken for the body
+/// of a request and by the desk, never once the desk has answered.
 ///
 /// # Errors
 ///
@@ -40,6 +42,7 @@ pub fn answer<D: Responder, R: Inlet, W: Outlet>(
         × (writer.new ≡ writer.old))
         (Appends (W.taken writer.old) (W.taken writer.new))
         result }
+    ensures calls { ReadsNoFurther R.fills reader.old face.new reader.new }
     ensures reads { R.failures reader.new ≡ reader_failures (R.failures reader.old) result }
     ensures writes { W.failures writer.new ≡ writer_failures (W.failures writer.old) result }
 {

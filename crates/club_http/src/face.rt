@@ -1,6 +1,8 @@
 //! The face of the desk to its connections.
 
 ghost use Rattle.std.specs.Prelude.{◌≡◌, [], IfOk, MatchOption};
+ghost use Rattle.club_words.specs.Front.{Covers};
+ghost use Rattle.club_http.specs.Calls.{ReadsNoFurther};
 ghost use Rattle.club_http.specs.Ends.{read_failures};
 ghost use Rattle.club_http.specs.Received.{IsCutOff};
 ghost use Rattle.club_http.specs.Replied.{IsReplied};
@@ -11,7 +13,7 @@ use crate::receive::receive;
 use crate::responder::Responder;
 use club_core::Reply;
 use club_words::laws::{body_stays, whole_keeps_its_reading};
-use club_words::{MAX_REQUEST_LEN, Routes, words_of};
+use club_words::{HeadScan, MAX_REQUEST_LEN, Routes, words_by_scan};
 use pass_caveats::Moment;
 use std::alloc::{AllocError, Global};
 use std::marker::Model;
@@ -35,11 +37,18 @@ impl Model for Face {
     ghost invariant = { λ face. (vec_len face.buffer ≡ 16640) × (face.len ≤ 16640) };
 }
 
-/// The reply to the bytes of a request.
-fn reply_to<D: Responder>(routes: &Routes, bytes: &[u8], desk: &mut D, moment: Moment) -> Reply
+/// The reply to the bytes of a request, by the scan for its head.
+fn reply_to<D: Responder>(
+    routes: &Routes,
+    bytes: &[u8],
+    scan: &HeadScan,
+    desk: &mut D,
+    moment: Moment,
+) -> Reply
+    requires { Covers scan.now bytes.now }
     ensures { IsReplied (D.answers moment) bytes.now desk.old result desk.new }
 {
-    match words_of(routes, bytes) {
+    match words_by_scan(routes, bytes, scan) {
         Ok(words) => desk.ask(moment, &words),
         Err(refusal) => Reply::Refused(refusal),
     }
@@ -63,7 +72,8 @@ impl Face {
         })
     }
 
-    /// What was read of the last request: all of it, or what came before its reader failed.
+    /// What was read at the last request: all of it, and what its reader gave behind it in the
+    /// same call; or what came before its reader failed.
     pub fn request(&self) -> &[u8]
         ensures { result.now ≡ self.now }
     {
@@ -82,14 +92,17 @@ impl Face {
             × (desk.new ≡ desk.old))
             (λ reply. Replies (D.answers moment) (R.to_come reader.old) (R.to_come reader.new)
             self.new desk.old reply desk.new) }
+        ensures calls { ReadsNoFurther R.fills reader.old self.new reader.new }
         ensures counted { R.failures reader.new ≡ read_failures (R.failures reader.old) result }
     {
-        match receive(reader, &mut self.buffer) {
+        let mut scan = HeadScan::new();
+        match receive(reader, &mut self.buffer, &mut scan) {
             Ok(len) => {
                 self.len = len;
                 whole_keeps_its_reading();
                 body_stays();
-                Some(reply_to(&self.routes, &self.buffer[..len], desk, moment))
+                let bytes = &self.buffer[..len];
+                Some(reply_to(&self.routes, bytes, &scan, desk, moment))
             }
             Err(len) => {
                 self.len = len;

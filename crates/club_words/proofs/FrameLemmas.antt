@@ -60,21 +60,26 @@ same_asked piece head other n m asks again =
     (same, cc)
 
 -- nor where the body is cut
-pub short_frame : (bytes : List ℕ) (fields : List HeaderSpan) (found : Head) → IsHeadAt bytes fields found → length found.rest.now < found.body_len
+pub short_frame : (bytes : List ℕ) (fields : List HeaderSpan) (found : Head) → IsHeadAt bytes fields found
+    → length (drop found.len bytes) < found.body_len
     → (head : RequestHead) (body : List ℕ) → ¬ (IsFramed bytes head body)
 short_frame bytes fields found at short head body framed =
-    let same = one_piece framed.piece found.piece.now (body ++ framed.after) found.rest.now (sym framed.parts ∙ at.parts) framed.cut at.cut in
-    let asked = same_asked found.piece.now at.head head found.body_len (length body) at.asks (rw same.0 at framed.asks) in
-    let long : length body ≤ length found.rest.now = rw (← same.1) (simp length-append (omega arith)) in
+    let piece = take found.len bytes in
+    let rest = drop found.len bytes in
+    let parts : piece ++ rest ≡ bytes = take-append-drop found.len bytes in
+    let same = one_piece framed.piece piece (body ++ framed.after) rest (sym framed.parts ∙ sym parts) framed.cut at.cut in
+    let asked = same_asked piece at.head head found.body_len (length body) at.asks (rw same.0 at framed.asks) in
+    let long : length body ≤ length rest = rw (← same.1) (simp length-append (omega arith)) in
     omega (arith, asked.1)
 
 -- a head and its body
-pub whole_frame : (bytes : List ℕ) (fields : List HeaderSpan) (found : Head) (at : IsHeadAt bytes fields found) → found.body_len ≤ length found.rest.now
-    → IsFramed bytes at.head (take found.body_len found.rest.now)
+pub whole_frame : (bytes : List ℕ) (fields : List HeaderSpan) (found : Head) (at : IsHeadAt bytes fields found)
+    → found.body_len ≤ length (drop found.len bytes)
+    → IsFramed bytes at.head (take found.body_len (drop found.len bytes))
 whole_frame bytes fields found at long = record {
-  piece = found.piece.now;
-  after = drop found.body_len found.rest.now;
+  piece = take found.len bytes;
+  after = drop found.body_len (drop found.len bytes);
   cut = at.cut;
-  parts = rw (take-append-drop found.body_len found.rest.now) at.parts;
-  asks = rw (length-take-le found.body_len found.rest.now long) at.asks;
+  parts = rw (take-append-drop found.body_len (drop found.len bytes)) (sym (take-append-drop found.len bytes));
+  asks = rw (length-take-le found.body_len (drop found.len bytes) long) at.asks;
 }

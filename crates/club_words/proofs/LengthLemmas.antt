@@ -1,6 +1,7 @@
 -- No head asks for more than 256 bytes.
-use Rattle.std.proofs.Common.{◌≡◌, ℕ, ◌+◌, ◌-◌, ◌<◌, ◌≤◌, ◌&&◌, ◌||◌, refl, Bool, true, false, cond, eqb, leb, ltb, List, [], ◌∷◌, length, Option, Some, None}
-use Rattle.std.proofs.Common.{arith, rules, tests, length-append, codes}
+use Rattle.std.proofs.Common.{◌≡◌, ℕ, ◌-◌, ◌<◌, ◌≤◌, ◌&&◌, ◌||◌, refl, Bool, true, false, cond, eqb, leb, ltb, List, [], ◌∷◌, length, Option, Some, None}
+use Rattle.std.proofs.Common.{arith, rules, tests, codes, take}
+use Rattle.std.proofs.lemmas.List.{length-take-le}
 use Rattle.std.specs.Char.{is_ascii_digit}
 use Rattle.std.specs.List.{list_all}
 use Rattle.std.specs.Str.{bytes_eq}
@@ -49,11 +50,12 @@ asked_few method fields n e =
     few_asked (values_of (codes "transfer-encoding") fields) (where_allowed method (told_length (values_of (codes "content-length") fields))) n
     (λ m h. few_allowed method (told_length (values_of (codes "content-length") fields)) m (few_told (values_of (codes "content-length") fields)) h) e
 
--- a request has at most 16,640 bytes
-pub room_for : (bytes : List ℕ) (fields : List HeaderSpan) (found : Head) → IsHeadAt bytes fields found → 0 < found.body_len - length found.rest.now
-    → length bytes + (found.body_len - length found.rest.now) ≤ 16640
-room_for bytes fields found at some =
+-- where a body is cut, fewer than 16,640 bytes have come
+pub room_for : (bytes : List ℕ) (fields : List HeaderSpan) (found : Head) → IsHeadAt bytes fields found → length bytes - found.len < found.body_len
+    → length bytes < 16640
+room_for bytes fields found at short =
     let few = asked_few at.head.method (fields_of at.head) found.body_len at.asks.asked in
-    let short = at.cut.short in
-    let len : length bytes ≡ length found.piece.now + length found.rest.now = rw at.parts (length-append found.piece.now found.rest.now) in
+    let len : length (take found.len bytes) ≡ found.len = length-take-le found.len bytes at.inside in
+    let small = at.cut.short in
+    let inside = at.inside in
     omega arith

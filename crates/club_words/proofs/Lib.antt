@@ -1,5 +1,5 @@
 mod Pieces
-mod HeadEnds
+mod ScanLemmas
 mod FieldValues
 mod DigitLemmas
 mod Segments

@@ -1,10 +1,10 @@
 -- When a request is whole, and what follows it.
-use Rattle.std.proofs.Common.{◌≡◌, ℕ, ◌+◌, ◌-◌, ◌<◌, ◌≤◌, ◌↔◌, inl, inr, false, List, ◌++◌, length, take, drop, nat_eq, refl, sym, ap, ◌∙◌, arith}
+use Rattle.std.proofs.Common.{◌≡◌, ℕ, ◌-◌, ◌<◌, ◌≤◌, ◌↔◌, inl, inr, false, List, ◌++◌, length, take, drop, nat_eq, refl, sym, ap, ◌∙◌, arith}
 use Rattle.std.proofs.Common.{append_assoc, length-append}
 use Rattle.std.specs.List.{ends_with}
 use Rattle.std.proofs.Math.Seq.{take-append_seam}
 use Rattle.std.proofs.lemmas.Bool.{cases_lt}
-use Rattle.std.proofs.lemmas.List.{take-append-le, take-append-drop, length-take-le}
+use Rattle.std.proofs.lemmas.List.{take-append-le, take-append-drop, length-drop}
 use Rattle.httparse.specs.declared.spans.HeaderSpan.{HeaderSpan}
 use Rattle.httparse.specs.Grammar.{RequestHead}
 use Rattle.club_words.specs.declared.front.Head.{Head}
@@ -30,16 +30,12 @@ open_head bytes none short (framed head body is) = no_frame bytes none head body
 open_head bytes none short (endless empty long) = omega arith
 open_head bytes none short (refused is) = no_piece bytes is.piece is.rest is.cut is.parts none
 
--- no bytes are missing where none can come
-pub head_whole : (bytes : List ℕ) (missing : ℕ) → HasNoPiece bytes → (missing ≡ 0) ↔ (16384 ≤ length bytes) → (missing ≡ 0) ↔ IsWhole bytes
-head_whole bytes missing none full = (
-  λ is. endless none (full.0 is),
-  λ whole. elim (cases_lt (length bytes) 16384) [ inl short ↦ absurd (open_head bytes none short whole) | inr long ↦ full.1 long ],
+-- with no piece, bytes are whole where no head can come any more
+pub headless_whole : (bytes : List ℕ) → HasNoPiece bytes → (16384 ≤ length bytes) ↔ IsWhole bytes
+headless_whole bytes none = (
+  λ long. endless none long,
+  λ whole. elim (cases_lt (length bytes) 16384) [ inl short ↦ absurd (open_head bytes none short whole) | inr long ↦ long ],
 )
-
-pub open_head_more : (bytes more : List ℕ) (missing : ℕ) → HasNoPiece (bytes ++ more) → length bytes + missing ≤ 16384 → length more < missing
-    → ¬ (IsWhole (bytes ++ more))
-open_head_more bytes more missing none room few = open_head (bytes ++ more) none (simp length-append (omega arith))
 
 -- where the body is cut
 pub open_body : (bytes piece rest : List ℕ) (head : RequestHead) (n : ℕ) → IsPiece piece → bytes ≡ piece ++ rest → Asks piece head n → length rest < n
@@ -54,39 +50,18 @@ open_body bytes piece rest head n cut parts asks short (refused is) =
     let same = one_piece piece is.piece rest is.rest (sym parts ∙ is.parts) cut is.cut in
     is.refused head n (rw same.0 at asks)
 
-pub open_body_more : (bytes more : List ℕ) (fields : List HeaderSpan) (found : Head) → IsHeadAt bytes fields found
-    → length more < found.body_len - length found.rest.now
-    → ¬ (IsWhole (bytes ++ more))
-open_body_more bytes more fields found at few =
-    let parts : bytes ++ more ≡ found.piece.now ++ (found.rest.now ++ more) = ap (λ (l : List ℕ). l ++ more) at.parts
-    ∙ append_assoc found.piece.now found.rest.now more in
-    let short : length (found.rest.now ++ more) < found.body_len = simp length-append (omega arith) in
-    open_body (bytes ++ more) found.piece.now (found.rest.now ++ more) at.head found.body_len at.cut parts at.asks short
-
+-- bytes that begin with a head are whole where the body that it asks for is there
 pub body_there : (bytes : List ℕ) (fields : List HeaderSpan) (found : Head) → IsHeadAt bytes fields found
-    → (found.body_len - length found.rest.now ≡ 0) ↔ IsWhole bytes
-body_there bytes fields found at = (
-  λ none. framed at.head _ (whole_frame bytes fields found at (omega arith)),
-  λ whole. elim (cases_lt (length found.rest.now) found.body_len) [
-    | inl short ↦ absurd (open_body bytes found.piece.now found.rest.now at.head found.body_len at.cut at.parts at.asks short whole)
-    | inr long ↦ omega arith
-  ],
-)
-
--- so many bytes more, and the body is there
-pub body_then_there : (bytes more : List ℕ) (fields : List HeaderSpan) (found : Head) → IsHeadAt bytes fields found
-    → length more ≡ found.body_len - length found.rest.now → IsWhole (bytes ++ more)
-body_then_there bytes more fields found at enough =
-    let long : found.body_len ≤ length (found.rest.now ++ more) = simp length-append (omega arith) in
-    framed at.head (take found.body_len (found.rest.now ++ more)) (record {
-      piece = found.piece.now;
-      after = drop found.body_len (found.rest.now ++ more);
-      cut = at.cut;
-      parts =
-          rw (take-append-drop found.body_len (found.rest.now ++ more)) (ap (λ (l : List ℕ). l ++ more) at.parts
-          ∙ append_assoc found.piece.now found.rest.now more);
-      asks = rw (length-take-le found.body_len (found.rest.now ++ more) long) at.asks;
-    })
+    → (found.body_len ≤ length bytes - found.len) ↔ IsWhole bytes
+body_there bytes fields found at =
+    let rest = length-drop found.len bytes in
+    let parts = sym (take-append-drop found.len bytes) in (
+      λ there. framed at.head _ (whole_frame bytes fields found at (omega arith)),
+      λ whole. elim (cases_lt (length (drop found.len bytes)) found.body_len) [
+        | inl short ↦ absurd (open_body bytes (take found.len bytes) (drop found.len bytes) at.head found.body_len at.cut parts at.asks short whole)
+        | inr long ↦ omega arith
+      ],
+    )
 
 same_body : (a b r s : List ℕ) → length a ≡ length b → a ++ r ≡ b ++ s → a ≡ b
 same_body a b r s len same = sym (take-append_seam a r) ∙ ap (take (length a)) same ∙ ap (λ (n : ℕ). take n (b ++ s)) len ∙ take-append_seam b s
@@ -128,6 +103,19 @@ refused_more bytes more is = record {
   parts = ap (λ (l : List ℕ). l ++ more) is.parts ∙ append_assoc is.piece is.rest more;
   refused = is.refused;
 }
+
+-- a head stays where it is when more bytes come
+pub head_more : (bytes more : List ℕ) (fields : List HeaderSpan) (found : Head) → IsHeadAt bytes fields found → IsHeadAt (bytes ++ more) fields found
+head_more bytes more fields found at =
+    let same : take found.len (bytes ++ more) ≡ take found.len bytes = take-append-le found.len bytes more at.inside in
+    record {
+      head = at.head;
+      inside = rw (length-append bytes more) (omega (arith, at.inside));
+      cut = rw same at.cut;
+      asks = rw same at.asks;
+      within = rw same at.within;
+      spans = rw same at.spans;
+    }
 
 pub keeps : WholeKeepsItsReading
 keeps bytes more answer whole (words.framed head body is said) = words.framed head body (frame_more bytes more head body is) said

@@ -1,5 +1,5 @@
 -- A request as its head and its body (RFC 9112, section 6), and when it is whole.
-use Rattle.std.specs.Prelude.{◌≡◌, ◌⊎◌, ℕ, ◌+◌, ◌≤◌, true, false, List, ◌++◌, length, take, map, nat_eq, Some}
+use Rattle.std.specs.Prelude.{◌≡◌, ℕ, ◌≤◌, false, List, ◌++◌, length, take, map, nat_eq, Some}
 use Rattle.std.specs.List.{ends_with}
 use Rattle.httparse.specs.Grammar.{RequestHead}
 use Rattle.httparse.specs.Spans.{name_and_value}
@@ -26,10 +26,6 @@ pub record IsFramed (bytes : List ℕ) (head : RequestHead) (body : List ℕ) : 
 -- no beginning of the bytes is a head's piece
 abbrev pub HasNoPiece : List ℕ → Type 0
 HasNoPiece bytes = (n : ℕ) → n ≤ length bytes → n ≤ 16384 → ends_with nat_eq (take n bytes) empty_line ≡ false
-
--- so many bytes more can end a head, or are all that it can still have
-abbrev pub CanEndHead : List ℕ → ℕ → Type 0
-CanEndHead bytes n = ((more : List ℕ) × (length more ≡ n) × (ends_with nat_eq (bytes ++ more) empty_line ≡ true)) ⊎ (16384 ≤ length bytes + n)
 
 -- the bytes begin with a piece that is no head, or asks for no body that is allowed
 pub record IsRefused (bytes : List ℕ) : Type 0 where

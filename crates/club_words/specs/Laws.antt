@@ -1,7 +1,7 @@
 -- Laws of the readings.
-use Rattle.std.specs.Prelude.{◌≡◌, ℕ, ◌<◌, List, ◌++◌, length, Result}
+use Rattle.std.specs.Prelude.{◌≡◌, ℕ, List, ◌++◌, Result}
 use Rattle.club_core.specs.declared.refusal.Refusal.{Refusal}
-use Rattle.club_words.specs.Frame.{IsWhole, HasNoPiece}
+use Rattle.club_words.specs.Frame.{IsWhole}
 use Rattle.club_words.specs.Words.{Said, IsReading, HoldsBody}
 
 -- bytes have at most one reading
@@ -18,7 +18,3 @@ WholeKeepsItsReading =
 -- a body that wants memory is still there, whatever follows
 abbrev pub BodyStays : Type 0
 BodyStays = (bytes more : List ℕ) → HoldsBody bytes → HoldsBody (bytes ++ more)
-
--- while a head can still end, a request isn't whole
-abbrev pub OpenHeadIsNotWhole : Type 0
-OpenHeadIsNotWhole = (bytes : List ℕ) → HasNoPiece bytes → length bytes < 16384 → ¬ (IsWhole bytes)

@@ -1,42 +1,50 @@
-//! What stands at the front of bytes.
+//! What bytes begin with.
 
 ghost use Rattle.std.specs.Prelude.{◌≡◌, ◌≤◌, length, map, take, All};
-ghost use Rattle.club_words.specs.Front.{StandsAtFront};
+ghost use Rattle.club_words.specs.Frame.{HasNoPiece};
+ghost use Rattle.club_words.specs.Front.{IsFrontOf};
 
 use crate::head::{MAX_FIELDS, piece_len, read_head};
 use crate::length::asked_length;
 use httparse::spans::{HeaderSpan, RequestSpans};
 
-/// A head, and what follows it.
+/// A head at the beginning of bytes.
 #[derive(Clone, Copy)]
-pub(crate) struct Head<'a> {
-    pub(crate) piece: &'a [u8],
-    pub(crate) rest: &'a [u8],
-    /// Where the parts are in the piece.
+pub(crate) struct Head {
+    /// How many bytes it has.
+    pub(crate) len: usize,
+    /// Where its parts are.
     pub(crate) spans: RequestSpans,
-    /// How many bytes the body has that the head asks for.
+    /// How many bytes the body has that it asks for.
     pub(crate) body_len: usize,
 }
 
-/// What stands at the front of bytes.
+/// What bytes begin with.
 #[derive(Clone, Copy)]
-pub(crate) enum Front<'a> {
+pub(crate) enum Front {
     /// No head ends within the most bytes of a head.
     NoPiece,
     /// The head is refused, whatever follows.
     Refused,
     /// A head that asks for a body.
-    Asking(Head<'a>),
+    Asking(Head),
 }
 
-/// The front of the bytes; where the fields are is written to `fields`.
-pub(crate) fn front_of<'a>(bytes: &'a [u8], fields: &mut [HeaderSpan; MAX_FIELDS]) -> Front<'a>
-    ensures { StandsAtFront bytes.now fields.new result }
+/// What the bytes begin with, where no head ends within the first `searched` of them; where the
+/// fields are is written to `fields`.
+pub(crate) fn front_of(
+    bytes: &[u8],
+    searched: usize,
+    fields: &mut [HeaderSpan; MAX_FIELDS],
+) -> Front
+    requires inside { searched ≤ length bytes.now }
+    requires open { HasNoPiece (take searched bytes.now) }
+    ensures { IsFrontOf bytes.now fields.new result }
 {
-    let Some(len) = piece_len(bytes) else {
+    let Some(len) = piece_len(bytes, searched) else {
         return Front::NoPiece;
     };
-    let (piece, rest) = bytes.split_at(len);
+    let piece = &bytes[..len];
     let Some(spans) = read_head(piece, fields) else {
         return Front::Refused;
     };
@@ -45,8 +53,7 @@ pub(crate) fn front_of<'a>(bytes: &'a [u8], fields: &mut [HeaderSpan; MAX_FIELDS
         return Front::Refused;
     };
     Front::Asking(Head {
-        piece,
-        rest,
+        len,
         spans,
         body_len,
     })

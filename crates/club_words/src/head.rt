@@ -1,11 +1,9 @@
 //! The head of a request.
 
-ghost use Rattle.std.specs.Prelude.{◌≡◌, ℕ, ◌<◌, ◌≤◌, List, ◌++◌, length, take, nat_eq};
-ghost use Rattle.std.specs.Prelude.{true, false, MatchOption};
-ghost use Rattle.std.specs.List.{ends_with};
+ghost use Rattle.std.specs.Prelude.{◌≤◌, length, take, MatchOption};
 ghost use Rattle.httparse.specs.Grammar.{RequestHead};
 ghost use Rattle.httparse.specs.Spans.{IsRequestWithin, IsRequestAt};
-ghost use Rattle.club_words.specs.Head.{empty_line, IsPiece, IsHeadOf};
+ghost use Rattle.club_words.specs.Head.{IsPiece, IsHeadOf};
 ghost use Rattle.club_words.specs.Frame.{HasNoPiece};
 
 use httparse::Status;
@@ -18,38 +16,21 @@ pub const MAX_HEAD_LEN: usize = 16_384;
 pub const MAX_FIELDS: usize = 32;
 
 /// How many bytes the head has that the bytes begin with: up to the first empty line, CR LF CR LF.
-pub(crate) fn piece_len(bytes: &[u8]) -> Option<usize>
+/// No head ends within the first `searched` bytes, so only what ends behind them is looked at.
+pub(crate) fn piece_len(bytes: &[u8], searched: usize) -> Option<usize>
+    requires inside { searched ≤ length bytes.now }
+    requires open { HasNoPiece (take searched bytes.now) }
     ensures { MatchOption result
         (HasNoPiece bytes.now)
         (λ n. (n ≤ length bytes.now) × IsPiece (take n bytes.now)) }
 {
     let limit = bytes.len().min(MAX_HEAD_LEN);
-    for end in 0..limit + 1 {
+    for end in searched + 1..limit + 1 {
         if bytes[..end].ends_with(b"\r\n\r\n") {
             return Some(end);
         }
     }
     None
-}
-
-/// How many bytes are missing at least behind the bytes till they end with CR LF CR LF: four less
-/// those of it with which they end.
-pub(crate) fn missing_of_line(bytes: &[u8]) -> usize
-    ensures some { 0 < result }
-    ensures needed { (more : List ℕ) → 0 < length more → length more < result
-        → ends_with nat_eq (bytes.now ++ more) empty_line ≡ false }
-    ensures reached { (more : List ℕ) × (length more ≡ result)
-        × (ends_with nat_eq (bytes.now ++ more) empty_line ≡ true) }
-{
-    if bytes.ends_with(b"\r\n\r") {
-        1
-    } else if bytes.ends_with(b"\r\n") {
-        2
-    } else if bytes.ends_with(b"\r") {
-        3
-    } else {
-        4
-    }
 }
 
 /// Where the parts of a head are that the piece is, whole.

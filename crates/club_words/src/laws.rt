@@ -1,7 +1,6 @@
 //! Laws of the readings, each the contract of a function that does nothing.
 
-ghost use Rattle.club_words.specs.Laws.{OneReading, WholeKeepsItsReading};
-ghost use Rattle.club_words.specs.Laws.{BodyStays, OpenHeadIsNotWhole};
+ghost use Rattle.club_words.specs.Laws.{OneReading, WholeKeepsItsReading, BodyStays};
 
 /// Bytes have at most one reading.
 pub fn one_reading()
@@ -16,9 +15,4 @@ pub fn whole_keeps_its_reading()
 /// A body that wants memory is still there, whatever follows.
 pub fn body_stays()
     ensures { BodyStays }
-{}
-
-/// While a head can still end, a request isn't whole.
-pub fn open_head_is_not_whole()
-    ensures { OpenHeadIsNotWhole }
 {}

@@ -12,11 +12,11 @@ mod length;
 mod pass;
 mod path;
 mod routes;
-mod whole;
+mod scan;
 
 /// The words of a request as they were sent.
 pub use club_core::SentWords as Words;
 pub use head::{MAX_FIELDS, MAX_HEAD_LEN};
 pub use length::MAX_BODY_LEN;
-pub use routes::{Routes, words_of};
-pub use whole::{MAX_REQUEST_LEN, missing, missing_of_head};
+pub use routes::{Routes, words_by_scan, words_of};
+pub use scan::{HeadScan, MAX_REQUEST_LEN};

@@ -7,18 +7,19 @@ ghost use Rattle.std.specs.Str.{IsUtf8};
 ghost use Rattle.club_words.specs.Path as path;
 ghost use Rattle.club_words.specs.Routes.{KnowsPlaces};
 ghost use Rattle.httparse.specs.Spans.{IsHeaderWithin, header_bytes};
+ghost use Rattle.club_words.specs.Front.{Covers};
 ghost use Rattle.club_words.specs.Refused.{Refuses};
 ghost use Rattle.club_words.specs.Words.{guests_of, said_in, IsReading};
 ghost use Rattle.club_words.specs.Words.{WantsMemory, HoldsBody, UnlessMemory};
 
 use crate::asked::request_at;
 use crate::body::guests_in;
-use crate::front::{Front, front_of};
-use crate::head::MAX_FIELDS;
+use crate::front::Front;
 use crate::pass::pass_of;
 use crate::path::{Place, place_of};
+use crate::scan::HeadScan;
 use club_core::{Guests, Refusal, SentWords as Words};
-use httparse::spans::{EMPTY_HEADER_SPAN, HeaderSpan};
+use httparse::spans::HeaderSpan;
 use matchit::Router;
 use std::alloc::{AllocError, Global};
 use std::str;
@@ -109,6 +110,34 @@ fn said<'a>(
     Ok(Words { pass, request })
 }
 
+/// What the bytes of a request say, by a scan for their head that covers them. Whatever follows
+/// the request changes nothing.
+///
+/// # Errors
+///
+/// Those of `words_of`.
+pub fn words_by_scan<'a>(
+    routes: &Routes,
+    bytes: &'a [u8],
+    scan: &HeadScan,
+) -> Result<Words<'a>, Refusal>
+    requires { Covers scan.now bytes.now }
+    ensures { UnlessMemory (HoldsBody bytes.now) (IsReading bytes.now) result }
+{
+    let Front::Asking(head) = scan.front else {
+        return Err(Refusal::BadRequest);
+    };
+    let (piece, rest) = bytes.split_at(head.len);
+    if rest.len() < head.body_len {
+        return Err(Refusal::BadRequest);
+    }
+    let body = &rest[..head.body_len];
+    let method = head.spans.method.of(piece);
+    let target = head.spans.path.of(piece);
+    let fields = &scan.fields[..head.spans.headers];
+    said(routes, piece, fields, method, target, body)
+}
+
 /// What the bytes of a request say.
 ///
 /// # Errors
@@ -118,22 +147,7 @@ fn said<'a>(
 pub fn words_of<'a>(routes: &Routes, bytes: &'a [u8]) -> Result<Words<'a>, Refusal>
     ensures { UnlessMemory (HoldsBody bytes.now) (IsReading bytes.now) result }
 {
-    let mut fields = [EMPTY_HEADER_SPAN; MAX_FIELDS];
-    let Front::Asking(found) = front_of(bytes, &mut fields) else {
-        return Err(Refusal::BadRequest);
-    };
-    if found.rest.len() < found.body_len {
-        return Err(Refusal::BadRequest);
-    }
-    let body = &found.rest[..found.body_len];
-    let method = found.spans.method.of(found.piece);
-    let target = found.spans.path.of(found.piece);
-    said(
-        routes,
-        found.piece,
-        &fields[..found.spans.headers],
-        method,
-        target,
-        body,
-    )
+    let mut scan = HeadScan::new();
+    scan.go_on(bytes, 0);
+    words_by_scan(routes, bytes, &scan)
 }

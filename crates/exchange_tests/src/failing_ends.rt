@@ -41,44 +41,47 @@ fn is_booked(rt: &impl Abort, front: &mut Front, giver: &mut Giver<'_>, taker: &
     expect_told(rt, taker.written(), BOOKED.as_bytes(), BOOKING);
 }
 
-/// How many bytes a call gives.
-static STEPS: [usize; 4] = [1, 2, 7, WHOLE];
+/// How many bytes a call gives, and how many calls give the booking's 203.
+static STEPS: [(usize, u64); 4] = [(1, 203), (2, 102), (7, 29), (WHOLE, 1)];
 
-fn is_read_by_steps(rt: &(impl Abort + Alloc<A = Global>), step: usize) {
+const _: () = prove!(BOOKING.len() == 203);
+
+fn is_read_by_steps(rt: &(impl Abort + Alloc<A = Global>), step: usize, calls: u64) {
     let mut front = Front::opened(rt);
     let mut giver = Giver::failing(BOOKING.as_bytes(), step);
     is_booked(rt, &mut front, &mut giver, &mut Taker::whole());
-    expect_eq(rt, &giver.left.len(), &0);
-    expect_eq(
-        rt,
-        &(step > 1 || giver.calls == BOOKING.len() as u64),
-        &true,
-    );
+    expect_eq(rt, &(giver.left.len(), giver.calls), &(0, calls));
 }
 
 // However few bytes a call gives, the request is read to its last byte, and no call comes after:
 // the reader would fail.
 #[test]
-fn reads_no_byte_past_the_request(rt: HostRuntime) {
-    for step in &STEPS {
-        is_read_by_steps(&rt, *step);
+fn reads_no_further_than_the_request(rt: HostRuntime) {
+    for (step, calls) in &STEPS {
+        is_read_by_steps(&rt, *step, *calls);
     }
 }
 
-/// The booking is exchanged, and so many bytes stay with the reader.
-fn is_booked_leaving(rt: &impl Abort, front: &mut Front, giver: &mut Giver<'_>, len: usize) {
-    is_booked(rt, front, giver, &mut Taker::whole());
-    expect_eq(rt, &giver.left.len(), &len);
+/// So many bytes behind the booking, and how many of them stay with a reader that gives all.
+static BEHIND: [(usize, usize); 3] = [(1, 0), (1_000, 0), (100_000, 83_563)];
+
+fn is_booked_with(rt: &(impl Abort + Alloc<A = Global>), behind: usize, left: usize) {
+    let mut text = BOOKING.to_string(rt.alloc()).expect(rt, "memory");
+    for _ in 0..behind {
+        text.push('x').expect(rt, "memory");
+    }
+    let mut front = Front::opened(rt);
+    let mut giver = Giver::failing(text.as_bytes(), 200_000);
+    is_booked(rt, &mut front, &mut giver, &mut Taker::whole());
+    expect_eq(rt, &(giver.left.len(), giver.calls), &(left, 1));
 }
 
-// A request and more: the rest stays with the reader, and is the next request.
+// What follows a request is taken with it, up to the buffer's end, and changes nothing.
 #[test]
-fn leaves_what_follows(rt: HostRuntime) {
-    let both = BOOKING.repeat(rt.alloc(), 2).expect(&rt, "memory");
-    let mut front = Front::opened(&rt);
-    let mut giver = Giver::failing(both.as_bytes(), WHOLE);
-    is_booked_leaving(&rt, &mut front, &mut giver, BOOKING.len());
-    is_booked_leaving(&rt, &mut front, &mut giver, 0);
+fn takes_what_follows(rt: HostRuntime) {
+    for (behind, left) in &BEHIND {
+        is_booked_with(&rt, *behind, *left);
+    }
 }
 
 // A writer that takes a byte a call gets the whole reply.

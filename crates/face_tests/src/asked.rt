@@ -1,8 +1,10 @@
 //! What a request asks for.
 
+ghost use Rattle.club_words.specs.Front.{Covers};
+
 use crate::rows::{expect_row, slot_at};
 use club_core::{BookingNumber, Guests, Refusal, Request};
-use club_words::{Routes, words_of};
+use club_words::{HeadScan, Routes, words_by_scan, words_of};
 use std::process::Abort;
 
 /// What a request asks for, of `court-1` on 2026-05-01 at 18 where it is of a slot, or why it is
@@ -64,6 +66,35 @@ fn wanted(rt: &impl Abort, want: &Want) -> Result<Request, Refusal> {
 pub(crate) fn asked(rt: &(impl Abort + AllocGlobal), bytes: &[u8]) -> Result<Request, Refusal> {
     let routes = Routes::new(rt.alloc()).expect(rt, "memory");
     match words_of(&routes, bytes) {
+        Ok(words) => Ok(words.request),
+        Err(refusal) => Err(refusal),
+    }
+}
+
+/// A scan of the bytes in two pieces, of which the first has so many or all.
+fn scan_of(bytes: &[u8], first: usize) -> HeadScan
+    ensures { Covers result bytes.now }
+{
+    let first = first.min(bytes.len());
+    let mut scan = HeadScan::new();
+    scan.go_on(&bytes[..first], 0);
+    scan.go_on(bytes, first);
+    scan
+}
+
+/// Whether the bytes begin with a whole request, by a scan in two pieces.
+pub(crate) fn is_whole(bytes: &[u8], first: usize) -> bool {
+    scan_of(bytes, first).is_whole(bytes)
+}
+
+/// What a request asks for, by a scan in two pieces.
+pub(crate) fn asked_in_two(
+    rt: &(impl Abort + AllocGlobal),
+    bytes: &[u8],
+    first: usize,
+) -> Result<Request, Refusal> {
+    let routes = Routes::new(rt.alloc()).expect(rt, "memory");
+    match words_by_scan(&routes, bytes, &scan_of(bytes, first)) {
         Ok(words) => Ok(words.request),
         Err(refusal) => Err(refusal),
     }

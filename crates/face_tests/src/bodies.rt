@@ -1,9 +1,9 @@
 //! Bookings: whole, cut short, and with odd bodies.
 
-use crate::asked::{BAD_REQUEST, PASS, Want, asked, asks, book, carries};
+use crate::asked::{BAD_REQUEST, PASS, Want, asked, asked_in_two, asks, book, carries, is_whole};
 use crate::rows::{Piece, expect_row, joined};
 use club_core::Refusal;
-use club_words::{Routes, missing, words_of};
+use club_words::{Routes, words_of};
 use std::process::Abort;
 
 const BOOKING: &str = "PUT /slots/court-1/2026-05-01/18/bookings/7 HTTP/1.1\r\nHost: club\r\n\
@@ -13,18 +13,17 @@ const BOOKING: &str = "PUT /slots/court-1/2026-05-01/18/bookings/7 HTTP/1.1\r\nH
 fn a_booking(rt: HostRuntime) {
     asks(&rt, BOOKING, &Want::Book(2));
     carries(&rt, BOOKING, "AgEJ");
-    expect_row(&rt, &missing(BOOKING.as_bytes()), &0, &"it is whole");
+    expect_row(&rt, &is_whole(BOOKING.as_bytes(), 0), &true, &"it is whole");
 }
 
-// Whether more is missing, and no more than is to come.
-fn lacks(bytes: &[u8], to_come: usize) -> bool {
-    let more = missing(bytes);
-    0 < more && more <= to_come
-}
-
-fn is_cut(rt: &(impl Abort + AllocGlobal), bytes: &[u8], to_come: usize) {
-    expect_row(rt, &asked(rt, bytes), &Err(Refusal::BadRequest), &to_come);
-    expect_row(rt, &lacks(bytes, to_come), &true, &to_come);
+fn is_cut(rt: &(impl Abort + AllocGlobal), bytes: &[u8]) {
+    expect_row(
+        rt,
+        &asked(rt, bytes),
+        &Err(Refusal::BadRequest),
+        &bytes.len(),
+    );
+    expect_row(rt, &is_whole(bytes, bytes.len() / 2), &false, &bytes.len());
 }
 
 /// Cut anywhere it is a bad request, and not whole.
@@ -32,7 +31,42 @@ fn is_cut(rt: &(impl Abort + AllocGlobal), bytes: &[u8], to_come: usize) {
 fn cut(rt: HostRuntime) {
     let bytes = BOOKING.as_bytes();
     for len in 0..bytes.len() {
-        is_cut(&rt, &bytes[..len], bytes.len() - len);
+        is_cut(&rt, &bytes[..len]);
+    }
+}
+
+fn asks_in_two(rt: &(impl Abort + AllocGlobal), bytes: &[u8], first: usize) {
+    expect_row(
+        rt,
+        &asked_in_two(rt, bytes, first),
+        &Ok(book(rt, 2)),
+        &first,
+    );
+    expect_row(rt, &is_whole(bytes, first), &true, &first);
+}
+
+/// In two pieces it is the same booking, wherever it is cut.
+#[test]
+fn in_two_pieces(rt: HostRuntime) {
+    for first in 0..BOOKING.len() + 1 {
+        asks_in_two(&rt, BOOKING.as_bytes(), first);
+    }
+}
+
+/// So many bytes behind a booking.
+static BEHIND: [usize; 3] = [1, 1_000, 100_000];
+
+fn is_booked_with(rt: &(impl Abort + AllocGlobal), behind: usize) {
+    let text = joined(rt, &[(1, BOOKING), (behind, "x")]);
+    asks(rt, text.as_str(), &Want::Book(2));
+    asks_in_two(rt, text.as_bytes(), 100);
+}
+
+/// What follows a request changes nothing.
+#[test]
+fn with_bytes_behind(rt: HostRuntime) {
+    for behind in &BEHIND {
+        is_booked_with(&rt, *behind);
     }
 }
 
@@ -116,7 +150,7 @@ fn bodies(rt: HostRuntime) {
 }
 
 /// A head of 16,384 bytes, and a body of 256.
-static LONGEST: [Piece; 7] = [
+pub(crate) static LONGEST: [Piece; 7] = [
     (1, PUT),
     (
         1,
@@ -135,9 +169,9 @@ fn longest(rt: HostRuntime) {
     let text = joined(&rt, &LONGEST);
     let bytes = text.as_bytes();
     expect_row(&rt, &bytes.len(), &16_640, &"the longest");
-    expect_row(&rt, &missing(bytes), &0, &"it is whole");
     asks(&rt, text.as_str(), &Want::Book(2));
-    is_cut(&rt, &bytes[..bytes.len().saturating_sub(1)], 1);
+    asks_in_two(&rt, bytes, 16_384);
+    is_cut(&rt, &bytes[..bytes.len().saturating_sub(1)]);
 }
 
 /// With any allocation refused, as `rt try --test --fail-alloc N` refuses the Nth: no routes, the

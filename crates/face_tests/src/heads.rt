@@ -1,47 +1,76 @@
 //! Heads of requests: where they end, their line and their fields.
 
-use crate::asked::{BAD_REQUEST, NO_PASS, PASS, Want, ask, asks, carries};
+use crate::asked::{BAD_REQUEST, NO_PASS, PASS, Want, ask, asks, carries, is_whole};
 use crate::rows::{Piece, expect_row, joined};
-use club_words::{missing, missing_of_head};
 use std::process::Abort;
 
-// The pieces of what has come, and how many bytes of a head it lacks.
-type Lack = (&'static [Piece], usize);
+// The pieces of what has come, and whether it begins with a whole request.
+type Whole = (&'static [Piece], bool);
 
-// Four less those of CR LF CR LF that came last, and no more than up to 16,384 bytes.
-static ENDS_OF_HEADS: [Lack; 11] = [
-    (&[(1, "")], 4),
-    (&[(1, "GET")], 4),
-    (&[(1, "GET\r")], 3),
-    (&[(1, "GET\r\n")], 2),
-    (&[(1, "GET\r\n\r")], 1),
-    (&[(1, "GET\r\n\r\r")], 3),
-    (&[(1, "GET\r\n\n")], 4),
-    (&[(16_380, "a")], 4),
-    (&[(16_381, "a")], 3),
-    (&[(16_384, "a")], 0),
-    (&[(16_385, "a")], 0),
+static WHOLE: [Whole; 20] = [
+    (&[(1, "")], false),
+    (&[(1, "GET /account HTTP/1.1")], false),
+    (&[(1, "GET /account HTTP/1.1\r")], false),
+    (&[(1, "GET /account HTTP/1.1\r\n")], false),
+    (&[(1, "GET /account HTTP/1.1\r\n\r")], false),
+    (&[(1, "GET /account HTTP/1.1\r\n\r\n")], true),
+    (&[(1, "GET /account HTTP/1.1\r\n\r\nGET")], true),
+    (&[(1, "GET /account HTTP/1.1\n\n")], false),
+    (&[(1, "GET /account HTTP/1.1\r\n\n")], false),
+    (&[(1, "GET /account HTTP/1.1\r\n\r\r\n")], false),
+    // No heads, whatever follows.
+    (&[(1, "\r\n\r\n")], true),
+    (&[(1, "GET\r\n\r\n")], true),
+    // A body of two bytes.
+    (&[(1, "PUT / HTTP/1.1\r\nContent-Length: 2\r\n\r\n")], false),
+    (
+        &[(1, "PUT / HTTP/1.1\r\nContent-Length: 2\r\n\r\n{")],
+        false,
+    ),
+    (
+        &[(1, "PUT / HTTP/1.1\r\nContent-Length: 2\r\n\r\n{}")],
+        true,
+    ),
+    (
+        &[(1, "PUT / HTTP/1.1\r\nContent-Length: 2\r\n\r\n{}x")],
+        true,
+    ),
+    // One that no PUT may have.
+    (
+        &[(1, "PUT / HTTP/1.1\r\nContent-Length: 257\r\n\r\n")],
+        true,
+    ),
+    (&[(16_383, "a")], false),
+    (&[(16_384, "a")], true),
+    (&[(16_381, "a"), (1, "\r\n\r\n")], true),
 ];
 
-fn lack_of_head(rt: &(impl Abort + AllocGlobal), rows: &[Lack]) {
-    for (pieces, lack) in rows {
+fn are_whole(rt: &(impl Abort + AllocGlobal), rows: &[Whole]) {
+    for (pieces, whole) in rows {
         let text = joined(rt, pieces);
-        expect_row(rt, &missing_of_head(text.as_bytes()), lack, pieces);
+        let bytes = text.as_bytes();
+        expect_row(rt, &is_whole(bytes, 0), whole, pieces);
+        expect_row(
+            rt,
+            &is_whole(bytes, bytes.len().saturating_sub(3)),
+            whole,
+            pieces,
+        );
     }
 }
 
 #[test]
-fn ends_of_heads(rt: HostRuntime) {
-    lack_of_head(&rt, &ENDS_OF_HEADS);
+fn whole_requests(rt: HostRuntime) {
+    are_whole(&rt, &WHOLE);
 }
 
-// No head, and how many bytes of a request it lacks.
-static LONG: [Lack; 2] = [(&[(16_384, "a")], 0), (&[(16_383, "a")], 1)];
-
-fn lack(rt: &(impl Abort + AllocGlobal), rows: &[Lack]) {
-    for (pieces, lack) in rows {
-        let text = joined(rt, pieces);
-        expect_row(rt, &missing(text.as_bytes()), lack, pieces);
+// A head, cut in two at each byte.
+#[test]
+fn heads_in_two_pieces(rt: HostRuntime) {
+    let head = b"\r\nGET /account HTTP/1.1\r\nHost: club\r\n\r\n";
+    for first in 0..head.len() {
+        expect_row(&rt, &is_whole(head, first), &true, &first);
+        expect_row(&rt, &is_whole(&head[..first], first / 2), &false, &first);
     }
 }
 
@@ -76,7 +105,6 @@ fn ask_in_pieces(rt: &(impl Abort + AllocGlobal), rows: &[(&'static [Piece], Wan
 
 #[test]
 fn limits_of_heads(rt: HostRuntime) {
-    lack(&rt, &LONG);
     ask_in_pieces(&rt, &LIMITS);
 }
 

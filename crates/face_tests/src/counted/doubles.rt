@@ -30,11 +30,15 @@ impl<'a> Pieces<'a> {
 }
 
 impl Inlet for Pieces<'_> {
-    ghost use Rattle.std.specs.Prelude.{Some};
+    ghost use Rattle.std.specs.Prelude.{◌≡◌, Some};
+    ghost use Rattle.club_http.specs.Ends.{one_more};
 
     ghost to_come = { λ reader. Some reader.left.now };
 
     ghost failures = { λ reader. reader.failures };
+
+    // each call is counted
+    ghost fills = { λ old _ _ new. new.calls ≡ one_more old.calls };
 
     fn fill(&mut self, room: &mut [u8]) -> Option<usize> {
         self.calls = self.calls.saturating_add(1);

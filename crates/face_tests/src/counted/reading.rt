@@ -1,64 +1,116 @@
-//! How requests are read: to their last byte, and none behind it.
+//! How requests are read: in as few calls as the reader allows, and none once they are whole.
 
 use super::doubles::Pieces;
 use super::{BOOKING, IS_BAD, Told, is_told};
-use crate::expect::{expect_eq, expect_told};
+use crate::bodies::LONGEST;
+use crate::expect::expect_eq;
+use crate::rows::{Piece, joined};
 use std::alloc::Global;
 use std::process::Abort;
 
-/// The booking and what follows it, at most so many bytes a call. Behind its end the input fails,
-/// or gives none. So many calls read the booking, and the rest stays with the reader.
-struct Reading {
-    rest: &'static str,
-    step: usize,
-    fails: bool,
-    calls: u64,
+/// How a text is read of a reader that fails at the call behind its end: at most so many bytes come
+/// in a call, so many calls are made, and so many bytes stay with the reader.
+type Reading = (usize, u64, usize);
+
+fn is_read(
+    rt: &(impl Abort + Alloc<A = Global>),
+    text: &str,
+    (step, calls, left): &Reading,
+    told: &Told,
+) {
+    let mut reader = Pieces::new(text.as_bytes(), *step, true);
+    is_told(rt, &mut reader, told);
+    expect_eq(rt, &(reader.calls, reader.left.len()), &(*calls, *left));
 }
 
-/// The end of a head is looked for four bytes a call: its 116 bytes take 29 calls, the body one.
-static READINGS: [Reading; 3] = [
-    Reading {
-        rest: "",
-        step: 1,
-        fails: false,
-        calls: 128,
-    },
-    Reading {
-        rest: "",
-        step: 600,
-        fails: true,
-        calls: 30,
-    },
-    Reading {
-        rest: "GET /account HTTP/1.1\r\n\r\n",
-        step: 600,
-        fails: false,
-        calls: 30,
-    },
+/// A text in pieces, and how it is read.
+type Read = (&'static [Piece], Reading);
+
+/// The booking has 128 bytes, and a buffer 16,640. What follows the booking is taken where a call
+/// gives it.
+static BOOKINGS: [Read; 14] = [
+    (&[(1, BOOKING)], (1, 128, 0)),
+    (&[(1, BOOKING)], (7, 19, 0)),
+    (&[(1, BOOKING)], (115, 2, 0)),
+    // The head, and then the body.
+    (&[(1, BOOKING)], (116, 2, 0)),
+    (&[(1, BOOKING)], (127, 2, 0)),
+    (&[(1, BOOKING)], (128, 1, 0)),
+    (&[(1, BOOKING)], (100_000, 1, 0)),
+    (&[(1, BOOKING), (1, "x")], (1, 128, 1)),
+    (&[(1, BOOKING), (1, "x")], (600, 1, 0)),
+    (&[(1, BOOKING), (1_000, "x")], (100, 2, 928)),
+    (&[(1, BOOKING), (1_000, "x")], (100_000, 1, 0)),
+    (&[(1, BOOKING), (100_000, "x")], (1, 128, 100_000)),
+    (&[(1, BOOKING), (100_000, "x")], (1_460, 1, 98_668)),
+    (&[(1, BOOKING), (100_000, "x")], (200_000, 1, 83_488)),
 ];
 
-fn is_read(rt: &(impl Abort + Alloc<A = Global>), reading: &Reading) {
-    let rest = reading.rest;
-    let text = format!(in rt.alloc(); "{BOOKING}{rest}").expect(rt, "memory");
-    let mut reader = Pieces::new(text.as_bytes(), reading.step, reading.fails);
-    is_told(rt, &mut reader, &Told::Booked);
-    expect_told(rt, reader.left, rest.as_bytes(), BOOKING);
-    expect_eq(rt, &reader.calls, &reading.calls);
-}
+/// The longest request: a head of 16,384 bytes, and a body of 256.
+static LONGEST_READINGS: [Reading; 5] = [
+    (200_000, 1, 0),
+    (16_384, 2, 0),
+    (16_383, 2, 0),
+    (1_460, 12, 0),
+    (1, 16_640, 0),
+];
 
-/// However few bytes a call gives, the request is read to its last byte, and no call comes after.
-#[test]
-fn reads_no_byte_past_the_request(rt: HostRuntime) {
-    for reading in &READINGS {
-        is_read(&rt, reading);
+/// 20,000 bytes in which no head ends are a bad request once 16,384 have come; no call is given
+/// room behind 16,640.
+static ENDLESS: [Reading; 4] = [
+    (1, 16_384, 3_616),
+    (3, 5_462, 3_614),
+    (600, 28, 3_360),
+    (200_000, 1, 3_360),
+];
+
+fn are_read(rt: &(impl Abort + Alloc<A = Global>), rows: &[Read]) {
+    for (pieces, reading) in rows {
+        let text = joined(rt, pieces);
+        is_read(rt, text.as_str(), reading, &Told::Booked);
     }
 }
 
-/// An exchange where a call gives so many bytes. What follows the request, `GET /`, stays.
-fn leaves_the_rest(rt: &(impl Abort + Alloc<A = Global>), text: &str, step: usize, told: &Told) {
-    let mut reader = Pieces::new(text.as_bytes(), step, false);
-    is_told(rt, &mut reader, told);
-    expect_told(rt, reader.left, b"GET /", text);
+fn is_read_so(
+    rt: &(impl Abort + Alloc<A = Global>),
+    pieces: &[Piece],
+    readings: &[Reading],
+    told: &Told,
+) {
+    let text = joined(rt, pieces);
+    for reading in readings {
+        is_read(rt, text.as_str(), reading, told);
+    }
+}
+
+/// The request is read whole, and no call comes after: the reader would fail.
+#[test]
+fn reads_no_further_than_the_request(rt: HostRuntime) {
+    are_read(&rt, &BOOKINGS);
+    is_read_so(&rt, &LONGEST, &LONGEST_READINGS, &Told::Booked);
+}
+
+#[test]
+fn endless_head(rt: HostRuntime) {
+    is_read_so(&rt, &[(20_000, "x")], &ENDLESS, &IS_BAD);
+}
+
+/// How a request of so many bytes is read, so many a call, with five bytes behind it.
+fn by_steps(len: usize, step: usize) -> Reading {
+    let behind_first = step.max(1) - 1;
+    let calls = (len.min(20_000) + behind_first.min(20_000)) / (behind_first + 1);
+    let taken = calls.saturating_mul(step);
+    (
+        step,
+        calls as u64,
+        len.saturating_add(5).saturating_sub(taken),
+    )
+}
+
+/// The text is a request and five bytes behind it.
+fn is_read_by_steps(rt: &(impl Abort + Alloc<A = Global>), text: &str, step: usize, told: &Told) {
+    let len = text.len().saturating_sub(5);
+    is_read(rt, text, &by_steps(len, step), told);
 }
 
 /// So many bytes more that the end of the head stands at each place of four.
@@ -74,14 +126,14 @@ fn with_field(rt: &(impl Abort + Alloc<A = Global>), field: &str) -> String {
 
 fn is_booked_with(rt: &(impl Abort + Alloc<A = Global>), field: &str) {
     let text = with_field(rt, field);
-    for step in 1..6 {
-        leaves_the_rest(rt, text.as_str(), step, &Told::Booked);
+    for step in 1..180 {
+        is_read_by_steps(rt, text.as_str(), step, &Told::Booked);
     }
 }
 
-/// Wherever the calls split the end of a head, no byte is taken behind the request.
+/// Wherever the calls split a head, its end and its body, it is the same request.
 #[test]
-fn splits_the_end_of_a_head(rt: HostRuntime) {
+fn splits_a_request(rt: HostRuntime) {
     for field in &FIELDS {
         is_booked_with(&rt, field);
     }
@@ -99,8 +151,8 @@ static PARTS: [&str; 7] = [
 ];
 
 fn is_no_head(rt: &(impl Abort + Alloc<A = Global>), text: &str) {
-    for step in 1..6 {
-        leaves_the_rest(rt, text, step, &IS_BAD);
+    for step in 1..20 {
+        is_read_by_steps(rt, text, step, &IS_BAD);
     }
 }
 
@@ -127,18 +179,4 @@ fn cut_input(rt: HostRuntime) {
     for len in 0..bytes.len() {
         is_cut(&rt, &bytes[..len]);
     }
-}
-
-fn has_no_head(rt: &(impl Abort + Alloc<A = Global>), bytes: &[u8], step: usize) {
-    let mut reader = Pieces::new(bytes, step, false);
-    is_told(rt, &mut reader, &IS_BAD);
-    expect_eq(rt, &reader.left.len(), &(20_000 - 16_384));
-}
-
-/// 16,384 bytes in which no head ends are a bad request, and no further byte is taken.
-#[test]
-fn endless_head(rt: HostRuntime) {
-    let bytes = vec![in rt.alloc(); b'x'; 20_000].expect(&rt, "memory");
-    has_no_head(&rt, &bytes, 3);
-    has_no_head(&rt, &bytes, 600);
 }

@@ -1,66 +1,124 @@
 use Rattle.std.proofs.Common.{◌≡◌, ◌<◌, ◌≤◌, ◌+◌, ◌-◌, [], length, take, inl, inr, arith, refl}
 use Rattle.std.proofs.lemmas.Grind.{common_steps}
+use Rattle.std.proofs.lemmas.List.{take-take}
 use Rattle.std.proofs.lemmas.Slice.{take-put_mid_below}
-use Rattle.club_http.proofs.Known.{consumes_kept, consumes_more, consumes_none_more}
-use Rattle.club_http.proofs.ReceivedLemmas.{wanted_more, filled, within_request}
+use Rattle.club_http.specs.Calls.{nothing, more}
+use Rattle.club_http.proofs.Known.{consumes_nothing, consumes_kept, consumes_more, consumes_none_more}
+use Rattle.club_http.proofs.ReceivedLemmas.{filled, within_request, not_so}
 use Rattle.club_http.proofs.receive.receive.Goals as goal
 
-pub returns-then-more-eq0-clause-received : goal.returns-then-more-eq0-clause-received
-returns-then-more-eq0-clause-received g c = let inv = c.loop-len.invariant in (
+pub loop-reader-init : goal.loop-reader-init
+loop-reader-init g c = record {
+  within = omega arith;
+  came = consumes_nothing _;
+  covers = c.requires.begins;
+  gave = nothing;
+  counted = refl;
+}
+
+pub returns-clause-received : goal.returns-clause-received
+returns-clause-received g c = let inv = c.loop-reader.invariant in (
   inv.within,
+  inv.covers,
   record {
     came = inv.came;
     within = within_request _ _ inv.within;
-    wanted = inv.wanted;
-    ends = inl (c.wanted-more.ensures.whole.0 c.if-more-eq0.true);
+    ends = inl (c.is_whole.ensures.whole.0 c.loop-reader-test.false);
   },
 )
 
 pub returns-in-None-clause-received : goal.returns-in-None-clause-received
 returns-in-None-clause-received g c =
-    let inv = c.loop-len.invariant in
-    let within : c.loop-len.len ≤ length c.loop-len.room = grind (arith, common_steps) in
-    let part = c.loop-len.len + c.wanted-more.result - c.loop-len.len in
-    rw (take-put_mid_below c.loop-len.len part c.loop-len.room c.fill.new.room c.loop-len.len (omega arith) within) (
+    let inv = c.loop-reader.invariant in
+    let len = c.loop-reader.len in
+    let room = c.loop-reader.room in
+    let within : len ≤ length room = grind (arith, common_steps) in
+    rw (take-put_mid_below len (length room - len) room c.fill.new.room len (omega arith) within) (
       inv.within,
       record {
         came = consumes_kept _ _ _ _ inv.came c.in-None.ensures.bytes;
         within = within_request _ _ inv.within;
-        wanted = inv.wanted;
-        cut = λ whole. c.if-more-eq0.false (c.wanted-more.ensures.whole.1 whole);
+        cut = not_so _ _ c.loop-reader-test.true c.is_whole.ensures.whole;
       },
     )
+
+pub returns-in-None-clause-calls : goal.returns-in-None-clause-calls
+returns-in-None-clause-calls g c =
+    let inv = c.loop-reader.invariant in
+    let len = c.loop-reader.len in
+    let room = c.loop-reader.room in
+    let within : len ≤ length room = grind (arith, common_steps) in
+    rw (take-put_mid_below len (length room - len) room c.fill.new.room len (omega arith) within) (record {
+      within = within_request _ _ inv.within;
+      calls =
+          inr (record {
+            mid = c.loop-reader.reader;
+            room = c.fill.new.room;
+            gave = inv.gave;
+            wanted = not_so _ _ c.loop-reader-test.true c.is_whole.ensures.whole;
+            none = inr c.in-None.ensures.called;
+          });
+    })
 
 pub returns-in-Some-eq0-clause-received : goal.returns-in-Some-eq0-clause-received
 returns-in-Some-eq0-clause-received g c =
-    let inv = c.loop-len.invariant in
+    let inv = c.loop-reader.invariant in
+    let len = c.loop-reader.len in
+    let room = c.loop-reader.room in
     let more = c.in-Some-eq0.ensures.bytes in
-    let within : c.loop-len.len ≤ length c.loop-len.room = grind (arith, common_steps) in
-    let room : 0 < length c.fill.new.room = grind (arith, common_steps) in
+    let within : len ≤ length room = grind (arith, common_steps) in
+    let short : length (take len room) < 16640 = c.loop-reader-test.ensures.room in
+    let left : 0 < length c.fill.new.room = grind (arith, common_steps) in
     let none : take c.in-Some-eq0.field-0 c.fill.new.room ≡ [] = rw c.in-Some-eq0.field-0-test refl in
-    let part = c.loop-len.len + c.wanted-more.result - c.loop-len.len in
-    rw (take-put_mid_below c.loop-len.len part c.loop-len.room c.fill.new.room c.loop-len.len (omega arith) within) (
+    rw (take-put_mid_below len (length room - len) room c.fill.new.room len (omega arith) within) (
       inv.within,
+      inv.covers,
       record {
         came = consumes_none_more _ _ _ _ _ inv.came more.0 none;
         within = within_request _ _ inv.within;
-        wanted = inv.wanted;
-        ends = inr (more.1 c.in-Some-eq0.field-0-test room);
+        ends = inr (more.1 c.in-Some-eq0.field-0-test left);
       },
     )
 
-pub loop-len-preserved : goal.loop-len-preserved
-loop-len-preserved g c =
-    let inv = c.loop-len.invariant in
-    let more = c.in-Some.ensures.bytes in
-    let within : c.loop-len.len ≤ length c.loop-len.room = grind (arith, common_steps) in
-    let few : length (take c.in-Some.came c.fill.new.room) ≤ c.wanted-more.result = grind (arith, common_steps) in
-    let needed = c.wanted-more.ensures.needed in
-    let part = c.loop-len.len + c.wanted-more.result - c.loop-len.len in
-    rw (filled c.loop-len.room c.fill.new.room c.loop-len.len c.in-Some.came part within c.in-Some.ensures.within) (record {
+pub returns-in-Some-eq0-clause-calls : goal.returns-in-Some-eq0-clause-calls
+returns-in-Some-eq0-clause-calls g c =
+    let inv = c.loop-reader.invariant in
+    let len = c.loop-reader.len in
+    let room = c.loop-reader.room in
+    let within : len ≤ length room = grind (arith, common_steps) in
+    rw (take-put_mid_below len (length room - len) room c.fill.new.room len (omega arith) within) (record {
+      within = within_request _ _ inv.within;
+      calls =
+          inr (record {
+            mid = c.loop-reader.reader;
+            room = c.fill.new.room;
+            gave = inv.gave;
+            wanted = not_so _ _ c.loop-reader-test.true c.is_whole.ensures.whole;
+            none = inl (rw c.in-Some-eq0.field-0-test at c.in-Some-eq0.ensures.called);
+          });
+    })
+
+pub go_on-requires-clause-before : goal.go_on-requires-clause-before
+go_on-requires-clause-before g c =
+    let len = c.loop-reader.len in
+    let room = c.loop-reader.room in
+    let within : len ≤ length room = grind (arith, common_steps) in
+    let upto : len ≤ len + c.in-Some.came = omega arith in
+    rw (take-take, take-put_mid_below len (length room - len) room c.fill.new.room len (omega arith) within) c.loop-reader.invariant.covers
+
+pub loop-reader-preserved : goal.loop-reader-preserved
+loop-reader-preserved g c =
+    let inv = c.loop-reader.invariant in
+    let len = c.loop-reader.len in
+    let room = c.loop-reader.room in
+    let within : len ≤ length room = grind (arith, common_steps) in
+    let all = filled room c.fill.new.room len c.in-Some.came (length room - len) within c.in-Some.ensures.within in
+    let covers = rw all at c.go_on.ensures in
+    let not = not_so _ _ c.loop-reader-test.true c.is_whole.ensures.whole in
+    rw all (record {
       within = grind (arith, common_steps);
-      came = consumes_more _ _ _ _ _ inv.came more.0;
-      wanted = wanted_more _ _ c.wanted-more.result inv.wanted needed few;
-      headless = λ none. c.wanted-more.ensures.headless none _ few;
+      came = consumes_more _ _ _ _ _ inv.came c.in-Some.ensures.bytes.0;
+      covers = covers;
+      gave = more _ _ c.in-Some.came _ _ inv.gave not (omega arith) c.in-Some.ensures.called;
       counted = grind (arith, common_steps);
     })

@@ -1,17 +1,26 @@
-use Rattle.std.proofs.Common.{sym, ◌∙◌}
+use Rattle.std.proofs.Common.{take, drop, sym, ◌∙◌}
 use Rattle.std.proofs.lemmas.List.{take-append-drop}
 use Rattle.club_words.proofs.FrontLemmas.{asks_nothing}
 use Rattle.club_words.proofs.front.front_of.Goals as goal
 
+pub returns-in_default-read_head : goal.returns-in_default-read_head
+returns-in_default-read_head c = record {
+  piece = take c.in-Some.len c.args.bytes.now;
+  rest = drop c.in-Some.len c.args.bytes.now;
+  cut = c.in-Some.ensures.1;
+  parts = sym (take-append-drop c.in-Some.len c.args.bytes.now);
+  refused = λ head body_len asks. c.in_default-read_head.ensures head asks.is;
+}
+
 pub returns-in_default-asked_length : goal.returns-in_default-asked_length
 returns-in_default-asked_length c =
-    let piece = c.split_at.result.0.now in
+    let piece = take c.in-Some.len c.args.bytes.now in
     let found = c.in-Some-read_head.ensures.1 in
     record {
       piece = piece;
-      rest = c.split_at.result.1.now;
-      cut = rw c.split_at.ensures.front c.in-Some.ensures.1;
-      parts = rw (c.split_at.ensures.front, c.split_at.ensures.back) (sym (take-append-drop c.in-Some.len c.args.bytes.now));
+      rest = drop c.in-Some.len c.args.bytes.now;
+      cut = c.in-Some.ensures.1;
+      parts = sym (take-append-drop c.in-Some.len c.args.bytes.now);
       refused =
           asks_nothing piece c.of-method.result.now c.read_head.new.fields c.in-Some-read_head.spans found.0 found.1 found.2 c.of-method.ensures
           (sym c.asked_length.ensures ∙ c.in_default-asked_length.is);

@@ -1,0 +1,27 @@
+-- By which calls a reader gives a request (ours).
+use Rattle.std.specs.Prelude.{◌⊎◌, ℕ, ◌<◌, ◌≤◌, List, [], ◌++◌, length, take, Option, Some, None}
+use Rattle.club_words.specs.Frame.{IsWhole}
+
+-- what a call does: how many bytes it answers, what the room holds, and the reader before and after
+abbrev pub Call : Type 0 → Type 1
+Call Reader = Reader → Option ℕ → List ℕ → Reader → Type 0
+
+-- the reader gave the bytes in calls that each gave some, and none was made once a whole request had come
+pub data Gives {Reader : Type 0} (Fills : Call Reader) (old : Reader) : List ℕ → Reader → Type 0 where
+  nothing : Gives Fills old [] old
+  more : (bytes room : List ℕ) (n : ℕ) (mid new : Reader)
+      → Gives Fills old bytes mid → ¬ (IsWhole bytes) → 0 < n → Fills mid (Some n) room new
+      → Gives Fills old (bytes ++ take n room) new
+
+-- a last call gave none: the input had ended, or the reader failed
+pub record EndsWithNone {Reader : Type 0} (Fills : Call Reader) (old : Reader) (bytes : List ℕ) (new : Reader) : Type 0 where
+  pub mid : Reader
+  pub room : List ℕ
+  pub gave : Gives Fills old bytes mid
+  pub wanted : ¬ (IsWhole bytes)
+  pub none : Fills mid (Some 0) room new ⊎ Fills mid None room new
+
+-- at most 16,640 bytes were taken, and no call was made once a whole request had come, nor after one that gave none
+pub record ReadsNoFurther {Reader : Type 0} (Fills : Call Reader) (old : Reader) (bytes : List ℕ) (new : Reader) : Type 0 where
+  pub within : length bytes ≤ 16640
+  pub calls : Gives Fills old bytes new ⊎ EndsWithNone Fills old bytes new
