@@ -1,0 +1,73 @@
+#!/bin/sh
+# Holds man/ against the programs: mandoc finds nothing to say of a page, and each command of `--help` stands in it with its words and
+# options, each status too, and no others. Installs Debian's mandoc where it is missing. Not part of the gate.
+set -eu
+. "$(dirname -- "$0")/serving.sh"
+wants mandoc mandoc
+
+# by_help PROGRAM: of each command its name, its words and its options, one a line, as `--help` has them; then each status.
+by_help() {
+    "$1" --help >help
+    sed -n '/^Commands:/,/^$/s/^  \([a-z-]*\) .*/\1/p' help >commands
+    while read -r command; do
+        echo "$command"
+        "$1" help "$command" >help_of
+        if [ "$command" = help ]; then
+            echo "help command"
+            continue
+        fi
+        sed -n 's/^Usage: [a-z]* [a-z-]*//p' help_of | grep -oE '<[A-Z]+>|\[[A-Z]+\]' | tr -d '<>[]' | grep -vx OPTIONS | sed "s/^/$command /"
+        # An option's value is a word as well, which the usage tells only of those that must be there.
+        sed -n '/^Options:/,/^$/p' help_of | sed -n 's/^ .* \(--[a-z]*\)\( <\([A-Z]*\)>\)\{0,1\}.*/\1 \3/p' | while read -r option value; do
+            [ "$option" != --help ] || continue
+            echo "$command $option"
+            [ -z "$value" ] || echo "$command $value"
+        done
+    done <commands
+    sed -n '/^Exit status:/,$s/^  \([0-9]\)  .*/status \1/p' help
+}
+
+# by_page FILE: the same of a page's lists of commands and statuses.
+by_page() {
+    awk '
+        /^\.Sh / { section = $2 }
+        section == "DESCRIPTION" && /^The commands are:/ { inside = 1 }
+        /^\.El/ { inside = 0 }
+        inside && /^\.It Cm / {
+            print $3
+            for (at = 4; at <= NF; at++) {
+                if ($at ~ /^-/) print $3, "-" $at
+                if ($at ~ /^[A-Z][A-Z]+$/ || $at ~ /^[A-Z]$/ || $at == "command") print $3, $at
+            }
+        }
+        section == "EXIT" && /^\.It [0-9]/ { print "status", $2 }' "$1"
+}
+
+# The options that a page explains, and those that its commands have.
+explained() { sed -n '/^The options are:/,/^\.El/s/^\.It .*Fl -\([a-z]*\).*/\1/p' "$1" | grep -vxE 'help|version' | sort -u; }
+had() { by_page "$1" | sed -n 's/.* --//p' | sort -u; }
+
+faults=0
+fail() {
+    echo "$1" >&2
+    faults=1
+}
+
+# In the pages' folder, where they find one another.
+(cd "$here/../man" && mandoc -T lint clubdesk.1 passtool.1) >said 2>&1 || :
+[ ! -s said ] || fail "$(cat said)"
+for program in "$desk" "$tool"; do
+    name=$(basename "$program")
+    page=$here/../man/$name.1
+    by_help "$program" | sort -u >wanted
+    by_page "$page" | sort -u >found
+    [ "$(wc -l <wanted)" -gt 20 ] || fail "$name --help shows little: $(cat wanted)"
+    diff wanted found >differs || fail "man/$name.1: --help (<) and the page (>) differ
+$(cat differs)"
+    had "$page" >wanted
+    explained "$page" >found
+    diff wanted found >differs || fail "man/$name.1: options of the commands (<) and those that it explains (>) differ
+$(cat differs)"
+done
+[ "$faults" = 0 ] || exit 1
+echo "the manual pages hold"
