@@ -10,7 +10,8 @@
 # - Each file that a page names is there, and each name `crate::..::name` or `Type::name` is defined.
 # - docs/MAP.md has each crate with what it stands on, as crates.txt does; LAYERS and TRUST name each.
 # - The logic that README.md and docs/TRUST.md name by its sum is this toolchain's, and bin/demo prints what tests/demo_tells.sh wants.
-# Programs are proved and built by bin/proved where they have to be. Installs Debian's curl where it is missing. Not part of the gate.
+# Programs are proved and built by bin/proved where they have to be. Installs Debian's curl, sqlite3 and openssl where they are
+# missing. Not part of the gate.
 #   tests/docs_hold.sh                 every page
 #   tests/docs_hold.sh docs/DESK.md    these pages
 #   tests/docs_hold.sh -n [PAGE ..]    what wants no program of ours: all but the commands and the demo
@@ -76,6 +77,8 @@ run_commands() {
     script_of "$1" >"$work/script"
     rm -rf "$work/room"
     mkdir "$work/room"
+    # A page's commands may be those of the repository's top.
+    ln -s "$root/bin" "$root/deploy" "$work/room"
     # Bodies of replies end without a line feed, which a terminal shows as a prompt behind them.
     printf 'silent\nshow-error\nnoproxy = "*"\nwrite-out = "\\n"\n' >"$work/.curlrc"
     for program in passtool clubdesk; do
@@ -222,8 +225,8 @@ hold_promises() {
 # Names of files, and `crate::..::name` and `Type::name`, in backticks.
 hold_names() {
     awk '/^```/ { inside = !inside } !inside' "$1" | grep -oE '`[^` ]+`' | tr -d '`' | sort -u >"$work/words"
-    blocks "$1" sh | grep -oE '^(bin|tests)/[a-z_.]+' >"$work/scripts"
-    cat "$work/words" "$work/scripts" | grep -E '^(crates|docs|tests|bin)/' | grep -vE '[*<]|NAME|CRATE|(^|/)out(/|$)' | while read -r path; do
+    blocks "$1" sh | grep -oE '^(bin|tests|deploy)/[a-z_.]+' >"$work/scripts"
+    cat "$work/words" "$work/scripts" | grep -E '^(crates|docs|tests|bin|deploy|man)/' | grep -vE '[*<]|NAME|CRATE|(^|/)out(/|$)' | while read -r path; do
         [ -e "${path%%:*}" ] || echo "$1: no file $path"
     done >>"$faults"
     # Promises are named within their crate, and held above.
@@ -291,7 +294,9 @@ hold_glossary() {
     sed 's/.*:://' "$work/words" | grep -xE '[A-Za-z_0-9]+' | sort -u | comm -23 - "$work/known" | sed 's/^/docs\/GLOSSARY.md: no name /' >>"$faults"
 }
 
-[ -z "$runs" ] || command -v curl >/dev/null || apt-get install -y curl >/dev/null || exit 2
+for package in curl sqlite3 openssl; do
+    [ -z "$runs" ] || command -v "$package" >/dev/null || apt-get install -y "$package" >/dev/null || exit 2
+done
 find crates -path '*/out/*' -prune -o \( -path '*/src/*.rt' -o -path '*/specs/*.antt' -o -path '*/proofs/*.antt' -o -path '*.edit' \) -print |
     tr '\n' ' ' >"$work/files"
 index_names

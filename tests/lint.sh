@@ -119,7 +119,7 @@ stale_edits() {
 
 # Scripts that no page names.
 unnamed_scripts() {
-    for script in tests/*.sh bin/*; do
+    for script in tests/*.sh bin/* deploy/*; do
         grep -qF "$script" README.md CONTRIBUTING.md docs/*.md 2>/dev/null || echo "no page names: $script"
     done
 }

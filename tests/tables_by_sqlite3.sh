@@ -1,7 +1,8 @@
 #!/bin/sh
 # Holds the tables against sqlite3: what clubdesk puts into a file, sqlite3 finds there, with the columns, keys, references and
-# limits of docs/TABLES.md; what sqlite3 changes within them, clubdesk tells; and a file that holds no club, or a row out of its
-# limits, is a fault of storage and stays as it was, byte for byte. Not part of the gate.
+# limits of docs/TABLES.md; what sqlite3 changes within them, clubdesk tells; the lists and corrections of docs/RUNNING.md do what the
+# page says; and a file that holds no club, or a row out of its limits, is a fault of storage and stays as it was, byte for byte. Not
+# part of the gate.
 set -eu
 . "$(dirname -- "$0")/serving.sh"
 wants curl curl
@@ -212,6 +213,108 @@ sql written 'UPDATE keys SET revoked = 1'
 same 'a key that sqlite3 revoked' "$(answers written | uniq)" <<'REPLIES'
 {"fault":10,"text":"key revoked"}
 REPLIES
+
+# recipe HEADING: the block of docs/RUNNING.md under this heading.
+recipe() {
+    awk -v heading="### $1" '
+        /^### / { here = $0 == heading; next }
+        here && /^```sql$/ { inside = 1; next }
+        /^```$/ { inside = 0 }
+        inside' "$here/../docs/RUNNING.md" >recipe.sql
+    [ -s recipe.sql ] || { echo "docs/RUNNING.md has nothing under '$1'" >&2; exit 1; }
+}
+
+# by_recipe HEADING: what the shell prints of it over `mended`. A correction leaves the totals as they are to be.
+by_recipe() {
+    recipe "$1"
+    sqlite3 -bail mended <recipe.sql
+}
+sound() {
+    same "the totals after $1" "$(by_recipe Afterwards; sql mended 'PRAGMA integrity_check')" <<'ROWS'
+0
+0
+0
+ok
+ROWS
+}
+
+# corrected HEADING COUNT: the correction finds so many rows. Once more, it finds so many as the third word says.
+corrected() {
+    same "$1" "$(by_recipe "$1")" <<ROWS
+$2
+ROWS
+    sound "$1"
+    cp mended again
+    [ ! -e mended-wal ] || cp mended-wal again-wal
+    same "$1, once more" "$(by_recipe "$1")" <<ROWS
+$3
+ROWS
+    sound "$1, once more"
+    [ "$3" != 0 ] || same "$1, once more, changes nothing" "$(sqlite3 mended .dump)" <<ROWS
+$(sqlite3 again .dump)
+ROWS
+    rm -f again*
+}
+
+cp club mended
+"$desk" sheet mended "$day" >told
+"$desk" rotate-key mended amy-1 40414243444546474849414243444546 2026-05-02T00:00 >told
+"$desk" add-member mended bob 1 >told
+same 'the list of members' "$(by_recipe Members)" <<'ROWS'
+amy|9099|5
+bob|0|1
+ROWS
+same 'the list of keys' "$(by_recipe 'Keys of a member')" <<'ROWS'
+amy-1|0|2026-05-02T00:00
+ROWS
+same 'the list of bookings' "$(by_recipe 'Bookings of a member')" <<'ROWS'
+2026-05-01|18|court-1|amy-1|7|3|600
+ROWS
+same 'the list of closed slots' "$(by_recipe 'Closed slots')" <<'ROWS'
+court-1|2026-05-01|9
+ROWS
+tells mended >shown
+same 'a club after its lists' "$(tells club)" <shown
+
+# Each correction once, and once more. The desk's answers are those of a club of which it has been so all the time.
+corrected 'A credit that was too high' 1 1
+corrected 'Another quota' 1 1
+corrected 'A slot that is open again' 1 0
+same 'what the desk answers then' "$(tells mended)" <<'REPLIES'
+{"facility":"court-1","day":"2026-05-01","hour":9,"kind":"court","price":200,"places":4,"taken":0,"closed":false}
+{"facility":"court-1","day":"2026-05-01","hour":18,"kind":"court","price":200,"places":4,"taken":3,"closed":false}
+{"facility":"room-1","day":"2026-05-01","hour":18,"kind":"room","price":601,"places":1,"taken":0,"closed":false}
+{"member":"amy","balance":8099,"quota":8,"open":1,"spent":901}
+Day sheet 2026-05-01
+court-1                  18:00 amy-1                            7  3    600
+Total bookings 1, persons 3, charge 600
+REPLIES
+sql mended 'UPDATE members SET credited = used + 499'
+sound 'a smaller credit'
+cp mended before
+same 'a credit that the balance has not' "$(by_recipe 'A credit that was too high')" <<'ROWS'
+0
+ROWS
+same 'it changes nothing' "$(sqlite3 mended .dump)" <<ROWS
+$(sqlite3 before .dump)
+ROWS
+sql mended "UPDATE members SET credited = 10000, quota = 5"
+"$desk" revoke-key mended amy-1 >told
+corrected 'Cancel for a revoked key' 1 0
+sql mended 'UPDATE keys SET revoked = 0'
+same 'what the desk answers after a cancellation' "$(tells mended)" <<'REPLIES'
+{"facility":"court-1","day":"2026-05-01","hour":9,"kind":"court","price":200,"places":4,"taken":0,"closed":false}
+{"facility":"court-1","day":"2026-05-01","hour":18,"kind":"court","price":200,"places":4,"taken":0,"closed":false}
+{"facility":"room-1","day":"2026-05-01","hour":18,"kind":"room","price":601,"places":1,"taken":0,"closed":false}
+{"member":"amy","balance":9699,"quota":5,"open":0,"spent":301}
+Day sheet 2026-05-01
+No bookings.
+REPLIES
+serve mended 1 2026-04-20T12:00
+same 'a repeat of that cancellation' "$(asks DELETE "slots/court-1/$day/18/bookings/7")" <<'REPLIES'
+{"booking":"amy-1/7","refund":600}
+REPLIES
+finish
 
 # An empty file, and one that isn't there, become a club with no rows.
 : >empty

@@ -1,0 +1,330 @@
+#!/bin/sh
+# Tries what docs/RUNNING.md says of running the desk: an installation, and those that fail; the unit, by systemd's own tools, and that
+# the desk makes no call of the system which the unit forbids; nginx with TLS before the desk, by its stored configuration; copies of
+# the club while it is written to, and one that is restored; a disk that gets full. Wants root. Installs Debian's packages where they
+# are missing. Not part of the gate.
+set -eu
+. "$(dirname -- "$0")/serving.sh"
+[ "$(id -u)" = 0 ] || { echo "$0 wants root, for another user and a small disk" >&2; exit 2; }
+top=$(CDPATH='' cd -P -- "$here/.." && pwd)
+PATH=/usr/sbin:/sbin:$PATH
+wants curl curl
+wants sqlite3 sqlite3
+wants openssl openssl
+wants nginx nginx-light
+wants strace strace
+wants systemd-analyze systemd
+wants runuser util-linux
+[ -e /usr/share/zoneinfo/Europe/Berlin ] || installs tzdata
+checks=0
+proxy=
+disk=
+# stop PROCESS: ends it, and waits for its end.
+stop() {
+    kill "$1"
+    wait "$1" 2>/dev/null || :
+}
+leave_all() {
+    if [ -n "$proxy" ]; then kill "$proxy" 2>/dev/null || :; fi
+    if [ -n "$disk" ]; then umount -l "$disk" 2>/dev/null || :; fi
+    leave
+}
+trap leave_all EXIT
+trap 'exit 1' INT TERM HUP
+
+fail() {
+    echo "$1" >&2
+    exit 1
+}
+
+# same WHAT WANTED FOUND
+same() {
+    checks=$((checks + 1))
+    [ "$2" = "$3" ] || fail "$1: wanted and found
+$2
+$3"
+}
+
+# asks METHOD PATH PASS [BODY]: the reply to a request at $base, its status behind it.
+asks() {
+    curl -sS --max-time 20 --noproxy '*' ${authority:+--cacert "$authority"} -w ' %{http_code}\n' -X "$1" -H "Authorization: Bearer $3" \
+        ${4:+-d "$4"} "$base/$2"
+}
+
+# A club of this name with a member of 10,000 points, a court with 50 places, and the pass in the file `pass`.
+make_club() {
+    for words in "add-member $1 amy 99" "credit $1 amy 10000" "add-facility $1 court-1 court 50 1 0 24"; do
+        # shellcheck disable=SC2086 # a command's words
+        "$desk" $words >told
+    done
+    "$desk" add-key "$1" amy-1 amy "$(openssl rand -hex 32)" >pass
+}
+
+CLUBDESK=$desk
+PASSTOOL=$tool
+export CLUBDESK PASSTOOL
+
+# ---- An installation.
+sums() { (cd "$1" && find . -type f -exec sha256sum {} + | sort -k 2); }
+"$top/bin/install" local >told
+for file in clubdesk passtool; do
+    cmp "$top/man/$file.1" "local/share/man/man1/$file.1"
+    [ "$(stat -c %a "local/bin/$file")" = 755 ] || fail "local/bin/$file has another mode"
+done
+same 'the installed programs' 'clubdesk 0.1.0 passtool 0.1.0' "$(local/bin/clubdesk --version) $(local/bin/passtool --version)"
+
+# refused WHAT WORDS..: the installation is refused with a line on standard error, and the folder `local` and its files stay.
+refused() {
+    what=$1
+    shift
+    sums local >before
+    if "$@" >told 2>said; then fail "$what: it installs"; fi
+    grep -q 'nothing was installed' said || fail "$what: $(cat said)"
+    sums local | cmp - before || fail "$what: it left something else"
+    checks=$((checks + 1))
+}
+echo old >local/bin/clubdesk
+chmod 755 "$work" local
+# Another user may not see the repository, so the script is copied; it looks at the folder first.
+cp "$top/bin/install" installing
+refused 'no leave to write' runuser -u nobody -- sh "$work/installing" "$work/local"
+refused 'no folder to make' runuser -u nobody -- sh "$work/installing" "$work/other"
+[ ! -e other ] || fail 'a refused installation made its folder'
+refused 'files that get too long' sh -c "ulimit -f 1000; '$top/bin/install' local 2>&1 | cat >&2; exit 1"
+mkdir local/share/man/man1/x && mv local/share/man/man1/passtool.1 local/share/man/man1/x && mv local/share/man/man1/x local/share/man/man1/passtool.1
+refused 'a folder at a name' "$top/bin/install" local
+rm -r local
+refused_new() { if sh -c "ulimit -f 1000; '$top/bin/install' local" >told 2>said; then fail 'it installs'; fi; }
+refused_new
+[ ! -e local ] || fail 'a refused installation left its folders'
+"$top/bin/install" local >told
+
+# ---- The unit.
+unit=clubdesk.service
+sed "s,/usr/local/bin/,$PWD/local/bin/," "$top/deploy/$unit" >"$unit"
+systemd-analyze verify --man=no "./$unit" >said 2>&1 || fail "the unit: $(cat said)"
+[ ! -s said ] || fail "the unit: $(cat said)"
+exposure=$(systemd-analyze security --offline=yes --no-pager "./$unit" | sed -n 's/.*exposure level for [^:]*: \([0-9.]*\).*/\1/p')
+awk -v found="$exposure" 'BEGIN { exit !(found != "" && found < 1.5) }' || fail "the unit's exposure is $exposure"
+checks=$((checks + 2))
+
+# Its command, at another file and port, for another user, with its mask, under strace: a club that isn't there is made, a request is
+# answered, and each call is one that the unit allows.
+command=$(sed -n 's/^ExecStart=//p' "$unit" | sed "s,/var/lib/clubdesk/club,$PWD/state/club,; s/--port [0-9]*/--port 0/; s/--count [0-9]*/--count 2/")
+mkdir -m 700 state
+chown nobody state
+mask=$(sed -n 's/^UMask=//p' "$unit")
+: >listened && chown nobody listened
+runuser -u nobody -- sh -c "umask $mask; exec strace -f -o state/calls $command" >listening 2>log &
+server=$!
+read -r line <listening
+base=http://127.0.0.1:${line##*:}
+authority=
+same 'the unit' '{"fault":4,"text":"no pass"} 401' "$(curl -sS -w ' %{http_code}' "$base/account")"
+same 'the unit, again' '{"fault":2,"text":"no such path"} 404' "$(curl -sS -w ' %{http_code}' "$base/")"
+finish
+same 'the lines of its log' 2 "$(grep -cE '^20[0-9-]+T[0-9:]+ GET /[a-z]* 40[14] [0-9]+$' log)"
+same 'the modes of its files' '600 600' "$(stat -c %a state/club state/club-wal | xargs)"
+/usr/bin/python3 - "$unit" state/calls <<'PYTHON'
+import re
+import subprocess
+import sys
+
+unit, trace = (open(name, encoding="utf-8").read() for name in sys.argv[1:])
+
+
+def calls_of(name):
+    if not name.startswith("@"):
+        return {name}
+    lines = subprocess.run(["systemd-analyze", "syscall-filter", name], check=True, capture_output=True, text=True).stdout.splitlines()
+    return set().union(*(calls_of(line.strip()) for line in lines[1:] if line.strip() and not line.strip().startswith("#")))
+
+
+allowed = set()
+for line in re.findall(r"^SystemCallFilter=(.*)$", unit, re.M):
+    named = set().union(*(calls_of(name) for name in line.lstrip("~").split()))
+    allowed = allowed - named if line.startswith("~") else allowed | named
+made = set(re.findall(r"^\d+ +([a-z_0-9]+)\(", trace, re.M)) - {"execve"}
+lacking = made - allowed
+families = set(re.findall(r"socket\((AF_[A-Z0-9]+)", trace)) - set(re.findall(r"^RestrictAddressFamilies=(.*)$", unit, re.M)[0].split())
+written = [path for path, how in re.findall(r'openat\(\S+, "([^"]*)", (\S+)', trace) if "O_RDONLY" not in how and "/state/" not in path]
+both = re.findall(r"m(?:map|protect)\(.*PROT_WRITE\|PROT_EXEC.*", trace)
+if not made or lacking or families or written or both:
+    sys.exit(f"the unit forbids what the desk does: {lacking} {families} {written} {both}")
+PYTHON
+checks=$((checks + 1))
+same "a zone's rule" CET-1CEST,M3.5.0,M10.5.0/3 "$(tail -n 1 /usr/share/zoneinfo/Europe/Berlin)"
+grep -qF -- "--zone $(tail -n 1 /usr/share/zoneinfo/Europe/Berlin) " "$unit" || fail 'the unit has another zone'
+
+# ---- TLS.
+openssl req -x509 -newkey rsa:2048 -nodes -days 2 -subj /CN=desk.example.org -addext subjectAltName=DNS:desk.example.org \
+    -keyout key.pem -out certificate.pem 2>said || fail "openssl: $(cat said)"
+make_club club
+serve club 1000 2026-04-20T12:00
+upstream=$port
+front=$((port + 1))
+while grep -qi ":$(printf %04X "$front") " /proc/net/tcp; do front=$((front + 1)); done
+sed "s,/etc/ssl/clubdesk/,$PWD/,; s/:8080/:$upstream/; /\[::\]/d; s/listen 443/listen 127.0.0.1:$front/" "$top/deploy/nginx.conf" >site.conf
+cat >nginx.conf <<CONF
+user www-data;
+pid $PWD/nginx.pid;
+error_log $PWD/error.log;
+events {}
+http { include $PWD/site.conf; }
+CONF
+chmod 755 .
+nginx -t -q -c "$PWD/nginx.conf" || fail 'nginx refuses its configuration'
+nginx -c "$PWD/nginx.conf" -g 'daemon off;' &
+proxy=$!
+for _ in $(seq 50); do
+    ! grep -qi ":$(printf %04X "$front") 00000000:0000 0A" /proc/net/tcp || break
+    sleep 0.1
+done
+printf 'resolve = "desk.example.org:%s:127.0.0.1"\n' "$front" >.curlrc
+CURL_HOME=$PWD
+export CURL_HOME
+direct=http://127.0.0.1:$upstream
+pass=$(cat pass)
+slot=slots/court-1/2026-05-01/18
+
+# by_both METHOD PATH PASS [BODY]: the desk's own reply to what changes nothing is the proxy's.
+by_both() {
+    base=$direct authority=
+    wanted=$(asks "$@")
+    base=https://desk.example.org:$front authority=certificate.pem
+    same "$1 $2 through the proxy" "$wanted" "$(asks "$@")"
+}
+base=https://desk.example.org:$front authority=certificate.pem
+same 'a booking' '{"booking":"amy-1/7","charge":3,"left":47} 200' "$(asks PUT $slot/bookings/7 "$pass" '{"guests":2}')"
+by_both PUT $slot/bookings/7 "$pass" '{"guests":2}'
+by_both PUT $slot/bookings/7 "$pass" '{"guests":1}'
+by_both GET $slot "$pass"
+by_both GET account "$pass"
+by_both GET account nonsense
+by_both POST account "$pass"
+by_both GET "$slot?x=%2F" "$pass"
+by_both GET account "$(head -c 8192 /dev/zero | tr '\0' a)"
+by_both GET account "$(head -c 8193 /dev/zero | tr '\0' a)"
+same 'a cancellation' '{"booking":"amy-1/7","refund":3} 200' "$(asks DELETE $slot/bookings/7 "$pass")"
+health=$("$tool" narrow 'actions = account' <pass)
+echo "Authorization: Bearer $health" >health-field
+same 'the health check' '{"member":"amy","balance":10000,"quota":99,"open":0,"spent":0}' \
+    "$(curl -fsS --max-time 5 --cacert certificate.pem -H @health-field "$base/account")"
+same 'a health pass books nothing' '{"fault":12,"text":"caveat denies","caveat":1} 403' "$(asks PUT $slot/bookings/8 "$health" '{"guests":0}')"
+same 'no TLS' 400 "$(curl -sS -o told -w '%{http_code}' "http://127.0.0.1:$front/account")"
+# A client that sends half of a request holds up nobody: the proxy waits for it, and not the desk.
+{
+    printf 'PUT /%s/bookings/9 HTTP/1.1\r\nHost: desk.example.org\r\nContent-Length: 12\r\n' $slot
+    sleep 6
+} | openssl s_client -quiet -connect "127.0.0.1:$front" >told 2>&1 &
+slow=$!
+sleep 0.5
+begun=$(date +%s%N)
+by_both GET account "$pass"
+[ $((($(date +%s%N) - begun) / 1000000)) -lt 3000 ] || fail 'a slow client holds up the others'
+wait "$slow" || :
+stop "$proxy"
+proxy=
+stop "$server"
+server=
+
+# ---- Copies while the club is written to: 900 bookings, each cancelled, in the course of which the desk copies its log into its file.
+rm -f club*
+make_club club
+pass=$(cat pass)
+serve club 100000 2026-04-20T12:00
+awk -v pass="$pass" -v port="$port" 'BEGIN { for (i = 1; i <= 900; i++) for (put = 1; put >= 0; put--) {
+    if (i > 1 || !put) print "next"
+    printf "request = %s\nheader = \"Authorization: Bearer %s\"\n", put ? "PUT" : "DELETE", pass
+    if (put) print "data = \"{\\\"guests\\\":0}\""
+    printf "write-out = \"\\n\"\nurl = http://127.0.0.1:%d/slots/court-1/2026-05-%02d/%02d/bookings/%d\n", port, 1 + i % 28, i % 24, i } }' >asked
+{ curl -sS -K asked >answered && touch answered.all; } &
+client=$!
+copies=0
+while [ ! -e answered.all ] && [ "$copies" -lt 500 ]; do
+    copies=$((copies + 1))
+    "$top/deploy/back_up" club "copy.$copies" >told 2>said || fail "copy $copies: $(cat said)"
+    [ ! -e "copy.$copies-wal" ] || fail "copy $copies has a log"
+    # The bookings are the first ones, all but the last of them cancelled, and the totals are their sums.
+    sqlite3 "copy.$copies" "SELECT count(*) = coalesce(max(number), 0), sum(cancelled = 0) > 1 FROM bookings;
+        SELECT count(*) FROM members WHERE used <> (SELECT total(charge - refund) FROM bookings);
+        SELECT count(*) FROM slots s WHERE taken <> (SELECT total(guests + 1) FROM bookings b WHERE cancelled = 0
+            AND b.facility = s.facility AND b.day = s.day AND b.hour = s.hour)" >found
+    case $(xargs <found) in '1|0 0 0' | '1| 0 0') ;; *) fail "copy $copies: $(cat found)" ;; esac
+    sqlite3 "copy.$copies" 'SELECT count(*) FROM bookings' >>counts
+done
+wait "$client" || { kill -0 "$server" || echo 'the server is gone' >&2; cat fault >&2; exit 1; }
+[ "$(grep -c '"refund":1}' answered)" = 900 ] || fail "$(grep -vc '"refund":1}\|"charge":1,' answered) requests were refused"
+[ "$(sort -un counts | wc -l)" -ge 3 ] || fail "the copies were made at one time: $(xargs <counts)"
+checks=$((checks + copies))
+same 'the status of a sheet meanwhile' '5 storage failed' "$("$desk" sheet club 2026-05-01 2>&1 >/dev/null | sed 's/^/5 /')"
+rm copy.*
+
+# ---- Restored: the same bytes, and what came after the copy is gone.
+base=http://127.0.0.1:$port authority=
+asks PUT slots/court-1/2026-06-01/10/bookings/1001 "$pass" '{"guests":4}' >told
+shown() {
+    for path in account slots/court-1/2026-06-01/10 slots/court-1/2026-06-01/11 slots/court-1/2026-05-02/01; do asks GET $path "$pass"; done
+}
+shown >wanted
+"$top/deploy/back_up" club copy >told
+same 'a copy' 'backed up, with 901 bookings' "$(cat told)"
+asks PUT slots/court-1/2026-06-01/11/bookings/1002 "$pass" '{"guests":4}' >told
+stop "$server"
+# The same, where the desk copies its log into its file between the copies of the two.
+copy club racing
+mkdir path
+cat >path/cp <<CP
+#!/bin/sh
+$(command -v cp) "\$@"
+case "\$*" in
+    *racing*/copy) [ -e between ] || { touch between && "$desk" sheet racing 2026-05-01 >sheet; } ;;
+esac
+CP
+chmod +x path/cp
+same 'a copy that the desk gets between' 'backed up, with 902 bookings' "$(PATH=$PWD/path:$PATH "$top/deploy/back_up" racing raced)"
+[ -s sheet ] || fail 'nothing got between'
+mv club lost
+mv club-wal lost-wal
+cp copy club
+serve club 100 2026-04-20T12:00
+base=http://127.0.0.1:$port
+same 'what is restored' "$(cat wanted)" "$(shown)"
+same 'a repeat' '{"booking":"amy-1/1001","charge":5,"left":45} 200' "$(asks PUT slots/court-1/2026-06-01/10/bookings/1001 "$pass" '{"guests":4}')"
+same 'what came after' '{"fault":15,"text":"no such booking"} 404' "$(asks DELETE slots/court-1/2026-06-01/11/bookings/1002 "$pass")"
+stop "$server"
+server=
+ln club second
+same 'a hard link' 'storage failed' "$("$desk" sheet club 2026-05-01 2>&1 || :)"
+rm second
+mv lost club
+mv lost-wal club-wal
+same 'the file that was put away, with its log' 1 "$("$desk" sheet club 2026-06-01 | grep -c ' 1002 ')"
+printf broken >bad
+if "$top/deploy/back_up" bad copy.bad >told 2>said; then fail 'a broken file is copied'; fi
+[ ! -e copy.bad ] || fail 'a copy of a broken file is left'
+
+# ---- A full disk: nothing is booked, and what changes nothing is answered. Once there is room, all goes on.
+disk=$work/disk
+mkdir "$disk"
+mount -t tmpfs -o size=700k tmpfs "$disk" || { disk=; fail 'no small disk could be made'; }
+make_club "$disk/club"
+pass=$(cat pass)
+serve "$disk/club" 1000 2026-04-20T12:00
+base=http://127.0.0.1:$port
+asks PUT slots/court-1/2026-05-01/10/bookings/1 "$pass" '{"guests":0}' >told
+dd if=/dev/zero of="$disk/fill" bs=1k 2>/dev/null || :
+number=1
+while grep -q '"charge"' told && [ "$number" -lt 90 ]; do
+    number=$((number + 1))
+    asks PUT "slots/court-1/2026-05-02/$((10 + number % 10))/bookings/$number" "$pass" '{"guests":0}' >told
+done
+same 'a full disk' '{"fault":22,"text":"unavailable"} 503' "$(cat told)"
+same 'the account' "{\"member\":\"amy\",\"balance\":$((10001 - number)),\"quota\":99,\"open\":$((number - 1)),\"spent\":$((number - 1))} 200" \
+    "$(asks GET account "$pass")"
+same 'a booking' '{"fault":22,"text":"unavailable"} 503' "$(asks PUT slots/court-1/2026-05-04/10/bookings/99 "$pass" '{"guests":0}')"
+rm "$disk/fill"
+same 'room again' '{"booking":"amy-1/99","charge":1,"left":49} 200' "$(asks PUT slots/court-1/2026-05-04/10/bookings/99 "$pass" '{"guests":0}')"
+stop "$server"
+server=
+echo "$checks checks of running the desk passed, $copies copies while it was written to, the unit's exposure $exposure"
