@@ -7,6 +7,7 @@
 set -eu
 . "$(dirname -- "$0")/serving.sh"
 wants curl curl
+wants openssl openssl
 [ $# -gt 0 ] || set -- "$here/../docs/HANDING_ON.md" "$here/../docs/CLIENT.md"
 
 clubdesk() { "$desk" "$@"; }
