@@ -1,4 +1,5 @@
 pub mod Crash
+pub mod Held
 pub mod Opening
 pub mod Figures
 pub mod Widened

@@ -5,7 +5,7 @@ use Rattle.sqlite_disk.specs.declared.Files.{Files}
 use Rattle.sqlite.specs.declared.FileStore.{FileStore}
 use Rattle.sqlite.specs.declared.error.Error.{Error}
 use Rattle.sqlite.specs.declared.error.Error.TheVariants.{SqliteFailure}
-use Rattle.sqlite.specs.declared.error.ErrorCode.TheVariants.{CannotOpen, OutOfMemory, DatabaseBusy}
+use Rattle.sqlite.specs.declared.error.ErrorCode.TheVariants.{CannotOpen, OutOfMemory}
 use Rattle.sqlite.specs.declared.file.Leftover.{Leftover}
 use Rattle.sqlite.specs.Recovery.{Image}
 use Rattle.sqlite.specs.Store.{Ghosts}
@@ -25,6 +25,7 @@ use Rattle.club_tables.specs.Tables.{Stands, IsFound}
 use Rattle.club_tables.specs.Told.{found_in}
 use Rattle.club_store.specs.declared.remains.Remains.{Remains}
 use Rattle.club_store.specs.declared.remains.Remains.TheVariants as remains
+use Rattle.club_store.specs.Held.{busy}
 use Rattle.club_store.specs.Crash.{HoldsOneOf, IsOpenedOn, OneStands, OneIsFound}
 
 -- a crash may leave what it could before, or what the one batch of the opening left
@@ -59,11 +60,10 @@ pub record OpensFrom {D : Type 0} {g : disk.Ghosts D} (start : Image) (now : Hel
 abbrev pub IsMemoryFault : StoreFault → Type 0
 IsMemoryFault fault = (fault ≡ Memory) ⊎ ((was : _) × (now : _) × IsEmpty (state over_memory was) × IsOpeningFault over_memory was now fault)
 
--- The fault of a file that isn't opened is that of the error. Nothing is left: there was no file, no memory, or another has it open. Or what it and
--- its log held is refused.
+-- The fault of a file that isn't opened is that of the error. Nothing is left: there was no file, or no memory. Or what it and its log held is refused.
 pub record IsFileFault {D : Type 0} {g : disk.Ghosts D} (start : Image) (rest : Option (Leftover D g)) (fault : StoreFault) : Type 0 where
   pub error : Error
-  pub unopened : rest ≡ None → (error ≡ SqliteFailure CannotOpen) ⊎ ((error ≡ SqliteFailure OutOfMemory) ⊎ (error ≡ SqliteFailure DatabaseBusy))
+  pub unopened : rest ≡ None → (error ≡ SqliteFailure CannotOpen) ⊎ (error ≡ SqliteFailure OutOfMemory)
   pub cause : IfSome rest (λ left. (files : Files D) × (image_of g files ≡ start) × (IsCleanLeft left → FailsToOpenFiles files left error))
   pub told : fault ≡ fault_by error
 
@@ -73,8 +73,9 @@ pub record IsTablesFault {D : Type 0} {g : disk.Ghosts D} (start : Image) (now :
   pub opened : HasCleanDisk (file_state was) → IsOpened was × FindsIn start (file_state was)
   pub failed : HasCleanDisk (file_state now) → IsOpeningFault over_files was now fault
 
--- the fault of a file that isn't opened, or whose tables aren't taken
+-- the fault of a file that another program has open, that isn't opened, or whose tables aren't taken
 abbrev pub FailsFrom : {D : Type 0} {g : disk.Ghosts D} → Image → Remains D g → StoreFault → Type 0
+FailsFrom start remains.Held fault = fault ≡ fault_by busy
 FailsFrom start (remains.Files rest) fault = IsFileFault start rest fault
 FailsFrom start (remains.Connection now) fault = IsTablesFault start now fault
 
@@ -94,5 +95,6 @@ pub record IsLeftOpen {D : Type 0} {g : disk.Ghosts D} (start : Image) (now : He
 
 -- what a refused opening of files that held this leaves
 abbrev pub LeavesFrom : {D : Type 0} {g : disk.Ghosts D} → Image → Remains D g → Type 0
+LeavesFrom start remains.Held = Unit {0}
 LeavesFrom start (remains.Files rest) = IfSome rest (IsLeftOfFiles start)
 LeavesFrom start (remains.Connection now) = IsLeftOpen start now

@@ -1,13 +1,30 @@
 //! What a refused opening of a file leaves.
 
-use sqlite::{Connection, FileStore, Leftover};
+ghost use Rattle.club_store.specs.Held.{IsLeftBy};
+
+use sqlite::{Connection, Error, ErrorCode, FileStore, Leftover};
 use sqlite_disk::Disk;
 
 /// What a refused opening of a file leaves.
 #[derive(Drop)]
 pub enum Remains<D: Disk> {
+    /// Nothing: another program has the file open.
+    Held,
     /// What is left of the file and its log, which weren't opened; `None` where they weren't there.
     Files(Option<Leftover<D>>),
     /// The connection to the file, whose tables weren't taken.
     Connection(Connection<FileStore<D>>),
+}
+
+/// What is left of a file that wasn't opened, by the error of that.
+pub(crate) fn remains_of<D: Disk>(error: &Error, left: Option<Leftover<D>>) -> Remains<D>
+    ensures { IsLeftBy error.now left result }
+{
+    match left {
+        Some(left) => Remains::Files(Some(left)),
+        None => match error {
+            Error::SqliteFailure(ErrorCode::DatabaseBusy) => Remains::Held,
+            _ => Remains::Files(None),
+        },
+    }
 }

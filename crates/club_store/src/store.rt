@@ -59,6 +59,7 @@ ghost use Rattle.club_store.specs.Figures.{slot_state, seen, HasLimits};
 
 use crate::Remains;
 use crate::figures::{SlotState, account_at, account_in, booked};
+use crate::remains::remains_of;
 use club_core::laws::own_bookings_suffice;
 use club_core::{
     Booking, BookingNumber, Change, Facility, Key, Member, MemberAccount, OlderRoot, Request, Root,
@@ -113,8 +114,8 @@ impl Store<MemStore> {
 impl<Q: Start> Store<FileStore<FileFrom<Q>>> {
     /// The tables in the file at a path, which is made where there is none. `start` stands for what
     /// the file and its log hold. A refusal hands back what is left beside the fault: the
-    /// connection that `adopt` refused, or the files that weren't opened. A path that names no file
-    /// is Storage.
+    /// connection that `adopt` refused, or the files that weren't opened; nothing is left of a file
+    /// that another program has open. A path that names no file is Storage.
     pub fn open_file(
         rt: &HostRuntime,
         path: &str,
@@ -129,7 +130,10 @@ impl<Q: Start> Store<FileStore<FileFrom<Q>>> {
     {
         let connection = match Connection::open_from(rt, path, false, start) {
             Ok(connection) => connection,
-            Err((error, left)) => return Err((fault_of(error), Remains::Files(left))),
+            Err((error, left)) => {
+                let remains = remains_of(&error, left);
+                return Err((fault_of(error), remains));
+            }
         };
         match Store::adopt(rt.alloc(), connection) {
             Ok(store) => Ok(store),
@@ -267,8 +271,8 @@ impl<S: Alter> Store<S> {
         reads::member(&mut self.connection, name)
     }
 
-    /// The member of this name with the points that it has; `None` where there is none. A row out of
-    /// its limits is a fault of storage.
+    /// The member of this name with the points that it has; `None` where there is none. A row out
+    /// of its limits is a fault of storage.
     pub fn account(&mut self, member: &Name) -> Result<Option<MemberAccount>, StoreFault>
         ensures reads { ReadsClub S.Store self.old self.new result
             (λ club account. account ≡ account_named member.now club) }
@@ -280,7 +284,8 @@ impl<S: Alter> Store<S> {
         }
     }
 
-    /// How many of a member's bookings are open at a moment: not cancelled, of slots that begin later.
+    /// How many of a member's bookings are open at a moment: not cancelled, of slots that begin
+    /// later.
     pub fn open_count(&mut self, member: &Name, moment: Moment) -> Result<u64, StoreFault>
         ensures reads { ReadsClub S.Store self.old self.new result
             (λ club count. count ≡ count_to_come moment (bookings_of member.now club)) }
@@ -459,8 +464,8 @@ impl<S: Alter> Store<S> {
         }
     }
 
-    /// The booking of a key under a number; `None` where there is none. A row out of its limits is a
-    /// fault of storage.
+    /// The booking of a key under a number; `None` where there is none. A row out of its limits is
+    /// a fault of storage.
     pub fn booking(
         &mut self,
         key: &Name,

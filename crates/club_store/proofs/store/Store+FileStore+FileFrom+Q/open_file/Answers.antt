@@ -1,11 +1,14 @@
-use Rattle.std.proofs.Common.{ℕ, List, [], ◌∷◌, Option, Some, None, IfSome, inl, refl, subst, sym, ap₂}
+use Rattle.std.proofs.Common.{ℕ, List, [], ◌∷◌, Option, Some, None, IfSome, inl, refl, subst, sym, ap, ap₂, ◌∙◌}
 use Rattle.sqlite.specs.State.{HasCleanDisk}
 use Rattle.sqlite.specs.Files.{file_state}
 use Rattle.sqlite.specs.Recovery.{Image}
 use Rattle.club_core.specs.Club.{Club, empty_club}
 use Rattle.club_tables.specs.Tables.{IsLeftOf}
 use Rattle.club_store.proofs.CrashLemmas.{new_is_blank, the_one}
+use Rattle.club_transactions.specs.Transaction.{fault_by}
+use Rattle.club_store.specs.Opening.{FailsFrom, LeavesFrom}
 use Rattle.club_store.proofs.FileLemmas.{seen, leaves_same}
+use Rattle.club_store.proofs.HeldLemmas.{by_left, first_two}
 use Rattle.club_store.proofs.store.Store+FileStore+FileFrom+Q.open_file.Goals as goal
 
 pub returns-in-Ok-adopt-clause-opened : goal.returns-in-Ok-adopt-clause-opened
@@ -35,23 +38,30 @@ weaker P Q None p f = tt
 weaker P Q (Some x) p f = f x p
 
 pub returns-in-Err-clause-fault : goal.returns-in-Err-clause-fault
-returns-in-Err-clause-fault g c = record {
-  error = c.in-Err.error;
-  unopened = c.in-Err.ensures.unopened;
-  cause = weaker _ _ c.in-Err.left c.in-Err.ensures.cause (λ left it.
-      (it.0, ap₂ image (ap₂ (seen g.Q.Start.log g.Q.Start.db) it.1.0 it.1.1) (ap₂ (seen g.Q.Start.log g.Q.Start.db) it.2.0 it.2.1), λ clean. (it.3 clean).0));
-  told = c.fault_of.ensures;
-}
+returns-in-Err-clause-fault g c = by_left (λ left. FailsFrom (image g.Q.Start.log g.Q.Start.db) left c.fault_of.result) _ _ _ c.remains_of-remains.ensures
+    (λ is. c.fault_of.ensures ∙ ap fault_by is)
+    (λ other. record {
+      error = c.in-Err.error;
+      unopened = λ none. first_two (c.in-Err.ensures.unopened none) (other none);
+      cause = weaker _ _ c.in-Err.left c.in-Err.ensures.cause (λ left it. (
+        it.0,
+        ap₂ image (ap₂ (seen g.Q.Start.log g.Q.Start.db) it.1.0 it.1.1) (ap₂ (seen g.Q.Start.log g.Q.Start.db) it.2.0 it.2.1),
+        λ clean. (it.3 clean).0,
+      ));
+      told = c.fault_of.ensures;
+    })
 
 pub returns-in-Err-clause-refused : goal.returns-in-Err-clause-refused
-returns-in-Err-clause-refused g c = weaker _ _ c.in-Err.left c.in-Err.ensures.cause (λ left it. record {
-  files = it.0;
-  held = ap₂ image (ap₂ (seen g.Q.Start.log g.Q.Start.db) it.1.0 it.1.1) (ap₂ (seen g.Q.Start.log g.Q.Start.db) it.2.0 it.2.1);
-  settled = λ left may. ap₂ image
-      (leaves_same g.Q.Start.is_mixing g.Q.Start.log g.Q.Start.db _ _ _ _ it.1.0 it.1.1 left.log may.0)
-      (leaves_same g.Q.Start.is_mixing g.Q.Start.log g.Q.Start.db _ _ _ _ it.2.0 it.2.1 left.db may.1);
-  leaves = λ clean. (it.3 clean).1;
-})
+returns-in-Err-clause-refused g c = by_left (LeavesFrom (image g.Q.Start.log g.Q.Start.db)) _ _ _ c.remains_of-remains.ensures
+    (λ is. tt)
+    (λ other. weaker _ _ c.in-Err.left c.in-Err.ensures.cause (λ left it. record {
+      files = it.0;
+      held = ap₂ image (ap₂ (seen g.Q.Start.log g.Q.Start.db) it.1.0 it.1.1) (ap₂ (seen g.Q.Start.log g.Q.Start.db) it.2.0 it.2.1);
+      settled = λ left may. ap₂ image
+          (leaves_same g.Q.Start.is_mixing g.Q.Start.log g.Q.Start.db _ _ _ _ it.1.0 it.1.1 left.log may.0)
+          (leaves_same g.Q.Start.is_mixing g.Q.Start.log g.Q.Start.db _ _ _ _ it.2.0 it.2.1 left.db may.1);
+      leaves = λ clean. (it.3 clean).1;
+    }))
 
 pub returns-in-Err-adopt-clause-fault : goal.returns-in-Err-adopt-clause-fault
 returns-in-Err-adopt-clause-fault g c = record {
