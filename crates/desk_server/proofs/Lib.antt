@@ -1,3 +1,5 @@
 pub mod ZoneLemmas
 pub mod RequestLineLemmas
 pub mod ServedLemmas
+pub mod TimedLemmas
+pub mod LogLemmas

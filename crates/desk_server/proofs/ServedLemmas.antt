@@ -7,7 +7,7 @@ use Rattle.club_http.specs.Exchange.{Exchanges, Replies}
 use Rattle.club_http.specs.Replied.{Asks}
 use Rattle.club_http.specs.declared.fault.AnswerFault.{AnswerFault}
 use Rattle.club_http.specs.declared.fault.AnswerFault.TheVariants.{Read, Write}
-use Rattle.desk_server.specs.Served.{AreServed, CountsOn, Ends, HasAnswered, IsExchanged, IsServed, Tells, failures_after}
+use Rattle.desk_server.specs.Served.{AreServed, CountsOn, Ends, HasAnswered, Idles, IsExchanged, IsServed, Tells, failures_after}
 use Rattle.desk_server.specs.Served as spec
 use Rattle.desk_server.specs.declared.log.Fate.{Fate}
 use Rattle.desk_server.specs.declared.log.Fate.TheVariants.{Absent, Unanswered, Exchanged}
@@ -33,11 +33,12 @@ length_more fates fate = length-append fates (fate ∷ [])
 one_failure : (failures failed : ℕ) → one_more (failures_after failures failed) ≡ failures_after failures (failed + 1)
 one_failure failures failed = rw (add-one failed) refl
 
-module _ {Clock Desk Connection : Type 0} (Told : Tells Clock) (Answers : ℕ → Asks Desk) (Ended : Ends Connection) where
+module _ {Clock Desk Connection : Type 0} (Told : Tells Clock) (Answers : ℕ → Asks Desk) (Idled : Idles Desk)
+    (Ended : Ends Connection) where
   -- one connection more
   answered_more : (n : ℕ) (desk : Desk) (failures : ℕ) (clock : Clock) (d : Desk) (f : ℕ) (fate : Fate) (clock' : Clock) (desk' : Desk) (failures' : ℕ)
-      → HasAnswered Answers n desk failures d f → IsServed Told Answers Ended clock d f fate clock' desk' failures'
-      → HasAnswered Answers (n + 1) desk failures desk' failures'
+      → HasAnswered Answers Idled n desk failures d f → IsServed Told Answers Idled Ended clock d f fate clock' desk' failures'
+      → HasAnswered Answers Idled (n + 1) desk failures desk' failures'
   answered_more n desk failures clock d f Absent clock' desk' failures' so_far (one, same, kept) = record {
     exchanges = so_far.exchanges;
     failed = so_far.failed + 1;
@@ -57,8 +58,8 @@ module _ {Clock Desk Connection : Type 0} (Told : Tells Clock) (Answers : ℕ �
 
   -- what the desk did, of all that was done
   pub answered : (clock : Clock) (desk : Desk) (failures : ℕ) (fates : List Fate) (clock' : Clock) (desk' : Desk) (failures' : ℕ)
-      → AreServed Told Answers Ended clock desk failures fates clock' desk' failures'
-      → HasAnswered Answers (length fates) desk failures desk' failures'
+      → AreServed Told Answers Idled Ended clock desk failures fates clock' desk' failures'
+      → HasAnswered Answers Idled (length fates) desk failures desk' failures'
   answered clock desk failures _ _ _ _ spec.none =
       record { exchanges = 0; failed = 0; all = refl; counted = refl; answered = spec.nobody }
   answered clock desk failures _ _ _ _ (spec.more fates fate c d f c' d' f' before one) =

@@ -1,4 +1,6 @@
+pub mod Limits
 pub mod Zone
 pub mod RequestLine
 pub mod Log
 pub mod Served
+pub mod Laws

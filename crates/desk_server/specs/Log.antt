@@ -1,5 +1,5 @@
 -- The lines of a log (ours).
-use Rattle.std.specs.Prelude.{◌≡◌, ℕ, ◌<◌, ◌⊎◌, List, ◌++◌, length, take, codes, Option, Some, None, Result, Ok, Err}
+use Rattle.std.specs.Prelude.{◌≡◌, ℕ, ◌<◌, ◌⊎◌, List, [], ◌∷◌, ◌++◌, length, take, codes, Option, Some, None, Result, Ok, Err}
 use Rattle.std.specs.Fmt.{decimal}
 use Rattle.std.specs.Io.KnownBytes.{Appends}
 use Rattle.club_core.specs.declared.reply.Reply.{Reply}
@@ -46,3 +46,9 @@ abbrev pub IsWritten : Option (List ℕ) → Option (List ℕ) → ℕ → ℕ �
 IsWritten taken taken' failures failures' text =
     (Appends taken taken' text × (failures' ≡ failures))
     ⊎ ((n : ℕ) × (n < length text) × Appends taken taken' (take n text) × (failures' ≡ one_more failures))
+
+-- the lines of connections, in their order, each with some number of microseconds
+pub data AreWritten (taken : Option (List ℕ)) (failures : ℕ) : List Fate → Option (List ℕ) → ℕ → Type 0 where
+  no_line : AreWritten taken failures [] taken failures
+  one_line : (fates : List Fate) (fate : Fate) (microseconds : ℕ) (t : Option (List ℕ)) (f : ℕ) (t' : Option (List ℕ)) (f' : ℕ)
+      → AreWritten taken failures fates t f → IsWritten t t' f f' (line_text fate microseconds) → AreWritten taken failures (fates ++ fate ∷ []) t' f'

@@ -22,6 +22,10 @@ abbrev pub failures_after : ℕ → ℕ → ℕ
 failures_after failures zero = failures
 failures_after failures (suc more) = one_more (failures_after failures more)
 
+-- what is done between two exchanges, with the desk before and after
+abbrev pub Idles : Type 0 → Type 1
+Idles Desk = Desk → Desk → Type 0
+
 -- how an exchange of a connection may end
 abbrev pub Ends : Type 0 → Type 1
 Ends Connection = Connection → Result Reply AnswerFault → Type 0
@@ -35,9 +39,13 @@ IsExchanged Answers bytes old outcome new = Exchanges
     (λ _. Unit {0})
     outcome
 
+-- the same, with what was done once it was over
+abbrev pub IsOver : {Desk : Type 0} → Asks Desk → Idles Desk → List ℕ → Desk → Result Reply AnswerFault → Desk → Type 0
+IsOver Answers Idled bytes old outcome new = (between : _) × IsExchanged Answers bytes old outcome between × Idled between new
+
 -- ---- the clock, the desk and the connections
 
-module _ {Clock Desk Connection : Type 0} (Told : Tells Clock) (Answers : ℕ → Asks Desk) (Ended : Ends Connection) where
+module _ {Clock Desk Connection : Type 0} (Told : Tells Clock) (Answers : ℕ → Asks Desk) (Idled : Idles Desk) (Ended : Ends Connection) where
   -- What one connection did to the clock, the desk and the count of connections that failed before they were there: such a one, that
   -- count alone; another had an exchange at the moment that the clock told, which ended as one with it may.
   abbrev pub IsServed : Clock → Desk → ℕ → Fate → Clock → Desk → ℕ → Type 0
@@ -45,7 +53,7 @@ module _ {Clock Desk Connection : Type 0} (Told : Tells Clock) (Answers : ℕ �
   IsServed clock desk failures (Exchanged moment line outcome) clock' desk' failures' =
       (failures' ≡ failures)
       × Told clock (Some moment) clock'
-      × ((bytes : List ℕ) × (line ≡ take 96 bytes) × IsExchanged (Answers moment) bytes desk outcome desk')
+      × ((bytes : List ℕ) × (line ≡ take 96 bytes) × IsOver (Answers moment) Idled bytes desk outcome desk')
       × ((connection : Connection) × Ended connection outcome)
   IsServed clock desk failures Unanswered clock' desk' failures' = ⊥
 
@@ -92,12 +100,12 @@ module _ {Log : Type 0} (Begins : Log → Log → Type 0) (Noted : Notes Log) wh
 
 -- ---- the desk alone
 
-module _ {Desk : Type 0} (Answers : ℕ → Asks Desk) where
-  -- so many exchanges of a desk, each at some moment
+module _ {Desk : Type 0} (Answers : ℕ → Asks Desk) (Idled : Idles Desk) where
+  -- so many exchanges of a desk, each at some moment, with what was done once it was over
   pub data AreAnswered (desk : Desk) : ℕ → Desk → Type 0 where
     nobody : AreAnswered desk 0 desk
     another : (n : ℕ) (d d' : Desk) (moment : ℕ) (bytes : List ℕ) (outcome : Result Reply AnswerFault) → AreAnswered desk n d
-        → IsExchanged (Answers moment) bytes d outcome d' → AreAnswered desk (n + 1) d'
+        → IsOver (Answers moment) Idled bytes d outcome d' → AreAnswered desk (n + 1) d'
 
   -- of so many connections, those that didn't fail before they were there had an exchange
   pub record HasAnswered (count : ℕ) (desk : Desk) (failures : ℕ) (desk' : Desk) (failures' : ℕ) : Type 0 where

@@ -1,9 +1,13 @@
 //! Connections, and what they come from.
 
+use crate::limit::{Limit, MonotonicClock};
+use crate::timed::{TimedInlet, TimedOutlet};
 use club_core::Reply;
-use club_http::{AnswerFault, Face, ReadInlet, Responder, WriteOutlet, answer};
+use club_http::{AnswerFault, Face, Responder, answer};
 use club_values::Moment;
-use std::net::{TcpListener, TcpStream};
+use std::net::{Shutdown, TcpListener, TcpStream};
+use std::thread;
+use std::time::{Clock, Duration};
 
 /// A connection.
 pub trait Connection {
@@ -28,9 +32,41 @@ pub trait Connection {
         ensures ended { ends self.old result };
 }
 
+/// A connection that a listener accepted. Its request has to be there within the patience, its
+/// reply taken in as long, and what its client still sends is taken in as long once more.
+#[derive(Drop)]
+pub struct Accepted<'c, C> {
+    stream: TcpStream,
+    clock: &'c C,
+    patience: Duration,
+    limit: Limit<'c, C>,
+}
+
+impl<'c, C: MonotonicClock> Accepted<'c, C> {
+    // One that was accepted now.
+    fn new(stream: TcpStream, clock: &'c C, patience: Duration) -> Accepted<'c, C> {
+        Accepted {
+            stream,
+            clock,
+            patience,
+            limit: Limit::after(clock, patience),
+        }
+    }
+
+    // Ends a connection whose reply was written. A socket that is closed while bytes of its client
+    // are unread resets the connection, and a client that is still sending may then never read its
+    // reply. So the client learns first that no more comes, and what it still sends is taken.
+    fn end(&self) {
+        if self.stream.shutdown(Shutdown::Write).is_ok() {
+            let limit = Limit::after(self.clock, self.patience);
+            TimedInlet::new(&self.stream, &limit).take_rest();
+        }
+    }
+}
+
 /// As `club_http::answer` says, over the two ends of a stream. What they gave and took is known to
 /// no contract.
-impl Connection for TcpStream {
+impl<C: MonotonicClock> Connection for Accepted<'_, C> {
     ghost ends = { λ _ _. Unit {0} };
 
     fn exchange<D: Responder>(
@@ -39,10 +75,14 @@ impl Connection for TcpStream {
         desk: &mut D,
         moment: Moment,
     ) -> Result<Reply, AnswerFault> {
-        let stream = &*self;
-        let mut reader = ReadInlet::new(stream);
-        let mut writer = WriteOutlet::new(stream);
-        answer(face, desk, moment, &mut reader, &mut writer)
+        let stream = &self.stream;
+        let mut reader = TimedInlet::new(stream, &self.limit);
+        let mut writer = TimedOutlet::new(stream, self.clock, self.patience);
+        let outcome = answer(face, desk, moment, &mut reader, &mut writer);
+        if outcome.is_ok() {
+            self.end();
+        }
+        outcome
     }
 }
 
@@ -66,42 +106,57 @@ pub trait Connections {
         ensures counted { failures self.new ≡ read_failures (failures self.old) result };
 }
 
-/// The connections that a listener accepts.
+/// How many milliseconds the server rests after a connection that failed before it was there, so
+/// that a listener that fails at once doesn't count away all connections in a moment.
+const REST_MILLISECONDS: u64 = 10;
+
+/// The connections that a listener accepts, each with the same patience.
 #[derive(Drop)]
-pub struct Listening<'a> {
+pub struct Listening<'a, C> {
     listener: &'a TcpListener,
+    clock: &'a C,
+    patience: Duration,
     waited: u64,
     failures: u64,
 }
 
-impl<'a> Listening<'a> {
+impl<'a, C: Clock> Listening<'a, C> {
     ghost use Rattle.std.specs.Prelude.{◌≡◌};
 
-    /// None was waited for yet.
-    pub fn new(listener: &'a TcpListener) -> Listening<'a>
-        ensures { result ≡ record { listener = listener.entry; waited = 0; failures = 0 } }
+    /// None was waited for yet. Limits are reckoned by this clock.
+    pub fn new(listener: &'a TcpListener, clock: &'a C, patience: Duration) -> Listening<'a, C>
+        ensures { result ≡ record {
+          listener = listener.entry;
+          clock = clock.entry;
+          patience = patience;
+          waited = 0;
+          failures = 0;
+        } }
     {
         Listening {
             listener,
+            clock,
+            patience,
             waited: 0,
             failures: 0,
         }
     }
 }
 
-impl Connections for Listening<'_> {
-    type Connection = TcpStream;
+impl<'a, C: Clock> Connections for Listening<'a, C> {
+    type Connection = Accepted<'a, C>;
 
     ghost waited = { λ listening. listening.waited };
 
     ghost failures = { λ listening. listening.failures };
 
-    fn accept(&mut self) -> Option<TcpStream> {
+    fn accept(&mut self) -> Option<Accepted<'a, C>> {
         self.waited = self.waited.saturating_add(1);
         match self.listener.accept() {
-            Ok((stream, _)) => Some(stream),
+            Ok((stream, _)) => Some(Accepted::new(stream, self.clock, self.patience)),
             Err(_) => {
                 self.failures = self.failures.saturating_add(1);
+                thread::sleep(self.clock, Duration::from_millis(REST_MILLISECONDS));
                 None
             }
         }

@@ -3,16 +3,23 @@
 #![tactic(auto)]
 
 mod connections;
+mod idle;
+pub mod laws;
+mod limit;
 mod line;
 mod log;
 mod moments;
 mod request_line;
 mod serve;
+mod timed;
 mod zone;
 
-pub use connections::{Connection, Connections, Listening};
+pub use connections::{Accepted, Connection, Connections, Listening};
+pub use idle::IdleHook;
+pub use limit::{Limit, MonotonicClock};
 pub use log::{Fate, Log, LogLines, Unlogged};
 pub use moments::{ClockIn, Fixed, Instants, Moments};
 pub use request_line::{MAX_KEPT, RequestLine};
 pub use serve::{ClockOutOfRange, serve_logged, serve_on};
+pub use timed::{MAX_REST, TimedInlet, TimedOutlet, TimedRead, TimedWrite};
 pub use zone::Zone;

@@ -68,14 +68,15 @@ impl Log for Unlogged {
 /// the status, where no reply was written whole. A log that can't be written ends nothing.
 #[derive(Drop)]
 pub struct LogLines<'a, W, C> {
-    writer: &'a mut W,
+    /// What the lines are written to.
+    pub writer: W,
     clock: &'a C,
     began: Option<Instant>,
 }
 
 impl<'a, W: Outlet, C: Clock> LogLines<'a, W, C> {
     /// Writes to this writer, with the times of this clock.
-    pub fn new(writer: &'a mut W, clock: &'a C) -> LogLines<'a, W, C> {
+    pub fn new(writer: W, clock: &'a C) -> LogLines<'a, W, C> {
         LogLines {
             writer,
             clock,
@@ -102,8 +103,8 @@ impl<'a, W: Outlet, C: Clock> Log for LogLines<'a, W, C> {
     ghost begins = { λ old new. new.writer ≡ old.writer };
 
     ghost notes = { λ old fate new. (microseconds : ℕ) × IsWritten
-        (W.taken old.writer.now) (W.taken new.writer.now)
-        (W.failures old.writer.now) (W.failures new.writer.now)
+        (W.taken old.writer) (W.taken new.writer)
+        (W.failures old.writer) (W.failures new.writer)
         (line_text fate microseconds) };
 
     fn begin(&mut self) {
@@ -113,7 +114,7 @@ impl<'a, W: Outlet, C: Clock> Log for LogLines<'a, W, C> {
     fn note(&mut self, fate: &Fate) {
         let line = line_of(fate, self.microseconds());
         self.began = None;
-        let _ = put_all(&mut *self.writer, line.bytes());
+        let _ = put_all(&mut self.writer, line.bytes());
     }
 }
 

@@ -6,10 +6,11 @@ ghost use Rattle.desk_server.specs.declared.log.Fate.{Fate};
 ghost use Rattle.desk_server.specs.declared.log.Fate.TheVariants.{Unanswered};
 
 use crate::connections::{Connection, Connections};
+use crate::idle::IdleHook;
 use crate::log::{Fate, Log, Unlogged};
 use crate::moments::Moments;
 use crate::request_line::RequestLine;
-use club_http::{Face, Responder};
+use club_http::Face;
 use std::error::Error;
 use std::fmt;
 
@@ -31,25 +32,27 @@ impl Error for ClockOutOfRange {}
 
 /// Serves this many connections, one after the other, each at the moment that is told once it is
 /// there. One that fails, before it is there or in its exchange, counts like any other, and so does
-/// one whose request was refused.
+/// one whose request was refused. Once an exchange is over and its connection closed, the desk's
+/// hook is called.
 ///
 /// # Errors
 ///
 /// `ClockOutOfRange` where no moment is told. The connection is closed unanswered, and none is
 /// waited for after it.
-pub fn serve_on<L: Connections, M: Moments, D: Responder>(
+pub fn serve_on<L: Connections, M: Moments, D: IdleHook>(
     connections: &mut L,
     count: u32,
     moments: &mut M,
     face: &mut Face,
     desk: &mut D,
 ) -> Result<(), ClockOutOfRange>
-    ensures served { Serves M.tells D.answers L.Connection.ends count
+    ensures served { Serves M.tells D.answers D.idles L.Connection.ends count
         moments.old desk.old (L.failures connections.old) result
         moments.new desk.new (L.failures connections.new)
         (λ fates. CountsOn (L.waited connections.old) (length fates) (L.waited connections.new)) }
-    // Of the desk alone: it stepped by an exchange for each connection that was there.
-    ensures answered { Steps D.answers count
+    // Of the desk alone: it stepped by an exchange for each connection that was there, and by the
+    // call of its hook after it.
+    ensures answered { Steps D.answers D.idles count
         desk.old (L.failures connections.old) result desk.new (L.failures connections.new) }
 {
     serve_logged(connections, count, moments, face, desk, &mut Unlogged)
@@ -61,7 +64,7 @@ pub fn serve_on<L: Connections, M: Moments, D: Responder>(
 /// # Errors
 ///
 /// As `serve_on`.
-pub fn serve_logged<L: Connections, M: Moments, D: Responder, G: Log>(
+pub fn serve_logged<L: Connections, M: Moments, D: IdleHook, G: Log>(
     connections: &mut L,
     count: u32,
     moments: &mut M,
@@ -69,12 +72,12 @@ pub fn serve_logged<L: Connections, M: Moments, D: Responder, G: Log>(
     desk: &mut D,
     log: &mut G,
 ) -> Result<(), ClockOutOfRange>
-    ensures served { Serves M.tells D.answers L.Connection.ends count
+    ensures served { Serves M.tells D.answers D.idles L.Connection.ends count
         moments.old desk.old (L.failures connections.old) result
         moments.new desk.new (L.failures connections.new)
         (λ fates. CountsOn (L.waited connections.old) (length fates) (L.waited connections.new)
         × AreNoted G.begins G.notes log.old fates log.new) }
-    ensures answered { Steps D.answers count
+    ensures answered { Steps D.answers D.idles count
         desk.old (L.failures connections.old) result desk.new (L.failures connections.new) }
 {
     for served in 0..count {
@@ -87,7 +90,7 @@ pub fn serve_logged<L: Connections, M: Moments, D: Responder, G: Log>(
 }
 
 // Serves one connection, and tells the log of it.
-fn serve_next<L: Connections, M: Moments, D: Responder, G: Log>(
+fn serve_next<L: Connections, M: Moments, D: IdleHook, G: Log>(
     connections: &mut L,
     moments: &mut M,
     face: &mut Face,
@@ -97,7 +100,7 @@ fn serve_next<L: Connections, M: Moments, D: Responder, G: Log>(
     ensures waited { CountsOn (L.waited connections.old) 1 (L.waited connections.new) }
     ensures served { MatchResult result
         (λ _. (fate : Fate) × IsNoted G.begins G.notes log.old fate log.new
-        × IsServed M.tells D.answers L.Connection.ends
+        × IsServed M.tells D.answers D.idles L.Connection.ends
         moments.old desk.old (L.failures connections.old) fate
         moments.new desk.new (L.failures connections.new))
         (λ _. IsNoted G.begins G.notes log.old Unanswered log.new
@@ -123,5 +126,6 @@ fn serve_next<L: Connections, M: Moments, D: Responder, G: Log>(
         line,
         outcome,
     });
+    desk.on_idle();
     Ok(())
 }

@@ -3,6 +3,7 @@
 
 mod clocks;
 mod doubles;
+mod limits;
 mod logs;
 mod over_sockets;
 mod request_lines;
@@ -75,6 +76,26 @@ static COUNTS: [(u32, u64); 7] = [(0, 0), (1, 1), (2, 1), (3, 1), (4, 1), (5, 2)
 fn serves_as_many_as_asked(rt: HostRuntime) {
     for (count, asked) in &COUNTS {
         serves_and_asks(&rt, *count, *asked);
+    }
+}
+
+/// How often the desk's hook is called by a server of so many of these connections.
+fn calls_of_the_hook(rt: &(impl Abort + Alloc<A = Global>), count: u32) -> u64 {
+    let mut face = Face::new(rt.alloc()).expect(rt, "a face");
+    let mut desk = Noting::new(moment(rt, NOON));
+    let mut connections = Script::new(&FAILING);
+    let served = serve_on(&mut connections, count, &mut noon(rt), &mut face, &mut desk);
+    expect_eq(rt, &served, &Ok(()));
+    desk.idled
+}
+
+static CALLS: [(u32, u64); 7] = [(0, 0), (1, 1), (2, 1), (3, 2), (4, 3), (5, 4), (6, 5)];
+
+// Once for each exchange, one that fails too; not for a connection that wasn't there.
+#[test]
+fn calls_the_hook_once_an_exchange(rt: HostRuntime) {
+    for (count, calls) in &CALLS {
+        expect_eq(&rt, &calls_of_the_hook(&rt, *count), calls);
     }
 }
 

@@ -1,10 +1,12 @@
 //! Connections, moments, clocks and a responder over memory.
 
+ghost use Rattle.std.specs.Prelude.{◌≤◌, length};
+
 use club_core::{Refusal, Reply};
 use club_http::{AnswerFault, Face, ReadInlet, Responder, WriteOutlet, answer};
 use club_values::Moment;
 use club_words::Words;
-use desk_server::{Connection, Connections, Moments};
+use desk_server::{Connection, Connections, IdleHook, Moments, TimedRead, TimedWrite};
 use std::cell::Cell;
 use std::io::{self, ErrorKind, Read, Write};
 use std::time::{Clock, Duration};
@@ -193,16 +195,163 @@ impl Clock for Ticking {
     }
 }
 
-/// Answers all requests as out of memory, and counts those at its moment.
+/// A clock that goes on while a client is waited for, and while its server rests, by milliseconds.
+/// It can be read so many times. It counts how often clients were waited for.
+#[derive(Drop)]
+pub struct Running {
+    shown: Cell<u64>,
+    readable: Cell<u64>,
+    reads: Cell<u64>,
+    writes: Cell<u64>,
+}
+
+impl Running {
+    pub fn new(readable: u64) -> Running {
+        Running {
+            shown: Cell::new(0),
+            readable: Cell::new(readable),
+            reads: Cell::new(0),
+            writes: Cell::new(0),
+        }
+    }
+
+    /// The milliseconds that have passed.
+    pub fn passed(&self) -> u64 {
+        self.shown.get()
+    }
+
+    /// How often a client was read.
+    pub fn reads(&self) -> u64 {
+        self.reads.get()
+    }
+
+    /// How often a client was written to.
+    pub fn writes(&self) -> u64 {
+        self.writes.get()
+    }
+
+    // Waits so long, or as long as it may, and tells whether that was long enough.
+    fn waits(&self, pause: u64, limit: Duration) -> bool {
+        let most = u64::try_from(limit.as_millis()).unwrap_or(u64::MAX);
+        let shown = self.passed().saturating_add(pause.min(most));
+        self.shown.set(shown);
+        pause <= most
+    }
+}
+
+impl Clock for Running {
+    fn monotonic(&self) -> io::Result<Duration> {
+        let readable = self.readable.get();
+        self.readable.set(readable.saturating_sub(1));
+        if readable == 0 {
+            return Err(io::Error::from(ErrorKind::Unsupported));
+        }
+        Ok(Duration::from_millis(self.passed()))
+    }
+
+    fn since_1970(&self) -> io::Result<Duration> {
+        self.monotonic()
+    }
+
+    fn sleep(&self, duration: Duration) {
+        let _ = self.waits(u64::MAX, duration);
+    }
+}
+
+/// A client that sends its bytes, and takes those of its reply, one after the other, each after a
+/// pause; its first may be there already. It ends after the last.
+#[derive(Drop)]
+pub struct Slow<'a> {
+    clock: &'a Running,
+    pause: u64,
+    bytes: &'a [u8],
+    pub ready: bool,
+}
+
+impl<'a> Slow<'a> {
+    /// A client with these bytes, and so many milliseconds before each.
+    pub fn new(clock: &'a Running, pause: u64, bytes: &'a [u8]) -> Slow<'a> {
+        Slow {
+            clock,
+            pause,
+            bytes,
+            ready: false,
+        }
+    }
+
+    // Sends its next byte, if there is one.
+    fn send(&mut self, room: &mut [u8]) -> usize
+        ensures { result ≤ length room.new }
+    {
+        match (self.bytes.split_first(), room.first_mut()) {
+            (Some((byte, rest)), Some(place)) => {
+                *place = *byte;
+                self.bytes = rest;
+                1
+            }
+            _ => 0,
+        }
+    }
+}
+
+impl TimedRead for Slow<'_> {
+    ghost use Rattle.std.specs.Prelude.{None};
+
+    ghost to_come = { λ _. None };
+
+    ghost reads = { λ _ _ _ _. Unit {0} };
+
+    fn read_within(&mut self, limit: Duration, room: &mut [u8]) -> Option<usize> {
+        self.clock.reads.set(self.clock.reads().saturating_add(1));
+        if self.bytes.is_empty() || self.clock.waits(self.pause, limit) {
+            Some(self.send(room))
+        } else {
+            None
+        }
+    }
+
+    fn read_ready(&mut self, room: &mut [u8]) -> Option<usize> {
+        if self.ready {
+            Some(self.send(room))
+        } else {
+            None
+        }
+    }
+}
+
+impl TimedWrite for Slow<'_> {
+    ghost use Rattle.std.specs.Prelude.{None};
+
+    ghost taken = { λ _. None };
+
+    ghost writes = { λ _ _ _ _. Unit {0} };
+
+    fn write_within(&mut self, limit: Duration, bytes: &[u8]) -> Option<usize> {
+        self.clock.writes.set(self.clock.writes().saturating_add(1));
+        if self.clock.waits(self.pause, limit) {
+            Some(bytes.len().min(1))
+        } else {
+            None
+        }
+    }
+}
+
+/// Answers all requests as out of memory, and counts those at its moment, and the calls of its
+/// hook.
 #[derive(Drop)]
 pub struct Noting {
     moment: Moment,
     pub asked: u64,
+    pub idled: u64,
 }
 
 impl Noting {
     pub fn new(moment: Moment) -> Noting {
-        Noting { moment, asked: 0 }
+        Noting {
+            moment,
+            asked: 0,
+            idled: 0,
+        }
     }
 }
 
@@ -214,5 +363,13 @@ impl Responder for Noting {
             self.asked = self.asked.saturating_add(1);
         }
         Reply::Refused(Refusal::Unavailable)
+    }
+}
+
+impl IdleHook for Noting {
+    ghost idles = { λ _ _. Unit {0} };
+
+    fn on_idle(&mut self) {
+        self.idled = self.idled.saturating_add(1);
     }
 }

@@ -55,9 +55,14 @@ fn logged<M: Moments, W: Write>(
     writer: &mut W,
 ) -> Served {
     let clock = Ticking::new(0, 1_533);
-    let mut outlet = WriteOutlet::new(writer);
-    let mut log = LogLines::new(&mut outlet, &clock);
+    let mut log = LogLines::new(WriteOutlet::new(writer), &clock);
     served(rt, moments, &mut log)
+}
+
+// By this law the lines of a log are those of the connections that it noted.
+#[test]
+fn a_log_has_its_lines() {
+    desk_server::laws::a_log_has_its_lines::<WriteOutlet<Taken>, Ticking>();
 }
 
 #[test]

@@ -10,12 +10,18 @@ use crate::sockets::{client_of, connected, expect_reply, listening};
 use club_http::Face;
 use desk_server::{Connection, Connections, Listening};
 use std::alloc::Global;
-use std::net::TcpListener;
+use std::net::{Net, TcpListener, TcpStream};
 use std::process::Abort;
+use std::time::{Clock, Duration};
+
+/// The patience with a client of these tests.
+fn patience() -> Duration {
+    Duration::from_secs(10)
+}
 
 /// The next two connections of the listener are served, and one request is asked.
-fn serves_two(rt: &(impl Abort + Alloc<A = Global>), listener: &TcpListener) {
-    let mut connections = Listening::new(listener);
+fn serves_two(rt: &(impl Abort + Alloc<A = Global> + Clock), listener: &TcpListener) {
+    let mut connections = Listening::new(listener, rt, patience());
     let served = serves(rt, &mut connections, 2, &mut noon(rt));
     expect_eq(rt, &served, &(Ok(()), 1));
 }
@@ -35,7 +41,7 @@ fn serves_over_a_socket(rt: HostRuntime) {
 fn accepts_a_client(rt: HostRuntime) {
     let listener = listening(&rt);
     let _client = connected(&rt, &listener);
-    let accepted = Listening::new(&listener).accept();
+    let accepted = Listening::new(&listener, &rt, patience()).accept();
     expect_eq(&rt, &accepted.is_some(), &true);
 }
 
@@ -47,8 +53,8 @@ const BAD_REQUEST: &[u8] =
 static EXCHANGES: [(&[u8], u64, &[u8]); 2] = [(REQUEST, 1, REPLY), (b"x\r\n\r\n", 0, BAD_REQUEST)];
 
 /// How many requests the desk is asked in an exchange of the listener's next connection.
-fn exchanged(rt: &impl Abort, listener: &TcpListener, face: &mut Face) -> u64 {
-    let accepted = Listening::new(listener).accept();
+fn exchanged(rt: &(impl Abort + Clock), listener: &TcpListener, face: &mut Face) -> u64 {
+    let accepted = Listening::new(listener, rt, patience()).accept();
     let mut connection = accepted.expect(rt, "a connection");
     let noon = moment(rt, NOON);
     let mut desk = Noting::new(noon);
@@ -58,7 +64,7 @@ fn exchanged(rt: &impl Abort, listener: &TcpListener, face: &mut Face) -> u64 {
 
 /// The next connection of the listener has its exchange, and the face keeps its request.
 fn exchanges(
-    rt: &(impl Abort + Alloc<A = Global>),
+    rt: &(impl Abort + Alloc<A = Global> + Clock),
     listener: &TcpListener,
     request: &[u8],
     asked: u64,
@@ -76,4 +82,43 @@ fn exchanges_over_a_socket(rt: HostRuntime) {
         exchanges(&rt, &listener, request, *asked);
         expect_reply(&rt, &mut client, reply);
     }
+}
+
+/// How many bytes a client sends behind its request.
+static BEHIND: [u16; 3] = [1, 1_000, 60_000];
+
+/// A client that sends so many bytes behind its request reads its whole reply, and then the end.
+fn replies_before(
+    rt: &(impl Abort + Alloc<A = Global> + Clock + Net<Listener = TcpListener, Stream = TcpStream>),
+    behind: u16,
+) {
+    let listener = listening(rt);
+    let mut sent = Vec::new(rt.alloc());
+    sent.extend_from_slice(REQUEST).expect(rt, "memory");
+    sent.resize(REQUEST.len() + usize::from(behind), b'x')
+        .expect(rt, "memory");
+    let mut client = client_of(rt, &listener, &sent);
+    let mut face = Face::new(rt.alloc()).expect(rt, "a face");
+    expect_eq(rt, &exchanged(rt, &listener, &mut face), &1);
+    expect_reply(rt, &mut client, REPLY);
+}
+
+// A socket that is closed with bytes unread resets the connection. So the client would read an
+// error here, behind its reply or in place of it.
+#[test]
+fn replies_before_bytes_behind_a_request(rt: HostRuntime) {
+    for behind in &BEHIND {
+        replies_before(&rt, *behind);
+    }
+}
+
+// By the machine's clock: a client that sends nothing, and one that sends no whole request.
+#[test]
+fn cuts_a_silent_client_off(rt: HostRuntime) {
+    let listener = listening(&rt);
+    let _silent = connected(&rt, &listener);
+    let _slow = client_of(&rt, &listener, b"GET /acc");
+    let mut connections = Listening::new(&listener, &rt, Duration::from_millis(50));
+    let served = serves(&rt, &mut connections, 2, &mut noon(&rt));
+    expect_eq(&rt, &served, &(Ok(()), 0));
 }

@@ -44,10 +44,10 @@ pub returns-in-Err-clause-answered : goal.returns-in-Err-clause-answered
 returns-in-Err-clause-answered g c =
     let inv = c.loop-served.invariant in
     let stop = c.in-Err.ensures.served in
-    (c.loop-served.served, omega arith, rw (stop.2, stop.3, ← inv.so_many) (answered _ _ _ _ _ _ _ _ _ _ inv.served))
+    (c.loop-served.served, omega arith, rw (stop.2, stop.3, ← inv.so_many) (answered _ _ _ _ _ _ _ _ _ _ _ inv.served))
 
 pub returns-clause-answered : goal.returns-clause-answered
 returns-clause-answered g c =
     let inv = c.loop-served.invariant in
     let last : c.args.count ≡ c.loop-served.served = omega arith in
-    rw (last, ← inv.so_many) (answered _ _ _ _ _ _ _ _ _ _ inv.served)
+    rw (last, ← inv.so_many) (answered _ _ _ _ _ _ _ _ _ _ _ inv.served)

@@ -8,7 +8,11 @@ returns-clause-served g c = (
   (
     c.in-Some.ensures.counted,
     c.in-Some-now.ensures,
-    (c.request.result.now, c.of-line.ensures, rw (← c.request.ensures) at c.exchange-outcome.ensures.exchanged),
+    (
+      c.request.result.now,
+      c.of-line.ensures,
+      (c.exchange-outcome.new.desk, rw (← c.request.ensures) at c.exchange-outcome.ensures.exchanged, c.on_idle.ensures),
+    ),
     (c.in-Some.connection, c.exchange-outcome.ensures.ended),
   ),
 )

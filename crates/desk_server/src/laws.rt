@@ -1,0 +1,13 @@
+//! What holds of the definitions alone.
+
+ghost use Rattle.desk_server.specs.Laws.{WritesLines};
+
+use crate::log::{Log, LogLines};
+use club_http::Outlet;
+use std::time::Clock;
+
+/// A log of lines that has noted connections wrote the line of each, in their order.
+pub fn a_log_has_its_lines<'a, W: Outlet, C: Clock + 'a>()
+    ensures { WritesLines ⟦<LogLines<'a, W, C> as Log>⟧.begins ⟦<LogLines<'a, W, C> as Log>⟧.notes
+        (λ log. W.taken log.writer) (λ log. W.failures log.writer) }
+{}

@@ -1,0 +1,63 @@
+//! A limit of time.
+
+use std::time::{Clock, Duration, Instant};
+
+/// A clock that counts the time since its start.
+pub trait MonotonicClock {
+    ghost use Rattle.std.specs.Prelude.{ℕ, Option};
+    ghost use Rattle.desk_server.specs.Limits.{nanos_of};
+
+    // the nanoseconds that it may show; none where it can't be read
+    ghost shows: { Self → Option ℕ → Type 0 };
+
+    /// The instant now; `None` where it can't be read.
+    fn instant_now(&self) -> Option<Instant>
+        ensures { shows self.now (nanos_of result) };
+}
+
+/// That of the machine, of which nothing is promised.
+impl<C: Clock> MonotonicClock for C {
+    ghost shows = { λ _ _. Unit {0} };
+
+    fn instant_now(&self) -> Option<Instant> {
+        Instant::now(self).ok()
+    }
+}
+
+/// The time by which something has to be there.
+#[derive(Drop)]
+pub struct Limit<'c, C> {
+    clock: &'c C,
+    due: Option<Instant>,
+}
+
+impl<'c, C: MonotonicClock> Limit<'c, C> {
+    ghost use Rattle.std.specs.Prelude.{◌≡◌};
+    ghost use Rattle.std.specs.Duration.{as_nanos};
+    ghost use Rattle.desk_server.specs.Limits.{AtShown, due_after, left_until, nanos_of};
+
+    /// The time that is so much later than now. Where the clock can't be read, or has no such time,
+    /// nothing is ever left of it.
+    pub fn after(clock: &'c C, patience: Duration) -> Limit<'c, C>
+        ensures clock { result.clock ≡ clock.entry }
+        ensures due { AtShown (C.shows clock.entry.now)
+            (λ shown. nanos_of result.due ≡ due_after (as_nanos patience) shown) }
+    {
+        let due = match clock.instant_now() {
+            Some(now) => now.checked_add(patience),
+            None => None,
+        };
+        Limit { clock, due }
+    }
+
+    /// How long it is until then; zero where it has passed, or the clock can't be read.
+    pub fn left(&self) -> Duration
+        ensures { AtShown (C.shows self.now.clock.now)
+            (λ shown. as_nanos result ≡ left_until (nanos_of self.now.due) shown) }
+    {
+        match (self.due, self.clock.instant_now()) {
+            (Some(due), Some(now)) => due.duration_since(now),
+            _ => Duration::ZERO,
+        }
+    }
+}
