@@ -50,7 +50,7 @@ by_file() {
 without_unit() {
     find "crates/$1/src" -name '*.rt' ! -name '*tests*' -exec awk '
         BEGIN {
-            units = "byte|bit|character|letter|digit|column|line|caveat|pass|place|person|guest|booking|point|day|hour|minute"
+            units = "byte|bit|character|letter|digit|column|line|caveat|pass|place|person|guest|booking|point|day|hour|minute|second"
             units = units "|moment|year|name|fault|status|connection|port|version|row|request|key|field|case|number|memory|count|length"
         }
         /^ *\/\/\/ / { text = text " " substr($0, index($0, "///") + 4); if (!start) start = FNR; next }

@@ -257,7 +257,7 @@ wait "$client" || { kill -0 "$server" || echo 'the server is gone' >&2; cat faul
 [ "$(grep -c '"refund":1}' answered)" = 900 ] || fail "$(grep -vc '"refund":1}\|"charge":1,' answered) requests were refused"
 [ "$(sort -un counts | wc -l)" -ge 3 ] || fail "the copies were made at one time: $(xargs <counts)"
 checks=$((checks + copies))
-same 'the status of a sheet meanwhile' '5 storage failed' "$("$desk" sheet club 2026-05-01 2>&1 >/dev/null | sed 's/^/5 /')"
+same 'a sheet meanwhile' 'Day sheet 2026-05-01' "$("$desk" sheet club 2026-05-01 2>&1 | head -n 1)"
 rm copy.*
 
 # ---- Restored: the same bytes, and what came after the copy is gone.

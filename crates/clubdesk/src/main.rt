@@ -5,8 +5,10 @@
 ghost use Rattle.std.specs.Prelude.{IfErr};
 ghost use Rattle.desk_commands.specs.Fault.{IsNotText};
 
+use club_http::WriteOutlet;
 use desk_commands::{Fault, not_text, run};
 use desk_files::Files;
+use desk_server::LogLines;
 use std::process::ExitCode;
 use std::{env, io};
 
@@ -26,13 +28,14 @@ fn main(rt: HostRuntime) -> ExitCode {
 fn run_here(rt: &HostRuntime) -> Result<(), Fault> {
     let words = given_words(rt)?;
     let mut files = Files::new(rt);
+    let mut log = LogLines::new(WriteOutlet::new(rt.stderr()), rt);
     run(
         rt,
         &mut files,
         words.as_slice(),
         &mut rt.stdin(),
         &mut rt.stdout(),
-        &mut rt.stderr(),
+        &mut log,
     )
 }
 

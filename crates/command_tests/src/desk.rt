@@ -24,11 +24,17 @@ fn hex_of(rt: &(impl Abort + AllocGlobal), root: &Root) -> String {
 }
 
 fn tell_service(told: &mut String, service: &Service<'_>) -> Result<(), AllocError> {
-    let (port, count) = (service.port, service.count);
+    let (port, count, patience) = (service.port, service.count, service.patience);
     let log = if service.log { " with a log" } else { "" };
     match &service.clock {
-        Clock::Fixed(moment) => write!(told, "serve {port} {count} at {moment}{log}"),
-        Clock::InZone(_) => write!(told, "serve {port} {count} by the clock{log}"),
+        Clock::Fixed(moment) => write!(
+            told,
+            "serve {port} {count} at {moment} for {patience}{log}"
+        ),
+        Clock::InZone(_) => write!(
+            told,
+            "serve {port} {count} by the clock for {patience}{log}"
+        ),
     }
 }
 
@@ -59,6 +65,7 @@ fn tell(
         }
         Task::Sheet(day) => write!(told, "sheet {day}"),
         Task::Serve(service) => tell_service(told, service),
+        Task::Pause(seconds) => write!(told, "pause {seconds}"),
     }
 }
 
@@ -184,23 +191,46 @@ fn sheets(rt: HostRuntime) {
     expect_asked(&rt, "sheet|--|--port|2026-05-02", "--port", told);
 }
 
-static SERVERS: [(&str, &str); 5] = [
-    ("serve|F|--port|0|--count|1", "serve 0 1 by the clock"),
+static PAUSES: [(&str, &str); 4] = [
+    ("pause|F|1", "pause 1"),
+    ("pause|F|600", "pause 600"),
+    ("pause|F|000000060", "pause 60"),
+    ("pause|--|F|2", "pause 2"),
+];
+
+#[test]
+fn pauses(rt: HostRuntime) {
+    expect_rows(&rt, &PAUSES);
+}
+
+static SERVERS: [(&str, &str); 7] = [
+    (
+        "serve|F|--port|0|--count|1",
+        "serve 0 1 by the clock for 10",
+    ),
     (
         "serve|F|--log|--port|0|--count|1",
-        "serve 0 1 by the clock with a log",
+        "serve 0 1 by the clock for 10 with a log",
     ),
     (
         "serve|F|--port=65535|--count|1000000|--zone=EST5",
-        "serve 65535 1000000 by the clock",
+        "serve 65535 1000000 by the clock for 10",
     ),
     (
         "serve|--port|08080|--count=2|F|--zone=CET-1CEST,M3.5.0,M10.5.0/3",
-        "serve 8080 2 by the clock",
+        "serve 8080 2 by the clock for 10",
     ),
     (
         "serve|F|--port|0|--count|1|--at|2026-04-20T12:00",
-        "serve 0 1 at 2026-04-20T12:00",
+        "serve 0 1 at 2026-04-20T12:00 for 10",
+    ),
+    (
+        "serve|F|--port|0|--count|1|--patience|1",
+        "serve 0 1 by the clock for 1",
+    ),
+    (
+        "serve|--patience=03600|F|--port|0|--count|1|--at|2026-04-20T12:00|--log",
+        "serve 0 1 at 2026-04-20T12:00 for 3600 with a log",
     ),
 ];
 
@@ -221,8 +251,10 @@ fn laws_hold() {
     laws::rotate_key_takes_v2();
     laws::close_slot_takes_its_slot();
     laws::sheet_takes_its_day();
+    laws::pause_takes_its_seconds();
     laws::serve_takes_its_parts();
     laws::serve_takes_utc();
     laws::serve_takes_its_moment();
     laws::serve_takes_its_log();
+    laws::serve_takes_its_patience();
 }

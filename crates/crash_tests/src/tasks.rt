@@ -15,7 +15,7 @@ static BOOKS: Trial = Trial {
     again: &[Event::Asks(NOON, BOOK_7), Event::Asks(NOON, ACCOUNT)],
     first: &[BOOKED_7, BALANCE_9400],
     repeated: &[BOOKED_7, BALANCE_9400],
-    calls: [52, 62],
+    calls: [54, 66],
 };
 
 #[test]
@@ -33,7 +33,7 @@ static EXCHANGES: Trial = Trial {
     ],
     first: &[BOOKED_7, BALANCE_9400],
     repeated: &[BOOKED_7, BALANCE_9400],
-    calls: [52, 62],
+    calls: [54, 66],
 };
 
 #[test]
@@ -51,7 +51,7 @@ static CANCELS: Trial = Trial {
     ],
     first: &[CANCELLED_7, BOOKED_7, BALANCE_10000],
     repeated: &[CANCELLED_7, BOOKED_7, BALANCE_10000],
-    calls: [48, 60],
+    calls: [50, 64],
 };
 
 #[test]
@@ -67,7 +67,7 @@ static ADDS_A_KEY: Trial = Trial {
     again: &[ADD_KEY],
     first: &[AMY_2],
     repeated: &[EXISTS],
-    calls: [48, 60],
+    calls: [48, 63],
 };
 
 #[test]
@@ -84,7 +84,7 @@ static CLOSES: Trial = Trial {
     again: &[CLOSE_AT_19],
     first: &[DONE],
     repeated: &[EXISTS],
-    calls: [46, 59],
+    calls: [46, 62],
 };
 
 #[test]
@@ -100,7 +100,7 @@ static ROTATES: Trial = Trial {
     again: &[ROTATE, Event::Asks(NOON, ACCOUNT)],
     first: &[AMY_1_ANEW, BALANCE_10000],
     repeated: &[EXISTS, BALANCE_10000],
-    calls: [48, 60],
+    calls: [48, 63],
 };
 
 #[test]
@@ -114,7 +114,7 @@ static MAKES_TABLES: Trial = Trial {
     again: &[],
     first: &[],
     repeated: &[],
-    calls: [61, 31],
+    calls: [63, 32],
 };
 
 #[test]
@@ -136,7 +136,7 @@ static MIGRATES: Trial = Trial {
     ],
     first: &[BOOKED_7, BOOKED_8, BALANCE_9099],
     repeated: &[BOOKED_7, BOOKED_8, BALANCE_9099],
-    calls: [50, 55],
+    calls: [52, 56],
 };
 
 #[test]
@@ -158,7 +158,7 @@ static ADDS_THE_INDEX: Trial = Trial {
     ],
     first: &[BOOKED_7, BOOKED_8, BALANCE_9099],
     repeated: &[BOOKED_7, BOOKED_8, BALANCE_9099],
-    calls: [50, 55],
+    calls: [46, 59],
 };
 
 #[test]

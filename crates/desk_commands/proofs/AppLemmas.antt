@@ -8,7 +8,8 @@ use Rattle.clap.specs.Words.{AddsArg, AddsSubcommand, App, Rule, Text, app_of, r
 use Rattle.clap.specs.declared.builder.arg.Arg.{Arg}
 use Rattle.clap.specs.declared.builder.command.Command.{Command}
 use Rattle.desk_commands.specs.Application.{IsMade, with_words, word_named, add_member_command, credit_command, add_facility_command}
-use Rattle.desk_commands.specs.Application.{add_key_command, revoke_key_command, rotate_key_command, close_slot_command, sheet_command, serve_command}
+use Rattle.desk_commands.specs.Application.{add_key_command, revoke_key_command, rotate_key_command, close_slot_command, sheet_command}
+use Rattle.desk_commands.specs.Application.{pause_command, serve_command}
 
 pub arg_added : (old : Command) (a : Arg) (new : Command) (app : App) (rule : Rule) → IsMade app old → rule_of a ≡ rule → a.global ≡ false
     → AddsArg old a new → IsMade (with_rule app rule) new
@@ -69,4 +70,4 @@ abbrev pub keys : List App
 keys = add_key_command ∷ revoke_key_command ∷ rotate_key_command ∷ []
 
 abbrev pub days : List App
-days = close_slot_command ∷ sheet_command ∷ serve_command ∷ []
+days = close_slot_command ∷ sheet_command ∷ serve_command ∷ pause_command ∷ []

@@ -5,3 +5,5 @@ pub mod NamedLemmas
 pub mod WordLaws
 pub mod RunLemmas
 pub mod ServerLemmas
+pub mod SeenLemmas
+pub mod AtNeedLemmas

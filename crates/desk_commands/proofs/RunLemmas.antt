@@ -1,5 +1,5 @@
 -- What a run ends with, and what it leaves unwritten.
-use Rattle.std.proofs.Common.{◌≡◌, ◌⊎◌, List, [], ◌∷◌, false, Some, None, Result, Ok, Err, inl, inr, refl, ℕ, arith}
+use Rattle.std.proofs.Common.{◌≡◌, ◌⊎◌, List, [], ◌∷◌, false, Some, None, Result, Ok, Err, inl, inr, refl, ℕ, Bool, arith, codes}
 use Rattle.std.proofs.lemmas.Bool.Decides.{nat_tests}
 use Rattle.std.specs.Prelude.{IsSome, IfErr}
 use Rattle.clap.specs.Words.{IsAmong, Kinds, Text}
@@ -7,21 +7,28 @@ use Rattle.clap.specs.Walk.{is_empty}
 use Rattle.clap.specs.declared.error.kind.ErrorKind.{ErrorKind}
 use Rattle.clap.specs.declared.error.kind.ErrorKind.TheVariants as kind
 use Rattle.club_core.specs.Club.{Club}
+use Rattle.club_core.specs.declared.store.StoreFault.{StoreFault}
+use Rattle.club_core.specs.declared.store.StoreFault.TheVariants as store
 use Rattle.club_gate.specs.declared.event.OfficeReply.{OfficeReply}
 use Rattle.club_gate.specs.declared.event.OfficeReply.TheVariants as replies
 use Rattle.club_gate.specs.declared.fault.Fault.{Fault as DeskFault}
 use Rattle.club_gate.specs.declared.fault.Fault.TheVariants as desk
+use Rattle.desk_server.specs.declared.log.Fate.{Fate}
 use Rattle.desk_commands.specs.Application.{refusals}
 use Rattle.desk_commands.specs.Commanded.{Commanded}
 use Rattle.desk_commands.specs.Office as office
 use Rattle.desk_commands.specs.Office.{TellsOrder, TellsSheet, fault_of_desk}
 use Rattle.desk_commands.specs.Output.{Output, WritesText}
-use Rattle.desk_commands.specs.Run.{Announces, AnswersWords, Does, EndsFor, IsOfTask, IsSilent, job_of}
+use Rattle.desk_commands.specs.AtNeed.{Closing, Opening}
+use Rattle.desk_commands.specs.Fault.{fault_of_opening}
+use Rattle.desk_commands.specs.Run.{Announces, AnswersWords, Does, EndsFor, IsOfTask, IsSilent, Performs, job_of}
+use Rattle.desk_commands.specs.Run as spec
 use Rattle.desk_commands.specs.Words.{AsksText, IsFaultOf, ReadsWords, asked, commanded}
 use Rattle.desk_commands.specs.declared.fault.Fault.{Fault}
 use Rattle.desk_commands.specs.declared.fault.Fault.TheVariants.{Refused, Words, BadValue, Memory, Storage, ClockOutOfRange, InputOutput}
+use Rattle.desk_commands.specs.declared.task.Service.{Service}
 use Rattle.desk_commands.specs.declared.task.Task.{Task}
-use Rattle.desk_commands.specs.declared.task.Task.TheVariants.{Order, AddKey, RotateKey, Sheet, Serve}
+use Rattle.desk_commands.specs.declared.task.Task.TheVariants.{Order, AddKey, RotateKey, Sheet, Serve, Pause}
 use Rattle.desk_commands.specs.declared.words.Asked.{Asked}
 use Rattle.desk_commands.specs.declared.words.Asked.TheVariants.{Perform, ShowText}
 
@@ -126,11 +133,45 @@ of_server port written (Err BadValue) h = absurd h
 of_server port written (Err Storage) h = absurd h
 
 module _ {S : Type 0} (Honest : S → Type 0) (Stands : S → Club → List Club → Type 0) (old new : S) (written : Output) (result : Result Unit Fault) where
-  pub ends_well : (task : Task) → Does Honest Stands task written result old new → EndsWell written.unchanged result
+  ends_well : (task : Task) → Does Honest Stands task written result old new → EndsWell written.unchanged result
   ends_well (Order given) h = of_order written result _ h.reply h.told
   ends_well (AddKey name member root form) (office.starved starved untouched) = rw starved (record { of_task = tt; silent = λ s. untouched.1 })
   ends_well (AddKey name member root form) (office.ordered line made h) = of_order written result line h.reply h.told
   ends_well (RotateKey name root until form) (office.starved starved untouched) = rw starved (record { of_task = tt; silent = λ s. untouched.1 })
   ends_well (RotateKey name root until form) (office.ordered line made h) = of_order written result line h.reply h.told
   ends_well (Sheet day) h = of_sheet written result h.1.read h.1.told
-  ends_well (Serve service) h = of_server service.port written result h.1
+  ends_well (Serve service) h = absurd h
+  ends_well (Pause seconds) h = absurd h
+
+of_opening : (Silent : Type 0) (fault : StoreFault) (result : Result Unit Fault) → result ≡ Err (fault_of_opening fault) → Silent
+    → EndsWell Silent result
+of_opening Silent store.Memory result is silent = rw is (record { of_task = tt; silent = λ s. silent })
+of_opening Silent store.Storage result is silent = rw is (record { of_task = tt; silent = λ s. silent })
+
+module _ {D S : Type 0} (Opens : Opening D S) (Closes : Closing D S) (Wants : D → List ℕ → Bool → Type 0) (Honest : S → Type 0)
+    (Stands : S → Club → List Club → Type 0) (job : Commanded) (old new : D) (written : Output) (Noted : List Fate → Type 0) (result : Result Unit Fault)
+  where
+    -- however a task ends
+    pub performs_well : Performs Opens Closes Wants Honest Stands job old new written Noted result → EndsWell written.unchanged result
+    performs_well (spec.starved memory same silent nothing) = rw memory (record { of_task = tt; silent = λ s. silent })
+    performs_well (spec.unopened fault opens is silent nothing) = of_opening written.unchanged fault result is silent
+    performs_well (spec.performed store left between opens does closes nothing) = ends_well Honest Stands store left written result job.task does
+    performs_well (spec.served service store between is opens serves) = of_server service.port written result serves.announces
+    performs_well (spec.paused seconds store between is opens closes wrote nothing) = of_text written result (codes "done\n") wrote
+    performs_well (spec.unpaused seconds is storage same silent nothing) = rw storage (record { of_task = tt; silent = λ s. silent })
+
+    -- what isn't a server's task notes nothing, whatever a log would note
+    pub notes_nothing : ((service : Service) → job.task ≡ Serve service → ⊥) → Noted []
+        → Performs Opens Closes Wants Honest Stands job old new written (λ fates. fates ≡ []) result
+        → Performs Opens Closes Wants Honest Stands job old new written Noted result
+    notes_nothing none noted (spec.starved memory same silent nothing) = spec.starved memory same silent noted
+    notes_nothing none noted (spec.unopened fault opens is silent nothing) = spec.unopened fault opens is silent noted
+    notes_nothing none noted (spec.performed store left between opens does closes nothing) = spec.performed store left between opens does closes noted
+    notes_nothing none noted (spec.served service store between is opens serves) = absurd (none service is)
+    notes_nothing none noted (spec.paused seconds store between is opens closes wrote nothing) =
+        spec.paused seconds store between is opens closes wrote noted
+    notes_nothing none noted (spec.unpaused seconds is storage same silent nothing) = spec.unpaused seconds is storage same silent noted
+
+-- a pause is no server's task
+pub pause_serves_nobody : (seconds : ℕ) (service : Service) → Pause seconds ≡ Serve service → ⊥
+pause_serves_nobody seconds service is = cc

@@ -3,14 +3,15 @@ use Rattle.std.proofs.Common.{◌≡◌, ◌∙◌, ℕ, List, [], ◌∷◌, �
 use Rattle.std.specs.Io.KnownBytes.{Appends}
 use Rattle.pass_commands.specs.Output.{AppendsFront}
 use Rattle.club_http.specs.Replied.{Asks}
-use Rattle.desk_server.specs.Served.{AreServed, Ends, IsServed, IsStopped, Tells}
+use Rattle.desk_server.specs.Served.{AreNoted, AreServed, Ends, Idles, IsServed, IsStopped, Notes, Tells}
 use Rattle.desk_server.specs.Served as served
 use Rattle.desk_server.specs.Zone.{ShowsIn}
 use Rattle.desk_server.specs.declared.log.Fate.{Fate}
 use Rattle.desk_server.specs.declared.log.Fate.TheVariants.{Absent, Unanswered, Exchanged}
 use Rattle.jiff_core.specs.declared.timestamp.Timestamp.{Timestamp}
 use Rattle.desk_commands.specs.Output.{Output}
-use Rattle.desk_commands.specs.Run.{Announces, IsAnnounced, IsPortFor, Serves, ServesAll, Shows, StopsBefore, WritesLine, listening_line, over_socket, showing}
+use Rattle.desk_commands.specs.Run.{Announces, IfLogged, IsAnnounced, IsPortFor, Serves, ServesAll}
+use Rattle.desk_commands.specs.Run.{Shows, StopsBefore, WritesLine, listening_line, over_socket, showing}
 use Rattle.desk_commands.specs.declared.clock.Clock.{Clock}
 use Rattle.desk_commands.specs.declared.clock.Clock.TheVariants.{InZone}
 use Rattle.desk_commands.specs.declared.fault.Fault.{Fault}
@@ -50,28 +51,29 @@ in_zone rule Given shown (Some instant, given, is_shown) = inl (instant.nanoseco
 -- ---- the connections
 
 -- what is served over connections is served over some whose ends nobody knows
-module _ {Clock Desk Connection : Type 0} (Told : Tells Clock) (Answers : ℕ → Asks Desk) (Ended : Ends Connection) where
+module _ {Clock Desk Connection : Type 0} (Told : Tells Clock) (Answers : ℕ → Asks Desk) (Idled : Idles Desk) (Ended : Ends Connection) where
   one_over_socket : (clock : Clock) (desk : Desk) (f : ℕ) (fate : Fate) (clock' : Clock) (desk' : Desk) (f' : ℕ)
-      → IsServed Told Answers Ended clock desk f fate clock' desk' f' → IsServed Told Answers over_socket clock desk f fate clock' desk' f'
+      → IsServed Told Answers Idled Ended clock desk f fate clock' desk' f' → IsServed Told Answers Idled over_socket clock desk f fate clock' desk' f'
   one_over_socket clock desk f Absent clock' desk' f' one = one
   one_over_socket clock desk f Unanswered clock' desk' f' never = absurd never
   one_over_socket clock desk f (Exchanged moment line outcome) clock' desk' f' (counted, told, exchange, ended) =
       (counted, told, exchange, (tt, tt))
 
   are_over_socket : (clock : Clock) (desk : Desk) (f : ℕ) (fates : List Fate) (clock' : Clock) (desk' : Desk) (f' : ℕ)
-      → AreServed Told Answers Ended clock desk f fates clock' desk' f' → AreServed Told Answers over_socket clock desk f fates clock' desk' f'
+      → AreServed Told Answers Idled Ended clock desk f fates clock' desk' f' → AreServed Told Answers Idled over_socket clock desk f fates clock' desk' f'
   are_over_socket clock desk f _ _ _ _ served.none = served.none
   are_over_socket clock desk f _ _ _ _ (served.more fates fate c d f1 c' d' f' before one) =
       served.more fates fate c d f1 c' d' f' (are_over_socket clock desk f fates c d f1 before) (one_over_socket c d f1 fate c' d' f' one)
 
-  module _ (count : ℕ) (clock : Clock) (desk : Desk) (clock' : Clock) (desk' : Desk) (failures : ℕ) (Besides : List Fate → Type 0) where
-    pub all_over_socket : served.Serves Told Answers Ended count clock desk 0 (Ok tt) clock' desk' failures Besides
-        → ServesAll Told Answers count clock desk clock' desk' (Ok tt)
+  module _ (count : ℕ) (clock : Clock) (desk : Desk) (clock' : Clock) (desk' : Desk) (failures : ℕ) (Besides Wanted : List Fate → Type 0)
+      (gives : (fates : List Fate) → Besides fates → Wanted fates) where
+    pub all_over_socket : served.Serves Told Answers Idled Ended count clock desk 0 (Ok tt) clock' desk' failures Besides
+        → ServesAll Told Answers Idled count clock desk clock' desk' Wanted (Ok tt)
     all_over_socket (fates, so_many, were, besides) =
-        (fates, failures, so_many, are_over_socket clock desk 0 fates clock' desk' failures were)
+        (fates, failures, so_many, are_over_socket clock desk 0 fates clock' desk' failures were, gives fates besides)
 
-    pub stopped_over_socket : IsStopped Told Answers Ended count clock desk 0 clock' desk' failures Besides
-        → ServesAll Told Answers count clock desk clock' desk' (Err ClockOutOfRange)
+    pub stopped_over_socket : IsStopped Told Answers Idled Ended count clock desk 0 clock' desk' failures Besides
+        → ServesAll Told Answers Idled count clock desk clock' desk' Wanted (Err ClockOutOfRange)
     stopped_over_socket stop = (
       failures,
       record {
@@ -80,18 +82,18 @@ module _ {Clock Desk Connection : Type 0} (Told : Tells Clock) (Answers : ℕ �
         fewer = stop.fewer;
         before = are_over_socket clock desk 0 stop.fates stop.last desk' failures stop.before;
         no_moment = stop.no_moment;
-        besides = tt;
+        besides = gives (stop.fates ++ Unanswered ∷ []) stop.besides;
       },
     )
 
 -- what is served by a clock that stays as it is, is served at the moments that it shows
-module _ {Told_by Desk : Type 0} (Told : Tells Told_by) (clock : Clock) (Answers : ℕ → Asks Desk) (moments : Told_by) (desk : Desk)
-    (stays : (shown : Option ℕ) (next : Told_by) → Told moments shown next → (next ≡ moments) × Shows clock shown) where
+module _ {Told_by Desk : Type 0} (Told : Tells Told_by) (clock : Clock) (Answers : ℕ → Asks Desk) (Idled : Idles Desk) (moments : Told_by) (desk : Desk)
+    (Besides : List Fate → Type 0) (stays : (shown : Option ℕ) (next : Told_by) → Told moments shown next → (next ≡ moments) × Shows clock shown) where
   abbrev ByShowing : List Fate → Told_by → Desk → ℕ → Type 0
-  ByShowing fates last left failures = (last ≡ moments) × AreServed (showing clock) Answers over_socket tt desk 0 fates tt left failures
+  ByShowing fates last left failures = (last ≡ moments) × AreServed (showing clock) Answers Idled over_socket tt desk 0 fates tt left failures
 
   one_more : (fates : List Fate) (fate : Fate) (d : Desk) (f : ℕ) (next : Told_by) (d' : Desk) (f' : ℕ)
-      → AreServed (showing clock) Answers over_socket tt desk 0 fates tt d f → IsServed Told Answers over_socket moments d f fate next d' f'
+      → AreServed (showing clock) Answers Idled over_socket tt desk 0 fates tt d f → IsServed Told Answers Idled over_socket moments d f fate next d' f'
       → ByShowing (fates ++ fate ∷ []) next d' f'
   one_more fates Absent d f next d' f' before (counted, same, kept) =
       (same, served.more fates Absent tt d f tt d' f' before (counted, refl, kept))
@@ -101,14 +103,14 @@ module _ {Told_by Desk : Type 0} (Told : Tells Told_by) (clock : Clock) (Answers
       (shows.0, served.more fates (Exchanged moment line outcome) tt d f tt d' f' before (counted, shows.1, exchange, ended))
 
   by_showing : (fates : List Fate) (last : Told_by) (left : Desk) (failures : ℕ)
-      → AreServed Told Answers over_socket moments desk 0 fates last left failures → ByShowing fates last left failures
+      → AreServed Told Answers Idled over_socket moments desk 0 fates last left failures → ByShowing fates last left failures
   by_showing _ _ _ _ served.none = (refl, served.none)
   by_showing _ _ _ _ (served.more fates fate c d f c' d' f' before one) =
       let so_far = by_showing fates c d f before in one_more fates fate d f c' d' f' so_far.1 (rw so_far.0 at one)
 
   stopped : (count : ℕ) (last : Told_by) (left : Desk) (failures : ℕ)
-      → IsStopped Told Answers over_socket count moments desk 0 last left failures (λ _. Unit {0})
-      → IsStopped (showing clock) Answers over_socket count tt desk 0 tt left failures (λ _. Unit {0})
+      → IsStopped Told Answers Idled over_socket count moments desk 0 last left failures Besides
+      → IsStopped (showing clock) Answers Idled over_socket count tt desk 0 tt left failures Besides
   stopped count last left failures stop =
       let so_far = by_showing stop.fates stop.last left failures stop.before in
       record {
@@ -117,13 +119,13 @@ module _ {Told_by Desk : Type 0} (Told : Tells Told_by) (clock : Clock) (Answers
         fewer = stop.fewer;
         before = so_far.1;
         no_moment = (stays None last (rw so_far.0 at stop.no_moment)).1;
-        besides = tt;
+        besides = stop.besides;
       }
 
   pub serves_by_showing : (count : ℕ) (last : Told_by) (left : Desk) (result : Result Unit Fault)
-      → ServesAll Told Answers count moments desk last left result → ServesAll (showing clock) Answers count tt desk tt left result
-  serves_by_showing count last left (Ok done) (fates, failures, so_many, were) =
-      (fates, failures, so_many, (by_showing fates last left failures were).1)
+      → ServesAll Told Answers Idled count moments desk last left Besides result → ServesAll (showing clock) Answers Idled count tt desk tt left Besides result
+  serves_by_showing count last left (Ok done) (fates, failures, so_many, were, besides) =
+      (fates, failures, so_many, (by_showing fates last left failures were).1, besides)
   serves_by_showing count last left (Err ClockOutOfRange) (failures, stop) = (failures, stopped count last left failures stop)
   serves_by_showing count last left (Err Memory) h = absurd h
   serves_by_showing count last left (Err InputOutput) h = absurd h
@@ -135,16 +137,17 @@ module _ {Told_by Desk : Type 0} (Told : Tells Told_by) (clock : Clock) (Answers
 -- ---- a server
 
 module _ (service : Service) (written : Output) where
-  -- one that doesn't listen serves nobody
-  pub serves_nobody : {Desk : Type 0} (Answers : ℕ → Asks Desk) (desk : Desk) (fault : Fault) → StopsBefore service.port written fault
-      → Serves Answers service desk desk (Err fault)
-  serves_nobody Answers desk Memory h = refl
-  serves_nobody Answers desk InputOutput h = refl
-  serves_nobody Answers desk (Refused fault) h = absurd h
-  serves_nobody Answers desk (Words error) h = absurd h
-  serves_nobody Answers desk BadValue h = absurd h
-  serves_nobody Answers desk Storage h = absurd h
-  serves_nobody Answers desk ClockOutOfRange h = absurd h
+  -- one that doesn't listen serves nobody, and notes nothing
+  module _ {Log : Type 0} (Begins : Log → Log → Type 0) (Noted : Notes Log) (log : Log) where
+    pub serves_nobody : {Desk : Type 0} (Answers : ℕ → Asks Desk) (Idled : Idles Desk) (desk : Desk) (fault : Fault) → StopsBefore service.port written fault
+        → Serves Answers Idled service desk desk (λ fates. AreNoted Begins Noted log fates log) (Err fault)
+    serves_nobody Answers Idled desk Memory h = (refl, served.nothing)
+    serves_nobody Answers Idled desk InputOutput h = (refl, served.nothing)
+    serves_nobody Answers Idled desk (Refused fault) h = absurd h
+    serves_nobody Answers Idled desk (Words error) h = absurd h
+    serves_nobody Answers Idled desk BadValue h = absurd h
+    serves_nobody Answers Idled desk Storage h = absurd h
+    serves_nobody Answers Idled desk ClockOutOfRange h = absurd h
 
   pub announces_nothing : (fault : Fault) → StopsBefore service.port written fault → Announces service.port written (Err fault)
   announces_nothing Memory h = h
@@ -155,20 +158,31 @@ module _ (service : Service) (written : Output) where
   announces_nothing Storage h = absurd h
   announces_nothing ClockOutOfRange h = absurd h
 
-module _ (service : Service) {Desk : Type 0} (Answers : ℕ → Asks Desk) (old new : Desk) where
+module _ (service : Service) {Desk : Type 0} (Answers : ℕ → Asks Desk) (Idled : Idles Desk) (old new : Desk) (Besides : List Fate → Type 0) where
   abbrev All : Result Unit Fault → Type 0
-  All result = ServesAll (showing service.clock) Answers service.count tt old tt new result
+  All result = ServesAll (showing service.clock) Answers Idled service.count tt old tt new Besides result
 
-  -- one that listens serves all, or stops
-  pub serves : (result : Result Unit Fault) → All result → Serves Answers service old new result
-  serves (Ok done) h = h
-  serves (Err ClockOutOfRange) h = h
-  serves (Err Memory) h = absurd h
-  serves (Err InputOutput) h = absurd h
-  serves (Err (Refused fault)) h = absurd h
-  serves (Err (Words error)) h = absurd h
-  serves (Err BadValue) h = absurd h
-  serves (Err Storage) h = absurd h
+  -- one that listens serves all, or stops; what is noted counts where a log is asked for
+  module _ (Noted : List Fate → Type 0) (gives : (fates : List Fate) → Besides fates → IfLogged service Noted fates) where
+    pub serves : (result : Result Unit Fault) → All result → Serves Answers Idled service old new Noted result
+    serves (Ok done) (fates, failures, so_many, were, besides) = (fates, failures, so_many, were, gives fates besides)
+    serves (Err ClockOutOfRange) (failures, stop) = (
+      failures,
+      record {
+        fates = stop.fates;
+        last = stop.last;
+        fewer = stop.fewer;
+        before = stop.before;
+        no_moment = stop.no_moment;
+        besides = gives (stop.fates ++ Unanswered ∷ []) stop.besides;
+      },
+    )
+    serves (Err Memory) h = absurd h
+    serves (Err InputOutput) h = absurd h
+    serves (Err (Refused fault)) h = absurd h
+    serves (Err (Words error)) h = absurd h
+    serves (Err BadValue) h = absurd h
+    serves (Err Storage) h = absurd h
 
   -- and told where, however it ends
   pub announces : (written : Output) (result : Result Unit Fault) → IsAnnounced service.port written → All result

@@ -13,7 +13,8 @@ use Rattle.desk_commands.specs.Commanded.{Commanded}
 use Rattle.desk_commands.specs.Laws.{AddMemberTakesItsParts, CreditTakesItsParts, AddFacilityTakesItsParts, AddKeyTakesItsParts, AddKeyTakesV2}
 use Rattle.desk_commands.specs.Laws.{RevokeKeyTakesItsKey, RotateKeyTakesItsParts}
 use Rattle.desk_commands.specs.Laws.{RotateKeyTakesV2, CloseSlotTakesItsSlot, SheetTakesItsDay, ServeTakesItsParts, ServeTakesUtc, ServeTakesItsMoment}
-use Rattle.desk_commands.specs.Laws.{ServeTakesItsLog}
+use Rattle.desk_commands.specs.Laws.{PauseTakesItsSeconds, ServeTakesItsLog, ServeTakesItsPatience}
+use Rattle.desk_commands.specs.Values.{number_of, patience_of}
 use Rattle.desk_server.specs.Zone.{zone_of}
 use Rattle.desk_commands.specs.Words.{asked, commanded, commanded_by}
 
@@ -36,6 +37,14 @@ log_given = record (given (codes "log") (codes "true")) { reading = reading_by l
 
 abbrev log_left_out : Row
 log_left_out = record (given (codes "log") (codes "false")) { source = Some DefaultValue; reading = reading_by log_flag }
+
+-- what it finds of `--patience` where that was left out
+abbrev patience_left_out : Row
+patience_left_out = left_out (codes "patience") (codes "10")
+
+ten_is_a_patience : patience_of (codes "10") ≡ Some 10
+unfolding number_of
+ten_is_a_patience = refl
 
 -- UTC is the zone of a rule
 utc_is_a_zone : zone_of (codes "UTC0") ≡ Some (codes "UTC0")
@@ -262,6 +271,24 @@ pub sheet_takes_its_day : SheetTakesItsDay
 sheet_takes_its_day program file day on spelled =
     asked_is _ _ _ (sheet_its_day-clear program file day) (sheet_its_day-found program file day) (rw (spelled) refl)
 
+-- ---- pause_takes_its_seconds
+
+module _ (program file seconds : Text) where
+  abbrev pause_its_seconds-words : List Text
+  pause_its_seconds-words = program ∷ codes "pause" ∷ codes "--" ∷ file ∷ seconds ∷ []
+
+  pause_its_seconds-clear : refusals pause_its_seconds-words ≡ []
+  unfolding clap_on_literals application refusals
+  pause_its_seconds-clear = refl
+
+  pause_its_seconds-found : subcommand pause_its_seconds-words ≡ Some (codes "pause", given (codes "FILE") file ∷ given (codes "SECONDS") seconds ∷ [])
+  unfolding clap_on_literals application subcommand
+  pause_its_seconds-found = refl
+
+pub pause_takes_its_seconds : PauseTakesItsSeconds
+pause_takes_its_seconds program file seconds many spelled =
+    asked_is _ _ _ (pause_its_seconds-clear program file seconds) (pause_its_seconds-found program file seconds) (rw (spelled) refl)
+
 -- ---- serve_takes_its_parts
 
 module _ (program file port count zone : Text) where
@@ -276,14 +303,15 @@ module _ (program file port count zone : Text) where
       ≡ Some (
         codes "serve",
         given (codes "port") port ∷ given (codes "count") count ∷ given (codes "zone") zone ∷ given (codes "FILE") file
-            ∷ log_left_out ∷ [],
+            ∷ patience_left_out ∷ log_left_out ∷ [],
       )
   unfolding clap_on_literals application subcommand
   serve_its_parts-found = refl
 
 pub serve_takes_its_parts : ServeTakesItsParts
 serve_takes_its_parts program file port count zone at many rule a b d =
-    asked_is _ _ _ (serve_its_parts-clear program file port count zone) (serve_its_parts-found program file port count zone) (rw (a, b, d) refl)
+    asked_is _ _ _ (serve_its_parts-clear program file port count zone) (serve_its_parts-found program file port count zone)
+    (rw (a, b, d, ten_is_a_patience) refl)
 
 -- ---- serve_takes_utc
 
@@ -299,14 +327,14 @@ module _ (program file port count : Text) where
       ≡ Some (
         codes "serve",
         given (codes "port") port ∷ given (codes "count") count ∷ given (codes "FILE") file
-            ∷ left_out (codes "zone") (codes "UTC0") ∷ log_left_out ∷ [],
+            ∷ left_out (codes "zone") (codes "UTC0") ∷ patience_left_out ∷ log_left_out ∷ [],
       )
   unfolding clap_on_literals application subcommand
   serve_utc-found = refl
 
 pub serve_takes_utc : ServeTakesUtc
 serve_takes_utc program file port count at many a b =
-    asked_is _ _ _ (serve_utc-clear program file port count) (serve_utc-found program file port count) (rw (a, b, utc_is_a_zone) refl)
+    asked_is _ _ _ (serve_utc-clear program file port count) (serve_utc-found program file port count) (rw (a, b, utc_is_a_zone, ten_is_a_patience) refl)
 
 -- ---- serve_takes_its_moment
 
@@ -322,7 +350,7 @@ module _ (program file port count fixed : Text) where
       ≡ Some (
         codes "serve",
         given (codes "port") port ∷ given (codes "count") count ∷ given (codes "at") fixed ∷ given (codes "FILE") file
-            ∷ left_out (codes "zone") (codes "UTC0") ∷ log_left_out ∷ [],
+            ∷ left_out (codes "zone") (codes "UTC0") ∷ patience_left_out ∷ log_left_out ∷ [],
       )
   unfolding clap_on_literals application subcommand
   serve_its_moment-found = refl
@@ -330,7 +358,7 @@ module _ (program file port count fixed : Text) where
 pub serve_takes_its_moment : ServeTakesItsMoment
 serve_takes_its_moment program file port count fixed at many moment a b d =
     asked_is _ _ _ (serve_its_moment-clear program file port count fixed)
-    (serve_its_moment-found program file port count fixed) (rw (a, b, utc_is_a_zone, d) refl)
+    (serve_its_moment-found program file port count fixed) (rw (a, b, utc_is_a_zone, d, ten_is_a_patience) refl)
 
 -- ---- serve_takes_its_log
 
@@ -347,7 +375,7 @@ module _ (program file port count fixed : Text) where
       ≡ Some (
         codes "serve",
         given (codes "port") port ∷ given (codes "count") count ∷ given (codes "at") fixed ∷ log_given ∷ given (codes "FILE") file
-            ∷ left_out (codes "zone") (codes "UTC0") ∷ [],
+            ∷ left_out (codes "zone") (codes "UTC0") ∷ patience_left_out ∷ [],
       )
   unfolding clap_on_literals application subcommand
   serve_its_log-found = refl
@@ -355,4 +383,29 @@ module _ (program file port count fixed : Text) where
 pub serve_takes_its_log : ServeTakesItsLog
 serve_takes_its_log program file port count fixed at many moment a b d =
     asked_is _ _ _ (serve_its_log-clear program file port count fixed)
-    (serve_its_log-found program file port count fixed) (rw (a, b, utc_is_a_zone, d) refl)
+    (serve_its_log-found program file port count fixed) (rw (a, b, utc_is_a_zone, d, ten_is_a_patience) refl)
+
+-- ---- serve_takes_its_patience
+
+module _ (program file port count seconds : Text) where
+  abbrev serve_its_patience-words : List Text
+  serve_its_patience-words =
+      program ∷ codes "serve" ∷ (codes "--port=" ++ port) ∷ (codes "--count=" ++ count) ∷ (codes "--patience=" ++ seconds) ∷ codes "--" ∷ file ∷ []
+
+  serve_its_patience-clear : refusals serve_its_patience-words ≡ []
+  unfolding clap_on_literals application refusals
+  serve_its_patience-clear = refl
+
+  serve_its_patience-found : subcommand serve_its_patience-words
+      ≡ Some (
+        codes "serve",
+        given (codes "port") port ∷ given (codes "count") count ∷ given (codes "patience") seconds ∷ given (codes "FILE") file
+            ∷ left_out (codes "zone") (codes "UTC0") ∷ log_left_out ∷ [],
+      )
+  unfolding clap_on_literals application subcommand
+  serve_its_patience-found = refl
+
+pub serve_takes_its_patience : ServeTakesItsPatience
+serve_takes_its_patience program file port count seconds at many long a b d =
+    asked_is _ _ _ (serve_its_patience-clear program file port count seconds)
+    (serve_its_patience-found program file port count seconds) (rw (a, b, utc_is_a_zone, d) refl)

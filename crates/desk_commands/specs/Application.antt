@@ -47,6 +47,10 @@ count_option = required (option_named (codes "count"))
 abbrev pub at_option : Rule
 at_option = option_named (codes "at")
 
+-- `[--patience SECONDS]`, 10 where it is left out
+abbrev pub patience_option : Rule
+patience_option = with_default (codes "10") (option_named (codes "patience"))
+
 -- `--log`
 abbrev pub log_flag : Rule
 log_flag = record (new_rule (codes "log")) { long = Some (codes "log"); action = Some SetTrue }
@@ -80,11 +84,15 @@ close_slot_command =
 abbrev pub sheet_command : App
 sheet_command = command_of_words (codes "sheet") (codes "FILE" ∷ codes "DAY" ∷ [])
 
--- `serve FILE --port P --count N [--zone RULE] [--at MOMENT] [--log]`
+-- `pause FILE SECONDS`
+abbrev pub pause_command : App
+pause_command = command_of_words (codes "pause") (codes "FILE" ∷ codes "SECONDS" ∷ [])
+
+-- `serve FILE --port P --count N [--zone RULE] [--at MOMENT] [--patience SECONDS] [--log]`
 abbrev pub serve_command : App
 serve_command =
-    with_rule (with_rule (with_rule (with_rule (with_rule (command_of_words (codes "serve") (codes "FILE" ∷ []))
-    port_option) count_option) zone_option) at_option) log_flag
+    with_rule (with_rule (with_rule (with_rule (with_rule (with_rule (command_of_words (codes "serve") (codes "FILE" ∷ []))
+    port_option) count_option) zone_option) at_option) patience_option) log_flag
 
 abbrev pub with_commands : App → List App → App
 with_commands app [] = app
@@ -103,7 +111,7 @@ unfoldable pub application : App
 application =
     with_commands top
     (add_member_command ∷ credit_command ∷ add_facility_command ∷ add_key_command ∷ revoke_key_command
-    ∷ rotate_key_command ∷ close_slot_command ∷ sheet_command ∷ serve_command ∷ [])
+    ∷ rotate_key_command ∷ close_slot_command ∷ sheet_command ∷ serve_command ∷ pause_command ∷ [])
 
 -- the command is of this application, and none of its options is global
 pub record IsMade (app : App) (made : Command) : Type 0 where

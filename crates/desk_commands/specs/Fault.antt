@@ -3,6 +3,8 @@ use Rattle.std.specs.Prelude.{◌≡◌, ℕ, List, ◌++◌, Option, Some, None
 use Rattle.clap.specs.Words.{kind_of}
 use Rattle.clap.specs.declared.error.kind.ErrorKind.TheVariants as kind
 use Rattle.club_core.specs.Faults.{office_fault_text}
+use Rattle.club_core.specs.declared.store.StoreFault.{StoreFault}
+use Rattle.club_core.specs.declared.store.StoreFault.TheVariants as store
 use Rattle.desk_commands.specs.declared.fault.Fault.{Fault}
 use Rattle.desk_commands.specs.declared.fault.Fault.TheVariants.{Refused, Words, BadValue, Memory, Storage, ClockOutOfRange, InputOutput}
 
@@ -14,6 +16,11 @@ fault_status Memory = 4
 fault_status Storage = 5
 fault_status ClockOutOfRange = 6
 fault_status InputOutput = 7
+
+-- a database that can't be opened, as the program tells it
+abbrev pub fault_of_opening : StoreFault → Fault
+fault_of_opening store.Memory = Memory
+fault_of_opening store.Storage = Storage
 
 -- the line on standard error; clap's own text is not stated
 abbrev pub fault_line : Fault → Option (List ℕ)

@@ -7,12 +7,12 @@ use Rattle.club_core.specs.declared.command.Command.TheVariants as order
 use Rattle.pass_forms.specs.declared.form.Form.{Form}
 use Rattle.pass_forms.specs.declared.form.Form.TheVariants.{V2}
 use Rattle.pass_commands.specs.FormName.{form_name}
-use Rattle.desk_commands.specs.Values.{count_of, number_of, port_of, root_of}
+use Rattle.desk_commands.specs.Values.{count_of, number_of, patience_of, pause_seconds, port_of, root_of}
 use Rattle.desk_server.specs.Zone.{zone_of}
 use Rattle.desk_commands.specs.Words.{asked}
 use Rattle.desk_commands.specs.declared.clock.Clock.TheVariants.{Fixed, InZone}
 use Rattle.desk_commands.specs.declared.task.Task.{Task}
-use Rattle.desk_commands.specs.declared.task.Task.TheVariants.{Order, AddKey, RotateKey, Sheet, Serve}
+use Rattle.desk_commands.specs.declared.task.Task.TheVariants.{Order, AddKey, RotateKey, Sheet, Serve, Pause}
 
 -- words ask for a task over a file
 abbrev pub Asks : List Text → Text → Task → Type 0
@@ -81,26 +81,31 @@ abbrev pub SheetTakesItsDay : Type 0
 SheetTakesItsDay = (program file day : Text) (on : ℕ) → day_of_text day ≡ Some on
     → Asks (program ∷ codes "sheet" ∷ codes "--" ∷ file ∷ day ∷ []) file (Sheet on)
 
--- `serve --port=P --count=N --zone=RULE -- FILE`
+-- `pause FILE SECONDS`
+abbrev pub PauseTakesItsSeconds : Type 0
+PauseTakesItsSeconds = (program file seconds : Text) (many : ℕ) → pause_seconds seconds ≡ Some many
+    → Asks (program ∷ codes "pause" ∷ codes "--" ∷ file ∷ seconds ∷ []) file (Pause many)
+
+-- `serve --port=P --count=N --zone=RULE -- FILE`, with ten seconds of patience
 abbrev pub ServeTakesItsParts : Type 0
 ServeTakesItsParts = (program file port count zone : Text) (at many : ℕ) (rule : Text)
     → port_of port ≡ Some at → count_of count ≡ Some many → zone_of zone ≡ Some rule
     → Asks (program ∷ codes "serve" ∷ (codes "--port=" ++ port) ∷ (codes "--count=" ++ count) ∷ (codes "--zone=" ++ zone) ∷ codes "--" ∷ file ∷ [])
-    file (Serve (record { port = at; count = many; clock = InZone rule; log = false }))
+    file (Serve (record { port = at; count = many; clock = InZone rule; patience = 10; log = false }))
 
 -- the same without a zone
 abbrev pub ServeTakesUtc : Type 0
 ServeTakesUtc = (program file port count : Text) (at many : ℕ)
     → port_of port ≡ Some at → count_of count ≡ Some many
     → Asks (program ∷ codes "serve" ∷ (codes "--port=" ++ port) ∷ (codes "--count=" ++ count) ∷ codes "--" ∷ file ∷ [])
-    file (Serve (record { port = at; count = many; clock = InZone (codes "UTC0"); log = false }))
+    file (Serve (record { port = at; count = many; clock = InZone (codes "UTC0"); patience = 10; log = false }))
 
 -- the same with a moment for all connections
 abbrev pub ServeTakesItsMoment : Type 0
 ServeTakesItsMoment = (program file port count fixed : Text) (at many moment : ℕ)
     → port_of port ≡ Some at → count_of count ≡ Some many → moment_of_text fixed ≡ Some moment
     → Asks (program ∷ codes "serve" ∷ (codes "--port=" ++ port) ∷ (codes "--count=" ++ count) ∷ (codes "--at=" ++ fixed) ∷ codes "--" ∷ file ∷ [])
-    file (Serve (record { port = at; count = many; clock = Fixed moment; log = false }))
+    file (Serve (record { port = at; count = many; clock = Fixed moment; patience = 10; log = false }))
 
 -- the same with a log
 abbrev pub ServeTakesItsLog : Type 0
@@ -108,4 +113,11 @@ ServeTakesItsLog = (program file port count fixed : Text) (at many moment : ℕ)
     → port_of port ≡ Some at → count_of count ≡ Some many → moment_of_text fixed ≡ Some moment
     → Asks (program ∷ codes "serve" ∷ (codes "--port=" ++ port) ∷ (codes "--count=" ++ count) ∷ (codes "--at=" ++ fixed) ∷ codes "--log" ∷ codes "--" ∷ file
     ∷ [])
-    file (Serve (record { port = at; count = many; clock = Fixed moment; log = true }))
+    file (Serve (record { port = at; count = many; clock = Fixed moment; patience = 10; log = true }))
+
+-- `serve --port=P --count=N --patience=SECONDS -- FILE`
+abbrev pub ServeTakesItsPatience : Type 0
+ServeTakesItsPatience = (program file port count seconds : Text) (at many long : ℕ)
+    → port_of port ≡ Some at → count_of count ≡ Some many → patience_of seconds ≡ Some long
+    → Asks (program ∷ codes "serve" ∷ (codes "--port=" ++ port) ∷ (codes "--count=" ++ count) ∷ (codes "--patience=" ++ seconds) ∷ codes "--" ∷ file ∷ [])
+    file (Serve (record { port = at; count = many; clock = InZone (codes "UTC0"); patience = long; log = false }))

@@ -6,4 +6,6 @@ pub mod Output
 pub mod Words
 pub mod Laws
 pub mod Office
+pub mod AtNeed
+pub mod DeskAtNeed
 pub mod Run

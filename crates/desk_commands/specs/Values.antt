@@ -26,6 +26,14 @@ port_of text = where_between 0 65_535 (number_of text)
 abbrev pub count_of : List ℕ → Option ℕ
 count_of text = where_between 1 1_000_000 (number_of text)
 
+-- the seconds of a pause, 1 to 600
+abbrev pub pause_seconds : List ℕ → Option ℕ
+pause_seconds text = where_between 1 600 (number_of text)
+
+-- a limit of time, 1 to 3,600 seconds
+abbrev pub patience_of : List ℕ → Option ℕ
+patience_of text = where_between 1 3_600 (number_of text)
+
 abbrev pub has_root_length : List ℕ → Option (List ℕ)
 has_root_length bytes = if nat_le 16 (length bytes) && nat_le (length bytes) 64 then Some bytes else None
 

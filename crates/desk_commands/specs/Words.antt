@@ -14,14 +14,14 @@ use Rattle.pass_commands.specs.FormName.{form_named}
 use Rattle.pass_commands.specs.Words.{value_in}
 use Rattle.desk_commands.specs.Application.{refusals, subcommand}
 use Rattle.desk_commands.specs.Commanded.{Commanded}
-use Rattle.desk_commands.specs.Values.{count_of, number_of, port_of, root_of}
+use Rattle.desk_commands.specs.Values.{count_of, number_of, patience_of, pause_seconds, port_of, root_of}
 use Rattle.desk_server.specs.Zone.{zone_of}
 use Rattle.desk_commands.specs.declared.fault.Fault.{Fault}
 use Rattle.desk_commands.specs.declared.fault.Fault.TheVariants.{Words, BadValue, Memory}
 use Rattle.desk_commands.specs.declared.clock.Clock.{Clock}
 use Rattle.desk_commands.specs.declared.clock.Clock.TheVariants.{Fixed, InZone}
 use Rattle.desk_commands.specs.declared.task.Task.{Task}
-use Rattle.desk_commands.specs.declared.task.Task.TheVariants.{Order, AddKey, RotateKey, Sheet, Serve}
+use Rattle.desk_commands.specs.declared.task.Task.TheVariants.{Order, AddKey, RotateKey, Sheet, Serve, Pause}
 use Rattle.desk_commands.specs.declared.words.Asked.{Asked}
 use Rattle.desk_commands.specs.declared.words.Asked.TheVariants.{Perform, ShowText}
 
@@ -119,7 +119,13 @@ serve_of rows = do
   count ← count_of (word_in (codes "count") rows)
   zone ← zone_of (word_in (codes "zone") rows)
   clock ← clock_of zone (first_of (codes "at") rows)
-  Some (Serve (record { port = port; count = count; clock = clock; log = is_set (codes "log") rows }))
+  patience ← patience_of (word_in (codes "patience") rows)
+  Some (Serve (record { port = port; count = count; clock = clock; patience = patience; log = is_set (codes "log") rows }))
+
+abbrev pub pause_of : List Row → Option Task
+pause_of rows = do
+  seconds ← pause_seconds (word_in (codes "SECONDS") rows)
+  Some (Pause seconds)
 
 -- ---- the words
 
@@ -146,7 +152,8 @@ task_named name rows =
     else (if bytes_eq name (codes "close-slot") then unless_bad (close_slot_of rows)
     else (if bytes_eq name (codes "sheet") then unless_bad (sheet_of rows)
     else (if bytes_eq name (codes "serve") then unless_bad (serve_of rows)
-    else Err no_command))))))))
+    else (if bytes_eq name (codes "pause") then unless_bad (pause_of rows)
+    else Err no_command)))))))))
 
 abbrev pub over_file : Text → Result Task Refusal → Result Commanded Refusal
 over_file file (Err refusal) = Err refusal
@@ -161,7 +168,7 @@ abbrev pub IsCommandName : Text → Type 0
 IsCommandName name =
     (name ≡ codes "add-member") ⊎ (name ≡ codes "credit") ⊎ (name ≡ codes "add-facility") ⊎ (name ≡ codes "add-key")
     ⊎ (name ≡ codes "revoke-key") ⊎ (name ≡ codes "rotate-key") ⊎ (name ≡ codes "close-slot") ⊎ (name ≡ codes "sheet")
-    ⊎ (name ≡ codes "serve")
+    ⊎ (name ≡ codes "serve") ⊎ (name ≡ codes "pause")
 
 -- clap found one of the commands
 abbrev pub FindsCommand : Option (Text × List Row) → Type 0

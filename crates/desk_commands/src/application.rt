@@ -63,10 +63,19 @@ const SHEET_HELP: &str = "Example:
   clubdesk sheet club.db 2026-05-01";
 
 const SERVE_HELP: &str = "Serves connections to 127.0.0.1 one after the other, and ends after the
-last of them. A client that sends slowly holds up those behind it.
+last of them. A client that sends slowly, or doesn't take its reply, holds up
+those behind it for SECONDS at most, once for its request and once for its reply,
+and is then cut off.
 
 Example:
   clubdesk serve club.db --port 8080 --count 1000 --zone CET-1CEST,M3.5.0,M10.5.0/3";
+
+const PAUSE_HELP: &str =
+    "SECONDS are 1 to 600. Once done is printed, another program may open the file
+for so long, as sqlite3; requests wait for it meanwhile, ten seconds at most.
+
+Example:
+  clubdesk pause club.db 60";
 
 /// The whole command line.
 pub fn make_application<'a>(alloc: Global) -> Result<Command<'a>, AllocError>
@@ -125,11 +134,13 @@ fn with_keys<'a>(alloc: Global, app: Command<'a>) -> Result<Command<'a>, AllocEr
 // The commands on days, and the server.
 fn with_days<'a>(alloc: Global, app: Command<'a>) -> Result<Command<'a>, AllocError>
     ensures { IfOk result (λ made. app_of made ≡ spec.with_commands (app_of app.entry)
-        (spec.close_slot_command ∷ spec.sheet_command ∷ spec.serve_command ∷ [])) }
+        (spec.close_slot_command ∷ spec.sheet_command ∷ spec.serve_command ∷ spec.pause_command
+        ∷ [])) }
 {
     let app = with_command(app, make_close_slot(alloc))?;
     let app = with_command(app, make_sheet(alloc))?;
-    with_command(app, make_serve(alloc))
+    let app = with_command(app, make_serve(alloc))?;
+    with_command(app, make_pause(alloc))
 }
 
 fn make_add_member<'a>(alloc: Global) -> Result<Command<'a>, AllocError>
@@ -245,7 +256,20 @@ fn make_serve<'a>(alloc: Global) -> Result<Command<'a>, AllocError>
     .arg(make_count(alloc))?
     .arg(make_zone(alloc))?
     .arg(make_at(alloc))?
+    .arg(make_patience(alloc))?
     .arg(make_log(alloc))
+}
+
+fn make_pause<'a>(alloc: Global) -> Result<Command<'a>, AllocError>
+    ensures { IfOk result (spec.IsMade spec.pause_command) }
+{
+    make_command(
+        alloc,
+        "pause",
+        "Has the server let go of its file",
+        PAUSE_HELP,
+        &["FILE", "SECONDS"],
+    )
 }
 
 // A command with the words behind its name, each of which must be there.
@@ -323,6 +347,14 @@ fn make_at<'a>(alloc: Global) -> Arg<'a>
     ensures local { result.global ≡ false }
 {
     make_option(alloc, "at", "MOMENT", "One moment for all connections")
+}
+
+fn make_patience<'a>(alloc: Global) -> Arg<'a>
+    ensures rule { rule_of result ≡ spec.patience_option }
+    ensures local { result.global ≡ false }
+{
+    let help = "How long a client may take, 1 to 3600";
+    make_option(alloc, "patience", "SECONDS", help).default_value("10")
 }
 
 fn make_log<'a>(alloc: Global) -> Arg<'a>

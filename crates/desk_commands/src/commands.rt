@@ -7,7 +7,7 @@ ghost use Rattle.desk_commands.specs.Words as spec;
 use crate::clock::Clock;
 use crate::options::{given, is_set, name_of, number_at};
 use crate::task::{Service, Task};
-use crate::values::{count_of, port_of, root_of};
+use crate::values::{count_of, patience_of, pause_seconds, port_of, root_of};
 use clap::ArgMatches;
 use club_core::Command;
 use club_values::{Day, Hour, Kind, Moment, Slot};
@@ -113,7 +113,7 @@ pub fn sheet<'a>(words: &ArgMatches<'a>) -> Option<Task<'a>>
     Some(Task::Sheet(day))
 }
 
-/// `serve FILE --port P --count N [--zone RULE] [--at MOMENT] [--log]`
+/// `serve FILE --port P --count N [--zone RULE] [--at MOMENT] [--patience SECONDS] [--log]`
 pub fn serve<'a>(words: &ArgMatches<'a>) -> Option<Task<'a>>
     ensures { result ≡ spec.serve_of (rows_of (found_of words.now)) }
 {
@@ -121,12 +121,22 @@ pub fn serve<'a>(words: &ArgMatches<'a>) -> Option<Task<'a>>
     let count = count_of(value_of(words, "count"))?;
     let zone = Zone::from_rule(value_of(words, "zone"))?;
     let clock = clock_of(zone, given(words, "at"))?;
+    let patience = patience_of(value_of(words, "patience"))?;
     Some(Task::Serve(Service {
         port,
         count,
         clock,
+        patience,
         log: is_set(words, "log"),
     }))
+}
+
+/// `pause FILE SECONDS`
+pub fn pause<'a>(words: &ArgMatches<'a>) -> Option<Task<'a>>
+    ensures { result ≡ spec.pause_of (rows_of (found_of words.now)) }
+{
+    let seconds = pause_seconds(value_of(words, "SECONDS"))?;
+    Some(Task::Pause(seconds))
 }
 
 // The moment that `--at` fixes, else the clock in the zone.

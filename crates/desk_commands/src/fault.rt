@@ -1,6 +1,6 @@
 //! Why a command didn't end, with its exit status and its line.
 
-use club_core::OfficeFault;
+use club_core::{OfficeFault, StoreFault};
 use std::alloc::AllocError;
 use std::{error, fmt, io};
 
@@ -82,6 +82,21 @@ impl From<io::Error> for Fault {
 
     fn from(_error: io::Error) -> Fault {
         Fault::InputOutput
+    }
+}
+
+/// Of a database that can't be opened.
+impl From<StoreFault> for Fault {
+    ghost use Rattle.std.specs.Prelude.{◌≡◌};
+    ghost use Rattle.desk_commands.specs.Fault.{fault_of_opening};
+
+    ghost from_gives = { λ told fault. fault ≡ fault_of_opening told };
+
+    fn from(told: StoreFault) -> Fault {
+        match told {
+            StoreFault::Memory => Fault::Memory,
+            StoreFault::Storage => Fault::Storage,
+        }
     }
 }
 

@@ -11,10 +11,12 @@ ghost use Rattle.desk_commands.specs.Laws.{
   RotateKeyTakesV2,
   CloseSlotTakesItsSlot,
   SheetTakesItsDay,
+  PauseTakesItsSeconds,
   ServeTakesItsParts,
   ServeTakesUtc,
   ServeTakesItsMoment,
   ServeTakesItsLog,
+  ServeTakesItsPatience,
 };
 
 /// `add-member FILE NAME QUOTA` asks for a member of that name and quota.
@@ -69,8 +71,13 @@ pub fn sheet_takes_its_day()
     ensures { SheetTakesItsDay }
 {}
 
+/// `pause FILE SECONDS` asks for a pause of so many seconds.
+pub fn pause_takes_its_seconds()
+    ensures { PauseTakesItsSeconds }
+{}
+
 /// `serve` with a port, a count and a zone asks for the server of these, whose clock stands in the
-/// zone.
+/// zone, with ten seconds of patience.
 pub fn serve_takes_its_parts()
     ensures { ServeTakesItsParts }
 {}
@@ -88,4 +95,9 @@ pub fn serve_takes_its_moment()
 /// `serve` with `--log` asks for a log.
 pub fn serve_takes_its_log()
     ensures { ServeTakesItsLog }
+{}
+
+/// `serve` with `--patience` asks for so many seconds.
+pub fn serve_takes_its_patience()
+    ensures { ServeTakesItsPatience }
 {}

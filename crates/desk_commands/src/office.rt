@@ -17,8 +17,8 @@ use pass_json::write_any;
 use std::alloc::Global;
 use std::io::Write;
 
-/// What is written of an order that makes no pass.
-const DONE: &str = "done\n";
+/// What is written of an order that makes no pass, and of a pause.
+pub(crate) const DONE: &str = "done\n";
 
 /// Gives an order to the desk, and writes `done`.
 ///
@@ -110,7 +110,7 @@ fn carry_out<S: ClubStore, W: Write>(
     }
 }
 
-fn written<W: Write>(writer: &mut W, text: &str) -> Result<(), Fault>
+pub(crate) fn written<W: Write>(writer: &mut W, text: &str) -> Result<(), Fault>
     ensures { WritesText text.now (output W.contents writer.old writer.new) result }
 {
     match write_text(writer, text) {

@@ -1,180 +1,183 @@
 //! A run of the program, over words, a reader and writers.
 
-ghost use Rattle.std.specs.Prelude.{◌≡◌, None, IfErr, false, map};
+ghost use Rattle.std.specs.Prelude.{◌≡◌, None, IfErr, false, [], map};
+ghost use Rattle.desk_server.specs.Served.{AreNoted};
 ghost use Rattle.desk_commands.specs.Output.{output};
 ghost use Rattle.desk_commands.specs.Run as spec;
 ghost use Rattle.desk_commands.specs.Words.{asked};
 
+use crate::databases::Databases;
 use crate::fault::Fault;
 use crate::office::{give_order, order_pass, show_sheet};
-use crate::server::serve;
 use crate::task::{Job, Task};
+use crate::turns::{pause, serve_file};
 use crate::words::{Asked, command_of};
-use club_core::{ClubStore, Command, StoreFault};
+use club_core::{ClubStore, Command};
 use club_gate::Desk;
+use desk_server::Log;
+use std::alloc::Global;
 use std::convert::AsStr;
 use std::io::{Read, Write};
 use std::time::Clock;
 
-/// Where databases are.
-pub trait Databases {
-    type Store: ClubStore + Drop;
-
-    ghost use Rattle.std.specs.Prelude.{ℕ, List, Result};
-    ghost use Rattle.club_core.specs.declared.store.StoreFault.{StoreFault};
-
-    // what an opening of a name gives, with what was before and is after
-    ghost opens: { Self → List ℕ → Result Self.Store StoreFault → Self → Type 0 };
-
-    // what closing a database leaves
-    ghost closes: { Self → Self.Store → Self → Type 0 };
-
-    /// Opens the database of a name; an empty one is made where there is none.
-    fn open(&mut self, name: &str) -> Result<Self::Store, StoreFault>
-        ensures { opens self.old name.now result self.new };
-
-    /// Closes a database. What was committed stays, also where that fails.
-    fn close(&mut self, store: Self::Store)
-        ensures { closes self.old store self.new };
-}
-
 /// Runs the program on its words, of which the first is its name.
 ///
 /// The words are judged before a database is opened; it is opened once, and closed at the end.
-/// Nothing is read. Help and the version are written as `clap` makes them. Only `serve` with
-/// `--log` writes to `errors`.
+/// Only a server opens it more than once: it closes it where another program wishes for it, and
+/// opens it again where a request needs it. Nothing is read. Help and the version are written as
+/// `clap` makes them. Only `serve` with `--log` tells the log, of each connection.
 ///
 /// # Errors
 ///
 /// Of the words: `Words` and `BadValue`. `Refused` as the office tells; `Storage`, also where the
 /// database can't be opened; `Memory`; after these nothing was written. `ClockOutOfRange` and
 /// `InputOutput` may come after a beginning of the output.
-pub fn run<D: Databases, S: AsStr, R: Read, W: Write, E: Write>(
+pub fn run<D: Databases, S: AsStr, R: Read, W: Write, G: Log>(
     rt: &HostRuntime,
     databases: &mut D,
     words: &[S],
     reader: &mut R,
     writer: &mut W,
-    errors: &mut E,
+    log: &mut G,
 ) -> Result<(), Fault>
     // The fault of the words, or what they ask for.
     ensures words { spec.AnswersWords (map S.text words.now) result }
     // Where they ask for a task, it was done at the database of the name that they give.
-    ensures command { spec.PerformsAsked D.opens D.closes D.Store.is_honest D.Store.stands
-        (asked (map S.text words.now)) databases.old databases.new
-        (output W.contents writer.old writer.new) result }
+    ensures command { spec.PerformsAsked D.opens D.closes D.wants D.Store.is_honest
+        D.Store.stands (asked (map S.text words.now)) databases.old databases.new
+        (output W.contents writer.old writer.new)
+        (λ fates. AreNoted G.begins G.notes log.old fates log.new) result }
     // Where they ask for none, no database was opened.
     ensures unopened { asked (map S.text words.now) ≡ None → databases.new ≡ databases.old }
     ensures silent { IfErr result (λ fault. spec.IsSilent fault → writer.new ≡ writer.old) }
     ensures unlogged { spec.asks_log (asked (map S.text words.now)) ≡ false
-        → errors.new ≡ errors.old }
+        → log.new ≡ log.old }
     ensures unread { reader.new ≡ reader.old }
 {
-    run_with_clock(rt, rt, databases, words, reader, writer, errors)
+    run_with_clock(rt, rt, databases, words, reader, writer, log)
 }
 
 /// Runs the program as `run`, with another clock of the machine: that by which a server without
-/// `--at` has its moments and its log the microseconds.
+/// `--at` has its moments, and its connections their limits of time.
 ///
 /// # Errors
 ///
 /// As `run`.
-pub fn run_with_clock<C: Clock, D: Databases, S: AsStr, R: Read, W: Write, E: Write>(
+pub fn run_with_clock<C: Clock, D: Databases, S: AsStr, R: Read, W: Write, G: Log>(
     rt: &HostRuntime,
     machine: &C,
     databases: &mut D,
     words: &[S],
     reader: &mut R,
     writer: &mut W,
-    errors: &mut E,
+    log: &mut G,
 ) -> Result<(), Fault>
     // The fault of the words, or what they ask for.
     ensures words { spec.AnswersWords (map S.text words.now) result }
     // Where they ask for a task, it was done at the database of the name that they give.
-    ensures command { spec.PerformsAsked D.opens D.closes D.Store.is_honest D.Store.stands
-        (asked (map S.text words.now)) databases.old databases.new
-        (output W.contents writer.old writer.new) result }
+    ensures command { spec.PerformsAsked D.opens D.closes D.wants D.Store.is_honest
+        D.Store.stands (asked (map S.text words.now)) databases.old databases.new
+        (output W.contents writer.old writer.new)
+        (λ fates. AreNoted G.begins G.notes log.old fates log.new) result }
     // Where they ask for none, no database was opened.
     ensures unopened { asked (map S.text words.now) ≡ None → databases.new ≡ databases.old }
     ensures silent { IfErr result (λ fault. spec.IsSilent fault → writer.new ≡ writer.old) }
     ensures unlogged { spec.asks_log (asked (map S.text words.now)) ≡ false
-        → errors.new ≡ errors.old }
+        → log.new ≡ log.old }
     ensures unread { reader.new ≡ reader.old }
 {
     // Nothing is read of it.
     let _ = reader;
     match command_of(rt.alloc(), words) {
-        Ok(asked) => answer(rt, machine, databases, asked, writer, errors),
+        Ok(asked) => answer(rt, machine, databases, asked, writer, log),
         Err(fault) => Err(fault),
     }
 }
 
 // Shows a text, or does what is asked for.
-fn answer<C: Clock, D: Databases, W: Write, E: Write>(
+fn answer<C: Clock, D: Databases, W: Write, G: Log>(
     rt: &HostRuntime,
     machine: &C,
     databases: &mut D,
     asked: Asked<'_>,
     writer: &mut W,
-    errors: &mut E,
+    log: &mut G,
 ) -> Result<(), Fault>
     ensures ends { spec.EndsFor asked.entry result }
-    ensures command { spec.PerformsAsked D.opens D.closes D.Store.is_honest D.Store.stands
-        (spec.job_of asked.entry) databases.old databases.new
-        (output W.contents writer.old writer.new) result }
+    ensures command { spec.PerformsAsked D.opens D.closes D.wants D.Store.is_honest
+        D.Store.stands (spec.job_of asked.entry) databases.old databases.new
+        (output W.contents writer.old writer.new)
+        (λ fates. AreNoted G.begins G.notes log.old fates log.new) result }
     ensures unopened { spec.job_of asked.entry ≡ None → databases.new ≡ databases.old }
     ensures silent { IfErr result (λ fault. spec.IsSilent fault → writer.new ≡ writer.old) }
-    ensures unlogged { spec.asks_log (spec.job_of asked.entry) ≡ false → errors.new ≡ errors.old }
+    ensures unlogged { spec.asks_log (spec.job_of asked.entry) ≡ false → log.new ≡ log.old }
 {
     match asked {
         Asked::ShowText(text) => show(&text, writer),
-        Asked::Perform(job) => perform(rt, machine, databases, job, writer, errors),
+        Asked::Perform(job) => perform(rt, machine, databases, job, writer, log),
     }
 }
 
-// Opens the database, does the task at it, and closes it.
-fn perform<C: Clock, D: Databases, W: Write, E: Write>(
+// Does a task at the database.
+fn perform<C: Clock, D: Databases, W: Write, G: Log>(
     rt: &HostRuntime,
     machine: &C,
     databases: &mut D,
     job: Job<'_>,
     writer: &mut W,
-    errors: &mut E,
+    log: &mut G,
 ) -> Result<(), Fault>
-    ensures done { spec.Performs D.opens D.closes D.Store.is_honest D.Store.stands
+    ensures done { spec.Performs D.opens D.closes D.wants D.Store.is_honest D.Store.stands
         job.entry databases.old databases.new
-        (output W.contents writer.old writer.new) result }
+        (output W.contents writer.old writer.new)
+        (λ fates. AreNoted G.begins G.notes log.old fates log.new) result }
     ensures of_task { IfErr result spec.IsOfTask }
     ensures silent { IfErr result (λ fault. spec.IsSilent fault → writer.new ≡ writer.old) }
-    ensures unlogged { spec.logs job.entry.task ≡ false → errors.new ≡ errors.old }
+    ensures unlogged { spec.logs job.entry.task ≡ false → log.new ≡ log.old }
 {
     let Job { file, task } = job;
-    match databases.open(file) {
-        Ok(store) => {
-            let mut desk = Desk::new(rt.alloc(), store);
-            let outcome = carry_out(rt, machine, &mut desk, task, writer, errors);
-            databases.close(desk.into_store());
-            outcome
-        }
-        Err(StoreFault::Memory) => Err(Fault::Memory),
-        Err(StoreFault::Storage) => Err(Fault::Storage),
+    match task {
+        Task::Serve(service) => serve_file(rt, machine, databases, file, service, writer, log),
+        Task::Pause(seconds) => pause(databases, file, seconds, writer),
+        task => work(rt.alloc(), databases, file, task, writer),
     }
 }
 
-// Does a task at a desk.
-fn carry_out<C: Clock, S: ClubStore, W: Write, E: Write>(
-    rt: &HostRuntime,
-    machine: &C,
+// Opens the database, does a task of the office at it, and closes it.
+fn work<D: Databases, W: Write>(
+    alloc: Global,
+    databases: &mut D,
+    file: &str,
+    task: Task<'_>,
+    writer: &mut W,
+) -> Result<(), Fault>
+    requires { spec.IsOffice task }
+    ensures { spec.Performs D.opens D.closes D.wants D.Store.is_honest D.Store.stands
+        (record { file = file.now; task = task.entry }) databases.old databases.new
+        (output W.contents writer.old writer.new) (λ fates. fates ≡ []) result }
+{
+    match databases.open(file) {
+        Ok(store) => {
+            let mut desk = Desk::new(alloc, store);
+            let outcome = carry_out(alloc, &mut desk, task, writer);
+            databases.close(desk.into_store());
+            outcome
+        }
+        Err(fault) => Err(Fault::from(fault)),
+    }
+}
+
+// Does a task of the office at a desk.
+fn carry_out<S: ClubStore, W: Write>(
+    alloc: Global,
     desk: &mut Desk<S>,
     task: Task<'_>,
     writer: &mut W,
-    errors: &mut E,
 ) -> Result<(), Fault>
-    ensures done { spec.Does S.is_honest S.stands task.entry
+    requires { spec.IsOffice task }
+    ensures { spec.Does S.is_honest S.stands task.entry
         (output W.contents writer.old writer.new) result desk.old desk.new }
-    ensures unlogged { spec.logs task.entry ≡ false → errors.new ≡ errors.old }
 {
-    let alloc = rt.alloc();
     match task {
         Task::Order(order) => give_order(desk, &order, writer),
         Task::AddKey {
@@ -196,7 +199,7 @@ fn carry_out<C: Clock, S: ClubStore, W: Write, E: Write>(
             order_pass(alloc, desk, &name, &root, form, &order, writer)
         }
         Task::Sheet(day) => show_sheet(desk, day, writer),
-        Task::Serve(service) => serve(rt, machine, desk, service, writer, errors),
+        Task::Serve(_) | Task::Pause(_) => unreachable!(),
     }
 }
 

@@ -2,79 +2,79 @@
 
 ghost use Rattle.std.specs.Prelude.{◌≡◌, IfOk, MatchResult, false};
 ghost use Rattle.std.specs.String.{string_bytes};
-ghost use Rattle.club_http.specs.Desk.{AnswersBy};
+ghost use Rattle.desk_server.specs.Served.{AreNoted};
 ghost use Rattle.desk_commands.specs.Output.{output};
 ghost use Rattle.desk_commands.specs.Run as spec;
 
 use crate::clock::Clock;
 use crate::fault::Fault;
 use crate::task::Service;
-use club_core::ClubStore;
-use club_gate::Desk;
-use club_http::{Face, WriteOutlet};
+use club_http::Face;
 use desk_server::{
-    ClockIn, ClockOutOfRange, Fixed, Listening, Log, LogLines, Moments, Unlogged, serve_logged,
+    ClockIn, ClockOutOfRange, Connections, Fixed, IdleHook, Listening, Log, Moments, Unlogged,
+    serve_logged,
 };
 use pass_commands::write_text;
 use std::alloc::{AllocError, Global};
 use std::io::Write;
 use std::net::TcpListener;
+use std::time::Duration;
 use std::{io, time};
 
 /// Where the server listens.
 const LOOPBACK: &str = "127.0.0.1";
 
+/// What a server serves by, which learns where the server listens.
+pub trait AddressKeeper: IdleHook {
+    /// The address of a server. It is kept till this is dropped.
+    type Address: Drop;
+
+    /// Keeps the address of a server that listens at this port of the loopback address.
+    fn keep_address(&self, port: u16) -> Self::Address;
+}
+
 /// Listens on the loopback address, writes where, and serves the connections: each at the moment
-/// that the service fixes, or that the machine's clock shows in its zone. Where a log is asked for,
-/// a line for each is written to `errors`.
+/// that the service fixes, or that the machine's clock shows in its zone, and under limits of the
+/// service's patience by that clock. Where a log is asked for, it notes each.
 ///
 /// # Errors
 ///
 /// `InputOutput` where nothing can be listened for, or the writer failed; `Memory`: nothing was
 /// served. `ClockOutOfRange` where the clock shows no moment of the club's at a connection, which
 /// ends the server.
-pub fn serve<S: ClubStore, C: time::Clock, W: Write, E: Write>(
+pub fn serve<D: AddressKeeper, C: time::Clock, W: Write, G: Log>(
     rt: &HostRuntime,
     machine: &C,
-    desk: &mut Desk<S>,
+    desk: &mut D,
     service: Service<'_>,
     writer: &mut W,
-    errors: &mut E,
+    log: &mut G,
 ) -> Result<(), Fault>
-    ensures served { spec.Serves (AnswersBy S.is_honest S.stands) service.entry
-        desk.old desk.new result }
+    ensures served { spec.Serves D.answers D.idles service.entry
+        desk.old desk.new (λ fates. AreNoted G.begins G.notes log.old fates log.new) result }
     ensures announced { spec.Announces service.entry.port
         (output W.contents writer.old writer.new) result }
-    ensures unlogged { service.entry.log ≡ false → errors.new ≡ errors.old }
+    ensures unlogged { service.entry.log ≡ false → log.new ≡ log.old }
 {
-    let Service {
-        port,
-        count,
-        clock,
-        log,
-    } = service;
-    let (listener, mut face) = match listen(rt, port, writer) {
+    let (listener, mut face, _address) = match listen(rt, service.port, desk, writer) {
         Ok(listening) => listening,
         Err(fault) => return Err(fault),
     };
-    if log {
-        let mut outlet = WriteOutlet::new(errors);
-        let mut lines = LogLines::new(&mut outlet, machine);
-        serve_by(
-            machine, &listener, clock, count, &mut face, desk, &mut lines,
-        )
+    if service.log {
+        serve_by(machine, &listener, service, &mut face, desk, log)
     } else {
-        let log = &mut Unlogged;
-        serve_by(machine, &listener, clock, count, &mut face, desk, log)
+        serve_by(machine, &listener, service, &mut face, desk, &mut Unlogged)
     }
 }
 
-// Listens, with all memory that is wanted before a request comes, and writes where.
-fn listen<W: Write>(
+// Listens, with all memory that is wanted before a request comes, keeps the address, and writes
+// where.
+fn listen<D: AddressKeeper, W: Write>(
     rt: &HostRuntime,
     port: u16,
+    desk: &D,
     writer: &mut W,
-) -> Result<(TcpListener, Face), Fault>
+) -> Result<(TcpListener, Face, D::Address), Fault>
     ensures { MatchResult result
         (λ _. spec.IsAnnounced port (output W.contents writer.old writer.new))
         (spec.StopsBefore port (output W.contents writer.old writer.new)) }
@@ -88,8 +88,9 @@ fn listen<W: Write>(
         Ok(face) => face,
         Err(_) => return Err(Fault::Memory),
     };
+    let address = desk.keep_address(bound);
     match announce(alloc, bound, writer) {
-        Ok(()) => Ok((listener, face)),
+        Ok(()) => Ok((listener, face, address)),
         Err(fault) => Err(fault),
     }
 }
@@ -128,43 +129,54 @@ fn line_of(alloc: Global, port: u16) -> Result<String, AllocError>
 }
 
 // Serves the connections of a listener by a clock.
-fn serve_by<S: ClubStore, C: time::Clock, G: Log>(
+fn serve_by<D: IdleHook, C: time::Clock, G: Log>(
     machine: &C,
     listener: &TcpListener,
-    clock: Clock<'_>,
-    count: u32,
+    service: Service<'_>,
     face: &mut Face,
-    desk: &mut Desk<S>,
+    desk: &mut D,
     log: &mut G,
 ) -> Result<(), Fault>
-    ensures { spec.ServesAll (spec.showing clock.entry) (AnswersBy S.is_honest S.stands) count
-        tt desk.old tt desk.new result }
+    ensures { spec.ServesAll (spec.showing service.entry.clock) D.answers D.idles
+        service.entry.count tt desk.old tt desk.new
+        (λ fates. AreNoted G.begins G.notes log.old fates log.new) result }
 {
+    let Service {
+        port: _,
+        count,
+        clock,
+        patience,
+        log: _,
+    } = service;
+    let patience = Duration::from_secs(u64::from(patience));
+    let mut connections = Listening::new(listener, machine, patience);
     match clock {
         Clock::Fixed(moment) => {
             let mut moments = Fixed { moment };
-            serve_at(listener, &mut moments, count, face, desk, log)
+            serve_at(&mut connections, &mut moments, count, face, desk, log)
         }
         Clock::InZone(zone) => {
             let mut moments = ClockIn::new(zone, machine);
-            serve_at(listener, &mut moments, count, face, desk, log)
+            serve_at(&mut connections, &mut moments, count, face, desk, log)
         }
     }
 }
 
-fn serve_at<S: ClubStore, M: Moments, G: Log>(
-    listener: &TcpListener,
+// Serves connections of which none has failed yet.
+fn serve_at<D: IdleHook, L: Connections, M: Moments, G: Log>(
+    connections: &mut L,
     moments: &mut M,
     count: u32,
     face: &mut Face,
-    desk: &mut Desk<S>,
+    desk: &mut D,
     log: &mut G,
 ) -> Result<(), Fault>
-    ensures { spec.ServesAll M.tells (AnswersBy S.is_honest S.stands) count
-        moments.old desk.old moments.new desk.new result }
+    requires { L.failures connections.old ≡ 0 }
+    ensures { spec.ServesAll M.tells D.answers D.idles count
+        moments.old desk.old moments.new desk.new
+        (λ fates. AreNoted G.begins G.notes log.old fates log.new) result }
 {
-    let mut connections = Listening::new(listener);
-    match serve_logged(&mut connections, count, moments, face, desk, log) {
+    match serve_logged(connections, count, moments, face, desk, log) {
         Ok(()) => Ok(()),
         Err(ClockOutOfRange) => Err(Fault::ClockOutOfRange),
     }

@@ -31,6 +31,8 @@ pub enum Task<'a> {
     Sheet(Day),
     /// The server.
     Serve(Service<'a>),
+    /// A pause of so many seconds, 1 to 600, in which the server keeps away from the file.
+    Pause(u32),
 }
 
 /// What the server is to do.
@@ -42,7 +44,9 @@ pub struct Service<'a> {
     pub count: u32,
     /// Where the moments come from.
     pub clock: Clock<'a>,
-    /// Whether each connection is told in a line on standard error.
+    /// How many seconds a request may take to be there, and its reply to be taken, 1 to 3,600.
+    pub patience: u32,
+    /// Whether the log notes each connection.
     pub log: bool,
 }
 

@@ -11,6 +11,12 @@ const MAX_DIGITS: usize = 9;
 /// The most connections that are served.
 pub const MAX_CONNECTIONS: u32 = 1_000_000;
 
+/// The most seconds of a pause.
+pub const MAX_PAUSE_SECONDS: u32 = 600;
+
+/// The most seconds of a limit of time.
+pub const MAX_PATIENCE: u32 = 3_600;
+
 /// The number of 1 to 9 decimal digits.
 pub fn number_of(text: &str) -> Option<u32>
     ensures { result ≡ spec.number_of text.now }
@@ -41,6 +47,28 @@ pub fn count_of(text: &str) -> Option<u32>
 {
     let number = number_of(text)?;
     if number == 0 || number > MAX_CONNECTIONS {
+        return None;
+    }
+    Some(number)
+}
+
+/// How many seconds a pause has, 1 to 600.
+pub fn pause_seconds(text: &str) -> Option<u32>
+    ensures { result ≡ spec.pause_seconds text.now }
+{
+    let number = number_of(text)?;
+    if number == 0 || number > MAX_PAUSE_SECONDS {
+        return None;
+    }
+    Some(number)
+}
+
+/// How many seconds a limit of time has, 1 to 3,600.
+pub fn patience_of(text: &str) -> Option<u32>
+    ensures { result ≡ spec.patience_of text.now }
+{
+    let number = number_of(text)?;
+    if number == 0 || number > MAX_PATIENCE {
         return None;
     }
     Some(number)

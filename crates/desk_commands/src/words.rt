@@ -91,6 +91,7 @@ fn task_of<'a>(alloc: Global, name: &str, words: &ArgMatches<'a>) -> Result<Task
         "close-slot" => judged(commands::close_slot(words)),
         "sheet" => judged(commands::sheet(words)),
         "serve" => judged(commands::serve(words)),
+        "pause" => judged(commands::pause(words)),
         _ => unreachable!(),
     }
 }

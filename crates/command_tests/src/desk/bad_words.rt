@@ -34,7 +34,7 @@ fn expect_refused(rt: &(impl Abort + AllocGlobal), lines: &[&str], end: &End) {
     }
 }
 
-static BAD_VALUES: [&str; 35] = [
+static BAD_VALUES: [&str; 46] = [
     "add-member|F|Amy|5",
     "add-member|F||5",
     "add-member|F|amybobcydideeveflogushalfi|5",
@@ -69,8 +69,19 @@ static BAD_VALUES: [&str; 35] = [
     "serve|F|--port|0|--count|1|--zone|Europe/Berlin",
     "serve|F|--port|0|--count|1|--at|2026-05-01",
     "serve|F|--port|0|--count|1|--at|2026-05-01T24:00",
+    "pause|F|0",
+    "pause|F|601",
+    "pause|F|1000000000",
+    "pause|F|x",
+    "pause|F|1s",
+    "pause|F|",
     // The zone is judged beside a fixed moment.
     "serve|F|--port|0|--count|1|--at|2026-05-01T12:00|--zone|x",
+    "serve|F|--port|0|--count|1|--patience|0",
+    "serve|F|--port|0|--count|1|--patience|3601",
+    "serve|F|--port|0|--count|1|--patience|x",
+    "serve|F|--port|0|--count|1|--patience|",
+    "serve|F|--port|0|--count|1|--patience|1.5",
 ];
 
 #[test]
@@ -135,7 +146,7 @@ fn bad_forms(rt: HostRuntime) {
     }
 }
 
-static BAD_WORDS: [&str; 24] = [
+static BAD_WORDS: [&str; 28] = [
     "frob",
     "help|frob",
     "add-member|--version",
@@ -160,6 +171,10 @@ static BAD_WORDS: [&str; 24] = [
     "serve|F|--count|1",
     "serve|--port|0|--count|1",
     "serve|F|--port|0|--count|1|--verbose",
+    "pause|F",
+    "pause|F|1|2",
+    "pause|F|-1",
+    "serve|F|--port|0|--count|1|--patience",
 ];
 
 #[test]
@@ -178,10 +193,11 @@ fn words_that_are_no_text(rt: HostRuntime) {
     expect_fault(&rt, &not_text(rt.alloc()), &NOT_TEXT);
 }
 
-static HELP: [&str; 6] = [
+static HELP: [&str; 7] = [
     "--help",
     "help",
     "help|serve",
+    "help|pause",
     "add-facility|-h",
     "--version",
     "-V",

@@ -1,4 +1,4 @@
-//! A client that comes by the line of a server, and the clock of its machine.
+//! Clients that come by the line of a server, and the clock of its machine.
 
 use std::cell::Cell;
 use std::io::{self, ErrorKind, Read, Write};
@@ -11,24 +11,25 @@ const LOOPBACK: &str = "127.0.0.1:";
 /// Another address of the machine, where it doesn't.
 const BESIDE: &str = "127.0.0.2";
 
-/// Takes the line of a server. Once it is there, a client connects to where it says, and sends a
-/// request, which waits there for the server. So a server and its client need one thread.
+/// Takes the line of a server. Once it is there, a client for each request connects to where it
+/// says, and sends it, and the requests wait there for the server. So a server and its clients need
+/// one thread.
 #[derive(Drop)]
 pub struct Caller<'a> {
     rt: &'a HostRuntime,
-    request: &'a str,
+    requests: &'a [&'a str],
     line: Vec<u8>,
-    client: Option<TcpStream>,
+    clients: Vec<TcpStream>,
 }
 
 impl<'a> Caller<'a> {
-    /// A client with this request.
-    pub fn new(rt: &'a HostRuntime, request: &'a str) -> Caller<'a> {
+    /// Clients with these requests.
+    pub fn new(rt: &'a HostRuntime, requests: &'a [&'a str]) -> Caller<'a> {
         Caller {
             rt,
-            request,
+            requests,
             line: Vec::new(rt.alloc()),
-            client: None,
+            clients: Vec::new(rt.alloc()),
         }
     }
 
@@ -39,28 +40,37 @@ impl<'a> Caller<'a> {
         address.strip_prefix(LOOPBACK)?.parse().ok()
     }
 
-    // A client that has sent the request to this port. At another address of the machine nobody
+    // A client that has sent a request to this port. At another address of the machine nobody
     // listens.
-    fn called(&self, port: u16) -> io::Result<TcpStream> {
+    fn called(&self, port: u16, request: &str) -> io::Result<TcpStream> {
         if TcpStream::connect(self.rt, (BESIDE, port)).is_ok() {
             return Err(io::Error::from(ErrorKind::AddrInUse));
         }
         let mut client = TcpStream::connect(self.rt, ("127.0.0.1", port))?;
-        client.write_all(self.request.as_bytes())?;
+        client.write_all(request.as_bytes())?;
         Ok(client)
     }
 
-    /// What came back; nothing where no client was there. A connection that is closed with its
-    /// request unread may end with an error.
+    // A client for each request.
+    fn call(&mut self, port: u16) -> io::Result<()> {
+        for request in self.requests {
+            let client = self.called(port, request)?;
+            self.clients.push(client)?;
+        }
+        Ok(())
+    }
+
+    /// What came back to each in turn; nothing where no client was there. A connection that is
+    /// closed with its request unread may end with an error.
     pub fn reply(self) -> Vec<u8> {
         let Caller {
             rt,
-            request: _,
+            requests: _,
             line: _,
-            client,
+            clients,
         } = self;
         let mut reply = Vec::new(rt.alloc());
-        if let Some(mut client) = client {
+        for mut client in clients {
             let _ = client.read_to_end(&mut reply);
         }
         reply
@@ -77,25 +87,28 @@ impl Write for Caller<'_> {
 
     fn flush(&mut self) -> io::Result<()> {
         if let Some(port) = self.port() {
-            self.client = Some(self.called(port)?);
+            self.call(port)?;
         }
         Ok(())
     }
 }
 
-/// The clock of a machine. It shows one second, counted since 1970 began, and 1,533 microseconds
-/// more each time that a span is measured; or it can't be read.
+/// The clock of a machine. It shows one second, counted since 1970 began, or it can't be read. The
+/// time since its start is none when it is read for the first two times, as a connection's limit
+/// and its span in the log begin, and so many microseconds from then on.
 #[derive(Drop)]
 pub struct Machine {
     second: Option<u64>,
-    measured: Cell<u64>,
+    later: u64,
+    read: Cell<u64>,
 }
 
 impl Machine {
-    pub fn new(second: Option<u64>) -> Machine {
+    pub fn new(second: Option<u64>, later: u64) -> Machine {
         Machine {
             second,
-            measured: Cell::new(0),
+            later,
+            read: Cell::new(0),
         }
     }
 
@@ -108,9 +121,9 @@ impl Machine {
 impl Clock for Machine {
     fn monotonic(&self) -> io::Result<Duration> {
         let _ = self.shown()?;
-        let measured = self.measured.get().saturating_add(1_533);
-        self.measured.set(measured);
-        Ok(Duration::from_micros(measured))
+        let read = self.read.get();
+        self.read.set(read.saturating_add(1));
+        Ok(Duration::from_micros(if read < 2 { 0 } else { self.later }))
     }
 
     fn since_1970(&self) -> io::Result<Duration> {

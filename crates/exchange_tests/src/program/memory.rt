@@ -1,5 +1,6 @@
 //! A database in memory, and runs of the program over it.
 
+use super::others::Others;
 use super::runs::{Output, ROOM, Row, expect_told, run_over};
 use club_core::StoreFault;
 use club_store::Store;
@@ -20,6 +21,7 @@ pub struct InMemory {
     pub fault: Option<StoreFault>,
     pub opened: u64,
     pub closed: u64,
+    pub others: Others,
 }
 
 impl InMemory {
@@ -31,6 +33,7 @@ impl InMemory {
             fault: None,
             opened: 0,
             closed: 0,
+            others: Others::none(),
         }
     }
 
@@ -46,9 +49,15 @@ impl InMemory {
 impl Databases for InMemory {
     type Store = Store<MemStore>;
 
+    type Pause = ();
+
+    type Address = ();
+
     ghost opens = { λ _ _ _ _. Unit {0} };
 
     ghost closes = { λ _ _ _. Unit {0} };
+
+    ghost wants = { λ _ _ _. Unit {0} };
 
     fn open(&mut self, name: &str) -> Result<Store<MemStore>, StoreFault> {
         self.opened = self.opened.saturating_add(1);
@@ -61,9 +70,37 @@ impl Databases for InMemory {
         }
     }
 
+    fn reopen(&mut self, name: &str) -> Result<Store<MemStore>, StoreFault> {
+        match self.others.fault_of_reopening() {
+            Some(fault) => {
+                self.opened = self.opened.saturating_add(1);
+                Err(fault)
+            }
+            None => self.open(name),
+        }
+    }
+
     fn close(&mut self, store: Store<MemStore>) {
         self.closed = self.closed.saturating_add(1);
         self.store = Some(store);
+    }
+
+    fn is_wanted(&self, name: &str) -> bool {
+        name == NAME && self.others.look()
+    }
+
+    fn pause(&self, _name: &str) -> Option<()> {
+        if self.others.refuse_pauses {
+            None
+        } else {
+            Some(())
+        }
+    }
+
+    fn keep_address(&self, _name: &str, _port: u16) {}
+
+    fn wait(&self, seconds: u32) {
+        self.others.wait(seconds);
     }
 }
 

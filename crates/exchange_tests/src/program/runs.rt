@@ -1,8 +1,10 @@
 //! Runs of the program, as texts.
 
 use super::served::{Leaving, serve_over};
+use club_http::WriteOutlet;
 use desk_commands::{Databases, Fault, run};
 use desk_files::Files;
+use desk_server::LogLines;
 use std::alloc::AllocError;
 use std::io::{self, ErrorKind, Write};
 use std::net::TcpListener;
@@ -129,13 +131,14 @@ pub fn run_over<D: Databases>(
         taken: Vec::new(rt.alloc()),
     };
     let mut errors = Vec::new(rt.alloc());
+    let mut log = LogLines::new(WriteOutlet::new(&mut errors), rt);
     let outcome = run(
         rt,
         databases,
         words.as_slice(),
         &mut nothing,
         &mut full,
-        &mut errors,
+        &mut log,
     );
     Ok(Output {
         told: told_of(rt, &outcome, full.taken.as_slice())?,

@@ -9,6 +9,7 @@ use desk_server::{Fixed, Listening, serve_on};
 use std::io::{Read, Write};
 use std::net::{TcpListener, TcpStream};
 use std::test::Fail;
+use std::time::Duration;
 
 // A client that has sent this to a listener.
 fn client_of(rt: &HostRuntime, listener: &TcpListener, request: &str) -> Result<TcpStream, Fail> {
@@ -25,7 +26,7 @@ fn serve_at<S: ClubStore>(
 ) -> Result<(), Fail> {
     let mut face = Face::new(rt.alloc())?;
     let moment = Moment::read(b"2026-04-20T12:00").ok_or("moment")?;
-    let mut connections = Listening::new(listener);
+    let mut connections = Listening::new(listener, rt, Duration::from_secs(10));
     serve_on(&mut connections, 1, &mut Fixed { moment }, &mut face, desk)?;
     Ok(())
 }

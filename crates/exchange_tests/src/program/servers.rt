@@ -4,11 +4,13 @@
 use super::callers::{Caller, Machine};
 use super::memory::{InMemory, club_of, expect_in, expect_openings};
 use super::runs::{Row, told_of, words_of};
+use club_http::WriteOutlet;
 use desk_commands::run_with_clock;
+use desk_server::LogLines;
 use std::test::Fail;
 
 /// Amy with quota 5 and 10,000 points, her key, and a court.
-static OFFICE: [Row; 4] = [
+pub(super) static OFFICE: [Row; 4] = [
     Row("add-member", "amy 5", "0 done\n"),
     Row("credit", "amy 10000", "0 done\n"),
     Row("add-facility", "court-1 court 4 200 8 22", "0 done\n"),
@@ -19,7 +21,7 @@ static OFFICE: [Row; 4] = [
     ),
 ];
 
-const BOOKING: &str =
+pub(super) const BOOKING: &str =
     "PUT /slots/court-1/2026-05-01/18/bookings/7 HTTP/1.1\r\nContent-Length: 12\r\n\
     Authorization: Bearer \
     AgEJY2x1Yi1kZXNrAglrZXk6YW15LTEAAAYgDsU-vMVpq3Ex5_BQk6D5VX6TimC0IfCk7Dn6nv7TIJk\r\n\r\n\
@@ -59,6 +61,14 @@ const NOT_BOOKABLE: Outcome = Outcome {
     sheet: NOTHING,
 };
 
+/// A limit is over, or the clock can't be read while it is reckoned, so the connection fails: no
+/// byte comes back.
+const CUT_OFF: Outcome = Outcome {
+    end: "0 ",
+    reply: "",
+    sheet: NOTHING,
+};
+
 /// The clock shows no moment: no byte comes back.
 const OUT_OF_RANGE: Outcome = Outcome {
     end: "6 clock out of range",
@@ -72,23 +82,25 @@ struct Serving(Option<u64>, &'static str, &'static Outcome, &'static str);
 
 /// How a run ended, what came back, and the log.
 #[derive(Drop)]
-struct Ended {
-    end: String,
-    reply: Vec<u8>,
-    log: Vec<u8>,
+pub(super) struct Ended {
+    pub end: String,
+    pub reply: Vec<u8>,
+    pub log: Vec<u8>,
 }
 
 // Runs the server on a line of words. It is the one function here that names the types of a run.
-fn served(
+pub(super) fn served(
     rt: &HostRuntime,
     databases: &mut InMemory,
     machine: &Machine,
+    requests: &[&str],
     line: &str,
 ) -> Result<Ended, Fail> {
     let words = words_of(rt, line)?;
     let mut nothing: &[u8] = b"";
-    let mut caller = Caller::new(rt, BOOKING);
+    let mut caller = Caller::new(rt, requests);
     let mut log = Vec::new(rt.alloc());
+    let mut lines = LogLines::new(WriteOutlet::new(&mut log), machine);
     let outcome = run_with_clock(
         rt,
         machine,
@@ -96,13 +108,28 @@ fn served(
         words.as_slice(),
         &mut nothing,
         &mut caller,
-        &mut log,
+        &mut lines,
     );
     Ok(Ended {
         end: told_of(rt, &outcome, b"")?,
         reply: caller.reply(),
         log,
     })
+}
+
+/// The microseconds that a connection takes, but where its server has a patience.
+const SPAN: u64 = 1_533;
+
+/// Those that it takes there.
+const LONG_SPAN: u64 = 4_000_000;
+
+// The span of a connection, by the options of its server.
+fn later_in(options: &str) -> u64 {
+    if options.contains("--patience") {
+        LONG_SPAN
+    } else {
+        SPAN
+    }
 }
 
 // Fails unless the run ended so.
@@ -125,7 +152,8 @@ fn expect_served(
 ) -> Result<(), Fail> {
     let Serving(second, options, outcome, _) = serving;
     let line = format!(in rt.alloc(); "clubdesk serve club --port 0 --count 1 {options}")?;
-    let ended = served(rt, databases, &Machine::new(*second), line.as_str())?;
+    let machine = Machine::new(*second, later_in(options));
+    let ended = served(rt, databases, &machine, &[BOOKING], line.as_str())?;
     expect_ended(rt, serving, &ended)?;
     expect_in(rt, databases, &outcome.sheet)
 }
@@ -137,14 +165,14 @@ fn serves(rt: &HostRuntime, serving: &Serving) -> Result<(), Fail> {
     expect_openings(&databases, 6, 6)
 }
 
-/// Whatever the machine's clock shows.
+/// Whatever the machine's clock shows, where it can be read.
 static AT: [Serving; 6] = [
-    Serving(None, "--at 2026-04-20T12:00", &SERVED, ""),
+    Serving(None, "--at 2026-04-20T12:00", &CUT_OFF, ""),
     Serving(
         None,
         "--at 2026-04-20T12:00 --log",
-        &SERVED,
-        "2026-04-20T12:00 PUT /slots/court-1/2026-05-01/18/bookings/7 200 0\n",
+        &CUT_OFF,
+        "2026-04-20T12:00 - - - 0\n",
     ),
     Serving(
         Some(1_777_658_400),
@@ -170,6 +198,42 @@ static AT: [Serving; 6] = [
 #[test]
 fn serves_at_a_fixed_moment(rt: HostRuntime) -> Result<(), Fail> {
     for serving in &AT {
+        serves(&rt, serving)?;
+    }
+    Ok(())
+}
+
+/// A request that is there after four seconds, with a patience of three, four and more.
+static PATIENT: [Serving; 4] = [
+    Serving(
+        Some(0),
+        "--at 2026-04-20T12:00 --log --patience 3",
+        &CUT_OFF,
+        "2026-04-20T12:00 - - - 4000000\n",
+    ),
+    Serving(
+        Some(0),
+        "--at 2026-04-20T12:00 --log --patience 4",
+        &CUT_OFF,
+        "2026-04-20T12:00 - - - 4000000\n",
+    ),
+    Serving(
+        Some(0),
+        "--patience 5 --at 2026-04-20T12:00 --log",
+        &SERVED,
+        "2026-04-20T12:00 PUT /slots/court-1/2026-05-01/18/bookings/7 200 4000000\n",
+    ),
+    Serving(
+        Some(0),
+        "--at 2026-04-20T12:00 --patience 3600",
+        &SERVED,
+        "",
+    ),
+];
+
+#[test]
+fn serves_within_its_patience(rt: HostRuntime) -> Result<(), Fail> {
+    for serving in &PATIENT {
         serves(&rt, serving)?;
     }
     Ok(())

@@ -1,4 +1,5 @@
 use Rattle.std.proofs.Common.{◌≡◌, ◌∙◌, inl, inr, refl, sym, ap, None, Some, Err}
+use Rattle.desk_server.specs.Served as served
 use Rattle.desk_commands.specs.Run.{asks_log}
 use Rattle.desk_commands.specs.Run as spec
 use Rattle.desk_commands.proofs.RunLemmas.{nothing_asked, run_words, task_asked}
@@ -20,6 +21,6 @@ returns-in-Ok-clause-unlogged g c =
 pub returns-in-Err-clause-command : goal.returns-in-Err-clause-command
 returns-in-Err-clause-command g c =
     λ job is. elim (nothing_asked _ c.in-Err.fault c.in-Err.ensures) [
-      | inl memory ↦ spec.starved (ap Err memory) refl refl
+      | inl memory ↦ spec.starved (ap Err memory) refl refl served.nothing
       | inr none ↦ let bad : None ≡ Some job = sym none ∙ is in cc
     ]

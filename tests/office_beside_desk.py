@@ -1,0 +1,102 @@
+"""Four clients at a server, and two offices beside it: office_beside_desk.py DESK FILE PORT.
+
+Reads the passes of the keys k1 to k4 from the file `passes`. Each client makes 500 requests at a facility of its own, and each
+reply has to be that which it reckons; the offices give 200 orders, and each has to print what it reckons. Prints how long the
+orders and the requests took.
+"""
+
+import json
+import socket
+import subprocess
+import sys
+import threading
+import time
+
+desk, file, port = sys.argv[1], sys.argv[2], int(sys.argv[3])
+passes = dict(line.split() for line in open("passes"))
+wrong = []
+order_times, request_times = [], []
+
+
+def ask(key, method, path, body=""):
+    """The status and the body of the reply to a request under a key's pass."""
+    head = f"{method} {path} HTTP/1.1\r\nHost: club\r\nAuthorization: Bearer {passes[key]}\r\nContent-Length: {len(body)}\r\n\r\n"
+    begun = time.monotonic()
+    with socket.create_connection(("127.0.0.1", port), 60) as client:
+        client.sendall((head + body).encode())
+        reply = b""
+        while part := client.recv(4096):
+            reply += part
+    request_times.append(time.monotonic() - begun)
+    head, _, body = reply.partition(b"\r\n\r\n")
+    return int(head.split()[1]), json.loads(body)
+
+
+def expect(what, found, wanted):
+    if found != wanted:
+        wrong.append(f"{what}: {found}, wanted {wanted}")
+
+
+def client(place):
+    """Ninety rounds: a booking, its repeat, the slot and the account; every third booking is cancelled. Then the account."""
+    key, court = f"k{place}", f"court-{place}"
+    spent = booked = 0
+    for number in range(1, 91):
+        day, hour = f"2026-05-{1 + number // 14:02d}", 8 + number % 14
+        slot = f"/slots/{court}/{day}/{hour:02d}"
+        made = (200, {"booking": f"{key}/{number}", "charge": 14, "left": 2})
+        expect(slot, ask(key, "PUT", f"{slot}/bookings/{number}", '{"guests":1}'), made)
+        spent, booked = spent + 14, booked + 1
+        expect(f"{slot} again", ask(key, "PUT", f"{slot}/bookings/{number}", '{"guests":1}'), made)
+        if number % 3 == 0:
+            back = (200, {"booking": f"{key}/{number}", "refund": 14})
+            expect(f"{slot} cancelled", ask(key, "DELETE", f"{slot}/bookings/{number}"), back)
+            spent, booked = spent - 14, booked - 1
+        taken = 0 if number % 3 == 0 else 2
+        expect(f"{slot} taken", ask(key, "GET", slot)[1].get("taken"), taken)
+        account(key, place, spent, booked)
+    for _ in range(500 - 90 * 4 - 30):
+        account(key, place, spent, booked)
+
+
+def account(key, place, spent, booked):
+    wanted = {"member": f"m{place}", "balance": 10000 - spent, "quota": 99, "open": booked, "spent": spent}
+    expect(f"account of {key}", ask(key, "GET", "/account"), (200, wanted))
+
+
+def order(words, wanted):
+    begun = time.monotonic()
+    done = subprocess.run([desk, *words], capture_output=True, text=True)
+    order_times.append(time.monotonic() - begun)
+    expect(" ".join(words), (done.returncode, done.stdout, done.stderr), (0, wanted, ""))
+
+
+def office(place):
+    """A hundred orders: members, credits, closed slots and revoked keys."""
+    for n in range(1, 26):
+        name = f"o{place}-{n}"
+        order(["add-member", file, name, "5"], "done\n")
+        order(["credit", file, name, str(100 * n)], "done\n")
+        order(["close-slot", file, f"room-{place}", f"2026-06-{n:02d}", "10"], "done\n")
+        order(["revoke-key", file, f"old-{place}"], "done\n")
+
+
+def times(what, found):
+    found.sort()
+    middle, last = found[len(found) // 2], found[-1]
+    print(f"{len(found)} {what}: half of them within {middle * 1000:.0f} ms, the longest {last * 1000:.0f} ms")
+
+
+workers = [threading.Thread(target=client, args=[n]) for n in range(1, 5)]
+workers += [threading.Thread(target=office, args=[n]) for n in range(1, 3)]
+for worker in workers:
+    worker.start()
+for worker in workers:
+    worker.join()
+times("orders", order_times)
+times("requests", request_times)
+expect("orders", len(order_times), 200)
+expect("requests", len(request_times), 2000)
+for line in wrong[:20]:
+    print(line, file=sys.stderr)
+sys.exit(1 if wrong else 0)
