@@ -2,10 +2,11 @@
 
 use crate::known::known;
 use anyhow::{Result, anyhow};
-use club_core::{ClubStore, Command, Root};
+use club_core::{ClubStore, Command};
 use club_gate::{Desk, OfficeReply, key_signature, minted};
+use club_rows::Root;
 use club_store::Store;
-use pass_caveats::{Kind, Name};
+use club_values::{Kind, Name};
 use pass_forms::{Form, FormFault, Pass, narrow};
 use pass_json::write_any;
 use sqlite::MemStore;
@@ -25,11 +26,11 @@ pub(crate) const CAVEATS: [&[u8]; 3] = [
 
 /// The desk of a new club, over tables in memory.
 pub(crate) fn in_memory(rt: &impl AllocGlobal) -> Result<Desk<Store<MemStore>>> {
-    filled(rt.alloc(), Store::open_in_memory(rt.alloc())?)
+    filled_desk(rt.alloc(), Store::open_in_memory(rt.alloc())?)
 }
 
 // The desk over empty tables, which get the court, the members and their keys.
-fn filled<S: ClubStore + Drop>(alloc: Global, store: S) -> Result<Desk<S>> {
+fn filled_desk<S: ClubStore + Drop>(alloc: Global, store: S) -> Result<Desk<S>> {
     let mut desk = Desk::new(alloc, store);
     order(&mut desk, &known(court(), "a court")?)?;
     for index in 0..KEYS {

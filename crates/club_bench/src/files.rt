@@ -4,7 +4,7 @@ use club_core::{ClubStore, StoreFault};
 use club_store::Store;
 use sqlite::{Error, FileFrom, FileStore, Unknown};
 
-/// Where clubs lie. What is written over any such place is proved without a look at its files.
+/// A place for clubs. Code that is generic over it is proved without loading its files.
 pub(crate) trait Files {
     type Store: ClubStore + Drop;
 

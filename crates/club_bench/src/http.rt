@@ -1,7 +1,7 @@
 //! How many exchanges a second there are over memory, and how long the parts of one take. Each row
 //! has COUNT exchanges with a desk over tables in memory: bookings, the same bookings again, and
 //! accounts. The parts are measured on their own, with another desk: the words of the requests, the
-//! desk's answers, the texts of the replies. Beside the words stands how long `httparse` takes for
+//! desk's answers, the texts of the replies. Beside the words is the time that `httparse` takes for
 //! the heads alone.
 
 mod parts;

@@ -4,7 +4,7 @@ use crate::club::{CAVEATS, KEYS, passes};
 use crate::known::known;
 use crate::wish::{Wish, number_at, slot_and_moment};
 use anyhow::Result;
-use pass_caveats::{Moment, Slot};
+use club_values::{Moment, Slot};
 use pass_forms::Form;
 use std::alloc::{AllocError, Global};
 

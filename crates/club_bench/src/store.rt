@@ -48,13 +48,13 @@ fn print_sizes<F: Files>(
 ) -> Result<()> {
     let mut first = None;
     for &rows in sizes {
-        let summary = measured(rt, files, place, rows, count)?.summary()?;
+        let summary = measured_times(rt, files, place, rows, count)?.summary()?;
         summary.print(rt, rows, *first.get_or_insert(summary))?;
     }
     Ok(())
 }
 
-fn measured<F: Files>(
+fn measured_times<F: Files>(
     rt: &HostRuntime,
     files: &F,
     place: &str,

@@ -1,8 +1,8 @@
 //! What the members ask for, and when: a slot after the other, under the keys in turn.
 
 use crate::club::{COURT, KEYS};
-use club_core::slot_from_columns;
-use pass_caveats::{Moment, Slot};
+use club_rows::slot_from_columns;
+use club_values::{Moment, Slot};
 
 /// 2000-01-01, counted from 1970-01-01.
 const FIRST_DAY: u16 = 10_957;

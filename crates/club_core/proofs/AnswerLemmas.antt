@@ -16,7 +16,8 @@ use Rattle.club_rows.specs.Booking.{same_slot, refund_at}
 use Rattle.club_core.specs.Lines.{Line, first_of}
 use Rattle.club_core.specs.declared.form_fault.FormFault.{FormFault}
 use Rattle.club_core.specs.Pass.{Pass, is_signed_under}
-use Rattle.club_core.specs.Verdict.{refused, booked, booked_before, cancelled_now, new_booking, book_lines, cancel_lines, new_verdict, repeat_booking_verdict}
+use Rattle.club_core.specs.Verdict.{refusal_verdict, booked_now, booked_before, cancelled_now, new_booking, book_lines, cancel_lines, new_verdict}
+use Rattle.club_core.specs.Verdict.{repeat_booking_verdict}
 use Rattle.club_core.specs.Verdict.{cancel_recorded_verdict, shown_at, unknown_verdict, recorded_or, verdict_of}
 use Rattle.club_core.specs.Answer.{answer_to, acceptance_lines, ask_of, after_caveats}
 use Rattle.club_core.specs.Laws.{KeepsWhereRefused}
@@ -37,7 +38,7 @@ keeps_new : (view : View) (slot : Slot) (number guests moment : ℕ) (facility :
     KeepsWhereRefused (new_verdict view slot number guests moment facility)
 keeps_new view slot number guests moment None = record { kept = λ r e. refl }
 keeps_new view slot number guests moment (Some facility) =
-    let last = booked (new_booking view slot number guests facility) in
+    let last = booked_now (new_booking view slot number guests facility) in
     keeps_first (book_lines view slot guests moment facility) last (
       record { kept = λ r e. refl },
       (record { kept = λ r e. refl }, (record { kept = λ r e. refl }, (record { kept = λ r e. refl }, (record { kept = λ r e. refl }, tt)))),
@@ -46,7 +47,7 @@ keeps_new view slot number guests moment (Some facility) =
 
 keeps_repeat : (booking : Booking) (slot : Slot) (guests : ℕ) → KeepsWhereRefused (repeat_booking_verdict booking slot guests)
 keeps_repeat booking slot guests =
-    keep (same_slot booking.slot slot && booking.guests == guests) (booked_before booking) (refused NumberUsed) (record { kept = λ r e. refl })
+    keep (same_slot booking.slot slot && booking.guests == guests) (booked_before booking) (refusal_verdict NumberUsed) (record { kept = λ r e. refl })
     (record { kept = λ r e. refl })
 
 keeps_cancel : (booking : Booking) (slot : Slot) (moment : ℕ) → KeepsWhereRefused (cancel_recorded_verdict booking slot moment)

@@ -1,4 +1,4 @@
--- Which passes are accepted, and what they entitle to (ours).
+-- Which passes are accepted, and which requests an accepted pass allows (ours).
 use Rattle.std.specs.Prelude.{◌≡◌, ◌≢◌, ℕ, All, true, false, Option, Some, None, Ok}
 use Rattle.pass_caveats.specs.declared.ask.Ask.{Ask}
 use Rattle.pass_caveats.specs.declared.caveat.Caveat.{Caveat}
@@ -18,15 +18,15 @@ use Rattle.club_core.specs.Pass.{Pass, IsSignedUnder, is_signed_under, Words}
 abbrev pub IsServed : Reply → Type 0
 IsServed reply = (refusal : Refusal) → reply ≢ Refused refusal
 
--- the request is in the set of the caveat; a caveat that isn't understood has the empty set
+-- the caveat allows the request; a caveat that isn't understood allows none
 abbrev pub IsAllowedBy : Ask → Option Caveat → Type 0
 IsAllowedBy ask None = ⊥
 IsAllowedBy ask (Some caveat) = Permits caveat ask
 
--- the pass is accepted for the request: signed under the key of the view, which isn't revoked, and no caveat is at fault
-pub record IsAccepted (pass : Pass) (request : Request) (moment : ℕ) (view : View) : Type 0 where
+-- the pass is accepted for the request: it is signed under the view's key, the key isn't revoked, and no caveat is at fault
+pub record IsAcceptedPass (pass : Pass) (request : Request) (moment : ℕ) (view : View) : Type 0 where
   pub signed : is_signed_under pass view.key moment ≡ true
-  pub stands : view.key.revoked ≡ false
+  pub not_revoked : view.key.revoked ≡ false
   pub faultless : first_fault_of pass.caveats (ask_of view request moment) ≡ None
 
 -- the text is a pass, it names a key of the club, and it is accepted
@@ -35,10 +35,10 @@ pub record IsAcceptedIn (club : Club) (words : Words) (moment : ℕ) : Type 0 wh
   pub basis : Basis
   pub read : words.pass ≡ Ok pass
   pub known : basis_of club words ≡ Some basis
-  pub accepted : IsAccepted pass words.request moment (view_of basis words.request moment)
+  pub accepted : IsAcceptedPass pass words.request moment (view_of basis words.request moment)
 
--- the text is a pass that entitles to the request: it names a key of the club that isn't revoked, is signed under a root of its
--- row that is good at the moment, and each of its caveats allows the request
+-- the text is a pass that allows the request: it names a key of the club that isn't revoked, it is signed under a root of that key
+-- that is good at the moment, and each of its caveats allows the request
 pub record IsEntitled (club : Club) (words : Words) (moment : ℕ) : Type 0 where
   pub pass : Pass
   pub basis : Basis
@@ -46,6 +46,6 @@ pub record IsEntitled (club : Club) (words : Words) (moment : ℕ) : Type 0 wher
   pub named : pass.key ≡ Some basis.key.name
   pub row : key_named basis.key.name club ≡ Some basis.key
   pub known : basis_of club words ≡ Some basis
-  pub stands : basis.key.revoked ≡ false
+  pub not_revoked : basis.key.revoked ≡ false
   pub signed : IsSignedUnder pass basis.key moment
   pub allowed : All (IsAllowedBy (ask_of (view_of basis words.request moment) words.request moment)) pass.caveats

@@ -12,19 +12,19 @@ use Rattle.club_core.specs.Club.{Club}
 use Rattle.club_core.specs.Sums.{is_under}
 
 -- a member's row after points for a member of this name
-abbrev pub credited : List ℕ → ℕ → Member → Member
-credited name points member =
+abbrev pub credited_member : List ℕ → ℕ → Member → Member
+credited_member name points member =
     record member { credited = if bytes_eq member.name name then member.credited + points else member.credited }
 
-abbrev pub revoked : List ℕ → Key → Key
-revoked name key = record key { revoked = key.revoked || bytes_eq key.name name }
+abbrev pub revoked_key : List ℕ → Key → Key
+revoked_key name key = record key { revoked = key.revoked || bytes_eq key.name name }
 
 abbrev pub good_until : ℕ → List ℕ → OlderRoot
 good_until until root = record { root = root; until = until }
 
 -- a key's row after a rotation under this name: the row's root becomes the older one, and the new root takes its place
-abbrev pub rotated : List ℕ → List ℕ → ℕ → Key → Key
-rotated name root until key = record key {
+abbrev pub rotated_key : List ℕ → List ℕ → ℕ → Key → Key
+rotated_key name root until key = record key {
   root = if bytes_eq key.name name then root else key.root;
   older = if bytes_eq key.name name then Some (good_until until key.root) else key.older;
 }
@@ -33,19 +33,19 @@ rotated name root until key = record key {
 abbrev pub is_marked : List ℕ → ℕ → Booking → Bool
 is_marked key number booking = is_under key booking && booking.number == number && not booking.cancelled
 
-abbrev pub cancelled : List ℕ → ℕ → ℕ → Booking → Booking
-cancelled key number refund booking = record booking {
+abbrev pub cancelled_booking : List ℕ → ℕ → ℕ → Booking → Booking
+cancelled_booking key number refund booking = record booking {
   cancelled = booking.cancelled || is_marked key number booking;
   refund = if is_marked key number booking then refund else booking.refund;
 }
 
 abbrev pub after : Change → Club → Club
 after (InsertMember member) club = record club { members = club.members ++ member ∷ [] }
-after (AddCredit name points) club = record club { members = map (credited name points) club.members }
+after (AddCredit name points) club = record club { members = map (credited_member name points) club.members }
 after (InsertFacility facility) club = record club { facilities = club.facilities ++ facility ∷ [] }
 after (InsertKey key) club = record club { keys = club.keys ++ key ∷ [] }
-after (MarkRevoked name) club = record club { keys = map (revoked name) club.keys }
-after (ReplaceRoot name root until) club = record club { keys = map (rotated name root until) club.keys }
+after (MarkRevoked name) club = record club { keys = map (revoked_key name) club.keys }
+after (ReplaceRoot name root until) club = record club { keys = map (rotated_key name root until) club.keys }
 after (MarkClosed slot) club = record club { closed = club.closed ++ slot ∷ [] }
 after (InsertBooking booking) club = record club { bookings = club.bookings ++ booking ∷ [] }
-after (MarkCancelled key number refund) club = record club { bookings = map (cancelled key number refund) club.bookings }
+after (MarkCancelled key number refund) club = record club { bookings = map (cancelled_booking key number refund) club.bookings }

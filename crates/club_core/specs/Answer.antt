@@ -1,5 +1,5 @@
--- The answer to a request (ours): the pass is accepted or refused, and then the decision. It depends on nothing but the words,
--- the moment and the view, and so on the basis of the view.
+-- The answer to a request (ours): first the pass is accepted or refused, then the request is decided. The answer depends only on the
+-- words, the moment and the view, and so on the basis of the view.
 use Rattle.std.specs.Prelude.{ℕ, not, Bool, false, List, [], ◌∷◌, Option, Some, None, Result, Ok, Err, is_some, option_map}
 use Rattle.pass_caveats.specs.declared.ask.Ask.{Ask}
 use Rattle.pass_caveats.specs.declared.fault.CaveatFault.{CaveatFault}
@@ -17,14 +17,14 @@ use Rattle.club_core.specs.declared.refusal.Refusal.TheVariants.{PassTooLong, Pa
 use Rattle.club_core.specs.declared.refusal.Refusal.TheVariants.{CaveatNotUnderstood, CaveatDenies}
 use Rattle.club_core.specs.declared.request.Request.{Request}
 use Rattle.club_core.specs.declared.request.Request.TheVariants as asked
-use Rattle.club_core.specs.Lines.{Line, line, first_of}
+use Rattle.club_core.specs.Lines.{Line, line_if, first_of}
 use Rattle.club_core.specs.Club.{Club}
 use Rattle.club_core.specs.Pass.{Pass, is_signed_under, Words}
-use Rattle.club_core.specs.Verdict.{refused, verdict_of}
+use Rattle.club_core.specs.Verdict.{refusal_verdict, verdict_of}
 use Rattle.club_core.specs.Basis.{Basis, basis_of, view_of}
-use Rattle.club_core.specs.Request.{action_of, slot_of, guests_of}
+use Rattle.club_core.specs.Request.{request_action, request_slot, request_guests}
 
--- the charge of a booking under a new number at a known facility, and else nothing
+-- the points that the request would charge: those of a booking under a new number at a known facility, else 0
 abbrev pub owed_at : Request → Bool → Option Facility → ℕ
 owed_at (asked.Book slot number guests) false (Some facility) = charge_of facility guests
 owed_at request recorded facility = 0
@@ -32,10 +32,10 @@ owed_at request recorded facility = 0
 -- what caveats see of a request
 abbrev pub ask_of : View → Request → ℕ → Ask
 ask_of view request moment = record {
-  action = action_of request;
-  slot = slot_of request;
+  action = request_action request;
+  slot = request_slot request;
   kind = option_map (λ (facility : Facility). facility.kind) view.facility;
-  guests = guests_of request;
+  guests = request_guests request;
   moment = moment;
   owed = owed_at request (is_some view.booking) view.facility;
   spent = view.spent;
@@ -47,35 +47,35 @@ form_refusal Malformed = PassMalformed
 form_refusal ThirdParty = ThirdPartyCaveat
 form_refusal TooMany = TooManyCaveats
 
--- the first caveat at fault refuses, and where there is none, the decision answers
+-- the first caveat at fault refuses the request; if there is none, the decision is the answer
 abbrev pub after_caveats : Option CaveatFault → Verdict → Verdict
 after_caveats None verdict = verdict
-after_caveats (Some (NotUnderstood n)) verdict = refused (CaveatNotUnderstood n)
-after_caveats (Some (Denied n)) verdict = refused (CaveatDenies n)
+after_caveats (Some (NotUnderstood n)) verdict = refusal_verdict (CaveatNotUnderstood n)
+after_caveats (Some (Denied n)) verdict = refusal_verdict (CaveatDenies n)
 
--- why a pass of a known key is refused before its caveats are looked at
+-- refusals of a known key's pass that come before its caveats
 abbrev pub acceptance_lines : Key → Bool → List (Line Verdict)
-acceptance_lines key is_signed = line (not is_signed) (refused NotVerified) ∷ line key.revoked (refused KeyRevoked) ∷ []
+acceptance_lines key is_signed = line_if (not is_signed) (refusal_verdict NotVerified) ∷ line_if key.revoked (refusal_verdict KeyRevoked) ∷ []
 
--- the answer to a pass that was read: by the view of its key, whether it is signed under that key, and the first caveat at fault
+-- the answer to a parsed pass, by its key's view, whether that key signed it, and its first caveat at fault
 abbrev pub answer_by_view : Option View → Bool → Option CaveatFault → Request → ℕ → Verdict
-answer_by_view None is_signed fault request moment = refused NotVerified
+answer_by_view None is_signed fault request moment = refusal_verdict NotVerified
 answer_by_view (Some view) is_signed fault request moment =
     first_of (acceptance_lines view.key is_signed) (after_caveats fault (verdict_of view request moment))
 
 -- the answer to a text, by the view of the key that it names
 abbrev pub answer_to : Result Pass FormFault → Request → ℕ → Option View → Verdict
-answer_to (Err fault) request moment view = refused (form_refusal fault)
+answer_to (Err fault) request moment view = refusal_verdict (form_refusal fault)
 answer_to (Ok pass) request moment None = answer_by_view None false None request moment
 answer_to (Ok pass) request moment (Some view) =
     answer_by_view (Some view) (is_signed_under pass view.key moment)
     (first_fault_of pass.caveats (ask_of view request moment))
     request moment
 
-abbrev pub answer_of : Words → ℕ → Option Basis → Verdict
-answer_of words moment basis =
+abbrev pub answer_by_basis : Words → ℕ → Option Basis → Verdict
+answer_by_basis words moment basis =
     answer_to words.pass words.request moment (option_map (λ (b : Basis). view_of b words.request moment) basis)
 
--- what a club answers to words at a moment: the reply, and the change
+-- a club's answer to a request at a moment: the reply and the change
 abbrev pub verdict_in : Club → Words → ℕ → Verdict
-verdict_in club words moment = answer_of words moment (basis_of club words)
+verdict_in club words moment = answer_by_basis words moment (basis_of club words)

@@ -1,4 +1,4 @@
--- The rows that the answer to a request may depend on, and the view of them that decides it (ours).
+-- The rows that the answer to a request may depend on (the basis), and the figures of them that decide it (the view) (ours).
 use Rattle.std.specs.Prelude.{ℕ, false, List, Option, Some, None, Result, Ok, Err, option_map, option_and_then}
 use Rattle.club_values.specs.declared.slot.Slot.{Slot}
 use Rattle.club_rows.specs.declared.member.Member.{Member}
@@ -11,27 +11,27 @@ use Rattle.club_core.specs.declared.request.Request.{Request}
 use Rattle.club_core.specs.declared.slot_use.SlotUse.{SlotUse}
 use Rattle.club_core.specs.declared.view.View.{View}
 use Rattle.club_core.specs.Club.{Club, member_named, facility_named, key_named, bookings_of, is_closed}
-use Rattle.club_core.specs.Request.{slot_of, number_of}
+use Rattle.club_core.specs.Request.{request_slot, request_number}
 use Rattle.club_core.specs.Pass.{Pass, Words}
 use Rattle.club_core.specs.Sums.{taken_in, spent_under, balance_of, count_to_come, booking_under}
 
--- what is taken of a slot by these bookings, and whether the club closed it; nothing of no slot
-abbrev pub use_by : List Booking → Club → Option Slot → SlotUse
-use_by bookings club None = record { taken = 0; closed = false }
-use_by bookings club (Some slot) = record { taken = taken_in slot bookings; closed = is_closed slot club }
+-- how much of a slot these bookings take, and whether the club closed it; without a slot nothing is taken
+abbrev pub slot_use_by : List Booking → Club → Option Slot → SlotUse
+slot_use_by bookings club None = record { taken = 0; closed = false }
+slot_use_by bookings club (Some slot) = record { taken = taken_in slot bookings; closed = is_closed slot club }
 
--- by all bookings
+-- how much all bookings take of the slot
 abbrev pub slot_use : Club → Slot → SlotUse
-slot_use club slot = use_by club.bookings club (Some slot)
+slot_use club slot = slot_use_by club.bookings club (Some slot)
 
--- a member with the points that it has
-abbrev pub account_of : Club → Member → MemberAccount
-account_of club member = record { member = member; balance = balance_of member (bookings_of member.name club) }
+-- a member with its balance
+abbrev pub club_account : Club → Member → MemberAccount
+club_account club member = record { member = member; balance = balance_of member (bookings_of member.name club) }
 
 abbrev pub account_named : List ℕ → Club → Option MemberAccount
-account_named name club = option_map (account_of club) (member_named name club)
+account_named name club = option_map (club_account club) (member_named name club)
 
--- the state of a slot: its facility if there is one, and what is taken of it
+-- the state of a slot: its facility, if known, and how much of the slot is taken
 pub record SlotState : Type 0 where
   pub facility : Option Facility
   pub held : SlotUse
@@ -39,7 +39,7 @@ pub record SlotState : Type 0 where
 abbrev pub state_of : Club → Option Slot → SlotState
 state_of club slot = record {
   facility = option_and_then (λ (s : Slot). facility_named s.facility club) slot;
-  held = use_by club.bookings club slot;
+  held = slot_use_by club.bookings club slot;
 }
 
 -- the key's row, its member's row, the bookings of all keys of that member, and the state of the slot
@@ -55,22 +55,22 @@ basis_under club request key =
       key = key;
       member = member;
       bookings = bookings_of member.name club;
-      state = state_of club (slot_of request);
+      state = state_of club (request_slot request);
     })
     (member_named key.member club)
 
--- the key that a text names: none where it is no pass, or its identifier is no key's
+-- the key that a text names: none if the text isn't a pass, or its identifier names no key
 abbrev pub key_of : Result Pass FormFault → Option (List ℕ)
 key_of (Ok pass) = pass.key
 key_of (Err fault) = None
 
--- none where the words name no key of the club
+-- none if the words name no key of the club
 abbrev pub basis_of : Club → Words → Option Basis
 basis_of club words =
     option_and_then (basis_under club words.request)
     (option_and_then (λ (name : List ℕ). key_named name club) (key_of words.pass))
 
--- the sums that a decision looks at
+-- the rows and sums that a decision reads
 abbrev pub view_of : Basis → Request → ℕ → View
 view_of basis request moment = record {
   key = basis.key;
@@ -81,10 +81,10 @@ view_of basis request moment = record {
   facility = basis.state.facility;
   taken = basis.state.held.taken;
   closed = basis.state.held.closed;
-  booking = option_and_then (λ (number : ℕ). booking_under basis.key.name number basis.bookings) (number_of request);
+  booking = option_and_then (λ (number : ℕ). booking_under basis.key.name number basis.bookings) (request_number request);
 }
 
--- what a key sees of a request at a moment; none where the club has no such key
+-- a key's view for a request at a moment; none if the club has no such key
 abbrev pub view_in : Club → List ℕ → Request → ℕ → Option View
 view_in club key request moment =
     option_map (λ (basis : Basis). view_of basis request moment)

@@ -1,4 +1,4 @@
--- The club: its rows, and what holds of them (ours). It holds no totals.
+-- The club: its rows and their invariants (ours). It holds no totals.
 use Rattle.std.specs.Prelude.{◌≡◌, ◌≢◌, ℕ, ◌≤◌, Bool, List, [], map, filter, find, sum_by, Option, All, AllPairs, Contains}
 use Rattle.std.specs.List.{list_any}
 use Rattle.std.specs.Str.{bytes_eq}
@@ -52,7 +52,7 @@ pub record HasRows (club : Club) : Type 0 where
   pub bookings : All IsBooking club.bookings
   pub closed : All IsSlot club.closed
 
--- no two rows have one name; a booking's name is its key and number
+-- names are unique; a booking's name is its key and number
 pub record HasUniqueNames (club : Club) : Type 0 where
   pub members : AllPairs (λ (a : Member) (b : Member). a.name ≢ b.name) club.members
   pub facilities : AllPairs (λ (a : Facility) (b : Facility). a.name ≢ b.name) club.facilities
@@ -60,14 +60,14 @@ pub record HasUniqueNames (club : Club) : Type 0 where
   pub bookings : AllPairs (λ (a : Booking) (b : Booking). ¬ ((a.key ≡ b.key) × (a.number ≡ b.number))) club.bookings
   pub closed : AllPairs (λ (a : Slot) (b : Slot). a ≢ b) club.closed
 
--- each name that a row refers to is among them
+-- each name that a row refers to is the name of a row
 pub record HasReferences (club : Club) : Type 0 where
   pub keys : All (λ (key : Key). Contains (map (λ (m : Member). m.name) club.members) key.member) club.keys
   pub bookings : All (λ (booking : Booking). Contains (map (λ (k : Key). k.name) club.keys) booking.key) club.bookings
   pub booked : All (λ (booking : Booking). Contains (map (λ (f : Facility). f.name) club.facilities) booking.slot.facility) club.bookings
   pub closed : All (λ (slot : Slot). Contains (map (λ (f : Facility). f.name) club.facilities) slot.facility) club.closed
 
--- what holds of every club
+-- the invariant of every club
 pub record IsSound (club : Club) : Type 0 where
   pub rows : HasRows club
   pub unique : HasUniqueNames club

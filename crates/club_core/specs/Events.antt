@@ -1,4 +1,4 @@
--- The limits of the values that an event holds (ours).
+-- The limits of an event's values (ours).
 use Rattle.club_values.specs.Moment.{IsMoment}
 use Rattle.club_values.specs.Name.{IsName}
 use Rattle.club_rows.specs.Limits.{IsBookingNumber, IsGuests, IsRoot}
@@ -15,7 +15,7 @@ IsRequest (asked.Book slot number guests) = IsSlot slot × IsBookingNumber numbe
 IsRequest (asked.Cancel slot number) = IsSlot slot × IsBookingNumber number
 IsRequest asked.Account = Unit {0}
 
--- the office tests the numbers by itself
+-- the numbers have no limits here: `order_verdict` checks them
 abbrev pub IsCommand : Command → Type 0
 IsCommand (AddMember name quota) = IsName name
 IsCommand (Credit member points) = IsName member
@@ -25,7 +25,7 @@ IsCommand (RevokeKey name) = IsName name
 IsCommand (RotateKey name root until) = IsName name × IsRoot root × IsMoment until
 IsCommand (CloseSlot slot) = IsSlot slot
 
--- names are names, slots are slots, numbers, guests and roots are within their limits; the moment of a request may be any
+-- each value of the event is within its limits; the moment of a request may be any
 abbrev pub IsEvent : Event → Type 0
 IsEvent (Asked words moment) = IsRequest words.request
 IsEvent (Ordered command) = IsCommand command

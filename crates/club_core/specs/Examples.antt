@@ -1,4 +1,4 @@
--- Runs from the empty club that compute (ours).
+-- Worked runs from the empty club (ours).
 use Rattle.std.specs.Prelude.{◌≡◌, ℕ, true, List, [], ◌∷◌, Option, Some, Ok, replicate, codes}
 use Rattle.club_values.specs.declared.kind.Kind.TheVariants.{Court}
 use Rattle.club_values.specs.declared.slot.Slot.{Slot}
@@ -66,7 +66,7 @@ BooksAndCancels =
     (ask (asked.Book (slot_at 18) 7 2) noon ∷ ask asked.Account noon ∷ ask (asked.Cancel (slot_at 18) 7) noon ∷ [])
     ≡ served_booking 7 600 1 ∷ account 9_400 1 600 ∷ served_cancellation 7 600 ∷ []
 
--- a repeat is told what was told first, also after a cancellation and when the slot has begun, and nothing is charged
+-- a repeat returns the first reply, also after a cancellation and once the slot has begun, and charges nothing
 abbrev pub RepeatsAfterACancellation : Type 0
 RepeatsAfterACancellation =
     replies_of opened_club
@@ -78,7 +78,7 @@ RepeatsAfterACancellation =
     ∷ [])
     ≡ served_booking 7 600 1 ∷ served_cancellation 7 600 ∷ served_booking 7 600 1 ∷ Replied (Refused refusals.NumberUsed) ∷ account 10_000 0 0 ∷ []
 
--- a slot is closed once nobody has booked it, and then nobody books it
+-- a slot can be closed only while nobody has booked it; a closed slot can't be booked
 abbrev pub ClosesASlot : Type 0
 ClosesASlot =
     replies_of opened_club
@@ -97,7 +97,7 @@ ClosesASlot =
     ∷ Replied (Refused refusals.SlotClosed)
     ∷ []
 
--- a pass that spends 600 points at most spends them again once they came back
+-- a pass that may spend 600 points may spend them again after a refund
 abbrev pub KeepsASpendLimit : Type 0
 KeepsASpendLimit =
     let limited = ask_with (Some (Spend 600) ∷ []) in

@@ -1,4 +1,4 @@
--- How the faults of the office and of a store are told (ours).
+-- The texts of the office's and a store's faults (ours).
 use Rattle.std.specs.Prelude.{ℕ, List, codes}
 use Rattle.club_core.specs.declared.command.OfficeFault.{OfficeFault}
 use Rattle.club_core.specs.declared.command.OfficeFault.TheVariants.{Exists, Unknown, OutOfRange, SlotInUse}

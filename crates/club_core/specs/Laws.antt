@@ -4,7 +4,7 @@ use Rattle.club_rows.specs.declared.key.Key.{Key}
 use Rattle.club_core.specs.declared.refusal.Refusal.{Refusal}
 use Rattle.club_core.specs.declared.reply.Reply.TheVariants.{Refused}
 use Rattle.club_core.specs.declared.verdict.Verdict.{Verdict}
-use Rattle.club_core.specs.Answer.{answer_of, answer_to, verdict_in}
+use Rattle.club_core.specs.Answer.{answer_by_basis, answer_to, verdict_in}
 use Rattle.club_core.specs.Basis.{Basis, view_for}
 use Rattle.club_core.specs.Club.{Club, IsSound, bookings_of}
 use Rattle.club_core.specs.Pass.{Pass, IsSignedUnder, is_signed_under, Words}
@@ -16,23 +16,23 @@ pub record KeepsWhereRefused (verdict : Verdict) : Type 0 where
   pub kept : (refusal : Refusal) → verdict.reply ≡ Refused refusal → verdict.change ≡ None
 
 abbrev pub RefusalsChangeNothing : Type 0
-RefusalsChangeNothing = (words : Words) (moment : ℕ) (basis : Option Basis) → KeepsWhereRefused (answer_of words moment basis)
+RefusalsChangeNothing = (words : Words) (moment : ℕ) (basis : Option Basis) → KeepsWhereRefused (answer_by_basis words moment basis)
 
--- a club has one sheet a day
+-- a club has at most one sheet for a day
 abbrev pub OneSheet : Type 0
 OneSheet = (club : Club) (day : ℕ) (text other : List ℕ) → IsSheet club day text → IsSheet club day other → text ≡ other
 
--- who decides on the sums of a view answers as one who has the bookings
+-- deciding by the sums of a view gives the same answer as deciding by the bookings
 abbrev pub ViewsDecide : Type 0
 ViewsDecide = (club : Club) (words : Words) (moment : ℕ) →
     verdict_in club words moment ≡ answer_to words.pass words.request moment (view_for club words moment)
 
--- the test of a signature tells what it is to tell
+-- `is_signed_under` is true exactly if the pass is signed under a good root of the key
 abbrev pub TestsTheSignature : Type 0
 TestsTheSignature = (pass : Pass) (key : Key) (moment : ℕ) →
     IsTrue (is_signed_under pass key moment) ↔ IsSignedUnder pass key moment
 
--- what a key spent and booked stands among its member's bookings
+-- a member's bookings hold all that its key spent and booked
 pub record HasOwnBookings (club : Club) (key : Key) : Type 0 where
   pub spent : spent_under key.name (bookings_of key.member club) ≡ spent_under key.name club.bookings
   pub booked : (number : ℕ) → booking_under key.name number (bookings_of key.member club) ≡ booking_under key.name number club.bookings
@@ -40,5 +40,6 @@ pub record HasOwnBookings (club : Club) (key : Key) : Type 0 where
 abbrev pub OwnBookings : Type 0
 OwnBookings = (club : Club) (key : Key) → Contains club.keys key → HasOwnBookings club key
 
+-- a sound club has a sheet for each day
 abbrev pub SomeSheet : Type 0
 SomeSheet = (club : Club) → IsSound club → (day : ℕ) → (text : List ℕ) × IsSheet club day text

@@ -1,15 +1,15 @@
--- Decisions as lists of lines.
+-- Decisions as lists of lines: the first line whose condition holds gives the answer.
 use Rattle.std.specs.Prelude.{Bool, if◌then◌else◌, List, [], ◌∷◌}
 
--- an answer, and when it fits
+-- an answer and its condition
 pub record Line (A : Type 0) : Type 0 where
   pub fits : Bool
   pub answer : A
 
-abbrev pub line : {A : Type 0} → Bool → A → Line A
-line fits answer = record { fits = fits; answer = answer }
+abbrev pub line_if : {A : Type 0} → Bool → A → Line A
+line_if fits answer = record { fits = fits; answer = answer }
 
--- the first line that fits decides, and where none does, the last word
+-- the answer of the first line that fits, or the last argument if none fits
 abbrev pub first_of : {A : Type 0} → List (Line A) → A → A
 first_of [] last = last
 first_of (l ∷ lines) last = if l.fits then l.answer else first_of lines last

@@ -1,5 +1,5 @@
--- What the answer to a request looks at of its view (ours): the caveats at the record, the facility and what was spent, the decision at
--- its part.
+-- The parts of a view that an answer depends on (ours): caveats depend on the record, the facility and what was spent; each decision on
+-- its own part.
 use Rattle.std.specs.Prelude.{◌≡◌, ℕ, ◌&&◌, not, Bool, false, None, is_some, if◌then◌else◌}
 use Rattle.pass_caveats.specs.Spending.{after_spending}
 use Rattle.club_rows.specs.declared.key.Key.{Key}
@@ -9,7 +9,7 @@ use Rattle.club_core.specs.declared.view.View.{View}
 use Rattle.club_core.specs.Answer.{ask_of}
 use Rattle.club_core.specs.Verdict.{verdict_of}
 
--- the view of a key that shows nothing else: no record, no facility, no sum
+-- a view with the key alone: no record, no facility, all sums 0
 abbrev pub bare_view : Key → View
 bare_view key = record {
   key = key;
@@ -23,7 +23,7 @@ bare_view key = record {
   booking = None;
 }
 
--- of a view, what caveats see beside what the key has spent: the record and the facility
+-- the part of a view that caveats depend on, apart from what the key has spent: the record and the facility
 abbrev pub seen_by_caveats : View → View
 seen_by_caveats view = record (bare_view view.key) { facility = view.facility; booking = view.booking }
 
@@ -31,8 +31,8 @@ seen_by_caveats view = record (bare_view view.key) { facility = view.facility; b
 abbrev pub books_anew : View → Bool
 books_anew view = not (is_some view.booking) && is_some view.facility
 
--- of a view, what the decision sees: a shown slot its state; a new booking all but what the key has spent; a repeat, a cancellation and
--- what finds no facility no sum at all; the account its sums
+-- the part of a view that the decision depends on. Showing a slot: its state. A new booking: all but what the key has spent. A repeat,
+-- a cancellation or an unknown facility: no sum. The account: its sums.
 abbrev pub seen_by_decision : Request → View → View
 seen_by_decision (asked.View slot) view = record (seen_by_caveats view) { taken = view.taken; closed = view.closed }
 seen_by_decision (asked.Book slot number guests) view =
@@ -45,7 +45,7 @@ seen_by_decision asked.Account view = record (seen_by_caveats view) {
   open_count = view.open_count;
 }
 
--- the caveats and the decision say of these parts what they say of the whole view
+-- caveats and decision give the same result for these parts as for the whole view
 pub record RestsOnItsParts (view : View) (request : Request) (moment : ℕ) : Type 0 where
   pub caveats : ask_of (seen_by_caveats view) request moment ≡ after_spending 0 (ask_of view request moment)
   pub decision : verdict_of (seen_by_decision request view) request moment ≡ verdict_of view request moment

@@ -1,4 +1,4 @@
--- The orders of the office (ours). The first line that fits refuses.
+-- The orders of the office (ours). The first line that fits refuses the order.
 use Rattle.std.specs.Prelude.{ℕ, ◌+◌, ◌==◌, ◌&&◌, ◌||◌, not, Bool, false, List, [], ◌∷◌, nat_lt, nat_le, is_some, Option, Some, None, Result, Ok, Err}
 use Rattle.std.specs.Str.{bytes_eq}
 use Rattle.club_values.specs.declared.slot.Slot.{Slot}
@@ -15,16 +15,16 @@ use Rattle.club_core.specs.declared.command.OfficeFault.{OfficeFault}
 use Rattle.club_core.specs.declared.command.OfficeFault.TheVariants.{Exists, Unknown, OutOfRange, SlotInUse}
 use Rattle.club_core.specs.declared.order_view.OrderView.{OrderView}
 use Rattle.club_core.specs.declared.slot_use.SlotUse.{SlotUse}
-use Rattle.club_core.specs.Lines.{line, first_of}
+use Rattle.club_core.specs.Lines.{line_if, first_of}
 use Rattle.club_core.specs.Club.{Club, member_named, facility_named, key_named}
 use Rattle.club_core.specs.Basis.{slot_use}
 
--- rows, and no slot
+-- a view with these rows and no slot
 abbrev pub rows_seen : Option Member → Option Key → Option Facility → OrderView
 rows_seen member key facility =
     record { member = member; key = key; facility = facility; slot = record { taken = 0; closed = false } }
 
--- the rows that an order looks at: those of the names in it, and what is taken of its slot
+-- the rows that decide an order: those it names, and how much of its slot is taken
 abbrev pub order_view : Club → Command → OrderView
 order_view club (AddMember name quota) = rows_seen (member_named name club) None None
 order_view club (Credit name points) = rows_seen (member_named name club) None None
@@ -35,16 +35,16 @@ order_view club (RotateKey name root until) = rows_seen None (key_named name clu
 order_view club (CloseSlot slot) =
     record { member = None; key = None; facility = facility_named slot.facility club; slot = slot_use club slot }
 
--- the points of one credit
+-- the most points of one credit
 abbrev pub points_limit : ℕ
 points_limit = 1_000_000
 
 abbrev pub credit_verdict : List ℕ → ℕ → Option Member → Result Change OfficeFault
 credit_verdict name points None = Err Unknown
 credit_verdict name points (Some member) =
-    first_of (line (nat_lt credited_limit (member.credited + points)) (Err OutOfRange) ∷ []) (Ok (AddCredit name points))
+    first_of (line_if (nat_lt credited_limit (member.credited + points)) (Err OutOfRange) ∷ []) (Ok (AddCredit name points))
 
--- some places, opening before shutting, and all within the limits of a facility
+-- the numbers are within the limits of a facility: at least one place, and it opens before it shuts
 abbrev pub are_limits : ℕ → ℕ → ℕ → ℕ → Bool
 are_limits places price opens shuts =
     nat_le 1 places && nat_le places places_limit && nat_le price price_limit && nat_lt opens shuts && nat_le shuts shutting_limit
@@ -52,40 +52,40 @@ are_limits places price opens shuts =
 abbrev pub rotate_verdict : List ℕ → List ℕ → ℕ → Option Key → Result Change OfficeFault
 rotate_verdict name root until None = Err Unknown
 rotate_verdict name root until (Some key) =
-    first_of (line (bytes_eq key.root root) (Err Exists) ∷ []) (Ok (ReplaceRoot name root until))
+    first_of (line_if (bytes_eq key.root root) (Err Exists) ∷ []) (Ok (ReplaceRoot name root until))
 
 abbrev pub close_verdict : SlotUse → Slot → Option Facility → Result Change OfficeFault
 close_verdict held slot None = Err Unknown
 close_verdict held slot (Some facility) =
     first_of
-    (line (not (is_open_at facility slot.hour)) (Err OutOfRange)
-    ∷ line held.closed (Err Exists)
-    ∷ line (nat_lt 0 held.taken) (Err SlotInUse)
+    (line_if (not (is_open_at facility slot.hour)) (Err OutOfRange)
+    ∷ line_if held.closed (Err Exists)
+    ∷ line_if (nat_lt 0 held.taken) (Err SlotInUse)
     ∷ [])
     (Ok (MarkClosed slot))
 
--- the change that an order makes, or why it makes none
+-- the change that an order makes, or why it is refused
 abbrev pub order_verdict : OrderView → Command → Result Change OfficeFault
 order_verdict view (AddMember name quota) =
     first_of
-    (line (nat_lt quota_limit quota) (Err OutOfRange) ∷ line (is_some view.member) (Err Exists) ∷ [])
+    (line_if (nat_lt quota_limit quota) (Err OutOfRange) ∷ line_if (is_some view.member) (Err Exists) ∷ [])
     (Ok (InsertMember (record { name = name; credited = 0; quota = quota })))
 order_verdict view (Credit name points) =
     first_of
-    (line (points == 0 || nat_lt points_limit points) (Err OutOfRange) ∷ [])
+    (line_if (points == 0 || nat_lt points_limit points) (Err OutOfRange) ∷ [])
     (credit_verdict name points view.member)
 order_verdict view (AddFacility name kind places price opens shuts) =
     first_of
-    (line (not (are_limits places price opens shuts)) (Err OutOfRange) ∷ line (is_some view.facility) (Err Exists) ∷ [])
+    (line_if (not (are_limits places price opens shuts)) (Err OutOfRange) ∷ line_if (is_some view.facility) (Err Exists) ∷ [])
     (Ok (InsertFacility (record { name = name; kind = kind; places = places; price = price; opens = opens; shuts = shuts })))
 order_verdict view (AddKey name member root) =
     first_of
-    (line (not (is_some view.member)) (Err Unknown) ∷ line (is_some view.key) (Err Exists) ∷ [])
+    (line_if (not (is_some view.member)) (Err Unknown) ∷ line_if (is_some view.key) (Err Exists) ∷ [])
     (Ok (InsertKey (record { name = name; member = member; root = root; older = None; revoked = false })))
-order_verdict view (RevokeKey name) = first_of (line (not (is_some view.key)) (Err Unknown) ∷ []) (Ok (MarkRevoked name))
+order_verdict view (RevokeKey name) = first_of (line_if (not (is_some view.key)) (Err Unknown) ∷ []) (Ok (MarkRevoked name))
 order_verdict view (RotateKey name root until) = rotate_verdict name root until view.key
 order_verdict view (CloseSlot slot) = close_verdict view.slot slot view.facility
 
--- in a club
+-- the same in a club
 abbrev pub office_verdict : Club → Command → Result Change OfficeFault
 office_verdict club command = order_verdict (order_view club command) command

@@ -6,27 +6,27 @@ use Rattle.club_values.specs.declared.slot.Slot.{Slot}
 use Rattle.club_core.specs.declared.request.Request.{Request}
 use Rattle.club_core.specs.declared.request.Request.TheVariants as asked
 
-abbrev pub action_of : Request → Action
-action_of (asked.View slot) = actions.View
-action_of (asked.Book slot number guests) = actions.Book
-action_of (asked.Cancel slot number) = actions.Cancel
-action_of asked.Account = actions.Account
+abbrev pub request_action : Request → Action
+request_action (asked.View slot) = actions.View
+request_action (asked.Book slot number guests) = actions.Book
+request_action (asked.Cancel slot number) = actions.Cancel
+request_action asked.Account = actions.Account
 
-abbrev pub guests_of : Request → ℕ
-guests_of (asked.View slot) = 0
-guests_of (asked.Book slot number guests) = guests
-guests_of (asked.Cancel slot number) = 0
-guests_of asked.Account = 0
+abbrev pub request_guests : Request → ℕ
+request_guests (asked.View slot) = 0
+request_guests (asked.Book slot number guests) = guests
+request_guests (asked.Cancel slot number) = 0
+request_guests asked.Account = 0
 
--- the slot that is asked for, and the number
-abbrev pub slot_of : Request → Option Slot
-slot_of (asked.View slot) = Some slot
-slot_of (asked.Book slot number guests) = Some slot
-slot_of (asked.Cancel slot number) = Some slot
-slot_of asked.Account = None
+-- the slot that the request names, and the number
+abbrev pub request_slot : Request → Option Slot
+request_slot (asked.View slot) = Some slot
+request_slot (asked.Book slot number guests) = Some slot
+request_slot (asked.Cancel slot number) = Some slot
+request_slot asked.Account = None
 
-abbrev pub number_of : Request → Option ℕ
-number_of (asked.View slot) = None
-number_of (asked.Book slot number guests) = Some number
-number_of (asked.Cancel slot number) = Some number
-number_of asked.Account = None
+abbrev pub request_number : Request → Option ℕ
+request_number (asked.View slot) = None
+request_number (asked.Book slot number guests) = Some number
+request_number (asked.Cancel slot number) = Some number
+request_number asked.Account = None

@@ -1,4 +1,4 @@
--- The club as a machine: its steps, and its runs over lists of events (ours).
+-- The club as a state machine: its steps, and its runs over lists of events (ours).
 use Rattle.std.specs.Prelude.{ℕ, List, [], ◌∷◌, Option, Some, None, Result, Ok, Err}
 use Rattle.club_core.specs.declared.verdict.Verdict.{Verdict}
 use Rattle.club_core.specs.declared.change.Change.{Change}
@@ -20,7 +20,7 @@ pub data Event : Type 0 where
   Asked : (words : Words) (moment : ℕ) → Event
   Ordered : (command : Command) → Event
 
--- the reply to an event, and the club that it leaves
+-- the reply to an event, and the club after it
 pub record Outcome : Type 0 where
   pub reply : EventReply
   pub club : Club
@@ -29,7 +29,7 @@ abbrev pub after_change : Option Change → Club → Club
 after_change None club = club
 after_change (Some change) club = after change club
 
--- what the office is told of an order that is done; of a new key or a new root, the name and the root, from which the signature follows
+-- the answer to an order that was carried out; for a new key or root its name and root, from which the signature follows
 abbrev pub done_answer : Command → OfficeAnswer
 done_answer (AddMember name quota) = Done
 done_answer (Credit member points) = Done
@@ -39,19 +39,19 @@ done_answer (RevokeKey name) = Done
 done_answer (RotateKey name root until) = NewKey name root
 done_answer (CloseSlot slot) = Done
 
--- a refused order keeps the club
-abbrev pub ordered : Club → Command → Result Change OfficeFault → Outcome
-ordered club command (Err fault) = record { reply = Answered (NotDone fault); club = club }
-ordered club command (Ok change) = record { reply = Answered (done_answer command); club = after change club }
+-- a refused order leaves the club unchanged
+abbrev pub order_outcome : Club → Command → Result Change OfficeFault → Outcome
+order_outcome club command (Err fault) = record { reply = Answered (NotDone fault); club = club }
+order_outcome club command (Ok change) = record { reply = Answered (done_answer command); club = after change club }
 
-abbrev pub told_and_changed : Club → Verdict → Outcome
-told_and_changed club verdict = record { reply = Replied verdict.reply; club = after_change verdict.change club }
+abbrev pub verdict_outcome : Club → Verdict → Outcome
+verdict_outcome club verdict = record { reply = Replied verdict.reply; club = after_change verdict.change club }
 
 abbrev pub step : Club → Event → Outcome
-step club (Asked words moment) = told_and_changed club (verdict_in club words moment)
-step club (Ordered command) = ordered club command (office_verdict club command)
+step club (Asked words moment) = verdict_outcome club (verdict_in club words moment)
+step club (Ordered command) = order_outcome club command (office_verdict club command)
 
--- the replies to a list of events, in order, and the club that it leaves
+-- the replies to a list of events, in order, and the club after them
 abbrev pub replies_of : Club → List Event → List EventReply
 replies_of club [] = []
 replies_of club (event ∷ events) = (step club event).reply ∷ replies_of (step club event).club events

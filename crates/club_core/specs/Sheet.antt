@@ -1,4 +1,4 @@
--- The sheet of a day (ours).
+-- The day sheet (ours).
 use Rattle.std.specs.Prelude.{◌≡◌, ◌⊎◌, ℕ, ◌-◌, ◌<◌, ◌==◌, ◌&&◌, not, Bool, List, [], ◌∷◌, ◌++◌, length, replicate, filter, sum_by, flat_map, AllPairs}
 use Rattle.std.specs.Prelude.{IsPermutation, codes}
 use Rattle.std.specs.Ordering.{nat_cmp}
@@ -15,11 +15,11 @@ use Rattle.club_core.specs.Club.{Club}
 abbrev pub is_on : ℕ → Booking → Bool
 is_on day booking = not booking.cancelled && booking.slot.day == day
 
--- one text is before another, as their bytes are
+-- texts are ordered by their bytes
 abbrev pub IsBefore : List ℕ → List ℕ → Type 0
 IsBefore a b = slice_cmp nat_cmp a b ≡ Less
 
--- in the order of facility, hour, key and number
+-- bookings are ordered by facility, hour, key and number
 abbrev pub Precedes : Booking → Booking → Type 0
 Precedes a b =
     IsBefore a.slot.facility b.slot.facility
@@ -32,7 +32,7 @@ pub record AreRowsOf (club : Club) (day : ℕ) (rows : List Booking) : Type 0 wh
   pub same : IsPermutation (filter (is_on day) club.bookings) rows
   pub sorted : AllPairs Precedes rows
 
--- a text in so many places, on the left and on the right
+-- a text padded with spaces to so many places, to the left and to the right
 abbrev pub left_in : ℕ → List ℕ → List ℕ
 left_in places text = text ++ replicate (places - length text) 32
 
@@ -61,12 +61,12 @@ totals_text (row ∷ rows) =
     ++ decimal (sum_by (λ (b : Booking). b.charge) (row ∷ rows))
     ++ 10 ∷ []
 
--- the text of these rows
+-- the sheet's text for these rows
 abbrev pub sheet_text : ℕ → List Booking → List ℕ
 sheet_text day rows = codes "Day sheet " ++ day_text day ++ 10 ∷ [] ++ flat_map row_text rows ++ totals_text rows
 
--- the sheet of a club's day
+-- the text is the sheet of the club for the day
 pub record IsSheet (club : Club) (day : ℕ) (text : List ℕ) : Type 0 where
   pub rows : List Booking
   pub are : AreRowsOf club day rows
-  pub told : text ≡ sheet_text day rows
+  pub spelling : text ≡ sheet_text day rows

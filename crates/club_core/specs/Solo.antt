@@ -1,4 +1,4 @@
--- What a member's replies depend on: the member's own rows and events, and what others hold of the slots asked for (ours).
+-- What a member's replies depend on (ours): the member's own rows and events, and how much others take of the slots in question.
 use Rattle.std.specs.Prelude.{ℕ, ◌+◌, not, Bool, true, false, List, [], ◌∷◌, ◌++◌, filter, Option, Some, None, Result, Ok, Err, option_map, if◌then◌else◌}
 use Rattle.std.specs.Str.{bytes_eq}
 use Rattle.club_values.specs.declared.slot.Slot.{Slot}
@@ -13,9 +13,9 @@ use Rattle.club_core.specs.declared.command.OfficeFault.{OfficeFault}
 use Rattle.club_core.specs.declared.slot_use.SlotUse.{SlotUse}
 use Rattle.club_core.specs.Pass.{Words}
 use Rattle.club_core.specs.Club.{Club, keys_of, is_key_of, bookings_of}
-use Rattle.club_core.specs.Basis.{Basis, basis_of, use_by}
-use Rattle.club_core.specs.Request.{slot_of}
-use Rattle.club_core.specs.Answer.{answer_of}
+use Rattle.club_core.specs.Basis.{Basis, basis_of, slot_use_by}
+use Rattle.club_core.specs.Request.{request_slot}
+use Rattle.club_core.specs.Answer.{answer_by_basis}
 use Rattle.club_core.specs.After.{after}
 use Rattle.club_core.specs.Office.{office_verdict}
 use Rattle.club_core.specs.Run.{Event, Asked, Ordered, step, after_change}
@@ -23,16 +23,16 @@ use Rattle.club_core.specs.Run.{Event, Asked, Ordered, step, after_change}
 abbrev pub bookings_of_others : List ℕ → Club → List Booking
 bookings_of_others member club = filter (λ (booking : Booking). not (is_key_of member club booking.key)) club.bookings
 
--- what others hold of a slot: their persons, and whether it is closed
+-- how much others take of a slot: their persons, and whether it is closed
 abbrev pub outside : List ℕ → Club → Option Slot → SlotUse
-outside member club slot = use_by (bookings_of_others member club) club slot
+outside member club slot = slot_use_by (bookings_of_others member club) club slot
 
--- a request of the member's with what others hold of its slot, or a change that the member's part follows
+-- a request of the member, with how much others take of its slot, or a change of the member's part
 pub data OwnEvent : Type 0 where
   OwnAsk : (words : Words) (moment : ℕ) (others : SlotUse) → OwnEvent
   OwnChange : (change : Change) → OwnEvent
 
--- whether an order's change is the member's own: the member, its credit and keys, and each new facility
+-- whether an order changes the member's part: the member, its credit and keys, and each new facility
 abbrev pub is_own : List ℕ → Club → Change → Bool
 is_own name club (InsertMember member) = bytes_eq member.name name
 is_own name club (AddCredit member points) = bytes_eq member name
@@ -48,11 +48,11 @@ abbrev pub own_change : List ℕ → Club → Result Change OfficeFault → List
 own_change name club (Err fault) = []
 own_change name club (Ok change) = if is_own name club change then OwnChange change ∷ [] else []
 
--- a request is the member's where it names a key of the member
+-- a request is the member's if it names one of the member's keys
 abbrev pub own_ask : List ℕ → Club → Words → ℕ → Option Basis → List OwnEvent
 own_ask name club words moment None = []
 own_ask name club words moment (Some basis) =
-    if bytes_eq basis.member.name name then OwnAsk words moment (outside name club (slot_of words.request)) ∷ [] else []
+    if bytes_eq basis.member.name name then OwnAsk words moment (outside name club (request_slot words.request)) ∷ [] else []
 
 abbrev pub own_part : List ℕ → Club → Event → List OwnEvent
 own_part name club (Asked words moment) = own_ask name club words moment (basis_of club words)
@@ -73,7 +73,7 @@ part_of name club = record {
   closed = [];
 }
 
--- the basis in a club that holds the member's part alone, with what others hold of the slot
+-- the basis in the member's part alone, with what others take of the slot added
 abbrev pub with_others : SlotUse → Basis → Basis
 with_others others basis = record basis {
   state = record basis.state {
@@ -82,9 +82,9 @@ with_others others basis = record basis {
 }
 
 abbrev pub solo_verdict : Club → Words → ℕ → SlotUse → Verdict
-solo_verdict part words moment others = answer_of words moment (option_map (with_others others) (basis_of part words))
+solo_verdict part words moment others = answer_by_basis words moment (option_map (with_others others) (basis_of part words))
 
--- the replies to the member's requests in a club that holds nothing but the member's part
+-- the replies to the member's requests from the member's part alone
 abbrev pub solo_replies : Club → List OwnEvent → List Reply
 solo_replies part [] = []
 solo_replies part (OwnChange change ∷ events) = solo_replies (after change part) events

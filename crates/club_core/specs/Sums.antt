@@ -7,7 +7,7 @@ use Rattle.club_rows.specs.declared.booking.Booking.{Booking}
 use Rattle.club_rows.specs.declared.member.Member.{Member}
 use Rattle.club_rows.specs.Booking.{same_slot, persons_of}
 
--- whether a booking has a place in the slot
+-- whether a booking takes places of the slot
 abbrev pub is_in : Slot → Booking → Bool
 is_in slot booking = not booking.cancelled && same_slot booking.slot slot
 
@@ -26,7 +26,7 @@ is_under key booking = bytes_eq booking.key key
 abbrev pub spent_under : List ℕ → List Booking → ℕ
 spent_under key bookings = sum_by cost_of (filter (is_under key) bookings)
 
--- what a member has, of the points credited, after these bookings
+-- a member's balance: the points credited less what these bookings cost
 abbrev pub balance_of : Member → List Booking → ℕ
 balance_of member bookings = member.credited - sum_by cost_of bookings
 
@@ -37,6 +37,6 @@ is_to_come moment booking = not booking.cancelled && nat_lt moment (start_of boo
 abbrev pub count_to_come : ℕ → List Booking → ℕ
 count_to_come moment bookings = length (filter (is_to_come moment) bookings)
 
--- the booking that the key has under a number
+-- the key's booking under a number
 abbrev pub booking_under : List ℕ → ℕ → List Booking → Option Booking
 booking_under key number bookings = find (λ booking. is_under key booking && booking.number == number) bookings

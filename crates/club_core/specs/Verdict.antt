@@ -1,4 +1,4 @@
--- What an accepted request is answered, by what it sees (ours). The first line that fits decides.
+-- The answer to an accepted request, by its view (ours). The first line that fits decides.
 use Rattle.std.specs.Prelude.{ℕ, ◌+◌, ◌-◌, ◌==◌, ◌&&◌, not, false, List, [], ◌∷◌, nat_lt, nat_le, if◌then◌else◌, Option, Some, None}
 use Rattle.club_values.specs.declared.slot.Slot.{Slot}
 use Rattle.club_values.specs.Slot.{start_of}
@@ -14,26 +14,26 @@ use Rattle.club_core.specs.declared.reply.Reply.TheVariants.{SlotShown, Booked, 
 use Rattle.club_core.specs.declared.change.Change.TheVariants.{InsertBooking, MarkCancelled}
 use Rattle.club_core.specs.declared.request.Request.{Request}
 use Rattle.club_core.specs.declared.request.Request.TheVariants as asked
-use Rattle.club_core.specs.Lines.{Line, line, first_of}
+use Rattle.club_core.specs.Lines.{Line, line_if, first_of}
 use Rattle.club_rows.specs.Facility.{charge_of, is_bookable}
 use Rattle.club_rows.specs.Booking.{same_slot, refund_at}
 
 -- a reply that changes nothing
-abbrev pub told : Reply → Verdict
-told reply = record { reply = reply; change = None }
+abbrev pub reply_only : Reply → Verdict
+reply_only reply = record { reply = reply; change = None }
 
-abbrev pub refused : Refusal → Verdict
-refused refusal = told (Refused refusal)
+abbrev pub refusal_verdict : Refusal → Verdict
+refusal_verdict refusal = reply_only (Refused refusal)
 
 -- a slot is shown, with its facility
 abbrev pub slot_shown : View → Slot → Facility → Verdict
-slot_shown view slot facility = told (SlotShown slot facility.kind facility.price facility.places view.taken view.closed)
+slot_shown view slot facility = reply_only (SlotShown slot facility.kind facility.price facility.places view.taken view.closed)
 
--- the reply of a booking that is on record, as it was first told
+-- the first reply to a recorded booking, again
 abbrev pub booked_before : Booking → Verdict
-booked_before booking = told (Booked booking.key booking.number booking.charge booking.left)
+booked_before booking = reply_only (Booked booking.key booking.number booking.charge booking.left)
 
--- the booking is written, with the places that it leaves
+-- the new booking's row, with the places left after it
 abbrev pub new_booking : View → Slot → ℕ → ℕ → Facility → Booking
 new_booking view slot number guests facility = record {
   key = view.key.name;
@@ -46,8 +46,8 @@ new_booking view slot number guests facility = record {
   refund = 0;
 }
 
-abbrev pub booked : Booking → Verdict
-booked booking = record {
+abbrev pub booked_now : Booking → Verdict
+booked_now booking = record {
   reply = Booked booking.key booking.number booking.charge booking.left;
   change = Some (InsertBooking booking);
 }
@@ -59,30 +59,30 @@ cancelled_now booking refund = record {
   change = Some (MarkCancelled booking.key booking.number refund);
 }
 
--- the refund of a booking that is cancelled, as it was first told
+-- the first reply to a cancellation, again
 abbrev pub cancelled_before : Booking → Verdict
-cancelled_before booking = told (Cancelled booking.key booking.number booking.refund)
+cancelled_before booking = reply_only (Cancelled booking.key booking.number booking.refund)
 
--- a booking under a number that is on record
+-- a booking under a used number: the first reply if slot and guests are the same, else `NumberUsed`
 abbrev pub repeat_booking_verdict : Booking → Slot → ℕ → Verdict
 repeat_booking_verdict booking slot guests =
-    if same_slot booking.slot slot && booking.guests == guests then booked_before booking else refused NumberUsed
+    if same_slot booking.slot slot && booking.guests == guests then booked_before booking else refusal_verdict NumberUsed
 
 -- why a booking under a new number is refused
 abbrev pub book_lines : View → Slot → ℕ → ℕ → Facility → List (Line Verdict)
 book_lines view slot guests moment facility =
-    line (not (is_bookable facility slot moment)) (refused NotBookable)
-    ∷ line view.closed (refused SlotClosed)
-    ∷ line (nat_lt facility.places (view.taken + guests + 1)) (refused NoPlaces)
-    ∷ line (nat_le view.member.quota view.open_count) (refused QuotaReached)
-    ∷ line (nat_lt view.balance (charge_of facility guests)) (refused BalanceTooLow)
+    line_if (not (is_bookable facility slot moment)) (refusal_verdict NotBookable)
+    ∷ line_if view.closed (refusal_verdict SlotClosed)
+    ∷ line_if (nat_lt facility.places (view.taken + guests + 1)) (refusal_verdict NoPlaces)
+    ∷ line_if (nat_le view.member.quota view.open_count) (refusal_verdict QuotaReached)
+    ∷ line_if (nat_lt view.balance (charge_of facility guests)) (refusal_verdict BalanceTooLow)
     ∷ []
 
 -- a booking under a new number
 abbrev pub new_verdict : View → Slot → ℕ → ℕ → ℕ → Option Facility → Verdict
-new_verdict view slot number guests moment None = refused NoSuchFacility
+new_verdict view slot number guests moment None = refusal_verdict NoSuchFacility
 new_verdict view slot number guests moment (Some facility) =
-    first_of (book_lines view slot guests moment facility) (booked (new_booking view slot number guests facility))
+    first_of (book_lines view slot guests moment facility) (booked_now (new_booking view slot number guests facility))
 
 abbrev pub recorded_or : Option Booking → (Booking → Verdict) → Verdict → Verdict
 recorded_or None recorded other = other
@@ -93,37 +93,37 @@ book_verdict view slot number guests moment =
     recorded_or view.booking (λ booking. repeat_booking_verdict booking slot guests)
     (new_verdict view slot number guests moment view.facility)
 
--- what a cancellation of a number on record is told, where it changes nothing
+-- the answers to a cancellation under a used number that change nothing
 abbrev pub cancel_lines : Booking → Slot → ℕ → List (Line Verdict)
 cancel_lines booking slot moment =
-    line (not (same_slot booking.slot slot)) (refused NumberUsed)
-    ∷ line booking.cancelled (cancelled_before booking)
-    ∷ line (nat_le (start_of booking.slot) moment) (refused SlotHasBegun)
+    line_if (not (same_slot booking.slot slot)) (refusal_verdict NumberUsed)
+    ∷ line_if booking.cancelled (cancelled_before booking)
+    ∷ line_if (nat_le (start_of booking.slot) moment) (refusal_verdict SlotHasBegun)
     ∷ []
 
--- a cancellation of a number that is on record
+-- a cancellation under a used number
 abbrev pub cancel_recorded_verdict : Booking → Slot → ℕ → Verdict
 cancel_recorded_verdict booking slot moment =
     first_of (cancel_lines booking slot moment) (cancelled_now booking (refund_at booking moment))
 
--- a cancellation of a number that isn't on record
+-- a cancellation under an unused number
 abbrev pub unknown_verdict : Option Facility → Verdict
-unknown_verdict None = refused NoSuchFacility
-unknown_verdict (Some facility) = refused NoSuchBooking
+unknown_verdict None = refusal_verdict NoSuchFacility
+unknown_verdict (Some facility) = refusal_verdict NoSuchBooking
 
 abbrev pub cancel_verdict : View → Slot → ℕ → Verdict
 cancel_verdict view slot moment =
     recorded_or view.booking (λ booking. cancel_recorded_verdict booking slot moment) (unknown_verdict view.facility)
 
 abbrev pub shown_at : View → Slot → Option Facility → Verdict
-shown_at view slot None = refused NoSuchFacility
+shown_at view slot None = refusal_verdict NoSuchFacility
 shown_at view slot (Some facility) = slot_shown view slot facility
 
 abbrev pub view_verdict : View → Slot → Verdict
 view_verdict view slot = shown_at view slot view.facility
 
 abbrev pub account_verdict : View → Verdict
-account_verdict view = told (AccountShown view.member.name view.balance view.member.quota view.open_count view.spent)
+account_verdict view = reply_only (AccountShown view.member.name view.balance view.member.quota view.open_count view.spent)
 
 abbrev pub verdict_of : View → Request → ℕ → Verdict
 verdict_of view (asked.View slot) moment = view_verdict view slot

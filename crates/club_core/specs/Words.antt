@@ -1,4 +1,4 @@
--- The words and events of the rules that those in code stand for (ours).
+-- The models of the code's words and events (ours).
 use Rattle.std.specs.Prelude.{map, Result, Ok, Err}
 use Rattle.std.specs.List.{list_any}
 use Rattle.std.specs.Str.{bytes_eq}
@@ -12,21 +12,21 @@ use Rattle.club_core.specs.declared.words.Words.{Words as WordsInCode}
 use Rattle.club_core.specs.Pass.{Pass, Words}
 use Rattle.club_core.specs.Run.{Event, Asked, Ordered}
 
--- its caveats are those that the texts are understood as, and it is signed under the roots that are listed
-abbrev pub pass_of : PassInCode → Pass
-pass_of pass = record {
+-- the caveats are parsed from their texts; the pass is signed under the listed roots
+abbrev pub pass_model : PassInCode → Pass
+pass_model pass = record {
   key = pass.key;
   caveats = map caveat_of (map vec_items pass.caveats.items);
   is_signed = λ root. list_any (λ other. bytes_eq other root) pass.roots.items;
 }
 
-abbrev pub text_of : Result PassInCode FormFault → Result Pass FormFault
-text_of (Ok pass) = Ok (pass_of pass)
-text_of (Err fault) = Err fault
+abbrev pub pass_result_model : Result PassInCode FormFault → Result Pass FormFault
+pass_result_model (Ok pass) = Ok (pass_model pass)
+pass_result_model (Err fault) = Err fault
 
-abbrev pub words_of : WordsInCode → Words
-words_of words = record { pass = text_of words.pass; request = words.request }
+abbrev pub words_model : WordsInCode → Words
+words_model words = record { pass = pass_result_model words.pass; request = words.request }
 
-abbrev pub event_of : EventInCode → Event
-event_of (events.Asked words moment) = Asked (words_of words) moment
-event_of (events.Ordered command) = Ordered command
+abbrev pub event_model : EventInCode → Event
+event_model (events.Asked words moment) = Asked (words_model words) moment
+event_model (events.Ordered command) = Ordered command

@@ -1,5 +1,5 @@
-//! The answer to a request by what is seen of the club: the pass is accepted or refused, and then
-//! the decision.
+//! The answer to a request by its key's view: the pass is accepted or refused, then the request is
+//! decided.
 
 ghost use Rattle.std.specs.Prelude.{◌≡◌};
 ghost use Rattle.std.specs.Option.{option_copied};
@@ -10,13 +10,13 @@ use crate::refusal::Refusal;
 use crate::request::Request;
 use crate::verdict::Verdict;
 use crate::view::View;
-use pass_caveats::{CaveatFault, Moment};
+use club_values::Moment;
+use pass_caveats::CaveatFault;
 
-/// The answer to a pass that was read, with the change that goes with it. `view` is what its key
-/// sees, `None` where it names no key of the club; `is_signed` says whether it is signed under a
-/// root of that key that is good at the moment; `fault` is the first of its caveats that isn't
-/// understood or denies. An unknown key and a wrong signature are told alike, and before anything
-/// else.
+/// The answer to a parsed pass, with its change. `view` is its key's view, `None` if the club has
+/// no such key; `is_signed` says whether the pass is signed under a root of that key that is good
+/// at the moment; `fault` is its first caveat that isn't understood or denies the request. An
+/// unknown key and a wrong signature get the same refusal, before any other.
 pub fn answer(
     view: Option<&View>,
     is_signed: bool,
@@ -28,19 +28,19 @@ pub fn answer(
         ≡ answer_by_view (option_copied view.entry) is_signed fault request.now moment }
 {
     let Some(view) = view else {
-        return Verdict::refused(Refusal::NotVerified);
+        return Verdict::refuse(Refusal::NotVerified);
     };
     if !is_signed {
-        return Verdict::refused(Refusal::NotVerified);
+        return Verdict::refuse(Refusal::NotVerified);
     }
     if view.key.revoked {
-        return Verdict::refused(Refusal::KeyRevoked);
+        return Verdict::refuse(Refusal::KeyRevoked);
     }
     match fault {
-        Some(CaveatFault::NotUnderstood(number)) => Verdict::refused(Refusal::CaveatNotUnderstood(
+        Some(CaveatFault::NotUnderstood(number)) => Verdict::refuse(Refusal::CaveatNotUnderstood(
             number,
         )),
-        Some(CaveatFault::Denied(number)) => Verdict::refused(Refusal::CaveatDenies(number)),
+        Some(CaveatFault::Denied(number)) => Verdict::refuse(Refusal::CaveatDenies(number)),
         None => decide(view, request, moment),
     }
 }

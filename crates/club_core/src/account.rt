@@ -1,9 +1,11 @@
+//! A member with its balance.
+
 use club_rows::Member;
 
-/// A member with the points that it has.
+/// A member with its balance.
 #[derive(Clone, Copy, Debug, PartialEq, Eq)]
 pub struct MemberAccount {
     pub member: Member,
-    /// The points that the member has: what it was credited, less what its bookings cost.
+    /// The points credited to the member, less what its bookings cost.
     pub balance: u32,
 }

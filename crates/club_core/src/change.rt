@@ -1,5 +1,7 @@
+//! The changes that a request or an order makes to the club's rows.
+
 use club_rows::{Booking, BookingNumber, Facility, Key, Member, Root};
-use pass_caveats::{Moment, Name, Slot};
+use club_values::{Moment, Name, Slot};
 
 /// A change of the club's rows.
 #[derive(Clone, Copy, Debug, PartialEq, Eq)]
@@ -14,8 +16,8 @@ pub enum Change {
     MarkRevoked {
         key: Name,
     },
-    /// Gives a key a new root. The one that it had is its older root from then on, good until the
-    /// moment, and an older one from before is dropped.
+    /// Gives a key a new root. Its former root becomes the older root, good until the moment; any
+    /// older root before that is dropped.
     ReplaceRoot {
         key: Name,
         root: Root,
@@ -23,7 +25,7 @@ pub enum Change {
     },
     MarkClosed(Slot),
     InsertBooking(Booking),
-    /// Marks a booking cancelled with its refund. One that is cancelled already stays as it is.
+    /// Marks a booking cancelled, with its refund. A cancelled booking is unchanged.
     MarkCancelled {
         key: Name,
         number: BookingNumber,

@@ -1,6 +1,8 @@
+//! The orders of the office, and the faults with which they are refused.
+
 use crate::request::slot_within;
 use club_rows::Root;
-use pass_caveats::{Kind, Moment, Name, Slot};
+use club_values::{Kind, Moment, Name, Slot};
 use std::error::Error;
 use std::fmt;
 
@@ -34,8 +36,8 @@ pub enum Command {
     RevokeKey {
         name: Name,
     },
-    /// A new root for a key. Passes under the one that it had are verified until the moment, and
-    /// not from it on.
+    /// A new root for a key. Passes signed under its former root are accepted before the moment,
+    /// and refused from it on.
     RotateKey {
         name: Name,
         root: Root,
@@ -49,11 +51,11 @@ pub enum Command {
 pub enum OfficeFault {
     /// The new name is taken, the key has the root already, or the slot is closed already.
     Exists,
-    /// There is no member, key or facility of the name.
+    /// No member, key or facility has the name.
     Unknown,
-    /// A number is out of its limits, or an hour out of opening.
+    /// A number is outside its limits, or an hour outside the opening hours.
     OutOfRange,
-    /// Somebody booked the slot.
+    /// The slot has bookings.
     SlotInUse,
 }
 

@@ -1,5 +1,5 @@
-//! The four decisions, which come after the pass was accepted. Each is a list of lines, of which
-//! the first that fits decides.
+//! The four decisions, made after the pass is accepted. Each is a list of lines: the first that
+//! fits decides.
 
 ghost use Rattle.std.specs.Prelude.{◌≡◌, Some};
 ghost use Rattle.club_rows.specs.Facility as facilities;
@@ -21,9 +21,9 @@ use crate::request::Request;
 use crate::verdict::Verdict;
 use crate::view::View;
 use club_rows::{Booking, BookingNumber, Facility, Guests};
-use pass_caveats::{MINUTES_A_DAY, Moment, Slot};
+use club_values::{MINUTES_A_DAY, Moment, Slot};
 
-/// How far ahead a slot may begin, in minutes: 60 days.
+/// How many minutes ahead a slot may begin: those of 60 days.
 const BOOKING_WINDOW: u64 = 60 * MINUTES_A_DAY as u64;
 
 /// Whether a slot of the facility can be booked at a moment.
@@ -35,13 +35,13 @@ fn is_bookable(facility: &Facility, slot: &Slot, moment: Moment) -> bool
     facility.is_open_at(slot.hour) && now < start && start <= now + BOOKING_WINDOW
 }
 
-/// What is answered where a slot is to be shown: its facility and its state, or `NoSuchFacility`.
+/// Shows a slot: its facility and its state, or `NoSuchFacility`.
 pub fn decide_view(view: &View, slot: &Slot) -> Verdict
     ensures { result ≡ view_verdict view.now slot.now }
 {
     match view.facility {
-        None => Verdict::refused(Refusal::NoSuchFacility),
-        Some(facility) => Verdict::told(Reply::SlotShown {
+        None => Verdict::refuse(Refusal::NoSuchFacility),
+        Some(facility) => Verdict::reply_only(Reply::SlotShown {
             slot: *slot,
             kind: facility.kind,
             price: facility.price,
@@ -52,15 +52,15 @@ pub fn decide_view(view: &View, slot: &Slot) -> Verdict
     }
 }
 
-/// A booking under a number that is on record: the reply of then, where slot and guests are those
-/// of then.
+/// Repeats a used number: returns the first reply if slot and guests are the same, else
+/// `NumberUsed`.
 fn repeat_booking(booking: &Booking, slot: &Slot, guests: Guests) -> Verdict
     ensures { result ≡ repeat_booking_verdict booking.now slot.now guests }
 {
     if booking.slot != *slot || booking.guests != guests {
-        return Verdict::refused(Refusal::NumberUsed);
+        return Verdict::refuse(Refusal::NumberUsed);
     }
-    Verdict::told(Reply::Booked {
+    Verdict::reply_only(Reply::Booked {
         key: booking.key,
         number: booking.number,
         charge: booking.charge,
@@ -68,7 +68,7 @@ fn repeat_booking(booking: &Booking, slot: &Slot, guests: Guests) -> Verdict
     })
 }
 
-/// A booking under a new number, at a facility that is known.
+/// Decides a booking under a new number at a known facility.
 fn book_at(
     view: &View,
     facility: &Facility,
@@ -80,23 +80,23 @@ fn book_at(
     ensures { result ≡ new_verdict view.now slot.now number guests moment (Some facility.now) }
 {
     if !is_bookable(facility, slot, moment) {
-        return Verdict::refused(Refusal::NotBookable);
+        return Verdict::refuse(Refusal::NotBookable);
     }
     if view.closed {
-        return Verdict::refused(Refusal::SlotClosed);
+        return Verdict::refuse(Refusal::SlotClosed);
     }
     let taken = view.taken.saturating_add(u64::from(guests.persons()));
     if taken > u64::from(facility.places) {
-        return Verdict::refused(Refusal::NoPlaces);
+        return Verdict::refuse(Refusal::NoPlaces);
     }
     if view.open_count >= u64::from(view.member.quota) {
-        return Verdict::refused(Refusal::QuotaReached);
+        return Verdict::refuse(Refusal::QuotaReached);
     }
     let charge = facility.charge(guests);
     if view.balance < charge {
-        return Verdict::refused(Refusal::BalanceTooLow);
+        return Verdict::refuse(Refusal::BalanceTooLow);
     }
-    Verdict::booked(Booking {
+    Verdict::new_booking(Booking {
         key: view.key.name,
         number,
         slot: *slot,
@@ -108,7 +108,7 @@ fn book_at(
     })
 }
 
-/// What is answered to a booking, and the booking that is written where it is served.
+/// Decides a booking: the reply, and the booking to write if it is served.
 pub fn decide_book(
     view: &View,
     slot: &Slot,
@@ -120,48 +120,47 @@ pub fn decide_book(
 {
     match (&view.booking, &view.facility) {
         (Some(booking), _) => repeat_booking(booking, slot, guests),
-        (None, None) => Verdict::refused(Refusal::NoSuchFacility),
+        (None, None) => Verdict::refuse(Refusal::NoSuchFacility),
         (None, Some(facility)) => book_at(view, facility, slot, number, guests, moment),
     }
 }
 
-/// A cancellation of a booking that is on record.
+/// Decides a cancellation of a recorded booking.
 fn cancel_recorded(booking: &Booking, slot: &Slot, moment: Moment) -> Verdict
     ensures { result ≡ cancel_recorded_verdict booking.now slot.now moment }
 {
     if booking.slot != *slot {
-        return Verdict::refused(Refusal::NumberUsed);
+        return Verdict::refuse(Refusal::NumberUsed);
     }
     if booking.cancelled {
-        return Verdict::told(Reply::Cancelled {
+        return Verdict::reply_only(Reply::Cancelled {
             key: booking.key,
             number: booking.number,
             refund: booking.refund,
         });
     }
     if booking.slot.start() <= moment.number() {
-        return Verdict::refused(Refusal::SlotHasBegun);
+        return Verdict::refuse(Refusal::SlotHasBegun);
     }
-    Verdict::cancelled(booking, booking.refund_at(moment))
+    Verdict::new_cancellation(booking, booking.refund_at(moment))
 }
 
-/// What is answered to a cancellation, and the refund that is written where it is served anew.
+/// Decides a cancellation: the reply, and the refund to write if the booking wasn't cancelled yet.
 pub fn decide_cancel(view: &View, slot: &Slot, moment: Moment) -> Verdict
     ensures { result ≡ cancel_verdict view.now slot.now moment }
 {
     match (&view.booking, &view.facility) {
         (Some(booking), _) => cancel_recorded(booking, slot, moment),
-        (None, None) => Verdict::refused(Refusal::NoSuchFacility),
-        (None, Some(_)) => Verdict::refused(Refusal::NoSuchBooking),
+        (None, None) => Verdict::refuse(Refusal::NoSuchFacility),
+        (None, Some(_)) => Verdict::refuse(Refusal::NoSuchBooking),
     }
 }
 
-/// What is answered where the account is to be shown: the member's sums, and what the key has
-/// spent.
+/// Shows the account: the member's sums, and what the key has spent.
 pub fn decide_account(view: &View) -> Verdict
     ensures { result ≡ account_verdict view.now }
 {
-    Verdict::told(Reply::AccountShown {
+    Verdict::reply_only(Reply::AccountShown {
         member: view.member.name,
         balance: view.balance,
         quota: view.member.quota,
@@ -170,7 +169,7 @@ pub fn decide_account(view: &View) -> Verdict
     })
 }
 
-/// The decision of a request, whatever it asks for.
+/// Decides a request of any kind.
 pub fn decide(view: &View, request: &Request, moment: Moment) -> Verdict
     ensures { result ≡ verdict_of view.now request.now moment }
 {

@@ -1,19 +1,21 @@
+//! The events of a club, and the replies to them.
+
 ghost use Rattle.std.specs.Prelude.{◌≡◌};
 
 use crate::command::{Command, OfficeFault};
 use crate::reply::Reply;
 use crate::words::Words;
 use club_rows::Root;
-use pass_caveats::{Moment, Name};
+use club_values::{Moment, Name};
 
-/// What happens to a club: a request at a moment, or an order of the office.
+/// An event of a club: a request at a moment, or an order of the office.
 #[derive(Drop)]
 pub enum Event {
     Asked { words: Words, moment: Moment },
     Ordered(Command),
 }
 
-/// What the office is told.
+/// The reply to an order of the office.
 #[derive(Clone, Copy, Debug, PartialEq, Eq)]
 pub enum OfficeAnswer {
     Done,
@@ -26,7 +28,7 @@ pub enum OfficeAnswer {
 impl OfficeAnswer {
     ghost use Rattle.club_core.specs.Run.{done_answer};
 
-    /// What the office is told of an order that is done.
+    /// The reply to an order that was carried out.
     pub fn done(command: &Command) -> OfficeAnswer
         ensures { result ≡ done_answer command.now }
     {

@@ -1,15 +1,17 @@
+//! Why a text isn't a pass.
+
 ghost use Rattle.std.specs.Prelude.{◌≡◌};
 
 use crate::refusal::Refusal;
 
-/// Why a text is no pass.
+/// Why a text isn't a pass.
 #[derive(Clone, Copy, Debug, PartialEq, Eq)]
 pub enum FormFault {
     /// The text has too many bytes.
     TooLong,
-    /// The text spells no pass.
+    /// The text isn't a pass in any form.
     Malformed,
-    /// A caveat is a third party's.
+    /// A caveat is a third-party caveat.
     ThirdParty,
     /// There are too many caveats.
     TooMany,
@@ -18,7 +20,7 @@ pub enum FormFault {
 impl FormFault {
     ghost use Rattle.club_core.specs.Answer.{form_refusal};
 
-    /// How the fault is told.
+    /// The refusal for this fault.
     pub fn refusal(self) -> Refusal
         ensures { result ≡ form_refusal self }
     {

@@ -21,18 +21,17 @@ pub fn books_and_cancels()
     ensures { BooksAndCancels }
 {}
 
-/// A booking that is asked for again is told as it was first told, also after it was cancelled, and
-/// nothing is charged.
+/// A repeated booking gets the first reply, also after it was cancelled, and charges nothing.
 pub fn repeats_after_a_cancellation()
     ensures { RepeatsAfterACancellation }
 {}
 
-/// A slot is closed only while nobody has booked it, and nobody books it then.
+/// A slot can be closed only while nobody has booked it; a closed slot can't be booked.
 pub fn closes_a_slot()
     ensures { ClosesASlot }
 {}
 
-/// A pass with a spend limit spends what came back once more.
+/// Under a spend limit, refunded points can be spent again.
 pub fn keeps_a_spend_limit()
     ensures { KeepsASpendLimit }
 {}
@@ -42,29 +41,29 @@ pub fn refusals_change_nothing()
     ensures { RefusalsChangeNothing }
 {}
 
-/// Who has the sums of a view decides as one who has the bookings.
+/// Deciding by the sums of a view gives the same answer as deciding by the bookings.
 pub fn views_decide()
     ensures { ViewsDecide }
 {}
 
-/// The answer to a request rests on parts of its view: the caveats see the record and the facility
-/// beside what the key has spent, and the decision of each request its own part.
+/// An answer depends only on parts of the view: caveats on the record, the facility and what the
+/// key has spent; each decision on its own part.
 pub fn looks_no_further()
     ensures { LooksNoFurther }
 {}
 
-/// A pass passes the test of its signature exactly where it is signed under a root of the key that
-/// is good at the moment.
+/// `is_signed_under` is true exactly if the pass is signed under a root of the key that is good at
+/// the moment.
 pub fn tests_the_signature()
     ensures { TestsTheSignature }
 {}
 
-/// What a key spent, and what it booked under a number, stands among the bookings of its member.
+/// A member's bookings hold all that its key spent, and what the key booked under each number.
 pub fn own_bookings_suffice()
     ensures { OwnBookings }
 {}
 
-/// A club has one sheet a day.
+/// A sound club has exactly one sheet for each day.
 pub fn one_sheet_a_day()
     ensures one { OneSheet }
     ensures some { SomeSheet }

@@ -1,5 +1,5 @@
-//! The rules of the club: what a request and an order of the office see of its rows, and what each
-//! is answered. Only the day sheet takes memory.
+//! The rules of the club: the view of its rows that decides a request or an order of the office,
+//! and the answer to each. Only the day sheet allocates memory.
 #![tactic(auto)]
 
 mod acceptance;

@@ -1,8 +1,10 @@
+//! The rows that decide an order of the office.
+
 use crate::slot_use::SlotUse;
 use club_rows::{Facility, Key, Member};
 
-/// What an order of the office looks at: the rows of the names in it, and what is taken of its
-/// slot. What the order doesn't name is `None`, and nothing is taken of no slot.
+/// The rows that decide an order: those it names, and how much of its slot is taken. A row that the
+/// order doesn't name is `None`; without a slot nothing is taken.
 #[derive(Clone, Copy, Debug, PartialEq, Eq)]
 pub struct OrderView {
     pub member: Option<Member>,

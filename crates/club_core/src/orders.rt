@@ -1,4 +1,4 @@
-//! The orders of the office, decided by what is seen of the club. The first line that fits refuses.
+//! Decides the orders of the office by their views. The first line that fits refuses the order.
 
 ghost use Rattle.std.specs.Prelude.{◌≡◌};
 ghost use Rattle.club_core.specs.declared.command.Command.TheVariants as commands;
@@ -10,7 +10,7 @@ use crate::order_view::OrderView;
 use club_rows::{
     Facility, Key, LAST_HOUR, MAX_CREDITED, MAX_PLACES, MAX_PRICE, MAX_QUOTA, Member, Root,
 };
-use pass_caveats::{Kind, Moment, Name, Slot};
+use club_values::{Kind, Moment, Name, Slot};
 
 fn add_member(view: &OrderView, name: &Name, quota: u32) -> Result<Change, OfficeFault>
     ensures { result ≡ order_verdict view.now (commands.AddMember name.now quota) }
@@ -147,14 +147,14 @@ fn close_slot(view: &OrderView, slot: &Slot) -> Result<Change, OfficeFault>
     Ok(Change::MarkClosed(*slot))
 }
 
-/// The change that an order makes of a club in which this is seen.
+/// The change that an order makes, by its view.
 ///
 /// # Errors
 ///
-/// Why it makes none: `OutOfRange` where a number is out of its limits, the hour out of opening, or
-/// a member's points would pass theirs; `Unknown` where the order's member, key or facility is;
-/// `Exists` where the new name is taken, the key has the root already, or the slot is closed
-/// already; `SlotInUse` where somebody booked the slot.
+/// `OutOfRange` if a number is outside its limits, the hour outside the opening hours, or the
+/// credit would take the member's points above their limit; `Unknown` if the order's member, key or
+/// facility doesn't exist; `Exists` if the new name is taken, the key has the root already, or the
+/// slot is closed already; `SlotInUse` if the slot has bookings.
 pub fn decide_order(view: &OrderView, command: &Command) -> Result<Change, OfficeFault>
     ensures { result ≡ order_verdict view.now command.now }
 {

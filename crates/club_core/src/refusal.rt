@@ -1,3 +1,5 @@
+//! The refusals of a request, with their numbers, HTTP statuses and texts.
+
 ghost use Rattle.std.specs.Prelude.{◌≡◌, Some};
 
 use std::fmt;
@@ -9,13 +11,13 @@ pub enum Methods {
     PutAndDelete,
 }
 
-/// Why a request is refused. The order is the one in which the causes are tested, but for the
-/// caveats, which go by their positions, and `Unavailable`, which can come at any time.
+/// Why a request is refused. The causes are tested in this order, except that caveats are tested by
+/// their positions, and `Unavailable` can come at any time.
 #[derive(Clone, Copy, Debug, PartialEq, Eq)]
 pub enum Refusal {
     BadRequest,
     NoSuchPath,
-    /// The path is known, and has these methods alone.
+    /// The path is known and has only these methods.
     MethodNotAllowed(Methods),
     NoPass,
     PassTooLong,
@@ -29,27 +31,27 @@ pub enum Refusal {
     CaveatNotUnderstood(usize),
     /// The number of the caveat, from 1.
     CaveatDenies(usize),
-    /// The key used the number before, with other words.
+    /// The key used the number before, for another booking.
     NumberUsed,
     NoSuchFacility,
     NoSuchBooking,
-    /// The hour is out of opening, in the past, or too far ahead.
+    /// The hour is outside the opening hours, in the past, or too far ahead.
     NotBookable,
     SlotClosed,
     NoPlaces,
     QuotaReached,
     BalanceTooLow,
     SlotHasBegun,
-    /// Memory or storage was refused.
+    /// An allocation or the storage failed.
     Unavailable,
 }
 
 impl Refusal {
-    ghost use Rattle.club_core.specs.Refusal.{telling_of, caveat_of_refusal};
+    ghost use Rattle.club_core.specs.Refusal.{details_of, caveat_of_refusal};
 
-    /// The number of the fault in a reply, 1 to 22.
+    /// The fault's number in the reply, 1 to 22.
     pub fn number(self) -> u8
-        ensures { result ≡ (telling_of self).number }
+        ensures { result ≡ (details_of self).number }
     {
         match self {
             Refusal::BadRequest => 1,
@@ -79,7 +81,7 @@ impl Refusal {
 
     /// The HTTP status of the reply.
     pub fn status(self) -> u16
-        ensures { result ≡ (telling_of self).status }
+        ensures { result ≡ (details_of self).status }
     {
         match self {
             Refusal::BadRequest
@@ -102,9 +104,9 @@ impl Refusal {
         }
     }
 
-    /// The text of the fault in a reply.
+    /// The fault's text in the reply.
     pub fn text(self) -> &'static str
-        ensures { result.now ≡ (telling_of self).text }
+        ensures { result.now ≡ (details_of self).text }
     {
         match self {
             Refusal::BadRequest => "bad request",
@@ -144,9 +146,9 @@ impl Refusal {
 }
 
 impl fmt::Display for Refusal {
-    ghost use Rattle.club_core.specs.Refusal.{telling_of};
+    ghost use Rattle.club_core.specs.Refusal.{details_of};
 
-    ghost output = { λ refusal. Some (telling_of refusal).text };
+    ghost output = { λ refusal. Some (details_of refusal).text };
 
     fn fmt<W: fmt::Write>(&self, f: &mut fmt::Formatter<W>) -> fmt::Result {
         f.write_str(self.text())

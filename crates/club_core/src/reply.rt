@@ -1,8 +1,10 @@
+//! The replies to a request.
+
 use crate::refusal::Refusal;
 use club_rows::BookingNumber;
-use pass_caveats::{Kind, Name, Slot};
+use club_values::{Kind, Name, Slot};
 
-/// What a request is answered.
+/// The reply to a request.
 #[derive(Clone, Copy, Debug, PartialEq, Eq)]
 pub enum Reply {
     SlotShown {
@@ -18,7 +20,7 @@ pub enum Reply {
         key: Name,
         number: BookingNumber,
         charge: u32,
-        /// The places that were left after the booking.
+        /// The places left after the booking.
         left: u8,
     },
     Cancelled {

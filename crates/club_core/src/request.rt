@@ -1,10 +1,12 @@
+//! The requests of a key, and their parts.
+
 ghost use Rattle.std.specs.Prelude.{◌≡◌};
 ghost use Rattle.club_rows.specs.Rows.{IsSlot};
 
 use club_rows::{BookingNumber, Guests};
-use pass_caveats::{Action, Slot};
+use club_values::{Action, Slot};
 
-/// What is asked of the desk.
+/// A request to the desk.
 #[derive(Clone, Copy, Debug, PartialEq, Eq)]
 pub enum Request {
     /// Shows a slot.
@@ -37,7 +39,7 @@ pub(crate) fn slot_within(slot: &Slot)
 
 impl Request {
     ghost use Rattle.club_core.specs.Events.{IsRequest};
-    ghost use Rattle.club_core.specs.Request.{action_of, slot_of, number_of, guests_of};
+    ghost use Rattle.club_core.specs.Request.{request_action, request_slot, request_number, request_guests};
 
     /// The slot, number and guests of a request are within their limits.
     pub fn within(&self)
@@ -62,9 +64,9 @@ impl Request {
         }
     }
 
-    /// What kind of request it is.
+    /// The action that the request asks for.
     pub fn action(&self) -> Action
-        ensures { result ≡ action_of self.now }
+        ensures { result ≡ request_action self.now }
     {
         match self {
             Request::View { .. } => Action::View,
@@ -74,9 +76,9 @@ impl Request {
         }
     }
 
-    /// The slot that is asked for; `None` for the account.
+    /// The slot that the request names; `None` for the account.
     pub fn slot(&self) -> Option<Slot>
-        ensures { result ≡ slot_of self.now }
+        ensures { result ≡ request_slot self.now }
     {
         match self {
             Request::View { slot } | Request::Book { slot, .. } | Request::Cancel { slot, .. } =>
@@ -85,9 +87,9 @@ impl Request {
         }
     }
 
-    /// The number of the booking that is asked for, where one is.
+    /// The booking number; `None` where the request has none.
     pub fn number(&self) -> Option<BookingNumber>
-        ensures { result ≡ number_of self.now }
+        ensures { result ≡ request_number self.now }
     {
         match self {
             Request::Book { number, .. } | Request::Cancel { number, .. } => Some(*number),
@@ -95,9 +97,9 @@ impl Request {
         }
     }
 
-    /// The guests of a booking, and else 0.
+    /// The guests of a booking, else 0.
     pub fn guests(&self) -> u8
-        ensures { result ≡ guests_of self.now }
+        ensures { result ≡ request_guests self.now }
     {
         match self {
             Request::Book { guests, .. } => guests.get(),

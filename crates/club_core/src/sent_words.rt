@@ -1,6 +1,8 @@
+//! The words of a request as they were sent.
+
 use crate::request::Request;
 
-/// The words of a request as they were sent: the text of the pass, and what is asked.
+/// The words of a request as they were sent: the text of the pass, and the request.
 #[derive(Clone, Copy)]
 pub struct SentWords<'a> {
     pub pass: &'a [u8],

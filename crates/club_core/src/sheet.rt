@@ -1,4 +1,4 @@
-//! The sheet of a day, which hangs at the desk.
+//! The text of the day sheet.
 
 ghost use Rattle.std.specs.Prelude.{◌≡◌, ◌++◌, IfOk, OnOk, flat_map, sum_by};
 ghost use Rattle.std.specs.String.{string_bytes};
@@ -7,17 +7,17 @@ ghost use Rattle.club_rows.specs.Booking.{persons_of};
 ghost use Rattle.club_core.specs.Sheet as spec;
 
 use club_rows::Booking;
-use pass_caveats::Day;
+use club_values::Day;
 use std::alloc::{AllocError, Global};
 
-/// The text of a day's sheet: a line with the day, a line for each row, and a line with the totals,
-/// or one that there are no bookings. The rows are the day's bookings that aren't cancelled, in the
-/// order of facility, hour, key and number; a row tells facility, hour, key, number, persons and
-/// points, in columns of 24, 5, 24, 9, 2 and 6 places.
+/// The text of the day sheet: a line with the day, a line for each row, and a line with the totals,
+/// or `No bookings.` The rows are the day's bookings that aren't cancelled, ordered by facility,
+/// hour, key and number; a line has facility, hour, key, number, persons and points, in columns of
+/// 24, 5, 24, 9, 2 and 6 places.
 ///
 /// # Errors
 ///
-/// Only where memory was refused.
+/// Only if an allocation fails.
 pub fn sheet_text(alloc: Global, day: Day, rows: &[Booking]) -> Result<String, AllocError>
     ensures { IfOk result (λ text. string_bytes text ≡ spec.sheet_text day rows.now) }
 {

@@ -1,4 +1,6 @@
-/// What is taken of a slot.
+//! How much of a slot is taken.
+
+/// How much of a slot is taken.
 #[derive(Clone, Copy, Debug, PartialEq, Eq)]
 pub struct SlotUse {
     /// The persons who booked the slot.

@@ -1,17 +1,19 @@
+//! The trait of a store of the club's rows, and its faults.
+
 use crate::account::MemberAccount;
 use crate::change::Change;
 use crate::slot_use::SlotUse;
 use club_rows::{Booking, BookingNumber, Facility, Key, Member};
-use pass_caveats::{Day, Moment, Name, Slot};
+use club_values::{Day, Moment, Name, Slot};
 use std::error::Error;
 use std::fmt;
 
-/// Why a store gives no answer, or makes no change.
+/// Why a call of a store failed.
 #[derive(Clone, Copy, Debug, PartialEq, Eq)]
 pub enum StoreFault {
-    /// Memory was refused.
+    /// An allocation failed.
     Memory,
-    /// Storage was refused, or holds a row out of its limits.
+    /// The storage failed, or holds a row outside its limits.
     Storage,
 }
 
@@ -31,8 +33,8 @@ impl fmt::Display for StoreFault {
 
 impl Error for StoreFault {}
 
-/// A store of the rows of a club. What it tells and changes is promised while its disk is honest:
-/// while it returns what was written, and nobody else writes it.
+/// A store of the rows of a club. Its promises hold while its disk is clean: while the disk returns
+/// what was written, and nobody else writes to it.
 pub trait ClubStore {
     ghost use Rattle.std.specs.Prelude.{◌≡◌, ◌∷◌, [], All, IfErr, List, MatchResult, Option, Some};
     ghost use Rattle.club_core.specs.declared.change.Change.{Change};
@@ -43,112 +45,112 @@ pub trait ClubStore {
     ghost use Rattle.club_core.specs.Sheet.{AreRowsOf};
     ghost use Rattle.club_core.specs.Basis.{account_named, slot_use};
     ghost use Rattle.club_core.specs.Sums.{booking_under, count_to_come, spent_under};
-    ghost use Rattle.club_core.specs.Store.{Fits, KeepsStanding, ReadsOrFails, Tells};
+    ghost use Rattle.club_core.specs.Store.{FitsClub, KeepsClub, ReadsOrFails, Returns};
 
-    // the club that stands, and the clubs of which a crash may leave one in its place
-    ghost stands: { Self → Club → List Club → Type 0 };
+    // the current club, and the other possible crash states: the clubs that the store may recover
+    // to after a crash
+    ghost represents: { Self → Club → List Club → Type 0 };
 
-    // whether the disk was honest so far
-    ghost is_honest: { Self → Type 0 };
+    // whether the disk was clean so far
+    ghost disk_is_clean: { Self → Type 0 };
 
-    // since the first state a reading failed with this fault, or this change did, and left the
-    // second
+    // between the first state and the second a read (`None`) or this change failed with this fault
     ghost fails: { Option Change → Self → StoreFault → Self → Type 0 };
 
-    /// The key of this name; `None` where there is none.
+    /// The key of this name; `None` if there is none.
     fn key(&mut self, name: &Name) -> Result<Option<Key>, StoreFault>
-        ensures honest { is_honest self.new → is_honest self.old }
-        ensures kept { is_honest self.new → KeepsStanding stands self.old self.new }
-        ensures told { is_honest self.new → Tells stands self.old result
+        ensures was_clean { disk_is_clean self.new → disk_is_clean self.old }
+        ensures kept { disk_is_clean self.new → KeepsClub represents self.old self.new }
+        ensures returned { disk_is_clean self.new → Returns represents self.old result
             (λ club key. key ≡ key_named name.now club) }
-        ensures failed { is_honest self.new → ReadsOrFails fails self.old self.new result };
+        ensures failed { disk_is_clean self.new → ReadsOrFails fails self.old self.new result };
 
-    /// The member of this name; `None` where there is none.
+    /// The member of this name; `None` if there is none.
     fn member(&mut self, name: &Name) -> Result<Option<Member>, StoreFault>
-        ensures honest { is_honest self.new → is_honest self.old }
-        ensures kept { is_honest self.new → KeepsStanding stands self.old self.new }
-        ensures told { is_honest self.new → Tells stands self.old result
+        ensures was_clean { disk_is_clean self.new → disk_is_clean self.old }
+        ensures kept { disk_is_clean self.new → KeepsClub represents self.old self.new }
+        ensures returned { disk_is_clean self.new → Returns represents self.old result
             (λ club member. member ≡ member_named name.now club) }
-        ensures failed { is_honest self.new → ReadsOrFails fails self.old self.new result };
+        ensures failed { disk_is_clean self.new → ReadsOrFails fails self.old self.new result };
 
-    /// The facility of this name; `None` where there is none.
+    /// The facility of this name; `None` if there is none.
     fn facility(&mut self, name: &Name) -> Result<Option<Facility>, StoreFault>
-        ensures honest { is_honest self.new → is_honest self.old }
-        ensures kept { is_honest self.new → KeepsStanding stands self.old self.new }
-        ensures told { is_honest self.new → Tells stands self.old result
+        ensures was_clean { disk_is_clean self.new → disk_is_clean self.old }
+        ensures kept { disk_is_clean self.new → KeepsClub represents self.old self.new }
+        ensures returned { disk_is_clean self.new → Returns represents self.old result
             (λ club facility. facility ≡ facility_named name.now club) }
-        ensures failed { is_honest self.new → ReadsOrFails fails self.old self.new result };
+        ensures failed { disk_is_clean self.new → ReadsOrFails fails self.old self.new result };
 
-    /// What is taken of a slot: nothing of one that nobody booked or closed.
+    /// How much of a slot is taken: nothing if nobody booked or closed it.
     fn slot(&mut self, slot: &Slot) -> Result<SlotUse, StoreFault>
-        ensures honest { is_honest self.new → is_honest self.old }
-        ensures kept { is_honest self.new → KeepsStanding stands self.old self.new }
-        ensures told { is_honest self.new → Tells stands self.old result
+        ensures was_clean { disk_is_clean self.new → disk_is_clean self.old }
+        ensures kept { disk_is_clean self.new → KeepsClub represents self.old self.new }
+        ensures returned { disk_is_clean self.new → Returns represents self.old result
             (λ club found. found ≡ slot_use club slot.now) }
-        ensures failed { is_honest self.new → ReadsOrFails fails self.old self.new result };
+        ensures failed { disk_is_clean self.new → ReadsOrFails fails self.old self.new result };
 
-    /// The booking of a key under a number; `None` where there is none.
+    /// The booking of a key under a number; `None` if there is none.
     fn booking(&mut self, key: &Name, number: BookingNumber) -> Result<Option<Booking>, StoreFault>
-        ensures honest { is_honest self.new → is_honest self.old }
-        ensures kept { is_honest self.new → KeepsStanding stands self.old self.new }
-        ensures told { is_honest self.new → Tells stands self.old result
+        ensures was_clean { disk_is_clean self.new → disk_is_clean self.old }
+        ensures kept { disk_is_clean self.new → KeepsClub represents self.old self.new }
+        ensures returned { disk_is_clean self.new → Returns represents self.old result
             (λ club booking. booking ≡ booking_under key.now number club.bookings) }
-        ensures failed { is_honest self.new → ReadsOrFails fails self.old self.new result };
+        ensures failed { disk_is_clean self.new → ReadsOrFails fails self.old self.new result };
 
-    /// The member of this name with the points that it has; `None` where there is none.
+    /// The member of this name with its balance; `None` if there is none.
     fn account(&mut self, member: &Name) -> Result<Option<MemberAccount>, StoreFault>
-        ensures honest { is_honest self.new → is_honest self.old }
-        ensures kept { is_honest self.new → KeepsStanding stands self.old self.new }
-        ensures told { is_honest self.new → Tells stands self.old result
+        ensures was_clean { disk_is_clean self.new → disk_is_clean self.old }
+        ensures kept { disk_is_clean self.new → KeepsClub represents self.old self.new }
+        ensures returned { disk_is_clean self.new → Returns represents self.old result
             (λ club account. account ≡ account_named member.now club) }
-        ensures failed { is_honest self.new → ReadsOrFails fails self.old self.new result };
+        ensures failed { disk_is_clean self.new → ReadsOrFails fails self.old self.new result };
 
-    /// How many of a member's bookings are open: not cancelled, of slots that begin later than the
+    /// How many of a member's bookings are open: not cancelled, and the slot begins after the
     /// moment.
     fn open_count(&mut self, member: &Name, moment: Moment) -> Result<u64, StoreFault>
-        ensures honest { is_honest self.new → is_honest self.old }
-        ensures kept { is_honest self.new → KeepsStanding stands self.old self.new }
-        ensures told { is_honest self.new → Tells stands self.old result
+        ensures was_clean { disk_is_clean self.new → disk_is_clean self.old }
+        ensures kept { disk_is_clean self.new → KeepsClub represents self.old self.new }
+        ensures returned { disk_is_clean self.new → Returns represents self.old result
             (λ club count. count ≡ count_to_come moment (bookings_of member.now club)) }
-        ensures failed { is_honest self.new → ReadsOrFails fails self.old self.new result };
+        ensures failed { disk_is_clean self.new → ReadsOrFails fails self.old self.new result };
 
     /// The points that a key has spent.
     fn spent(&mut self, key: &Name) -> Result<u64, StoreFault>
-        ensures honest { is_honest self.new → is_honest self.old }
-        ensures kept { is_honest self.new → KeepsStanding stands self.old self.new }
-        ensures told { is_honest self.new → Tells stands self.old result
+        ensures was_clean { disk_is_clean self.new → disk_is_clean self.old }
+        ensures kept { disk_is_clean self.new → KeepsClub represents self.old self.new }
+        ensures returned { disk_is_clean self.new → Returns represents self.old result
             (λ club spent. spent ≡ spent_under key.now club.bookings) }
-        ensures failed { is_honest self.new → ReadsOrFails fails self.old self.new result };
+        ensures failed { disk_is_clean self.new → ReadsOrFails fails self.old self.new result };
 
     /// The day's bookings that aren't cancelled, in the order of the day sheet.
     fn day(&mut self, day: Day) -> Result<Vec<Booking>, StoreFault>
-        ensures honest { is_honest self.new → is_honest self.old }
-        ensures kept { is_honest self.new → KeepsStanding stands self.old self.new }
-        ensures told { is_honest self.new → Tells stands self.old result
+        ensures was_clean { disk_is_clean self.new → disk_is_clean self.old }
+        ensures kept { disk_is_clean self.new → KeepsClub represents self.old self.new }
+        ensures returned { disk_is_clean self.new → Returns represents self.old result
             (λ club rows. AreRowsOf club day rows.items) }
-        ensures failed { is_honest self.new → ReadsOrFails fails self.old self.new result };
+        ensures failed { disk_is_clean self.new → ReadsOrFails fails self.old self.new result };
 
-    /// Makes a change that fits. Where it is refused the club stands as it was, and a crash may yet
-    /// leave the changed one.
+    /// Makes a change that fits. If it fails the club is unchanged, but after a crash the store may
+    /// recover to the changed club.
     fn apply(&mut self, change: &Change) -> Result<(), StoreFault>
-        ensures honest { is_honest self.new → is_honest self.old }
-        ensures changed { is_honest self.new → (club : Club) (others : List Club)
-            → stands self.old club others
-            → Fits change.now club
+        ensures was_clean { disk_is_clean self.new → disk_is_clean self.old }
+        ensures changed { disk_is_clean self.new → (club : Club) (others : List Club)
+            → represents self.old club others
+            → FitsClub change.now club
             → MatchResult result
-            (λ _. stands self.new (after change.now club) [])
-            (λ _. stands self.new club (after change.now club ∷ others)) }
-        ensures failed { is_honest self.new → IfErr result
+            (λ _. represents self.new (after change.now club) [])
+            (λ _. represents self.new club (after change.now club ∷ others)) }
+        ensures failed { disk_is_clean self.new → IfErr result
             (λ fault. fails (Some change.now) self.old fault self.new) };
 
-    // what stands is sound, and so is each club that a crash may leave
+    // the current club is sound, and so is each possible crash state
     ghost sound: { (store : Self) (club : Club) (others : List Club)
-        → stands store club others
+        → represents store club others
         → All IsSound (club ∷ others) };
 
-    // a crash may leave one club more: that is no less true
+    // adding a sound club to the possible crash states is allowed: the claim only gets weaker
     ghost widens: { (store : Self) (club other : Club) (others : List Club)
-        → stands store club others
+        → represents store club others
         → IsSound other
-        → stands store club (other ∷ others) };
+        → represents store club (other ∷ others) };
 }

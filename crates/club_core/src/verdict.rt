@@ -1,3 +1,5 @@
+//! The reply to a request, with its change.
+
 ghost use Rattle.std.specs.Prelude.{◌≡◌};
 
 use crate::change::Change;
@@ -5,7 +7,7 @@ use crate::refusal::Refusal;
 use crate::reply::Reply;
 use club_rows::Booking;
 
-/// The reply to a request, and the change of the club that goes with it.
+/// The reply to a request, and the change that it makes to the club.
 #[derive(Clone, Copy, Debug, PartialEq, Eq)]
 pub struct Verdict {
     pub reply: Reply,
@@ -16,8 +18,8 @@ impl Verdict {
     ghost use Rattle.club_core.specs.Verdict as verdicts;
 
     /// A reply that changes nothing.
-    pub fn told(reply: Reply) -> Verdict
-        ensures { result ≡ verdicts.told reply }
+    pub fn reply_only(reply: Reply) -> Verdict
+        ensures { result ≡ verdicts.reply_only reply }
     {
         Verdict {
             reply,
@@ -26,15 +28,15 @@ impl Verdict {
     }
 
     /// A refusal, which changes nothing.
-    pub fn refused(refusal: Refusal) -> Verdict
-        ensures { result ≡ verdicts.refused refusal }
+    pub fn refuse(refusal: Refusal) -> Verdict
+        ensures { result ≡ verdicts.refusal_verdict refusal }
     {
-        Verdict::told(Reply::Refused(refusal))
+        Verdict::reply_only(Reply::Refused(refusal))
     }
 
-    /// A new booking, which is told and written.
-    pub(crate) fn booked(booking: Booking) -> Verdict
-        ensures { result ≡ verdicts.booked booking }
+    /// The reply to a new booking, and the change that writes it.
+    pub(crate) fn new_booking(booking: Booking) -> Verdict
+        ensures { result ≡ verdicts.booked_now booking }
     {
         Verdict {
             reply: Reply::Booked {
@@ -47,8 +49,8 @@ impl Verdict {
         }
     }
 
-    /// A cancellation with this refund, which is told and written.
-    pub(crate) fn cancelled(booking: &Booking, refund: u32) -> Verdict
+    /// The reply to a cancellation with this refund, and the change that writes it.
+    pub(crate) fn new_cancellation(booking: &Booking, refund: u32) -> Verdict
         ensures { result ≡ verdicts.cancelled_now booking.now refund }
     {
         let (key, number) = (booking.key, booking.number);

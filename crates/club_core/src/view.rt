@@ -1,36 +1,39 @@
+//! The view of a request: the rows and sums that decide it.
+
 ghost use Rattle.std.specs.Prelude.{◌≡◌, is_some};
 ghost use Rattle.club_core.specs.Looks.{bare_view, books_anew as is_new};
 
 use crate::request::Request;
 use club_rows::{Booking, Facility, Key, Member};
-use pass_caveats::{Ask, Moment};
+use club_values::Moment;
+use pass_caveats::Ask;
 
-/// What a decision looks at: the key and its member with their sums, and the state of the slot that
-/// is asked for.
+/// The rows and sums that decide a request: its key and member with their sums, and the state of
+/// the slot that it names.
 #[derive(Clone, Copy, Debug, PartialEq, Eq)]
 pub struct View {
     pub key: Key,
     /// The points that the key has spent.
     pub spent: u64,
     pub member: Member,
-    /// The points that the member has.
+    /// The member's balance in points.
     pub balance: u32,
     /// The member's bookings of slots that begin later than the moment.
     pub open_count: u64,
-    /// The slot's facility; `None` where it is unknown, or there is no slot.
+    /// The slot's facility; `None` if it is unknown, or the request names no slot.
     pub facility: Option<Facility>,
     /// The persons who booked the slot.
     pub taken: u64,
     /// Whether the slot is closed.
     pub closed: bool,
-    /// The key's booking with the number that is asked for.
+    /// The key's booking under the request's number.
     pub booking: Option<Booking>,
 }
 
 impl View {
     ghost use Rattle.club_core.specs.Answer.{ask_of, owed_at};
 
-    /// The view of a key that shows nothing else: no record, no facility, no sum.
+    /// A view with the key alone: no record, no facility, all sums 0.
     pub fn of_key(key: &Key) -> View
         ensures { result ≡ bare_view key.now }
     {
@@ -58,9 +61,9 @@ impl View {
         self.booking.is_none() && self.facility.is_some()
     }
 
-    /// What the request would charge: the charge of a booking under a new number at a known
-    /// facility, and else 0.
-    fn owed(&self, request: &Request) -> u32
+    /// The points that the request would charge: those of a booking under a new number at a known
+    /// facility, else 0.
+    fn points_owed(&self, request: &Request) -> u32
         ensures { result ≡ owed_at request.now (is_some self.now.booking) self.now.facility }
     {
         match (request, &self.booking, &self.facility) {
@@ -69,7 +72,7 @@ impl View {
         }
     }
 
-    /// What the caveats of a pass see of the request at a moment.
+    /// The request at a moment, as caveats see it.
     pub fn ask(&self, request: &Request, moment: Moment) -> Ask
         ensures { result ≡ ask_of self.now request.now moment }
     {
@@ -79,7 +82,7 @@ impl View {
             kind: self.facility.map(|facility| facility.kind),
             guests: request.guests(),
             moment,
-            owed: u64::from(self.owed(request)),
+            owed: u64::from(self.points_owed(request)),
             spent: self.spent,
         }
     }

@@ -1,3 +1,5 @@
+//! A parsed pass, and the words of a request.
+
 ghost use Rattle.std.specs.Prelude.{◌≡◌};
 ghost use Rattle.std.specs.Option.{option_copied};
 
@@ -7,21 +9,22 @@ use crate::request::Request;
 use crate::verdict::Verdict;
 use crate::view::View;
 use club_rows::{Key, Root};
-use pass_caveats::{Ask, CaveatFault, Moment, Name, first_fault};
+use club_values::{Moment, Name};
+use pass_caveats::{Ask, CaveatFault, first_fault};
 
-/// A pass as the rules of the club see it.
+/// A parsed pass, as the rules of the club see it.
 #[derive(Drop)]
 pub struct Pass {
-    /// The key that the identifier names; `None` where it is no key's.
+    /// The key that the identifier names; `None` if it names no key.
     pub key: Option<Name>,
-    /// The texts of the caveats, by their positions.
+    /// The texts of the caveats, in their order.
     pub caveats: Vec<Vec<u8>>,
     /// The roots under which the pass is signed.
     pub roots: Vec<Root>,
 }
 
-/// The words of a request: the pass that its text is, or why it is none, and what is asked. The
-/// form in which the pass was written is no part of them.
+/// The words of a request: the parsed pass, or why the text isn't one, and the request. The form in
+/// which the pass was written isn't part of them.
 #[derive(Drop)]
 pub struct Words {
     pub pass: Result<Pass, FormFault>,
@@ -31,18 +34,18 @@ pub struct Words {
 impl Pass {
     ghost use Rattle.pass_caveats.specs.CaveatOf.{first_fault_of};
     ghost use Rattle.club_core.specs.Pass.{is_signed_under};
-    ghost use Rattle.club_core.specs.Words.{pass_of};
+    ghost use Rattle.club_core.specs.Words.{pass_model};
 
     /// Whether it is signed under this root.
     fn is_signed(&self, root: &Root) -> bool
-        ensures { result ≡ (pass_of self.now).is_signed root.now }
+        ensures { result ≡ (pass_model self.now).is_signed root.now }
     {
         self.roots.iter().any(|signing| *signing == *root)
     }
 
     /// Whether it is signed under a root of the key that is good at the moment.
     pub fn is_signed_under(&self, key: &Key, moment: Moment) -> bool
-        ensures { result ≡ is_signed_under (pass_of self.now) key.now moment }
+        ensures { result ≡ is_signed_under (pass_model self.now) key.now moment }
     {
         if self.is_signed(&key.root) {
             return true;
@@ -55,7 +58,7 @@ impl Pass {
 
     /// The first of its caveats that isn't understood or doesn't allow what is asked.
     pub fn first_fault(&self, ask: &Ask) -> Option<CaveatFault>
-        ensures { result ≡ first_fault_of (pass_of self.now).caveats ask.now }
+        ensures { result ≡ first_fault_of (pass_model self.now).caveats ask.now }
     {
         first_fault(&self.caveats, ask)
     }
@@ -64,12 +67,12 @@ impl Pass {
 impl Words {
     ghost use Rattle.club_core.specs.Answer.{answer_to};
     ghost use Rattle.club_core.specs.Basis.{key_of};
-    ghost use Rattle.club_core.specs.Words.{words_of};
+    ghost use Rattle.club_core.specs.Words.{words_model};
 
-    /// The name of the key that the pass names; `None` where there is no pass, or its identifier is
-    /// no key's.
+    /// The key that the pass names; `None` if the text isn't a pass, or its identifier names no
+    /// key.
     pub fn key(&self) -> Option<Name>
-        ensures { result ≡ key_of (words_of self.now).pass }
+        ensures { result ≡ key_of (words_model self.now).pass }
     {
         match &self.pass {
             Ok(pass) => pass.key,
@@ -77,15 +80,15 @@ impl Words {
         }
     }
 
-    /// The answer by what that key sees of the request, with the change that goes with it; `None`
-    /// where no such key is known.
+    /// The answer by that key's view of the request, with its change; `view` is `None` if the club
+    /// has no such key.
     pub fn answer(&self, view: Option<&View>, moment: Moment) -> Verdict
         ensures { result
-            ≡ answer_to (words_of self.now).pass self.now.request moment
+            ≡ answer_to (words_model self.now).pass self.now.request moment
             (option_copied view.entry) }
     {
         match &self.pass {
-            Err(fault) => Verdict::refused(fault.refusal()),
+            Err(fault) => Verdict::refuse(fault.refusal()),
             Ok(pass) => match view {
                 None => answer(None, false, None, &self.request, moment),
                 Some(view) => {

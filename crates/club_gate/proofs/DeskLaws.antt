@@ -1,4 +1,4 @@
--- The laws of the desk, of what one event was told.
+-- The laws of the desk, from the response to one event.
 use Rattle.std.proofs.Common.{◌≡◌, ◌⊎◌, inl, inr, ℕ, true, List, [], ◌∷◌, ◌++◌, map, Option, Some, None, Result, Ok, Err, All, refl, sym, ap, ◌∙◌, subst}
 use Rattle.std.proofs.lemmas.List.{map-append}
 use Rattle.std.proofs.lemmas.List.Elements.{All-nil, All-cons, All-head, All-tail}
@@ -10,7 +10,7 @@ use Rattle.pass_caveats.specs.Fault.{Allowed, Allows}
 use Rattle.pass_caveats.specs.Laws.{ReadsWhatIsUnderstood}
 use Rattle.pass_forms.specs.declared.fault.FormFault.{FormFault as Fault}
 use Rattle.pass_forms.specs.declared.form.Form.{Form}
-use Rattle.pass_forms.specs.Pass.{Plain, TellsSigned}
+use Rattle.pass_forms.specs.Pass.{Plain, DecidesSigned}
 use Rattle.pass_json.specs.AnyForm.{IsAnyReading, ReadsAnyFormExactly, reading}
 use Rattle.club_rows.specs.declared.key.Key.{Key}
 use Rattle.club_core.specs.declared.form_fault.FormFault.{FormFault}
@@ -25,27 +25,27 @@ use Rattle.club_core.specs.Basis.{view_of}
 use Rattle.club_core.specs.Club.{Club}
 use Rattle.club_core.specs.Pass.{Pass, Words, IsSignedUnder}
 use Rattle.club_core.specs.Run.{Asked}
-use Rattle.club_laws.specs.DeskLaw.{MoreCaveatsNeverOpenMore, ServesOnlyTheEntitled, words_with}
+use Rattle.club_laws.specs.SingleRequest.{MoreCaveatsNeverOpenMore, ServesOnlyTheEntitled, words_with}
 use Rattle.club_laws.specs.Failed.{ToMember, is_unavailable}
 use Rattle.club_gate.specs.Desk.{IsAnsweredBy, IsRefusedBy}
-use Rattle.club_gate.specs.Identifier.{FindsNames, name_in}
+use Rattle.club_gate.specs.Identifier.{FindsNames, key_name_in}
 use Rattle.club_gate.specs.Minted.{identifier_of}
-use Rattle.club_gate.specs.Said.{pass_of, said, said_by, without_form, words_said}
-use Rattle.club_gate.specs.Served.{AnswersItsForms, EntitlesTo, IsNarrowed, IsSignedFor, reply_in}
-use Rattle.club_gate.specs.Told.{unavailable}
+use Rattle.club_gate.specs.DecodedPass.{machine_pass, decoded_pass, decoded_or_fault, without_form, decoded_words}
+use Rattle.club_gate.specs.Served.{AnswersItsForms, EntitlesTo, IsNarrowedText, IsSignedFor, reply_in}
+use Rattle.club_gate.specs.Response.{unavailable}
 
 failed_reply : (reply : Reply) → is_unavailable reply ≡ true → reply ≡ unavailable
 failed_reply (Refused Unavailable) h = refl
 failed_reply reply h = absurd (cc)
 
--- it was told the machine's reply, or that it failed
-pub told_reply : {S : Type 0} (Stands : S → Club → List Club → Type 0) (new : S) (club : Club) (others : List Club)
-    (words : Words) (moment : ℕ) (reply : Reply) → IsAnsweredBy Stands new club others (Asked words moment)
-    (ToMember reply) ⊎ IsRefusedBy Stands new club others (Asked words moment) (ToMember reply)
+-- the response is the machine's reply, or it says that the event failed
+pub reply_or_failure : {S : Type 0} (Represents : S → Club → List Club → Type 0) (new : S) (club : Club) (others : List Club)
+    (words : Words) (moment : ℕ) (reply : Reply) → IsAnsweredBy Represents new club others (Asked words moment)
+    (ToMember reply) ⊎ IsRefusedBy Represents new club others (Asked words moment) (ToMember reply)
     → (reply ≡ unavailable) ⊎ (reply ≡ (verdict_in club words moment).reply)
-told_reply Stands new club others words moment reply (inl a) =
+reply_or_failure Represents new club others words moment reply (inl a) =
     let e = a.reply in let same : reply ≡ (verdict_in club words moment).reply = cc in inr same
-told_reply Stands new club others words moment reply (inr f) = inl (failed_reply reply f.failed)
+reply_or_failure Represents new club others words moment reply (inr f) = inl (failed_reply reply f.failed)
 
 -- what is served is no failure
 not_served : (reply : Reply) → reply ≡ unavailable → IsServed reply → ⊥
@@ -57,11 +57,11 @@ pub served_reply : (club : Club) (words : Words) (moment : ℕ) (reply : Reply)
 served_reply club words moment reply (inl e) h = absurd (not_served reply e h)
 served_reply club words moment reply (inr e) h = e
 
--- what was read, of what is said
-said_read : (read : Result (Form × Plain) Fault) (pass : Pass) → said_by (without_form read) ≡ Ok pass
-    → (found : Form × Plain) × (read ≡ Ok found) × (pass_of found.1 ≡ pass)
-said_read (Ok found) pass e = let same : pass_of found.1 ≡ pass = cc in (found, refl, same)
-said_read (Err fault) pass e = absurd (cc)
+-- the parsed pass behind a decoded one
+decoded_read : (read : Result (Form × Plain) Fault) (pass : Pass) → decoded_or_fault (without_form read) ≡ Ok pass
+    → (found : Form × Plain) × (read ≡ Ok found) × (machine_pass found.1 ≡ pass)
+decoded_read (Ok found) pass e = let same : machine_pass found.1 ≡ pass = cc in (found, refl, same)
+decoded_read (Err fault) pass e = absurd (cc)
 
 -- each caveat that is allowed is understood and allowed
 allowed_text : ReadsWhatIsUnderstood → (ask : Ask) (text : List ℕ) (caveat : Option Caveat) → caveat_of text ≡ caveat
@@ -77,22 +77,22 @@ allowed_texts reads ask (text ∷ texts) h =
     (allowed_text reads ask text (caveat_of text) refl (All-head (IsAllowedBy ask) (caveat_of text) (map caveat_of texts) h))
     (allowed_texts reads ask texts (All-tail (IsAllowedBy ask) (caveat_of text) (map caveat_of texts) h))
 
--- a signed pass in the machine's words
-signed_plain : TellsSigned → (plain : Plain) (key : Key) (moment : ℕ) → IsSignedUnder (pass_of plain) key moment
+-- a signed pass, as the machine sees it
+signed_plain : DecidesSigned → (plain : Plain) (key : Key) (moment : ℕ) → IsSignedUnder (machine_pass plain) key moment
     → IsSignedFor plain key moment
-signed_plain tells plain key moment h = record { root = h.root; good = h.good; signed = (tells h.root plain).1 h.signed }
+signed_plain signed_law plain key moment h = record { root = h.root; good = h.good; signed = (signed_law h.root plain).1 h.signed }
 
-plain_signed : TellsSigned → (plain : Plain) (key : Key) (moment : ℕ) → IsSignedFor plain key moment
-    → IsSignedUnder (pass_of plain) key moment
-plain_signed tells plain key moment h = record { root = h.root; good = h.good; signed = (tells h.root plain).0 h.signed }
+plain_signed : DecidesSigned → (plain : Plain) (key : Key) (moment : ℕ) → IsSignedFor plain key moment
+    → IsSignedUnder (machine_pass plain) key moment
+plain_signed signed_law plain key moment h = record { root = h.root; good = h.good; signed = (signed_law h.root plain).0 h.signed }
 
--- what is served is entitled, in the words of the formats
-pub served_text : ServesOnlyTheEntitled → ReadsAnyFormExactly → TellsSigned → FindsNames → ReadsWhatIsUnderstood
+-- a text that is served entitles to the request
+pub served_text : ServesOnlyTheEntitled → ReadsAnyFormExactly → DecidesSigned → FindsNames → ReadsWhatIsUnderstood
     → (club : Club) (text : List ℕ) (request : Request) (moment : ℕ) → IsBytes text → IsServed (reply_in club text request moment)
     → EntitlesTo club text request moment
-served_text serves reads tells finds understood club text request moment bytes h =
-    let entitled = serves (words_said text request) moment club h in
-    let found = said_read (reading text) entitled.pass entitled.read in
+served_text serves reads signed_law finds understood club text request moment bytes h =
+    let entitled = serves (decoded_words text request) moment club h in
+    let found = decoded_read (reading text) entitled.pass entitled.read in
     let plain = found.0.1 in
     let Signed : Pass → Type 0 = λ p. IsSignedUnder p entitled.basis.key moment in
     let ask = ask_of (view_of entitled.basis request moment) request moment in
@@ -104,17 +104,18 @@ served_text serves reads tells finds understood club text request moment bytes h
       key = entitled.basis.key;
       named = ((finds plain.identifier entitled.basis.key.name).0 (ap (λ (p : Pass). p.key) found.2 ∙ entitled.named)).1;
       row = entitled.row;
-      stands = entitled.stands;
-      signed = signed_plain tells plain entitled.basis.key moment (subst Signed (sym found.2) entitled.signed);
+      not_revoked = entitled.not_revoked;
+      signed = signed_plain signed_law plain entitled.basis.key moment (subst Signed (sym found.2) entitled.signed);
       basis = entitled.basis;
       known = entitled.known;
       allowed = allowed_texts understood ask plain.caveats (subst Allowing (sym found.2) entitled.allowed);
     }
 
--- what a text says, by its reading
-says : ReadsAnyFormExactly → (text : List ℕ) (form : Form) (plain : Plain) → IsBytes text → IsAnyReading text (Ok (form, plain))
-    → said text ≡ Ok (pass_of plain)
-says reads text form plain bytes h = ap (λ (r : Result (Form × Plain) Fault). said_by (without_form r)) ((reads text (Ok (form, plain)) bytes).0 h)
+-- the decoded pass of a text, by its reading
+decodes_as : ReadsAnyFormExactly → (text : List ℕ) (form : Form) (plain : Plain) → IsBytes text → IsAnyReading text (Ok (form, plain))
+    → decoded_pass text ≡ Ok (machine_pass plain)
+decodes_as reads text form plain bytes h = ap
+    (λ (r : Result (Form × Plain) Fault). decoded_or_fault (without_form r)) ((reads text (Ok (form, plain)) bytes).0 h)
 
 -- texts of one pass are answered alike
 forms_alike : ReadsAnyFormExactly
@@ -122,7 +123,7 @@ forms_alike : ReadsAnyFormExactly
     → IsBytes other → IsAnyReading text (Ok (form, plain)) → IsAnyReading other (Ok (other_form, plain))
     → reply_in club text request moment ≡ reply_in club other request moment
 forms_alike reads club text other request moment form other_form plain a b h k =
-    let same : said text ≡ said other = says reads text form plain a h ∙ sym (says reads other other_form plain b k) in
+    let same : decoded_pass text ≡ decoded_pass other = decodes_as reads text form plain a h ∙ sym (decodes_as reads other other_form plain b k) in
     ap (λ (s : Result Pass FormFault). (verdict_in club (record { pass = s; request = request }) moment).reply) same
 
 pub answers_forms : ReadsAnyFormExactly → (club : Club) (text : List ℕ) (request : Request) (moment : ℕ) (reply : Reply)
@@ -137,25 +138,25 @@ one_name : (a b : List ℕ) → identifier_of a ≡ identifier_of b → a ≡ b
 one_name a b e = cc
 
 -- the key of a pass that is served is the one that its identifier names
-named_by : FindsNames → (identifier name other : List ℕ) → name_in identifier ≡ Some name → identifier ≡ identifier_of other
-    → name_in identifier ≡ Some other
+named_by : FindsNames → (identifier name other : List ℕ) → key_name_in identifier ≡ Some name → identifier ≡ identifier_of other
+    → key_name_in identifier ≡ Some other
 named_by finds identifier name other e f =
     let same : name ≡ other = one_name name other (sym ((finds identifier name).0 e).1 ∙ f) in
     e ∙ ap (λ (n : List ℕ). Some n) same
 
 -- a narrower pass opens no more
-pub opens_no_more : ServesOnlyTheEntitled → MoreCaveatsNeverOpenMore → ReadsAnyFormExactly → TellsSigned → FindsNames
+pub opens_no_more : ServesOnlyTheEntitled → MoreCaveatsNeverOpenMore → ReadsAnyFormExactly → DecidesSigned → FindsNames
     → (club : Club) (text wide : List ℕ) (request : Request) (moment : ℕ) → IsBytes text → IsBytes wide
-    → IsNarrowed club wide text moment → IsServed (reply_in club text request moment)
+    → IsNarrowedText club wide text moment → IsServed (reply_in club text request moment)
     → reply_in club text request moment ≡ reply_in club wide request moment
-opens_no_more serves more reads tells finds club text wide request moment bytes wide_bytes n served =
-    let broad = pass_of n.pass in
-    let narrow = pass_of n.other_pass in
-    let broad_said = says reads wide n.form n.pass wide_bytes n.wide_read in
-    let narrow_said = says reads text n.other_form n.other_pass bytes n.narrow_read in
+opens_no_more serves more reads signed_law finds club text wide request moment bytes wide_bytes n served =
+    let broad = machine_pass n.pass in
+    let narrow = machine_pass n.other_pass in
+    let broad_decoded = decodes_as reads wide n.form n.pass wide_bytes n.wide_read in
+    let narrow_decoded = decodes_as reads text n.other_form n.other_pass bytes n.narrow_read in
     let reply : Result Pass FormFault → Reply = λ s. (verdict_in club (record { pass = s; request = request }) moment).reply in
     let P : Reply → Type 0 = λ r. IsServed r in
-    let there : IsServed (verdict_in club (words_with narrow request) moment).reply = subst P (ap reply narrow_said) served in
+    let there : IsServed (verdict_in club (words_with narrow request) moment).reply = subst P (ap reply narrow_decoded) served in
     let entitled = serves (words_with narrow request) moment club there in
     let e = entitled.read in
     let alike : narrow ≡ entitled.pass = cc in
@@ -164,7 +165,8 @@ opens_no_more serves more reads tells finds club text wide request moment bytes 
     let caveats : narrow.caveats ≡ broad.caveats ++ map caveat_of n.more =
     ap (λ (cs : List (List ℕ)). map caveat_of cs) n.caveats ∙ map-append caveat_of n.pass.caveats n.more
     in
-    let wide_name : broad.key ≡ Some n.key.name = ap name_in (sym n.identifier) ∙ name in
-    let same = more broad narrow (map caveat_of n.more) n.key request moment club wide_name name caveats n.row (plain_signed tells n.pass n.key moment n.signed)
+    let wide_name : broad.key ≡ Some n.key.name = ap key_name_in (sym n.identifier) ∙ name in
+    let same = more broad narrow (map caveat_of n.more) n.key request moment club wide_name name caveats n.row
+    (plain_signed signed_law n.pass n.key moment n.signed)
     there in
-    ap reply narrow_said ∙ (ap (λ (v : Verdict). v.reply) (sym same) ∙ sym (ap reply broad_said))
+    ap reply narrow_decoded ∙ (ap (λ (v : Verdict). v.reply) (sym same) ∙ sym (ap reply broad_decoded))

@@ -7,16 +7,16 @@ use Rattle.std.proofs.lemmas.Slice.Eq.{bytes_eq-Decides}
 use Rattle.club_values.specs.Laws.{ReadsNames}
 use Rattle.club_values.specs.Name.{IsName}
 use Rattle.club_values.specs.TextOf.{name_of_text}
-use Rattle.club_gate.specs.Identifier.{name_in}
+use Rattle.club_gate.specs.Identifier.{key_name_in}
 use Rattle.club_gate.specs.Minted.{identifier_of}
 
 found : (b : Bool) (o : Option (List ℕ)) (name : List ℕ) → cond b o None ≡ Some name → (b ≡ true) × (o ≡ Some name)
 found true o name e = (refl, e)
 found false o name e = absurd (cc)
 
-pub name_found : ReadsNames → (identifier name : List ℕ) → name_in identifier ≡ Some name
+pub name_found : ReadsNames → (identifier name : List ℕ) → key_name_in identifier ≡ Some name
     → IsName name × (identifier ≡ identifier_of name)
-unfolding name_in
+unfolding key_name_in
 name_found reads identifier name e =
     let parts = found (bytes_eq (take 4 identifier) (codes "key:")) (name_of_text (drop 4 identifier)) name e in
     let front : take 4 identifier ≡ codes "key:" = (bytes_eq-Decides (take 4 identifier) (codes "key:")).0 parts.0 in
@@ -27,7 +27,7 @@ name_found reads identifier name e =
     )
 
 pub name_there : ReadsNames → (identifier name : List ℕ) → IsName name → identifier ≡ identifier_of name
-    → name_in identifier ≡ Some name
-unfolding name_in
+    → key_name_in identifier ≡ Some name
+unfolding key_name_in
 name_there reads identifier name named e =
-    ap (λ (xs : List ℕ). name_in xs) e ∙ (reads name name).1 (named, refl)
+    ap (λ (xs : List ℕ). key_name_in xs) e ∙ (reads name name).1 (named, refl)

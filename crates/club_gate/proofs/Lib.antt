@@ -8,3 +8,4 @@ pub mod DeskLaws
 pub mod FollowedEvents
 pub mod FollowedRuns
 pub mod Reading
+pub mod LookTexts

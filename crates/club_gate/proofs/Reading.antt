@@ -1,4 +1,4 @@
--- What is read for a signed pass answers as the whole view.
+-- The parts that are read for a signed pass give the same verdict as the whole view.
 use Rattle.std.proofs.Common.{◌≡◌, ◌≢◌, ℕ, Bool, true, false, cond, List, [], ◌∷◌, map, refl, sym, ap, ◌∙◌, subst}
 use Rattle.std.proofs.Common.{Option, Some, None, Ok, option_map, option_and_then}
 use Rattle.std.specs.Str.{bytes_eq}
@@ -18,19 +18,19 @@ use Rattle.club_core.specs.declared.request.Request.TheVariants as asked
 use Rattle.club_core.specs.declared.verdict.Verdict.{Verdict}
 use Rattle.club_core.specs.declared.view.View.{View}
 use Rattle.club_core.specs.Answer.{answer_by_view, answer_to, ask_of, verdict_in}
-use Rattle.club_core.specs.Basis.{Basis, account_of, basis_under, state_of, view_of}
+use Rattle.club_core.specs.Basis.{Basis, club_account, basis_under, state_of, view_in, view_of}
 use Rattle.club_core.specs.Club.{Club, IsSound, bookings_of, key_named, member_named}
 use Rattle.club_core.specs.Laws.{HasOwnBookings, OwnBookings}
 use Rattle.club_core.specs.Looks.{LooksNoFurther, RestsOnItsParts, bare_view, books_anew, seen_by_caveats, seen_by_decision}
-use Rattle.club_core.specs.Request.{number_of, slot_of}
+use Rattle.club_core.specs.Request.{request_number, request_slot}
 use Rattle.club_core.specs.Sums.{booking_under, spent_under}
-use Rattle.club_core.specs.Lines.{line, first_of}
-use Rattle.club_core.specs.Verdict.{refused, verdict_of}
+use Rattle.club_core.specs.Lines.{line_if, first_of}
+use Rattle.club_core.specs.Verdict.{refusal_verdict, verdict_of}
 use Rattle.club_core.specs.declared.refusal.Refusal.TheVariants.{KeyRevoked, NotVerified}
-use Rattle.club_laws.specs.DeskLaw.{words_with}
-use Rattle.club_gate.specs.Identifier.{name_in}
+use Rattle.club_laws.specs.SingleRequest.{words_with}
+use Rattle.club_gate.specs.Identifier.{key_name_in}
 use Rattle.club_gate.specs.Reading.{answer_read, fault_read, first_view, last_view, verdict_read, with_account, with_member, with_slot, with_spent}
-use Rattle.club_gate.specs.Said.{pass_of}
+use Rattle.club_gate.specs.DecodedPass.{machine_pass}
 use Rattle.club_gate.specs.Verify.{signer_in}
 use Rattle.club_gate.proofs.Signers.{IsSigner, found, is_signer, owned}
 
@@ -38,12 +38,12 @@ use Rattle.club_gate.proofs.Signers.{IsSigner, found, is_signer, owned}
 
 module _ (club : Club) (key : Key) (member : Member) (request : Request) (moment : ℕ) where
   abbrev pub whole_basis : Basis
-  whole_basis = record { key = key; member = member; bookings = bookings_of member.name club; state = state_of club (slot_of request) }
+  whole_basis = record { key = key; member = member; bookings = bookings_of member.name club; state = state_of club (request_slot request) }
 
   abbrev pub whole : View
   whole = view_of whole_basis request moment
 
--- a key's own bookings stand among those of its member
+-- a key's own bookings are among those of its member
 own_member : (club : Club) (key : Key) (name : List ℕ) → key.member ≡ name → HasOwnBookings club key
     → (spent_under key.name (bookings_of name club) ≡ spent_under key.name club.bookings)
     × ((number : ℕ) → booking_under key.name number (bookings_of name club) ≡ booking_under key.name number club.bookings)
@@ -63,14 +63,14 @@ first_part : (club : Club) (key : Key) (member : Member) (request : Request) (mo
     → first_view club key request ≡ seen_by_caveats (whole club key member request moment)
 first_part club key member request moment same =
     ap (λ (b : Option Booking).
-    let view : View = record (bare_view key) { facility = (state_of club (slot_of request)).facility; booking = b } in view)
-    (at_number key.name (bookings_of member.name club) club.bookings same (number_of request))
+    let view : View = record (bare_view key) { facility = (state_of club (request_slot request)).facility; booking = b } in view)
+    (at_number key.name (bookings_of member.name club) club.bookings same (request_number request))
 
--- the member's sums, where the club has the member
+-- the member's sums, if the club has the member
 with_its_member : (club : Club) (moment : ℕ) (view : View) (member : Member) → member_named view.key.member club ≡ Some member
-    → with_member club moment view ≡ Some (with_account club moment view (account_of club member))
+    → with_member club moment view ≡ Some (with_account club moment view (club_account club member))
 with_its_member club moment view member e =
-    ap (λ (m : Option Member). option_map (with_account club moment view) (option_map (account_of club) m)) e
+    ap (λ (m : Option Member). option_map (with_account club moment view) (option_map (club_account club) m)) e
 
 last_part : (club : Club) (key : Key) (member : Member) (request : Request) (moment : ℕ)
     → member_named key.member club ≡ Some member
@@ -116,7 +116,7 @@ same_key (asked.Book slot number guests) view = go (books_anew view)
 same_key (asked.Cancel slot number) view = refl
 same_key asked.Account view = refl
 
--- what a fault refuses, it refuses whatever else the key sees
+-- a caveat's fault refuses the request, whatever else the view holds
 refused_by_fault : (view : View) (fault : CaveatFault) (request : Request) (moment : ℕ)
     → answer_by_view (Some (seen_by_caveats view)) true (Some fault) request moment
     ≡ answer_by_view (Some view) true (Some fault) request moment
@@ -125,7 +125,7 @@ refused_by_fault view (Denied n) request moment = refl
 
 -- the line of a revoked key, and then the decision
 by_key : Key → Verdict → Verdict
-by_key key verdict = first_of (line false (refused NotVerified) ∷ line key.revoked (refused KeyRevoked) ∷ []) verdict
+by_key key verdict = first_of (line_if false (refusal_verdict NotVerified) ∷ line_if key.revoked (refusal_verdict KeyRevoked) ∷ []) verdict
 
 decided_by_part : (view : View) (request : Request) (moment : ℕ) → RestsOnItsParts view request moment
     → answer_by_view (Some (seen_by_decision request view)) true None request moment ≡ answer_by_view (Some view) true None request moment
@@ -159,26 +159,26 @@ module _ (club : Club) (key : Key) (pass : Plain) (request : Request) (moment : 
       ap (λ (v : View). answer_by_view (Some v) true (Some fault) request moment) first
       ∙ refused_by_fault (whole club key member request moment) fault request moment
 
-  whole_answer : member_named key.member club ≡ Some member → IsSigner club pass request moment (name_in pass.identifier) key
-      → verdict_in club (words_with (pass_of pass) request) moment
+  whole_answer : member_named key.member club ≡ Some member → IsSigner club pass request moment (key_name_in pass.identifier) key
+      → verdict_in club (words_with (machine_pass pass) request) moment
       ≡ answer_by_view (Some (whole club key member request moment)) true
       (first_fault_of (map caveat_of pass.caveats) (ask_of (whole club key member request moment) request moment))
       request moment
   whole_answer has is =
-      ap (λ (n : Option (List ℕ)). answer_to (Ok (pass_of pass)) request moment
+      ap (λ (n : Option (List ℕ)). answer_to (Ok (machine_pass pass)) request moment
       (option_map (λ (b : Basis). view_of b request moment)
       (option_and_then (basis_under club request) (option_and_then (λ (m : List ℕ). key_named m club) n)))) is.names
-      ∙ (ap (λ (k : Option Key). answer_to (Ok (pass_of pass)) request moment
+      ∙ (ap (λ (k : Option Key). answer_to (Ok (machine_pass pass)) request moment
       (option_map (λ (b : Basis). view_of b request moment) (option_and_then (basis_under club request) k))) is.row
-      ∙ (ap (λ (m : Option Member). answer_to (Ok (pass_of pass)) request moment
+      ∙ (ap (λ (m : Option Member). answer_to (Ok (machine_pass pass)) request moment
       (option_map (λ (b : Basis). view_of b request moment)
       (option_map (λ (it : Member). whole_basis club key it request moment) m))) has
       ∙ ap (λ (b : Bool). answer_by_view (Some (whole club key member request moment)) b
       (first_fault_of (map caveat_of pass.caveats) (ask_of (whole club key member request moment) request moment))
       request moment) is.signed))
 
-  answers_alike : member_named key.member club ≡ Some member → IsSigner club pass request moment (name_in pass.identifier) key
-      → verdict_read club key pass request moment ≡ verdict_in club (words_with (pass_of pass) request) moment
+  answers_alike : member_named key.member club ≡ Some member → IsSigner club pass request moment (key_name_in pass.identifier) key
+      → verdict_read club key pass request moment ≡ verdict_in club (words_with (machine_pass pass) request) moment
   answers_alike has is =
       ap (λ (f : Option CaveatFault). answer_read club key request moment f) same_fault
       ∙ (same_answer has (first_fault_of (map caveat_of pass.caveats) (ask_of (whole club key member request moment) request moment))
@@ -188,9 +188,9 @@ there : (member : Option Member) → member ≢ None → (found : Member) × (me
 there None some = absurd (some refl)
 there (Some member) some = (member, refl)
 
--- what is read for a signed pass answers as the machine
+-- the parts that are read for a signed pass give the machine's verdict
 pub read_alike : OwnBookings → LooksNoFurther → (club : Club) (key : Key) (pass : Plain) (request : Request) (moment : ℕ) → IsSound club
-    → signer_in club pass moment ≡ Ok key → verdict_read club key pass request moment ≡ verdict_in club (words_with (pass_of pass) request) moment
+    → signer_in club pass moment ≡ Ok key → verdict_read club key pass request moment ≡ verdict_in club (words_with (machine_pass pass) request) moment
 read_alike own law club key pass request moment sound e =
     let is = is_signer club pass request moment key e in
     let has = there (member_named key.member club) (owned club is.named key sound is.row) in
@@ -200,3 +200,17 @@ read_alike own law club key pass request moment sound e =
     let both = own_member club key has.0.name same (own club key among.0) in
     answers_alike club key pass request moment has.0 (first_part club key has.0 request moment both.1) both.0
     (law (whole club key has.0 request moment) request moment) has.1 is
+
+-- a key's sums are what it sees for its account
+pub account_seen : OwnBookings → (club : Club) (name : List ℕ) (key : Key) (moment : ℕ) → IsSound club → key_named name club ≡ Some key
+    → option_map (with_spent club) (with_member club moment (bare_view key)) ≡ view_in club name asked.Account moment
+account_seen own club name key moment sound row =
+    let has = there (member_named key.member club) (owned club name key sound row) in
+    let its = found (λ (m : Member). bytes_eq m.name key.member) club.members has.0 has.1 in
+    let same : key.member ≡ has.0.name = sym ((bytes_eq-Decides has.0.name key.member).0 its.1) in
+    let among = found (λ (k : Key). bytes_eq k.name name) club.keys key row in
+    let both = own_member club key has.0.name same (own club key among.0) in
+    last_part club key has.0 asked.Account moment has.1 both.0
+    ∙ sym (ap (λ (k : Option Key). option_map (λ (b : Basis). view_of b asked.Account moment) (option_and_then (basis_under club asked.Account) k)) row
+    ∙ ap (λ (m : Option Member). option_map (λ (b : Basis). view_of b asked.Account moment)
+    (option_map (λ (it : Member). whole_basis club key it asked.Account moment) m)) has.1)

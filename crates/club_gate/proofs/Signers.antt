@@ -17,18 +17,18 @@ use Rattle.club_core.specs.Answer.{answer_to, verdict_in}
 use Rattle.club_core.specs.Basis.{Basis, basis_under, state_of, view_in, view_of}
 use Rattle.club_core.specs.Club.{Club, IsSound, bookings_of, key_named, member_named}
 use Rattle.club_core.specs.Laws.{ViewsDecide}
-use Rattle.club_core.specs.Lines.{line, first_of}
+use Rattle.club_core.specs.Lines.{line_if, first_of}
 use Rattle.club_core.specs.Pass.{is_signed_under}
-use Rattle.club_core.specs.Request.{slot_of}
-use Rattle.club_core.specs.Verdict.{refused}
-use Rattle.club_laws.specs.DeskLaw.{words_with}
-use Rattle.club_gate.specs.Identifier.{name_in}
-use Rattle.club_gate.specs.Said.{pass_of}
+use Rattle.club_core.specs.Request.{request_slot}
+use Rattle.club_core.specs.Verdict.{refusal_verdict}
+use Rattle.club_laws.specs.SingleRequest.{words_with}
+use Rattle.club_gate.specs.Identifier.{key_name_in}
+use Rattle.club_gate.specs.DecodedPass.{machine_pass}
 use Rattle.club_gate.specs.Verify.{key_unless, refusal_by_row, signer_by, signer_in}
 
 -- ---- rows that are found
 
--- what is found is an element, and passes
+-- an element that was found is in the list, and passes the test
 pub found : {X : Type 0} (p : X → Bool) (xs : List X) (x : X) → find p xs ≡ Some x → Contains xs x × (p x ≡ true)
 found p [] x h = absurd (cc)
 found {X} p (y ∷ xs) x h = go (p y) refl (λ e. found p xs x e) h
@@ -67,30 +67,30 @@ named club name key e = (bytes_eq-Decides key.name name).0 (found (λ (k : Key).
 
 module _ (pass : Plain) (key : Key) (moment : ℕ) where
   abbrev by_lines : Bool → Bool → Option Refusal
-  by_lines is_signed revoked = first_of (line (not is_signed) (Some NotVerified) ∷ line revoked (Some KeyRevoked) ∷ []) None
+  by_lines is_signed revoked = first_of (line_if (not is_signed) (Some NotVerified) ∷ line_if revoked (Some KeyRevoked) ∷ []) None
 
-  pub unsigned_row : (found : Bool) → found ≡ is_signed_under (pass_of pass) key moment → found ≡ false → Some NotVerified ≡ refusal_by_row pass key moment
+  pub unsigned_row : (found : Bool) → found ≡ is_signed_under (machine_pass pass) key moment → found ≡ false → Some NotVerified ≡ refusal_by_row pass key moment
   unsigned_row found e f = ap (λ (b : Bool). by_lines b key.revoked) (sym f ∙ e)
 
-  pub revoked_row : (found : Bool) → found ≡ is_signed_under (pass_of pass) key moment → found ≡ true → key.revoked ≡ true
+  pub revoked_row : (found : Bool) → found ≡ is_signed_under (machine_pass pass) key moment → found ≡ true → key.revoked ≡ true
       → Some KeyRevoked ≡ refusal_by_row pass key moment
   revoked_row found e f r = ap (λ (b : Bool). by_lines true b) (sym r) ∙ ap (λ (b : Bool). by_lines b key.revoked) (sym f ∙ e)
 
-  pub standing_row : (found : Bool) → found ≡ is_signed_under (pass_of pass) key moment → found ≡ true → key.revoked ≡ false
+  pub unrevoked_row : (found : Bool) → found ≡ is_signed_under (machine_pass pass) key moment → found ≡ true → key.revoked ≡ false
       → None ≡ refusal_by_row pass key moment
-  standing_row found e f r = ap (λ (b : Bool). by_lines true b) (sym r) ∙ ap (λ (b : Bool). by_lines b key.revoked) (sym f ∙ e)
+  unrevoked_row found e f r = ap (λ (b : Bool). by_lines true b) (sym r) ∙ ap (λ (b : Bool). by_lines b key.revoked) (sym f ∙ e)
 
--- what the row refuses is so refused
+-- the refusal by the row is the whole refusal
 refused_alike : (is_signed revoked : Bool) (key : Key) (last : Verdict) (refusal : Refusal)
-    → key_unless key (first_of (line (not is_signed) (Some NotVerified) ∷ line revoked (Some KeyRevoked) ∷ []) None) ≡ Err refusal
-    → first_of (line (not is_signed) (refused NotVerified) ∷ line revoked (refused KeyRevoked) ∷ []) last ≡ refused refusal
-refused_alike false revoked key last refusal e = let same : NotVerified ≡ refusal = cc in ap refused same
-refused_alike true true key last refusal e = let same : KeyRevoked ≡ refusal = cc in ap refused same
+    → key_unless key (first_of (line_if (not is_signed) (Some NotVerified) ∷ line_if revoked (Some KeyRevoked) ∷ []) None) ≡ Err refusal
+    → first_of (line_if (not is_signed) (refusal_verdict NotVerified) ∷ line_if revoked (refusal_verdict KeyRevoked) ∷ []) last ≡ refusal_verdict refusal
+refused_alike false revoked key last refusal e = let same : NotVerified ≡ refusal = cc in ap refusal_verdict same
+refused_alike true true key last refusal e = let same : KeyRevoked ≡ refusal = cc in ap refusal_verdict same
 refused_alike true false key last refusal e = absurd (cc)
 
--- and what it doesn't is signed
+-- a pass that the row doesn't refuse is signed
 signed_row : (is_signed revoked : Bool) (key other : Key)
-    → key_unless key (first_of (line (not is_signed) (Some NotVerified) ∷ line revoked (Some KeyRevoked) ∷ []) None) ≡ Ok other
+    → key_unless key (first_of (line_if (not is_signed) (Some NotVerified) ∷ line_if revoked (Some KeyRevoked) ∷ []) None) ≡ Ok other
     → (is_signed ≡ true) × (revoked ≡ false) × (key ≡ other)
 signed_row false revoked key other e = absurd (cc)
 signed_row true true key other e = absurd (cc)
@@ -103,36 +103,36 @@ view_by club request moment key = option_map (λ (b : Basis). view_of b request 
 abbrev view_with : Club → Request → ℕ → Key → Option Member → Option View
 view_with club request moment key member =
     option_map (λ (b : Basis). view_of b request moment)
-    (option_map (λ (m : Member). record { key = key; member = m; bookings = bookings_of m.name club; state = state_of club (slot_of request) }) member)
+    (option_map (λ (m : Member). record { key = key; member = m; bookings = bookings_of m.name club; state = state_of club (request_slot request) }) member)
 
 module _ (club : Club) (pass : Plain) (request : Request) (moment : ℕ) where
   abbrev answer_by : Option View → Verdict
-  answer_by view = answer_to (Ok (pass_of pass)) request moment view
+  answer_by view = answer_to (Ok (machine_pass pass)) request moment view
 
   -- ---- refused
 
   of_member : (key : Key) (member : Option Member) → member ≢ None → (refusal : Refusal) → signer_by pass moment (Some key) ≡ Err refusal
-      → answer_by (view_with club request moment key member) ≡ refused refusal
+      → answer_by (view_with club request moment key member) ≡ refusal_verdict refusal
   of_member key None some refusal e = absurd (some refl)
   of_member key (Some member) some refusal e =
-      refused_alike (is_signed_under (pass_of pass) key moment) key.revoked key _ refusal e
+      refused_alike (is_signed_under (machine_pass pass) key moment) key.revoked key _ refusal e
 
   of_row : IsSound club → (name : List ℕ) (key : Option Key) → key_named name club ≡ key → (refusal : Refusal) → signer_by pass moment key ≡ Err refusal
-      → answer_by (view_by club request moment key) ≡ refused refusal
-  of_row sound name None row refusal e = let same : NotVerified ≡ refusal = cc in ap refused same
+      → answer_by (view_by club request moment key) ≡ refusal_verdict refusal
+  of_row sound name None row refusal e = let same : NotVerified ≡ refusal = cc in ap refusal_verdict same
   of_row sound name (Some key) row refusal e = of_member key (member_named key.member club) (owned club name key sound row) refusal e
 
   of_name : IsSound club → (name : Option (List ℕ)) (refusal : Refusal)
       → signer_by pass moment (option_and_then (λ (n : List ℕ). key_named n club) name) ≡ Err refusal
-      → answer_by (option_and_then (λ (n : List ℕ). view_in club n request moment) name) ≡ refused refusal
-  of_name sound None refusal e = let same : NotVerified ≡ refusal = cc in ap refused same
+      → answer_by (option_and_then (λ (n : List ℕ). view_in club n request moment) name) ≡ refusal_verdict refusal
+  of_name sound None refusal e = let same : NotVerified ≡ refusal = cc in ap refusal_verdict same
   of_name sound (Some name) refusal e = of_row sound name (key_named name club) refl refusal e
 
-  -- who isn't signed, or whose key is revoked, is refused, whatever else the club holds
+  -- a pass that isn't signed, or whose key is revoked, is refused, whatever else the club holds
   pub refused_by_row : ViewsDecide → IsSound club → (refusal : Refusal) → signer_in club pass moment ≡ Err refusal
-      → refused refusal ≡ verdict_in club (words_with (pass_of pass) request) moment
+      → refusal_verdict refusal ≡ verdict_in club (words_with (machine_pass pass) request) moment
   refused_by_row decides sound refusal e =
-      sym (decides club (words_with (pass_of pass) request) moment ∙ of_name sound (name_in pass.identifier) refusal e)
+      sym (decides club (words_with (machine_pass pass) request) moment ∙ of_name sound (key_name_in pass.identifier) refusal e)
 
   -- ---- signed
 
@@ -141,20 +141,20 @@ module _ (club : Club) (pass : Plain) (request : Request) (moment : ℕ) where
     pub named : List ℕ
     pub names : name ≡ Some named
     pub row : key_named named club ≡ Some key
-    pub signed : is_signed_under (pass_of pass) key moment ≡ true
-    pub standing : key.revoked ≡ false
+    pub signed : is_signed_under (machine_pass pass) key moment ≡ true
+    pub not_revoked : key.revoked ≡ false
 
   of_signer : (named : List ℕ) (row : Option Key) → key_named named club ≡ row → (key : Key) → signer_by pass moment row ≡ Ok key
       → IsSigner (Some named) key
   of_signer named None is key e = absurd (cc)
   of_signer named (Some row) is key e =
-      let found = signed_row (is_signed_under (pass_of pass) row moment) row.revoked row key e in
+      let found = signed_row (is_signed_under (machine_pass pass) row moment) row.revoked row key e in
       record {
         named = named;
         names = refl;
         row = is ∙ ap Some found.2;
-        signed = ap (λ (k : Key). is_signed_under (pass_of pass) k moment) (sym found.2) ∙ found.0;
-        standing = ap (λ (k : Key). k.revoked) (sym found.2) ∙ found.1;
+        signed = ap (λ (k : Key). is_signed_under (machine_pass pass) k moment) (sym found.2) ∙ found.0;
+        not_revoked = ap (λ (k : Key). k.revoked) (sym found.2) ∙ found.1;
       }
 
   signer_named : (name : Option (List ℕ)) (key : Key) → signer_by pass moment (option_and_then (λ (n : List ℕ). key_named n club) name) ≡ Ok key
@@ -162,5 +162,5 @@ module _ (club : Club) (pass : Plain) (request : Request) (moment : ℕ) where
   signer_named None key e = absurd (cc)
   signer_named (Some name) key e = of_signer name (key_named name club) refl key e
 
-  pub is_signer : (key : Key) → signer_in club pass moment ≡ Ok key → IsSigner (name_in pass.identifier) key
-  is_signer key e = signer_named (name_in pass.identifier) key e
+  pub is_signer : (key : Key) → signer_in club pass moment ≡ Ok key → IsSigner (key_name_in pass.identifier) key
+  is_signer key e = signer_named (key_name_in pass.identifier) key e

@@ -1,4 +1,4 @@
--- The chains of a pass are those under the roots that are good.
+-- The chains of a pass are those under the valid roots.
 use Rattle.std.proofs.Common.{◌≡◌, ℕ, ◌||◌, Bool, false, List, [], ◌∷◌, fold, option_map, Option, Some, None, refl, ap, ◌∙◌}
 use Rattle.std.specs.Option.{option_map_or}
 use Rattle.pass_mac.specs.Chain.{chain, derived_key}
@@ -8,15 +8,15 @@ use Rattle.club_rows.specs.declared.key.Key.{Key}
 use Rattle.club_rows.specs.Key.{older_root_at}
 use Rattle.club_core.specs.Pass.{is_signed_under}
 use Rattle.club_gate.specs.declared.signing.Signing.{Signing}
-use Rattle.club_gate.specs.Said.{pass_of}
-use Rattle.club_gate.specs.Signing.{begun, grown, is_one_of}
+use Rattle.club_gate.specs.DecodedPass.{machine_pass}
+use Rattle.club_gate.specs.Signing.{initial_signing, signing_with, is_one_of}
 
 abbrev chains : List ℕ → Option (List ℕ) → Signing
 chains current older = record { current = current; older = older }
 
--- each chain grows by itself
+-- each chain is extended independently
 grown_by_all : (current : List ℕ) (older : Option (List ℕ)) (caveats : List (List ℕ))
-    → fold grown (chains current older) caveats ≡ chains (fold hmac current caveats)
+    → fold signing_with (chains current older) caveats ≡ chains (fold hmac current caveats)
     (option_map (λ (s : List ℕ). fold hmac s caveats) older)
 grown_by_all current None [] = refl
 grown_by_all current (Some older) [] = refl
@@ -24,7 +24,7 @@ grown_by_all current None (caveat ∷ caveats) = grown_by_all (hmac current cave
 grown_by_all current (Some older) (caveat ∷ caveats) = grown_by_all (hmac current caveat) (Some (hmac older caveat)) caveats
 
 signed_as : (root : List ℕ) (older : Option (List ℕ)) (pass : Plain)
-    → is_one_of (fold grown (chains (chain (derived_key root) pass.identifier [])
+    → is_one_of (fold signing_with (chains (chain (derived_key root) pass.identifier [])
     (option_map (λ (r : List ℕ). chain (derived_key r) pass.identifier []) older)) pass.caveats) pass.signature
     ≡ (is_signed root pass || option_map_or (λ (r : List ℕ). is_signed r pass) older false)
 unfolding is_signed
@@ -34,15 +34,15 @@ signed_as root (Some older) pass =
     ap (λ (s : Signing). is_one_of s pass.signature)
     (grown_by_all (chain (derived_key root) pass.identifier []) (Some (chain (derived_key older) pass.identifier [])) pass.caveats)
 
--- so the signature is one of them where the pass is signed
+-- the signature is one of them if and only if the pass is signed
 signed_alike : (pass : Plain) (key : Key) (moment : ℕ)
-    → is_one_of (fold grown (begun key moment pass.identifier) pass.caveats) pass.signature ≡ is_signed_under (pass_of pass) key moment
+    → is_one_of (fold signing_with (initial_signing key moment pass.identifier) pass.caveats) pass.signature ≡ is_signed_under (machine_pass pass) key moment
 signed_alike pass key moment = signed_as key.root (older_root_at key.older moment) pass
 
--- so the test of a walk that began with them is the test of the pass
+-- a scan that begins with them tests whether the pass is signed
 pub tested_alike : (pass : Plain) (key : Key) (moment : ℕ) (identifier : List ℕ) (signing : Signing) (found : Bool)
-    → identifier ≡ pass.identifier → signing ≡ begun key moment identifier
-    → found ≡ is_one_of (fold grown signing pass.caveats) pass.signature → found ≡ is_signed_under (pass_of pass) key moment
+    → identifier ≡ pass.identifier → signing ≡ initial_signing key moment identifier
+    → found ≡ is_one_of (fold signing_with signing pass.caveats) pass.signature → found ≡ is_signed_under (machine_pass pass) key moment
 tested_alike pass key moment identifier signing found i s f =
-    let begins : signing ≡ begun key moment pass.identifier = s ∙ ap (λ (xs : List ℕ). begun key moment xs) i in
-    f ∙ (ap (λ (x : Signing). is_one_of (fold grown x pass.caveats) pass.signature) begins ∙ signed_alike pass key moment)
+    let begins : signing ≡ initial_signing key moment pass.identifier = s ∙ ap (λ (xs : List ℕ). initial_signing key moment xs) i in
+    f ∙ (ap (λ (x : Signing). is_one_of (fold signing_with x pass.caveats) pass.signature) begins ∙ signed_alike pass key moment)

@@ -1,4 +1,4 @@
--- An event that was decided, and settled or not.
+-- An event that was decided: its change was applied, or the store failed.
 use Rattle.std.proofs.Common.{◌≡◌, ◌≢◌, inr, ℕ, true, false, List, [], ◌∷◌, Result, Ok, Err, refl, sym, ap, ◌∙◌, subst}
 use Rattle.std.specs.Prelude.{IsErr}
 use Rattle.club_core.specs.declared.change.Change.{Change}
@@ -19,22 +19,22 @@ use Rattle.club_core.specs.Club.{Club, IsSound}
 use Rattle.club_core.specs.Events.{IsEvent}
 use Rattle.club_core.specs.Office.{office_verdict}
 use Rattle.club_core.specs.Pass.{Words}
-use Rattle.club_core.specs.Run.{Asked, Ordered, after_change, done_answer, ordered, told_and_changed}
-use Rattle.club_laws.specs.Failed.{ToMember, ToOffice, told_of, is_unavailable, NeverUnavailable}
+use Rattle.club_core.specs.Run.{Asked, Ordered, after_change, done_answer, order_outcome, verdict_outcome}
+use Rattle.club_laws.specs.Failed.{ToMember, ToOffice, present_reply, is_unavailable, NeverUnavailable}
 use Rattle.club_laws.specs.SoundRuns.{StepsKeepSound}
 use Rattle.club_gate.specs.declared.event.OfficeReply.TheVariants as replies
 use Rattle.club_gate.specs.Desk.{IsAnsweredBy, IsRefusedBy, change_by, others_after}
-use Rattle.club_gate.specs.Told.{answer_or_fault, fault_of_store, is_failure, reply_or_unavailable, shown, telling, unavailable}
+use Rattle.club_gate.specs.Response.{answer_or_fault, fault_of_store, is_failure, reply_or_unavailable, office_reply_of, desk_presentation, unavailable}
 
--- an order that is done is no failure
-done_stands : (command : Command) → is_failure (shown (done_answer command)) ≡ false
-done_stands (AddMember name quota) = refl
-done_stands (Credit name points) = refl
-done_stands (AddFacility name kind places price opens shuts) = refl
-done_stands (AddKey name member root) = refl
-done_stands (RevokeKey name) = refl
-done_stands (RotateKey name root until) = refl
-done_stands (CloseSlot slot) = refl
+-- a command that is done is no failure
+done_is_no_failure : (command : Command) → is_failure (office_reply_of (done_answer command)) ≡ false
+done_is_no_failure (AddMember name quota) = refl
+done_is_no_failure (Credit name points) = refl
+done_is_no_failure (AddFacility name kind places price opens shuts) = refl
+done_is_no_failure (AddKey name member root) = refl
+done_is_no_failure (RevokeKey name) = refl
+done_is_no_failure (RotateKey name root until) = refl
+done_is_no_failure (CloseSlot slot) = refl
 
 store_fails : (fault : StoreFault) → is_failure (replies.Refused (fault_of_store fault)) ≡ true
 store_fails store.Memory = refl
@@ -52,52 +52,52 @@ other_reply : (reply : Reply) → Replied reply ≢ Replied (Refused Unavailable
 other_reply (Refused Unavailable) h = absurd (h refl)
 other_reply reply h = refl
 
--- what a decided change leaves is sound
+-- a decided change leaves a sound club
 pub order_fits : StepsKeepSound → (club : Club) (command : Command) (change : Change) → IsSound club → IsEvent (Ordered command)
     → office_verdict club command ≡ Ok change → IsSound (after change club)
 order_fits steps club command change sound event e =
-    let P : Result Change OfficeFault → Type 0 = λ v. IsSound (ordered club command v).club in
+    let P : Result Change OfficeFault → Type 0 = λ v. IsSound (order_outcome club command v).club in
     subst P e (steps club (Ordered command) sound event)
 
 pub ask_fits : StepsKeepSound → (club : Club) (words : Words) (moment : ℕ) (verdict : Verdict) → IsSound club
     → IsEvent (Asked words moment) → verdict ≡ verdict_in club words moment → IsSound (after_change verdict.change club)
 ask_fits steps club words moment verdict sound event e =
-    let P : Verdict → Type 0 = λ v. IsSound (told_and_changed club v).club in
+    let P : Verdict → Type 0 = λ v. IsSound (verdict_outcome club v).club in
     subst P (sym e) (steps club (Asked words moment) sound event)
 
-module _ {S : Type 0} (Stands : S → Club → List Club → Type 0) (new : S) (club : Club) (others : List Club) where
+module _ {S : Type 0} (Represents : S → Club → List Club → Type 0) (new : S) (club : Club) (others : List Club) where
   pub order_done : (command : Command) (change : Change) → office_verdict club command ≡ Ok change
-      → Stands new (after change club) []
-      → IsAnsweredBy Stands new club others (Ordered command) (ToOffice (shown (done_answer command)))
-  order_done command change e stands =
-      let P : Result Change OfficeFault → Type 0 = λ v. Stands new (ordered club command v).club (others_after (change_by v) others) in
+      → Represents new (after change club) []
+      → IsAnsweredBy Represents new club others (Ordered command) (ToOffice (office_reply_of (done_answer command)))
+  order_done command change e represents =
+      let P : Result Change OfficeFault → Type 0 = λ v. Represents new (order_outcome club command v).club (others_after (change_by v) others) in
       record {
-        answered = done_stands command;
-        reply = ap (λ (v : Result Change OfficeFault). told_of telling (ordered club command v).reply) (sym e);
-        stands = subst P (sym e) stands;
+        answered = done_is_no_failure command;
+        reply = ap (λ (v : Result Change OfficeFault). present_reply desk_presentation (order_outcome club command v).reply) (sym e);
+        represents = subst P (sym e) represents;
       }
 
   pub order_failed : (command : Command) (change : Change) (result : Result OfficeAnswer StoreFault) → IsErr result
-      → office_verdict club command ≡ Ok change → Stands new club (after change club ∷ others)
-      → IsRefusedBy Stands new club others (Ordered command) (ToOffice (answer_or_fault result))
-  order_failed command change result err e stands =
-      let P : Result Change OfficeFault → Type 0 = λ v. Stands new club ((ordered club command v).club ∷ others) in
-      record { failed = answer_fails result err; stands = inr (subst P (sym e) stands) }
+      → office_verdict club command ≡ Ok change → Represents new club (after change club ∷ others)
+      → IsRefusedBy Represents new club others (Ordered command) (ToOffice (answer_or_fault result))
+  order_failed command change result err e represents =
+      let P : Result Change OfficeFault → Type 0 = λ v. Represents new club ((order_outcome club command v).club ∷ others) in
+      record { failed = answer_fails result err; represents = inr (subst P (sym e) represents) }
 
   pub ask_done : NeverUnavailable → (words : Words) (moment : ℕ) (verdict : Verdict) → verdict ≡ verdict_in club words moment
-      → Stands new (after_change verdict.change club) (others_after verdict.change others)
-      → IsAnsweredBy Stands new club others (Asked words moment) (ToMember verdict.reply)
-  ask_done never words moment verdict e stands =
-      let P : Verdict → Type 0 = λ v. Stands new (after_change v.change club) (others_after v.change others) in
+      → Represents new (after_change verdict.change club) (others_after verdict.change others)
+      → IsAnsweredBy Represents new club others (Asked words moment) (ToMember verdict.reply)
+  ask_done never words moment verdict e represents =
+      let P : Verdict → Type 0 = λ v. Represents new (after_change v.change club) (others_after v.change others) in
       record {
         answered = ap (λ (v : Verdict). is_unavailable v.reply) e ∙ other_reply (verdict_in club words moment).reply (never club (Asked words moment));
         reply = ap (λ (v : Verdict). ToMember v.reply) e;
-        stands = subst P e stands;
+        represents = subst P e represents;
       }
 
   pub ask_failed : (words : Words) (moment : ℕ) (verdict : Verdict) (result : Result Reply StoreFault) → IsErr result
-      → verdict ≡ verdict_in club words moment → Stands new club (after_change verdict.change club ∷ others)
-      → IsRefusedBy Stands new club others (Asked words moment) (ToMember (reply_or_unavailable result))
-  ask_failed words moment verdict result err e stands =
-      let P : Verdict → Type 0 = λ v. Stands new club (after_change v.change club ∷ others) in
-      record { failed = ap is_unavailable (reply_fails result err); stands = inr (subst P e stands) }
+      → verdict ≡ verdict_in club words moment → Represents new club (after_change verdict.change club ∷ others)
+      → IsRefusedBy Represents new club others (Asked words moment) (ToMember (reply_or_unavailable result))
+  ask_failed words moment verdict result err e represents =
+      let P : Verdict → Type 0 = λ v. Represents new club (after_change v.change club ∷ others) in
+      record { failed = ap is_unavailable (reply_fails result err); represents = inr (subst P e represents) }

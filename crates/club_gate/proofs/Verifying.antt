@@ -1,10 +1,10 @@
--- From the pass of a source to the text that it was read from.
+-- From the pass that a source yields to the text that spells it.
 use Rattle.std.proofs.Common.{◌≡◌, ◌≢◌, ℕ, ◌≤◌, length, List, Result, Ok, Err, refl, sym, ap, ◌∙◌, subst}
 use Rattle.std.specs.Prelude.{IfOk}
 use Rattle.pass_forms.specs.declared.fault.FormFault.{FormFault}
 use Rattle.pass_forms.specs.declared.form.Form.{Form}
 use Rattle.pass_forms.specs.declared.form.Form.TheVariants.{Json}
-use Rattle.pass_forms.specs.Envelope.{unwrapped}
+use Rattle.pass_forms.specs.Envelope.{unwrapping}
 use Rattle.pass_forms.specs.Pass.{Plain}
 use Rattle.pass_forms.specs.Reading.{max_text_len}
 use Rattle.pass_forms.specs.Text.{in_form}
@@ -14,34 +14,34 @@ use Rattle.club_core.specs.declared.store.StoreFault.{StoreFault}
 use Rattle.club_core.specs.declared.verdict.Verdict.{Verdict}
 use Rattle.club_core.specs.Answer.{verdict_in}
 use Rattle.club_core.specs.Club.{Club}
-use Rattle.club_laws.specs.DeskLaw.{words_with}
-use Rattle.club_gate.specs.Said.{pass_of, said_by, without_form, words_said}
+use Rattle.club_laws.specs.SingleRequest.{words_with}
+use Rattle.club_gate.specs.DecodedPass.{machine_pass, decoded_or_fault, without_form, decoded_words}
 use Rattle.club_gate.specs.Served.{IsReadInPlace}
-use Rattle.club_gate.specs.Verify.{words_read}
+use Rattle.club_gate.specs.Verify.{words_in_form}
 
 abbrev IsVerdict : Result Verdict StoreFault → Verdict → Type 0
 IsVerdict result verdict = IfOk result (λ found. found ≡ verdict)
 
--- told of the pass, told of the bytes that it was read from
-pub told_of_bytes : (club : Club) (request : Request) (moment : ℕ) (form : Form) (bytes : List ℕ) (pass : Plain)
+-- the verdict on the pass is the verdict on the bytes that spell it
+pub verdict_by_bytes : (club : Club) (request : Request) (moment : ℕ) (form : Form) (bytes : List ℕ) (pass : Plain)
     (result : Result Verdict StoreFault) → reading_in_form form bytes ≡ Ok pass
-    → IsVerdict result (verdict_in club (words_with (pass_of pass) request) moment)
-    → IsVerdict result (verdict_in club (words_read form bytes request) moment)
-told_of_bytes club request moment form bytes pass result read h =
-    let P : Result Plain FormFault → Type 0 = λ r. IsVerdict result (verdict_in club (record { pass = said_by r; request = request }) moment) in
+    → IsVerdict result (verdict_in club (words_with (machine_pass pass) request) moment)
+    → IsVerdict result (verdict_in club (words_in_form form bytes request) moment)
+verdict_by_bytes club request moment form bytes pass result read h =
+    let P : Result Plain FormFault → Type 0 = λ r. IsVerdict result (verdict_in club (record { pass = decoded_or_fault r; request = request }) moment) in
     subst P (sym read) h
 
 formless : (form : Form) (read : Result Plain FormFault) → without_form (in_form form read) ≡ read
 formless form (Ok pass) = refl
 formless form (Err fault) = refl
 
--- told of the bytes, told of the text
-pub told_of_text : (club : Club) (request : Request) (moment : ℕ) (text : List ℕ) (form : Form) (bytes : List ℕ)
+-- the verdict on the bytes is the verdict on the text that wraps them
+pub verdict_by_text : (club : Club) (request : Request) (moment : ℕ) (text : List ℕ) (form : Form) (bytes : List ℕ)
     (result : Result Verdict StoreFault) → reading text ≡ in_form form (reading_in_form form bytes)
-    → IsVerdict result (verdict_in club (words_read form bytes request) moment)
-    → IsVerdict result (verdict_in club (words_said text request) moment)
-told_of_text club request moment text form bytes result wrapped h =
-    let P : Result Plain FormFault → Type 0 = λ r. IsVerdict result (verdict_in club (record { pass = said_by r; request = request }) moment) in
+    → IsVerdict result (verdict_in club (words_in_form form bytes request) moment)
+    → IsVerdict result (verdict_in club (decoded_words text request) moment)
+verdict_by_text club request moment text form bytes result wrapped h =
+    let P : Result Plain FormFault → Type 0 = λ r. IsVerdict result (verdict_in club (record { pass = decoded_or_fault r; request = request }) moment) in
     let same : without_form (reading text) ≡ reading_in_form form bytes = ap without_form wrapped ∙ formless form (reading_in_form form bytes) in
     subst P (sym same) h
 
@@ -51,16 +51,16 @@ pub fault_in : (form : Form) (read : Result Plain FormFault) (text : List ℕ) (
 fault_in form (Ok pass) text fault wrapped e = absurd (cc)
 fault_in form (Err other) text fault wrapped e = let same : other ≡ fault = cc in ap (λ (f : FormFault). Err f) same
 
--- the reading of a text, by the bytes that it was seen to wrap
+-- the reading of a text, by the bytes that it wraps
 pub read_wrapped : ReadsWhatIsWrapped → (text : List ℕ) (form : Form) (wrapped bytes : List ℕ) → bytes ≡ wrapped
-    → unwrapped text ≡ Ok (form, wrapped) → length wrapped ≤ max_text_len
+    → unwrapping text ≡ Ok (form, wrapped) → length wrapped ≤ max_text_len
     → reading text ≡ in_form form (reading_in_form form bytes)
 read_wrapped reads text form wrapped bytes same e short =
     let Short : List ℕ → Type 0 = λ b. length b ≤ max_text_len in
     reads text form bytes (e ∙ ap (λ (b : List ℕ). Ok (form, b)) (sym same)) (subst Short (sym same) short)
 
 -- bytes that are read in place are no JSON
-pub other_form : (text : List ℕ) (form : Form) (wrapped : List ℕ) → unwrapped text ≡ Ok (form, wrapped) → IsReadInPlace text
+pub other_form : (text : List ℕ) (form : Form) (wrapped : List ℕ) → unwrapping text ≡ Ok (form, wrapped) → IsReadInPlace text
     → form ≢ Json
 other_form text form wrapped e in_place json =
     in_place wrapped (e ∙ ap (λ (f : Form). Ok (f, wrapped)) json)

@@ -1,4 +1,4 @@
--- What a walk over the fields of a pass finds.
+-- The result of a scan of the fields of a pass.
 use Rattle.std.proofs.Common.{Bor, ◌≡◌, ℕ, ◌+◌, ◌-◌, ◌^◌, ◌≤◌, ◌<◌, min, List, [], ◌∷◌, ◌++◌, fold, length, map, Option, Some, None, Bool, true, false, cond}
 use Rattle.std.proofs.Common.{◌⊎◌, inl, inr, is_some, refl, sym, ap, ◌∙◌, arith}
 use Rattle.std.specs.Option.{option_or}
@@ -9,10 +9,10 @@ use Rattle.pass_caveats.specs.declared.fault.CaveatFault.TheVariants.{Denied}
 use Rattle.pass_caveats.specs.CaveatOf.{caveat_of, first_fault_from, permits}
 use Rattle.pass_forms.specs.declared.field_source.Field.{Field}
 use Rattle.pass_forms.specs.declared.field_source.Field.TheVariants as fields
-use Rattle.pass_forms.specs.FieldSource.{PassField, caveat_field, signature_field, location_field, identifier_field, fields_of, told}
+use Rattle.pass_forms.specs.FieldSource.{PassField, caveat_field, signature_field, location_field, identifier_field, pass_fields, as_field}
 use Rattle.pass_forms.specs.Pass.{Plain}
 use Rattle.club_gate.specs.declared.signing.Signing.{Signing}
-use Rattle.club_gate.specs.Signing.{grown, is_one_of}
+use Rattle.club_gate.specs.Signing.{signing_with, is_one_of}
 use Rattle.club_gate.specs.Verify.{fields_behind}
 
 -- ---- the signature
@@ -22,35 +22,35 @@ abbrev pub signed_in : Signing → List PassField → Bool
 signed_in signing [] = false
 signed_in signing (location_field bytes ∷ fields) = false
 signed_in signing (identifier_field bytes ∷ fields) = false
-signed_in signing (caveat_field bytes ∷ fields) = signed_in (grown signing bytes) fields
+signed_in signing (caveat_field bytes ∷ fields) = signed_in (signing_with signing bytes) fields
 signed_in signing (signature_field bytes ∷ fields) = is_one_of signing bytes
 
 signed_behind : (signature : List ℕ) (signing : Signing) (caveats : List (List ℕ))
-    → signed_in signing (map caveat_field caveats ++ signature_field signature ∷ []) ≡ is_one_of (fold grown signing caveats) signature
+    → signed_in signing (map caveat_field caveats ++ signature_field signature ∷ []) ≡ is_one_of (fold signing_with signing caveats) signature
 signed_behind signature signing [] = refl
-signed_behind signature signing (caveat ∷ caveats) = signed_behind signature (grown signing caveat) caveats
+signed_behind signature signing (caveat ∷ caveats) = signed_behind signature (signing_with signing caveat) caveats
 
 -- the answer of a walk, of which this is left
 pub signed_at_last : (signing now : Signing) (fields left : List PassField) (answer : Bool) → answer ≡ signed_in now left
     → signed_in now left ≡ signed_in signing fields → (pass : Plain) → fields ≡ fields_behind pass
-    → answer ≡ is_one_of (fold grown signing pass.caveats) pass.signature
+    → answer ≡ is_one_of (fold signing_with signing pass.caveats) pass.signature
 signed_at_last signing now fields left answer e f pass g =
     e ∙ (f ∙ (ap (λ (fs : List PassField). signed_in signing fs) g ∙ signed_behind pass.signature signing pass.caveats))
 
--- where the next field is a signature, another one or none
+-- the next field is a signature, another field, or missing
 module _ (now : Signing) (left : List PassField) where
-  pub signature_comes : (rest : List PassField) (field : Field) (signature : List ℕ) (answer : Bool) → left ≡ told field ∷ rest
+  pub signature_comes : (rest : List PassField) (field : Field) (signature : List ℕ) (answer : Bool) → left ≡ as_field field ∷ rest
       → field ≡ fields.Signature signature → answer ≡ is_one_of now signature → answer ≡ signed_in now left
   signature_comes rest field signature answer l f e =
-      e ∙ sym (ap (λ (fs : List PassField). signed_in now fs) l ∙ ap (λ (x : Field). signed_in now (told x ∷ rest)) f)
+      e ∙ sym (ap (λ (fs : List PassField). signed_in now fs) l ∙ ap (λ (x : Field). signed_in now (as_field x ∷ rest)) f)
 
-  pub other_comes : (rest : List PassField) (field : Field) → left ≡ told field ∷ rest
+  pub other_comes : (rest : List PassField) (field : Field) → left ≡ as_field field ∷ rest
       → ((x : Bor (List ℕ)) × (field ≡ fields.Location x)) ⊎ ((x : Bor (List ℕ)) × (field ≡ fields.Identifier x))
       → false ≡ signed_in now left
   other_comes rest field l (inl f) =
-      sym (ap (λ (fs : List PassField). signed_in now fs) l ∙ ap (λ (x : Field). signed_in now (told x ∷ rest)) f.1)
+      sym (ap (λ (fs : List PassField). signed_in now fs) l ∙ ap (λ (x : Field). signed_in now (as_field x ∷ rest)) f.1)
   other_comes rest field l (inr f) =
-      sym (ap (λ (fs : List PassField). signed_in now fs) l ∙ ap (λ (x : Field). signed_in now (told x ∷ rest)) f.1)
+      sym (ap (λ (fs : List PassField). signed_in now fs) l ∙ ap (λ (x : Field). signed_in now (as_field x ∷ rest)) f.1)
 
   pub none_comes : left ≡ [] → false ≡ signed_in now left
   none_comes l = sym (ap (λ (fs : List PassField). signed_in now fs) l)
@@ -66,7 +66,7 @@ fault_in ask n (caveat_field bytes ∷ fields) =
     option_or (first_fault_from n (caveat_of bytes ∷ []) ask) (fault_in ask (min (n + 1) (2 ^ 64 - 1)) fields)
 fault_in ask n (signature_field bytes ∷ fields) = fault_in ask n fields
 
--- the first of the caveats is at fault, or the others are asked
+-- the first of the caveats refuses, or one of the others decides
 fault_on : (n : ℕ) (caveat : Option Caveat) (caveats : List (Option Caveat)) (ask : Ask)
     → option_or (first_fault_from n (caveat ∷ []) ask)
     (first_fault_from (n + 1) caveats ask) ≡ first_fault_from n (caveat ∷ caveats) ask
@@ -90,24 +90,24 @@ fault_behind ask signature n (caveat ∷ caveats) short =
 
 -- the answer of a walk, of which this is left
 pub fault_at_last : (ask : Ask) (n : ℕ) (fields left : List PassField) (answer : Option CaveatFault) → answer ≡ fault_in ask n left
-    → fault_in ask n left ≡ fault_in ask 1 fields → (pass : Plain) → fields ≡ fields_of pass → length pass.caveats ≤ 64
+    → fault_in ask n left ≡ fault_in ask 1 fields → (pass : Plain) → fields ≡ pass_fields pass → length pass.caveats ≤ 64
     → answer ≡ first_fault_from 1 (map caveat_of pass.caveats) ask
 fault_at_last ask n fields left answer e f pass g short =
     e ∙ (f ∙ (ap (λ (fs : List PassField). fault_in ask 1 fs) g ∙ fault_behind ask pass.signature 1 pass.caveats (omega arith)))
 
--- where the next caveat is at fault, or no field is left
+-- the next caveat refuses, or no field is left
 module _ (ask : Ask) (n : ℕ) (left : List PassField) where
   decided : (fault later : Option CaveatFault) → is_some fault ≡ true → option_or fault later ≡ fault
   decided None later h = absurd (cc)
   decided (Some fault) later h = refl
 
-  pub fault_comes : (rest : List PassField) (field : Field) (caveat : Bor (List ℕ)) (answer : Option CaveatFault) → left ≡ told field ∷ rest
+  pub fault_comes : (rest : List PassField) (field : Field) (caveat : Bor (List ℕ)) (answer : Option CaveatFault) → left ≡ as_field field ∷ rest
       → field ≡ fields.Caveat caveat → answer ≡ first_fault_from n (caveat_of caveat.now ∷ []) ask → is_some answer ≡ true
       → answer ≡ fault_in ask n left
   fault_comes rest field caveat answer l f e h =
       let later = fault_in ask (min (n + 1) (2 ^ 64 - 1)) rest in
       sym (ap (λ (fs : List PassField). fault_in ask n fs) l
-      ∙ (ap (λ (x : Field). fault_in ask n (told x ∷ rest)) f
+      ∙ (ap (λ (x : Field). fault_in ask n (as_field x ∷ rest)) f
       ∙ (ap (λ (o : Option CaveatFault). option_or o later) (sym e) ∙ decided answer later h)))
 
   pub no_fault_comes : left ≡ [] → None ≡ fault_in ask n left

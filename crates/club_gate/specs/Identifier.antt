@@ -5,11 +5,11 @@ use Rattle.club_values.specs.Name.{IsName}
 use Rattle.club_values.specs.TextOf.{name_of_text}
 use Rattle.club_gate.specs.Minted.{identifier_of}
 
--- the name of the key in an identifier; none where it is no key's
-unfoldable pub name_in : List ℕ → Option (List ℕ)
-name_in identifier = if bytes_eq (take 4 identifier) (codes "key:") then name_of_text (drop 4 identifier) else None
+-- the name of the key that an identifier names; none if it names none
+unfoldable pub key_name_in : List ℕ → Option (List ℕ)
+key_name_in identifier = if bytes_eq (take 4 identifier) (codes "key:") then name_of_text (drop 4 identifier) else None
 
--- It finds a name exactly where the identifier is that of the name.
+-- An identifier names a key if and only if it is the identifier of that name.
 abbrev pub FindsNames : Type 0
 FindsNames =
-    (identifier name : List ℕ) → (name_in identifier ≡ Some name) ↔ (IsName name × (identifier ≡ identifier_of name))
+    (identifier name : List ℕ) → (key_name_in identifier ≡ Some name) ↔ (IsName name × (identifier ≡ identifier_of name))

@@ -1,10 +1,11 @@
 pub mod Minted
 pub mod Identifier
 pub mod Signing
-pub mod Said
+pub mod DecodedPass
 pub mod Verify
 pub mod Reading
-pub mod Told
+pub mod Response
 pub mod Desk
 pub mod Served
 pub mod Runs
+pub mod Looks

@@ -1,4 +1,4 @@
--- The passes that the office hands out (ours).
+-- The passes that the office issues (ours).
 use Rattle.std.specs.Prelude.{ℕ, List, [], ◌++◌, codes}
 use Rattle.pass_mac.specs.Chain.{chain, derived_key}
 use Rattle.pass_forms.specs.Pass.{Plain}
@@ -8,12 +8,12 @@ abbrev pub identifier_of : List ℕ → List ℕ
 identifier_of name = codes "key:" ++ name
 
 -- the signature of a key's pass without caveats, under a root
-abbrev pub signature_of : List ℕ → List ℕ → List ℕ
-signature_of name root = chain (derived_key root) (identifier_of name) []
+abbrev pub minted_signature : List ℕ → List ℕ → List ℕ
+minted_signature name root = chain (derived_key root) (identifier_of name) []
 
 -- the pass of a key without caveats, with this signature
-abbrev pub minted_pass : List ℕ → List ℕ → Plain
-minted_pass name signature = record {
+abbrev pub key_pass : List ℕ → List ℕ → Plain
+key_pass name signature = record {
   location = codes "club-desk";
   identifier = identifier_of name;
   caveats = [];

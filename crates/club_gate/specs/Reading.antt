@@ -1,4 +1,4 @@
--- What the desk reads of the club for the answer to a pass that is signed (ours).
+-- What the desk reads of the club to answer a signed pass (ours).
 use Rattle.std.specs.Prelude.{ℕ, true, map, Option, Some, None, option_map, option_and_then, if◌then◌else◌}
 use Rattle.pass_caveats.specs.declared.fault.CaveatFault.{CaveatFault}
 use Rattle.pass_caveats.specs.CaveatOf.{caveat_of, first_fault_of}
@@ -15,14 +15,14 @@ use Rattle.club_core.specs.Answer.{answer_by_view, ask_of}
 use Rattle.club_core.specs.Basis.{account_named, slot_use, state_of}
 use Rattle.club_core.specs.Club.{Club, bookings_of}
 use Rattle.club_core.specs.Looks.{bare_view, books_anew}
-use Rattle.club_core.specs.Request.{number_of, slot_of}
+use Rattle.club_core.specs.Request.{request_number, request_slot}
 use Rattle.club_core.specs.Sums.{booking_under, count_to_come, spent_under}
 
--- the view of a key with the record under the number that is asked for, and the facility
+-- the view of a key, with the facility and the booking that has the number that is asked for
 abbrev pub first_view : Club → Key → Request → View
 first_view club key request = record (bare_view key) {
-  facility = (state_of club (slot_of request)).facility;
-  booking = option_and_then (λ (number : ℕ). booking_under key.name number club.bookings) (number_of request);
+  facility = (state_of club (request_slot request)).facility;
+  booking = option_and_then (λ (number : ℕ). booking_under key.name number club.bookings) (request_number request);
 }
 
 -- with the state of a slot
@@ -37,7 +37,7 @@ with_account club moment view account = record view {
   open_count = count_to_come moment (bookings_of account.member.name club);
 }
 
--- with those of the key's member; none where the club has no such member
+-- with those of the key's member; none if the club has no such member
 abbrev pub with_member : Club → ℕ → View → Option View
 with_member club moment view = option_map (with_account club moment view) (account_named view.key.member club)
 
@@ -45,8 +45,8 @@ with_member club moment view = option_map (with_account club moment view) (accou
 abbrev pub with_spent : Club → View → View
 with_spent club view = record view { spent = spent_under view.key.name club.bookings }
 
--- with what the decision looks at: a slot that is shown, its state; a new booking, the slot's state and the member's sums; the account,
--- the member's sums and the key's
+-- with what the decision depends on. For a view of a slot: its state. For a new booking: the slot's state and the member's sums. For the
+-- account: the sums of the member and of the key. Otherwise: nothing more.
 abbrev pub last_view : Club → Request → ℕ → View → Option View
 last_view club (asked.View slot) moment view = Some (with_slot club slot view)
 last_view club (asked.Book slot number guests) moment view =
@@ -54,7 +54,7 @@ last_view club (asked.Book slot number guests) moment view =
 last_view club (asked.Cancel slot number) moment view = Some view
 last_view club asked.Account moment view = option_map (with_spent club) (with_member club moment view)
 
--- the first caveat at fault of a pass, by what its key has spent
+-- the first caveat of a pass that refuses the request, with what the key has spent
 abbrev pub fault_read : Club → Key → Plain → Request → ℕ → Option CaveatFault
 fault_read club key pass request moment =
     first_fault_of (map caveat_of pass.caveats)
@@ -66,7 +66,7 @@ answer_read club key request moment None =
 answer_read club key request moment (Some fault) =
     answer_by_view (Some (first_view club key request)) true (Some fault) request moment
 
--- the answer to a pass that is signed under the key of a row
+-- the verdict on a pass that is signed under the key of a row
 abbrev pub verdict_read : Club → Key → Plain → Request → ℕ → Verdict
 verdict_read club key pass request moment =
     answer_read club key request moment (fault_read club key pass request moment)

@@ -1,11 +1,11 @@
--- The law of the desk, in the words of the texts that come in (ours).
+-- The law of the desk, about the texts that come in (ours).
 use Rattle.std.specs.Prelude.{◌≡◌, ◌≢◌, ℕ, false, List, ◌++◌, Some, None, Ok, Err}
 use Rattle.base64.specs.GeneralPurpose.{IsBytes}
 use Rattle.pass_caveats.specs.Fault.{Allowed}
 use Rattle.pass_forms.specs.declared.fault.FormFault.{FormFault}
 use Rattle.pass_forms.specs.declared.form.Form.{Form}
 use Rattle.pass_forms.specs.declared.form.Form.TheVariants.{Json}
-use Rattle.pass_forms.specs.Envelope.{unwrapped}
+use Rattle.pass_forms.specs.Envelope.{unwrapping}
 use Rattle.pass_forms.specs.Pass.{Plain, IsSigned}
 use Rattle.pass_json.specs.AnyForm.{IsAnyReading}
 use Rattle.club_rows.specs.declared.key.Key.{Key}
@@ -17,23 +17,23 @@ use Rattle.club_core.specs.Answer.{ask_of, form_refusal, verdict_in}
 use Rattle.club_core.specs.Basis.{Basis, basis_of, view_of}
 use Rattle.club_core.specs.Club.{Club, key_named}
 use Rattle.club_core.specs.Pass.{IsGoodRoot}
-use Rattle.club_laws.specs.DeskLaw.{blind_refusal}
+use Rattle.club_laws.specs.SingleRequest.{blind_refusal}
 use Rattle.club_gate.specs.Minted.{identifier_of}
-use Rattle.club_gate.specs.Said.{fault_of, said, words_said}
-use Rattle.club_gate.specs.Told.{unavailable}
+use Rattle.club_gate.specs.DecodedPass.{fault_of, decoded_pass, decoded_words}
+use Rattle.club_gate.specs.Response.{unavailable}
 
 -- the reply of the machine to a request with this text
 abbrev pub reply_in : Club → List ℕ → Request → ℕ → Reply
-reply_in club text request moment = (verdict_in club (words_said text request) moment).reply
+reply_in club text request moment = (verdict_in club (decoded_words text request) moment).reply
 
--- the pass is signed under a root of the key's row that is good at the moment
+-- the pass is signed under a root of the key's row that is valid at the moment
 pub record IsSignedFor (pass : Plain) (key : Key) (moment : ℕ) : Type 0 where
   pub root : List ℕ
   pub good : IsGoodRoot key moment root
   pub signed : IsSigned root pass
 
--- The text reads as a pass that entitles to the request: its identifier names a key of the club that isn't revoked, its
--- signature is the chain under a root of that key's row that is good at the moment, and each of its caveats allows the request.
+-- The text spells a pass that entitles to the request: its identifier names a key of the club that isn't revoked, its
+-- signature is the chain under a root of that key's row that is valid at the moment, and each of its caveats allows the request.
 pub record EntitlesTo (club : Club) (text : List ℕ) (request : Request) (moment : ℕ) : Type 0 where
   pub form : Form
   pub pass : Plain
@@ -41,32 +41,32 @@ pub record EntitlesTo (club : Club) (text : List ℕ) (request : Request) (momen
   pub key : Key
   pub named : pass.identifier ≡ identifier_of key.name
   pub row : key_named key.name club ≡ Some key
-  pub stands : key.revoked ≡ false
+  pub not_revoked : key.revoked ≡ false
   pub signed : IsSignedFor pass key moment
   pub basis : Basis
-  pub known : basis_of club (words_said text request) ≡ Some basis
+  pub known : basis_of club (decoded_words text request) ≡ Some basis
   pub allowed : Allowed pass.caveats (ask_of (view_of basis request moment) request moment)
 
--- Any club that shows the same rows to these words answers the same.
+-- Any other club in which the words name the same rows gives the same reply.
 abbrev pub DependsOnTheBasis : Club → List ℕ → Request → ℕ → Reply → Type 0
 DependsOnTheBasis club text request moment reply =
-    (other : Club) → basis_of other (words_said text request) ≡ basis_of club (words_said text request)
+    (other : Club) → basis_of other (decoded_words text request) ≡ basis_of club (decoded_words text request)
     → reply ≢ unavailable → reply ≡ reply_in other text request moment
 
--- Where it shows none, the reply is the fault of the text, or that the pass isn't verified.
+-- If the words name no such rows, the reply is the fault of the text, or `NotVerified`.
 abbrev pub IsBlind : Club → List ℕ → Request → Reply → Type 0
 IsBlind club text request reply =
-    basis_of club (words_said text request) ≡ None → reply ≢ unavailable → reply ≡ Refused (blind_refusal (said text))
+    basis_of club (decoded_words text request) ≡ None → reply ≢ unavailable → reply ≡ Refused (blind_refusal (decoded_pass text))
 
--- Any other text that reads as the same pass, in whatever form, is answered the same.
+-- Any other text that spells the same pass, in whatever form, gets the same reply.
 abbrev pub AnswersItsForms : Club → List ℕ → Request → ℕ → Reply → Type 0
 AnswersItsForms club text request moment reply =
     (other : List ℕ) (form other_form : Form) (pass : Plain) → IsBytes other
     → IsAnyReading text (Ok (form, pass)) → IsAnyReading other (Ok (other_form, pass))
     → reply ≢ unavailable → reply ≡ reply_in club other request moment
 
--- The text has more caveats than another, whose pass has the same identifier and is signed for the same key.
-pub record IsNarrowed (club : Club) (wide narrow : List ℕ) (moment : ℕ) : Type 0 where
+-- The narrow text spells the pass of the wide one with more caveats: it has the same identifier, and the wide one is signed for the key.
+pub record IsNarrowedText (club : Club) (wide narrow : List ℕ) (moment : ℕ) : Type 0 where
   pub form : Form
   pub other_form : Form
   pub pass : Plain
@@ -81,17 +81,17 @@ pub record IsNarrowed (club : Club) (wide narrow : List ℕ) (moment : ℕ) : Ty
   pub row : key_named key.name club ≡ Some key
   pub signed : IsSignedFor pass key moment
 
--- What is served to a text is served alike to any that it narrows.
+-- If a narrow text is served, each wide text that it narrows gets the same reply.
 abbrev pub OpensNoMore : Club → List ℕ → Request → ℕ → Reply → Type 0
 OpensNoMore club text request moment reply =
-    (wide : List ℕ) → IsBytes wide → IsNarrowed club wide text moment
+    (wide : List ℕ) → IsBytes wide → IsNarrowedText club wide text moment
     → IsServed reply → reply ≡ reply_in club wide request moment
 
--- The text wraps bytes of a form that is read while the fields come, without memory.
+-- The text isn't JSON, so it is read in place, without memory.
 abbrev pub IsReadInPlace : List ℕ → Type 0
-IsReadInPlace text = (bytes : List ℕ) → unwrapped text ≢ Ok (Json, bytes)
+IsReadInPlace text = (bytes : List ℕ) → unwrapping text ≢ Ok (Json, bytes)
 
--- Such a text, where it is no pass, is refused by its fault, in every case.
-abbrev pub IsToldItsFault : List ℕ → Reply → Type 0
-IsToldItsFault text reply =
+-- If such a text isn't a pass, its fault is always the reply: never `Unavailable`.
+abbrev pub RefusesByFormFault : List ℕ → Reply → Type 0
+RefusesByFormFault text reply =
     (fault : FormFault) → IsReadInPlace text → IsAnyReading text (Err fault) → reply ≡ Refused (form_refusal (fault_of fault))

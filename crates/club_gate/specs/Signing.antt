@@ -1,4 +1,4 @@
--- The signatures that a pass may have while its caveats come (ours).
+-- The signatures that a pass may have, caveat by caveat (ours).
 use Rattle.std.specs.Prelude.{ℕ, Bool, false, ◌||◌, List, [], option_map}
 use Rattle.std.specs.Option.{option_map_or}
 use Rattle.std.specs.Str.{bytes_eq}
@@ -8,16 +8,16 @@ use Rattle.club_rows.specs.declared.key.Key.{Key}
 use Rattle.club_rows.specs.Key.{older_root_at}
 use Rattle.club_gate.specs.declared.signing.Signing.{Signing}
 
--- the chains of an identifier under the roots of a key that are good at the moment
-abbrev pub begun : Key → ℕ → List ℕ → Signing
-begun key moment identifier = record {
+-- the chains of an identifier under the roots of a key that are valid at the moment
+abbrev pub initial_signing : Key → ℕ → List ℕ → Signing
+initial_signing key moment identifier = record {
   current = chain (derived_key key.root) identifier [];
   older = option_map (λ root. chain (derived_key root) identifier []) (older_root_at key.older moment);
 }
 
--- with one caveat more
-abbrev pub grown : Signing → List ℕ → Signing
-grown signing caveat = record {
+-- the chains, extended by a caveat
+abbrev pub signing_with : Signing → List ℕ → Signing
+signing_with signing caveat = record {
   current = hmac signing.current caveat;
   older = option_map (λ signature. hmac signature caveat) signing.older;
 }

@@ -1,4 +1,4 @@
--- What the verifier finds on its way (ours).
+-- The steps of the verifier (ours).
 use Rattle.std.specs.Prelude.{ℕ, not, List, [], ◌∷◌, ◌++◌, map, Option, Some, None, Result, Ok, Err}
 use Rattle.std.specs.Option.{option_and_then}
 use Rattle.pass_forms.specs.declared.fault.FormFault.{FormFault}
@@ -16,24 +16,24 @@ use Rattle.club_core.specs.declared.store.StoreFault.TheVariants as store
 use Rattle.club_core.specs.declared.verdict.Verdict.{Verdict}
 use Rattle.club_core.specs.Answer.{form_refusal}
 use Rattle.club_core.specs.Club.{Club, key_named}
-use Rattle.club_core.specs.Lines.{line, first_of}
+use Rattle.club_core.specs.Lines.{line_if, first_of}
 use Rattle.club_core.specs.Pass.{Words, is_signed_under}
-use Rattle.club_core.specs.Verdict.{refused}
-use Rattle.club_gate.specs.Identifier.{name_in}
-use Rattle.club_gate.specs.Said.{fault_of, pass_of, said_by}
+use Rattle.club_core.specs.Verdict.{refusal_verdict}
+use Rattle.club_gate.specs.Identifier.{key_name_in}
+use Rattle.club_gate.specs.DecodedPass.{fault_of, machine_pass, decoded_or_fault}
 
--- the fields of a pass behind its identifier
+-- the fields of a pass after its identifier
 abbrev pub fields_behind : Plain → List PassField
 fields_behind pass = map caveat_field pass.caveats ++ signature_field pass.signature ∷ []
 
--- the key's row that an identifier names; none where it names no key of the club
+-- the row of the key that an identifier names; none if it names no key of the club
 abbrev pub key_in : Club → List ℕ → Option Key
-key_in club identifier = option_and_then (λ (name : List ℕ). key_named name club) (name_in identifier)
+key_in club identifier = option_and_then (λ (name : List ℕ). key_named name club) (key_name_in identifier)
 
--- why a pass is refused by the row of the key that it names, whatever else it holds; none where it is signed and the key stands
+-- why the row of its key refuses a pass; none if the pass is signed and the key isn't revoked
 abbrev pub refusal_by_row : Plain → Key → ℕ → Option Refusal
 refusal_by_row pass key moment =
-    first_of (line (not (is_signed_under (pass_of pass) key moment)) (Some NotVerified) ∷ line key.revoked (Some KeyRevoked) ∷ []) None
+    first_of (line_if (not (is_signed_under (machine_pass pass) key moment)) (Some NotVerified) ∷ line_if key.revoked (Some KeyRevoked) ∷ []) None
 
 abbrev pub key_unless : Key → Option Refusal → Result Key Refusal
 key_unless key None = Ok key
@@ -43,15 +43,15 @@ abbrev pub signer_by : Plain → ℕ → Option Key → Result Key Refusal
 signer_by pass moment None = Err NotVerified
 signer_by pass moment (Some key) = key_unless key (refusal_by_row pass key moment)
 
--- the row of the key that a pass names and is signed under, or why the pass is refused: by that row alone
+-- the row of the key that a pass names and is signed under, or the refusal; nothing but that row decides it
 abbrev pub signer_in : Club → Plain → ℕ → Result Key Refusal
 signer_in club pass moment = signer_by pass moment (key_in club pass.identifier)
 
--- the words of a request with bytes in a form
-abbrev pub words_read : Form → List ℕ → Request → Words
-words_read form bytes request = record { pass = said_by (reading_in_form form bytes); request = request }
+-- the decoded words of a request whose pass is these bytes in a form
+abbrev pub words_in_form : Form → List ℕ → Request → Words
+words_in_form form bytes request = record { pass = decoded_or_fault (reading_in_form form bytes); request = request }
 
--- a fault of a reading is told as it is, but for memory that was refused
+-- the verdict on a text that isn't a pass; no verdict if the reader ran out of memory
 abbrev pub answer_to_fault : FormFault → Result Verdict StoreFault
 answer_to_fault Memory = Err store.Memory
-answer_to_fault fault = Ok (refused (form_refusal (fault_of fault)))
+answer_to_fault fault = Ok (refusal_verdict (form_refusal (fault_of fault)))

@@ -1,3 +1,5 @@
+//! The desk over a store: requests of members, commands of the office, and the sheet of a day.
+
 ghost use Rattle.std.specs.Prelude.{
   ◌≡◌,
   ◌⊎◌,
@@ -21,7 +23,7 @@ ghost use Rattle.club_core.specs.Office.{order_view};
 ghost use Rattle.club_core.specs.Run as machine;
 ghost use Rattle.club_core.specs.Run.{after_change};
 ghost use Rattle.club_core.specs.Sheet.{IsSheet};
-ghost use Rattle.club_core.specs.Store.{KeepsStanding, ReadsOrFails, Tells};
+ghost use Rattle.club_core.specs.Store.{KeepsClub, ReadsOrFails, Returns};
 ghost use Rattle.club_laws.specs.Failed.{ToMember, ToOffice};
 ghost use Rattle.club_gate.specs.declared.fault.Fault.TheVariants as faults;
 ghost use Rattle.club_gate.specs.Desk.{
@@ -32,17 +34,17 @@ ghost use Rattle.club_gate.specs.Desk.{
   Steps,
   others_after,
 };
-ghost use Rattle.club_gate.specs.Said.{fault_of, words_said};
+ghost use Rattle.club_gate.specs.DecodedPass.{fault_of, decoded_words};
 ghost use Rattle.club_gate.specs.Served.{
   AnswersItsForms,
   DependsOnTheBasis,
   EntitlesTo,
   IsBlind,
   IsReadInPlace,
-  IsToldItsFault,
+  RefusesByFormFault,
   OpensNoMore,
 };
-ghost use Rattle.club_gate.specs.Told.{answer_or_fault, event_of, reply_or_unavailable, told_by};
+ghost use Rattle.club_gate.specs.Response.{answer_or_fault, machine_event, reply_or_unavailable, response_of};
 
 use crate::event::{Event, EventReply, OfficeReply};
 use crate::fault::Fault;
@@ -51,21 +53,24 @@ use club_core::{
     Change, ClubStore, Command, OfficeAnswer, OrderView, Refusal, Reply, SentWords, SlotUse,
     StoreFault, decide_order, sheet_text,
 };
-use club_laws::desk_law::{
+use club_laws::failed::never_unavailable;
+use club_laws::single_request::{
     depends_on_the_basis_alone, more_caveats_never_open_more, refuses_without_a_basis,
     serves_only_the_entitled,
 };
-use club_laws::failed::never_unavailable;
 use club_laws::sound::steps_keep_sound;
-use kept_keys::KeptKeys;
+use club_values::{Day, Moment};
+use key_cache::KeptKeys;
 use pass_caveats::laws::reads_what_is_understood;
-use pass_caveats::{Day, Moment};
-use pass_forms::laws::tells_signed;
+use pass_forms::laws::decides_signed;
 use pass_json::laws::reads_any_form_exactly;
 use std::alloc::Global;
 use std::marker::Model;
 
-/// The desk of a club, over the store of its rows. Contracts see it as the store.
+/// The desk of a club: it answers requests of members (`ask`) and commands of the office
+/// (`office`), and prints the sheet of a day (`sheet`).
+///
+/// All that it knows of the club is in its store. Contracts see a desk as its store.
 #[derive(Drop)]
 pub struct Desk<S: ClubStore> {
     pub(crate) store: S,
@@ -81,7 +86,7 @@ impl<S: ClubStore> Model for Desk<S> {
     ghost view = { λ desk. desk.store };
 }
 
-/// A text is bytes.
+/// Each element of a `&[u8]` is a byte.
 fn are_bytes(text: &[u8])
     ensures { IsBytes text.now }
 {
@@ -89,7 +94,7 @@ fn are_bytes(text: &[u8])
 }
 
 impl<S: ClubStore> Desk<S> {
-    /// A desk over this store.
+    /// Makes a desk over a store.
     pub fn new(alloc: Global, store: S) -> Desk<S>
         ensures { result ≡ store }
     {
@@ -100,7 +105,7 @@ impl<S: ClubStore> Desk<S> {
         }
     }
 
-    /// Gives the store back, as it is.
+    /// Returns the store, unchanged.
     pub fn into_store(self) -> S
         ensures { result ≡ self }
     {
@@ -112,18 +117,18 @@ impl<S: ClubStore> Desk<S> {
         store
     }
 
-    /// Makes a change of the rules stand, where there is one: the one write of an event. Where it
-    /// is refused the club stands as it was, and a crash may yet leave the changed one.
+    /// Applies a change to the store, if there is one. No event writes anything else. If the store
+    /// fails, the club is unchanged, but after a crash the store may recover to the changed one.
     fn settle(&mut self, change: Option<Change>) -> Result<(), StoreFault>
-        ensures honest { S.is_honest self.new → S.is_honest self.old }
-        ensures settled { S.is_honest self.new → (club : Club) (others : List Club)
-            → S.stands self.old club others
+        ensures was_clean { S.disk_is_clean self.new → S.disk_is_clean self.old }
+        ensures settled { S.disk_is_clean self.new → (club : Club) (others : List Club)
+            → S.represents self.old club others
             → FitsIfAny change club
             → MatchResult result
-            (λ _. S.stands self.new (after_change change club) (others_after change others))
-            (λ _. S.stands self.new club (after_change change club ∷ others)) }
+            (λ _. S.represents self.new (after_change change club) (others_after change others))
+            (λ _. S.represents self.new club (after_change change club ∷ others)) }
         ensures nothing { change ≡ None → (result ≡ Ok tt) × (self.new ≡ self.old) }
-        ensures failed { S.is_honest self.new → IfErr result
+        ensures failed { S.disk_is_clean self.new → IfErr result
             (λ fault. S.fails change self.old fault self.new) }
     {
         match change {
@@ -132,11 +137,12 @@ impl<S: ClubStore> Desk<S> {
         }
     }
 
-    /// The reply to a request at a moment.
+    /// Decides a request at a moment, applies its change, and returns the reply. Fails if memory or
+    /// storage was refused.
     fn reply_to(&mut self, moment: Moment, words: &SentWords) -> Result<Reply, StoreFault>
-        ensures honest { S.is_honest self.new → S.is_honest self.old }
-        ensures steps { S.is_honest self.new → Steps S.stands self.old self.new
-            (machine.Asked (words_said words.now.pass.now words.now.request) moment)
+        ensures was_clean { S.disk_is_clean self.new → S.disk_is_clean self.old }
+        ensures steps { S.disk_is_clean self.new → Steps S.represents self.old self.new
+            (machine.Asked (decoded_words words.now.pass.now words.now.request) moment)
             (ToMember (reply_or_unavailable result)) }
         ensures untouched { (fault : FormFault) → reading words.now.pass.now ≡ Err fault
             → self.new ≡ self.old }
@@ -152,13 +158,13 @@ impl<S: ClubStore> Desk<S> {
         Ok(verdict.reply)
     }
 
-    /// The rows that an order looks at.
+    /// Reads the rows that a command of the office depends on.
     fn order_view(&mut self, command: &Command) -> Result<OrderView, StoreFault>
-        ensures honest { S.is_honest self.new → S.is_honest self.old }
-        ensures kept { S.is_honest self.new → KeepsStanding S.stands self.old self.new }
-        ensures told { S.is_honest self.new → Tells S.stands self.old result
+        ensures was_clean { S.disk_is_clean self.new → S.disk_is_clean self.old }
+        ensures kept { S.disk_is_clean self.new → KeepsClub S.represents self.old self.new }
+        ensures returned { S.disk_is_clean self.new → Returns S.represents self.old result
             (λ club view. view ≡ order_view club command.now) }
-        ensures failed { S.is_honest self.new → ReadsOrFails S.fails self.old self.new result }
+        ensures failed { S.disk_is_clean self.new → ReadsOrFails S.fails self.old self.new result }
     {
         let mut view = OrderView {
             member: None,
@@ -189,13 +195,14 @@ impl<S: ClubStore> Desk<S> {
         Ok(view)
     }
 
-    /// What the office is told of an order.
+    /// Decides a command of the office, applies its change, and returns the answer. Fails if memory
+    /// or storage was refused.
     fn answer_to(&mut self, command: &Command) -> Result<OfficeAnswer, StoreFault>
-        ensures honest { S.is_honest self.new → S.is_honest self.old }
-        ensures steps { S.is_honest self.new → Steps S.stands self.old self.new
+        ensures was_clean { S.disk_is_clean self.new → S.disk_is_clean self.old }
+        ensures steps { S.disk_is_clean self.new → Steps S.represents self.old self.new
             (machine.Ordered command.now) (ToOffice (answer_or_fault result)) }
-        ensures failed { S.is_honest self.new → (club : Club) (others : List Club)
-            → S.stands self.old club others
+        ensures failed { S.disk_is_clean self.new → (club : Club) (others : List Club)
+            → S.represents self.old club others
             → IfErr result
             (FailsAt S.fails self.old self.new club (machine.Ordered command.now)) }
     {
@@ -211,51 +218,55 @@ impl<S: ClubStore> Desk<S> {
         }
     }
 
-    /// What is answered to a request at a moment. Whatever the reply, the rows are as the request
-    /// leaves them: a refusal changes nothing.
+    /// Answers a request at a moment. When `ask` returns, the change of a served request is stored.
+    /// A refusal changes nothing.
     ///
-    /// The reply tells why the request is refused, by the first cause that fits: the form of the
-    /// text, the pass, its caveats by their positions, the rules of what is asked. `Unavailable`
-    /// comes only where memory or storage was refused; memory is wanted by the store, and by a pass
-    /// in JSON.
+    /// A refusal names the first cause that fits: the form of the text, the pass, its caveats in
+    /// their order, the rules for what is asked. `Unavailable` means that memory or storage was
+    /// refused, and never anything else. The store needs memory, and so does a pass in JSON. After
+    /// `Unavailable` the club is unchanged, but if the store failed to write, it may recover to the
+    /// changed club after a crash.
     pub fn ask(&mut self, moment: Moment, words: &SentWords) -> Reply
-        ensures honest { S.is_honest self.new → S.is_honest self.old }
-        // The reply is the machine's, and the club that follows stands; or the request failed.
-        ensures steps { S.is_honest self.new → Steps S.stands self.old self.new
-            (machine.Asked (words_said words.now.pass.now words.now.request) moment)
+        ensures was_clean { S.disk_is_clean self.new → S.disk_is_clean self.old }
+        // The reply is the one that the rules give, and the store represents the club that follows;
+        // or the request failed, and the store represents the same club.
+        ensures steps { S.disk_is_clean self.new → Steps S.represents self.old self.new
+            (machine.Asked (decoded_words words.now.pass.now words.now.request) moment)
             (ToMember result) }
-        // It is served only where the pass entitles to it.
-        ensures served { S.is_honest self.new → (club : Club) (others : List Club)
-            → S.stands self.old club others
+        // A request is served only if its pass entitles to it.
+        ensures served { S.disk_is_clean self.new → (club : Club) (others : List Club)
+            → S.represents self.old club others
             → IsServed result
             → EntitlesTo club words.now.pass.now words.now.request moment }
-        // It depends on the words, the moment and the rows that they name, and on nothing else.
-        ensures depends { S.is_honest self.new → (club : Club) (others : List Club)
-            → S.stands self.old club others
+        // The reply depends on the words, the moment and the rows that the words name, and on
+        // nothing else.
+        ensures depends { S.disk_is_clean self.new → (club : Club) (others : List Club)
+            → S.represents self.old club others
             → DependsOnTheBasis club words.now.pass.now words.now.request moment result }
-        ensures blind { S.is_honest self.new → (club : Club) (others : List Club)
-            → S.stands self.old club others
+        // If the words name no such rows, the reply depends on the words alone.
+        ensures blind { S.disk_is_clean self.new → (club : Club) (others : List Club)
+            → S.represents self.old club others
             → IsBlind club words.now.pass.now words.now.request result }
-        // Every form of the pass is answered alike.
-        ensures forms { S.is_honest self.new → (club : Club) (others : List Club)
-            → S.stands self.old club others
+        // The same pass in another form gets the same reply.
+        ensures forms { S.disk_is_clean self.new → (club : Club) (others : List Club)
+            → S.represents self.old club others
             → AnswersItsForms club words.now.pass.now words.now.request moment result }
-        // A pass with caveats added never opens more.
-        ensures less { S.is_honest self.new → (club : Club) (others : List Club)
-            → S.stands self.old club others
+        // A pass with more caveats never opens more.
+        ensures less { S.disk_is_clean self.new → (club : Club) (others : List Club)
+            → S.represents self.old club others
             → OpensNoMore club words.now.pass.now words.now.request moment result }
-        // A text that is no pass is answered without the store, and without memory where it isn't
-        // JSON.
+        // A text that isn't a pass leaves the store as it is, and is refused without memory unless
+        // it is JSON.
         ensures untouched { (fault : FormFault) → IsAnyReading words.now.pass.now (Err fault)
             → self.new ≡ self.old }
-        ensures in_place { IsToldItsFault words.now.pass.now result }
+        ensures in_place { RefusesByFormFault words.now.pass.now result }
     {
         serves_only_the_entitled();
         depends_on_the_basis_alone();
         refuses_without_a_basis();
         more_caveats_never_open_more();
         reads_any_form_exactly();
-        tells_signed();
+        decides_signed();
         finds_names();
         are_bytes(words.pass);
         reads_what_is_understood();
@@ -265,29 +276,31 @@ impl<S: ClubStore> Desk<S> {
         }
     }
 
-    /// What the office is told of an order, after which the rows are as the order leaves them.
+    /// Carries out a command of the office. When `office` returns, the change of a command that is
+    /// done is stored. A refusal changes nothing.
     ///
-    /// `Refused` tells why the order changes nothing; `Memory` and `Storage` come only where these
-    /// were refused.
+    /// `Refused` names the fault. `Memory` and `Storage` mean that these were refused, and never
+    /// anything else; if the store failed to write, it may recover to the changed club after a
+    /// crash. Any other fault names the rule that forbids the command.
     pub fn office(&mut self, command: &Command) -> OfficeReply
-        ensures honest { S.is_honest self.new → S.is_honest self.old }
-        ensures steps { S.is_honest self.new → Steps S.stands self.old self.new
+        ensures was_clean { S.disk_is_clean self.new → S.disk_is_clean self.old }
+        ensures steps { S.disk_is_clean self.new → Steps S.represents self.old self.new
             (machine.Ordered command.now) (ToOffice result) }
-        ensures failed { S.is_honest self.new → (club : Club) (others : List Club)
-            → S.stands self.old club others
+        ensures failed { S.disk_is_clean self.new → (club : Club) (others : List Club)
+            → S.represents self.old club others
             → NamesItsFault S.fails self.old self.new club (machine.Ordered command.now) result }
     {
         match self.answer_to(command) {
-            Ok(answer) => OfficeReply::showing(answer),
-            Err(fault) => OfficeReply::refused_by(fault),
+            Ok(answer) => OfficeReply::from_answer(answer),
+            Err(fault) => OfficeReply::from_store_fault(fault),
         }
     }
 
-    /// The reply to an event.
+    /// Answers an event, by `ask` or `office`.
     pub(crate) fn event(&mut self, event: &Event) -> EventReply
-        ensures honest { S.is_honest self.new → S.is_honest self.old }
-        ensures steps { S.is_honest self.new → Steps S.stands self.old self.new
-            (event_of event.now) (told_by result) }
+        ensures was_clean { S.disk_is_clean self.new → S.disk_is_clean self.old }
+        ensures steps { S.disk_is_clean self.new → Steps S.represents self.old self.new
+            (machine_event event.now) (response_of result) }
     {
         match event {
             Event::Asked { words, moment } => EventReply::Replied(self.ask(*moment, words)),
@@ -295,19 +308,20 @@ impl<S: ClubStore> Desk<S> {
         }
     }
 
-    /// The sheet of a day, which hangs at the desk. The rows stay as they are.
+    /// Returns the sheet of a day, the text that the desk prints. The club and the possible crash
+    /// states are unchanged.
     ///
     /// # Errors
     ///
-    /// `Memory` or `Storage`, where these were refused.
+    /// `Memory` or `Storage`, if one of these was refused.
     pub fn sheet(&mut self, day: Day) -> Result<String, Fault>
-        ensures honest { S.is_honest self.new → S.is_honest self.old }
-        ensures kept { S.is_honest self.new → KeepsStanding S.stands self.old self.new }
-        ensures told { S.is_honest self.new → Tells S.stands self.old result
+        ensures was_clean { S.disk_is_clean self.new → S.disk_is_clean self.old }
+        ensures kept { S.disk_is_clean self.new → KeepsClub S.represents self.old self.new }
+        ensures returned { S.disk_is_clean self.new → Returns S.represents self.old result
             (λ club text. IsSheet club day (string_bytes text)) }
         ensures faults { IfErr result
             (λ fault. (fault ≡ faults.Memory) ⊎ (fault ≡ faults.Storage)) }
-        ensures failed { S.is_honest self.new → IfErr result
+        ensures failed { S.disk_is_clean self.new → IfErr result
             (IsSheetFault S.fails self.old self.new) }
     {
         let rows = match self.store.day(day) {

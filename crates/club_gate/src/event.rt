@@ -1,10 +1,12 @@
+//! What comes to the desk, and what it replies.
+
 use crate::fault::Fault;
 use crate::mint::key_signature;
 use club_core::{Command, OfficeAnswer, Reply, SentWords, StoreFault};
-use pass_caveats::Moment;
+use club_values::Moment;
 use std::fmt;
 
-/// What comes to the desk: a request at a moment, or an order of the office.
+/// What comes to the desk: a request at a moment, or a command of the office.
 #[derive(Clone, Copy)]
 pub enum Event<'a> {
     Asked {
@@ -14,21 +16,22 @@ pub enum Event<'a> {
     Ordered(Command),
 }
 
-/// What the office is told.
+/// The reply to a command of the office.
 #[derive(Clone, Copy, PartialEq, Eq)]
 pub enum OfficeReply {
     Done,
-    /// A key was added, or got a new root: the signature of its passes before any caveat, 32 bytes.
+    /// The command added a key, or gave it a new root. The signature is that of the key's passes
+    /// before any caveat, 32 bytes.
     Key { signature: [u8; 32] },
     Refused(Fault),
 }
 
-/// Tells nothing of a signature, which makes a pass.
+/// Prints no byte of a signature: who has it can make a pass.
 impl fmt::Debug for OfficeReply {
     ghost use Rattle.std.specs.Prelude.{Some};
-    ghost use Rattle.club_gate.specs.Told.{printed};
+    ghost use Rattle.club_gate.specs.Response.{debug_text};
 
-    ghost debug_output = { λ reply. Some (printed reply) };
+    ghost debug_output = { λ reply. Some (debug_text reply) };
 
     fn fmt<W: fmt::Write>(&self, f: &mut fmt::Formatter<W>) -> fmt::Result {
         match self {
@@ -49,11 +52,11 @@ pub enum EventReply {
 impl OfficeReply {
     ghost use Rattle.std.specs.Prelude.{◌≡◌};
     ghost use Rattle.club_gate.specs.declared.event.OfficeReply.TheVariants.{Refused};
-    ghost use Rattle.club_gate.specs.Told.{shown, fault_of_store};
+    ghost use Rattle.club_gate.specs.Response.{office_reply_of, fault_of_store};
 
-    /// An answer of the rules as the office is told it.
-    pub(crate) fn showing(answer: OfficeAnswer) -> OfficeReply
-        ensures { result ≡ shown answer }
+    /// Converts an answer of the rules.
+    pub(crate) fn from_answer(answer: OfficeAnswer) -> OfficeReply
+        ensures { result ≡ office_reply_of answer }
     {
         match answer {
             OfficeAnswer::Done => OfficeReply::Done,
@@ -64,8 +67,8 @@ impl OfficeReply {
         }
     }
 
-    /// That the store refused.
-    pub(crate) fn refused_by(fault: StoreFault) -> OfficeReply
+    /// Converts a fault of the store.
+    pub(crate) fn from_store_fault(fault: StoreFault) -> OfficeReply
         ensures { result ≡ Refused (fault_of_store fault) }
     {
         OfficeReply::Refused(Fault::from(fault))

@@ -1,29 +1,31 @@
+//! Why a command of the office is refused or fails.
+
 use club_core::{OfficeFault, StoreFault};
 use std::error::Error;
 use std::fmt;
 
-/// Why an order of the office is refused, or fails.
+/// Why a command of the office is refused or fails.
 #[derive(Clone, Copy, Debug, PartialEq, Eq)]
 pub enum Fault {
-    /// The new name is taken, the key has the root already, or the slot is closed already.
+    /// The name is taken, the key already has the root, or the slot is already closed.
     Exists,
-    /// There is no member, key or facility of the name.
+    /// There is no member, key or facility of this name.
     Unknown,
-    /// A number is out of its limits, or an hour out of opening.
+    /// A number is out of its limits, or an hour is outside the opening hours.
     OutOfRange,
-    /// Somebody booked the slot.
+    /// The slot is booked.
     SlotInUse,
     /// Memory was refused.
     Memory,
-    /// Storage was refused, or holds a row out of its limits.
+    /// Storage was refused, or holds a row that is out of its limits.
     Storage,
 }
 
 impl fmt::Display for Fault {
     ghost use Rattle.std.specs.Prelude.{Some};
-    ghost use Rattle.club_gate.specs.Told.{fault_text};
+    ghost use Rattle.club_gate.specs.Response.{desk_fault_text};
 
-    ghost output = { λ fault. Some (fault_text fault) };
+    ghost output = { λ fault. Some (desk_fault_text fault) };
 
     fn fmt<W: fmt::Write>(&self, f: &mut fmt::Formatter<W>) -> fmt::Result {
         match self {
@@ -41,7 +43,7 @@ impl Error for Fault {}
 
 impl From<OfficeFault> for Fault {
     ghost use Rattle.std.specs.Prelude.{◌≡◌};
-    ghost use Rattle.club_gate.specs.Told.{fault_of_office};
+    ghost use Rattle.club_gate.specs.Response.{fault_of_office};
 
     ghost from_gives = { λ refusal fault. fault ≡ fault_of_office refusal };
 
@@ -57,7 +59,7 @@ impl From<OfficeFault> for Fault {
 
 impl From<StoreFault> for Fault {
     ghost use Rattle.std.specs.Prelude.{◌≡◌};
-    ghost use Rattle.club_gate.specs.Told.{fault_of_store};
+    ghost use Rattle.club_gate.specs.Response.{fault_of_store};
 
     ghost from_gives = { λ refusal fault. fault ≡ fault_of_store refusal };
 

@@ -1,19 +1,19 @@
-//! Laws of the definitions, each the contract of a function that does nothing.
+//! Laws of the definitions. Each is the contract of a function that does nothing.
 
 ghost use Rattle.club_gate.specs.Identifier.{FindsNames};
-ghost use Rattle.club_gate.specs.Said.{ReadsNoLackOfMemory};
+ghost use Rattle.club_gate.specs.DecodedPass.{ReadsNoLackOfMemory};
 
 use club_values::laws::reads_names;
 use pass_json::laws::reads_any_form_exactly;
 
-/// A name is found in an identifier exactly where the identifier is that of the name.
+/// An identifier names a key if and only if it is the identifier of that name.
 pub fn finds_names()
     ensures { FindsNames }
 {
     reads_names();
 }
 
-/// That memory was refused is no reading of a text.
+/// The reading of a text, as it is defined, is never the fault `Memory`.
 pub fn reads_no_lack_of_memory()
     ensures { ReadsNoLackOfMemory }
 {

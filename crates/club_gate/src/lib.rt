@@ -1,5 +1,5 @@
-//! The desk: it verifies the pass of a request, asks the rules of the club, and keeps what they
-//! change.
+//! The desk: it verifies the pass of a request, asks the rules of the club for a decision, and
+//! stores the change.
 #![tactic(auto)]
 
 mod desk;
@@ -7,6 +7,7 @@ mod event;
 mod fault;
 mod identifier;
 pub mod laws;
+mod looks;
 mod mint;
 mod readings;
 mod run;

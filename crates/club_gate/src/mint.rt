@@ -1,26 +1,28 @@
+//! The passes that the office issues.
+
 ghost use Rattle.std.specs.Prelude.{◌≡◌, ℕ, List, IfOk};
 ghost use Rattle.pass_forms.specs.Pass.{IsSigned};
-ghost use Rattle.club_gate.specs.Minted.{minted_pass, signature_of};
+ghost use Rattle.club_gate.specs.Minted.{key_pass, minted_signature};
 
 use club_rows::Root;
-use pass_caveats::Name;
+use club_values::Name;
 use pass_forms::Pass;
 use pass_mac::Chain;
 use std::alloc::{AllocError, Global};
 
-/// The location of the passes that the office hands out.
+/// The location of the passes that the office issues.
 pub const LOCATION: &[u8; 9] = b"club-desk";
 
 /// What the identifier of a pass begins with, before the name of its key.
 const KEY_PREFIX: &[u8; 4] = b"key:";
 
-/// The most bytes of such an identifier.
+/// The most bytes of a key's identifier.
 const MAX_IDENTIFIER_LEN: usize = 28;
 
-/// The signature of a key's pass without caveats under a root: the chain of `key:NAME`. No memory
-/// is taken.
+/// The signature of a key's pass without caveats, 32 bytes: the chain of `key:NAME` under a root.
+/// Allocates nothing.
 pub fn key_signature(name: &Name, root: &Root) -> [u8; 32]
-    ensures { result ≡ signature_of name.now root.now }
+    ensures { result ≡ minted_signature name.now root.now }
 {
     let name = name.as_bytes();
     let end = KEY_PREFIX.len() + name.len();
@@ -30,16 +32,16 @@ pub fn key_signature(name: &Name, root: &Root) -> [u8; 32]
     Chain::start(root.as_bytes(), &identifier[..end]).signature()
 }
 
-/// A key's pass without caveats: its location is `club-desk`, its identifier `key:NAME`, and its
-/// signature this one, of 32 bytes.
+/// Makes a key's pass without caveats: its location is `club-desk`, its identifier is `key:NAME`,
+/// and its signature is the given one, 32 bytes.
 ///
 /// # Errors
 ///
-/// Memory was refused to a copy of a field.
+/// There is no memory to copy a field.
 pub fn minted(alloc: Global, name: &Name, signature: [u8; 32]) -> Result<Pass, AllocError>
-    ensures ok { IfOk result (λ pass. pass ≡ minted_pass name.now signature) }
+    ensures ok { IfOk result (λ pass. pass ≡ key_pass name.now signature) }
     ensures signed { IfOk result (λ pass. (root : List ℕ)
-        → signature ≡ signature_of name.now root
+        → signature ≡ minted_signature name.now root
         → IsSigned root pass) }
 {
     let location = Vec::from_slice(alloc, LOCATION)?;

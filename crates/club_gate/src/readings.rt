@@ -1,29 +1,31 @@
-//! What the desk reads of the club for the answer to a pass that is signed: what its caveats and
-//! the decision look at, and no more.
+//! What the desk reads of the club to answer a signed pass: only what the caveats and the decision
+//! depend on.
 
 ghost use Rattle.std.specs.Prelude.{◌≡◌, ◌≤◌, length, map, option_map};
 ghost use Rattle.pass_caveats.specs.CaveatOf.{caveat_of, first_fault_of};
 ghost use Rattle.pass_caveats.specs.Spending.{after_spending};
-ghost use Rattle.pass_forms.specs.FieldSource.{fields_of};
+ghost use Rattle.pass_forms.specs.FieldSource.{pass_fields};
 ghost use Rattle.pass_forms.specs.Pass.{Plain};
 ghost use Rattle.pass_forms.specs.Reading.{max_caveats};
-ghost use Rattle.club_core.specs.Store.{KeepsStanding, Tells};
+ghost use Rattle.club_core.specs.Store.{KeepsClub, ReadsOrFails, Returns};
 ghost use Rattle.club_core.specs.Sums.{spent_under};
 ghost use Rattle.club_gate.specs.Reading as read;
 
 use crate::desk::Desk;
 use crate::walk::{depends_on_spent, fault_after};
-use club_core::{ClubStore, Key, Request, SlotUse, StoreFault, View};
-use pass_caveats::{Ask, CaveatFault, Moment, Name, Slot};
+use club_core::{ClubStore, Request, SlotUse, StoreFault, View};
+use club_rows::Key;
+use club_values::{Moment, Name, Slot};
+use pass_caveats::{Ask, CaveatFault};
 use pass_forms::FieldSource;
 
 impl<S: ClubStore> Desk<S> {
-    /// What caveats see of the club beside what the key has spent: the record under the number that
-    /// is asked for, and the facility.
+    /// Reads what caveats depend on, except what the key has spent: the facility, and the booking
+    /// that has the number that is asked for.
     pub(crate) fn first_view(&mut self, key: &Key, request: &Request) -> Result<View, StoreFault>
-        ensures honest { S.is_honest self.new → S.is_honest self.old }
-        ensures kept { S.is_honest self.new → KeepsStanding S.stands self.old self.new }
-        ensures found { S.is_honest self.new → Tells S.stands self.old result
+        ensures was_clean { S.disk_is_clean self.new → S.disk_is_clean self.old }
+        ensures kept { S.disk_is_clean self.new → KeepsClub S.represents self.old self.new }
+        ensures found { S.disk_is_clean self.new → Returns S.represents self.old result
             (λ club view. view ≡ read.first_view club key.now request.now) }
     {
         let mut view = View::of_key(key);
@@ -38,19 +40,20 @@ impl<S: ClubStore> Desk<S> {
         Ok(view)
     }
 
-    /// The first caveat at fault of the pass whose fields a source yields, asked for by this key.
-    /// What the key has spent is read only where the fault depends on it.
+    /// The first caveat that refuses a request with this key. The source yields the fields of the
+    /// pass. What the key has spent is read only if the result depends on it.
     pub(crate) fn caveat_fault<'a, F: FieldSource<'a> + Drop>(
         &mut self,
         source: &F,
         key: &Name,
         ask: &Ask,
     ) -> Result<Option<CaveatFault>, StoreFault>
-        ensures honest { S.is_honest self.new → S.is_honest self.old }
-        ensures kept { S.is_honest self.new → KeepsStanding S.stands self.old self.new }
-        ensures found { S.is_honest self.new → (pass : Plain) → F.left source.now ≡ fields_of pass
+        ensures was_clean { S.disk_is_clean self.new → S.disk_is_clean self.old }
+        ensures kept { S.disk_is_clean self.new → KeepsClub S.represents self.old self.new }
+        ensures found { S.disk_is_clean self.new → (pass : Plain)
+            → F.left source.now ≡ pass_fields pass
             → length pass.caveats ≤ max_caveats
-            → Tells S.stands self.old result
+            → Returns S.represents self.old result
             (λ club fault. fault ≡ first_fault_of (map caveat_of pass.caveats)
             (after_spending (spent_under key.now club.bookings) ask.now)) }
     {
@@ -61,11 +64,11 @@ impl<S: ClubStore> Desk<S> {
         Ok(fault_after(source, ask, spent))
     }
 
-    /// The view with the state of a slot.
+    /// Adds the state of a slot to the view.
     fn with_slot(&mut self, view: View, slot: &Slot) -> Result<View, StoreFault>
-        ensures honest { S.is_honest self.new → S.is_honest self.old }
-        ensures kept { S.is_honest self.new → KeepsStanding S.stands self.old self.new }
-        ensures found { S.is_honest self.new → Tells S.stands self.old result
+        ensures was_clean { S.disk_is_clean self.new → S.disk_is_clean self.old }
+        ensures kept { S.disk_is_clean self.new → KeepsClub S.represents self.old self.new }
+        ensures found { S.disk_is_clean self.new → Returns S.represents self.old result
             (λ club found. found ≡ read.with_slot club slot.now view) }
     {
         let SlotUse { taken, closed } = self.store.slot(slot)?;
@@ -76,13 +79,14 @@ impl<S: ClubStore> Desk<S> {
         })
     }
 
-    /// The view with the row, balance and open bookings of the key's member; `None` where the club
-    /// has no such member.
+    /// Adds the row, the balance and the open bookings of the key's member; `None` if the club has
+    /// no such member.
     fn with_member(&mut self, view: View, moment: Moment) -> Result<Option<View>, StoreFault>
-        ensures honest { S.is_honest self.new → S.is_honest self.old }
-        ensures kept { S.is_honest self.new → KeepsStanding S.stands self.old self.new }
-        ensures found { S.is_honest self.new → Tells S.stands self.old result
+        ensures was_clean { S.disk_is_clean self.new → S.disk_is_clean self.old }
+        ensures kept { S.disk_is_clean self.new → KeepsClub S.represents self.old self.new }
+        ensures found { S.disk_is_clean self.new → Returns S.represents self.old result
             (λ club found. found ≡ read.with_member club moment view) }
+        ensures failed { S.disk_is_clean self.new → ReadsOrFails S.fails self.old self.new result }
     {
         let Some(account) = self.store.account(&view.key.member)? else {
             return Ok(None);
@@ -96,17 +100,17 @@ impl<S: ClubStore> Desk<S> {
         }))
     }
 
-    /// The view with all that a new booking looks at: the state of the slot, and the row, balance
-    /// and open bookings of the key's member.
+    /// Adds all that a new booking depends on: the state of the slot, and the row, the balance and
+    /// the open bookings of the key's member.
     fn with_slot_and_member(
         &mut self,
         view: View,
         slot: &Slot,
         moment: Moment,
     ) -> Result<Option<View>, StoreFault>
-        ensures honest { S.is_honest self.new → S.is_honest self.old }
-        ensures kept { S.is_honest self.new → KeepsStanding S.stands self.old self.new }
-        ensures found { S.is_honest self.new → Tells S.stands self.old result
+        ensures was_clean { S.disk_is_clean self.new → S.disk_is_clean self.old }
+        ensures kept { S.disk_is_clean self.new → KeepsClub S.represents self.old self.new }
+        ensures found { S.disk_is_clean self.new → Returns S.represents self.old result
             (λ club found. found
             ≡ read.with_member club moment (read.with_slot club slot.now view)) }
     {
@@ -115,12 +119,17 @@ impl<S: ClubStore> Desk<S> {
     }
 
     /// The view with all sums of an account: those of the key's member, and what the key has spent.
-    fn with_sums(&mut self, view: View, moment: Moment) -> Result<Option<View>, StoreFault>
-        ensures honest { S.is_honest self.new → S.is_honest self.old }
-        ensures kept { S.is_honest self.new → KeepsStanding S.stands self.old self.new }
-        ensures found { S.is_honest self.new → Tells S.stands self.old result
+    pub(crate) fn with_sums(
+        &mut self,
+        view: View,
+        moment: Moment,
+    ) -> Result<Option<View>, StoreFault>
+        ensures was_clean { S.disk_is_clean self.new → S.disk_is_clean self.old }
+        ensures kept { S.disk_is_clean self.new → KeepsClub S.represents self.old self.new }
+        ensures found { S.disk_is_clean self.new → Returns S.represents self.old result
             (λ club found. found ≡ option_map (read.with_spent club)
             (read.with_member club moment view)) }
+        ensures failed { S.disk_is_clean self.new → ReadsOrFails S.fails self.old self.new result }
     {
         let Some(view) = self.with_member(view, moment)? else {
             return Ok(None);
@@ -129,17 +138,16 @@ impl<S: ClubStore> Desk<S> {
         Ok(Some(View { spent, ..view }))
     }
 
-    /// The view with all that the decision of the request looks at; `None` where the club has no
-    /// member of the key.
+    /// Adds all that the decision depends on; `None` if the club doesn't have the key's member.
     pub(crate) fn last_view(
         &mut self,
         view: View,
         request: &Request,
         moment: Moment,
     ) -> Result<Option<View>, StoreFault>
-        ensures honest { S.is_honest self.new → S.is_honest self.old }
-        ensures kept { S.is_honest self.new → KeepsStanding S.stands self.old self.new }
-        ensures found { S.is_honest self.new → Tells S.stands self.old result
+        ensures was_clean { S.disk_is_clean self.new → S.disk_is_clean self.old }
+        ensures kept { S.disk_is_clean self.new → KeepsClub S.represents self.old self.new }
+        ensures found { S.disk_is_clean self.new → Returns S.represents self.old result
             (λ club found. found ≡ read.last_view club request.now moment view) }
     {
         match request {

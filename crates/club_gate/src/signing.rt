@@ -1,16 +1,16 @@
-//! The signatures that a pass may have: one for each root of its key that is good at the moment.
+//! The signatures that a pass may have: one for each root of its key that is valid at the moment.
 
 ghost use Rattle.std.specs.Prelude.{◌≡◌};
 ghost use Rattle.pass_mac.specs.Hmac.{hmac};
-ghost use Rattle.club_gate.specs.Signing.{begun, grown, is_one_of};
+ghost use Rattle.club_gate.specs.Signing.{initial_signing, signing_with, is_one_of};
 
-use club_core::Key;
-use kept_keys::KeptKeys;
-use pass_caveats::Moment;
+use club_rows::Key;
+use club_values::Moment;
+use key_cache::KeptKeys;
 use pass_mac::{Chain, same};
 
-/// The chains under the root of a key's row and under the older root, where that is good too. Both
-/// grow with each caveat.
+/// The signature chains under the current root of a key and, if it is still valid, under its older
+/// root. Each caveat extends both.
 #[derive(Drop)]
 pub(crate) struct Signing {
     current: Chain,
@@ -18,9 +18,9 @@ pub(crate) struct Signing {
 }
 
 impl Signing {
-    /// The chains of an identifier, before any caveat.
+    /// Starts the chains with an identifier.
     pub fn start(kept: &mut KeptKeys, key: &Key, moment: Moment, identifier: &[u8]) -> Signing
-        ensures { result ≡ begun key.now moment identifier.now }
+        ensures { result ≡ initial_signing key.now moment identifier.now }
     {
         let older = match key.older_root_at(moment) {
             Some(root) => {
@@ -36,14 +36,14 @@ impl Signing {
         }
     }
 
-    /// The same with one caveat more.
+    /// Extends the chains by a caveat.
     pub fn with(self, caveat: &[u8]) -> Signing
-        ensures { result ≡ grown self caveat.now }
+        ensures { result ≡ signing_with self caveat.now }
     {
         let Signing { current, older } = self;
         Signing {
-            current: extended(current, caveat),
-            older: older.map(|older| extended(older, caveat)),
+            current: chain_with(current, caveat),
+            older: older.map(|older| chain_with(older, caveat)),
         }
     }
 
@@ -61,7 +61,7 @@ impl Signing {
     }
 }
 
-fn extended(mut chain: Chain, caveat: &[u8]) -> Chain
+fn chain_with(mut chain: Chain, caveat: &[u8]) -> Chain
     ensures { result ≡ hmac chain caveat.now }
 {
     chain.add(caveat);

@@ -1,6 +1,6 @@
-//! The verifier: what the rules answer to the pass of a request. The signature comes first: until
-//! it was compared, nothing is read of the club but the row of the key that the pass names. Then
-//! comes what the caveats look at, and then what the decision does.
+//! The verifier: the verdict on a request. It checks the signature first, and until then reads only
+//! the row of the key that the pass names. Next it reads what the caveats depend on, and last what
+//! the decision depends on.
 
 ghost use Rattle.std.specs.Prelude.{
   ◌≡◌,
@@ -16,15 +16,15 @@ ghost use Rattle.std.specs.Prelude.{
 };
 ghost use Rattle.pass_forms.specs.declared.fault.FormFault.{FormFault as FaultOfForm};
 ghost use Rattle.pass_forms.specs.declared.form.Form.TheVariants.{Json};
-ghost use Rattle.pass_forms.specs.FieldSource.{fields_of};
+ghost use Rattle.pass_forms.specs.FieldSource.{pass_fields};
 ghost use Rattle.pass_forms.specs.Pass.{Plain};
 ghost use Rattle.pass_forms.specs.Reading.{max_caveats};
 ghost use Rattle.pass_json.specs.AnyForm.{reading, reading_in_form};
 ghost use Rattle.club_core.specs.Answer.{form_refusal, verdict_in};
-ghost use Rattle.club_core.specs.Store.{KeepsStanding, Tells};
-ghost use Rattle.club_core.specs.Verdict.{refused};
-ghost use Rattle.club_laws.specs.DeskLaw.{words_with};
-ghost use Rattle.club_gate.specs.Said.{fault_of, pass_of, words_said};
+ghost use Rattle.club_core.specs.Store.{KeepsClub, Returns};
+ghost use Rattle.club_core.specs.Verdict.{refusal_verdict};
+ghost use Rattle.club_laws.specs.SingleRequest.{words_with};
+ghost use Rattle.club_gate.specs.DecodedPass.{fault_of, machine_pass, decoded_words};
 ghost use Rattle.club_gate.specs.Served.{IsReadInPlace};
 ghost use Rattle.club_gate.specs.Verify.{
   answer_to_fault,
@@ -32,29 +32,29 @@ ghost use Rattle.club_gate.specs.Verify.{
   key_in,
   refusal_by_row,
   signer_in,
-  words_read,
+  words_in_form,
 };
 ghost use Rattle.club_gate.specs.Reading.{verdict_read};
 
 use crate::desk::Desk;
-use crate::identifier::name_in;
+use crate::identifier::key_name_in;
 use crate::signing::Signing;
 use crate::walk::is_signed;
 use club_core::laws::{looks_no_further, own_bookings_suffice, views_decide};
 use club_core::{
-    ClubStore, FormFault as PassFault, Key, Refusal, Request, SentWords, StoreFault, Verdict,
-    answer,
+    ClubStore, FormFault as PassFault, Refusal, Request, SentWords, StoreFault, Verdict, answer,
 };
-use kept_keys::KeptKeys;
-use pass_caveats::Moment;
+use club_rows::Key;
+use club_values::Moment;
+use key_cache::KeptKeys;
 use pass_forms::laws::{reads_v1_exactly, reads_v2_exactly};
 use pass_forms::{Field, FieldSource, Form, FormFault, MAX_BYTES, V1Fields, V2Fields, unwrap_text};
 use pass_json::laws::{reads_what_is_wrapped, refuses_what_wraps_nothing};
 use pass_json::{JsonFields, read_json};
 
-/// Takes the location and the identifier of a pass from its source, and hands out the identifier.
+/// Takes the location and the identifier of a pass from its source, and returns the identifier.
 fn identifier_from<'a, F: FieldSource<'a>>(source: &mut F) -> Option<&'a [u8]>
-    ensures { (pass : Plain) → F.left source.old ≡ fields_of pass
+    ensures { (pass : Plain) → F.left source.old ≡ pass_fields pass
         → IsSomeAnd result (λ identifier. identifier.now ≡ pass.identifier)
         × (F.left source.new ≡ fields_behind pass) }
 {
@@ -67,9 +67,8 @@ fn identifier_from<'a, F: FieldSource<'a>>(source: &mut F) -> Option<&'a [u8]>
     }
 }
 
-/// Why a pass is refused by the row of its key, whatever else it holds: it isn't signed under a
-/// root of the row that is good at the moment, or the key is revoked. The source has yielded the
-/// identifier.
+/// Why the row of its key refuses a pass: the pass isn't signed under a root that is valid at the
+/// moment, or the key is revoked. The source has already yielded the identifier.
 fn row_refusal<'a, F: FieldSource<'a>>(
     kept: &mut KeptKeys,
     source: &mut F,
@@ -91,9 +90,9 @@ fn row_refusal<'a, F: FieldSource<'a>>(
     None
 }
 
-/// The answer to a text that is no pass; memory that was refused to its reading is no answer.
-fn faulty(fault: FormFault) -> Result<Verdict, StoreFault>
-    ensures told { result ≡ answer_to_fault fault }
+/// The verdict on a text that isn't a pass. Fails if the reader ran out of memory.
+fn verdict_of_fault(fault: FormFault) -> Result<Verdict, StoreFault>
+    ensures returned { result ≡ answer_to_fault fault }
     ensures unchanged { IfOk result (λ verdict. verdict.change ≡ None) }
 {
     let fault = match fault {
@@ -103,35 +102,37 @@ fn faulty(fault: FormFault) -> Result<Verdict, StoreFault>
         FormFault::TooMany => PassFault::TooMany,
         FormFault::Memory => return Err(StoreFault::Memory),
     };
-    Ok(Verdict::refused(fault.refusal()))
+    Ok(Verdict::refuse(fault.refusal()))
 }
 
 impl<S: ClubStore> Desk<S> {
-    /// The row of the key that an identifier names; `None` where it names no key of the club.
+    /// Reads the row of the key that an identifier names; `None` if it names no key of the club.
     fn key_row(&mut self, identifier: &[u8]) -> Result<Option<Key>, StoreFault>
-        ensures honest { S.is_honest self.new → S.is_honest self.old }
-        ensures kept { S.is_honest self.new → KeepsStanding S.stands self.old self.new }
-        ensures found { S.is_honest self.new → Tells S.stands self.old result
+        ensures was_clean { S.disk_is_clean self.new → S.disk_is_clean self.old }
+        ensures kept { S.disk_is_clean self.new → KeepsClub S.represents self.old self.new }
+        ensures found { S.disk_is_clean self.new → Returns S.represents self.old result
             (λ club key. key ≡ key_in club identifier.now) }
     {
-        match name_in(identifier) {
+        match key_name_in(identifier) {
             Some(name) => self.store.key(&name),
             None => Ok(None),
         }
     }
 
-    /// The row of the key that a pass names and is signed under, or why the pass is refused. Its
-    /// fields are taken from the source. Of the club it reads that row with its older root, and
-    /// nothing else. An unknown key and a wrong signature are refused alike.
+    /// Returns the row of the key that a pass names and is signed under, or the refusal. It takes
+    /// the fields of the pass from the source, and reads nothing of the club but that row with its
+    /// older root. An unknown key and a wrong signature get the same refusal.
     fn signer_of_fields<'a, F: FieldSource<'a>>(
         &mut self,
         source: &mut F,
         moment: Moment,
     ) -> Result<Result<Key, Refusal>, StoreFault>
-        ensures honest { S.is_honest self.new → S.is_honest self.old }
-        ensures kept { S.is_honest self.new → KeepsStanding S.stands self.old self.new }
-        ensures found { S.is_honest self.new → (pass : Plain) → F.left source.old ≡ fields_of pass
-            → Tells S.stands self.old result (λ club signer. signer ≡ signer_in club pass moment) }
+        ensures was_clean { S.disk_is_clean self.new → S.disk_is_clean self.old }
+        ensures kept { S.disk_is_clean self.new → KeepsClub S.represents self.old self.new }
+        ensures found { S.disk_is_clean self.new → (pass : Plain)
+            → F.left source.old ≡ pass_fields pass
+            → Returns S.represents self.old result
+            (λ club signer. signer ≡ signer_in club pass moment) }
     {
         let Some(identifier) = identifier_from(source) else {
             return Ok(Err(Refusal::NotVerified));
@@ -145,23 +146,25 @@ impl<S: ClubStore> Desk<S> {
         }
     }
 
-    /// The same of a pass whose fields a source yields, which is left as it is.
+    /// As `signer_of_fields`, but leaves the source unchanged.
     fn signer<'a, F: FieldSource<'a> + Drop>(
         &mut self,
         source: &F,
         moment: Moment,
     ) -> Result<Result<Key, Refusal>, StoreFault>
-        ensures honest { S.is_honest self.new → S.is_honest self.old }
-        ensures kept { S.is_honest self.new → KeepsStanding S.stands self.old self.new }
-        ensures found { S.is_honest self.new → (pass : Plain) → F.left source.now ≡ fields_of pass
-            → Tells S.stands self.old result (λ club signer. signer ≡ signer_in club pass moment) }
+        ensures was_clean { S.disk_is_clean self.new → S.disk_is_clean self.old }
+        ensures kept { S.disk_is_clean self.new → KeepsClub S.represents self.old self.new }
+        ensures found { S.disk_is_clean self.new → (pass : Plain)
+            → F.left source.now ≡ pass_fields pass
+            → Returns S.represents self.old result
+            (λ club signer. signer ≡ signer_in club pass moment) }
     {
         let mut fields = source.again();
         self.signer_of_fields(&mut fields, moment)
     }
 
-    /// The answer to a request with a pass that is signed under the key of this row, and the change
-    /// that goes with it. What is refused by a caveat is answered before any sum is read.
+    /// The verdict on a request with a pass that is signed under this key. If a caveat refuses the
+    /// request, no sum is read but what the key has spent, and that only if a caveat depends on it.
     fn verdict_under<'a, F: FieldSource<'a> + Drop>(
         &mut self,
         key: &Key,
@@ -169,11 +172,12 @@ impl<S: ClubStore> Desk<S> {
         request: &Request,
         moment: Moment,
     ) -> Result<Verdict, StoreFault>
-        ensures honest { S.is_honest self.new → S.is_honest self.old }
-        ensures kept { S.is_honest self.new → KeepsStanding S.stands self.old self.new }
-        ensures found { S.is_honest self.new → (pass : Plain) → F.left source.now ≡ fields_of pass
+        ensures was_clean { S.disk_is_clean self.new → S.disk_is_clean self.old }
+        ensures kept { S.disk_is_clean self.new → KeepsClub S.represents self.old self.new }
+        ensures found { S.disk_is_clean self.new → (pass : Plain)
+            → F.left source.now ≡ pass_fields pass
             → length pass.caveats ≤ max_caveats
-            → Tells S.stands self.old result
+            → Returns S.represents self.old result
             (λ club verdict. verdict ≡ verdict_read club key.now pass request.now moment) }
     {
         let view = self.first_view(key, request)?;
@@ -185,33 +189,33 @@ impl<S: ClubStore> Desk<S> {
         Ok(answer(view.as_ref(), true, None, request, moment))
     }
 
-    /// The answer to a request with the pass whose fields a source yields, and the change that goes
-    /// with it. The fields are gone over for the signature, and only where the pass is signed for
-    /// the caveats.
+    /// The verdict on a request with the pass whose fields a source yields. It scans the fields for
+    /// the signature, and scans them again for the caveats only if the pass is signed.
     fn verdict_of<'a, F: FieldSource<'a> + Drop>(
         &mut self,
         source: &F,
         request: &Request,
         moment: Moment,
     ) -> Result<Verdict, StoreFault>
-        ensures honest { S.is_honest self.new → S.is_honest self.old }
-        ensures kept { S.is_honest self.new → KeepsStanding S.stands self.old self.new }
-        ensures told { S.is_honest self.new → (pass : Plain) → F.left source.now ≡ fields_of pass
+        ensures was_clean { S.disk_is_clean self.new → S.disk_is_clean self.old }
+        ensures kept { S.disk_is_clean self.new → KeepsClub S.represents self.old self.new }
+        ensures returned { S.disk_is_clean self.new → (pass : Plain)
+            → F.left source.now ≡ pass_fields pass
             → length pass.caveats ≤ max_caveats
-            → Tells S.stands self.old result (λ club verdict. verdict
-            ≡ verdict_in club (words_with (pass_of pass) request.now) moment) }
+            → Returns S.represents self.old result (λ club verdict. verdict
+            ≡ verdict_in club (words_with (machine_pass pass) request.now) moment) }
     {
         views_decide();
         own_bookings_suffice();
         looks_no_further();
         match self.signer(source, moment)? {
             Ok(key) => self.verdict_under(&key, source, request, moment),
-            Err(refusal) => Ok(Verdict::refused(refusal)),
+            Err(refusal) => Ok(Verdict::refuse(refusal)),
         }
     }
 
-    /// The answer to a request with the pass that these bytes spell in a form. A pass in JSON is
-    /// read first, which wants memory; the fields of the others are parts of the bytes.
+    /// The verdict on a request with the pass that these bytes spell in a form. A pass in JSON is
+    /// parsed first, which needs memory; in the other forms the fields are parts of the bytes.
     fn verdict_on(
         &mut self,
         form: Form,
@@ -219,55 +223,56 @@ impl<S: ClubStore> Desk<S> {
         request: &Request,
         moment: Moment,
     ) -> Result<Verdict, StoreFault>
-        ensures honest { S.is_honest self.new → S.is_honest self.old }
-        ensures kept { S.is_honest self.new → KeepsStanding S.stands self.old self.new }
-        ensures told { S.is_honest self.new → Tells S.stands self.old result (λ club verdict.
-            verdict ≡ verdict_in club (words_read form bytes.now request.now) moment) }
+        ensures was_clean { S.disk_is_clean self.new → S.disk_is_clean self.old }
+        ensures kept { S.disk_is_clean self.new → KeepsClub S.represents self.old self.new }
+        ensures returned { S.disk_is_clean self.new
+            → Returns S.represents self.old result (λ club verdict.
+            verdict ≡ verdict_in club (words_in_form form bytes.now request.now) moment) }
         ensures untouched { (fault : FaultOfForm) → reading_in_form form bytes.now ≡ Err fault
             → self.new ≡ self.old }
         ensures unchanged { (fault : FaultOfForm) → reading_in_form form bytes.now ≡ Err fault
             → IfOk result (λ verdict. verdict.change ≡ None) }
         ensures in_place { (fault : FaultOfForm) → form ≢ Json
             → reading_in_form form bytes.now ≡ Err fault
-            → result ≡ Ok (refused (form_refusal (fault_of fault))) }
+            → result ≡ Ok (refusal_verdict (form_refusal (fault_of fault))) }
     {
         reads_v1_exactly();
         reads_v2_exactly();
         match form {
             Form::V1 => match V1Fields::open(bytes) {
                 Ok(fields) => self.verdict_of(&fields, request, moment),
-                Err(fault) => faulty(fault),
+                Err(fault) => verdict_of_fault(fault),
             },
             Form::V2 => match V2Fields::open(bytes) {
                 Ok(fields) => self.verdict_of(&fields, request, moment),
-                Err(fault) => faulty(fault),
+                Err(fault) => verdict_of_fault(fault),
             },
             Form::Json => match read_json(self.alloc, bytes) {
                 Ok(pass) => self.verdict_of(&JsonFields::over(&pass), request, moment),
-                Err(fault) => faulty(fault),
+                Err(fault) => verdict_of_fault(fault),
             },
         }
     }
 
-    /// The answer to a request at a moment, and the change that goes with it. A text that is no
-    /// pass is answered before the store is asked.
+    /// The verdict on a request at a moment: its reply and its change of the club. A text that
+    /// isn't a pass is refused without a call of the store.
     pub(crate) fn verdict(
         &mut self,
         words: &SentWords,
         moment: Moment,
     ) -> Result<Verdict, StoreFault>
-        ensures honest { S.is_honest self.new → S.is_honest self.old }
-        ensures kept { S.is_honest self.new → KeepsStanding S.stands self.old self.new }
-        ensures told { S.is_honest self.new → Tells S.stands self.old result
+        ensures was_clean { S.disk_is_clean self.new → S.disk_is_clean self.old }
+        ensures kept { S.disk_is_clean self.new → KeepsClub S.represents self.old self.new }
+        ensures returned { S.disk_is_clean self.new → Returns S.represents self.old result
             (λ club verdict. verdict ≡ verdict_in club
-            (words_said words.now.pass.now words.now.request) moment) }
+            (decoded_words words.now.pass.now words.now.request) moment) }
         ensures untouched { (fault : FaultOfForm) → reading words.now.pass.now ≡ Err fault
             → self.new ≡ self.old }
         ensures unchanged { (fault : FaultOfForm) → reading words.now.pass.now ≡ Err fault
             → IfOk result (λ verdict. verdict.change ≡ None) }
         ensures in_place { (fault : FaultOfForm) → IsReadInPlace words.now.pass.now
             → reading words.now.pass.now ≡ Err fault
-            → result ≡ Ok (refused (form_refusal (fault_of fault))) }
+            → result ≡ Ok (refusal_verdict (form_refusal (fault_of fault))) }
     {
         reads_what_is_wrapped();
         refuses_what_wraps_nothing();
@@ -277,7 +282,7 @@ impl<S: ClubStore> Desk<S> {
                 let bytes = unwrapped.bytes(words.pass, &room);
                 self.verdict_on(unwrapped.form, bytes, &words.request, moment)
             }
-            Err(fault) => faulty(fault),
+            Err(fault) => verdict_of_fault(fault),
         }
     }
 }

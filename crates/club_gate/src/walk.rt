@@ -1,12 +1,12 @@
-//! Walks over the fields of a pass: one for its signature, and one for its caveats.
+//! Scans of the fields of a pass: one for its signature, and one for its caveats.
 
 ghost use Rattle.std.specs.Prelude.{◌≡◌, ℕ, ◌≤◌, false, fold, length, map};
 ghost use Rattle.pass_caveats.specs.CaveatOf.{caveat_of, first_fault_of};
 ghost use Rattle.pass_caveats.specs.Spending.{after_spending};
-ghost use Rattle.pass_forms.specs.FieldSource.{fields_of};
+ghost use Rattle.pass_forms.specs.FieldSource.{pass_fields};
 ghost use Rattle.pass_forms.specs.Pass.{Plain};
 ghost use Rattle.pass_forms.specs.Reading.{max_caveats};
-ghost use Rattle.club_gate.specs.Signing.{grown, is_one_of};
+ghost use Rattle.club_gate.specs.Signing.{signing_with, is_one_of};
 ghost use Rattle.club_gate.specs.Verify.{fields_behind};
 
 use crate::signing::Signing;
@@ -14,11 +14,11 @@ use pass_caveats::laws::{limits_no_more, owes_nothing};
 use pass_caveats::{Ask, CaveatFault, fault_at};
 use pass_forms::{Field, FieldSource};
 
-/// Whether a pass is signed: its signature is that of one of these chains, once each caveat was
-/// added to them. The source has yielded the identifier.
+/// Whether a pass is signed: extended by all its caveats, one of these chains has its signature.
+/// The source has already yielded the identifier.
 pub(crate) fn is_signed<'a, F: FieldSource<'a>>(source: &mut F, signing: Signing) -> bool
     ensures { (pass : Plain) → F.left source.old ≡ fields_behind pass
-        → result ≡ is_one_of (fold grown signing pass.caveats) pass.signature }
+        → result ≡ is_one_of (fold signing_with signing pass.caveats) pass.signature }
 {
     let mut signing = signing;
     while let Some(field) = source.next() {
@@ -31,10 +31,9 @@ pub(crate) fn is_signed<'a, F: FieldSource<'a>>(source: &mut F, signing: Signing
     false
 }
 
-/// The first caveat of a pass that isn't understood or denies the request; `None` where each allows
-/// it.
+/// The first caveat of a pass that isn't understood or denies the request; `None` if all allow it.
 fn first_fault<'a, F: FieldSource<'a>>(source: &mut F, ask: &Ask) -> Option<CaveatFault>
-    ensures { (pass : Plain) → F.left source.old ≡ fields_of pass
+    ensures { (pass : Plain) → F.left source.old ≡ pass_fields pass
         → length pass.caveats ≤ max_caveats
         → result ≡ first_fault_of (map caveat_of pass.caveats) ask.now }
 {
@@ -51,13 +50,13 @@ fn first_fault<'a, F: FieldSource<'a>>(source: &mut F, ask: &Ask) -> Option<Cave
     None
 }
 
-/// The first caveat at fault of a pass whose key has spent this much before.
+/// The first caveat that refuses the request if the key has spent this much before.
 pub(crate) fn fault_after<'a, F: FieldSource<'a> + Drop>(
     source: &F,
     ask: &Ask,
     spent: u64,
 ) -> Option<CaveatFault>
-    ensures { (pass : Plain) → F.left source.now ≡ fields_of pass
+    ensures { (pass : Plain) → F.left source.now ≡ pass_fields pass
         → length pass.caveats ≤ max_caveats
         → result ≡ first_fault_of (map caveat_of pass.caveats) (after_spending spent ask.now) }
 {
@@ -65,10 +64,11 @@ pub(crate) fn fault_after<'a, F: FieldSource<'a> + Drop>(
     first_fault(&mut source, &Ask { spent, ..*ask })
 }
 
-/// Whether the first caveat at fault of a pass depends on what its key has spent: something is
-/// owed, and a spend limit denies it to one who has spent more than any limit.
+/// Whether the first caveat that refuses the request may depend on what the key has spent: the
+/// request costs something, and a key that has spent more than any limit is refused otherwise than
+/// one that has spent nothing.
 pub(crate) fn depends_on_spent<'a, F: FieldSource<'a> + Drop>(source: &F, ask: &Ask) -> bool
-    ensures { (pass : Plain) → F.left source.now ≡ fields_of pass
+    ensures { (pass : Plain) → F.left source.now ≡ pass_fields pass
         → length pass.caveats ≤ max_caveats
         → result ≡ false
         → (spent : ℕ) → first_fault_of (map caveat_of pass.caveats) (after_spending spent ask.now)

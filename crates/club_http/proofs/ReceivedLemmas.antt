@@ -1,4 +1,4 @@
--- A request, received in pieces.
+-- A request that arrives in pieces.
 use Rattle.std.proofs.Common.{◌≡◌, ℕ, ◌+◌, ◌≤◌, ◌↔◌, Bool, false, List, ◌++◌, length, take, sym, ap, ◌∙◌, arith}
 use Rattle.std.specs.Prelude.{IsTrue}
 use Rattle.std.proofs.Math.Seq.{take-append-add}
@@ -9,7 +9,7 @@ use borrow.Rule.Slice.PartMut.{put_mid}
 pub within_request : (room : List ℕ) (n : ℕ) → n ≤ 16640 → length (take n room) ≤ 16640
 within_request room n few = rw (length-take n room) (omega arith)
 
--- what a room holds that was filled from a place on
+-- a buffer that was filled from a place on
 pub filled : (room part : List ℕ) (len n k : ℕ) → len ≤ length room → n ≤ length part → take (len + n) (put_mid len k room part) ≡ take len room ++ take n part
 filled room part len n k within few =
     let front = length-take-le len room within in
@@ -17,6 +17,6 @@ filled room part len n k within few =
     ∙ take-append-add (take len room) _ n
     ∙ ap (λ (l : List ℕ). take len room ++ l) (take-append-le n part _ few)
 
--- what a test that came out false tests doesn't hold
+-- if a test is false, what it tests doesn't hold
 pub not_so : (test : Bool) (P : Type 0) → test ≡ false → IsTrue test ↔ P → ¬ P
 not_so test P fails is holds = let passes : IsTrue test = is.1 holds in cc

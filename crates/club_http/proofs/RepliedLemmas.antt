@@ -1,20 +1,21 @@
--- A reply to what was received is the reply to all that the reader gives.
+-- The reply to what was received is also the reply to all that the reader would give.
 use Rattle.std.proofs.Common.{ℕ, inl, inr, List, ◌++◌, Option, Some, None, Ok, Err, append-nil, IfSome}
 use Rattle.club_core.specs.declared.reply.Reply.{Reply}
-use Rattle.club_words.specs.Frame.{IsWhole}
-use Rattle.club_words.specs.Laws.{WholeKeepsItsReading, BodyStays}
+use Rattle.http_request.specs.Frame.{IsWhole}
+use Rattle.http_request.specs.Laws.{WholeKeepsItsReading, BodyStays}
 use Rattle.club_http.specs.Received.{Receives}
-use Rattle.club_http.specs.Replied.{Asks, IsReplied, refused, answered, starved}
+use Rattle.club_http.specs.Replied.{AnswerRelation, IsReplied, refused, answered, out_of_memory}
 
-replied_more : {Desk : Type 0} (Answers : Asks Desk) (bytes more : List ℕ) (old : Desk) (reply : Reply) (new : Desk)
+replied_more : {Desk : Type 0} (Answers : AnswerRelation Desk) (bytes more : List ℕ) (old : Desk) (reply : Reply) (new : Desk)
     → WholeKeepsItsReading → BodyStays → IsWhole bytes
     → IsReplied Answers bytes old reply new → IsReplied Answers (bytes ++ more) old reply new
 replied_more Answers bytes more old reply new keeps stays whole (refused refusal reading is same) =
     refused refusal (keeps bytes more (Err refusal) whole reading) is same
-replied_more Answers bytes more old reply new keeps stays whole (answered said reading is) = answered said (keeps bytes more (Ok said) whole reading) is
-replied_more Answers bytes more old reply new keeps stays whole (starved held is same) = starved (stays bytes more held) is same
+replied_more Answers bytes more old reply new keeps stays whole (answered decoded reading is) = answered decoded
+    (keeps bytes more (Ok decoded) whole reading) is
+replied_more Answers bytes more old reply new keeps stays whole (out_of_memory held is same) = out_of_memory (stays bytes more held) is same
 
-pub replied_to_all : {Desk : Type 0} (Answers : Asks Desk) (before after : Option (List ℕ)) (bytes : List ℕ) (old : Desk)
+pub replied_to_all : {Desk : Type 0} (Answers : AnswerRelation Desk) (before after : Option (List ℕ)) (bytes : List ℕ) (old : Desk)
     (reply : Reply) (new : Desk)
     → WholeKeepsItsReading → BodyStays → Receives before after bytes
     → IsReplied Answers bytes old reply new → IfSome before (λ all. IsReplied Answers all old reply new)

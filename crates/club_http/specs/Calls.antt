@@ -1,12 +1,12 @@
--- By which calls a reader gives a request (ours).
+-- The calls by which a reader gives a request (ours).
 use Rattle.std.specs.Prelude.{◌⊎◌, ℕ, ◌<◌, ◌≤◌, List, [], ◌++◌, length, take, Option, Some, None}
-use Rattle.club_words.specs.Frame.{IsWhole}
+use Rattle.http_request.specs.Frame.{IsWhole}
 
--- what a call does: how many bytes it answers, what the room holds, and the reader before and after
+-- what a call does: the reader before, how many bytes it returns, what the buffer holds, and the reader after
 abbrev pub Call : Type 0 → Type 1
 Call Reader = Reader → Option ℕ → List ℕ → Reader → Type 0
 
--- the reader gave the bytes in calls that each gave some, and none was made once a whole request had come
+-- the reader gave the bytes in calls that each gave some, and no call was made once the request was whole
 pub data Gives {Reader : Type 0} (Fills : Call Reader) (old : Reader) : List ℕ → Reader → Type 0 where
   nothing : Gives Fills old [] old
   more : (bytes room : List ℕ) (n : ℕ) (mid new : Reader)
@@ -21,7 +21,7 @@ pub record EndsWithNone {Reader : Type 0} (Fills : Call Reader) (old : Reader) (
   pub wanted : ¬ (IsWhole bytes)
   pub none : Fills mid (Some 0) room new ⊎ Fills mid None room new
 
--- at most 16,640 bytes were taken, and no call was made once a whole request had come, nor after one that gave none
+-- at most 16,640 bytes were read; no call was made once the request was whole, nor after one that gave none
 pub record ReadsNoFurther {Reader : Type 0} (Fills : Call Reader) (old : Reader) (bytes : List ℕ) (new : Reader) : Type 0 where
   pub within : length bytes ≤ 16640
   pub calls : Gives Fills old bytes new ⊎ EndsWithNone Fills old bytes new

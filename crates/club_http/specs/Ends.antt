@@ -1,32 +1,33 @@
--- What the calls of a reader and a writer leave: the bytes to come or taken, where they are known,
--- and a count of failures (ours).
+-- The effect of the calls of a reader and a writer: on the bytes to come or taken, if they are known,
+-- and on a count of failures (ours).
 use Rattle.std.specs.Prelude.{ℕ, ◌==◌, ◌+◌, ◌-◌, ◌^◌, ◌<◌, ◌&&◌, min, List}
 use Rattle.std.specs.Prelude.{length, take, nat_lt, if◌then◌else◌, Option, Some, None, ◌≡◌}
 use Rattle.std.specs.Prelude.{MatchOption}
 use Rattle.std.specs.Io.KnownBytes.{Keeps, Appends, Consumes, IsAtEnd}
 
--- one failure more; the count is a u64, and stays at its greatest value
+-- one failure more; the count is a u64 that saturates
 abbrev pub one_more : ℕ → ℕ
 one_more failures = min (failures + 1) (2 ^ 64 - 1)
 
--- a call put the next bytes into the room, none only at the end or with no room; a failure, none
+-- a call read the next bytes into the buffer, and 0 of them only at the end or into an empty buffer;
+-- a failed call read none
 abbrev pub Fills : Option (List ℕ) → Option (List ℕ) → Option ℕ → List ℕ → Type 0
 Fills old new result room = MatchOption result
     (Keeps old new)
     (λ n. Consumes old new (take n room) × (n ≡ 0 → 0 < length room → IsAtEnd new))
 
--- the count behind a call that reads: none is a failure
+-- the count after a call that reads: `None` is a failure
 abbrev pub read_failures : {A : Type 0} → ℕ → Option A → ℕ
 read_failures failures None = one_more failures
 read_failures failures (Some found) = failures
 
--- a call took the first bytes; a failure takes none
+-- a call took the first bytes; a failed call took none
 abbrev pub Takes : Option (List ℕ) → Option (List ℕ) → Option ℕ → List ℕ → Type 0
 Takes old new result bytes = MatchOption result
     (Keeps old new)
     (λ n. Appends old new (take n bytes))
 
--- the count behind a call that writes: none is a failure, and so is to take none of some bytes
+-- the count after a call that writes: `None` is a failure, and so is 0 of some bytes
 abbrev pub put_failures : ℕ → Option ℕ → List ℕ → ℕ
 put_failures failures None bytes = one_more failures
 put_failures failures (Some n) bytes =

@@ -1,36 +1,36 @@
--- An exchange: bytes are read, a reply is decided on, and its text is written.
+-- An exchange: it reads bytes, gets the desk's reply, and writes the text of the reply.
 use Rattle.std.specs.Prelude.{ℕ, ◌<◌, List, length, take, Option, IfSome, Result, Ok, Err}
 use Rattle.club_core.specs.declared.reply.Reply.{Reply}
 use Rattle.club_http.specs.declared.fault.AnswerFault.{AnswerFault}
 use Rattle.club_http.specs.declared.fault.AnswerFault.TheVariants.{Read, Write}
 use Rattle.club_http.specs.Ends.{one_more}
 use Rattle.club_http.specs.Received.{Receives}
-use Rattle.club_http.specs.Replied.{Asks, IsReplied}
-use Rattle.club_replies.specs.Text.{text_of}
+use Rattle.club_http.specs.Replied.{AnswerRelation, IsReplied}
+use Rattle.http_response.specs.Text.{reply_text}
 
 -- the desk replied to the bytes that were received
-pub record Replies {Desk : Type 0} (Answers : Asks Desk) (before after : Option (List ℕ))
+pub record Replies {Desk : Type 0} (Answers : AnswerRelation Desk) (before after : Option (List ℕ))
     (bytes : List ℕ) (old : Desk) (reply : Reply) (new : Desk) : Type 0 where
   pub received : Receives before after bytes
   pub replied : IsReplied Answers bytes old reply new
-  -- which is the reply to all that the reader gives until its end
+  -- it is also the reply to all that the reader would give until its end
   pub to_all : IfSome before (λ all. IsReplied Answers all old reply new)
 
--- what an exchange did: the text of the reply was written, or nothing, or a beginning of that text
+-- what an exchange did: it wrote the text of the reply, or nothing, or a beginning of that text
 abbrev pub Exchanges :
     (Reply → Type 0) → Type 0 → (List ℕ → Type 0) → Result Reply AnswerFault → Type 0
-Exchanges Decides Nothing Writes (Ok reply) = Decides reply × Writes (text_of reply)
+Exchanges Decides Nothing Writes (Ok reply) = Decides reply × Writes (reply_text reply)
 Exchanges Decides Nothing Writes (Err Read) = Nothing
 Exchanges Decides Nothing Writes (Err (Write n)) =
-    (reply : Reply) × Decides reply × (n < length (text_of reply)) × Writes (take n (text_of reply))
+    (reply : Reply) × Decides reply × (n < length (reply_text reply)) × Writes (take n (reply_text reply))
 
--- the reader's failures behind an exchange
+-- the reader's failures after an exchange
 abbrev pub reader_failures : ℕ → Result Reply AnswerFault → ℕ
 reader_failures failures (Err Read) = one_more failures
 reader_failures failures (Err (Write n)) = failures
 reader_failures failures (Ok reply) = failures
 
--- the writer's failures behind an exchange
+-- the writer's failures after an exchange
 abbrev pub writer_failures : ℕ → Result Reply AnswerFault → ℕ
 writer_failures failures (Err Read) = failures
 writer_failures failures (Err (Write n)) = one_more failures

@@ -1,9 +1,9 @@
--- How a fault of an exchange is told (ours).
+-- The texts of an exchange's faults (ours).
 use Rattle.std.specs.Prelude.{ℕ, List, ◌++◌, codes}
 use Rattle.std.specs.Fmt.{decimal}
 use Rattle.club_http.specs.declared.fault.AnswerFault.{AnswerFault}
 use Rattle.club_http.specs.declared.fault.AnswerFault.TheVariants.{Read, Write}
 
-abbrev pub fault_text : AnswerFault → List ℕ
-fault_text Read = codes "input failed"
-fault_text (Write sent) = codes "output failed after " ++ (decimal sent ++ codes " bytes")
+abbrev pub answer_fault_text : AnswerFault → List ℕ
+answer_fault_text Read = codes "input failed"
+answer_fault_text (Write sent) = codes "output failed after " ++ (decimal sent ++ codes " bytes")

@@ -5,23 +5,22 @@ use Rattle.club_core.specs.declared.refusal.Refusal.TheVariants.{Unavailable}
 use Rattle.club_core.specs.declared.reply.Reply.{Reply}
 use Rattle.club_core.specs.declared.reply.Reply.TheVariants.{Refused}
 use Rattle.club_core.specs.declared.request.Request.{Request}
-use Rattle.club_words.specs.Words.{Said, IsReading, HoldsBody}
+use Rattle.http_request.specs.Words.{DecodedRequest, IsRequestReading, HoldsBody}
 
--- what a desk answers to the text of a pass and a request, with the desk before and after
-abbrev pub Asks : Type 0 → Type 1
-Asks Desk = List ℕ → Request → Desk → Reply → Desk → Type 0
+-- what a desk may reply to the text of a pass and a request, with the desk before and after
+abbrev pub AnswerRelation : Type 0 → Type 1
+AnswerRelation Desk = List ℕ → Request → Desk → Reply → Desk → Type 0
 
--- the reply to bytes, with the desk before and after: the refusal where they are one, and else what
--- the desk answers their words; in place of either a refusal where memory was wanted for the body
--- and refused
-pub data IsReplied {Desk : Type 0} (Answers : Asks Desk) (bytes : List ℕ) (old : Desk)
+-- the reply to a request's bytes, with the desk before and after: the parser's refusal, or the
+-- desk's reply, or `Unavailable` if parsing the body ran out of memory
+pub data IsReplied {Desk : Type 0} (Answers : AnswerRelation Desk) (bytes : List ℕ) (old : Desk)
     (reply : Reply) (new : Desk) : Type 0 where
-  refused : (refusal : Refusal) → IsReading bytes (Err refusal)
+  refused : (refusal : Refusal) → IsRequestReading bytes (Err refusal)
       → reply ≡ Refused refusal → new ≡ old
       → IsReplied Answers bytes old reply new
-  answered : (said : Said) → IsReading bytes (Ok said)
-      → Answers said.pass said.request old reply new
+  answered : (decoded : DecodedRequest) → IsRequestReading bytes (Ok decoded)
+      → Answers decoded.pass decoded.request old reply new
       → IsReplied Answers bytes old reply new
-  starved : HoldsBody bytes
+  out_of_memory : HoldsBody bytes
       → reply ≡ Refused Unavailable → new ≡ old
       → IsReplied Answers bytes old reply new

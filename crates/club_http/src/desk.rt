@@ -1,16 +1,16 @@
-//! The desk answers requests.
+//! A `Desk` answers requests by `Desk::ask`.
 
 use crate::responder::Responder;
 use club_core::{ClubStore, Reply};
 use club_gate::Desk;
-use club_words::Words;
-use pass_caveats::Moment;
+use club_values::Moment;
+use http_request::Words;
 
-/// As `Desk::ask` says.
+/// Answers by `Desk::ask`, with its contract.
 impl<S: ClubStore> Responder for Desk<S> {
     ghost use Rattle.club_http.specs.Desk.{AnswersBy};
 
-    ghost answers = { AnswersBy S.is_honest S.stands };
+    ghost answers = { AnswersBy S.disk_is_clean S.represents };
 
     fn ask(&mut self, moment: Moment, words: &Words<'_>) -> Reply {
         Desk::ask(self, moment, words)

@@ -1,4 +1,4 @@
-//! The two ends of a connection.
+//! The two ends of a connection: what a request is read from, and what a reply is written to.
 
 use std::io::{Read, Write};
 
@@ -8,17 +8,17 @@ pub trait Inlet {
     ghost use Rattle.club_http.specs.Calls.{Call};
     ghost use Rattle.club_http.specs.Ends.{Fills, read_failures};
 
-    // the bytes to come, where they are known
+    // the bytes that are still to come, if they are known
     ghost to_come: { Self → Option (List ℕ) };
 
-    // how often it failed
+    // how often a call failed
     ghost failures: { Self → ℕ };
 
-    // what a call does, as far as it is known
+    // what one call does, as far as it is known
     ghost fills: { Call Self };
 
-    /// Puts the next bytes at the front of the room, and answers how many; none in a room that has
-    /// room is the end of the input. `None` is a failure.
+    /// Reads the next bytes into the front of the buffer `room`, and returns how many. 0 means the
+    /// end of the input, unless the buffer is empty. `None` means that the call failed.
     fn fill(&mut self, room: &mut [u8]) -> Option<usize>
         ensures within { IfSome result (λ n. n ≤ length room.new) }
         ensures bytes { Fills (to_come self.old) (to_come self.new) result room.new }
@@ -31,20 +31,20 @@ pub trait Outlet {
     ghost use Rattle.std.specs.Prelude.{◌≡◌, ◌≤◌, ℕ, List, length, Option, IfSome};
     ghost use Rattle.club_http.specs.Ends.{Takes, put_failures};
 
-    // the bytes that it took, where they are known
+    // the bytes that it took, if they are known
     ghost taken: { Self → Option (List ℕ) };
 
-    // how often it failed, or took none of some bytes
+    // how often a call failed, or took none of some bytes
     ghost failures: { Self → ℕ };
 
-    /// Takes the first of the bytes, and answers how many. `None` is a failure.
+    /// Takes the first of the bytes, and returns how many. `None` means that the call failed.
     fn put(&mut self, bytes: &[u8]) -> Option<usize>
         ensures within { IfSome result (λ n. n ≤ length bytes.now) }
         ensures bytes { Takes (taken self.old) (taken self.new) result bytes.now }
         ensures counted { failures self.new ≡ put_failures (failures self.old) result bytes.now };
 }
 
-/// A reader of `std`, such as a connection.
+/// An inlet over a reader of `std`, such as a connection.
 #[derive(Drop)]
 pub struct ReadInlet<R> {
     reader: R,
@@ -54,7 +54,7 @@ pub struct ReadInlet<R> {
 impl<R: Read> ReadInlet<R> {
     ghost use Rattle.std.specs.Prelude.{◌≡◌};
 
-    /// Nothing was read yet.
+    /// Makes an inlet with no failures.
     pub fn new(reader: R) -> ReadInlet<R>
         ensures { result ≡ record { reader = reader; failures = 0 } }
     {
@@ -86,7 +86,7 @@ impl<R: Read> Inlet for ReadInlet<R> {
     }
 }
 
-/// A writer of `std`, such as a connection.
+/// An outlet over a writer of `std`, such as a connection.
 #[derive(Drop)]
 pub struct WriteOutlet<W> {
     writer: W,
@@ -96,7 +96,7 @@ pub struct WriteOutlet<W> {
 impl<W: Write> WriteOutlet<W> {
     ghost use Rattle.std.specs.Prelude.{◌≡◌};
 
-    /// Nothing was written yet.
+    /// Makes an outlet with no failures.
     pub fn new(writer: W) -> WriteOutlet<W>
         ensures { result ≡ record { writer = writer; failures = 0 } }
     {

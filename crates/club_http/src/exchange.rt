@@ -1,4 +1,4 @@
-//! One exchange.
+//! One exchange: a request in, a reply out.
 
 ghost use Rattle.std.specs.Prelude.{◌≡◌};
 ghost use Rattle.std.specs.Io.KnownBytes.{Appends};
@@ -12,21 +12,21 @@ use crate::fault::AnswerFault;
 use crate::responder::Responder;
 use crate::send::send;
 use club_core::Reply;
-use pass_caveats::Moment;
+use club_values::Moment;
 
 /// Reads a request, asks the desk, and writes the text of its reply.
 ///
-/// The request is read till it is whole; where the input ends before, what came is the request. A
-/// call of the reader is given all the room that is left, so bytes behind the request may be taken
-/// with it: they change nothing, and never are more than `MAX_REQUEST_LEN` taken in all. No call is
-/// made once the request is whole. What was taken stays in the face. Memory is taken for the body
-/// of a request and by the desk, never once the desk has answered.
+/// It reads until the request is whole, and then calls the reader no more. If the input ends
+/// before, what arrived is the request. Each call may fill the rest of the buffer, so bytes after
+/// the request may be read with it. They change nothing, and no more than `MAX_REQUEST_LEN` bytes
+/// are read in all. The face keeps what was read. The body of a request and the desk need memory;
+/// once the desk has replied, nothing does.
 ///
 /// # Errors
 ///
-/// `Read` where the reader failed before the request was whole: the desk wasn't asked, and nothing
-/// was written. `Write(n)` where the writer failed or took nothing: the first n bytes of the text
-/// of the reply went out, and the desk has answered.
+/// `Read` if the reader failed before the request was whole: the desk wasn't asked, and nothing was
+/// written. `Write(n)` if the writer failed or took nothing: it took the first n bytes of the
+/// reply's text, and the desk's decision is not undone.
 pub fn answer<D: Responder, R: Inlet, W: Outlet>(
     face: &mut Face,
     desk: &mut D,

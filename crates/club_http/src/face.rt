@@ -1,7 +1,7 @@
-//! The face of the desk to its connections.
+//! The face of the desk: the routes and the buffer that its exchanges share.
 
 ghost use Rattle.std.specs.Prelude.{◌≡◌, [], IfOk, MatchOption};
-ghost use Rattle.club_words.specs.Front.{Covers};
+ghost use Rattle.http_request.specs.Front.{Covers};
 ghost use Rattle.club_http.specs.Calls.{ReadsNoFurther};
 ghost use Rattle.club_http.specs.Ends.{read_failures};
 ghost use Rattle.club_http.specs.Received.{IsCutOff};
@@ -12,14 +12,14 @@ use crate::ends::Inlet;
 use crate::receive::receive;
 use crate::responder::Responder;
 use club_core::Reply;
-use club_words::laws::{body_stays, whole_keeps_its_reading};
-use club_words::{HeadScan, MAX_REQUEST_LEN, Routes, words_by_scan};
-use pass_caveats::Moment;
+use club_values::Moment;
+use http_request::laws::{body_stays, whole_keeps_its_reading};
+use http_request::{HeadScan, MAX_REQUEST_LEN, Routes, words_by_scan};
 use std::alloc::{AllocError, Global};
 use std::marker::Model;
 
-/// What an exchange reads by: the routes of the desk, and a buffer with room for any request. It is
-/// made once, and keeps what was read of the last request. Contracts see it as these bytes.
+/// The routes of the desk, and a buffer that holds any request. Make one, and use it for all
+/// exchanges. It keeps what was read of the last request; contracts see a face as these bytes.
 #[derive(Drop)]
 pub struct Face {
     routes: Routes,
@@ -37,7 +37,7 @@ impl Model for Face {
     ghost invariant = { λ face. (vec_len face.buffer ≡ 16640) × (face.len ≤ 16640) };
 }
 
-/// The reply to the bytes of a request, by the scan for its head.
+/// The reply to the bytes of a request. The scan covers them.
 fn reply_to<D: Responder>(
     routes: &Routes,
     bytes: &[u8],
@@ -55,11 +55,11 @@ fn reply_to<D: Responder>(
 }
 
 impl Face {
-    /// A face with the routes, and a buffer of `MAX_REQUEST_LEN` bytes. Nothing was read yet.
+    /// Makes a face: the routes, and a buffer of `MAX_REQUEST_LEN` bytes. It holds no request.
     ///
     /// # Errors
     ///
-    /// Memory was refused.
+    /// There is no memory for the routes or the buffer.
     pub fn new(alloc: Global) -> Result<Face, AllocError>
         ensures { IfOk result (λ face. face ≡ []) }
     {
@@ -72,15 +72,15 @@ impl Face {
         })
     }
 
-    /// What was read at the last request: all of it, and what its reader gave behind it in the
-    /// same call; or what came before its reader failed.
+    /// The bytes of the last request, with those that the reader gave after it in the same call. If
+    /// the reader failed, the bytes that arrived before.
     pub fn request(&self) -> &[u8]
         ensures { result.now ≡ self.now }
     {
         &self.buffer[..self.len]
     }
 
-    /// The reply to the request that is read; `None` where the reader fails before it is whole.
+    /// Reads a request and returns the reply; `None` if the reader fails before it is whole.
     pub(crate) fn reply<D: Responder, R: Inlet>(
         &mut self,
         desk: &mut D,

@@ -8,16 +8,16 @@ use std::fmt;
 pub enum AnswerFault {
     /// The reader failed before the request was whole. Nothing was asked or written.
     Read,
-    /// The writer failed, or took nothing. So many bytes of the reply went out before, and what was
-    /// decided stands.
+    /// The writer failed or took nothing, after this many bytes of the reply. The desk's decision
+    /// isn't undone.
     Write(usize),
 }
 
 impl fmt::Display for AnswerFault {
     ghost use Rattle.std.specs.Prelude.{Some};
-    ghost use Rattle.club_http.specs.Fault.{fault_text};
+    ghost use Rattle.club_http.specs.Fault.{answer_fault_text};
 
-    ghost output = { λ fault. Some (fault_text fault) };
+    ghost output = { λ fault. Some (answer_fault_text fault) };
 
     fn fmt<W: fmt::Write>(&self, f: &mut fmt::Formatter<W>) -> fmt::Result {
         match self {

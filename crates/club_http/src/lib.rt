@@ -1,4 +1,4 @@
-//! One exchange of HTTP/1.1 with the desk: a request is read, and the reply to it is written.
+//! One HTTP/1.1 exchange with the desk: it reads a request, asks the desk, and writes the reply.
 #![tactic(auto)]
 
 mod desk;
@@ -11,11 +11,11 @@ mod responder;
 mod send;
 
 pub use club_gate::Desk;
-pub use club_replies::{MAX_REPLY_LEN, reply_bytes};
-pub use club_words::{MAX_REQUEST_LEN, Routes, Words, words_of};
 pub use ends::{Inlet, Outlet, ReadInlet, WriteOutlet};
 pub use exchange::answer;
 pub use face::Face;
 pub use fault::AnswerFault;
+pub use http_request::{MAX_REQUEST_LEN, Routes, Words, words_of};
+pub use http_response::{MAX_REPLY_LEN, reply_bytes};
 pub use responder::Responder;
 pub use send::put_all;

@@ -1,21 +1,21 @@
-//! How a request is received.
+//! Reads a request from an inlet.
 
 ghost use Rattle.std.specs.Prelude.{◌≡◌, ◌≤◌, [], length, take, MatchResult, Ok, Err};
-ghost use Rattle.club_words.specs.Front.{Covers};
+ghost use Rattle.http_request.specs.Front.{Covers};
 ghost use Rattle.club_http.specs.Calls.{ReadsNoFurther};
 ghost use Rattle.club_http.specs.Ends.{one_more};
 ghost use Rattle.club_http.specs.Received.{Receives, IsCutOff};
 
 use crate::ends::Inlet;
-use club_words::HeadScan;
+use http_request::HeadScan;
 
-/// Reads a request into the room, till it is whole or the input ends, and answers how many bytes
-/// came. Each call of the reader is given all the room that is left, so bytes behind the request
-/// may be among them. The scan covers them afterwards.
+/// Reads a request into the buffer `room` until it is whole or the input ends, and returns how many
+/// bytes arrived. Each call may fill the rest of the buffer, so bytes after the request may be
+/// among them. Afterwards the scan covers them.
 ///
 /// # Errors
 ///
-/// How many bytes came, where the reader failed before the request was whole.
+/// How many bytes arrived, if the reader failed before the request was whole.
 pub(crate) fn receive<R: Inlet>(
     reader: &mut R,
     room: &mut [u8],

@@ -1,18 +1,18 @@
-//! What answers requests.
+//! The trait of whatever answers requests.
 
 use club_core::{Reply, Request};
-use club_words::Words;
-use pass_caveats::Moment;
+use club_values::Moment;
+use http_request::Words;
 
-/// What answers requests.
+/// Answers requests: a desk, or a wrapper of one.
 pub trait Responder {
     ghost use Rattle.std.specs.Prelude.{ℕ};
-    ghost use Rattle.club_http.specs.Replied.{Asks};
+    ghost use Rattle.club_http.specs.Replied.{AnswerRelation};
 
-    // what it answers at a moment, with what it was before and is after
-    ghost answers: { ℕ → Asks Self };
+    // what it may reply at a moment, with its state before and after
+    ghost answers: { ℕ → AnswerRelation Self };
 
-    /// Answers the words of a request at a moment.
+    /// Answers a request at a moment.
     fn ask(&mut self, moment: Moment, words: &Words<'_>) -> Reply
         ensures { answers moment words.now.pass.now words.now.request self.old result self.new };
 }

@@ -1,19 +1,19 @@
-//! How a reply is sent.
+//! Writes a reply to an outlet.
 
 ghost use Rattle.std.specs.Prelude.{◌≡◌, ◌<◌, length, take, MatchResult, Ok, Err};
 ghost use Rattle.std.specs.Io.KnownBytes.{Appends};
 ghost use Rattle.club_http.specs.Ends.{one_more};
-ghost use Rattle.club_replies.specs.Text.{text_of};
+ghost use Rattle.http_response.specs.Text.{reply_text};
 
 use crate::ends::Outlet;
 use club_core::Reply;
-use club_replies::{MAX_REPLY_LEN, reply_bytes};
+use http_response::{MAX_REPLY_LEN, reply_bytes};
 
-/// Writes all the bytes, however few a call takes.
+/// Writes all the bytes, in as many calls as it takes.
 ///
 /// # Errors
 ///
-/// How many bytes went out, where the writer failed or took nothing.
+/// How many bytes the writer took before it failed or took nothing.
 pub fn put_all<W: Outlet>(writer: &mut W, bytes: &[u8]) -> Result<(), usize>
     ensures { MatchResult result
         (λ _. Appends (W.taken writer.old) (W.taken writer.new) bytes.now
@@ -36,13 +36,13 @@ pub fn put_all<W: Outlet>(writer: &mut W, bytes: &[u8]) -> Result<(), usize>
 ///
 /// # Errors
 ///
-/// How many bytes of it went out, where the writer failed or took nothing.
+/// How many bytes of the text the writer took before it failed or took nothing.
 pub(crate) fn send<W: Outlet>(reply: &Reply, writer: &mut W) -> Result<(), usize>
     ensures { MatchResult result
-        (λ _. Appends (W.taken writer.old) (W.taken writer.new) (text_of reply.now)
+        (λ _. Appends (W.taken writer.old) (W.taken writer.new) (reply_text reply.now)
         × (W.failures writer.new ≡ W.failures writer.old))
-        (λ n. (n < length (text_of reply.now))
-        × Appends (W.taken writer.old) (W.taken writer.new) (take n (text_of reply.now))
+        (λ n. (n < length (reply_text reply.now))
+        × Appends (W.taken writer.old) (W.taken writer.new) (take n (reply_text reply.now))
         × (W.failures writer.new ≡ one_more (W.failures writer.old))) }
 {
     let mut room = [0; MAX_REPLY_LEN];

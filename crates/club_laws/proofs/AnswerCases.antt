@@ -50,7 +50,7 @@ first_of_cases P (l ∷ lines) last each none = go l.fits refl (first_of_cases P
     go true e rest = each.0
     go false e rest = rest (λ h. none (e, h))
 
--- a reply that tells of no booking, nor that memory or storage was refused
+-- a reply that names no booking, and doesn't say that memory or storage was refused
 abbrev pub IsSilent : Reply → Type 0
 IsSilent (Booked key number charge left) = ⊥
 IsSilent (Cancelled key number refund) = ⊥
@@ -89,16 +89,16 @@ pub record CancelsRecorded (club : Club) (key : Key) (slot : Slot) (number : ℕ
 pub record Cancels (club : Club) (key : Key) (slot : Slot) (number : ℕ) (booking : Booking) : Type 0 where
   pub found : booking_under key.name number club.bookings ≡ Some booking
   pub same : same_slot booking.slot slot ≡ true
-  pub stood : booking.cancelled ≡ false
+  pub still_booked : booking.cancelled ≡ false
 
 -- what is to be shown for each way
 pub record Ways (P : Verdict → Type 0) (club : Club) (words : Words) (moment : ℕ) : Type 0 where
-  pub silent : (reply : Reply) → IsSilent reply → P (verdicts.told reply)
+  pub silent : (reply : Reply) → IsSilent reply → P (verdicts.reply_only reply)
   pub repeats_booking : (key : Key) (member : Member) (slot : Slot) (number guests : ℕ) (booking : Booking) → Knows club words key member
       → words.request ≡ asked.Book slot number guests → RepeatsBooking club key slot number guests booking → P (verdicts.booked_before booking)
   pub books : (key : Key) (member : Member) (slot : Slot) (number guests : ℕ) (facility : Facility) → Knows club words key member
       → words.request ≡ asked.Book slot number guests → Books club key member slot number guests facility
-      → P (verdicts.booked (written club key slot number guests facility))
+      → P (verdicts.booked_now (written club key slot number guests facility))
   pub cancels_recorded : (key : Key) (member : Member) (slot : Slot) (number : ℕ) (booking : Booking) → Knows club words key member
       → words.request ≡ asked.Cancel slot number → CancelsRecorded club key slot number booking → P (verdicts.cancelled_before booking)
   pub cancels : (key : Key) (member : Member) (slot : Slot) (number : ℕ) (booking : Booking) → Knows club words key member
@@ -130,10 +130,10 @@ view_at club request moment key member =
     view_of (basis_with club request key member) request moment
 
 module _ (P : Verdict → Type 0) (club : Club) (words : Words) (moment : ℕ) (w : Ways P club words moment) where
-  refused_cases : (refusal : Refusal) → IsSilent (Refused refusal) → P (verdicts.refused refusal)
+  refused_cases : (refusal : Refusal) → IsSilent (Refused refusal) → P (verdicts.refusal_verdict refusal)
   refused_cases refusal h = w.silent (Refused refusal) h
 
-  form_cases : (fault : FormFault) → P (verdicts.refused (form_refusal fault))
+  form_cases : (fault : FormFault) → P (verdicts.refusal_verdict (form_refusal fault))
   form_cases TooLong = refused_cases refusals.PassTooLong tt
   form_cases Malformed = refused_cases refusals.PassMalformed tt
   form_cases ThirdParty = refused_cases refusals.ThirdPartyCaveat tt
@@ -145,7 +145,7 @@ module _ (P : Verdict → Type 0) (club : Club) (words : Words) (moment : ℕ) (
   new_cases key member k slot number guests r new None at = refused_cases refusals.NoSuchFacility tt
   new_cases key member k slot number guests r new (Some facility) at =
       let view = view_at club (asked.Book slot number guests) moment key member in
-      first_of_cases P (verdicts.book_lines view slot guests moment facility) (verdicts.booked (written club key slot number guests facility)) (
+      first_of_cases P (verdicts.book_lines view slot guests moment facility) (verdicts.booked_now (written club key slot number guests facility)) (
         refused_cases refusals.NotBookable tt,
         (
           refused_cases refusals.SlotClosed tt,
@@ -165,7 +165,7 @@ module _ (P : Verdict → Type 0) (club : Club) (words : Words) (moment : ℕ) (
       → words.request ≡ asked.Book slot number guests → (booking : Booking) → booking_under key.name number club.bookings ≡ Some booking
       → P (verdicts.repeat_booking_verdict booking slot guests)
   repeat_booking_cases key member k slot number guests r booking found =
-      cond_both (same_slot booking.slot slot && booking.guests == guests) (verdicts.booked_before booking) (verdicts.refused refusals.NumberUsed) P
+      cond_both (same_slot booking.slot slot && booking.guests == guests) (verdicts.booked_before booking) (verdicts.refusal_verdict refusals.NumberUsed) P
       (λ same. w.repeats_booking key member slot number guests booking k r (record { found = found; same = same }))
       (λ other. refused_cases refusals.NumberUsed tt)
 
@@ -174,15 +174,17 @@ module _ (P : Verdict → Type 0) (club : Club) (words : Words) (moment : ℕ) (
   cancel_recorded_cases key member k slot number r booking found = go (same_slot booking.slot slot) refl booking.cancelled refl
     where
       go : (b : Bool) → same_slot booking.slot slot ≡ b → (c : Bool) → booking.cancelled ≡ c
-          → P (cond (not b) (verdicts.refused refusals.NumberUsed) (cond c (verdicts.cancelled_before booking)
-          (cond (nat_le (start_of booking.slot) moment) (verdicts.refused refusals.SlotHasBegun) (verdicts.cancelled_now booking (refund_at booking moment)))))
+          → P (cond (not b) (verdicts.refusal_verdict refusals.NumberUsed) (cond c (verdicts.cancelled_before booking)
+          (cond (nat_le (start_of booking.slot) moment) (verdicts.refusal_verdict refusals.SlotHasBegun)
+          (verdicts.cancelled_now booking (refund_at booking moment)))))
       go false e c h = refused_cases refusals.NumberUsed tt
       go true e true h = w.cancels_recorded key member slot number booking k r (record { found = found; same = e; before = h })
       go true e false h =
-          cond_both (nat_le (start_of booking.slot) moment) (verdicts.refused refusals.SlotHasBegun) (verdicts.cancelled_now booking (refund_at booking moment))
+          cond_both (nat_le (start_of booking.slot) moment) (verdicts.refusal_verdict refusals.SlotHasBegun)
+          (verdicts.cancelled_now booking (refund_at booking moment))
           P
           (λ late. refused_cases refusals.SlotHasBegun tt)
-          (λ early. w.cancels key member slot number booking k r (record { found = found; same = e; stood = h }))
+          (λ early. w.cancels key member slot number booking k r (record { found = found; same = e; still_booked = h }))
 
   -- what is on record under the number
   book_cases : (key : Key) (member : Member) → Knows club words key member → (slot : Slot) (number guests : ℕ) → words.request ≡ asked.Book slot number guests

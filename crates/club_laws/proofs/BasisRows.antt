@@ -4,7 +4,7 @@ use Rattle.std.proofs.lemmas.Option.{same_Some}
 use Rattle.club_rows.specs.declared.key.Key.{Key}
 use Rattle.club_rows.specs.declared.member.Member.{Member}
 use Rattle.club_core.specs.declared.request.Request.{Request}
-use Rattle.club_core.specs.Request.{slot_of}
+use Rattle.club_core.specs.Request.{request_slot}
 use Rattle.club_core.specs.Pass.{Words}
 use Rattle.club_core.specs.Club.{Club, key_named, member_named, bookings_of}
 use Rattle.club_core.specs.Basis.{Basis, basis_of, basis_under, state_of, key_of}
@@ -12,7 +12,7 @@ use Rattle.club_laws.proofs.FoundRows.{found_passes, bytes_same}
 
 abbrev pub basis_with : Club → Request → Key → Member → Basis
 basis_with club request key member =
-    record { key = key; member = member; bookings = bookings_of member.name club; state = state_of club (slot_of request) }
+    record { key = key; member = member; bookings = bookings_of member.name club; state = state_of club (request_slot request) }
 
 -- the key that the words name, and its member
 pub record Knows (club : Club) (words : Words) (key : Key) (member : Member) : Type 0 where

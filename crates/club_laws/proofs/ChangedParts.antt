@@ -10,7 +10,7 @@ use Rattle.club_core.specs.declared.change.Change.{Change}
 use Rattle.club_core.specs.declared.change.Change.TheVariants.{InsertMember, AddCredit, InsertFacility, InsertKey, MarkRevoked, ReplaceRoot, MarkClosed}
 use Rattle.club_core.specs.declared.change.Change.TheVariants.{InsertBooking, MarkCancelled}
 use Rattle.club_core.specs.Club.{Club, key_named, keys_of, is_key_of, bookings_of}
-use Rattle.club_core.specs.After.{after, credited, revoked, good_until, rotated, cancelled}
+use Rattle.club_core.specs.After.{after, credited_member, revoked_key, good_until, rotated_key, cancelled_booking}
 use Rattle.club_core.specs.Solo.{part_of}
 use Rattle.club_laws.specs.Frame.{part_after}
 use Rattle.club_laws.proofs.FoundRows.{other_bytes}
@@ -47,7 +47,7 @@ member_inserted name club member true e =
 member_inserted name club member false e =
     ap (λ (members : List Member). part_with club members (keys_of name club) (bookings_of name club)) (filter_push_false (is_named name) club.members member e)
 
-not_credited : (name : List ℕ) (points : ℕ) (member : Member) → bytes_eq member.name name ≡ false → credited name points member ≡ member
+not_credited : (name : List ℕ) (points : ℕ) (member : Member) → bytes_eq member.name name ≡ false → credited_member name points member ≡ member
 not_credited name points member e =
     ap (λ (b : Bool). record member { credited = cond b (member.credited + points) member.credited }) e
 
@@ -55,11 +55,12 @@ credit_added : (name : List ℕ) (club : Club) (other : List ℕ) (points : ℕ)
     → part_of name (after (AddCredit other points) club) ≡ cond b (after (AddCredit other points) (part_of name club)) (part_of name club)
 credit_added name club other points true e =
     ap (λ (members : List Member). part_with club members (keys_of name club) (bookings_of name club))
-    (filter-map (credited other points) (is_named name) club.members)
+    (filter-map (credited_member other points) (is_named name) club.members)
 credit_added name club other points false e =
     ap (λ (members : List Member). part_with club members (keys_of name club) (bookings_of name club))
-    (filter-map (credited other points) (is_named name) club.members
-    ∙ filter_fixed (is_named name) (credited other points) (λ member f. not_credited other points member (apart member.name name other f e)) club.members)
+    (filter-map (credited_member other points) (is_named name) club.members
+    ∙ filter_fixed (is_named name) (credited_member other points)
+    (λ member f. not_credited other points member (apart member.name name other f e)) club.members)
 
 -- each booking is under a key of the club
 abbrev pub HasKnownKeys : Club → Type 0
@@ -82,11 +83,11 @@ key_inserted name club new false known fresh e =
     (bookings_of-added name club new (none_named (λ (key : Key). key.name) new.name club.keys fresh) known)
     ∙ ap (λ (keys : List Key). part_with club members keys (bookings_of name club)) (filter_push_false (is_owned name) club.keys new e)
 
-not_revoked : (name : List ℕ) (key : Key) → bytes_eq key.name name ≡ false → revoked name key ≡ key
+not_revoked : (name : List ℕ) (key : Key) → bytes_eq key.name name ≡ false → revoked_key name key ≡ key
 not_revoked name key e =
     ap (λ (b : Bool). record key { revoked = key.revoked || b }) e ∙ ap (λ (b : Bool). record key { revoked = b }) (or_false key.revoked false refl)
 
-not_rotated : (name root : List ℕ) (until : ℕ) (key : Key) → bytes_eq key.name name ≡ false → rotated name root until key ≡ key
+not_rotated : (name root : List ℕ) (until : ℕ) (key : Key) → bytes_eq key.name name ≡ false → rotated_key name root until key ≡ key
 not_rotated name root until key e =
     ap (λ (b : Bool). let k : Key = record key { root = cond b root key.root; older = cond b (Some (good_until until key.root)) key.older } in k) e
 
@@ -114,12 +115,12 @@ key_edited root older is_revoked name club other b same e =
 key_revoked : (name : List ℕ) (club : Club) (other : List ℕ) (b : Bool) → is_key_of name club other ≡ b
     → part_of name (after (MarkRevoked other) club) ≡ cond b (after (MarkRevoked other) (part_of name club)) (part_of name club)
 key_revoked name club other b e =
-    key_edited (λ key. key.root) (λ key. key.older) (λ key. (revoked other key).revoked) name club other b (not_revoked other) e
+    key_edited (λ key. key.root) (λ key. key.older) (λ key. (revoked_key other key).revoked) name club other b (not_revoked other) e
 
 key_rotated : (name : List ℕ) (club : Club) (other root : List ℕ) (until : ℕ) (b : Bool) → is_key_of name club other ≡ b
     → part_of name (after (ReplaceRoot other root until) club) ≡ cond b (after (ReplaceRoot other root until) (part_of name club)) (part_of name club)
 key_rotated name club other root until b e =
-    key_edited (λ key. (rotated other root until key).root) (λ key. (rotated other root until key).older) (λ key.
+    key_edited (λ key. (rotated_key other root until key).root) (λ key. (rotated_key other root until key).older) (λ key.
     key.revoked) name club other b (not_rotated other root until) e
 
 booking_inserted : (name : List ℕ) (club : Club) (booking : Booking) (b : Bool) → is_key_of name club booking.key ≡ b
@@ -131,7 +132,8 @@ booking_inserted name club booking false e =
     ap (λ (bookings : List Booking). part_with club (filter (is_named name) club.members) (keys_of name club) bookings)
     (filter_push_false (is_under_one (keys_of name club)) club.bookings booking e)
 
-not_cancelled : (key : List ℕ) (number refund : ℕ) (booking : Booking) → bytes_eq booking.key key ≡ false → cancelled key number refund booking ≡ booking
+not_cancelled : (key : List ℕ) (number refund : ℕ) (booking : Booking) → bytes_eq booking.key key ≡ false
+    → cancelled_booking key number refund booking ≡ booking
 not_cancelled key number refund booking e =
     let marked : Bool → Booking = λ b. record booking {
       cancelled = booking.cancelled || b;
@@ -149,11 +151,11 @@ booking_cancelled : (name : List ℕ) (club : Club) (key : List ℕ) (number ref
     → part_of name (after (MarkCancelled key number refund) club) ≡ cond b (after (MarkCancelled key number refund) (part_of name club)) (part_of name club)
 booking_cancelled name club key number refund true e =
     ap (λ (bookings : List Booking). part_with club (filter (is_named name) club.members) (keys_of name club) bookings)
-    (filter-map (cancelled key number refund) (is_under_one (keys_of name club)) club.bookings)
+    (filter-map (cancelled_booking key number refund) (is_under_one (keys_of name club)) club.bookings)
 booking_cancelled name club key number refund false e =
     ap (λ (bookings : List Booking). part_with club (filter (is_named name) club.members) (keys_of name club) bookings)
-    (filter-map (cancelled key number refund) (is_under_one (keys_of name club)) club.bookings
-    ∙ filter_fixed (is_under_one (keys_of name club)) (cancelled key number refund)
+    (filter-map (cancelled_booking key number refund) (is_under_one (keys_of name club)) club.bookings
+    ∙ filter_fixed (is_under_one (keys_of name club)) (cancelled_booking key number refund)
     (λ booking f. not_cancelled key number refund booking (apart_keys (keys_of name club) booking.key key f e)) club.bookings)
 
 -- a key that is new has a new name

@@ -4,7 +4,7 @@ use Rattle.std.proofs.lemmas.Option.{same_Some}
 use Rattle.club_core.specs.declared.change.Change.{Change}
 use Rattle.club_core.specs.declared.change.Change.TheVariants.{InsertBooking, MarkCancelled}
 use Rattle.club_core.specs.declared.verdict.Verdict.{Verdict}
-use Rattle.club_core.specs.Answer.{answer_of, verdict_in}
+use Rattle.club_core.specs.Answer.{answer_by_basis, verdict_in}
 use Rattle.club_core.specs.Basis.{Basis, basis_of, key_of}
 use Rattle.club_core.specs.Club.{Club}
 use Rattle.club_core.specs.Pass.{Words}
@@ -33,7 +33,7 @@ changes_under club words moment key n =
     })
 
 pub answer_changes_under : (club : Club) (words : Words) (moment : ℕ) (basis : Basis) → basis_of club words ≡ Some basis
-    → IsUnder basis.key.name (answer_of words moment (Some basis)).change
+    → IsUnder basis.key.name (answer_by_basis words moment (Some basis)).change
 answer_changes_under club words moment basis e =
-    subst (λ (b : Option Basis). IsUnder basis.key.name (answer_of words moment b).change) e
+    subst (λ (b : Option Basis). IsUnder basis.key.name (answer_by_basis words moment b).change) e
     (changes_under club words moment basis.key.name (known_rows club words basis e).named)

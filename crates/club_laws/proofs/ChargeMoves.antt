@@ -1,4 +1,4 @@
--- What bookings charged moves with the charges that replies tell.
+-- The sum of the bookings' charges moves with the charges in the replies.
 use Rattle.std.proofs.Common.{◌≡◌, ℕ, Bool, true, false, List, [], ◌∷◌, ◌++◌, map, Some, None, refl, ap, ◌∙◌}
 use Rattle.std.specs.Prelude.{◌||◌, filter, find, sum_by}
 use Rattle.std.specs.List.{list_any}
@@ -11,11 +11,11 @@ use Rattle.club_core.specs.Pass.{Words}
 use Rattle.club_rows.specs.Booking.{refund_at}
 use Rattle.club_core.specs.Club.{Club}
 use Rattle.club_core.specs.Answer.{verdict_in}
-use Rattle.club_core.specs.After.{cancelled}
+use Rattle.club_core.specs.After.{cancelled_booking}
 use Rattle.club_core.specs.declared.event.EventReply.{EventReply}
 use Rattle.club_core.specs.declared.event.EventReply.TheVariants.{Replied}
 use Rattle.club_core.specs.Run.{after_change}
-use Rattle.club_laws.specs.Points.{charge_told}
+use Rattle.club_laws.specs.Points.{charge_of_reply}
 use Rattle.club_laws.proofs.FoundRows.{found_is_there, none_found, any_passes, any-map}
 use Rattle.club_laws.proofs.NamedRows.{is_numbered, self_numbered, numbered_back}
 use Rattle.club_laws.proofs.Filtering.{filter-map}
@@ -34,20 +34,20 @@ has_number bookings key number = list_any (is_numbered key number) bookings
 
 abbrev pub MovesCharge : (List ℕ → Bool) → List Booking → List Booking → EventReply → Type 0
 MovesCharge p bookings new_bookings reply = Moves p (charged p bookings) (charged p new_bookings) (has_number bookings) (has_number new_bookings)
-    (charge_told reply)
+    (charge_of_reply reply)
 
 or_nothing : (b : Bool) → (b || false) ≡ b
 or_nothing true = refl
 or_nothing false = refl
 
-charge_untold : (reply : Reply) → IsSilent reply → charge_told (Replied reply) ≡ []
-charge_untold (SlotShown slot kind price places taken closed) h = refl
-charge_untold (Booked key number charge left) h = absurd h
-charge_untold (Cancelled key number refund) h = refl
-charge_untold (AccountShown member balance quota open_count spent) h = refl
-charge_untold (Refused refusal) h = refl
+no_charge_of_silent : (reply : Reply) → IsSilent reply → charge_of_reply (Replied reply) ≡ []
+no_charge_of_silent (SlotShown slot kind price places taken closed) h = refl
+no_charge_of_silent (Booked key number charge left) h = absurd h
+no_charge_of_silent (Cancelled key number refund) h = refl
+no_charge_of_silent (AccountShown member balance quota open_count spent) h = refl
+no_charge_of_silent (Refused refusal) h = refl
 
-charges_stay : (p : List ℕ → Bool) (bookings : List Booking) (reply : EventReply) → charge_told reply ≡ [] → MovesCharge p bookings bookings reply
+charges_stay : (p : List ℕ → Bool) (bookings : List Booking) (reply : EventReply) → charge_of_reply reply ≡ [] → MovesCharge p bookings bookings reply
 charges_stay p bookings reply e = Stays e refl (λ key number. refl)
 
 charge_again : (p : List ℕ → Bool) (bookings : List Booking) (key : List ℕ) (number : ℕ) (booking : Booking)
@@ -69,19 +69,20 @@ charge_new p bookings new none =
     ∙ (ap (λ b. has_number bookings key number || b) (or_nothing (is_numbered key number new))
     ∙ ap (λ b. has_number bookings key number || b) (numbered_back key number new)))
 
-charge_cancelled : (p : List ℕ → Bool) (bookings : List Booking) (key : List ℕ) (number refund : ℕ) (reply : EventReply) → charge_told reply ≡ []
-    → MovesCharge p bookings (map (cancelled key number refund) bookings) reply
+charge_cancelled : (p : List ℕ → Bool) (bookings : List Booking) (key : List ℕ) (number refund : ℕ) (reply : EventReply) → charge_of_reply reply ≡ []
+    → MovesCharge p bookings (map (cancelled_booking key number refund) bookings) reply
 charge_cancelled p bookings key number refund reply e =
     Stays e
-    (ap (λ (kept : List Booking). sum_by (λ (b : Booking). b.charge) kept) (filter-map (cancelled key number refund) (λ (b : Booking). p b.key) bookings)
-    ∙ sum-map (cancelled key number refund) (λ (b : Booking). b.charge) (filter (λ (b : Booking). p b.key) bookings))
-    (λ k n. any-map (cancelled key number refund) (is_numbered k n) bookings)
+    (ap (λ (kept : List Booking). sum_by (λ (b : Booking). b.charge) kept)
+    (filter-map (cancelled_booking key number refund) (λ (b : Booking). p b.key) bookings)
+    ∙ sum-map (cancelled_booking key number refund) (λ (b : Booking). b.charge) (filter (λ (b : Booking). p b.key) bookings))
+    (λ k n. any-map (cancelled_booking key number refund) (is_numbered k n) bookings)
 
 pub charge_moves : (p : List ℕ → Bool) (club : Club) (words : Words) (moment : ℕ)
     → MovesCharge p club.bookings (after_change (verdict_in club words moment).change club).bookings (Replied (verdict_in club words moment).reply)
 charge_moves p club words moment =
     answer_cases (λ (v : Verdict). MovesCharge p club.bookings (after_change v.change club).bookings (Replied v.reply)) club words moment (record {
-      silent = λ reply h. charges_stay p club.bookings (Replied reply) (charge_untold reply h);
+      silent = λ reply h. charges_stay p club.bookings (Replied reply) (no_charge_of_silent reply h);
       repeats_booking = λ key member slot number guests booking k e b. charge_again p club.bookings key.name number booking b.found;
       books = λ key member slot number guests facility k e b. charge_new p club.bookings (written club key slot number guests facility) b.new;
       cancels_recorded = λ key member slot number booking k e b. charges_stay p club.bookings (Replied (Cancelled booking.key booking.number booking.refund))

@@ -28,7 +28,7 @@ points_of entry = entry.points
 abbrev pub unseen_total : (List ℕ → Bool) → Seen → List Entry → ℕ
 unseen_total p seen entries = sum_by points_of (filter (counts p seen) (firsts entries))
 
--- the entries of a key and number are alike to whoever sees the key and number alone
+-- two entries of the same key and number are equal to a test of key and number
 alike : (seen : Seen) (entry other : Entry) → is_entry_of entry.key entry.number other ≡ true → seen other.key other.number ≡ seen entry.key entry.number
 alike seen entry other e =
     let parts = and_parts (bytes_eq other.key entry.key) (other.number == entry.number) e in
@@ -89,13 +89,14 @@ new_adds_its_points p seen entry entries e =
     same : (other : Entry) → (not (is_entry_of entry.key entry.number other) && counts p seen other) ≡ counts p (with_entry entry seen) other
     same other = go (is_entry_of entry.key entry.number other) (p other.key) (seen other.key other.number) (is_entry_of entry.key entry.number other) refl
 
--- how a total and what is on record move with what a reply tells
-pub data Moves (p : List ℕ → Bool) (total new_total : ℕ) (seen new_seen : Seen) (told : List Entry) : Type 0 where
-  Stays : told ≡ [] → new_total ≡ total → ((key : List ℕ) (number : ℕ) → new_seen key number ≡ seen key number) → Moves p total new_total seen new_seen told
-  Repeats : (entry : Entry) → told ≡ entry ∷ [] → seen entry.key entry.number ≡ true → new_total ≡ total
-      → ((key : List ℕ) (number : ℕ) → new_seen key number ≡ seen key number) → Moves p total new_total seen new_seen told
-  Adds : (entry : Entry) → told ≡ entry ∷ [] → seen entry.key entry.number ≡ false → new_total ≡ total + cond (p entry.key) entry.points 0
-      → ((key : List ℕ) (number : ℕ) → new_seen key number ≡ with_entry entry seen key number) → Moves p total new_total seen new_seen told
+-- how a total and the record move with the entries of a reply
+pub data Moves (p : List ℕ → Bool) (total new_total : ℕ) (seen new_seen : Seen) (returned : List Entry) : Type 0 where
+  Stays : returned ≡ [] → new_total ≡ total → ((key : List ℕ) (number : ℕ) → new_seen key number ≡ seen key number)
+      → Moves p total new_total seen new_seen returned
+  Repeats : (entry : Entry) → returned ≡ entry ∷ [] → seen entry.key entry.number ≡ true → new_total ≡ total
+      → ((key : List ℕ) (number : ℕ) → new_seen key number ≡ seen key number) → Moves p total new_total seen new_seen returned
+  Adds : (entry : Entry) → returned ≡ entry ∷ [] → seen entry.key entry.number ≡ false → new_total ≡ total + cond (p entry.key) entry.points 0
+      → ((key : List ℕ) (number : ℕ) → new_seen key number ≡ with_entry entry seen key number) → Moves p total new_total seen new_seen returned
 
 same_unseen : (p : List ℕ → Bool) (seen new_seen : Seen) (entries : List Entry) → ((key : List ℕ) (number : ℕ) → new_seen key number ≡ seen key number)
     → unseen_total p new_seen entries ≡ unseen_total p seen entries
@@ -103,16 +104,17 @@ same_unseen p seen new_seen entries h =
     ap (λ (kept : List Entry). sum_by points_of kept)
     (filter_agree (counts p new_seen) (counts p seen) (λ entry. ap (λ b. p entry.key && not b) (h entry.key entry.number)) (firsts entries))
 
-pub moved : (p : List ℕ → Bool) (total new_total : ℕ) (seen new_seen : Seen) (told rest : List Entry) (end : ℕ) → Moves p total new_total seen new_seen told
-    → end ≡ new_total + unseen_total p new_seen rest → end ≡ total + unseen_total p seen (told ++ rest)
-moved p total new_total seen new_seen told rest end (Stays none same kept) h =
+pub moved : (p : List ℕ → Bool) (total new_total : ℕ) (seen new_seen : Seen) (returned rest : List Entry) (end : ℕ)
+    → Moves p total new_total seen new_seen returned
+    → end ≡ new_total + unseen_total p new_seen rest → end ≡ total + unseen_total p seen (returned ++ rest)
+moved p total new_total seen new_seen returned rest end (Stays none same kept) h =
     let later = same_unseen p seen new_seen rest kept in
     subst (λ (t : List Entry). end ≡ total + unseen_total p seen (t ++ rest)) (sym none) (omega arith)
-moved p total new_total seen new_seen told rest end (Repeats entry one known same kept) h =
+moved p total new_total seen new_seen returned rest end (Repeats entry one known same kept) h =
     let later = same_unseen p seen new_seen rest kept in
     let first = seen_adds_nothing p seen entry rest known in
     subst (λ (t : List Entry). end ≡ total + unseen_total p seen (t ++ rest)) (sym one) (omega arith)
-moved p total new_total seen new_seen told rest end (Adds entry one new more kept) h =
+moved p total new_total seen new_seen returned rest end (Adds entry one new more kept) h =
     let later = same_unseen p (with_entry entry seen) new_seen rest kept in
     let first = new_adds_its_points p seen entry rest new in
     subst (λ (t : List Entry). end ≡ total + unseen_total p seen (t ++ rest)) (sym one) (omega arith)

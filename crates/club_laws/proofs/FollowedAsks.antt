@@ -5,10 +5,10 @@ use Rattle.club_core.specs.declared.verdict.Verdict.{Verdict}
 use Rattle.club_core.specs.declared.change.Change.{Change}
 use Rattle.club_core.specs.declared.change.Change.TheVariants.{InsertBooking, MarkCancelled}
 use Rattle.club_core.specs.Pass.{Words}
-use Rattle.club_core.specs.Request.{slot_of}
+use Rattle.club_core.specs.Request.{request_slot}
 use Rattle.club_core.specs.Club.{Club, is_key_of}
 use Rattle.club_core.specs.Basis.{Basis, basis_of}
-use Rattle.club_core.specs.Answer.{answer_of}
+use Rattle.club_core.specs.Answer.{answer_by_basis}
 use Rattle.club_core.specs.After.{after}
 use Rattle.club_core.specs.declared.event.EventReply.{EventReply}
 use Rattle.club_core.specs.declared.event.EventReply.TheVariants.{Replied}
@@ -33,7 +33,7 @@ Follows part (OwnAsk words moment others ∷ []) reply next =
     × (next ≡ after_change (solo_verdict part words moment others).change part)
 Follows part own reply next = ⊥
 
--- a change under a key of the member's is made in the part alike, and one under another's key leaves it
+-- a change under a key of the member makes the same change in the part, and one under another's key none
 pub under_own : (name : List ℕ) (club : Club) (key : List ℕ) (change : Option Change) (b : Bool) → HasKnownKeys club → IsUnder key change
     → is_key_of name club key ≡ b → part_of name (after_change change club) ≡ cond b (after_change change (part_of name club)) (part_of name club)
 under_own name club key None true known under e = refl
@@ -48,14 +48,15 @@ under_own name club key (Some change) b known under e = absurd under
 
 -- a request of the member's
 own_follows : (club : Club) (words : Words) (moment : ℕ) (basis : Basis) → IsKeyed club → basis_of club words ≡ Some basis
-    → Follows (part_of basis.member.name club) (OwnAsk words moment (outside basis.member.name club (slot_of words.request)) ∷ [])
-    (Replied (answer_of words moment (Some basis)).reply) (part_of basis.member.name (after_change (answer_of words moment (Some basis)).change club))
+    → Follows (part_of basis.member.name club) (OwnAsk words moment (outside basis.member.name club (request_slot words.request)) ∷ [])
+    (Replied (answer_by_basis words moment (Some basis)).reply)
+    (part_of basis.member.name (after_change (answer_by_basis words moment (Some basis)).change club))
 own_follows club words moment basis keyed e =
     let own = basis.member.name in
-    let same : answer_of words moment (Some basis) ≡ solo_verdict (part_of own club) words moment (outside own club (slot_of words.request)) =
-    ap (λ (b : Option Basis). answer_of words moment b) (sym (own_basis club words basis e))
+    let same : answer_by_basis words moment (Some basis) ≡ solo_verdict (part_of own club) words moment (outside own club (request_slot words.request)) =
+    ap (λ (b : Option Basis). answer_by_basis words moment b) (sym (own_basis club words basis e))
     in
-    let change = (answer_of words moment (Some basis)).change in
+    let change = (answer_by_basis words moment (Some basis)).change in
     let under = answer_changes_under club words moment basis e in (
       ap (λ (v : Verdict). Replied v.reply) same,
       under_own own club basis.key.name change true keyed.known under (is_own_key club words basis.key basis.member (known_rows club words basis e))
@@ -76,19 +77,20 @@ not_own_key name club words basis keyed e other =
     false_from_ne_true (is_key_of name club basis.key.name) differs
 
 asked_follows : (name : List ℕ) (club : Club) (words : Words) (moment : ℕ) (basis : Basis) (b : Bool) → IsKeyed club → basis_of club words ≡ Some basis
-    → bytes_eq basis.member.name name ≡ b → Follows (part_of name club) (cond b (OwnAsk words moment (outside name club (slot_of words.request)) ∷ []) [])
-    (Replied (answer_of words moment (Some basis)).reply) (part_of name (after_change (answer_of words moment (Some basis)).change club))
+    → bytes_eq basis.member.name name ≡ b → Follows (part_of name club) (cond b (OwnAsk words moment (outside name club (request_slot words.request)) ∷ []) [])
+    (Replied (answer_by_basis words moment (Some basis)).reply) (part_of name (after_change (answer_by_basis words moment (Some basis)).change club))
 asked_follows name club words moment basis true keyed e own =
-    let family : List ℕ → Type 0 = λ n. Follows (part_of n club) (OwnAsk words moment (outside n club (slot_of words.request)) ∷ [])
-    (Replied (answer_of words moment (Some basis)).reply) (part_of n (after_change (answer_of words moment (Some basis)).change club)) in
+    let family : List ℕ → Type 0 = λ n. Follows (part_of n club) (OwnAsk words moment (outside n club (request_slot words.request)) ∷ [])
+    (Replied (answer_by_basis words moment (Some basis)).reply) (part_of n (after_change (answer_by_basis words moment (Some basis)).change club)) in
     subst family (bytes_same basis.member.name name own) (own_follows club words moment basis keyed e)
 asked_follows name club words moment basis false keyed e own =
     let under = answer_changes_under club words moment basis e in
-    under_own name club basis.key.name (answer_of words moment (Some basis)).change false keyed.known under (not_own_key name club words basis keyed e own)
+    under_own name club basis.key.name (answer_by_basis words moment (Some basis)).change false keyed.known under
+    (not_own_key name club words basis keyed e own)
 
 pub ask_follows : (name : List ℕ) (club : Club) (words : Words) (moment : ℕ) (basis : Option Basis) → IsKeyed club → basis_of club words ≡ basis
-    → Follows (part_of name club) (own_ask name club words moment basis) (Replied (answer_of words moment basis).reply)
-    (part_of name (after_change (answer_of words moment basis).change club))
+    → Follows (part_of name club) (own_ask name club words moment basis) (Replied (answer_by_basis words moment basis).reply)
+    (part_of name (after_change (answer_by_basis words moment basis).change club))
 ask_follows name club words moment None keyed e =
     ap (λ (v : Verdict). part_of name (after_change v.change club)) (refused_blind words.pass words.request moment)
 ask_follows name club words moment (Some basis) keyed e = asked_follows name club words moment basis (bytes_eq basis.member.name name) keyed e refl

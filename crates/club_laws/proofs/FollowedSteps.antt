@@ -9,11 +9,11 @@ use Rattle.club_core.specs.declared.command.OfficeFault.{OfficeFault}
 use Rattle.club_core.specs.Pass.{Words}
 use Rattle.club_core.specs.Club.{Club}
 use Rattle.club_core.specs.Basis.{Basis, basis_of}
-use Rattle.club_core.specs.Answer.{answer_of}
+use Rattle.club_core.specs.Answer.{answer_by_basis}
 use Rattle.club_core.specs.After.{after}
 use Rattle.club_core.specs.Office.{office_verdict}
 use Rattle.club_core.specs.declared.event.EventReply.{EventReply}
-use Rattle.club_core.specs.Run.{Event, Asked, Ordered, step, after_change, ordered}
+use Rattle.club_core.specs.Run.{Event, Asked, Ordered, step, after_change, order_outcome}
 use Rattle.club_core.specs.Solo.{OwnChange, is_own, own_change, own_part, part_of}
 use Rattle.club_laws.proofs.ChangedParts.{part_changed}
 use Rattle.club_laws.proofs.KnownKeys.{IsKeyed, keyed_after}
@@ -30,10 +30,11 @@ change_follows part next change reply true e = e
 change_follows part next change reply false e = e
 
 order_follows : (name : List ℕ) (club : Club) (command : Command) (verdict : Result Change OfficeFault) → IsKeyed club → IsOfficial club verdict
-    → Follows (part_of name club) (own_change name club verdict) (ordered club command verdict).reply (part_of name (ordered club command verdict).club)
+    → Follows (part_of name club) (own_change name club verdict) (order_outcome club command verdict).reply
+    (part_of name (order_outcome club command verdict).club)
 order_follows name club command (Err fault) keyed h = refl
 order_follows name club command (Ok change) keyed h =
-    change_follows (part_of name club) (part_of name (after change club)) change (ordered club command (Ok change)).reply (is_own name club change)
+    change_follows (part_of name club) (part_of name (after change club)) change (order_outcome club command (Ok change)).reply (is_own name club change)
     (part_changed name club change keyed.known (official_fresh club change h)
     ∙ ap (λ (b : Bool). cond b (after change (part_of name club)) (part_of name club)) (own_of_part name club change h))
 
@@ -53,16 +54,16 @@ keyed_under club key (Some (MarkCancelled other number refund)) known under keye
 keyed_under club key (Some change) known under keyed = absurd under
 
 keyed_asked : (club : Club) (words : Words) (moment : ℕ) (basis : Option Basis) → basis_of club words ≡ basis → IsKeyed club
-    → IsKeyed (after_change (answer_of words moment basis).change club)
+    → IsKeyed (after_change (answer_by_basis words moment basis).change club)
 keyed_asked club words moment None e keyed =
     subst (λ (v : Verdict). IsKeyed (after_change v.change club)) (sym (refused_blind words.pass words.request moment)) keyed
 keyed_asked club words moment (Some basis) e keyed =
-    keyed_under club basis.key.name (answer_of words moment (Some basis)).change
+    keyed_under club basis.key.name (answer_by_basis words moment (Some basis)).change
     (named_there (λ (k : Key). k.name) basis.key.name club.keys basis.key (known_rows club words basis e).known)
     (answer_changes_under club words moment basis e) keyed
 
 keyed_ordered : (club : Club) (command : Command) (verdict : Result Change OfficeFault) → IsOfficial club verdict → IsKeyed club
-    → IsKeyed (ordered club command verdict).club
+    → IsKeyed (order_outcome club command verdict).club
 keyed_ordered club command (Err fault) h keyed = keyed
 keyed_ordered club command (Ok change) h keyed = keyed_after club change (official_fresh club change h) (official_known club change h) keyed
 

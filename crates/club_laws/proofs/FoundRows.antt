@@ -1,4 +1,4 @@
--- What `find` finds, and lists whose elements a test tells apart.
+-- What `find` finds, and lists whose elements a test distinguishes.
 use Rattle.std.proofs.Common.{◌≡◌, ℕ, zero, suc, ◌<◌, Bool, true, false, cond, ◌&&◌, ◌||◌, List, [], ◌∷◌, ◌++◌, length, get_or, map, Some, None, refl, ap, ◌∙◌}
 use Rattle.std.proofs.Common.{subst, arith}
 use Rattle.std.specs.Prelude.{All, AllPairs, Contains, find, filter}

@@ -8,7 +8,7 @@ use Rattle.club_core.specs.Answer.{verdict_in}
 use Rattle.club_core.specs.After.{after}
 use Rattle.club_core.specs.Office.{office_verdict}
 use Rattle.club_core.specs.declared.event.EventReply.{EventReply}
-use Rattle.club_core.specs.Run.{Event, Asked, Ordered, step, after_change, ordered, replies_of, club_after}
+use Rattle.club_core.specs.Run.{Event, Asked, Ordered, step, after_change, order_outcome, replies_of, club_after}
 
 module _ (P : Club → Type 0) (kept : (club : Club) (change : Change) → P club → P (after change club)) where
   kept_by_change : (club : Club) (change : Option Change) → P club → P (after_change change club)
@@ -19,7 +19,7 @@ module _ (P : Club → Type 0) (kept : (club : Club) (change : Change) → P clu
   kept_by_step club (Asked words moment) h = kept_by_change club (verdict_in club words moment).change h
   kept_by_step club (Ordered command) h = go (office_verdict club command)
     where
-      go : (verdict : Result Change OfficeFault) → P (ordered club command verdict).club
+      go : (verdict : Result Change OfficeFault) → P (order_outcome club command verdict).club
       go (Err fault) = h
       go (Ok change) = kept club change h
 

@@ -11,7 +11,7 @@ use Rattle.club_rows.specs.declared.booking.Booking.{Booking}
 use Rattle.club_core.specs.declared.change.Change.{Change}
 use Rattle.club_core.specs.declared.change.Change.TheVariants.{InsertKey, MarkRevoked, ReplaceRoot, InsertBooking, MarkCancelled}
 use Rattle.club_core.specs.Club.{Club, IsSound}
-use Rattle.club_core.specs.After.{after, revoked, rotated, cancelled}
+use Rattle.club_core.specs.After.{after, revoked_key, rotated_key, cancelled_booking}
 use Rattle.club_laws.proofs.FoundRows.{other_bytes, AllPairs-map}
 use Rattle.club_laws.proofs.KeyOwners.{edited}
 use Rattle.club_laws.proofs.NamedRows.{none_named, still_there}
@@ -45,16 +45,16 @@ keyed_after club (InsertKey key) fresh known keyed = record {
       (none_named (λ (k : Key). k.name) key.name club.keys fresh);
   known = λ k d short. still_there (λ (other : Key). other.name) club.keys key _ (keyed.known k d short);
 }
-keyed_after club (MarkRevoked name) fresh known keyed = keyed_edited (λ key. key.root) (λ key. key.older) (λ key. (revoked name key).revoked) club keyed
+keyed_after club (MarkRevoked name) fresh known keyed = keyed_edited (λ key. key.root) (λ key. key.older) (λ key. (revoked_key name key).revoked) club keyed
 keyed_after club (ReplaceRoot name root until) fresh known keyed =
-    keyed_edited (λ key. (rotated name root until key).root) (λ key. (rotated name root until key).older) (λ key. key.revoked) club keyed
+    keyed_edited (λ key. (rotated_key name root until key).root) (λ key. (rotated_key name root until key).older) (λ key. key.revoked) club keyed
 keyed_after club (InsertBooking booking) fresh known keyed = record {
   unique = keyed.unique;
   known = All-push (λ (b : Booking). Contains (map (λ (k : Key). k.name) club.keys) b.key) club.bookings booking keyed.known known;
 }
 keyed_after club (MarkCancelled key number refund) fresh known keyed = record {
   unique = keyed.unique;
-  known = All-map (λ (b : Booking). Contains (map (λ (k : Key). k.name) club.keys) b.key) (cancelled key number refund) club.bookings keyed.known;
+  known = All-map (λ (b : Booking). Contains (map (λ (k : Key). k.name) club.keys) b.key) (cancelled_booking key number refund) club.bookings keyed.known;
 }
 keyed_after club change fresh known keyed = record { unique = keyed.unique; known = keyed.known }
 

@@ -32,4 +32,4 @@ pub mod OfficialChanges
 pub mod FollowedSteps
 pub mod FailedEvents
 pub mod SoloRuns
-pub mod RunsAsTold
+pub mod FailureLemmas

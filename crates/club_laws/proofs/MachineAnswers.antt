@@ -13,7 +13,7 @@ use Rattle.club_core.specs.Answer.{verdict_in}
 use Rattle.club_core.specs.Club.{Club}
 use Rattle.club_core.specs.Office.{office_verdict}
 use Rattle.club_core.specs.Pass.{Words}
-use Rattle.club_core.specs.Run.{Event, Asked, Ordered, step, ordered}
+use Rattle.club_core.specs.Run.{Event, Asked, Ordered, step, order_outcome}
 use Rattle.club_laws.specs.Failed.{is_unavailable}
 use Rattle.club_laws.proofs.AnswerCases.{IsSilent, answer_cases}
 
@@ -36,7 +36,8 @@ other_reply reply answers e =
     let same : reply ≡ Refused Unavailable = cc in
     both_ways (is_unavailable reply) answers (ap is_unavailable same)
 
-no_request : (club : Club) (command : Command) (verdict : Result Change OfficeFault) → (ordered club command verdict).reply ≢ Replied (Refused Unavailable)
+no_request : (club : Club) (command : Command) (verdict : Result Change OfficeFault)
+    → (order_outcome club command verdict).reply ≢ Replied (Refused Unavailable)
 no_request club command (Ok change) e = absurd (cc)
 no_request club command (Err fault) e = absurd (cc)
 

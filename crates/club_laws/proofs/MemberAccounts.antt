@@ -1,4 +1,4 @@
--- A member's keys and credit, as a run's events and replies tell them.
+-- A member's keys and credit, computed from a run's events and replies.
 use Rattle.std.proofs.Common.{◌≡◌, ℕ, ◌+◌, Bool, true, false, cond, List, [], ◌∷◌, map, Option, Some, None, refl, sym, ap, ◌∙◌, subst, arith}
 use Rattle.std.specs.Prelude.{Result, ◌&&◌, ◌||◌, find, is_some}
 use Rattle.std.specs.Str.{bytes_eq}
@@ -15,9 +15,9 @@ use Rattle.club_core.specs.declared.command.OfficeFault.{OfficeFault}
 use Rattle.club_core.specs.Pass.{Words}
 use Rattle.club_core.specs.Club.{Club, member_named, is_key_of}
 use Rattle.club_core.specs.Answer.{verdict_in}
-use Rattle.club_core.specs.After.{credited, revoked, rotated}
+use Rattle.club_core.specs.After.{credited_member, revoked_key, rotated_key}
 use Rattle.club_core.specs.Office.{office_verdict}
-use Rattle.club_core.specs.Run.{Event, Asked, Ordered, step, after_change, ordered, replies_of, club_after}
+use Rattle.club_core.specs.Run.{Event, Asked, Ordered, step, after_change, order_outcome, replies_of, club_after}
 use Rattle.club_laws.specs.Points.{key_given, keys_given, credit_accepted, credits_accepted}
 use Rattle.club_laws.proofs.FoundRows.{bytes_same, same_bytes}
 use Rattle.club_laws.proofs.NamedRows.{tests_same}
@@ -25,7 +25,7 @@ use Rattle.club_laws.proofs.KeyOwners.{is_key_of-added, is_key_of-edited}
 use Rattle.club_laws.proofs.AnswerCases.{answer_cases}
 use Rattle.club_laws.proofs.OrderCases.{order_cases}
 
--- requests change bookings alone
+-- requests change only bookings
 pub record KeepsPeople (club new : Club) : Type 0 where
   pub keys : new.keys ≡ club.keys
   pub members : new.members ≡ club.members
@@ -51,8 +51,8 @@ module _ (member : List ℕ) where
   -- after the order, the member's keys are those before and the one that was given
   abbrev GivesKey : Club → List ℕ → Command → Result Change OfficeFault → Type 0
   GivesKey club key command verdict =
-      is_key_of member (ordered club command verdict).club key ≡ (is_key_of member club key
-      || is_among (key_given member (Ordered command) (ordered club command verdict).reply) key)
+      is_key_of member (order_outcome club command verdict).club key ≡ (is_key_of member club key
+      || is_among (key_given member (Ordered command) (order_outcome club command verdict).reply) key)
 
   gives_key : (club : Club) (key : List ℕ) (command : Command) → GivesKey club key command (office_verdict club command)
   gives_key club key (AddKey name owner root) =
@@ -65,10 +65,10 @@ module _ (member : List ℕ) where
       go false = refl
   gives_key club key (RevokeKey name) = order_cases (GivesKey club key (RevokeKey name)) club (λ fault.
       or_nothing (is_key_of member club key)) (RevokeKey name) (λ k. is_key_of-edited (λ row. row.root) (λ row. row.older) (λ row.
-      (revoked name row).revoked) member club key ∙ or_nothing (is_key_of member club key))
+      (revoked_key name row).revoked) member club key ∙ or_nothing (is_key_of member club key))
   gives_key club key (RotateKey name root until) = order_cases (GivesKey club key (RotateKey name root until)) club (λ fault.
       or_nothing (is_key_of member club key)) (RotateKey name root until) (λ k.
-      is_key_of-edited (λ row. (rotated name root until row).root) (λ row. (rotated name root until row).older) (λ row. row.revoked) member club key
+      is_key_of-edited (λ row. (rotated_key name root until row).root) (λ row. (rotated_key name root until row).older) (λ row. row.revoked) member club key
       ∙ or_nothing (is_key_of member club key))
   gives_key club key command = order_cases (GivesKey club key command) club (λ fault. or_nothing (is_key_of member club key)) command (λ k.
       or_nothing (is_key_of member club key))
@@ -105,7 +105,7 @@ credit_of (Some member) = member.credited
 
 credit_grown : (name other : List ℕ) (points : ℕ) (members : List Member)
     → (bytes_eq other name ≡ true → is_some (find (λ (m : Member). bytes_eq m.name name) members) ≡ true)
-    → credit_of (find (λ (m : Member). bytes_eq m.name name) (map (credited other points) members))
+    → credit_of (find (λ (m : Member). bytes_eq m.name name) (map (credited_member other points) members))
     ≡ credit_of (find (λ (m : Member). bytes_eq m.name name) members) + cond (bytes_eq other name) points 0
 credit_grown name other points [] known = go (bytes_eq other name) known
   where
@@ -130,9 +130,9 @@ credit_grown name other points (m ∷ members) known = go (bytes_eq m.name name)
     go : (b : Bool) → bytes_eq m.name name ≡ b → (bytes_eq other name ≡ true
         → is_some (cond b (Some m) (find (λ (x : Member). bytes_eq x.name name) members)) ≡ true)
         → ((bytes_eq other name ≡ true → is_some (find (λ (x : Member). bytes_eq x.name name) members) ≡ true)
-        → credit_of (find (λ (x : Member). bytes_eq x.name name) (map (credited other points) members))
+        → credit_of (find (λ (x : Member). bytes_eq x.name name) (map (credited_member other points) members))
         ≡ credit_of (find (λ (x : Member). bytes_eq x.name name) members) + cond (bytes_eq other name) points 0)
-        → credit_of (cond b (Some (credited other points m)) (find (λ (x : Member). bytes_eq x.name name) (map (credited other points) members)))
+        → credit_of (cond b (Some (credited_member other points m)) (find (λ (x : Member). bytes_eq x.name name) (map (credited_member other points) members)))
         ≡ credit_of (cond b (Some m) (find (λ (x : Member). bytes_eq x.name name) members)) + cond (bytes_eq other name) points 0
     go true e k rest = grown (bytes_eq m.name other) (bytes_eq other name) (same e)
     go false e k rest = rest k
@@ -140,8 +140,8 @@ credit_grown name other points (m ∷ members) known = go (bytes_eq m.name name)
 module _ (name : List ℕ) where
   abbrev Credits : Club → Command → Result Change OfficeFault → Type 0
   Credits club command verdict =
-      credit_of (member_named name (ordered club command verdict).club) ≡ credit_of (member_named name club) + credit_accepted name (Ordered command)
-      (ordered club command verdict).reply
+      credit_of (member_named name (order_outcome club command verdict).club) ≡ credit_of (member_named name club) + credit_accepted name (Ordered command)
+      (order_outcome club command verdict).reply
 
   as_before : (club : Club) → credit_of (member_named name club) ≡ credit_of (member_named name club) + 0
   as_before club = omega arith

@@ -1,4 +1,4 @@
--- Rows found by their names, and slots told apart.
+-- Rows found by their names, and slots that differ.
 use Rattle.std.proofs.Common.{◌≡◌, ◌≢◌, ℕ, Bool, true, false, List, [], ◌∷◌, ◌++◌, map, Option, Some, None, refl, sym, ◌∙◌, subst}
 use Rattle.std.specs.Prelude.{All, AllPairs, Contains, ◌&&◌, ◌==◌, find, is_some}
 use Rattle.std.specs.Str.{bytes_eq}

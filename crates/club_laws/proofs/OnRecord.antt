@@ -19,7 +19,7 @@ use Rattle.club_core.specs.Pass.{Words}
 use Rattle.club_core.specs.Club.{Club}
 use Rattle.club_core.specs.Basis.{key_of}
 use Rattle.club_core.specs.Answer.{verdict_in}
-use Rattle.club_core.specs.After.{after, cancelled, is_marked}
+use Rattle.club_core.specs.After.{after, cancelled_booking, is_marked}
 use Rattle.club_core.specs.Run.{Event, after_change, club_after}
 use Rattle.club_laws.specs.Repeats.{IsBookedOrCancelled}
 use Rattle.club_laws.proofs.FoundRows.{found_before, found_last, found_edited, same_bytes}
@@ -31,16 +31,16 @@ pub record HasBooked (bookings : List Booking) (key : List ℕ) (slot : Slot) (n
   pub booking : Booking
   pub found : booking_under key number bookings ≡ Some booking
   pub same : (same_slot booking.slot slot && booking.guests == guests) ≡ true
-  pub told : reply ≡ Booked booking.key booking.number booking.charge booking.left
+  pub returned : reply ≡ Booked booking.key booking.number booking.charge booking.left
 
 pub record HasCancelled (bookings : List Booking) (key : List ℕ) (slot : Slot) (number : ℕ) (reply : Reply) : Type 0 where
   pub booking : Booking
   pub found : booking_under key number bookings ≡ Some booking
   pub same : same_slot booking.slot slot ≡ true
   pub before : booking.cancelled ≡ true
-  pub told : reply ≡ Cancelled booking.key booking.number booking.refund
+  pub returned : reply ≡ Cancelled booking.key booking.number booking.refund
 
--- the request of this key is on record, with the reply that it was told
+-- the request of this key is on record, with the reply that it got
 abbrev pub OnRecord : List Booking → List ℕ → Request → Reply → Type 0
 OnRecord bookings key (asked.View slot) reply = ⊥
 OnRecord bookings key (asked.Book slot number guests) reply = HasBooked bookings key slot number guests reply
@@ -52,38 +52,38 @@ stays_behind : (bookings : List Booking) (new : Booking) (key : List ℕ) (reque
     → OnRecord (bookings ++ new ∷ []) key request reply
 stays_behind bookings new key (asked.View slot) reply h = h
 stays_behind bookings new key (asked.Book slot number guests) reply h =
-    record { booking = h.booking; found = found_before (is_numbered key number) bookings (new ∷ []) h.booking h.found; same = h.same; told = h.told }
+    record { booking = h.booking; found = found_before (is_numbered key number) bookings (new ∷ []) h.booking h.found; same = h.same; returned = h.returned }
 stays_behind bookings new key (asked.Cancel slot number) reply h =
     record {
       booking = h.booking;
       found = found_before (is_numbered key number) bookings (new ∷ []) h.booking h.found;
       same = h.same;
       before = h.before;
-      told =
-          h.told;
+      returned =
+          h.returned;
     }
 stays_behind bookings new key asked.Account reply h = h
 
--- nor does a cancellation, which leaves alone what was cancelled
+-- nor does a cancellation, which doesn't change what was cancelled before
 stays_marked : (bookings : List Booking) (name : List ℕ) (n refund : ℕ) (key : List ℕ) (request : Request) (reply : Reply) → OnRecord bookings key request reply
-    → OnRecord (map (cancelled name n refund) bookings) key request reply
+    → OnRecord (map (cancelled_booking name n refund) bookings) key request reply
 stays_marked bookings name n refund key (asked.View slot) reply h = h
 stays_marked bookings name n refund key (asked.Book slot number guests) reply h =
     record {
-      booking = cancelled name n refund h.booking;
-      found = found_edited (cancelled name n refund) (is_numbered key number) (λ b. refl) bookings h.booking h.found;
+      booking = cancelled_booking name n refund h.booking;
+      found = found_edited (cancelled_booking name n refund) (is_numbered key number) (λ b. refl) bookings h.booking h.found;
       same = h.same;
-      told = h.told;
+      returned = h.returned;
     }
 stays_marked bookings name n refund key (asked.Cancel slot number) reply h =
     let unmarked : is_marked name n h.booking ≡ false = and_right (is_numbered name n h.booking) (not h.booking.cancelled)
     (not_from_true h.booking.cancelled h.before) in
     record {
-      booking = cancelled name n refund h.booking;
-      found = found_edited (cancelled name n refund) (is_numbered key number) (λ b. refl) bookings h.booking h.found;
+      booking = cancelled_booking name n refund h.booking;
+      found = found_edited (cancelled_booking name n refund) (is_numbered key number) (λ b. refl) bookings h.booking h.found;
       same = h.same;
       before = or_left h.booking.cancelled (is_marked name n h.booking) h.before;
-      told = h.told ∙ ap (λ (b : Bool). Cancelled h.booking.key h.booking.number (cond b refund h.booking.refund)) (sym unmarked);
+      returned = h.returned ∙ ap (λ (b : Bool). Cancelled h.booking.key h.booking.number (cond b refund h.booking.refund)) (sym unmarked);
     }
 stays_marked bookings name n refund key asked.Account reply h = h
 
@@ -132,20 +132,21 @@ module _ (club : Club) (words : Words) (moment : ℕ) where
         found = found_last (is_numbered key.name number) club.bookings new none
             (rw e (and_from (bytes_eq key.name key.name) (number == number) (same_bytes key.name) (eq-eqb number number refl)));
         same = rw e (and_from (same_slot slot slot) (guests == guests) (same_slots slot) (eq-eqb guests guests refl));
-        told = refl;
+        returned = refl;
       }
 
   now_cancelled : (key : Key) (slot : Slot) (number : ℕ) (booking : Booking) (refund : ℕ) → Cancels club key slot number booking
-      → HasCancelled (map (cancelled booking.key booking.number refund) club.bookings) key.name slot number (Cancelled booking.key booking.number refund)
+      → HasCancelled (map (cancelled_booking booking.key booking.number refund) club.bookings) key.name slot number
+      (Cancelled booking.key booking.number refund)
   now_cancelled key slot number booking refund c =
       let marked : is_marked booking.key booking.number booking ≡ true = and_from (is_numbered booking.key booking.number booking) (not booking.cancelled)
-      (self_numbered booking) (not_from_false booking.cancelled c.stood) in
+      (self_numbered booking) (not_from_false booking.cancelled c.still_booked) in
       record {
-        booking = cancelled booking.key booking.number refund booking;
-        found = found_edited (cancelled booking.key booking.number refund) (is_numbered key.name number) (λ b. refl) club.bookings booking c.found;
+        booking = cancelled_booking booking.key booking.number refund booking;
+        found = found_edited (cancelled_booking booking.key booking.number refund) (is_numbered key.name number) (λ b. refl) club.bookings booking c.found;
         same = c.same;
         before = or_right booking.cancelled (is_marked booking.key booking.number booking) marked;
-        told = ap (λ (b : Bool). Cancelled booking.key booking.number (cond b refund booking.refund)) (sym marked);
+        returned = ap (λ (b : Bool). Cancelled booking.key booking.number (cond b refund booking.refund)) (sym marked);
       }
 
   pub recorded_when_served : IsBookedOrCancelled (verdict_in club words moment).reply
@@ -159,7 +160,7 @@ module _ (club : Club) (words : Words) (moment : ℕ) where
                   booking;
               found = b.found;
               same = b.same;
-              told = refl;
+              returned = refl;
             });
         books = λ key member slot number guests facility k e b s.
             let new : Booking = written club key slot number guests facility in
@@ -172,10 +173,10 @@ module _ (club : Club) (words : Words) (moment : ℕ) where
                   b.found;
               same = b.same;
               before = b.before;
-              told = refl;
+              returned = refl;
             });
         cancels = λ key member slot number booking k e c s.
-            as_cancelled key.name slot number (map (cancelled booking.key booking.number (refund_at booking moment)) club.bookings)
+            as_cancelled key.name slot number (map (cancelled_booking booking.key booking.number (refund_at booking moment)) club.bookings)
             (Cancelled booking.key booking.number (refund_at booking moment)) k.named e
             (now_cancelled key slot number booking (refund_at booking moment) c);
       })

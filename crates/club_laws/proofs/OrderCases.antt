@@ -13,7 +13,7 @@ use Rattle.club_core.specs.declared.command.Command.{Command}
 use Rattle.club_core.specs.declared.command.Command.TheVariants.{AddMember, Credit, AddFacility, AddKey, RevokeKey, RotateKey, CloseSlot}
 use Rattle.club_core.specs.declared.command.OfficeFault.{OfficeFault}
 use Rattle.club_core.specs.declared.command.OfficeFault.TheVariants.{Exists, Unknown, OutOfRange, SlotInUse}
-use Rattle.club_core.specs.Lines.{line}
+use Rattle.club_core.specs.Lines.{line_if}
 use Rattle.club_core.specs.Club.{Club, member_named, facility_named, key_named, is_closed}
 use Rattle.club_core.specs.Sums.{taken_in}
 use Rattle.club_rows.specs.Facility.{is_open_at}
@@ -54,45 +54,45 @@ module _ (P : Result Change OfficeFault → Type 0) (club : Club) (fails : (faul
       → (OrderRestsOn club (Credit name points) → P (Ok (AddCredit name points))) → P (credit_verdict name points o)
   credit_cases name points None e done = fails Unknown
   credit_cases name points (Some member) e done =
-      first_of_cases P (line (nat_lt 999_999_999 (member.credited + points)) (Err OutOfRange) ∷ []) (Ok (AddCredit name points)) (fails OutOfRange, tt)
+      first_of_cases P (line_if (nat_lt 999_999_999 (member.credited + points)) (Err OutOfRange) ∷ []) (Ok (AddCredit name points)) (fails OutOfRange, tt)
       (λ none. done (member, e, ltb-false 999_999_999 (member.credited + points) none.0))
 
   rotate_cases : (name root : List ℕ) (until : ℕ) (o : Option Key) → key_named name club ≡ o
       → (OrderRestsOn club (RotateKey name root until) → P (Ok (ReplaceRoot name root until))) → P (rotate_verdict name root until o)
   rotate_cases name root until None e done = fails Unknown
   rotate_cases name root until (Some key) e done =
-      first_of_cases P (line (bytes_eq key.root root) (Err Exists) ∷ []) (Ok (ReplaceRoot name root until)) (fails Exists, tt) (λ none. done (key, e))
+      first_of_cases P (line_if (bytes_eq key.root root) (Err Exists) ∷ []) (Ok (ReplaceRoot name root until)) (fails Exists, tt) (λ none. done (key, e))
 
   close_cases : (slot : Slot) (o : Option Facility) → facility_named slot.facility club ≡ o → (OrderRestsOn club (CloseSlot slot) → P (Ok (MarkClosed slot)))
       → P (close_verdict (slot_use club slot) slot o)
   close_cases slot None e done = fails Unknown
   close_cases slot (Some facility) e done =
       first_of_cases P
-      (line (not (is_open_at facility slot.hour)) (Err OutOfRange) ∷ line (is_closed slot club) (Err Exists)
-      ∷ line (nat_lt 0 (taken_in slot club.bookings)) (Err SlotInUse) ∷ [])
+      (line_if (not (is_open_at facility slot.hour)) (Err OutOfRange) ∷ line_if (is_closed slot club) (Err Exists)
+      ∷ line_if (nat_lt 0 (taken_in slot club.bookings)) (Err SlotInUse) ∷ [])
       (Ok (MarkClosed slot)) (fails OutOfRange, (fails Exists, (fails SlotInUse, tt))) (λ none. done (facility, e, none.1.0))
 
   pub order_cases : (command : Command) → (OrderRestsOn club command → P (Ok (change_of command))) → P (office_verdict club command)
   order_cases (AddMember name quota) done =
-      first_of_cases P (line (nat_lt 99 quota) (Err OutOfRange) ∷ line (is_some (member_named name club)) (Err Exists) ∷ [])
+      first_of_cases P (line_if (nat_lt 99 quota) (Err OutOfRange) ∷ line_if (is_some (member_named name club)) (Err Exists) ∷ [])
       (Ok (change_of (AddMember name quota))) (fails OutOfRange, (fails Exists, tt))
       (λ none. done (ltb-false 99 quota none.0, none_there (member_named name club) none.1.0))
   order_cases (Credit name points) done =
-      first_of_cases P (line (points == 0 || nat_lt 1_000_000 points) (Err OutOfRange) ∷ []) (credit_verdict name points (member_named name club))
+      first_of_cases P (line_if (points == 0 || nat_lt 1_000_000 points) (Err OutOfRange) ∷ []) (credit_verdict name points (member_named name club))
       (fails OutOfRange, tt)
       (λ none. credit_cases name points (member_named name club) refl done)
   order_cases (AddFacility name kind places price opens shuts) done =
-      first_of_cases P (line (not (are_limits places price opens shuts)) (Err OutOfRange) ∷ line (is_some (facility_named name club)) (Err Exists) ∷ [])
+      first_of_cases P (line_if (not (are_limits places price opens shuts)) (Err OutOfRange) ∷ line_if (is_some (facility_named name club)) (Err Exists) ∷ [])
       (Ok (change_of (AddFacility name kind places price opens shuts))) (fails OutOfRange, (fails Exists, tt))
       (λ none. done (not-false (are_limits places price opens shuts) none.0, none_there (facility_named name club) none.1.0))
   order_cases (AddKey name member root) done =
-      first_of_cases P (line (not (is_some (member_named member club))) (Err Unknown) ∷ line (is_some (key_named name club)) (Err Exists) ∷ [])
+      first_of_cases P (line_if (not (is_some (member_named member club))) (Err Unknown) ∷ line_if (is_some (key_named name club)) (Err Exists) ∷ [])
       (Ok (change_of (AddKey name member root))) (fails Unknown, (fails Exists, tt))
       (λ none.
       let owner = some_there (member_named member club) (not-false (is_some (member_named member club)) none.0) in
       done (owner.0, owner.1, none_there (key_named name club) none.1.0))
   order_cases (RevokeKey name) done =
-      first_of_cases P (line (not (is_some (key_named name club))) (Err Unknown) ∷ []) (Ok (MarkRevoked name)) (fails Unknown, tt)
+      first_of_cases P (line_if (not (is_some (key_named name club))) (Err Unknown) ∷ []) (Ok (MarkRevoked name)) (fails Unknown, tt)
       (λ none. done (some_there (key_named name club) (not-false (is_some (key_named name club)) none.0)))
   order_cases (RotateKey name root until) done = rotate_cases name root until (key_named name club) refl done
   order_cases (CloseSlot slot) done = close_cases slot (facility_named slot.facility club) refl done

@@ -8,7 +8,7 @@ use Rattle.club_rows.specs.declared.booking.Booking.{Booking}
 use Rattle.club_core.specs.declared.request.Request.{Request}
 use Rattle.club_rows.specs.Booking.{persons_of}
 use Rattle.club_core.specs.Sums.{is_in}
-use Rattle.club_core.specs.Request.{slot_of}
+use Rattle.club_core.specs.Request.{request_slot}
 use Rattle.club_core.specs.Pass.{Words}
 use Rattle.club_core.specs.Club.{Club, key_named, member_named, facility_named, keys_of, is_key_of, bookings_of, is_closed}
 use Rattle.club_core.specs.Basis.{Basis, SlotState, basis_of, basis_under, state_of, key_of}
@@ -44,11 +44,12 @@ own_state name club (Some slot) =
 
 -- the basis in the part, with what others hold, is the basis in the club
 own_basis_with : (club : Club) (request : Request) (key : Key) (member : Member)
-    → with_others (outside member.name club (slot_of request)) (basis_with (part_of member.name club) request key member) ≡ basis_with club request key member
+    → with_others (outside member.name club (request_slot request)) (basis_with (part_of member.name club) request key member)
+    ≡ basis_with club request key member
 own_basis_with club request key member =
-    ap (λ (bookings : List Booking). basis_of_rows key member bookings (with_outside (outside member.name club (slot_of request))
-    (state_of (part_of member.name club) (slot_of request)))) (own_bookings member.name club)
-    ∙ ap (λ (state : SlotState). basis_of_rows key member (bookings_of member.name club) state) (own_state member.name club (slot_of request))
+    ap (λ (bookings : List Booking). basis_of_rows key member bookings (with_outside (outside member.name club (request_slot request))
+    (state_of (part_of member.name club) (request_slot request)))) (own_bookings member.name club)
+    ∙ ap (λ (state : SlotState). basis_of_rows key member (bookings_of member.name club) state) (own_state member.name club (request_slot request))
 
 -- the rows of a member's key are in the member's part
 rests_in_part : (club : Club) (request : Request) (name : Option (List ℕ)) (basis : Basis) → RestsOn club request name basis
@@ -73,9 +74,9 @@ rests_in_part club request name basis rests =
 
 -- so the member's part gives the basis of a request of the member's
 pub own_basis : (club : Club) (words : Words) (basis : Basis) → basis_of club words ≡ Some basis
-    → option_map (with_others (outside basis.member.name club (slot_of words.request))) (basis_of (part_of basis.member.name club) words) ≡ Some basis
+    → option_map (with_others (outside basis.member.name club (request_slot words.request))) (basis_of (part_of basis.member.name club) words) ≡ Some basis
 own_basis club words basis e =
     let rests = rests_on_name club words basis e in
-    let others = outside basis.member.name club (slot_of words.request) in
+    let others = outside basis.member.name club (request_slot words.request) in
     ap (λ (b : Option Basis). option_map (with_others others) b) (rests_in_part club words.request (key_of words.pass) basis rests)
     ∙ ap Some (own_basis_with club words.request basis.key basis.member ∙ sym rests.whole)

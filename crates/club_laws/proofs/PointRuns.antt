@@ -16,9 +16,10 @@ use Rattle.club_rows.specs.Rows.{IsBooking}
 use Rattle.club_core.specs.Club.{Club, empty_club, member_named, facility_named, is_key_of, bookings_of, IsSound}
 use Rattle.club_core.specs.Sums.{cost_of, taken_in}
 use Rattle.club_core.specs.Office.{office_verdict}
-use Rattle.club_core.specs.Run.{Event, Asked, Ordered, step, ordered, replies_of, club_after}
+use Rattle.club_core.specs.Run.{Event, Asked, Ordered, step, order_outcome, replies_of, club_after}
 use Rattle.club_core.specs.Events.{IsEvent}
-use Rattle.club_laws.specs.Points.{Entry, charge_told, charges_told, refund_told, refunds_told, keys_given, credits_accepted, total_under, firsts}
+use Rattle.club_laws.specs.Points.{Entry, charge_of_reply, charges_of_replies, refund_of_reply, refunds_of_replies, keys_given, credits_accepted, total_under}
+use Rattle.club_laws.specs.Points.{firsts}
 use Rattle.club_laws.specs.Conservation.{IsConserved}
 use Rattle.club_laws.proofs.FoundRows.{at_found}
 use Rattle.club_laws.proofs.NamedRows.{named, none_named}
@@ -30,11 +31,11 @@ use Rattle.club_laws.proofs.ChargeMoves.{charged, has_number, MovesCharge, charg
 use Rattle.club_laws.proofs.RefundMoves.{refunded, has_cancelled, MovesRefund, refund_moves}
 use Rattle.club_laws.proofs.MemberAccounts.{is_among, keys_of_run, credit_of, credit_of_run}
 
--- orders of the office leave the bookings as they are, and tell no points
+-- orders of the office don't change the bookings, and their answers have no points
 pub record KeepsPoints (club : Club) (command : Command) (verdict : Result Change OfficeFault) : Type 0 where
-  pub bookings : (ordered club command verdict).club.bookings ≡ club.bookings
-  pub no_charge : charge_told (ordered club command verdict).reply ≡ []
-  pub no_refund : refund_told (ordered club command verdict).reply ≡ []
+  pub bookings : (order_outcome club command verdict).club.bookings ≡ club.bookings
+  pub no_charge : charge_of_reply (order_outcome club command verdict).reply ≡ []
+  pub no_refund : refund_of_reply (order_outcome club command verdict).reply ≡ []
 
 order_keeps : (club : Club) (command : Command) → KeepsPoints club command (office_verdict club command)
 order_keeps club command = order_cases (KeepsPoints club command) club (λ fault. record { bookings = refl; no_charge = refl; no_refund = refl }) command (λ k.
@@ -57,24 +58,24 @@ module _ (p : List ℕ → Bool) where
       let k = order_keeps club command in
       Stays k.no_refund (ap (refunded p) k.bookings) (λ key number. ap (λ (bookings : List Booking). has_cancelled bookings key number) k.bookings)
 
-  -- over a run, what was charged grows by the first charges told of what was not on record
+  -- over a run, the sum of charges grows by the first charge of each booking that was not on record
   run_charges : (club : Club) (events : List Event) → charged p (club_after club events).bookings
-      ≡ charged p club.bookings + unseen_total p (has_number club.bookings) (charges_told (replies_of club events))
+      ≡ charged p club.bookings + unseen_total p (has_number club.bookings) (charges_of_replies (replies_of club events))
   run_charges club [] = omega arith
   run_charges club (event ∷ events) =
       let next = step club event in
-      moved p (charged p club.bookings) (charged p next.club.bookings) (has_number club.bookings) (has_number next.club.bookings) (charge_told next.reply)
-      (charges_told (replies_of next.club events)) (charged p (club_after next.club events).bookings)
+      moved p (charged p club.bookings) (charged p next.club.bookings) (has_number club.bookings) (has_number next.club.bookings) (charge_of_reply next.reply)
+      (charges_of_replies (replies_of next.club events)) (charged p (club_after next.club events).bookings)
       (step_charges club event) (run_charges next.club events)
 
   run_refunds : (club : Club) (events : List Event) → IsSound club → All IsEvent events
       → refunded p (club_after club events).bookings ≡ refunded p club.bookings + unseen_total p (has_cancelled club.bookings)
-      (refunds_told (replies_of club events))
+      (refunds_of_replies (replies_of club events))
   run_refunds club [] s h = omega arith
   run_refunds club (event ∷ events) s h =
       let next = step club event in
       moved p (refunded p club.bookings) (refunded p next.club.bookings) (has_cancelled club.bookings) (has_cancelled next.club.bookings)
-      (refund_told next.reply) (refunds_told (replies_of next.club events)) (refunded p (club_after next.club events).bookings)
+      (refund_of_reply next.reply) (refunds_of_replies (replies_of next.club events)) (refunded p (club_after next.club events).bookings)
       (step_refunds club event s) (run_refunds next.club events (sound_step club event s (All-head IsEvent event events h)) (All-tail IsEvent event events h))
 
 -- where nothing is on record, all first entries count
@@ -143,10 +144,11 @@ conserved events name member h e =
     let own : bookings_of member.name club ≡ filter (λ (b : Booking). p b.key) club.bookings =
     filter_agree (λ (b : Booking). is_key_of member.name club b.key) (λ (b : Booking). p b.key) (λ b.
     keys_of_run member.name empty_club b.key events) club.bookings in
-    let charges : charged p club.bookings ≡ 0 + unseen_total p (has_number []) (charges_told replies) = run_charges p empty_club events in
-    let refunds : refunded p club.bookings ≡ 0 + unseen_total p (has_cancelled []) (refunds_told replies) = run_refunds p empty_club events sound_empty h in
-    let all_charges = all_count keys (has_number []) (charges_told replies) (λ key number. refl) in
-    let all_refunds = all_count keys (has_cancelled []) (refunds_told replies) (λ key number. refl) in
+    let charges : charged p club.bookings ≡ 0 + unseen_total p (has_number []) (charges_of_replies replies) = run_charges p empty_club events in
+    let refunds : refunded p club.bookings
+    ≡ 0 + unseen_total p (has_cancelled []) (refunds_of_replies replies) = run_refunds p empty_club events sound_empty h in
+    let all_charges = all_count keys (has_number []) (charges_of_replies replies) (λ key number. refl) in
+    let all_refunds = all_count keys (has_cancelled []) (refunds_of_replies replies) (λ key number. refl) in
     let parts = cost_and_refund (filter (λ (b : Booking). p b.key) club.bookings)
     (All-filter (λ (b : Booking). p b.key) IsBooking club.bookings s.rows.bookings) in
     let credit : member.credited ≡ 0 + credits_accepted member.name events replies = sym (ap credit_of found) ∙ credit_of_run member.name empty_club events in
@@ -154,7 +156,7 @@ conserved events name member h e =
     ap (λ (bookings : List Booking). sum_by cost_of bookings) own in
     let covered : sum_by cost_of (bookings_of member.name club) ≤ member.credited =
     at_found (λ (m : Member). sum_by cost_of (bookings_of m.name club) ≤ m.credited) (λ (m : Member). bytes_eq m.name name) club.members member s.balances e in
-    record { balanced = omega arith; covered = covered }
+    record { balance_adds_up = omega arith; covered = covered }
 
 -- who booked a slot of a sound club has a place in it
 pub has_places : (club : Club) (slot : Slot) → IsSound club → MatchOption (facility_named slot.facility club) (taken_in slot club.bookings

@@ -12,7 +12,7 @@ use Rattle.club_core.specs.declared.request.Request.{Request}
 use Rattle.club_core.specs.declared.request.Request.TheVariants as asked
 use Rattle.club_rows.specs.Booking.{same_slot, refund_at}
 use Rattle.club_core.specs.Sums.{booking_under}
-use Rattle.club_core.specs.Request.{number_of}
+use Rattle.club_core.specs.Request.{request_number}
 use Rattle.club_core.specs.declared.form_fault.FormFault.{FormFault}
 use Rattle.club_core.specs.Pass.{Pass, Words}
 use Rattle.club_core.specs.Club.{Club}
@@ -20,7 +20,7 @@ use Rattle.club_core.specs.Basis.{Basis, key_of, basis_of, view_of}
 use Rattle.club_core.specs.Verdict as verdicts
 use Rattle.club_core.specs.Answer.{answer_to, verdict_in}
 use Rattle.club_core.specs.declared.event.EventReply.TheVariants.{Replied}
-use Rattle.club_core.specs.Run.{Event, Asked, Outcome, step, told_and_changed, replies_of, club_after}
+use Rattle.club_core.specs.Run.{Event, Asked, Outcome, step, verdict_outcome, replies_of, club_after}
 use Rattle.club_core.specs.Acceptance.{IsAcceptedIn}
 use Rattle.club_laws.specs.Repeats.{IsBookedOrCancelled, WasServed, MayBeLeftOut}
 use Rattle.club_laws.proofs.AnswerCases.{own_booking}
@@ -35,7 +35,7 @@ same_lookups f g h (Some n) = h n
 
 -- the view of an accepted request holds the booking that the club has under the key and the number
 pub seen_booking : (club : Club) (words : Words) (moment : ℕ) (basis : Basis) (key : List ℕ) → basis_of club words ≡ Some basis → key_of words.pass ≡ Some key
-    → (view_of basis words.request moment).booking ≡ option_and_then (λ (number : ℕ). booking_under key number club.bookings) (number_of words.request)
+    → (view_of basis words.request moment).booking ≡ option_and_then (λ (number : ℕ). booking_under key number club.bookings) (request_number words.request)
 seen_booking club words moment basis key is named =
     let rests = rests_on_name club words basis is in
     let same : basis.key.name ≡ key = let e : Some basis.key.name ≡ Some key = sym rests.named ∙ named in cc in
@@ -44,32 +44,34 @@ seen_booking club words moment basis key is named =
     ap (λ (b : Basis). booking_under basis.key.name number b.bookings) rests.whole
     ∙ (own_booking club words basis.key basis.member number (known_rows club words basis is)
     ∙ ap (λ (name : List ℕ). booking_under name number club.bookings) same))
-    (number_of words.request)
+    (request_number words.request)
 
 recorded-some : (o : Option Booking) (booking : Booking) (f : Booking → Verdict) (other : Verdict) → o ≡ Some booking
     → verdicts.recorded_or o f other ≡ f booking
 recorded-some o booking f other e = ap (λ (x : Option Booking). verdicts.recorded_or x f other) e
 
 decides_by_record : (bookings : List Booking) (key : List ℕ) (request : Request) (reply : Reply) (view : View) (moment : ℕ)
-    → OnRecord bookings key request reply → view.booking ≡ option_and_then (λ (number : ℕ). booking_under key number bookings) (number_of request)
-    → verdicts.verdict_of view request moment ≡ verdicts.told reply
+    → OnRecord bookings key request reply → view.booking ≡ option_and_then (λ (number : ℕ). booking_under key number bookings) (request_number request)
+    → verdicts.verdict_of view request moment ≡ verdicts.reply_only reply
 decides_by_record bookings key (asked.View slot) reply view moment h e = absurd h
 decides_by_record bookings key (asked.Book slot number guests) reply view moment h e =
     recorded-some view.booking h.booking (λ booking. verdicts.repeat_booking_verdict booking slot guests)
     (verdicts.new_verdict view slot number guests moment view.facility) (e ∙ h.found)
-    ∙ (cond-true (same_slot h.booking.slot slot && h.booking.guests == guests) (verdicts.booked_before h.booking) (verdicts.refused refusals.NumberUsed) h.same
-    ∙ ap verdicts.told (sym h.told))
+    ∙ (cond-true (same_slot h.booking.slot slot && h.booking.guests == guests) (verdicts.booked_before h.booking)
+    (verdicts.refusal_verdict refusals.NumberUsed) h.same
+    ∙ ap verdicts.reply_only (sym h.returned))
 decides_by_record bookings key (asked.Cancel slot number) reply view moment h e =
     recorded-some view.booking h.booking (λ booking. verdicts.cancel_recorded_verdict booking slot moment) (verdicts.unknown_verdict view.facility) (e
     ∙ h.found)
-    ∙ (told_recorded h.booking h.same h.before ∙ ap verdicts.told (sym h.told))
+    ∙ (cancels_as_recorded h.booking h.same h.before ∙ ap verdicts.reply_only (sym h.returned))
   where
-    told_recorded : (booking : Booking) → same_slot booking.slot slot ≡ true → booking.cancelled ≡ true
+    cancels_as_recorded : (booking : Booking) → same_slot booking.slot slot ≡ true → booking.cancelled ≡ true
         → verdicts.cancel_recorded_verdict booking slot moment ≡ verdicts.cancelled_before booking
-    told_recorded booking same before =
-        let late : Verdict = cond (nat_le (start_of booking.slot) moment) (verdicts.refused refusals.SlotHasBegun)
+    cancels_as_recorded booking same before =
+        let late : Verdict = cond (nat_le (start_of booking.slot) moment) (verdicts.refusal_verdict refusals.SlotHasBegun)
         (verdicts.cancelled_now booking (refund_at booking moment)) in
-        cond-false (not (same_slot booking.slot slot)) (verdicts.refused refusals.NumberUsed) (cond booking.cancelled (verdicts.cancelled_before booking) late)
+        cond-false (not (same_slot booking.slot slot)) (verdicts.refusal_verdict refusals.NumberUsed)
+        (cond booking.cancelled (verdicts.cancelled_before booking) late)
         (not_from_true (same_slot booking.slot slot) same)
         ∙ cond-true booking.cancelled (verdicts.cancelled_before booking) late before
 decides_by_record bookings key asked.Account reply view moment h e = absurd h
@@ -83,10 +85,10 @@ accepted_answer club words moment a =
     ∙ (ap (λ (basis : Option Basis). answer_to (Ok a.pass) words.request moment (seen basis)) a.known
     ∙ accepted_under a.pass words.request moment (view_of a.basis words.request moment) a.accepted)
 
-told_by_record : (club : Club) (words : Words) (moment : ℕ) (reply : Reply) → IsRecorded club.bookings words reply → IsAcceptedIn club words moment
+step_by_record : (club : Club) (words : Words) (moment : ℕ) (reply : Reply) → IsRecorded club.bookings words reply → IsAcceptedIn club words moment
     → step club (Asked words moment) ≡ record { reply = Replied reply; club = club }
-told_by_record club words moment reply r a =
-    ap (told_and_changed club)
+step_by_record club words moment reply r a =
+    ap (verdict_outcome club)
     (accepted_answer club words moment a
     ∙ decides_by_record club.bookings r.key words.request reply (view_of a.basis words.request moment) moment r.on_record
     (seen_booking club words moment a.basis r.key a.known r.named))
@@ -98,8 +100,9 @@ recorded_since club history words reply w =
     let start = club_after club w.front in
     let then = (step start (Asked w.first w.moment)).club in
     let verdict = verdict_in start w.first w.moment in
-    let told : verdict.reply ≡ reply = let e : Replied verdict.reply ≡ Replied reply = w.told in cc in
-    let first : IsRecorded then.bookings w.first verdict.reply = recorded_when_served start w.first w.moment (subst IsBookedOrCancelled (sym told) w.served) in
+    let returned : verdict.reply ≡ reply = let e : Replied verdict.reply ≡ Replied reply = w.returned in cc in
+    let first : IsRecorded then.bookings w.first verdict.reply = recorded_when_served start w.first w.moment
+    (subst IsBookedOrCancelled (sym returned) w.served) in
     let later = stays_on_record then w.rest first.key w.first.request verdict.reply first.on_record in
     let end : club_after club history ≡ club_after then w.rest = ap (club_after club) w.place
     ∙ club_after-append club w.front (Asked w.first w.moment ∷ w.rest) in
@@ -109,21 +112,21 @@ recorded_since club history words reply w =
       on_record =
           subst (λ (c : Club). OnRecord c.bookings first.key words.request reply) (sym end)
           (subst (λ (r : Request). OnRecord (club_after then w.rest).bookings first.key r reply) (sym w.same_request)
-          (subst (λ (r : Reply). OnRecord (club_after then w.rest).bookings first.key w.first.request r) told later));
+          (subst (λ (r : Reply). OnRecord (club_after then w.rest).bookings first.key w.first.request r) returned later));
     }
 
-pub tells_the_same : (club : Club) (history : List Event) (words : Words) (moment : ℕ) (reply : Reply) → WasServed club history words reply
+pub step_of_repeat : (club : Club) (history : List Event) (words : Words) (moment : ℕ) (reply : Reply) → WasServed club history words reply
     → IsAcceptedIn (club_after club history) words moment → step (club_after club history) (Asked words moment)
     ≡ record { reply = Replied reply; club = club_after club history }
-tells_the_same club history words moment reply w a = told_by_record (club_after club history) words moment reply (recorded_since club history words reply w) a
+step_of_repeat club history words moment reply w a = step_by_record (club_after club history) words moment reply (recorded_since club history words reply w) a
 
 pub left_out : (club : Club) (history : List Event) (words : Words) (moment : ℕ) (reply : Reply) (rest : List Event) → WasServed club history words reply
     → IsAcceptedIn (club_after club history) words moment → MayBeLeftOut club history (Asked words moment) rest (Replied reply)
 left_out club history words moment reply rest w a =
     let end = club_after club history in
-    let again = tells_the_same club history words moment reply w a in
+    let again = step_of_repeat club history words moment reply w a in
     record {
-      told =
+      returned =
           replies_of-append club history (Asked words moment ∷ rest)
           ∙ ap (λ (outcome : Outcome). replies_of club history ++ outcome.reply ∷ replies_of outcome.club rest) again;
       others = replies_of-append club history rest;

@@ -14,10 +14,10 @@ use Rattle.club_core.specs.declared.command.Command.TheVariants.{RevokeKey}
 use Rattle.club_core.specs.Pass.{Words}
 use Rattle.club_core.specs.Basis.{key_of, basis_of}
 use Rattle.club_core.specs.Club.{Club, key_named}
-use Rattle.club_core.specs.After.{after, revoked, rotated}
+use Rattle.club_core.specs.After.{after, revoked_key, rotated_key}
 use Rattle.club_core.specs.declared.event.EventReply.TheVariants.{Answered}
 use Rattle.club_core.specs.declared.event.OfficeAnswer.TheVariants.{Done}
-use Rattle.club_core.specs.Run.{Event, Ordered, step, ordered, club_after}
+use Rattle.club_core.specs.Run.{Event, Ordered, step, order_outcome, club_after}
 use Rattle.club_core.specs.Acceptance.{IsServed}
 use Rattle.club_core.specs.Answer.{verdict_in}
 use Rattle.club_laws.specs.Revoked.{WasRevoked}
@@ -36,28 +36,28 @@ stays_revoked name club (InsertKey new) h =
     record { key = h.key; row = found_before (λ (k : Key). bytes_eq k.name name) club.keys (new ∷ []) h.key h.row; revoked = h.revoked }
 stays_revoked name club (MarkRevoked other) h =
     record {
-      key = revoked other h.key;
-      row = found_edited (revoked other) (λ (k : Key). bytes_eq k.name name) (λ k. refl) club.keys h.key h.row;
+      key = revoked_key other h.key;
+      row = found_edited (revoked_key other) (λ (k : Key). bytes_eq k.name name) (λ k. refl) club.keys h.key h.row;
       revoked = or_left h.key.revoked (bytes_eq h.key.name other) h.revoked;
     }
 stays_revoked name club (ReplaceRoot other root until) h =
     record {
-      key = rotated other root until h.key;
-      row = found_edited (rotated other root until) (λ (k : Key). bytes_eq k.name name) (λ k. refl) club.keys h.key h.row;
+      key = rotated_key other root until h.key;
+      row = found_edited (rotated_key other root until) (λ (k : Key). bytes_eq k.name name) (λ k. refl) club.keys h.key h.row;
       revoked = h.revoked;
     }
 stays_revoked name club change h = record { key = h.key; row = h.row; revoked = h.revoked }
 
--- the office revokes known keys alone
+-- the office revokes only known keys
 now_revoked : (club : Club) (name : List ℕ) → (step club (Ordered (RevokeKey name))).reply ≡ Answered Done
     → IsRevoked name (step club (Ordered (RevokeKey name))).club
 now_revoked club name =
     let order = RevokeKey name in
-    order_cases (λ (v : Result Change OfficeFault). (ordered club order v).reply ≡ Answered Done
-    → IsRevoked name (ordered club order v).club) club (λ fault told. absurd (cc)) order
-    (λ r told. record {
-      key = revoked name r.0;
-      row = found_edited (revoked name) (λ (k : Key). bytes_eq k.name name) (λ k. refl) club.keys r.0 r.1;
+    order_cases (λ (v : Result Change OfficeFault). (order_outcome club order v).reply ≡ Answered Done
+    → IsRevoked name (order_outcome club order v).club) club (λ fault returned. absurd (cc)) order
+    (λ r returned. record {
+      key = revoked_key name r.0;
+      row = found_edited (revoked_key name) (λ (k : Key). bytes_eq k.name name) (λ k. refl) club.keys r.0 r.1;
       revoked = or_right r.0.revoked (bytes_eq r.0.name name) (found_passes (λ (k : Key). bytes_eq k.name name) club.keys r.0 r.1);
     })
 
@@ -69,9 +69,9 @@ revoked_since club history name was =
     let end : club_after club history ≡ club_after then was.rest =
     ap (club_after club) was.place ∙ club_after-append club was.front (Ordered (RevokeKey name) ∷ was.rest)
     in
-    subst (IsRevoked name) (sym end) (kept_by_run (IsRevoked name) (stays_revoked name) then was.rest (now_revoked start name was.told))
+    subst (IsRevoked name) (sym end) (kept_by_run (IsRevoked name) (stays_revoked name) then was.rest (now_revoked start name was.returned))
 
--- and what is served is served under a key that stands
+-- a served request has a key that isn't revoked
 pub serves_nothing : TestsTheSet → TestsTheSignature → (club : Club) (history : List Event) (name : List ℕ) (words : Words) (moment : ℕ)
     → WasRevoked club history name → key_of words.pass ≡ Some name → ¬ IsServed (verdict_in (club_after club history) words moment).reply
 serves_nothing set signature club history name words moment was named served =
@@ -80,4 +80,4 @@ serves_nothing set signature club history name words moment was named served =
     let same : name ≡ entitled.basis.key.name = same_Some name entitled.basis.key.name (sym named ∙ (ap key_of entitled.read ∙ entitled.named)) in
     let since = subst (λ (n : List ℕ). IsRevoked n end) same (revoked_since club history name was) in
     let found : since.key ≡ entitled.basis.key = same_Some since.key entitled.basis.key (sym since.row ∙ entitled.row) in
-    both_ways entitled.basis.key.revoked entitled.stands (ap (λ (k : Key). k.revoked) (sym found) ∙ since.revoked)
+    both_ways entitled.basis.key.revoked entitled.not_revoked (ap (λ (k : Key). k.revoked) (sym found) ∙ since.revoked)

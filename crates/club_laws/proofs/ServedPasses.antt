@@ -22,12 +22,13 @@ use Rattle.club_core.specs.Pass.{Pass, Words, IsSignedUnder, is_signed_under}
 use Rattle.club_core.specs.Club.{Club, key_named}
 use Rattle.club_core.specs.Basis.{Basis, basis_of, basis_under, key_of, view_of}
 use Rattle.club_core.specs.Answer.{answer_to, ask_of, after_caveats, form_refusal, verdict_in}
-use Rattle.club_core.specs.Verdict.{refused, verdict_of}
-use Rattle.club_core.specs.Acceptance.{IsServed, IsAllowedBy, IsAccepted, IsEntitled}
-use Rattle.club_laws.specs.DeskLaw.{blind_refusal, words_with}
+use Rattle.club_core.specs.Verdict.{refusal_verdict, verdict_of}
+use Rattle.club_core.specs.Acceptance.{IsServed, IsAllowedBy, IsAcceptedPass, IsEntitled}
+use Rattle.club_laws.specs.SingleRequest.{blind_refusal, words_with}
 use Rattle.club_laws.proofs.BasisRows.{rests_on_name}
 
-served_line : (fits : Bool) (refusal : Refusal) (rest : Verdict) → IsServed (cond fits (refused refusal) rest).reply → (fits ≡ false) × IsServed rest.reply
+served_line : (fits : Bool) (refusal : Refusal) (rest : Verdict) → IsServed (cond fits (refusal_verdict refusal) rest).reply → (fits ≡ false)
+    × IsServed rest.reply
 served_line true refusal rest h = absurd (h refusal refl)
 served_line false refusal rest h = (refl, h)
 
@@ -38,25 +39,25 @@ served_caveats (Some (Denied n)) rest h = absurd (h (CaveatDenies n) refl)
 
 -- what is served is accepted
 pub served_under : (pass : Pass) (request : Request) (moment : ℕ) (view : View) → IsServed (answer_to (Ok pass) request moment (Some view)).reply
-    → IsAccepted pass request moment view
+    → IsAcceptedPass pass request moment view
 served_under pass request moment view h =
     let signed = is_signed_under pass view.key moment in
     let fault = first_fault_of pass.caveats (ask_of view request moment) in
     let decided = after_caveats fault (verdict_of view request moment) in
-    let one = served_line (not signed) NotVerified (cond view.key.revoked (refused KeyRevoked) decided) h in
+    let one = served_line (not signed) NotVerified (cond view.key.revoked (refusal_verdict KeyRevoked) decided) h in
     let two = served_line view.key.revoked KeyRevoked decided one.1 in
-    record { signed = not-false signed one.0; stands = two.0; faultless = served_caveats fault (verdict_of view request moment) two.1 }
+    record { signed = not-false signed one.0; not_revoked = two.0; faultless = served_caveats fault (verdict_of view request moment) two.1 }
 
 -- and what is accepted, the decision answers
-pub accepted_under : (pass : Pass) (request : Request) (moment : ℕ) (view : View) → IsAccepted pass request moment view
+pub accepted_under : (pass : Pass) (request : Request) (moment : ℕ) (view : View) → IsAcceptedPass pass request moment view
     → answer_to (Ok pass) request moment (Some view) ≡ verdict_of view request moment
 accepted_under pass request moment view h =
     let verdict = verdict_of view request moment in
     let lines : Bool → Bool → Option CaveatFault → Verdict =
-    λ signed revoked fault. cond (not signed) (refused NotVerified) (cond revoked (refused KeyRevoked) (after_caveats fault verdict))
+    λ signed revoked fault. cond (not signed) (refusal_verdict NotVerified) (cond revoked (refusal_verdict KeyRevoked) (after_caveats fault verdict))
     in
     ap (λ (b : Bool). lines b view.key.revoked (first_fault_of pass.caveats (ask_of view request moment))) h.signed
-    ∙ (ap (λ (b : Bool). lines true b (first_fault_of pass.caveats (ask_of view request moment))) h.stands
+    ∙ (ap (λ (b : Bool). lines true b (first_fault_of pass.caveats (ask_of view request moment))) h.not_revoked
     ∙ ap (λ (fault : Option CaveatFault). lines true false fault) h.faultless)
 
 permitted_first : (b : Bool) (rest : Option CaveatFault) (n : ℕ) → cond b rest (Some (Denied n)) ≡ None → (b ≡ true) × (rest ≡ None)
@@ -96,23 +97,23 @@ served_entitled set signature words moment club (Ok pass) (Some basis) e f h =
       named = ap key_of (sym e) ∙ rests.named;
       row = rests.row;
       known = f;
-      stands = accepted.stands;
+      not_revoked = accepted.not_revoked;
       signed = (signature pass basis.key moment).0 accepted.signed;
       allowed = all_allowed set 1 pass.caveats (ask_of (view_of basis words.request moment) words.request moment) accepted.faultless;
     }
 
 -- without a basis
-pub refused_blind : (pass : Result Pass FormFault) (request : Request) (moment : ℕ) → answer_to pass request moment None ≡ refused (blind_refusal pass)
+pub refused_blind : (pass : Result Pass FormFault) (request : Request) (moment : ℕ) → answer_to pass request moment None ≡ refusal_verdict (blind_refusal pass)
 refused_blind (Err fault) request moment = refl
 refused_blind (Ok pass) request moment = refl
 
 -- under a key without a signature, whether its member is known or not
 refused_unsigned : (pass : Pass) (request : Request) (moment : ℕ) (view : Option View)
-    → ((v : View) → view ≡ Some v → is_signed_under pass v.key moment ≡ false) → answer_to (Ok pass) request moment view ≡ refused NotVerified
+    → ((v : View) → view ≡ Some v → is_signed_under pass v.key moment ≡ false) → answer_to (Ok pass) request moment view ≡ refusal_verdict NotVerified
 refused_unsigned pass request moment None unsigned = refl
 refused_unsigned pass request moment (Some view) unsigned =
     let lines : Bool → Verdict =
-    λ signed. cond (not signed) (refused NotVerified) (cond view.key.revoked (refused KeyRevoked)
+    λ signed. cond (not signed) (refusal_verdict NotVerified) (cond view.key.revoked (refusal_verdict KeyRevoked)
     (after_caveats (first_fault_of pass.caveats (ask_of view request moment)) (verdict_of view request moment)))
     in
     ap lines (unsigned view refl)
@@ -129,7 +130,7 @@ seen_key club words moment key n row (Some basis) e view is =
     same_Some key basis.key found ∙ ap (λ (v : View). v.key) (same_Some (view_of basis words.request moment) view is)
 
 pub unsigned_in : TestsTheSignature → (words : Words) (moment : ℕ) (club : Club) (pass : Pass) (key : Key) → words.pass ≡ Ok pass → pass.key ≡ Some key.name
-    → key_named key.name club ≡ Some key → ¬ IsSignedUnder pass key moment → verdict_in club words moment ≡ refused NotVerified
+    → key_named key.name club ≡ Some key → ¬ IsSignedUnder pass key moment → verdict_in club words moment ≡ refusal_verdict NotVerified
 unsigned_in signature words moment club pass key e n row unsigned =
     let view = option_map (λ (b : Basis). view_of b words.request moment) (basis_of club words) in
     let is_false : is_signed_under pass key moment ≡ false =
@@ -149,8 +150,8 @@ wide_under wide narrow more request moment (Some view) e signed h =
     let accepted = served_under narrow request moment view h in
     let ask = ask_of view request moment in
     let faultless = subst (λ (caveats : List (Option Caveat)). first_fault_from 1 caveats ask ≡ None) e accepted.faultless in
-    let wider : IsAccepted wide request moment view =
-    record { signed = signed view refl; stands = accepted.stands; faultless = faultless_front 1 wide.caveats more ask faultless }
+    let wider : IsAcceptedPass wide request moment view =
+    record { signed = signed view refl; not_revoked = accepted.not_revoked; faultless = faultless_front 1 wide.caveats more ask faultless }
     in
     accepted_under wide request moment view wider ∙ sym (accepted_under narrow request moment view accepted)
 

@@ -9,21 +9,21 @@ use Rattle.club_core.specs.Solo.{OwnEvent, OwnAsk, OwnChange, own_part, own_even
 use Rattle.club_laws.specs.SoloLaw.{is_ask, replies_to, solo_part}
 use Rattle.club_laws.proofs.KnownKeys.{IsKeyed}
 use Rattle.club_laws.proofs.FollowedAsks.{Follows}
-use Rattle.club_laws.specs.Failed.{Told, ToMember, Telling, told_of, IsRun, answered_events, answers}
+use Rattle.club_laws.specs.Failed.{Response, ToMember, Presentation, present_reply, IsRun, answered_events, answers}
 use Rattle.club_laws.proofs.FailedEvents.{run_of_answered}
 use Rattle.club_laws.proofs.FollowedSteps.{follows, keyed_step}
 
 -- one event of the run is its own entry in the solo machine
-one_more : (own : List OwnEvent) (part next : Club) (reply : EventReply) (rest : List OwnEvent) (told : List EventReply) → Follows part own reply next
-    → told ≡ map Replied (solo_replies next rest) → cond (is_ask own) (reply ∷ told) told ≡ map Replied (solo_replies part (own ++ rest))
-one_more [] part next reply rest told f e = e ∙ ap (λ (p : Club). map Replied (solo_replies p rest)) f
-one_more (OwnChange change ∷ []) part next reply rest told f e = e ∙ ap (λ (p : Club). map Replied (solo_replies p rest)) f
-one_more (OwnAsk words moment others ∷ []) part next reply rest told f e =
-    ap (λ (r : EventReply). r ∷ told) f.0
+one_more : (own : List OwnEvent) (part next : Club) (reply : EventReply) (rest : List OwnEvent) (returned : List EventReply) → Follows part own reply next
+    → returned ≡ map Replied (solo_replies next rest) → cond (is_ask own) (reply ∷ returned) returned ≡ map Replied (solo_replies part (own ++ rest))
+one_more [] part next reply rest returned f e = e ∙ ap (λ (p : Club). map Replied (solo_replies p rest)) f
+one_more (OwnChange change ∷ []) part next reply rest returned f e = e ∙ ap (λ (p : Club). map Replied (solo_replies p rest)) f
+one_more (OwnAsk words moment others ∷ []) part next reply rest returned f e =
+    ap (λ (r : EventReply). r ∷ returned) f.0
     ∙ ap (λ (replies : List EventReply). Replied (solo_verdict part words moment others).reply ∷ replies) (e
     ∙ ap (λ (p : Club). map Replied (solo_replies p rest)) f.1)
-one_more (OwnChange change ∷ other ∷ more) part next reply rest told f e = absurd f
-one_more (OwnAsk words moment others ∷ other ∷ more) part next reply rest told f e = absurd f
+one_more (OwnChange change ∷ other ∷ more) part next reply rest returned f e = absurd f
+one_more (OwnAsk words moment others ∷ other ∷ more) part next reply rest returned f e = absurd f
 
 pub solo : (name : List ℕ) (club : Club) (events : List Event) → IsKeyed club
     → replies_to name club events (replies_of club events) ≡ map Replied (solo_replies (part_of name club) (own_events name club events))
@@ -33,12 +33,12 @@ solo name club (event ∷ events) keyed =
     one_more (own_part name club event) (part_of name club) (part_of name next) (step club event).reply (own_events name next events)
     (replies_to name next events (replies_of next events)) (follows name club event keyed) (solo name next events (keyed_step club event keyed))
 
-mapped_here : {A B : Type 0} (f : A → B) (b : Bool) (reply : A) (replies : List A) (told : List B) → told ≡ map f replies
-    → cond b (f reply ∷ told) told ≡ map f (cond b (reply ∷ replies) replies)
-mapped_here f true reply replies told e = ap (λ (rs : List _). f reply ∷ rs) e
-mapped_here f false reply replies told e = e
+mapped_here : {A B : Type 0} (f : A → B) (b : Bool) (reply : A) (replies : List A) (returned : List B) → returned ≡ map f replies
+    → cond b (f reply ∷ returned) returned ≡ map f (cond b (reply ∷ replies) replies)
+mapped_here f true reply replies returned e = ap (λ (rs : List _). f reply ∷ rs) e
+mapped_here f false reply replies returned e = e
 
--- however replies are told, those to the member are the member's
+-- however the replies are presented, those to the member's requests are the same ones
 replies_mapped : {A B : Type 0} (f : A → B) (name : List ℕ) (club : Club) (events : List Event) (replies : List A)
     → replies_to name club events (map f replies) ≡ map f (replies_to name club events replies)
 replies_mapped f name club [] replies = refl
@@ -48,26 +48,28 @@ replies_mapped f name club (event ∷ events) (reply ∷ replies) =
     mapped_here f (is_ask (own_part name club event)) reply (replies_to name next events replies) (replies_to name next events (map f replies))
     (replies_mapped f name next events replies)
 
-pub solo_as_told : {O : Type 0} (telling : Telling O) (name : List ℕ) (club last : Club) (events : List Event) (replies : List (Told O)) → IsKeyed club
-    → IsRun telling club events replies last → replies_to name club (answered_events telling events replies) (answers telling events replies)
-    ≡ map ToMember (solo_replies (part_of name club) (own_events name club (answered_events telling events replies)))
-solo_as_told {O} telling name club last events replies keyed run =
-    let answered = answered_events telling events replies in
-    ap (λ (told : List (Told O)). replies_to name club answered told) (run_of_answered telling club last events replies run).told
-    ∙ (replies_mapped (told_of telling) name club answered (replies_of club answered)
-    ∙ (ap (λ (told : List EventReply). map (told_of telling) told) (solo name club answered keyed)
-    ∙ map-map (told_of telling) Replied (solo_replies (part_of name club) (own_events name club answered))))
+pub solo_with_failures : {O : Type 0} (presentation : Presentation O) (name : List ℕ) (club last : Club) (events : List Event) (replies : List (Response O))
+    → IsKeyed club
+    → IsRun presentation club events replies last → replies_to name club (answered_events presentation events replies) (answers presentation events replies)
+    ≡ map ToMember (solo_replies (part_of name club) (own_events name club (answered_events presentation events replies)))
+solo_with_failures {O} presentation name club last events replies keyed run =
+    let answered = answered_events presentation events replies in
+    ap (λ (returned : List (Response O)). replies_to name club answered returned) (run_of_answered presentation club last events replies run).returned
+    ∙ (replies_mapped (present_reply presentation) name club answered (replies_of club answered)
+    ∙ (ap (λ (returned : List EventReply). map (present_reply presentation) returned) (solo name club answered keyed)
+    ∙ map-map (present_reply presentation) Replied (solo_replies (part_of name club) (own_events name club answered))))
 
-pub solo_of_two_as_told : {O : Type 0} (telling : Telling O) (name : List ℕ) (a b last end : Club) (events others : List Event) (replies told : List (Told O))
-    → IsKeyed a → IsKeyed b → IsRun telling a events replies last → IsRun telling b others told end → part_of name a ≡ part_of name b
-    → own_events name a (answered_events telling events replies) ≡ own_events name b (answered_events telling others told)
-    → replies_to name a (answered_events telling events replies) (answers telling events replies)
-    ≡ replies_to name b (answered_events telling others told) (answers telling others told)
-solo_of_two_as_told telling name a b last end events others replies told keyed_a keyed_b run_a run_b parts own =
-    solo_as_told telling name a last events replies keyed_a run_a
-    ∙ (ap (λ (part : Club). map ToMember (solo_replies part (own_events name a (answered_events telling events replies)))) parts
+pub solo_of_two_with_failures : {O : Type 0} (presentation : Presentation O) (name : List ℕ) (a b last end : Club) (events others : List Event)
+    (replies returned : List (Response O))
+    → IsKeyed a → IsKeyed b → IsRun presentation a events replies last → IsRun presentation b others returned end → part_of name a ≡ part_of name b
+    → own_events name a (answered_events presentation events replies) ≡ own_events name b (answered_events presentation others returned)
+    → replies_to name a (answered_events presentation events replies) (answers presentation events replies)
+    ≡ replies_to name b (answered_events presentation others returned) (answers presentation others returned)
+solo_of_two_with_failures presentation name a b last end events others replies returned keyed_a keyed_b run_a run_b parts own =
+    solo_with_failures presentation name a last events replies keyed_a run_a
+    ∙ (ap (λ (part : Club). map ToMember (solo_replies part (own_events name a (answered_events presentation events replies)))) parts
     ∙ (ap (λ (list : List OwnEvent). map ToMember (solo_replies (part_of name b) list)) own
-    ∙ sym (solo_as_told telling name b end others told keyed_b run_b)))
+    ∙ sym (solo_with_failures presentation name b end others returned keyed_b run_b)))
 
 -- the same of the part
 one_more_part : (own : List OwnEvent) (part next : Club) (reply : EventReply) (rest : List OwnEvent) → Follows part own reply next

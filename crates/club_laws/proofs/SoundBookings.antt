@@ -13,7 +13,7 @@ use Rattle.club_rows.specs.declared.booking.Booking.{Booking}
 use Rattle.club_rows.specs.Rows.{IsBooking}
 use Rattle.club_rows.specs.Booking.{persons_of, same_slot}
 use Rattle.club_core.specs.Sums.{cost_of, is_in, taken_in}
-use Rattle.club_core.specs.After.{is_marked, cancelled}
+use Rattle.club_core.specs.After.{is_marked, cancelled_booking}
 use Rattle.club_core.specs.Club.{Club, is_key_of, bookings_of, IsSound}
 use Rattle.club_laws.proofs.FoundRows.{AllPairs-map}
 use Rattle.club_laws.proofs.RowSums.{sum-filter, sum-map, sum_less}
@@ -58,11 +58,11 @@ sound_booking club booking s f =
           (s.places k d short slot at));
     }
 
--- a row that was marked, or stayed as it was
+-- a row that was marked, or is unchanged
 module _ (key : List ℕ) (number refund : ℕ) (booking : Booking) (row : IsBooking booking) (small : is_marked key number booking ≡ true
     → refund ≤ booking.charge) where
-  stood : is_marked key number booking ≡ true → booking.cancelled ≡ false
-  stood e = not-true booking.cancelled (and_parts _ (not booking.cancelled) e).1
+  still_booked : is_marked key number booking ≡ true → booking.cancelled ≡ false
+  still_booked e = not-true booking.cancelled (and_parts _ (not booking.cancelled) e).1
 
   refund_small : cond (is_marked key number booking) refund booking.refund ≤ booking.charge
   refund_small = go (is_marked key number booking) small
@@ -76,7 +76,7 @@ module _ (key : List ℕ) (number refund : ℕ) (booking : Booking) (row : IsBoo
       let parts = or_parts booking.cancelled (is_marked key number booking) e in
       rw parts.1 (row.kept parts.0)
 
-  pub cancelled_row : IsBooking (cancelled key number refund booking)
+  pub cancelled_row : IsBooking (cancelled_booking key number refund booking)
   cancelled_row = record {
     key = row.key;
     number = row.number;
@@ -89,15 +89,15 @@ module _ (key : List ℕ) (number refund : ℕ) (booking : Booking) (row : IsBoo
     kept = refund_kept;
   }
 
-  pub costs_no_more : cost_of (cancelled key number refund booking) ≤ cost_of booking
-  costs_no_more = go (is_marked key number booking) (λ e. row.kept (stood e))
+  pub costs_no_more : cost_of (cancelled_booking key number refund booking) ≤ cost_of booking
+  costs_no_more = go (is_marked key number booking) (λ e. row.kept (still_booked e))
     where
       go : (b : Bool) → (b ≡ true → booking.refund ≡ 0) → booking.charge - cond b refund booking.refund ≤ booking.charge - booking.refund
       go true h = let none = h refl in omega arith
       go false h = omega arith
 
 takes_no_more : (key : List ℕ) (number refund : ℕ) (slot : Slot) (booking : Booking)
-    → cond (is_in slot (cancelled key number refund booking)) (persons_of booking) 0 ≤ cond (is_in slot booking) (persons_of booking) 0
+    → cond (is_in slot (cancelled_booking key number refund booking)) (persons_of booking) 0 ≤ cond (is_in slot booking) (persons_of booking) 0
 takes_no_more key number refund slot booking = go booking.cancelled (is_marked key number booking) (same_slot booking.slot slot)
   where
     go : (b c d : Bool) → cond (not (b || c) && d) (booking.guests + 1) 0 ≤ cond (not b && d) (booking.guests + 1) 0
@@ -107,15 +107,15 @@ takes_no_more key number refund slot booking = go booking.cancelled (is_marked k
     go false false d = omega arith
 
 pub sound_cancellation : (club : Club) (key : List ℕ) (number refund : ℕ) → IsSound club → FitsCancellation club key number refund
-    → IsSound (record club { bookings = map (cancelled key number refund) club.bookings })
+    → IsSound (record club { bookings = map (cancelled_booking key number refund) club.bookings })
 sound_cancellation club key number refund s f =
-    let limits = All-map IsBooking (cancelled key number refund) club.bookings (λ k d short.
+    let limits = All-map IsBooking (cancelled_booking key number refund) club.bookings (λ k d short.
     cancelled_row key number refund (get_or club.bookings k d) (s.rows.bookings k d short) (f.covered k d short)) in
-    let names = AllPairs-map (cancelled key number refund) (λ (a : Booking) (b : Booking). ¬ ((a.key ≡ b.key)
+    let names = AllPairs-map (cancelled_booking key number refund) (λ (a : Booking) (b : Booking). ¬ ((a.key ≡ b.key)
     × (a.number ≡ b.number))) (λ (a : Booking) (b : Booking). ¬ ((a.key ≡ b.key) × (a.number ≡ b.number))) (λ a b h. h) club.bookings s.unique.bookings in
-    let known = All-map (λ (b : Booking). Contains (map (λ (k : Key). k.name) club.keys) b.key) (cancelled key number refund) club.bookings
+    let known = All-map (λ (b : Booking). Contains (map (λ (k : Key). k.name) club.keys) b.key) (cancelled_booking key number refund) club.bookings
     s.references.bookings in
-    let located = All-map (λ (b : Booking). Contains (map (λ (g : Facility). g.name) club.facilities) b.slot.facility) (cancelled key number refund)
+    let located = All-map (λ (b : Booking). Contains (map (λ (g : Facility). g.name) club.facilities) b.slot.facility) (cancelled_booking key number refund)
     club.bookings s.references.booked in
     record {
       rows = record { members = s.rows.members; facilities = s.rows.facilities; keys = s.rows.keys; bookings = limits; closed = s.rows.closed };
@@ -126,13 +126,13 @@ sound_cancellation club key number refund s f =
     }
   where
     balance : (member : Member) → sum_by cost_of (bookings_of member.name club) ≤ member.credited
-        → sum_by cost_of (bookings_of member.name (record club { bookings = map (cancelled key number refund) club.bookings })) ≤ member.credited
+        → sum_by cost_of (bookings_of member.name (record club { bookings = map (cancelled_booking key number refund) club.bookings })) ≤ member.credited
     balance member h =
         let own : Booking → Bool = λ (b : Booking). is_key_of member.name club b.key in
-        let now = sum-filter cost_of own (map (cancelled key number refund) club.bookings)
-        ∙ sum-map (cancelled key number refund) (λ (b : Booking). cond (own b) (cost_of b) 0) club.bookings in
+        let now = sum-filter cost_of own (map (cancelled_booking key number refund) club.bookings)
+        ∙ sum-map (cancelled_booking key number refund) (λ (b : Booking). cond (own b) (cost_of b) 0) club.bookings in
         let old = sum-filter cost_of own club.bookings in
-        let less = sum_less (λ (b : Booking). cond (own b) (cost_of (cancelled key number refund b)) 0) (λ (b : Booking).
+        let less = sum_less (λ (b : Booking). cond (own b) (cost_of (cancelled_booking key number refund b)) 0) (λ (b : Booking).
         cond (own b) (cost_of b) 0) club.bookings
         (λ k d short. both (own (get_or club.bookings k d)) _ _ (costs_no_more key number refund (get_or club.bookings k d) (s.rows.bookings k d short)
         (f.covered k d short))) in
@@ -143,12 +143,12 @@ sound_cancellation club key number refund s f =
         both false m n h = omega arith
 
     place : (facility : Facility) (slot : Slot) → taken_in slot club.bookings ≤ facility.places
-        → taken_in slot (map (cancelled key number refund) club.bookings) ≤ facility.places
+        → taken_in slot (map (cancelled_booking key number refund) club.bookings) ≤ facility.places
     place facility slot h =
-        let now = sum-filter persons_of (is_in slot) (map (cancelled key number refund) club.bookings)
-        ∙ sum-map (cancelled key number refund) (λ (b : Booking). cond (is_in slot b) (persons_of b) 0) club.bookings in
+        let now = sum-filter persons_of (is_in slot) (map (cancelled_booking key number refund) club.bookings)
+        ∙ sum-map (cancelled_booking key number refund) (λ (b : Booking). cond (is_in slot b) (persons_of b) 0) club.bookings in
         let old = sum-filter persons_of (is_in slot) club.bookings in
-        let less = sum_less (λ (b : Booking). cond (is_in slot (cancelled key number refund b)) (persons_of b) 0) (λ (b : Booking).
+        let less = sum_less (λ (b : Booking). cond (is_in slot (cancelled_booking key number refund b)) (persons_of b) 0) (λ (b : Booking).
         cond (is_in slot b) (persons_of b) 0) club.bookings
         (λ k d short. takes_no_more key number refund slot (get_or club.bookings k d)) in
         omega arith

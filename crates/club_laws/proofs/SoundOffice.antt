@@ -17,7 +17,7 @@ use Rattle.club_rows.specs.Limits.{IsRoot}
 use Rattle.club_rows.specs.Rows.{IsMember, IsFacility, IsOlderRoot, IsKey, IsSlot}
 use Rattle.club_rows.specs.Booking.{persons_of, same_slot}
 use Rattle.club_core.specs.Sums.{cost_of, is_in, taken_in}
-use Rattle.club_core.specs.After.{credited, revoked, good_until, rotated}
+use Rattle.club_core.specs.After.{credited_member, revoked_key, good_until, rotated_key}
 use Rattle.club_core.specs.Club.{Club, keys_of, is_key_of, bookings_of, IsSound, HasReferences}
 use Rattle.club_laws.proofs.FoundRows.{AllPairs-map, other_bytes}
 use Rattle.club_laws.proofs.Filtering.{filter_none}
@@ -59,7 +59,7 @@ sound_member club member s f =
     }
 
 credited_row : (name : List ℕ) (points : ℕ) (member : Member) → (bytes_eq member.name name ≡ true → member.credited + points ≤ 999_999_999) → IsMember member
-    → IsMember (credited name points member)
+    → IsMember (credited_member name points member)
 credited_row name points member small row = record { name = row.name; credited = go (bytes_eq member.name name) small; quota = row.quota }
   where
     go : (b : Bool) → (b ≡ true → member.credited + points ≤ 999_999_999) → cond b (member.credited + points) member.credited ≤ 999_999_999
@@ -71,20 +71,21 @@ credited_more true credit points cost h = omega arith
 credited_more false credit points cost h = h
 
 pub sound_credit : (club : Club) (name : List ℕ) (points : ℕ) → IsSound club → FitsCredit club name points
-    → IsSound (record club { members = map (credited name points) club.members })
+    → IsSound (record club { members = map (credited_member name points) club.members })
 sound_credit club name points s f =
-    let limits = All-map IsMember (credited name points) club.members (λ k d short.
+    let limits = All-map IsMember (credited_member name points) club.members (λ k d short.
     credited_row name points _ (f.small k d short) (s.rows.members k d short)) in
-    let names = AllPairs-map (credited name points) (λ (a : Member) (b : Member). a.name ≢ b.name) (λ (a : Member) (b : Member). a.name ≢ b.name) (λ a b h.
+    let names = AllPairs-map (credited_member name points) (λ (a : Member) (b : Member). a.name ≢ b.name) (λ (a : Member) (b : Member). a.name ≢ b.name)
+    (λ a b h.
     h) club.members s.unique.members in
-    let known = still_all (λ (m : Member). m.name) club.members (map (credited name points) club.members) (λ (k : Key). k.member) club.keys (λ n h.
-    rw (map-map (λ (m : Member). m.name) (credited name points) club.members) h) s.references.keys in
+    let known = still_all (λ (m : Member). m.name) club.members (map (credited_member name points) club.members) (λ (k : Key). k.member) club.keys (λ n h.
+    rw (map-map (λ (m : Member). m.name) (credited_member name points) club.members) h) s.references.keys in
     record {
       rows = record { members = limits; facilities = s.rows.facilities; keys = s.rows.keys; bookings = s.rows.bookings; closed = s.rows.closed };
       unique = record { members = names; facilities = s.unique.facilities; keys = s.unique.keys; bookings = s.unique.bookings; closed = s.unique.closed };
       references = record { keys = known; bookings = s.references.bookings; booked = s.references.booked; closed = s.references.closed };
       balances =
-          All-map (λ (m : Member). sum_by cost_of (bookings_of m.name club) ≤ m.credited) (credited name points) club.members
+          All-map (λ (m : Member). sum_by cost_of (bookings_of m.name club) ≤ m.credited) (credited_member name points) club.members
           (λ k d short. credited_more (bytes_eq _ name) _ points _ (s.balances k d short));
       places = s.places;
     }
@@ -167,15 +168,15 @@ sound_edited root older is_revoked club s limits =
       places = s.places;
     }
 
-revoked_row : (name : List ℕ) (key : Key) → IsKey key → IsKey (revoked name key)
+revoked_row : (name : List ℕ) (key : Key) → IsKey key → IsKey (revoked_key name key)
 revoked_row name key row = record { name = row.name; member = row.member; root = row.root; older = row.older }
 
-pub sound_revoked : (club : Club) (name : List ℕ) → IsSound club → IsSound (record club { keys = map (revoked name) club.keys })
+pub sound_revoked : (club : Club) (name : List ℕ) → IsSound club → IsSound (record club { keys = map (revoked_key name) club.keys })
 sound_revoked club name s =
-    sound_edited (λ key. key.root) (λ key. key.older) (λ key. (revoked name key).revoked) club s
-    (All-map IsKey (revoked name) club.keys (λ k d short. revoked_row name _ (s.rows.keys k d short)))
+    sound_edited (λ key. key.root) (λ key. key.older) (λ key. (revoked_key name key).revoked) club s
+    (All-map IsKey (revoked_key name) club.keys (λ k d short. revoked_row name _ (s.rows.keys k d short)))
 
-rotated_row : (name root : List ℕ) (until : ℕ) (key : Key) → FitsRotation root until → IsKey key → IsKey (rotated name root until key)
+rotated_row : (name root : List ℕ) (until : ℕ) (key : Key) → FitsRotation root until → IsKey key → IsKey (rotated_key name root until key)
 rotated_row name root until key f row = record {
   name = row.name;
   member = row.member;
@@ -193,10 +194,10 @@ rotated_row name root until key f row = record {
     old false = row.older
 
 pub sound_rotated : (club : Club) (name root : List ℕ) (until : ℕ) → IsSound club → FitsRotation root until
-    → IsSound (record club { keys = map (rotated name root until) club.keys })
+    → IsSound (record club { keys = map (rotated_key name root until) club.keys })
 sound_rotated club name root until s f =
-    sound_edited (λ key. (rotated name root until key).root) (λ key. (rotated name root until key).older) (λ key. key.revoked) club s
-    (All-map IsKey (rotated name root until) club.keys (λ k d short. rotated_row name root until _ f (s.rows.keys k d short)))
+    sound_edited (λ key. (rotated_key name root until key).root) (λ key. (rotated_key name root until key).older) (λ key. key.revoked) club s
+    (All-map IsKey (rotated_key name root until) club.keys (λ k d short. rotated_row name root until _ f (s.rows.keys k d short)))
 
 pub sound_closed : (club : Club) (slot : Slot) → IsSound club → FitsClosed club slot → IsSound (record club { closed = club.closed ++ slot ∷ [] })
 sound_closed club slot s f =

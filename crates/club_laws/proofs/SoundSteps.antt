@@ -11,7 +11,7 @@ use Rattle.club_core.specs.Club.{Club, IsSound}
 use Rattle.club_core.specs.Answer.{verdict_in}
 use Rattle.club_core.specs.After.{after}
 use Rattle.club_core.specs.Office.{office_verdict}
-use Rattle.club_core.specs.Run.{Event, Asked, Ordered, step, after_change, ordered, club_after}
+use Rattle.club_core.specs.Run.{Event, Asked, Ordered, step, after_change, order_outcome, club_after}
 use Rattle.club_core.specs.Events.{IsEvent}
 use Rattle.club_laws.proofs.FittingChanges.{Fits, FitsIfAny}
 use Rattle.club_laws.proofs.FittingOffice.{FitsIfOk, fits_order}
@@ -35,7 +35,7 @@ sound_after_any club None s f = s
 sound_after_any club (Some change) s f = sound_after club change s f
 
 sound_ordered : (club : Club) (command : Command) (verdict : Result Change OfficeFault) → IsSound club → FitsIfOk club verdict
-    → IsSound (ordered club command verdict).club
+    → IsSound (order_outcome club command verdict).club
 sound_ordered club command (Err fault) s f = s
 sound_ordered club command (Ok change) s f = sound_after club change s f
 

@@ -1,4 +1,4 @@
--- An account, which computes (ours): what is open is counted over all keys of the member, and without what has begun.
+-- An example of an account, which computes (ours): it counts the open bookings of all keys of the member; begun slots don't count.
 use Rattle.std.specs.Prelude.{◌≡◌, true, List, [], ◌∷◌, Some, Ok, codes}
 use Rattle.club_core.specs.declared.command.Command.TheVariants.{AddKey}
 use Rattle.club_core.specs.declared.reply.Reply.TheVariants.{Booked, Cancelled}

@@ -8,14 +8,14 @@ use Rattle.club_core.specs.Sums.{cost_of, balance_of, taken_in}
 use Rattle.club_core.specs.declared.event.EventReply.{EventReply}
 use Rattle.club_core.specs.Run.{Event, replies_of, club_after}
 use Rattle.club_core.specs.Events.{IsEvent}
-use Rattle.club_laws.specs.Points.{keys_given, credits_accepted, charges_told, refunds_told, total_under}
+use Rattle.club_laws.specs.Points.{keys_given, credits_accepted, charges_of_replies, refunds_of_replies, total_under}
 
--- what the member has and what its keys were first charged for each number make what it was credited and what its keys
--- were first refunded; and its balance, which is what it was credited less what its bookings cost, is never below 0
+-- the member's balance and the first charge of each booking of its keys add up to its credits and the first refund of each booking;
+-- its bookings never cost more than it was credited, so its balance is never below 0
 pub record IsConserved (club : Club) (events : List Event) (replies : List EventReply) (member : Member) : Type 0 where
-  pub balanced :
-      balance_of member (bookings_of member.name club) + total_under (keys_given member.name events replies) (charges_told replies)
-      ≡ credits_accepted member.name events replies + total_under (keys_given member.name events replies) (refunds_told replies)
+  pub balance_adds_up :
+      balance_of member (bookings_of member.name club) + total_under (keys_given member.name events replies) (charges_of_replies replies)
+      ≡ credits_accepted member.name events replies + total_under (keys_given member.name events replies) (refunds_of_replies replies)
   pub covered : sum_by cost_of (bookings_of member.name club) ≤ member.credited
 
 abbrev pub ConservesPoints : Type 0
@@ -24,7 +24,7 @@ ConservesPoints =
     → member_named name (club_after empty_club events) ≡ Some member
     → IsConserved (club_after empty_club events) events (replies_of empty_club events) member
 
--- the persons who booked a slot have places in it; nobody booked a slot of no facility
+-- a slot has a place for each person who booked it; nobody booked a slot of an unknown facility
 abbrev pub HasPlaces : Slot → Club → Type 0
 HasPlaces slot club =
     MatchOption (facility_named slot.facility club) (taken_in slot club.bookings ≡ 0) (λ (facility : Facility). taken_in slot club.bookings ≤ facility.places)

@@ -1,4 +1,4 @@
--- Runs on which the definitions of points and repeats compute (ours).
+-- Example runs on which the definitions of points and repeats compute (ours).
 use Rattle.std.specs.Prelude.{◌≡◌, ℕ, true, List, [], ◌∷◌, ◌++◌, Some, Ok, codes}
 use Rattle.pass_caveats.specs.declared.caveat.Caveat.TheVariants.{Spend}
 use Rattle.club_core.specs.declared.reply.Reply.TheVariants.{Booked}
@@ -8,7 +8,7 @@ use Rattle.club_core.specs.Club.{empty_club}
 use Rattle.club_core.specs.Examples.{opening, opened_club, slot_at, noon, late, ask}
 use Rattle.club_core.specs.declared.event.EventReply.{EventReply}
 use Rattle.club_core.specs.Run.{Event, replies_of, club_after}
-use Rattle.club_laws.specs.Points.{keys_given, credits_accepted, charges_told, refunds_told, total_under}
+use Rattle.club_laws.specs.Points.{keys_given, credits_accepted, charges_of_replies, refunds_of_replies, total_under}
 use Rattle.club_core.specs.Acceptance.{IsAcceptedIn}
 use Rattle.club_laws.specs.Repeats.{WasServed}
 
@@ -28,19 +28,19 @@ some_events =
     ∷ ask (asked.Book (slot_at 18) 7 2) noon
     ∷ []
 
--- what the member was charged, credited and refunded, as these events and replies tell it
+-- what the member was charged, credited and refunded, computed from these events and replies
 pub record AreFigures (events : List Event) (replies : List EventReply) (charged credited refunded : ℕ) : Type 0 where
-  pub charges : total_under (keys_given (codes "amy") events replies) (charges_told replies) ≡ charged
+  pub charges : total_under (keys_given (codes "amy") events replies) (charges_of_replies replies) ≡ charged
   pub credits : credits_accepted (codes "amy") events replies ≡ credited
-  pub refunds : total_under (keys_given (codes "amy") events replies) (refunds_told replies) ≡ refunded
+  pub refunds : total_under (keys_given (codes "amy") events replies) (refunds_of_replies replies) ≡ refunded
 
 -- 600 and 200 points charged, 10,000 credited, and half of 600 refunded
 abbrev pub CountsEachOnce : Type 0
 CountsEachOnce = AreFigures some_events (replies_of empty_club some_events) 800 10_000 300
 
 -- a booking, then its cancellation
-abbrev pub comes_and_goes : List Event
-comes_and_goes = ask (asked.Book (slot_at 18) 7 2) noon ∷ ask (asked.Cancel (slot_at 18) 7) noon ∷ []
+abbrev pub booked_then_cancelled : List Event
+booked_then_cancelled = ask (asked.Book (slot_at 18) 7 2) noon ∷ ask (asked.Cancel (slot_at 18) 7) noon ∷ []
 
 -- the booking, under a pass of its key that may spend nothing
 abbrev pub words_again : Words
@@ -51,8 +51,8 @@ words_again = record {
 
 -- it is a repeat, which is accepted even when the slot has begun
 pub record IsAcceptedRepeat (words : Words) (moment : ℕ) : Type 0 where
-  pub served : WasServed opened_club comes_and_goes words (Booked (codes "amy-1") 7 600 1)
-  pub accepted : IsAcceptedIn (club_after opened_club comes_and_goes) words moment
+  pub served : WasServed opened_club booked_then_cancelled words (Booked (codes "amy-1") 7 600 1)
+  pub accepted : IsAcceptedIn (club_after opened_club booked_then_cancelled) words moment
 
 abbrev pub AcceptsARepeat : Type 0
 AcceptsARepeat = IsAcceptedRepeat words_again late

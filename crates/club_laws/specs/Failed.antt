@@ -10,19 +10,19 @@ use Rattle.club_core.specs.declared.event.OfficeAnswer.{OfficeAnswer}
 use Rattle.club_core.specs.Run.{Event, Asked, Ordered, step, replies_of, club_after}
 use Rattle.club_core.specs.Events.{IsEvent}
 
--- what an event is told: a request the club's reply, an order what the desk tells the office, whose type `O` is left open
-pub data Told (O : Type 0) : Type 0 where
-  ToMember : (reply : Reply) → Told O
-  ToOffice : (answer : O) → Told O
+-- the response to an event: the reply to a request, or the desk's answer to an order of the office, whose type `O` is left open
+pub data Response (O : Type 0) : Type 0 where
+  ToMember : (reply : Reply) → Response O
+  ToOffice : (answer : O) → Response O
 
--- how a desk tells the office its answers, and which of what it tells say that memory or storage was refused
-pub record Telling (O : Type 0) : Type 0 where
+-- how a desk presents the machine's answers to the office, and which presented answers say that memory or storage was refused
+pub record Presentation (O : Type 0) : Type 0 where
   pub shown : OfficeAnswer → O
   pub is_fault : O → Bool
 
-abbrev pub told_of : {O : Type 0} → Telling O → EventReply → Told O
-told_of telling (Replied reply) = ToMember reply
-told_of telling (Answered answer) = ToOffice (telling.shown answer)
+abbrev pub present_reply : {O : Type 0} → Presentation O → EventReply → Response O
+present_reply presentation (Replied reply) = ToMember reply
+present_reply presentation (Answered answer) = ToOffice (presentation.shown answer)
 
 -- the reply that memory or storage was refused
 abbrev pub is_unavailable : Reply → Bool
@@ -30,92 +30,93 @@ is_unavailable (Refused Unavailable) = true
 is_unavailable reply = false
 
 -- a request fails with that reply alone, and an order with such a fault alone
-abbrev pub has_failed : {O : Type 0} → Telling O → Event → Told O → Bool
-has_failed telling (Asked words moment) (ToMember reply) = is_unavailable reply
-has_failed telling (Ordered command) (ToOffice answer) = telling.is_fault answer
-has_failed telling event told = false
+abbrev pub has_failed : {O : Type 0} → Presentation O → Event → Response O → Bool
+has_failed presentation (Asked words moment) (ToMember reply) = is_unavailable reply
+has_failed presentation (Ordered command) (ToOffice answer) = presentation.is_fault answer
+has_failed presentation event returned = false
 
--- an event was answered: it is told the machine's reply, and the club has stepped
-pub record IsAnswered {O : Type 0} (telling : Telling O) (club : Club) (event : Event) (told : Told O) (next : Club) : Type 0 where
-  pub answered : IsFalse (has_failed telling event told)
-  pub reply : told ≡ told_of telling (step club event).reply
-  pub stepped : next ≡ (step club event).club
+-- an event was answered: its response is the machine's reply, and the club made the machine's step
+pub record IsAnsweredStep {O : Type 0} (presentation : Presentation O) (club : Club) (event : Event) (returned : Response O) (next : Club) : Type 0 where
+  pub answered : IsFalse (has_failed presentation event returned)
+  pub reply : returned ≡ present_reply presentation (step club event).reply
+  pub steps_club : next ≡ (step club event).club
 
--- an event failed, and the club is as it was
-pub record IsWithoutEffect {O : Type 0} (telling : Telling O) (club : Club) (event : Event) (told : Told O) (next : Club) : Type 0 where
-  pub failed : IsTrue (has_failed telling event told)
+-- an event failed, and the club is unchanged
+pub record IsWithoutEffect {O : Type 0} (presentation : Presentation O) (club : Club) (event : Event) (returned : Response O) (next : Club) : Type 0 where
+  pub failed : IsTrue (has_failed presentation event returned)
   pub kept : next ≡ club
 
-abbrev pub IsStep : {O : Type 0} → Telling O → Club → Event → Told O → Club → Type 0
-IsStep telling club event told next = IsAnswered telling club event told next ⊎ IsWithoutEffect telling club event told next
+abbrev pub IsStep : {O : Type 0} → Presentation O → Club → Event → Response O → Club → Type 0
+IsStep presentation club event returned next = IsAnsweredStep presentation club event returned next ⊎ IsWithoutEffect presentation club event returned next
 
--- the events were answered or failed, one after the other; this is what they were told, and this club is left
-abbrev pub IsRun : {O : Type 0} → Telling O → Club → List Event → List (Told O) → Club → Type 0
-IsRun telling club [] [] last = last ≡ club
-IsRun telling club (event ∷ events) (told ∷ replies) last =
-    (next : Club) × IsStep telling club event told next × IsRun telling next events replies last
-IsRun telling club events replies last = ⊥
+-- the events were answered or failed, one after the other, with these responses, and this club is left
+abbrev pub IsRun : {O : Type 0} → Presentation O → Club → List Event → List (Response O) → Club → Type 0
+IsRun presentation club [] [] last = last ≡ club
+IsRun presentation club (event ∷ events) (returned ∷ replies) last =
+    (next : Club) × IsStep presentation club event returned next × IsRun presentation next events replies last
+IsRun presentation club events replies last = ⊥
 
--- the events that were answered, and what these were told
-abbrev pub answered_events : {O : Type 0} → Telling O → List Event → List (Told O) → List Event
-answered_events telling (event ∷ events) (told ∷ replies) =
-    if has_failed telling event told
-    then answered_events telling events replies
-    else event ∷ answered_events telling events replies
-answered_events telling events replies = []
+-- the events that were answered, and their responses
+abbrev pub answered_events : {O : Type 0} → Presentation O → List Event → List (Response O) → List Event
+answered_events presentation (event ∷ events) (returned ∷ replies) =
+    if has_failed presentation event returned
+    then answered_events presentation events replies
+    else event ∷ answered_events presentation events replies
+answered_events presentation events replies = []
 
-abbrev pub answers : {O : Type 0} → Telling O → List Event → List (Told O) → List (Told O)
-answers telling (event ∷ events) (told ∷ replies) =
-    if has_failed telling event told then answers telling events replies else told ∷ answers telling events replies
-answers telling events replies = []
+abbrev pub answers : {O : Type 0} → Presentation O → List Event → List (Response O) → List (Response O)
+answers presentation (event ∷ events) (returned ∷ replies) =
+    if has_failed presentation event returned then answers presentation events replies else returned ∷ answers presentation events replies
+answers presentation events replies = []
 
--- the machine's run of the answered events alone tells these their replies, and leaves the club
-pub record IsRunOfAnswered {O : Type 0} (telling : Telling O) (club : Club) (events : List Event) (replies : List (Told O)) (last : Club) : Type 0 where
-  pub told : answers telling events replies ≡ map (told_of telling) (replies_of club (answered_events telling events replies))
-  pub left : last ≡ club_after club (answered_events telling events replies)
+-- the machine's run of the answered events alone gives these responses, and leaves this club
+pub record IsRunOfAnswered {O : Type 0} (presentation : Presentation O) (club : Club) (events : List Event) (replies : List (Response O))
+    (last : Club) : Type 0 where
+  pub returned : answers presentation events replies ≡ map (present_reply presentation) (replies_of club (answered_events presentation events replies))
+  pub left : last ≡ club_after club (answered_events presentation events replies)
 
 -- failed events can be left out
 abbrev pub LeavesOutFailed : Type 0 → Type 0
 LeavesOutFailed O =
-    (telling : Telling O) (club last : Club) (events : List Event) (replies : List (Told O))
-    → IsRun telling club events replies last
-    → IsRunOfAnswered telling club events replies last
+    (presentation : Presentation O) (club last : Club) (events : List Event) (replies : List (Response O))
+    → IsRun presentation club events replies last
+    → IsRunOfAnswered presentation club events replies last
 
--- and what is left are events within their limits, if all were
+-- the answered events are within their limits, if all events are
 abbrev pub LeavesEvents : Type 0 → Type 0
 LeavesEvents O =
-    (telling : Telling O) (events : List Event) (replies : List (Told O))
+    (presentation : Presentation O) (events : List Event) (replies : List (Response O))
     → All IsEvent events
-    → All IsEvent (answered_events telling events replies)
+    → All IsEvent (answered_events presentation events replies)
 
 -- two runs, of which the second begins where the first ends
-pub record AreRuns {O : Type 0} (telling : Telling O) (club last : Club) (front rest : List Event) (before since : List (Told O)) : Type 0 where
+pub record AreRuns {O : Type 0} (presentation : Presentation O) (club last : Club) (front rest : List Event) (before since : List (Response O)) : Type 0 where
   pub now : Club
-  pub first : IsRun telling club front before now
-  pub second : IsRun telling now rest since last
+  pub first : IsRun presentation club front before now
+  pub second : IsRun presentation now rest since last
 
--- a run is cut at a place
+-- a run can be cut in two
 abbrev pub CutsRuns : Type 0 → Type 0
 CutsRuns O =
-    (telling : Telling O) (club last : Club) (front rest : List Event) (before since : List (Told O))
+    (presentation : Presentation O) (club last : Club) (front rest : List Event) (before since : List (Response O))
     → length before ≡ length front
-    → IsRun telling club (front ++ rest) (before ++ since) last
-    → AreRuns telling club last front rest before since
+    → IsRun presentation club (front ++ rest) (before ++ since) last
+    → AreRuns presentation club last front rest before since
 
--- and joined again
+-- two runs can be joined
 abbrev pub JoinsRuns : Type 0 → Type 0
 JoinsRuns O =
-    (telling : Telling O) (club last : Club) (front rest : List Event) (before since : List (Told O))
-    → AreRuns telling club last front rest before since
-    → IsRun telling club (front ++ rest) (before ++ since) last
+    (presentation : Presentation O) (club last : Club) (front rest : List Event) (before since : List (Response O))
+    → AreRuns presentation club last front rest before since
+    → IsRun presentation club (front ++ rest) (before ++ since) last
 
--- where no answer to the office is told as a fault, the machine's own run is such a run
+-- if a desk presents no answer to the office as a fault, the machine's own run is such a run
 abbrev pub RunsWithoutFailures : Type 0 → Type 0
 RunsWithoutFailures O =
-    (telling : Telling O) (club : Club) (events : List Event)
-    → ((answer : OfficeAnswer) → IsFalse (telling.is_fault (telling.shown answer)))
-    → IsRun telling club events (map (told_of telling) (replies_of club events)) (club_after club events)
+    (presentation : Presentation O) (club : Club) (events : List Event)
+    → ((answer : OfficeAnswer) → IsFalse (presentation.is_fault (presentation.shown answer)))
+    → IsRun presentation club events (map (present_reply presentation) (replies_of club events)) (club_after club events)
 
--- for the machine never answers that memory or storage was refused
+-- the machine itself never replies that memory or storage was refused
 abbrev pub NeverUnavailable : Type 0
 NeverUnavailable = (club : Club) (event : Event) → (step club event).reply ≢ Replied (Refused Unavailable)

@@ -9,17 +9,17 @@ use Rattle.club_core.specs.Examples.{opening, root, slot_at, noon, ask}
 use Rattle.club_core.specs.declared.event.OfficeAnswer.{OfficeAnswer}
 use Rattle.club_core.specs.declared.event.OfficeAnswer.TheVariants.{Done, NewKey}
 use Rattle.club_core.specs.Run.{Event, Ordered, replies_of}
-use Rattle.club_laws.specs.Failed.{Told, ToMember, ToOffice, Telling, told_of, answered_events, answers}
+use Rattle.club_laws.specs.Failed.{Response, ToMember, ToOffice, Presentation, present_reply, answered_events, answers}
 
--- a desk that tells the office its answer, or nothing where memory or storage was refused
-abbrev pub telling : Telling (Option OfficeAnswer)
-telling = record { shown = λ answer. Some answer; is_fault = λ told. is_none told }
+-- a desk that returns its answer to the office, or none if memory or storage was refused
+abbrev pub presentation : Presentation (Option OfficeAnswer)
+presentation = record { shown = λ answer. Some answer; is_fault = λ returned. is_none returned }
 
 -- amy joins; she is credited again, and books, which both fail; then she looks at her account
 abbrev pub events : List Event
 events = opening ++ Ordered (Credit (codes "amy") 5) ∷ ask (asked.Book (slot_at 18) 7 2) noon ∷ ask asked.Account noon ∷ []
 
-abbrev pub replies : List (Told (Option OfficeAnswer))
+abbrev pub replies : List (Response (Option OfficeAnswer))
 replies =
     ToOffice (Some Done)
     ∷ ToOffice (Some Done)
@@ -30,8 +30,8 @@ replies =
     ∷ ToMember (AccountShown (codes "amy") 10_000 5 0 0)
     ∷ []
 
--- the others are told what they are told without these two
+-- the other responses are those of the run without these two
 abbrev pub LeavesOutFailedEvents : Type 0
 LeavesOutFailedEvents =
-    answers telling events replies
-    ≡ map (told_of telling) (replies_of empty_club (answered_events telling events replies))
+    answers presentation events replies
+    ≡ map (present_reply presentation) (replies_of empty_club (answered_events presentation events replies))

@@ -1,4 +1,4 @@
--- What a change and an event leave alone of a member's part (ours).
+-- Which changes and events leave a member's part unchanged (ours).
 use Rattle.std.specs.Prelude.{◌≡◌, ℕ, ◌+◌, Bool, List, [], if◌then◌else◌, Some}
 use Rattle.club_values.specs.declared.slot.Slot.{Slot}
 use Rattle.club_core.specs.declared.change.Change.{Change}
@@ -15,11 +15,11 @@ is_of_part name club (InsertBooking booking) = is_key_of name club booking.key
 is_of_part name club (MarkCancelled key number refund) = is_key_of name club key
 is_of_part name club change = is_own name club change
 
--- the member's part after a change of the club: changed alike, or left alone
+-- the member's part after a change of the club: changed by the same change, or unchanged
 abbrev pub part_after : List ℕ → Club → Change → Club
 part_after name club change = if is_of_part name club change then after change (part_of name club) else part_of name club
 
--- what each kind of change does to a member's part, where it leaves a sound club
+-- what each kind of change does to a member's part, if it leaves a sound club
 abbrev pub ChangesThePartAlike : Type 0
 ChangesThePartAlike =
     (name : List ℕ) (club : Club) (change : Change)
@@ -27,7 +27,7 @@ ChangesThePartAlike =
     → IsSound (after change club)
     → part_of name (after change club) ≡ part_after name club change
 
--- an event with no entry among the member's own leaves the member's part as it is
+-- an event with no entry among the member's own leaves the member's part unchanged
 abbrev pub LeavesThePart : Type 0
 LeavesThePart =
     (name : List ℕ) (club : Club) (event : Event)
@@ -35,7 +35,7 @@ LeavesThePart =
     → own_part name club event ≡ []
     → part_of name (step club event).club ≡ part_of name club
 
--- in every club, so before and after each event, the persons in a slot are the member's own and what others hold
+-- in every club, so before and after each event, the persons in a slot are the member's own plus those of others
 abbrev pub TakenIsOwnAndOthers : Type 0
 TakenIsOwnAndOthers =
     (name : List ℕ) (club : Club) (slot : Slot)

@@ -1,5 +1,5 @@
 pub mod SoundRuns
-pub mod DeskLaw
+pub mod SingleRequest
 pub mod Points
 pub mod Conservation
 pub mod Repeats
@@ -9,7 +9,7 @@ pub mod Failed
 pub mod FailedExample
 pub mod SoloLaw
 pub mod SoloExamples
-pub mod AsTold
+pub mod RunsWithFailures
 pub mod AccountExample
 pub mod Outside
 pub mod Revoked

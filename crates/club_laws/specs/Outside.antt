@@ -1,11 +1,11 @@
--- What the solo machine is told of others (ours): of the slot that is asked for, the persons and whether it is closed.
+-- What the solo machine sees of others (ours): of the requested slot, the number of persons and whether it is closed.
 use Rattle.std.specs.Prelude.{◌≡◌, ℕ, List, Option, Some, None, codes}
 use Rattle.club_values.specs.declared.slot.Slot.{Slot}
 use Rattle.club_core.specs.Club.{Club, empty_club, is_closed}
 use Rattle.club_core.specs.Sums.{taken_in}
 use Rattle.club_core.specs.Basis.{Basis, basis_of}
 use Rattle.club_core.specs.Pass.{Words}
-use Rattle.club_core.specs.Request.{slot_of}
+use Rattle.club_core.specs.Request.{request_slot}
 use Rattle.club_core.specs.Run.{Asked}
 use Rattle.club_core.specs.Solo.{bookings_of_others, own_part, own_events}
 use Rattle.club_laws.specs.SoloExamples.{amy_alone, amy_among_others}
@@ -17,17 +17,17 @@ HoldAlike name a b (Some slot) =
     (taken_in slot (bookings_of_others name a) ≡ taken_in slot (bookings_of_others name b))
     × (is_closed slot a ≡ is_closed slot b)
 
--- what the solo machine is told of a request of the member's is the same wherever others hold alike of its slot, whatever else
+-- what the solo machine sees of a member's request is the same in two clubs if others hold the same of its slot, whatever else
 -- the clubs hold
-abbrev pub TellsTheSlotAlone : Type 0
-TellsTheSlotAlone =
+abbrev pub SeesTheSlotAlone : Type 0
+SeesTheSlotAlone =
     (name : List ℕ) (a b : Club) (words : Words) (moment : ℕ) (in_a in_b : Basis)
     → basis_of a words ≡ Some in_a
     → basis_of b words ≡ Some in_b
     → in_a.member.name ≡ in_b.member.name
-    → HoldAlike name a b (slot_of words.request)
+    → HoldAlike name a b (request_slot words.request)
     → own_part name a (Asked words moment) ≡ own_part name b (Asked words moment)
 
--- a member's own events are the same among others who hold nothing of its slots when it asks, and without them
-abbrev pub TellsNothingOfOthers : Type 0
-TellsNothingOfOthers = own_events (codes "amy") empty_club amy_among_others ≡ own_events (codes "amy") empty_club amy_alone
+-- a member's own events are the same with and without others, if these hold nothing of its slots when it asks
+abbrev pub SeesNothingOfOthers : Type 0
+SeesNothingOfOthers = own_events (codes "amy") empty_club amy_among_others ≡ own_events (codes "amy") empty_club amy_alone

@@ -1,4 +1,4 @@
--- What a run tells of points, as a reader of its events and replies computes it, without the tables (ours).
+-- Points in a run, computed from its events and replies alone, without the tables (ours).
 use Rattle.std.specs.Prelude.{ℕ, ◌+◌, ◌==◌, ◌&&◌, not, Bool, List, [], ◌∷◌, ◌++◌, filter, flat_map, sum_by, if◌then◌else◌}
 use Rattle.std.specs.Str.{bytes_eq}
 use Rattle.std.specs.List.{list_any}
@@ -9,7 +9,7 @@ use Rattle.club_core.specs.declared.event.EventReply.TheVariants.{Replied, Answe
 use Rattle.club_core.specs.declared.event.OfficeAnswer.TheVariants.{Done, NewKey}
 use Rattle.club_core.specs.Run.{Event, Ordered}
 
--- points that a reply tells, with the key and the number of the booking
+-- points in a reply, with the key and the number of the booking
 pub record Entry : Type 0 where
   pub key : List ℕ
   pub number : ℕ
@@ -18,30 +18,30 @@ pub record Entry : Type 0 where
 abbrev pub is_entry_of : List ℕ → ℕ → Entry → Bool
 is_entry_of key number entry = bytes_eq entry.key key && entry.number == number
 
--- of each key and number the first entry
+-- the first entry of each key and number
 abbrev pub firsts : List Entry → List Entry
 firsts [] = []
 firsts (entry ∷ entries) = entry ∷ filter (λ (other : Entry). not (is_entry_of entry.key entry.number other)) (firsts entries)
 
--- the charge that a served booking tells
-abbrev pub charge_told : EventReply → List Entry
-charge_told (Replied (Booked key number charge left)) = record { key = key; number = number; points = charge } ∷ []
-charge_told reply = []
+-- the charge in the reply to a served booking
+abbrev pub charge_of_reply : EventReply → List Entry
+charge_of_reply (Replied (Booked key number charge left)) = record { key = key; number = number; points = charge } ∷ []
+charge_of_reply reply = []
 
-abbrev pub charges_told : List EventReply → List Entry
-charges_told replies = flat_map charge_told replies
+abbrev pub charges_of_replies : List EventReply → List Entry
+charges_of_replies replies = flat_map charge_of_reply replies
 
--- the refund that a served cancellation tells
-abbrev pub refund_told : EventReply → List Entry
-refund_told (Replied (Cancelled key number refund)) = record { key = key; number = number; points = refund } ∷ []
-refund_told reply = []
+-- the refund in the reply to a served cancellation
+abbrev pub refund_of_reply : EventReply → List Entry
+refund_of_reply (Replied (Cancelled key number refund)) = record { key = key; number = number; points = refund } ∷ []
+refund_of_reply reply = []
 
-abbrev pub refunds_told : List EventReply → List Entry
-refunds_told replies = flat_map refund_told replies
+abbrev pub refunds_of_replies : List EventReply → List Entry
+refunds_of_replies replies = flat_map refund_of_reply replies
 
 -- the keys that a member was given
 abbrev pub key_given : List ℕ → Event → EventReply → List (List ℕ)
-key_given member (Ordered (AddKey name owner root)) (Answered (NewKey told seed)) = if bytes_eq owner member then name ∷ [] else []
+key_given member (Ordered (AddKey name owner root)) (Answered (NewKey returned seed)) = if bytes_eq owner member then name ∷ [] else []
 key_given member event reply = []
 
 abbrev pub keys_given : List ℕ → List Event → List EventReply → List (List ℕ)

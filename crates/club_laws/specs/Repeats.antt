@@ -23,22 +23,22 @@ pub record WasServed (club : Club) (history : List Event) (words : Words) (reply
   pub moment : ℕ
   pub rest : List Event
   pub place : history ≡ front ++ Asked first moment ∷ rest
-  pub told : (step (club_after club front) (Asked first moment)).reply ≡ Replied reply
+  pub returned : (step (club_after club front) (Asked first moment)).reply ≡ Replied reply
   pub served : IsBookedOrCancelled reply
   pub same_key : key_of words.pass ≡ key_of first.pass
   pub same_request : words.request ≡ first.request
 
--- what was served is told again, and changes nothing, whatever happened since and whatever the moment
-abbrev pub RepeatsTellTheSame : Type 0
-RepeatsTellTheSame =
+-- an accepted repeat of it gets the same reply and changes nothing, whatever happened since and whatever the moment
+abbrev pub RepeatsReturnTheSame : Type 0
+RepeatsReturnTheSame =
     (club : Club) (history : List Event) (words : Words) (moment : ℕ) (reply : Reply)
     → WasServed club history words reply
     → IsAcceptedIn (club_after club history) words moment
     → step (club_after club history) (Asked words moment) ≡ record { reply = Replied reply; club = club_after club history }
 
--- without the event, all other replies are the same, and so is the club
+-- without the event, all other replies and the club at the end are the same
 pub record MayBeLeftOut (club : Club) (front : List Event) (event : Event) (rest : List Event) (reply : EventReply) : Type 0 where
-  pub told : replies_of club (front ++ event ∷ rest) ≡ replies_of club front ++ reply ∷ replies_of (club_after club front) rest
+  pub returned : replies_of club (front ++ event ∷ rest) ≡ replies_of club front ++ reply ∷ replies_of (club_after club front) rest
   pub others : replies_of club (front ++ rest) ≡ replies_of club front ++ replies_of (club_after club front) rest
   pub kept : club_after club (front ++ event ∷ rest) ≡ club_after club (front ++ rest)
 

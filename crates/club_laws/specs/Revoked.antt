@@ -15,9 +15,9 @@ pub record WasRevoked (club : Club) (history : List Event) (name : List ℕ) : T
   pub front : List Event
   pub rest : List Event
   pub place : history ≡ front ++ Ordered (RevokeKey name) ∷ rest
-  pub told : (step (club_after club front) (Ordered (RevokeKey name))).reply ≡ Answered Done
+  pub returned : (step (club_after club front) (Ordered (RevokeKey name))).reply ≡ Answered Done
 
--- from then on nothing is served under it, whatever the office and others do
+-- from then on no request under it is served, whatever the office and others do
 abbrev pub ServesNoRevokedKey : Type 0
 ServesNoRevokedKey =
     (club : Club) (history : List Event) (name : List ℕ) (words : Words) (moment : ℕ)

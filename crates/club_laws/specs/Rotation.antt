@@ -1,4 +1,4 @@
--- Runs with a rotation of a key, which compute (ours).
+-- Example runs with a rotation of a key, which compute (ours).
 use Rattle.std.specs.Prelude.{◌≡◌, ℕ, List, [], ◌∷◌, Some, Ok, replicate, codes}
 use Rattle.std.specs.Str.{bytes_eq}
 use Rattle.club_core.specs.declared.command.Command.TheVariants.{RevokeKey, RotateKey}
@@ -33,7 +33,7 @@ before_midnight = 29_617_919
 abbrev pub rotate : List ℕ → ℕ → Event
 rotate root until = Ordered (RotateKey (codes "amy-1") root until)
 
--- the older root is good until the moment, and a repeat under the new one gets the recorded reply, and nothing is charged
+-- the older root is good until the moment, a repeat under the new one gets the recorded reply, and nothing is charged
 abbrev pub RepeatsUnderANewRoot : Type 0
 RepeatsUnderANewRoot =
     replies_of opened_club

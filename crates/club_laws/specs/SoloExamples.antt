@@ -1,4 +1,4 @@
--- Runs from the empty club that compute: one member's requests, alone and among those of another (ours).
+-- Example runs from the empty club, which compute: one member's requests, alone and among those of another (ours).
 use Rattle.std.specs.Prelude.{◌≡◌, true, List, [], ◌∷◌, ◌++◌, Some, Ok, codes}
 use Rattle.club_core.specs.declared.command.Command.TheVariants.{AddMember, Credit, AddKey, RevokeKey, CloseSlot}
 use Rattle.club_core.specs.declared.request.Request.{Request}
@@ -10,8 +10,8 @@ use Rattle.club_core.specs.Examples.{opening, root, slot_at, noon, ask, served_b
 use Rattle.club_laws.specs.SoloLaw.{replies_to}
 
 -- the replies to amy's requests in a run that begins before she is a member
-abbrev pub told_to_amy : List Event → List EventReply
-told_to_amy events = replies_to (codes "amy") empty_club events (replies_of empty_club events)
+abbrev pub replies_to_amy : List Event → List EventReply
+replies_to_amy events = replies_to (codes "amy") empty_club events (replies_of empty_club events)
 
 -- a request of bob's key
 abbrev pub ask_of_bob : Request → Event
@@ -26,7 +26,7 @@ amy_alone =
     opening ++ ask (asked.Book (slot_at 18) 7 2) noon ∷ ask asked.Account noon ∷ ask (asked.Cancel (slot_at 18) 7) noon ∷ []
 
 abbrev pub AnswersAmyAlone : Type 0
-AnswersAmyAlone = told_to_amy amy_alone ≡ served_booking 7 600 1 ∷ account 9_400 1 600 ∷ served_cancellation 7 600 ∷ []
+AnswersAmyAlone = replies_to_amy amy_alone ≡ served_booking 7 600 1 ∷ account 9_400 1 600 ∷ served_cancellation 7 600 ∷ []
 
 -- the same where bob books other slots and hers, under her number too, leaves hers, is credited, gets a key, and has one revoked,
 -- and the office closes another slot
@@ -49,14 +49,14 @@ amy_among_others =
     ∷ ask (asked.Cancel (slot_at 18) 7) noon
     ∷ []
 
--- she is told the same
+-- she gets the same replies
 abbrev pub AnswersAmyAmongOthers : Type 0
-AnswersAmyAmongOthers = told_to_amy amy_among_others ≡ told_to_amy amy_alone
+AnswersAmyAmongOthers = replies_to_amy amy_among_others ≡ replies_to_amy amy_alone
 
 -- where bob has a place in her slot, one place fewer is left, and all else is the same
-abbrev pub TellsAmyOfATakenPlace : Type 0
-TellsAmyOfATakenPlace =
-    told_to_amy
+abbrev pub ShowsAmyATakenPlace : Type 0
+ShowsAmyATakenPlace =
+    replies_to_amy
     (opening
     ++ bob_joins
     ++ ask_of_bob (asked.Book (slot_at 18) 7 0)

@@ -19,14 +19,14 @@ replies_to name club (event ∷ events) (reply ∷ replies) =
     else replies_to name (step club event).club events replies
 replies_to name club events replies = []
 
--- the replies to a member's requests are those that the member's part and own events give, whoever else does what in between
+-- the replies to a member's requests follow from the member's part and own events, whoever else does what in between
 abbrev pub SoloLaw : Type 0
 SoloLaw =
     (name : List ℕ) (club : Club) (events : List Event)
     → IsSound club
     → replies_to name club events (replies_of club events) ≡ map Replied (solo_replies (part_of name club) (own_events name club events))
 
--- so two clubs in which a member has one part, and two lists with the same events of the member's own, give it the same replies
+-- so if two clubs hold the same part of a member, and two lists the same events of its own, the member gets the same replies
 abbrev pub SoloLawOfTwo : Type 0
 SoloLawOfTwo =
     (name : List ℕ) (a b : Club) (events others : List Event)

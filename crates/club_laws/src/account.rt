@@ -1,8 +1,9 @@
-//! What an account tells.
+//! The account: a member's open bookings are counted over all its keys.
 
 ghost use Rattle.club_laws.specs.AccountExample.{CountsOverAllKeys};
 
-/// What is open is counted over all keys of the member, without slots that have begun.
+/// An account counts the open bookings of all keys of the member. A slot that has begun doesn't
+/// count.
 pub fn counts_over_all_keys()
     ensures { CountsOverAllKeys }
 {}

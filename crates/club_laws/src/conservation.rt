@@ -3,13 +3,13 @@
 ghost use Rattle.club_laws.specs.Conservation.{ConservesPoints, NeverOverbooks, SoundClubsHavePlaces};
 ghost use Rattle.club_laws.specs.ExampleRuns.{CountsEachOnce};
 
-/// A charge and a refund count once, however often they are told.
+/// A charge and a refund count once, however often a reply repeats them.
 pub fn counts_each_once()
     ensures { CountsEachOnce }
 {}
 
-/// What a member has and what it was charged make what it was credited and what came back, and no
-/// balance is below 0.
+/// A member's balance and its charges add up to its credits and its refunds, and no balance is
+/// below 0.
 pub fn conserves_points()
     ensures { ConservesPoints }
 {}
@@ -19,7 +19,7 @@ pub fn never_overbooks()
     ensures { NeverOverbooks }
 {}
 
-/// So it has in every sound club, whatever run led to it.
+/// Every sound club has a place for each person who booked a slot, whatever run led to it.
 pub fn sound_clubs_have_places()
     ensures { SoundClubsHavePlaces }
 {}

@@ -1,14 +1,14 @@
-//! Laws of the club's machine over whole runs, each the contract of a function that does nothing.
+//! Laws of the club's machine over whole runs, each stated as the contract of an empty function.
 #![tactic(auto)]
 
 pub mod account;
-pub mod as_told;
 pub mod conservation;
-pub mod desk_law;
 pub mod failed;
 pub mod frame;
 pub mod once;
 pub mod outside;
 pub mod rotation;
+pub mod runs_with_failures;
+pub mod single_request;
 pub mod solo;
 pub mod sound;

@@ -1,14 +1,14 @@
-//! What the solo machine is told of others.
+//! What the solo machine sees of others.
 
-ghost use Rattle.club_laws.specs.Outside.{TellsNothingOfOthers, TellsTheSlotAlone};
+ghost use Rattle.club_laws.specs.Outside.{SeesNothingOfOthers, SeesTheSlotAlone};
 
-/// Of a request it is told the persons whom others have in its slot, and whether that is closed,
+/// For a request it sees how many persons others have in the slot and whether the slot is closed,
 /// and nothing else.
-pub fn tells_the_slot_alone()
-    ensures { TellsTheSlotAlone }
+pub fn sees_the_slot_alone()
+    ensures { SeesTheSlotAlone }
 {}
 
 /// A member's own events are the same in a club with others' rows and in one without them.
-pub fn tells_nothing_of_others()
-    ensures { TellsNothingOfOthers }
+pub fn sees_nothing_of_others()
+    ensures { SeesNothingOfOthers }
 {}

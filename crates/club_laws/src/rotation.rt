@@ -1,9 +1,9 @@
-//! A key that is rotated.
+//! Examples in which the office rotates a key.
 
 ghost use Rattle.club_laws.specs.Rotation.{DropsTheOldestRoot, RepeatsUnderANewRoot};
 
-/// The older root is good until the moment. A booking that was made under it is told again under
-/// the new one as it was first told, and nothing is charged.
+/// The older root is good until the moment. A booking that was made under it is repeated under the
+/// new root: the reply is the first one, and nothing is charged.
 pub fn repeats_under_a_new_root()
     ensures { RepeatsUnderANewRoot }
 {}

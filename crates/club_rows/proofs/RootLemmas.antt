@@ -4,13 +4,13 @@ use Rattle.std.specs.Prelude.{replicate}
 use Rattle.std.proofs.Math.Seq.{take-append_seam}
 use Rattle.std.proofs.lemmas.List.{length-append, drop-replicate}
 use Rattle.club_rows.specs.Limits.{IsRoot}
-use Rattle.club_rows.specs.RootInside.{bytes_of, inside_of, HoldsRoot}
+use Rattle.club_rows.specs.RootInside.{root_bytes, root_inside, HoldsRoot}
 
 -- the root that is read from what holds it
-bytes_of-inside_of : (root : List ℕ) → bytes_of (inside_of root) ≡ root
+bytes_of-inside_of : (root : List ℕ) → root_bytes (root_inside root) ≡ root
 bytes_of-inside_of root = take-append_seam root _
 
-HoldsRoot-inside_of : (root : List ℕ) → IsRoot root → HoldsRoot (inside_of root)
+HoldsRoot-inside_of : (root : List ℕ) → IsRoot root → HoldsRoot (root_inside root)
 HoldsRoot-inside_of root h =
     let same = bytes_of-inside_of root in
     record {

@@ -1,4 +1,4 @@
--- The rows that the values of columns are (ours).
+-- The rows that the values of columns represent (ours).
 use Rattle.std.specs.Prelude.{◌≡◌, ℕ, ◌≤◌, ℤ, pos, Bool, true, false, List, None}
 use Rattle.club_values.specs.declared.slot.Slot.{Slot}
 use Rattle.club_values.specs.Kind.{kind_text}
@@ -33,7 +33,7 @@ pub record IsFacilityOf (columns : FacilityColumns) (facility : Facility) : Type
   pub same_opens : columns.opens ≡ pos facility.opens
   pub same_shuts : columns.shuts ≡ pos facility.shuts
 
--- without an older root, of which these columns don't tell
+-- without an older root, which these columns don't hold
 pub record IsKeyOf (name member root : List ℕ) (revoked : ℤ) (key : Key) : Type 0 where
   pub row : IsKey key
   pub same_name : name ≡ key.name
@@ -48,7 +48,7 @@ pub record IsSlotOf (facility : List ℕ) (day hour : ℤ) (slot : Slot) : Type 
   pub same_day : day ≡ pos slot.day
   pub same_hour : hour ≡ pos slot.hour
 
--- what a booking was charged, and what came back: nothing unless it is cancelled, and at most the charge
+-- the charge and the refund of a booking: the refund is 0 unless it is cancelled, and at most the charge
 pub record IsPaid (charge_value cancelled_value refund_value : ℤ) (charge : ℕ) (cancelled : Bool) (refund : ℕ) : Type 0 where
   pub same_charge : charge_value ≡ pos charge
   pub same_cancelled : IsTruth cancelled_value cancelled

@@ -12,11 +12,11 @@ charge_of facility guests = facility.price * (guests + 1)
 abbrev pub is_open_at : Facility → ℕ → Bool
 is_open_at facility hour = nat_le facility.opens hour && nat_lt hour facility.shuts
 
--- how far ahead a slot may begin, in minutes: 60 days
+-- how many minutes ahead a slot may begin: those of 60 days
 abbrev pub booking_window : ℕ
 booking_window = 60 * minutes_a_day
 
--- the hour is within opening, and the slot begins later than the moment, by the window at most
+-- the hour is within the opening hours, and the slot begins after the moment, at most the window later
 abbrev pub is_bookable : Facility → Slot → ℕ → Bool
 is_bookable facility slot moment =
     is_open_at facility slot.hour && nat_lt moment (start_of slot) && nat_le (start_of slot) (moment + booking_window)

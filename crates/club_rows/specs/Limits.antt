@@ -1,16 +1,16 @@
--- The limits of the values that stand alone (ours).
+-- The limits of single values (ours).
 use Rattle.std.specs.Prelude.{ℕ, ◌-◌, ◌*◌, ◌≤◌, List, length}
 use Rattle.club_values.specs.Hour.{hours_a_day}
 use Rattle.club_values.specs.Slot.{guests_limit}
 
--- the points that a member is ever credited, and the bookings that a member may have open
+-- the most points that a member is ever credited, and the most bookings that a member may have open
 abbrev pub credited_limit : ℕ
 credited_limit = 999_999_999
 
 abbrev pub quota_limit : ℕ
 quota_limit = 99
 
--- the places of a facility, the points that it takes a person, and the last hour at which it may shut
+-- the most places of a facility, its highest price for a person, and the last hour at which it may shut
 abbrev pub places_limit : ℕ
 places_limit = 50
 
@@ -20,7 +20,7 @@ price_limit = 9_999
 abbrev pub shutting_limit : ℕ
 shutting_limit = hours_a_day
 
--- the charge of all places at the highest price, and the places that a booking of one person leaves of them
+-- the charge of all places at the highest price, and the places left after a booking of one person
 abbrev pub charge_limit : ℕ
 charge_limit = places_limit * price_limit
 

@@ -1,3 +1,5 @@
+//! Bookings, their refunds and their columns.
+
 ghost use Rattle.std.specs.Prelude.{◌≡◌};
 ghost use Rattle.club_values.specs.Reading.{Reads};
 
@@ -7,13 +9,13 @@ use crate::facility::{MAX_PLACES, MAX_PRICE};
 use crate::guests::Guests;
 use club_values::{MINUTES_A_DAY, Moment, Name, Slot};
 
-/// The most points that a booking is charged: those of all places at the highest price.
+/// The most points of a booking's charge: those of all places at the highest price.
 pub const MAX_CHARGE: u32 = MAX_PLACES * MAX_PRICE;
 
-/// The most places that a booking leaves in its slot: those of a booking of one person.
+/// The most places left after a booking: those after a booking of one person.
 const MAX_LEFT: u32 = MAX_PLACES - 1;
 
-/// How long before a slot begins all points come back, in minutes: a day.
+/// How many minutes before a slot's start all points are refunded: those of a day.
 const FULL_REFUND_MINUTES: u64 = MINUTES_A_DAY as u64;
 
 /// A booking of a slot. A booking that was cancelled keeps its row.
@@ -24,12 +26,12 @@ pub struct Booking {
     pub number: BookingNumber,
     pub slot: Slot,
     pub guests: Guests,
-    /// The points that were charged.
+    /// The points charged.
     pub charge: u32,
-    /// The places that were left in the slot after the booking.
+    /// The places left in the slot after the booking.
     pub left: u8,
     pub cancelled: bool,
-    /// The points that came back; 0 where the booking isn't cancelled.
+    /// The points refunded; 0 if the booking isn't cancelled.
     pub refund: u32,
 }
 
@@ -53,8 +55,8 @@ impl Booking {
     ghost use Rattle.club_rows.specs.Booking.{refund_at};
     ghost use Rattle.club_rows.specs.Columns.{IsBookingOf};
 
-    /// What a cancellation at this moment gives back, where the slot hasn't begun: all points a day
-    /// or more ahead, and else half of them, rounded down.
+    /// The points refunded for a cancellation at this moment, if the slot hasn't begun: all of them
+    /// a day or more ahead, else half of them, rounded down.
     pub fn refund_at(&self, moment: Moment) -> u32
         ensures { result ≡ refund_at self.now moment }
     {
@@ -65,7 +67,7 @@ impl Booking {
         }
     }
 
-    /// The booking of these columns; `None` where a value is out of its limits.
+    /// The booking of these columns; `None` if a value is outside its limits.
     pub fn from_columns(columns: &BookingColumns<'_>) -> Option<Booking>
         ensures { Reads (IsBookingOf columns.now) result }
     {

@@ -1,3 +1,5 @@
+//! The numbers of bookings.
+
 ghost use Rattle.std.specs.Prelude.{◌≡◌, ◌↔◌, IsSome, IfSome};
 ghost use Rattle.club_rows.specs.Limits.{IsBookingNumber};
 

@@ -1,3 +1,5 @@
+//! Facilities, their charges, opening hours and columns.
+
 ghost use Rattle.std.specs.Prelude.{◌≡◌};
 ghost use Rattle.club_values.specs.Reading.{Reads};
 
@@ -5,7 +7,7 @@ use crate::columns::number_within;
 use crate::guests::Guests;
 use club_values::{HOURS_A_DAY, Hour, Kind, Name};
 
-/// The most persons that a slot of a facility has room for.
+/// The most places of a slot.
 pub const MAX_PLACES: u32 = 50;
 
 /// The highest price of a facility, in points for a person and a slot.
@@ -19,7 +21,7 @@ pub const LAST_HOUR: u32 = HOURS_A_DAY as u32;
 pub struct Facility {
     pub name: Name,
     pub kind: Kind,
-    /// How many persons a slot has room for, 1 to 50.
+    /// The places of a slot, one for each person, 1 to 50.
     pub places: u8,
     /// The points for a person and a slot, 0 to 9,999.
     pub price: u16,
@@ -44,7 +46,7 @@ impl Facility {
     ghost use Rattle.club_rows.specs.Columns.{IsFacilityOf};
     ghost use Rattle.club_rows.specs.Facility.{charge_of, is_open_at};
 
-    /// What a booking for so many guests is charged, in points.
+    /// The charge of a booking with so many guests, in points.
     pub fn charge(&self, guests: Guests) -> u32
         ensures { result ≡ charge_of self.now guests }
     {
@@ -58,7 +60,7 @@ impl Facility {
         self.opens <= hour.number() && hour.number() < self.shuts
     }
 
-    /// The facility of these columns; `None` where a value is out of its limits.
+    /// The facility of these columns; `None` if a value is outside its limits.
     pub fn from_columns(columns: &FacilityColumns<'_>) -> Option<Facility>
         ensures { Reads (IsFacilityOf columns.now) result }
     {

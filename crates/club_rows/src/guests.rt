@@ -1,10 +1,12 @@
+//! The guests of a booking.
+
 ghost use Rattle.std.specs.Prelude.{◌≡◌, ◌+◌, ◌↔◌, IsSome, IfSome};
 ghost use Rattle.club_rows.specs.Limits.{IsGuests};
 
 use club_values::MAX_GUESTS;
 use std::marker::Model;
 
-/// How many guests a booking brings beside its member, 0 to 49. Contracts see it as its number.
+/// The guests of a booking, not counting its member, 0 to 49. Contracts see it as its number.
 #[derive(Clone, Copy, Debug, PartialEq, Eq, PartialOrd, Ord)]
 pub struct Guests {
     count: u8,

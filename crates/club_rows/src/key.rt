@@ -1,3 +1,5 @@
+//! Keys, their roots and their columns.
+
 ghost use Rattle.std.specs.Prelude.{◌≡◌};
 ghost use Rattle.std.specs.Option.{option_copied};
 ghost use Rattle.club_values.specs.Reading.{Reads};
@@ -10,7 +12,7 @@ use club_values::{Moment, Name};
 #[derive(Clone, Copy, Debug, PartialEq, Eq)]
 pub struct OlderRoot {
     pub root: Root,
-    /// The first moment at which the root is good no more.
+    /// The first moment at which the root is no longer good.
     pub until: Moment,
 }
 
@@ -20,7 +22,7 @@ pub struct Key {
     pub name: Name,
     pub member: Name,
     pub root: Root,
-    /// The root before that one; `None` where the key was never rotated.
+    /// The root before the last rotation; `None` if the key was never rotated.
     pub older: Option<OlderRoot>,
     pub revoked: bool,
 }
@@ -29,8 +31,8 @@ impl Key {
     ghost use Rattle.club_rows.specs.Columns.{IsKeyOf};
     ghost use Rattle.club_rows.specs.Key.{older_root_at};
 
-    /// The older root, where it is good at the moment: where that is strictly earlier than its end.
-    /// The root of the row itself is good at each moment.
+    /// The older root, if it is good at the moment: if the moment is strictly earlier than its end.
+    /// The key's own root is always good.
     pub fn older_root_at(&self, moment: Moment) -> Option<&Root>
         ensures { option_copied result ≡ older_root_at self.now.older moment }
     {
@@ -41,7 +43,7 @@ impl Key {
     }
 
     /// The key of the columns `name`, `member`, `root` and `revoked`, without an older root; `None`
-    /// where a value is out of its limits.
+    /// if a value is outside its limits.
     pub fn from_columns(name: &[u8], member: &[u8], root: &[u8], revoked: i64) -> Option<Key>
         ensures { Reads (IsKeyOf name.now member.now root.now revoked) result }
     {

@@ -1,5 +1,5 @@
-//! The rows of the club with their limits, and readers of the columns that hold them. Nothing here
-//! takes memory.
+//! The rows of the club with their limits, and parsers of the columns that hold them. Nothing here
+//! allocates memory.
 #![tactic(auto)]
 
 mod booking;

@@ -1,3 +1,5 @@
+//! Members and their columns.
+
 ghost use Rattle.club_values.specs.Reading.{Reads};
 
 use crate::columns::number_within;
@@ -13,7 +15,7 @@ pub const MAX_QUOTA: u32 = 99;
 #[derive(Clone, Copy, Debug, PartialEq, Eq)]
 pub struct Member {
     pub name: Name,
-    /// All points that the member was ever credited, 0 to 999,999,999.
+    /// All points ever credited to the member, 0 to 999,999,999.
     pub credited: u32,
     /// How many bookings the member may have open, 0 to 99.
     pub quota: u8,
@@ -22,7 +24,7 @@ pub struct Member {
 impl Member {
     ghost use Rattle.club_rows.specs.Columns.{IsMemberOf};
 
-    /// The member of the columns `name`, `credited` and `quota`; `None` where a value is out of its
+    /// The member of the columns `name`, `credited` and `quota`; `None` if a value is outside its
     /// limits.
     pub fn from_columns(name: &[u8], credited: i64, quota: i64) -> Option<Member>
         ensures { Reads (IsMemberOf name.now credited quota) result }

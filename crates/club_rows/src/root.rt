@@ -1,3 +1,5 @@
+//! The roots of keys: the secrets that sign their passes.
+
 ghost use Rattle.std.specs.Prelude.{◌≡◌, ◌↔◌, IsTrue, IsSome, IfSome, nat_eq};
 ghost use Rattle.std.specs.Cmp.Lexicographic.{pointwise, nat_list_eq_equiv};
 ghost use Rattle.std.specs.Cmp.{partial_equiv_from_equiv};
@@ -12,7 +14,7 @@ pub const MIN_ROOT_LEN: usize = 16;
 /// The most bytes of a root.
 pub const MAX_ROOT_LEN: usize = 64;
 
-/// The secret of a key, 16 to 64 bytes, from which its passes are signed. Contracts see it as its
+/// The secret of a key, 16 to 64 bytes, under which its passes are signed. Contracts see it as its
 /// bytes.
 #[derive(Clone, Copy)]
 pub struct Root {
@@ -26,23 +28,23 @@ impl Model for Root {
     ghost Value = { List ℕ };
 
     ghost use Rattle.club_rows.specs.RootInside.{
-      bytes_of,
-      inside_of,
+      root_bytes,
+      root_inside,
       HoldsRoot,
       inside_of-bytes_of,
     };
 
-    ghost view = { bytes_of };
+    ghost view = { root_bytes };
 
     ghost invariant = { HoldsRoot };
 
-    ghost inverse = { inside_of };
+    ghost inverse = { root_inside };
 
     ghost inverse_ok = { inside_of-bytes_of };
 }
 
 impl Root {
-    /// The root of these bytes; `None` where they are fewer than 16 or more than 64.
+    /// The root of these bytes; `None` if they are fewer than 16 or more than 64.
     pub fn new(bytes: &[u8]) -> Option<Root>
         ensures within { IsSome result ↔ IsRoot bytes.now }
         ensures value { IfSome result (λ root. root ≡ bytes.now) }
@@ -50,10 +52,10 @@ impl Root {
         if bytes.len() < MIN_ROOT_LEN || bytes.len() > MAX_ROOT_LEN {
             return None;
         }
-        let mut room = [0; MAX_ROOT_LEN];
-        room[..bytes.len()].copy_from_slice(bytes);
+        let mut buffer = [0; MAX_ROOT_LEN];
+        buffer[..bytes.len()].copy_from_slice(bytes);
         Some(Root {
-            bytes: room,
+            bytes: buffer,
             len: bytes.len() as u8,
         })
     }
@@ -84,7 +86,7 @@ impl Eq for Root {
     ghost laws = { nat_list_eq_equiv };
 }
 
-/// Tells nothing of the bytes, which are secret.
+/// Shows none of the bytes, which are secret.
 impl fmt::Debug for Root {
     ghost use Rattle.std.specs.Prelude.{Some, codes};
 

@@ -18,8 +18,8 @@ use Rattle.sqlite.specs.State.{State, Opens, IsLive}
 use Rattle.sqlite.proofs.Theorems.{opens_again}
 use Rattle.club_core.specs.Club.{Club, empty_club}
 use Rattle.club_tables.specs.Schema.{no_schema}
-use Rattle.club_tables.specs.Tables.{HoldsClub, IsLeftOf, Stands, IsFound}
-use Rattle.club_store.specs.Crash.{OneStands, OneIsFound, HoldsOneOf, CrashLeaves}
+use Rattle.club_tables.specs.Tables.{HoldsClubAnyVersion, IsLeftOf, Represents, IsFound}
+use Rattle.club_store.specs.Crash.{RepresentsOne, OneIsFound, HoldsOneOf, CrashLeaves}
 
 -- every crash leaves what was committed last
 abbrev IsSettled : State → Type 0
@@ -37,10 +37,10 @@ database_once one other p q same =
     let schemas = schema_once one.schema other.schema other.trees (subst (IsSound one.schema) same p) q in
     λ i. record { schema = schemas i; trees = same i }
 
-pub is_database : (db : Database) (club : Club) → HoldsClub db club → IsDatabase db
-is_database db club (inl (inl tables)) = tables.lies.database
-is_database db club (inl (inr unindexed)) = unindexed.lies.database
-is_database db club (inr (inl first)) = first.lies.database
+pub is_database : (db : Database) (club : Club) → HoldsClubAnyVersion db club → IsDatabase db
+is_database db club (inl (inl tables)) = tables.holds_rows.database
+is_database db club (inl (inr unindexed)) = unindexed.holds_rows.database
+is_database db club (inr (inl first)) = first.holds_rows.database
 is_database db club (inr (inr blank)) = blank.2
 
 -- what a crash left is a database
@@ -51,22 +51,22 @@ left_is_sound trees (club ∷ clubs) (inr there) = left_is_sound trees clubs the
 
 module _ (now : State) (opened : Opens now) (live : IsLive now) (settled : IsSettled now) where
   -- the connection that is opened holds the club that was left
-  holds_left : (club : Club) → (db : Database) → db.trees ≡ now.committed.trees → HoldsClub db club → HoldsClub now.committed club
+  holds_left : (club : Club) → (db : Database) → db.trees ≡ now.committed.trees → HoldsClubAnyVersion db club → HoldsClubAnyVersion now.committed club
   holds_left club db same holds =
-      subst (λ (d : Database). HoldsClub d club) (database_once db now.committed (is_database db club holds) (live opened.is_open).1 same) holds
+      subst (λ (d : Database). HoldsClubAnyVersion d club) (database_once db now.committed (is_database db club holds) (live opened.is_open).1 same) holds
 
-  finds : (club : Club) → HoldsClub now.committed club → IsFound now club []
+  finds : (club : Club) → HoldsClubAnyVersion now.committed club → IsFound now club []
   finds club holds = record {
     held = λ _ _. holds;
     settled = λ _ _. opened.clean;
     left = λ _ trees may. inl (now.committed, sym (settled opened.is_open trees may), holds);
   }
 
-  pub one_stands : (next : State) → ((club : Club) (others : List Club) → IsFound now club others → Stands next club others)
-      → (clubs : List Club) → IsLeftOf now.committed.trees clubs → OneStands next clubs
-  one_stands next opens [] left = left
-  one_stands next opens (club ∷ clubs) (inl here) = inl (opens club [] (finds club (holds_left club here.0 here.1 here.2)))
-  one_stands next opens (club ∷ clubs) (inr there) = inr (one_stands next opens clubs there)
+  pub represents_one : (next : State) → ((club : Club) (others : List Club) → IsFound now club others → Represents next club others)
+      → (clubs : List Club) → IsLeftOf now.committed.trees clubs → RepresentsOne next clubs
+  represents_one next opens [] left = left
+  represents_one next opens (club ∷ clubs) (inl here) = inl (opens club [] (finds club (holds_left club here.0 here.1 here.2)))
+  represents_one next opens (club ∷ clubs) (inr there) = inr (represents_one next opens clubs there)
 
   pub one_found : (next : State) → ((club : Club) (others : List Club) → IsFound now club others → IsFound next club others)
       → (clubs : List Club) → IsLeftOf now.committed.trees clubs → OneIsFound next clubs
@@ -93,17 +93,18 @@ unlisted schema listed = λ i. record {
   views = lists_nothing IsViewRow schema.views listed.views i;
 }
 
-blank_if_unlisted : (db : Database) → IsDatabase db → db.trees catalog_tree ≡ [] → HoldsClub db empty_club
+blank_if_unlisted : (db : Database) → IsDatabase db → db.trees catalog_tree ≡ [] → HoldsClubAnyVersion db empty_club
 blank_if_unlisted db sound none = inr (inr (unlisted db.schema (subst (λ rows. AreListed rows db.schema) none sound.lists.listed), refl, sound))
 
 -- what is found in an empty file is no table
-pub new_is_blank : (start : Image) (opened : State) → start.db ≡ [] → FindsIn start opened → IsDatabase opened.committed → HoldsClub opened.committed empty_club
+pub new_is_blank : (start : Image) (opened : State) → start.db ≡ [] → FindsIn start opened → IsDatabase opened.committed
+    → HoldsClubAnyVersion opened.committed empty_club
 new_is_blank start opened none found sound = elim found.reads [
   | inl old ↦ absurd (let some = old.3.found.present in omega (arith, some, ap length none))
   | inr new ↦ blank_if_unlisted opened.committed sound new.1.1
 ]
 
--- of one club, that one stands
-pub the_one : (state : State) (club : Club) → OneStands state (club ∷ []) → Stands state club []
-the_one state club (inl stands) = stands
+-- with one possible club, that one is represented
+pub the_one : (state : State) (club : Club) → RepresentsOne state (club ∷ []) → Represents state club []
+the_one state club (inl represents) = represents
 the_one state club (inr none) = absurd none

@@ -7,18 +7,19 @@ use Rattle.club_core.specs.declared.change.Change.{Change}
 use Rattle.club_core.specs.declared.store.StoreFault.{StoreFault}
 use Rattle.club_core.specs.Club.{Club}
 use Rattle.club_core.specs.Store.{ReadsOrFails}
-use Rattle.club_tables.specs.Told.{ReadsClub}
+use Rattle.club_tables.specs.ReadsAndChanges.{ReadsClub}
 use Rattle.club_store.specs.Failing.{Fails}
 use Rattle.club_store.proofs.ReadingLemmas.{change_fault, later_fault}
 
-module _ {S A : Type 0} (g : Ghosts S) (old new : Held S) (first : Result A StoreFault) (IsTold : Club → A → Type 0) (reads : ReadsClub g old new first IsTold)
+module _ {S A : Type 0} (g : Ghosts S) (old new : Held S) (first : Result A StoreFault) (IsReturned : Club → A
+    → Type 0) (reads : ReadsClub g old new first IsReturned)
     (clean : HasCleanDisk (state g new)) where
   fails_since : (wish : Option Change) (fault : StoreFault) (later : Held S) → Fails g wish new fault later → Fails g wish old fault later
-  fails_since None fault later it = later_fault g old new later first IsTold fault clean reads it
+  fails_since None fault later it = later_fault g old new later first IsReturned fault clean reads it
   fails_since (Some change) fault later it =
-      change_fault g old new first IsTold reads later (λ _. Unit {0}) (λ _. Unit {0}) change fault clean (λ club before told. tt) it
+      change_fault g old new first IsReturned reads later (λ _. Unit {0}) (λ _. Unit {0}) change fault clean (λ club before returned. tt) it
 
-pub reads_or_fails : {S A : Type 0} (g : Ghosts S) (old new : Held S) (result : Result A StoreFault) (IsTold : Club → A → Type 0)
-    → ReadsClub g old new result IsTold → HasCleanDisk (state g new) → ReadsOrFails (Fails g) old new result
-reads_or_fails g old new (Ok answer) IsTold reads clean = fails_since g old new (Ok answer) IsTold reads clean
-reads_or_fails g old new (Err fault) IsTold reads clean = reads.fault clean
+pub reads_or_fails : {S A : Type 0} (g : Ghosts S) (old new : Held S) (result : Result A StoreFault) (IsReturned : Club → A → Type 0)
+    → ReadsClub g old new result IsReturned → HasCleanDisk (state g new) → ReadsOrFails (Fails g) old new result
+reads_or_fails g old new (Ok answer) IsReturned reads clean = fails_since g old new (Ok answer) IsReturned reads clean
+reads_or_fails g old new (Err fault) IsReturned reads clean = reads.fault clean

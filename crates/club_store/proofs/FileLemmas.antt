@@ -4,8 +4,8 @@ use Rattle.sqlite_disk.specs.Events.{Event, replay, settled}
 use Rattle.sqlite_disk.specs.History.{MayLeave}
 
 -- what is read of a file that held the one or the other, after these calls
-abbrev pub seen : List ℕ → List ℕ → Bool → List Event → List ℕ
-seen log db is_log history = (replay (cond is_log log db) history).seen
+abbrev pub seen_bytes : List ℕ → List ℕ → Bool → List Event → List ℕ
+seen_bytes log db is_log history = (replay (cond is_log log db) history).seen
 
 -- a crash may leave this of it
 abbrev pub MayLeaveOf : Bool → List ℕ → List ℕ → Bool → List Event → List ℕ → Type 0

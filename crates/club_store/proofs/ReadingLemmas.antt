@@ -9,15 +9,15 @@ use Rattle.club_core.specs.After.{after}
 use Rattle.club_core.specs.Club.{Club}
 use Rattle.club_core.specs.declared.store.StoreFault.{StoreFault}
 use Rattle.club_core.specs.declared.store.StoreFault.TheVariants.{Storage}
-use Rattle.club_transactions.specs.Transaction.{IsUntouched, MayCommit}
+use Rattle.club_tables.specs.Transaction.{IsUntouched, MayCommit}
 use Rattle.club_tables.specs.Answers.{IsAfterReadings, IsReadFault}
 use Rattle.club_tables.specs.Opening.{IsOpeningBatch}
-use Rattle.club_tables.specs.Words.{AreWordsOf}
+use Rattle.club_tables.specs.ChangeStatements.{AreStatementsOf}
 use Rattle.club_store.specs.Opening.{SurvivesOpening}
-use Rattle.club_tables.specs.Told.{ReadsClub, ChangesClubWhere, IsChangeFault, IsRefused}
+use Rattle.club_tables.specs.ReadsAndChanges.{ReadsClub, ChangesClubWhere, IsChangeFault, IsRefusedBeforeWrite}
 
-kept_at_rest : (s : State) → IsUntouched s s
-kept_at_rest s rest clean is_open = (is_open, rest is_open, refl)
+kept_when_idle : (s : State) → IsUntouched s s
+kept_when_idle s rest clean is_open = (is_open, rest is_open, refl)
 
 pub untouched_then : (a b c : State) → (HasCleanDisk c → HasCleanDisk b) → IsUntouched a b → IsUntouched b c → IsUntouched a c
 untouched_then a b c earlier first next rest clean is_open =
@@ -50,7 +50,7 @@ after_reading : {S A : Type 0} (g : Ghosts S) (a b c : Held S) (first : Result A
 after_reading g a b c first IsFirst clean reads after = record {
   same = untouched_then (state g a) (state g b) (state g c) (λ _. clean) reads.untouched after.same;
   clean = after.clean;
-  counted = omega (arith, reads.survives.counts, after.counted);
+  fault_count = omega (arith, reads.survives.counts, after.fault_count);
 }
 
 -- a fault of a reading after it
@@ -61,24 +61,24 @@ later_fault g a b c first IsFirst fault clean reads it =
 
 -- two readings, one after the other; a fault of the second is passed on
 pub read_then : {S A B C : Type 0} (g : Ghosts S) (a b c : Held S) (one : Result A StoreFault) (two : Result B StoreFault) (result : Result C StoreFault)
-    (IsOne : Club → A → Type 0) (IsTwo : Club → B → Type 0) (IsTold : Club → C → Type 0)
-    → ReadsClub g a b one IsOne → ReadsClub g b c two IsTwo → ((club : Club) → IfOk one (IsOne club) → IfOk two (IsTwo club) → IfOk result (IsTold club))
-    → ((P : StoreFault → Type 0) → IfErr two P → IfErr result P) → ReadsClub g a c result IsTold
-read_then g a b c one two result IsOne IsTwo IsTold first next told passes =
+    (IsOne : Club → A → Type 0) (IsTwo : Club → B → Type 0) (IsReturned : Club → C → Type 0)
+    → ReadsClub g a b one IsOne → ReadsClub g b c two IsTwo → ((club : Club) → IfOk one (IsOne club) → IfOk two (IsTwo club) → IfOk result (IsReturned club))
+    → ((P : StoreFault → Type 0) → IfErr two P → IfErr result P) → ReadsClub g a c result IsReturned
+read_then g a b c one two result IsOne IsTwo IsReturned first next returned passes =
     let earlier = λ (clean : HasCleanDisk (state g c)). let e : HasCleanDisk (state g b) = omega (arith, next.survives.clean) in e in
     record {
-      told = λ clean club others stands. told club (first.told (earlier clean) club others stands)
-          (next.told clean club others (first.kept (earlier clean) club others stands));
-      kept = λ clean club others stands. next.kept clean club others (first.kept (earlier clean) club others stands);
+      returned = λ clean club others represents. returned club (first.returned (earlier clean) club others represents)
+          (next.returned clean club others (first.kept (earlier clean) club others represents));
+      kept = λ clean club others represents. next.kept clean club others (first.kept (earlier clean) club others represents);
       untouched = untouched_then (state g a) (state g b) (state g c) earlier first.untouched next.untouched;
       survives = survives_none (state g a) (state g b) (state g c) first.survives next.survives;
       fault = λ clean. passes (IsReadFault g a c) (fault_if (IsReadFault g b c) (IsReadFault g a c) two (next.fault clean) (λ fault it.
           later_fault g a b c one IsOne fault (earlier clean) first it));
     }
 
-nothing_told : {C : Type 0} (result : Result C StoreFault) (P : StoreFault → Type 0) (Q : C → Type 0) → IsErrAnd result P → IfOk result Q
-nothing_told (Ok x) P Q is = absurd is
-nothing_told (Err fault) P Q is = tt
+err_is_never_ok : {C : Type 0} (result : Result C StoreFault) (P : StoreFault → Type 0) (Q : C → Type 0) → IsErrAnd result P → IfOk result Q
+err_is_never_ok (Ok x) P Q is = absurd is
+err_is_never_ok (Err fault) P Q is = tt
 
 passed_on : {C : Type 0} (fault : StoreFault) (result : Result C StoreFault) (P : StoreFault → Type 0) → IsErrAnd result (λ other. other ≡ fault) → P fault
     → IfErr result P
@@ -87,10 +87,11 @@ passed_on fault (Err other) P is p = subst P (sym is) p
 
 -- a reading that failed after another; its fault is passed on
 pub read_failed : {S A B C : Type 0} (g : Ghosts S) (a b c : Held S) (one : Result A StoreFault) (fault : StoreFault) (result : Result C StoreFault)
-    (IsOne : Club → A → Type 0) (IsTwo : Club → B → Type 0) (IsTold : Club → C → Type 0)
-    → ReadsClub g a b one IsOne → ReadsClub g b c (Err fault) IsTwo → IsErrAnd result (λ other. other ≡ fault) → ReadsClub g a c result IsTold
-read_failed g a b c one fault result IsOne IsTwo IsTold first next is =
-    read_then g a b c one (Err fault) result IsOne IsTwo IsTold first next (λ club was none. nothing_told result (λ other. other ≡ fault) (IsTold club) is)
+    (IsOne : Club → A → Type 0) (IsTwo : Club → B → Type 0) (IsReturned : Club → C → Type 0)
+    → ReadsClub g a b one IsOne → ReadsClub g b c (Err fault) IsTwo → IsErrAnd result (λ other. other ≡ fault) → ReadsClub g a c result IsReturned
+read_failed g a b c one fault result IsOne IsTwo IsReturned first next is =
+    read_then g a b c one (Err fault) result IsOne IsTwo IsReturned first next
+    (λ club was none. err_is_never_ok result (λ other. other ≡ fault) (IsReturned club) is)
     (λ P p. passed_on fault result P is p)
 
 on_err : {E : Type 0} {P Q : Type 0} (r : Result (Unit {0}) E) → OnErr r P → (P → Q) → OnErr r Q
@@ -105,14 +106,14 @@ module _ {S A : Type 0} (g : Ghosts S) (a b : Held S) (first : Result A StoreFau
   change_fault c IsBefore IsIt change fault clean is (inr (inl run)) = inr (inl (record {
     from = run.from;
     after = after_reading g a b run.from first IsFirst clean reads run.after;
-    words = run.words;
+    statements = run.statements;
     are = run.are;
     failed = run.failed;
   }))
   change_fault c IsBefore IsIt change fault clean is (inr (inr refusal)) = inr (inr (record {
-    refused = λ club others before stands. refusal.refused club others (is club before (reads.told clean club others stands))
-        (reads.kept clean club others stands);
-    told = refusal.told;
+    refused = λ club others before represents. refusal.refused club others (is club before (reads.returned clean club others represents))
+        (reads.kept clean club others represents);
+    returned = refusal.returned;
   }))
 
   -- a change after a reading
@@ -122,19 +123,19 @@ module _ {S A : Type 0} (g : Ghosts S) (a b : Held S) (first : Result A StoreFau
   change_after c result IsBefore IsIt change changes is =
       let earlier : HasCleanDisk (state g b) → HasCleanDisk (state g a) = λ clean. let e : HasCleanDisk (state g a) =
       omega (arith, reads.survives.clean) in e in
-      let P = MayCommit g (AreWordsOf change) a in
+      let P = MayCommit g (AreStatementsOf change) a in
       record {
-        honest = λ clean. earlier (changes.honest clean);
-        changed = λ clean club others before stands fits.
-            let mid = changes.honest clean in
-            changes.changed clean club others (is club before (reads.told mid club others stands)) (reads.kept mid club others stands) fits;
-        untouched = on_err result changes.untouched (λ un. untouched_then (state g a) (state g b) (state g c) changes.honest reads.untouched un);
-        survives = survives_then (state g a) (state g b) (state g c) (λ _. ⊥) (MayCommit g (AreWordsOf change) b) P (λ _ db none. absurd none)
+        was_clean = λ clean. earlier (changes.was_clean clean);
+        changed = λ clean club others before represents fits.
+            let mid = changes.was_clean clean in
+            changes.changed clean club others (is club before (reads.returned mid club others represents)) (reads.kept mid club others represents) fits;
+        untouched = on_err result changes.untouched (λ un. untouched_then (state g a) (state g b) (state g c) changes.was_clean reads.untouched un);
+        survives = survives_then (state g a) (state g b) (state g c) (λ _. ⊥) (MayCommit g (AreStatementsOf change) b) P (λ _ db none. absurd none)
             (λ clean db may. let p : P db = record {
               from = may.from;
-              same = untouched_then (state g a) (state g b) (state g may.from) (λ _. changes.honest clean) reads.untouched may.same;
+              same = untouched_then (state g a) (state g b) (state g may.from) (λ _. changes.was_clean clean) reads.untouched may.same;
               clean = may.clean;
-              words = may.words;
+              statements = may.statements;
               are = may.are;
               db = may.db;
               ran = may.ran;
@@ -142,23 +143,24 @@ module _ {S A : Type 0} (g : Ghosts S) (a b : Held S) (first : Result A StoreFau
             } in p)
             reads.survives changes.survives;
         fault = λ clean. fault_if (IsChangeFault g IsIt change b c) (IsChangeFault g IsBefore change a c) result (changes.fault clean) (λ fault it.
-            change_fault c IsBefore IsIt change fault (changes.honest clean) is it);
+            change_fault c IsBefore IsIt change fault (changes.was_clean clean) is it);
       }
 
   -- a refusal after a reading
   refuse_after : (fault : StoreFault) (IsIt : Club → Type 0) (change : Change) → (HasCleanDisk (state g b) → IsChangeFault g IsIt change a b fault)
       → ChangesClubWhere g IsIt change a b (Err fault)
   refuse_after fault IsIt change fails = record {
-    honest = λ clean. let e : HasCleanDisk (state g a) = omega (arith, reads.survives.clean) in e;
-    changed = λ clean club others it stands fits.
-        let kept = reads.kept clean club others stands in
+    was_clean = λ clean. let e : HasCleanDisk (state g a) = omega (arith, reads.survives.clean) in e;
+    changed = λ clean club others it represents fits.
+        let kept = reads.kept clean club others represents in
         record {
           held = kept.held;
           settled = kept.settled;
           left = λ clean trees may. elim (kept.left clean trees may) [ inl here ↦ inl here | inr there ↦ inr (inr there) ];
         };
     untouched = reads.untouched;
-    survives = survives_then (state g a) (state g b) (state g b) (λ _. ⊥) (λ _. ⊥) (MayCommit g (AreWordsOf change) a) (λ _ db none. absurd none) (λ _ db none.
+    survives = survives_then (state g a) (state g b) (state g b) (λ _. ⊥) (λ _. ⊥) (MayCommit g (AreStatementsOf change) a) (λ _ db none. absurd none)
+        (λ _ db none.
         absurd none)
         reads.survives (survives_same (state g b));
     fault = fails;
@@ -169,13 +171,13 @@ module _ {S A : Type 0} (g : Ghosts S) (a b : Held S) (first : Result A StoreFau
   refuse_unread fault IsIt change is =
       refuse_after fault IsIt change (λ clean. inl (let failed = rw is at (reads.fault clean) in failed))
 
-  -- where it told that the change is none to be made
-  pub refuse_told : (IsIt : Club → Type 0) (change : Change) → ((club : Club) → IsIt club → IfOk first (IsFirst club) → IsRefused change club)
+  -- the read shows that the change can't be made
+  pub refuse_found : (IsIt : Club → Type 0) (change : Change) → ((club : Club) → IsIt club → IfOk first (IsFirst club) → IsRefusedBeforeWrite change club)
       → ChangesClubWhere g IsIt change a b (Err Storage)
-  refuse_told IsIt change refused =
+  refuse_found IsIt change refused =
       refuse_after Storage IsIt change (λ clean. inr (inr (record {
-        refused = λ club others it stands. refused club it (reads.told clean club others stands);
-        told = refl;
+        refused = λ club others it represents. refused club it (reads.returned clean club others represents);
+        returned = refl;
       })))
 
 -- nothing is opened

@@ -1,4 +1,4 @@
--- A change that fits leaves sound clubs: the one that stands, and each other that a crash may leave.
+-- A change that fits leaves sound clubs: the current one, and each possible crash state.
 use Rattle.std.proofs.Common.{[], ◌∷◌, Ok, Err}
 use Rattle.std.specs.Prelude.{Result}
 use Rattle.std.proofs.lemmas.List.Elements.{All-cons, All-head, All-nil, All-tail}
@@ -7,19 +7,19 @@ use Rattle.sqlite.specs.Held.{Held}
 use Rattle.club_core.specs.declared.change.Change.{Change}
 use Rattle.club_core.specs.After.{after}
 use Rattle.club_core.specs.Club.{IsSound}
-use Rattle.club_tables.specs.Told.{Changes, ChangesWhere, sound_in, stands_in}
+use Rattle.club_tables.specs.ReadsAndChanges.{Changes, ChangesWhere, sound_in, represents_in}
 
 -- a change of any club
 pub any_change : {S E : Type 0} (g : Ghosts S) (change : Change) (old new : Held S) (result : Result (Unit {0}) E)
-    → ChangesWhere (λ _. Unit {0}) (stands_in g) change old new result → Changes (stands_in g) change old new result
-any_change g change old new result changes club others stands fits = changes club others tt stands fits
+    → ChangesWhere (λ _. Unit {0}) (represents_in g) change old new result → Changes (represents_in g) change old new result
+any_change g change old new result changes club others represents fits = changes club others tt represents fits
 
 pub sound_changes : {S E : Type 0} (g : Ghosts S) (change : Change) (old new : Held S) (result : Result (Unit {0}) E)
-    → Changes (stands_in g) change old new result → Changes (sound_in g) change old new result
-sound_changes g change old new (Ok done) made = λ club others stands fits.
-    (All-cons IsSound (after change club) [] fits (All-nil IsSound), made club others stands.1 fits)
-sound_changes g change old new (Err fault) made = λ club others stands fits. (
-  All-cons IsSound club (after change club ∷ others) (All-head IsSound club others stands.0)
-      (All-cons IsSound (after change club) others fits (All-tail IsSound club others stands.0)),
-  made club others stands.1 fits,
+    → Changes (represents_in g) change old new result → Changes (sound_in g) change old new result
+sound_changes g change old new (Ok done) made = λ club others represents fits.
+    (All-cons IsSound (after change club) [] fits (All-nil IsSound), made club others represents.1 fits)
+sound_changes g change old new (Err fault) made = λ club others represents fits. (
+  All-cons IsSound club (after change club ∷ others) (All-head IsSound club others represents.0)
+      (All-cons IsSound (after change club) others fits (All-tail IsSound club others represents.0)),
+  made club others represents.1 fits,
 )

@@ -9,11 +9,11 @@ use Rattle.club_rows.specs.declared.member.Member.{Member}
 use Rattle.club_core.specs.declared.request.Request.{Request}
 use Rattle.club_core.specs.Club.{Club, bookings_of, key_named, member_named}
 use Rattle.club_core.specs.Laws.{OwnBookings, HasOwnBookings}
-use Rattle.club_core.specs.Request.{number_of}
+use Rattle.club_core.specs.Request.{request_number}
 use Rattle.club_core.specs.Basis.{view_in}
 use Rattle.club_core.specs.Sums.{booking_under, spent_under}
 use Rattle.club_tables.specs.declared.row.MemberRow.{MemberRow}
-use Rattle.club_store.specs.Figures.{seen}
+use Rattle.club_store.specs.Figures.{member_view}
 use Rattle.club_tables.specs.Stored.{member_row, fresh}
 
 -- what is found is an element, and passes
@@ -34,16 +34,16 @@ at_number club key own (Some number) = own.booked number
 -- the view over all bookings of a key is that over the bookings of its member
 pub seen_is : OwnBookings → (club : Club) (name : List ℕ) (key : Key) (member : Member) (request : Request) (moment : ℕ) → key_named name club ≡ Some key
     → member_named key.member club ≡ Some member
-    → view_in club name request moment ≡ Some (seen club key member request moment)
+    → view_in club name request moment ≡ Some (member_view club key member request moment)
 seen_is law club name key member request moment named owned =
     let there = found (λ (k : Key). bytes_eq k.name name) club.keys key named in
     let its = found (λ (m : Member). bytes_eq m.name key.member) club.members member owned in
     let same : key.member ≡ member.name = sym ((bytes_eq-Decides member.name key.member).0 its.1) in
     let own = law club key there.0 in
     let spent = subst (λ (m : List ℕ). spent_under key.name (bookings_of m club) ≡ spent_under key.name club.bookings) same own.spent in
-    let booked = subst (λ (m : List ℕ). option_and_then (λ (n : ℕ). booking_under key.name n (bookings_of m club)) (number_of request)
-    ≡ option_and_then (λ (n : ℕ). booking_under key.name n club.bookings) (number_of request)) same
-    (at_number club key own (number_of request)) in
+    let booked = subst (λ (m : List ℕ). option_and_then (λ (n : ℕ). booking_under key.name n (bookings_of m club)) (request_number request)
+    ≡ option_and_then (λ (n : ℕ). booking_under key.name n club.bookings) (request_number request)) same
+    (at_number club key own (request_number request)) in
     rw (named, owned) (cc)
 
 -- a member's row that was found is that of the member

@@ -1,4 +1,4 @@
--- What a crash leaves of a store, and what an opening makes of it (ours).
+-- What a crash leaves of a store, and what reopening it recovers (ours).
 use Rattle.std.specs.Prelude.{List, [], ◌∷◌, ◌⊎◌, IsTrue}
 use Rattle.sqlite_disk.specs.declared.Disk as disk
 use Rattle.sqlite.specs.declared.FileStore.{FileStore}
@@ -10,24 +10,24 @@ use Rattle.sqlite.specs.Recovery.{Image}
 use Rattle.sqlite.specs.State.{State, Opens, IsLive}
 use Rattle.sqlite.specs.Files.{HoldsDatabase, over_files}
 use Rattle.club_core.specs.Club.{Club}
-use Rattle.club_tables.specs.Tables.{IsLeftOf, Stands, IsFound}
+use Rattle.club_tables.specs.Tables.{IsLeftOf, Represents, IsFound}
 
--- whatever a crash leaves of the store is a database of one of these clubs
+-- after any crash the store is a database of one of these clubs
 abbrev pub LeavesOneOf : {S : Type 0} → Ghosts S → S → List Club → Type 0
 LeavesOneOf g store clubs = IsClean (g.view store) → (trees : Trees) → g.recovers store trees → IsLeftOf trees clubs
 
--- a connection as it was opened, over a database of one of these clubs
+-- a connection that was just opened, over a database of one of these clubs
 pub record IsOpenedOn (state : State) (clubs : List Club) : Type 0 where
   pub opened : Opens state
   pub live : IsLive state
   pub left : IsLeftOf state.committed.trees clubs
 
--- one of these clubs stands, and every crash leaves that one
-abbrev pub OneStands : State → List Club → Type 0
-OneStands state [] = ⊥
-OneStands state (club ∷ clubs) = Stands state club [] ⊎ OneStands state clubs
+-- the state represents one of these clubs, and every crash recovers that one
+abbrev pub RepresentsOne : State → List Club → Type 0
+RepresentsOne state [] = ⊥
+RepresentsOne state (club ∷ clubs) = Represents state club [] ⊎ RepresentsOne state clubs
 
--- one of these clubs is found, and every crash leaves that one
+-- one of these clubs is found, and every crash recovers that one
 abbrev pub OneIsFound : State → List Club → Type 0
 OneIsFound state [] = ⊥
 OneIsFound state (club ∷ clubs) = IsFound state club [] ⊎ OneIsFound state clubs
@@ -36,7 +36,7 @@ OneIsFound state (club ∷ clubs) = IsFound state club [] ⊎ OneIsFound state c
 abbrev pub HoldsOneOf : Image → List Club → Type 0
 HoldsOneOf image clubs = (trees : Trees) × HoldsDatabase image trees × IsLeftOf trees clubs
 
--- a crash may leave this of a store's file and log, where what it may leave are databases of these clubs
+-- a crash may leave this image of a store's file and log; the store's possible crash states are these clubs
 pub record CrashLeaves {D : Type 0} {g : disk.Ghosts D} (store : FileStore D g) (clubs : List Club) (left : Image) : Type 0 where
   pub clean : IsClean (file.view store)
   pub numbered : IsTrue (file.view store).is_numbered

@@ -8,11 +8,11 @@ use Rattle.sqlite.specs.declared.file.Leftover.{Leftover}
 use Rattle.club_store.specs.declared.remains.Remains.{Remains}
 use Rattle.club_store.specs.declared.remains.Remains.TheVariants as remains
 
--- the error of a file that another has open
+-- the error for a file that another program has open
 abbrev pub busy : Error
 busy = SqliteFailure DatabaseBusy
 
--- What is left of a file that wasn't opened, by the error: nothing where another program has it open, and else what the engine hands back.
-pub data IsLeftBy {D : Type 0} {g : disk.Ghosts D} (error : Error) (rest : Option (Leftover D g)) (left : Remains D g) : Type 0 where
-  held : error ≡ busy → rest ≡ None → left ≡ remains.Held → IsLeftBy error rest left
-  files : (rest ≡ None → error ≢ busy) → left ≡ remains.Files rest → IsLeftBy error rest left
+-- What is left of a file that wasn't opened, by the error: nothing if another program has it open, else what the engine returns.
+pub data IsRemainsOf {D : Type 0} {g : disk.Ghosts D} (error : Error) (rest : Option (Leftover D g)) (left : Remains D g) : Type 0 where
+  held : error ≡ busy → rest ≡ None → left ≡ remains.Held → IsRemainsOf error rest left
+  files : (rest ≡ None → error ≢ busy) → left ≡ remains.Files rest → IsRemainsOf error rest left

@@ -4,6 +4,6 @@ pub mod Opening
 pub mod Figures
 pub mod Widened
 pub mod Failing
--- what the tables say and hold comes with them
+-- passes on the definitions of what tables hold, and of reads and changes
 pub use Rattle.club_tables.specs.Tables
-pub use Rattle.club_tables.specs.Told
+pub use Rattle.club_tables.specs.ReadsAndChanges

@@ -1,4 +1,4 @@
--- What an opening makes of a file and its log (ours).
+-- What opening a file and its log results in (ours).
 use Rattle.std.specs.Prelude.{◌≡◌, ◌⊎◌, false, List, [], Option, None, IfSome, IsTrue}
 use Rattle.sqlite_disk.specs.declared.Disk as disk
 use Rattle.sqlite_disk.specs.declared.Files.{Files}
@@ -16,84 +16,84 @@ use Rattle.sqlite.specs.Files.{over_files, file_state, image_of, IsOpened, IsCle
 use Rattle.sqlite.specs.WalFiles.{outcomes}
 use Rattle.sqlite.specs.Start.{FindsIn}
 use Rattle.club_core.specs.Club.{Club, empty_club}
-use Rattle.club_core.specs.Store.{KeepsStanding}
+use Rattle.club_core.specs.Store.{KeepsClub}
 use Rattle.club_core.specs.declared.store.StoreFault.{StoreFault}
 use Rattle.club_core.specs.declared.store.StoreFault.TheVariants.{Memory}
-use Rattle.club_tables.specs.Opening.{IsAccepted, IsOpeningBatch, IsOpeningFault}
-use Rattle.club_transactions.specs.Transaction.{MayCommit, IsKept, fault_by}
-use Rattle.club_tables.specs.Tables.{Stands, IsFound}
-use Rattle.club_tables.specs.Told.{found_in}
+use Rattle.club_tables.specs.Opening.{AcceptsTables, IsOpeningBatch, IsOpeningFault}
+use Rattle.club_tables.specs.Transaction.{MayCommit, IsKept, fault_by}
+use Rattle.club_tables.specs.Tables.{Represents, IsFound}
+use Rattle.club_tables.specs.ReadsAndChanges.{found_in}
 use Rattle.club_store.specs.declared.remains.Remains.{Remains}
 use Rattle.club_store.specs.declared.remains.Remains.TheVariants as remains
 use Rattle.club_store.specs.Held.{busy}
-use Rattle.club_store.specs.Crash.{HoldsOneOf, IsOpenedOn, OneStands, OneIsFound}
+use Rattle.club_store.specs.Crash.{HoldsOneOf, IsOpenedOn, RepresentsOne, OneIsFound}
 
--- a crash may leave what it could before, or what the one batch of the opening left
+-- the possible crash states: those of before, and what the opening's one batch left
 abbrev pub SurvivesOpening : {S : Type 0} → Ghosts S → Held S → Held S → Type 0
 SurvivesOpening g old new = Survives (state g old) (state g new) (MayCommit g IsOpeningBatch old)
 
--- A connection whose tables aren't taken, as it is handed back: the clubs that were found in it are found in it still, a connection in no transaction
--- holds the database that it held, and a crash may leave what it could before, or what the one batch of the opening left.
+-- A connection that is returned because its tables aren't accepted: the same club is found in it, a connection in no transaction holds the same
+-- database, and the possible crash states are those of before, and what the opening's one batch left.
 pub record IsHandedBack {S : Type 0} (g : Ghosts S) (old new : Held S) : Type 0 where
   pub clean : HasCleanDisk (state g new) → HasCleanDisk (state g old)
-  pub kept : HasCleanDisk (state g new) → KeepsStanding (found_in g) old new
+  pub kept : HasCleanDisk (state g new) → KeepsClub (found_in g) old new
   pub mode : new.in_transaction ≡ old.in_transaction
   pub untouched : old.in_transaction ≡ false → IsKept (state g old) (state g new)
   pub survives : SurvivesOpening g old new
-  -- what a crash left of one of these clubs is found as that club, whole
+  -- a database that a crash left with one of these clubs is found to hold that club, whole
   pub again : HasCleanDisk (state g new) → (clubs : List Club) → IsOpenedOn (state g old) clubs → OneIsFound (state g new) clubs
 
--- the files held a database, its tables were taken, and the club that was found in it stands
+-- the files held a database, its tables were accepted, and the store represents the club that was found in it
 pub record OpensFrom {D : Type 0} {g : disk.Ghosts D} (start : Image) (now : Held (FileStore D g)) : Type 0 where
   pub was : Held (FileStore D g)
   pub opened : IsOpened was
   pub found : FindsIn start (file_state was)
-  pub accepted : IsTrue (file_state now).is_open → IsAccepted over_files was now
+  pub accepted : IsTrue (file_state now).is_open → AcceptsTables over_files was now
   pub survives : SurvivesOpening over_files was now
-  pub stands : (club : Club) (others : List Club) → IsFound (file_state was) club others → Stands (file_state now) club others
-  -- what a crash left of one of these clubs is that club, whole
-  pub again : (clubs : List Club) → HoldsOneOf start clubs → OneStands (file_state now) clubs
+  pub represents : (club : Club) (others : List Club) → IsFound (file_state was) club others → Represents (file_state now) club others
+  -- files that a crash left with one of these clubs are opened as that club, whole
+  pub again : (clubs : List Club) → HoldsOneOf start clubs → RepresentsOne (file_state now) clubs
   -- a new file gets the tables of the empty club
-  pub fresh : start.db ≡ [] → Stands (file_state now) empty_club []
+  pub fresh : start.db ≡ [] → Represents (file_state now) empty_club []
 
--- a database in memory that isn't opened: there is no memory for it, or its tables aren't made
+-- why a database in memory isn't opened: there is no memory for it, or its tables aren't made
 abbrev pub IsMemoryFault : StoreFault → Type 0
 IsMemoryFault fault = (fault ≡ Memory) ⊎ ((was : _) × (now : _) × IsEmpty (state over_memory was) × IsOpeningFault over_memory was now fault)
 
--- The fault of a file that isn't opened is that of the error. Nothing is left: there was no file, or no memory. Or what it and its log held is refused.
+-- The fault of a file that isn't opened is that of the error. Nothing is left if there was no file, or no memory; else the file and its log are refused.
 pub record IsFileFault {D : Type 0} {g : disk.Ghosts D} (start : Image) (rest : Option (Leftover D g)) (fault : StoreFault) : Type 0 where
   pub error : Error
   pub unopened : rest ≡ None → (error ≡ SqliteFailure CannotOpen) ⊎ (error ≡ SqliteFailure OutOfMemory)
   pub cause : IfSome rest (λ left. (files : Files D) × (image_of g files ≡ start) × (IsCleanLeft left → FailsToOpenFiles files left error))
-  pub told : fault ≡ fault_by error
+  pub returned : fault ≡ fault_by error
 
--- the fault of a connection whose tables aren't taken
+-- the fault of a connection whose tables aren't accepted
 pub record IsTablesFault {D : Type 0} {g : disk.Ghosts D} (start : Image) (now : Held (FileStore D g)) (fault : StoreFault) : Type 0 where
   pub was : Held (FileStore D g)
   pub opened : HasCleanDisk (file_state was) → IsOpened was × FindsIn start (file_state was)
   pub failed : HasCleanDisk (file_state now) → IsOpeningFault over_files was now fault
 
--- the fault of a file that another program has open, that isn't opened, or whose tables aren't taken
+-- the fault of a file that another program has open, that isn't opened, or whose tables aren't accepted
 abbrev pub FailsFrom : {D : Type 0} {g : disk.Ghosts D} → Image → Remains D g → StoreFault → Type 0
 FailsFrom start remains.Held fault = fault ≡ fault_by busy
 FailsFrom start (remains.Files rest) fault = IsFileFault start rest fault
 FailsFrom start (remains.Connection now) fault = IsTablesFault start now fault
 
--- what is left of files that weren't opened, which held this and nothing else: a crash leaves of it what the engine says
+-- what is left of files that weren't opened and held this image: the engine's contract says what a crash may leave of them
 pub record IsLeftOfFiles {D : Type 0} {g : disk.Ghosts D} (start : Image) (left : Leftover D g) : Type 0 where
   pub files : Files D
   pub held : image_of g files ≡ start
   pub settled : (image : Image) → outcomes g files.log files.db image → image ≡ start
   pub leaves : IsCleanLeft left → LeavesFiles files left
 
--- the connection of a file whose tables aren't taken is handed back: the club that the file held is found in it
+-- the connection that is returned of a file whose tables aren't accepted: the club that the file held is found in it
 pub record IsLeftOpen {D : Type 0} {g : disk.Ghosts D} (start : Image) (now : Held (FileStore D g)) : Type 0 where
   pub was : Held (FileStore D g)
   pub opened : HasCleanDisk (file_state was) → IsOpened was × FindsIn start (file_state was)
   pub back : IsHandedBack over_files was now
   pub again : HasCleanDisk (file_state now) → (clubs : List Club) → HoldsOneOf start clubs → OneIsFound (file_state now) clubs
 
--- what a refused opening of files that held this leaves
+-- what is left of files that held this image, if they aren't opened
 abbrev pub LeavesFrom : {D : Type 0} {g : disk.Ghosts D} → Image → Remains D g → Type 0
 LeavesFrom start remains.Held = Unit {0}
 LeavesFrom start (remains.Files rest) = IfSome rest (IsLeftOfFiles start)

@@ -1,23 +1,21 @@
-//! The store of a club, as a desk needs it.
+//! Implements `ClubStore`, the trait that a desk needs, for `Store`.
 
 use crate::store::Store;
-use club_core::{
-    Booking, BookingNumber, Change, ClubStore, Facility, Key, Member, MemberAccount, SlotUse,
-    StoreFault,
-};
-use pass_caveats::{Day, Moment, Name, Slot};
+use club_core::{Change, ClubStore, MemberAccount, SlotUse, StoreFault};
+use club_rows::{Booking, BookingNumber, Facility, Key, Member};
+use club_values::{Day, Moment, Name, Slot};
 use sqlite::Alter;
 
 impl<S: Alter> ClubStore for Store<S> {
     ghost use Rattle.sqlite.specs.State.{HasCleanDisk};
     ghost use Rattle.sqlite.specs.Held.{state};
-    ghost use Rattle.club_tables.specs.Told.{sound_in};
+    ghost use Rattle.club_tables.specs.ReadsAndChanges.{sound_in};
     ghost use Rattle.club_store.specs.Failing.{Fails};
     ghost use Rattle.club_store.specs.Widened.{sound_widened};
 
-    ghost stands = { sound_in S.Store };
+    ghost represents = { sound_in S.Store };
 
-    ghost is_honest = { λ store. HasCleanDisk (state S.Store store) };
+    ghost disk_is_clean = { λ store. HasCleanDisk (state S.Store store) };
 
     ghost fails = { Fails S.Store };
 
@@ -65,7 +63,7 @@ impl<S: Alter> ClubStore for Store<S> {
         Store::apply(self, change)
     }
 
-    ghost sound = { λ store club others stands. stands.0 };
+    ghost sound = { λ store club others represents. represents.0 };
 
     ghost widens = { λ store club other others. sound_widened _ club other others };
 }

@@ -1,16 +1,17 @@
-//! The parts of a view: figures of an account and of a slot, and a booking by its number.
+//! Reads the parts of a view: sums of an account, the state of a slot, and a booking by its number.
 
 ghost use Rattle.std.specs.Prelude.{◌≡◌, false, IfOk, IfSome};
 ghost use Rattle.club_rows.specs.Rows.{IsBooking};
-ghost use Rattle.club_tables.specs.Told.{ReadsClub};
-ghost use Rattle.club_store.specs.Figures.{account_of, booked_under, member_account};
+ghost use Rattle.club_tables.specs.ReadsAndChanges.{ReadsClub};
+ghost use Rattle.club_store.specs.Figures.{key_account, booked_under, member_account};
 
-use club_core::{Booking, BookingNumber, Facility, MemberAccount, StoreFault};
+use club_core::{MemberAccount, StoreFault};
+use club_rows::{Booking, BookingNumber, Facility};
 use club_tables::{MemberRow, reads};
-use pass_caveats::{Moment, Name};
+use club_values::{Moment, Name};
 use sqlite::{Alter, Connection};
 
-/// What a key spent, and what its member has open.
+/// What a key has spent, and how many bookings its member has open.
 #[derive(Clone, Copy)]
 pub(crate) struct Account {
     /// The points that the key has spent.
@@ -19,10 +20,10 @@ pub(crate) struct Account {
     pub(crate) open_count: u64,
 }
 
-/// The state of the slot that is asked for.
+/// The state of the slot of a request.
 #[derive(Clone, Copy)]
 pub(crate) struct SlotState {
-    /// The slot's facility; `None` where it is unknown, or there is no slot.
+    /// The slot's facility; `None` if it is unknown, or the request has no slot.
     pub(crate) facility: Option<Facility>,
     /// The persons who booked the slot.
     pub(crate) taken: u32,
@@ -30,7 +31,7 @@ pub(crate) struct SlotState {
     pub(crate) closed: bool,
 }
 
-/// The account of the member of a row: what it was credited, less what its bookings cost.
+/// The account of a member's row: the points credited, less what the bookings cost.
 pub(crate) fn account_in(row: &MemberRow) -> MemberAccount
     ensures { result ≡ member_account row.now }
 {
@@ -40,7 +41,7 @@ pub(crate) fn account_in(row: &MemberRow) -> MemberAccount
     }
 }
 
-/// The account of a key at a moment: its own bookings' costs, and its member's bookings to come.
+/// The account of a key at a moment: its own bookings' costs, and its member's open bookings.
 pub(crate) fn account_at<S: Alter>(
     conn: &mut Connection<S>,
     key: &Name,
@@ -50,15 +51,15 @@ pub(crate) fn account_at<S: Alter>(
     requires { conn.old.in_transaction ≡ false }
     ensures idle { conn.new.in_transaction ≡ false }
     ensures reads { ReadsClub S.Store conn.old conn.new result
-        (λ club found. found ≡ account_of club key.now member.now moment) }
+        (λ club found. found ≡ key_account club key.now member.now moment) }
 {
     let spent = reads::spent(conn, key)?;
     let open_count = reads::open_count(conn, member, moment)?;
     Ok(Account { spent, open_count })
 }
 
-/// The booking of a key with the number that is asked for, where one is.
-pub(crate) fn booked<S: Alter>(
+/// The booking of a key under the request's number; `None` if there is no number, or no booking.
+pub(crate) fn numbered_booking<S: Alter>(
     conn: &mut Connection<S>,
     key: &Name,
     number: Option<BookingNumber>,

@@ -1,4 +1,4 @@
-//! The store of a club over the tables: opened, read, changed, and what a crash leaves of it.
+//! The store of a club in SQLite: opens it, reads and changes it, and recovers it after a crash.
 #![tactic(auto)]
 
 mod club;

@@ -1,3 +1,5 @@
+//! The store: openings, reads, and changes.
+
 ghost use Rattle.std.specs.Prelude.{
   ◌≡◌,
   false,
@@ -36,7 +38,7 @@ ghost use Rattle.sqlite.specs.Steps.{over_memory, IsFresh, IsEmpty};
 ghost use Rattle.sqlite.specs.View.{IsClean};
 ghost use Rattle.sqlite.specs.Files.{file_state};
 ghost use Rattle.sqlite.specs.WalFiles.{image_at};
-ghost use Rattle.club_store.specs.Crash.{LeavesOneOf, IsOpenedOn, OneStands};
+ghost use Rattle.club_store.specs.Crash.{LeavesOneOf, IsOpenedOn, RepresentsOne};
 ghost use Rattle.club_store.specs.Opening.{
   FailsFrom,
   IsHandedBack,
@@ -45,9 +47,9 @@ ghost use Rattle.club_store.specs.Opening.{
   OpensFrom,
   SurvivesOpening,
 };
-ghost use Rattle.club_tables.specs.Opening.{IsAccepted, IsOpeningFault};
-ghost use Rattle.club_tables.specs.Tables.{Stands, IsFound};
-ghost use Rattle.club_tables.specs.Told.{
+ghost use Rattle.club_tables.specs.Opening.{AcceptsTables, IsOpeningFault};
+ghost use Rattle.club_tables.specs.Tables.{Represents, IsFound};
+ghost use Rattle.club_tables.specs.ReadsAndChanges.{
   ReadsClub,
   ChangesClub,
   ChangesClubWhere,
@@ -55,19 +57,16 @@ ghost use Rattle.club_tables.specs.Told.{
   HasNoneToCancel,
 };
 ghost use Rattle.club_tables.specs.Stored.{IsMemberRow, member_row, older_of, fresh};
-ghost use Rattle.club_store.specs.Figures.{slot_state, seen, HasLimits};
+ghost use Rattle.club_store.specs.Figures.{slot_state, member_view, HasLimits};
 
 use crate::Remains;
-use crate::figures::{SlotState, account_at, account_in, booked};
+use crate::figures::{SlotState, account_at, account_in, numbered_booking};
 use crate::remains::remains_of;
 use club_core::laws::own_bookings_suffice;
-use club_core::{
-    Booking, BookingNumber, Change, Facility, Key, Member, MemberAccount, OlderRoot, Request, Root,
-    SlotUse, StoreFault, View,
-};
-use club_tables::{MemberRow, Rotation, open_tables, reads, writes};
-use club_transactions::fault_of;
-use pass_caveats::{Day, Moment, Name, Slot};
+use club_core::{Change, MemberAccount, Request, SlotUse, StoreFault, View};
+use club_rows::{Booking, BookingNumber, Facility, Key, Member, OlderRoot, Root};
+use club_tables::{MemberRow, Rotation, fault_of, open_tables, reads, writes};
+use club_values::{Day, Moment, Name, Slot};
 use sqlite::{Alter, Connection, FileFrom, FileStore, MemStore, Start};
 use std::alloc::Global;
 use std::marker::Model;
@@ -97,7 +96,7 @@ impl<S: Alter> Model for Store<S> {
 impl Store<MemStore> {
     /// A new database in memory, with the tables of an empty club.
     pub fn open_in_memory(alloc: Global) -> Result<Store<MemStore>, StoreFault>
-        ensures opened { IfOk result (λ store. Stands (state over_memory store) empty_club []) }
+        ensures opened { IfOk result (λ store. Represents (state over_memory store) empty_club []) }
         ensures fault { IfErr result IsMemoryFault }
     {
         let connection = match Connection::open_in_memory(alloc) {
@@ -112,10 +111,10 @@ impl Store<MemStore> {
 }
 
 impl<Q: Start> Store<FileStore<FileFrom<Q>>> {
-    /// The tables in the file at a path, which is made where there is none. `start` stands for what
-    /// the file and its log hold. A refusal hands back what is left beside the fault: the
-    /// connection that `adopt` refused, or the files that weren't opened; nothing is left of a file
-    /// that another program has open. A path that names no file is Storage.
+    /// Opens the tables in the file at a path, and makes the file if there is none. `start`
+    /// represents what the file and its log hold. If it fails, it returns what is left beside the
+    /// fault: the connection that `adopt` refused, or the files that weren't opened; nothing of a
+    /// file that another program has open. A path that names no file is `Storage`.
     pub fn open_file(
         rt: &HostRuntime,
         path: &str,
@@ -143,23 +142,23 @@ impl<Q: Start> Store<FileStore<FileFrom<Q>>> {
 }
 
 impl<S: Alter + Drop> Store<S> {
-    /// Takes over a connection, whose database has the tables of a club, or none, and then gets
-    /// those of an empty club. Tables of version 1 get older roots as the last step. A refusal
-    /// changes nothing, and hands the connection back beside the fault: Storage for another
-    /// version, other tables, or a connection in a transaction.
+    /// Takes over a connection whose database has the tables of a club. An empty database gets the
+    /// tables of an empty club; version 1 is migrated. If it fails, nothing is changed, and it
+    /// returns the connection beside the fault: `Storage` for another version, other tables, or a
+    /// connection in a transaction.
     pub fn adopt(
         alloc: Global,
         mut connection: Connection<S>,
     ) -> Result<Store<S>, (StoreFault, Connection<S>)>
-        ensures honest { IfOk result
+        ensures was_clean { IfOk result
             (λ store. HasCleanDisk (state S.Store store)
             → HasCleanDisk (state S.Store connection)) }
         ensures opened { IfOk result
             (λ store. HasCleanDisk (state S.Store store) → (club : Club) (others : _) → IsFound
-            (state S.Store connection) club others → Stands (state S.Store store) club others) }
+            (state S.Store connection) club others → Represents (state S.Store store) club others) }
         ensures accepted { IfOk result
             (λ store. HasCleanDisk (state S.Store store) → IsTrue (state S.Store store).is_open →
-            IsAccepted S.Store connection store) }
+            AcceptsTables S.Store connection store) }
         ensures busy { IsTrue connection.in_transaction → IsErrAnd result
             (λ e. (e.0 ≡ StoreFault.Storage) × (e.1 ≡ connection)) }
         ensures refused { IfErr result (λ e. IsHandedBack S.Store connection e.1) }
@@ -168,10 +167,10 @@ impl<S: Alter + Drop> Store<S> {
             IsOpeningFault S.Store connection e.1 e.0) }
         ensures survives { IfOk result (SurvivesOpening S.Store connection) }
         ensures again { IfOk result (λ store. HasCleanDisk (state S.Store store) →
-            (clubs : List Club) → IsOpenedOn (state S.Store connection) clubs → OneStands
+            (clubs : List Club) → IsOpenedOn (state S.Store connection) clubs → RepresentsOne
             (state S.Store store) clubs) }
         ensures empty { IfOk result (λ store. HasCleanDisk (state S.Store store) → IsEmpty
-            (state S.Store connection) → Stands (state S.Store store) empty_club []) }
+            (state S.Store connection) → Represents (state S.Store store) empty_club []) }
     {
         if !connection.is_autocommit() {
             return Err((StoreFault::Storage, connection));
@@ -182,17 +181,17 @@ impl<S: Alter + Drop> Store<S> {
         }
     }
 
-    /// Gives up the connection, and hands out the store below it. Whatever a crash leaves of that
-    /// is a database of the club that stood or of one of the others. A crash in a call is a disk
-    /// that fails from there on, so this speaks of it too.
+    /// Consumes the connection, and returns the engine's store below it. After a crash that store
+    /// holds the current club or one of the possible crash states. A crash within a call is a disk
+    /// that fails from there on, so it is covered too.
     pub fn into_store(self) -> S
-        ensures honest { IsClean (S.Store.view result) → HasCleanDisk (state S.Store self) }
+        ensures was_clean { IsClean (S.Store.view result) → HasCleanDisk (state S.Store self) }
         ensures numbered { IsClean (S.Store.view result) → IsTrue
             (S.Store.view result).is_numbered }
         ensures committed { IsClean (S.Store.view result) → IsTrue (S.Store.view result).is_open →
             IsFresh (S.Store.view result) ×
             ((S.Store.view result).committed ≡ (state S.Store self).committed.trees) }
-        ensures left { (club : Club) (others : _) → Stands (state S.Store self) club others →
+        ensures left { (club : Club) (others : _) → Represents (state S.Store self) club others →
             LeavesOneOf S.Store result (club ∷ others) }
     {
         self.into_connection().into_store()
@@ -200,7 +199,7 @@ impl<S: Alter + Drop> Store<S> {
 }
 
 impl<S: Alter> Store<S> {
-    /// Gives the connection back, as it is.
+    /// Returns the connection, unchanged.
     pub fn into_connection(self) -> Connection<S>
         ensures { result ≡ self }
     {
@@ -211,7 +210,7 @@ impl<S: Alter> Store<S> {
         connection
     }
 
-    /// The key of this name; `None` where there is none. A row out of its limits is a fault of
+    /// The key of this name; `None` if there is none. A row out of its limits is a fault of
     /// storage.
     pub fn key(&mut self, name: &Name) -> Result<Option<Key>, StoreFault>
         ensures reads { ReadsClub S.Store self.old self.new result
@@ -231,7 +230,7 @@ impl<S: Alter> Store<S> {
         }))
     }
 
-    /// The key of this name, without its older root; `None` where there is none.
+    /// The key of this name, without its older root; `None` if there is none.
     fn key_row(&mut self, name: &Name) -> Result<Option<Key>, StoreFault>
         ensures reads { ReadsClub S.Store self.old self.new result
             (λ club key. key ≡ option_map fresh (key_named name.now club)) }
@@ -240,7 +239,7 @@ impl<S: Alter> Store<S> {
         reads::key(&mut self.connection, name)
     }
 
-    /// The older root of the key of this name; `None` where it was never rotated.
+    /// The older root of the key of this name; `None` if it was never rotated.
     fn older_root(&mut self, name: &Name) -> Result<Option<OlderRoot>, StoreFault>
         ensures reads { ReadsClub S.Store self.old self.new result
             (λ club older. older ≡ older_of name.now club) }
@@ -249,7 +248,7 @@ impl<S: Alter> Store<S> {
         reads::older_root(&mut self.connection, name)
     }
 
-    /// The member of this name; `None` where there is none. A row out of its limits is a fault of
+    /// The member of this name; `None` if there is none. A row out of its limits is a fault of
     /// storage.
     pub fn member(&mut self, name: &Name) -> Result<Option<Member>, StoreFault>
         ensures reads { ReadsClub S.Store self.old self.new result
@@ -262,7 +261,7 @@ impl<S: Alter> Store<S> {
         }
     }
 
-    /// The row of the member of this name; `None` where there is none.
+    /// The row of the member of this name; `None` if there is none.
     fn member_row(&mut self, name: &Name) -> Result<Option<MemberRow>, StoreFault>
         ensures reads { ReadsClub S.Store self.old self.new result
             (λ club row. row ≡ option_map (member_row club) (member_named name.now club)) }
@@ -271,8 +270,8 @@ impl<S: Alter> Store<S> {
         reads::member(&mut self.connection, name)
     }
 
-    /// The member of this name with the points that it has; `None` where there is none. A row out
-    /// of its limits is a fault of storage.
+    /// The member of this name with its balance, in points; `None` if there is none. A row out of
+    /// its limits is a fault of storage.
     pub fn account(&mut self, member: &Name) -> Result<Option<MemberAccount>, StoreFault>
         ensures reads { ReadsClub S.Store self.old self.new result
             (λ club account. account ≡ account_named member.now club) }
@@ -301,7 +300,7 @@ impl<S: Alter> Store<S> {
         reads::spent(&mut self.connection, key)
     }
 
-    /// The facility of this name; `None` where there is none. A row out of its limits is a fault of
+    /// The facility of this name; `None` if there is none. A row out of its limits is a fault of
     /// storage.
     pub fn facility(&mut self, name: &Name) -> Result<Option<Facility>, StoreFault>
         ensures reads { ReadsClub S.Store self.old self.new result
@@ -311,7 +310,7 @@ impl<S: Alter> Store<S> {
         reads::facility(&mut self.connection, name)
     }
 
-    /// What is taken of a slot: nothing of one that nobody booked or closed.
+    /// The use of a slot: the persons who booked it, and whether it is closed.
     pub fn slot(&mut self, slot: &Slot) -> Result<SlotUse, StoreFault>
         ensures reads { ReadsClub S.Store self.old self.new result
             (λ club found. found ≡ slot_use club slot.now) }
@@ -329,7 +328,7 @@ impl<S: Alter> Store<S> {
         reads::day(&mut self.connection, self.alloc, day)
     }
 
-    /// The state of a slot, where there is one: its facility, and what is taken of it.
+    /// The state of a request's slot, if it has one: its facility, and its use.
     fn slot_state(&mut self, slot: Option<Slot>) -> Result<SlotState, StoreFault>
         ensures reads { ReadsClub S.Store self.old self.new result
             (λ club found. found ≡ slot_state club slot) }
@@ -351,8 +350,8 @@ impl<S: Alter> Store<S> {
         })
     }
 
-    /// What a key of a member sees of a request.
-    fn seen(
+    /// The view that a key of a member has of a request.
+    fn read_view(
         &mut self,
         key: Key,
         row: MemberRow,
@@ -361,12 +360,12 @@ impl<S: Alter> Store<S> {
     ) -> Result<View, StoreFault>
         ensures reads { ReadsClub S.Store self.old self.new result
             (λ club view. row ≡ member_row club row.member →
-            view ≡ seen club key row.member request.now moment) }
+            view ≡ member_view club key row.member request.now moment) }
         ensures limits { IsKey key → IsMember row.member → IfOk result HasLimits }
     {
         let MemberRow { member, used } = row;
         let account = account_at(&mut self.connection, &key.name, &member.name, moment)?;
-        let booking = booked(&mut self.connection, &key.name, request.number())?;
+        let booking = numbered_booking(&mut self.connection, &key.name, request.number())?;
         let slot = self.slot_state(request.slot())?;
         Ok(View {
             key,
@@ -381,9 +380,9 @@ impl<S: Alter> Store<S> {
         })
     }
 
-    /// What a key sees of a request at a moment: its own row, what it spent, its booking of the
-    /// number, its member's row, balance and open bookings, and the state of the slot. `None` where
-    /// the key is unknown. A row out of its limits is a fault of storage.
+    /// The view that a key has of a request at a moment: the key's row, what it has spent, its
+    /// booking under the number, its member's row, balance and open bookings, and the slot's state.
+    /// `None` if the key is unknown. A row out of its limits is a fault of storage.
     pub fn view(
         &mut self,
         key: &Name,
@@ -401,12 +400,12 @@ impl<S: Alter> Store<S> {
         let Some(member) = self.member_row(&key.member)? else {
             return Ok(None);
         };
-        let view = self.seen(key, member, request, moment)?;
+        let view = self.read_view(key, member, request, moment)?;
         Ok(Some(view))
     }
 
-    /// Makes a change that fits, in one transaction. A refusal leaves the club that stood, and a
-    /// crash may yet leave the changed one.
+    /// Makes a change that fits, in one transaction. If it fails, the club is unchanged; after a
+    /// crash the store may hold the changed club.
     pub fn apply(&mut self, change: &Change) -> Result<(), StoreFault>
         ensures makes { ChangesClub S.Store change.now self.old self.new result }
     {
@@ -427,8 +426,8 @@ impl<S: Alter> Store<S> {
         }
     }
 
-    /// Inserts a booking with what it costs its member and takes of its slot, in one transaction. A
-    /// refusal is as that of `apply`.
+    /// Inserts a booking, and adds it to its member's cost and its slot's persons, in one
+    /// transaction. Fails as `apply`.
     fn insert_booking(&mut self, booking: &Booking) -> Result<(), StoreFault>
         ensures makes { ChangesClub S.Store (InsertBooking booking.now) self.old self.new result }
     {
@@ -443,8 +442,8 @@ impl<S: Alter> Store<S> {
     }
 
     /// Marks a booking cancelled with its refund, gives the refund back to its member and its
-    /// places to its slot, in one transaction. Where none is to be marked, nothing is changed. A
-    /// refusal is as that of `apply`.
+    /// places to its slot, in one transaction. If there is none to cancel, nothing is changed.
+    /// Fails as `apply`.
     fn cancel_booking(
         &mut self,
         key: &Name,
@@ -464,8 +463,8 @@ impl<S: Alter> Store<S> {
         }
     }
 
-    /// The booking of a key under a number; `None` where there is none. A row out of its limits is
-    /// a fault of storage.
+    /// The booking of a key under a number; `None` if there is none. A row out of its limits is a
+    /// fault of storage.
     pub fn booking(
         &mut self,
         key: &Name,
@@ -480,7 +479,7 @@ impl<S: Alter> Store<S> {
         reads::booking(&mut self.connection, key, number)
     }
 
-    /// Marks a booking cancelled where none is to be marked: nothing is changed.
+    /// Runs the statement that cancels a booking when there is none to cancel: nothing is changed.
     fn mark_cancelled(
         &mut self,
         key: &Name,
@@ -510,46 +509,45 @@ impl<S: Alter> Store<S> {
         }
     }
 
-    /// Inserts a member, in one transaction. A refusal is as that of `apply`.
+    /// Inserts a member, in one transaction. Fails as `apply`.
     pub fn insert_member(&mut self, member: &Member) -> Result<(), StoreFault>
         ensures makes { ChangesClub S.Store (InsertMember member.now) self.old self.new result }
     {
         writes::insert_member(&mut self.connection, member)
     }
 
-    /// Adds points to what a member was credited, in one transaction. A refusal is as that of
-    /// `apply`.
+    /// Adds points to what a member was credited, in one transaction. Fails as `apply`.
     pub fn add_credit(&mut self, member: &Name, points: u32) -> Result<(), StoreFault>
         ensures makes { ChangesClub S.Store (AddCredit member.now points) self.old self.new result }
     {
         writes::add_credit(&mut self.connection, member, points)
     }
 
-    /// Inserts a facility, in one transaction. A refusal is as that of `apply`.
+    /// Inserts a facility, in one transaction. Fails as `apply`.
     pub fn insert_facility(&mut self, facility: &Facility) -> Result<(), StoreFault>
         ensures makes { ChangesClub S.Store (InsertFacility facility.now) self.old self.new result }
     {
         writes::insert_facility(&mut self.connection, facility)
     }
 
-    /// Inserts a key, in one transaction. A refusal is as that of `apply`; so is a key refused that
-    /// has an older root already.
+    /// Inserts a key, in one transaction. Fails as `apply`, and with `Storage` if the key has an
+    /// older root.
     pub fn insert_key(&mut self, key: &Key) -> Result<(), StoreFault>
         ensures makes { ChangesClub S.Store (InsertKey key.now) self.old self.new result }
     {
         writes::insert_key(&mut self.connection, key)
     }
 
-    /// Marks a key revoked, in one transaction. A refusal is as that of `apply`.
+    /// Marks a key revoked, in one transaction. Fails as `apply`.
     pub fn revoke_key(&mut self, key: &Name) -> Result<(), StoreFault>
         ensures makes { ChangesClub S.Store (MarkRevoked key.now) self.old self.new result }
     {
         writes::revoke_key(&mut self.connection, key)
     }
 
-    /// Gives a key a new root, in one transaction. The one that it has becomes its older root, good
-    /// until the moment, in place of one from before. A refusal is as that of `apply`; an unknown
-    /// key is one of storage.
+    /// Gives a key a new root, in one transaction. Its current root becomes its older root, good
+    /// until the moment, and replaces an earlier one. Fails as `apply`, and with `Storage` if the
+    /// key is unknown.
     pub fn replace_root(&mut self, key: &Name, root: &Root, until: Moment) -> Result<(), StoreFault>
         ensures makes { ChangesClub S.Store
             (ReplaceRoot key.now root.now until) self.old self.new result }
@@ -574,7 +572,7 @@ impl<S: Alter> Store<S> {
         }
     }
 
-    /// Marks a slot closed, in one transaction. A refusal is as that of `apply`.
+    /// Marks a slot closed, in one transaction. Fails as `apply`.
     pub fn close_slot(&mut self, slot: &Slot) -> Result<(), StoreFault>
         ensures makes { ChangesClub S.Store (MarkClosed slot.now) self.old self.new result }
     {

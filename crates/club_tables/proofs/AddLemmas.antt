@@ -19,8 +19,8 @@ use Rattle.club_tables.specs.declared.texts.TheConstants.{ADD_MEMBER, ADD_FACILI
 use Rattle.club_tables.specs.Schema.{members_table, facilities_table, keys_table, bookings_table, club_schema}
 use Rattle.club_tables.specs.Columns.{whole, member_values, facility_values, key_values, booking_values}
 use Rattle.club_tables.specs.Stored.{Rows}
-use Rattle.club_tables.specs.Tables.{Lies, Holds, members_tree, facilities_tree, keys_tree, bookings_tree}
-use Rattle.club_tables.proofs.LiesLemmas.{on_members, on_facilities, on_keys, on_bookings}
+use Rattle.club_tables.specs.Tables.{HoldsRows, Holds, members_tree, facilities_tree, keys_tree, bookings_tree}
+use Rattle.club_tables.proofs.HoldsRowsLemmas.{on_members, on_facilities, on_keys, on_bookings}
 use Rattle.club_tables.proofs.InsertLemmas.{inserts, cast_null, cast_int}
 use Rattle.club_tables.proofs.RowLemmas.{holds_more}
 
@@ -44,16 +44,16 @@ member_plain = (refl, refl)
 abbrev pub new_row : Member → MemberRow
 new_row member = record { member = member; used = 0 }
 
-pub member_put : (old new : State) (rows : Rows) → Lies old.now rows → (member : Member) (count : ℕ)
+pub member_put : (old new : State) (rows : Rows) → HoldsRows old.now rows → (member : Member) (count : ℕ)
     → Executes ADD_MEMBER.now (Text member.name ∷ whole member.credited ∷ whole member.quota ∷ []) old new (Ok count)
-    → Lies new.now (record rows { members = rows.members ++ (new_row member) ∷ [] })
-member_put old new rows lies member count ran =
-    let put = inserts old new club_schema lies.schema ADD_MEMBER.now member_plain 1 member_table member_terms 5 (Text member.name ∷ whole member.credited
+    → HoldsRows new.now (record rows { members = rows.members ++ (new_row member) ∷ [] })
+member_put old new rows holds_rows member count ran =
+    let put = inserts old new club_schema holds_rows.schema ADD_MEMBER.now member_plain 1 member_table member_terms 5 (Text member.name ∷ whole member.credited
     ∷ whole member.quota ∷ []) (member_values (new_row member)) refl member_is refl refl refl
     (rw (cast_null, cast_int (pos member.credited), cast_int (pos member.quota), cast_int (pos 0))) (λ row. refl) count ran in
-    on_members old.now new.now rows lies put.0 put.3 put.2 (rows.members ++ (new_row member) ∷ [])
+    on_members old.now new.now rows holds_rows put.0 put.3 put.2 (rows.members ++ (new_row member) ∷ [])
     (subst (λ rs. Holds member_values rs (rows.members ++ (new_row member) ∷ [])) (sym put.1)
-    (holds_more member_values _ rows.members (new_row member) lies.members))
+    (holds_more member_values _ rows.members (new_row member) holds_rows.members))
 
 -- ---- facilities
 
@@ -71,17 +71,17 @@ facility_plain : IsPlain (understood club_schema ADD_FACILITY.now)
 unfolding understood everything
 facility_plain = (refl, refl)
 
-pub facility_put : (old new : State) (rows : Rows) → Lies old.now rows → (facility : Facility) (count : ℕ)
+pub facility_put : (old new : State) (rows : Rows) → HoldsRows old.now rows → (facility : Facility) (count : ℕ)
     → Executes ADD_FACILITY.now (facility_values facility) old new (Ok count)
-    → Lies new.now (record rows { facilities = rows.facilities ++ facility ∷ [] })
-facility_put old new rows lies facility count ran =
-    let put = inserts old new club_schema lies.schema ADD_FACILITY.now facility_plain 2 facility_table facility_terms 7 (facility_values facility)
+    → HoldsRows new.now (record rows { facilities = rows.facilities ++ facility ∷ [] })
+facility_put old new rows holds_rows facility count ran =
+    let put = inserts old new club_schema holds_rows.schema ADD_FACILITY.now facility_plain 2 facility_table facility_terms 7 (facility_values facility)
     (facility_values facility) refl facility_is refl refl refl
     (rw (cast_null, cast_int (pos facility.places), cast_int (pos facility.price), cast_int (pos facility.opens), cast_int (pos facility.shuts))) (λ row.
     refl) count ran in
-    on_facilities old.now new.now rows lies put.0 put.3 put.2 (rows.facilities ++ facility ∷ [])
+    on_facilities old.now new.now rows holds_rows put.0 put.3 put.2 (rows.facilities ++ facility ∷ [])
     (subst (λ rs. Holds facility_values rs (rows.facilities ++ facility ∷ [])) (sym put.1)
-    (holds_more facility_values _ rows.facilities facility lies.facilities))
+    (holds_more facility_values _ rows.facilities facility holds_rows.facilities))
 
 -- ---- keys
 
@@ -99,13 +99,14 @@ key_plain : IsPlain (understood club_schema ADD_KEY.now)
 unfolding understood everything
 key_plain = (refl, refl)
 
-pub key_put : (old new : State) (rows : Rows) → Lies old.now rows → (key : Key) (count : ℕ) → Executes ADD_KEY.now (key_values key) old new (Ok count)
-    → Lies new.now (record rows { keys = rows.keys ++ key ∷ [] })
-key_put old new rows lies key count ran =
-    let put = inserts old new club_schema lies.schema ADD_KEY.now key_plain 3 key_table key_terms 5 (key_values key) (key_values key) refl key_is refl refl refl
+pub key_put : (old new : State) (rows : Rows) → HoldsRows old.now rows → (key : Key) (count : ℕ) → Executes ADD_KEY.now (key_values key) old new (Ok count)
+    → HoldsRows new.now (record rows { keys = rows.keys ++ key ∷ [] })
+key_put old new rows holds_rows key count ran =
+    let put = inserts old new club_schema holds_rows.schema ADD_KEY.now key_plain 3 key_table key_terms 5 (key_values key)
+    (key_values key) refl key_is refl refl refl
     (rw (cast_null, cast_int (pos (truth key.revoked)))) (λ row. refl) count ran in
-    on_keys old.now new.now rows lies put.0 put.3 put.2 (rows.keys ++ key ∷ [])
-    (subst (λ rs. Holds key_values rs (rows.keys ++ key ∷ [])) (sym put.1) (holds_more key_values _ rows.keys key lies.keys))
+    on_keys old.now new.now rows holds_rows put.0 put.3 put.2 (rows.keys ++ key ∷ [])
+    (subst (λ rs. Holds key_values rs (rows.keys ++ key ∷ [])) (sym put.1) (holds_more key_values _ rows.keys key holds_rows.keys))
 
 -- ---- bookings
 
@@ -123,11 +124,11 @@ booking_plain : IsPlain (understood club_schema ADD_BOOKING.now)
 unfolding understood everything
 booking_plain = (refl, refl)
 
-pub booking_put : (old new : State) (rows : Rows) → Lies old.now rows → (booking : Booking) (count : ℕ)
+pub booking_put : (old new : State) (rows : Rows) → HoldsRows old.now rows → (booking : Booking) (count : ℕ)
     → Executes ADD_BOOKING.now (booking_values booking) old new (Ok count)
-    → Lies new.now (record rows { bookings = rows.bookings ++ booking ∷ [] })
-booking_put old new rows lies booking count ran =
-    let put = inserts old new club_schema lies.schema ADD_BOOKING.now booking_plain 5 booking_table booking_terms 11 (booking_values booking)
+    → HoldsRows new.now (record rows { bookings = rows.bookings ++ booking ∷ [] })
+booking_put old new rows holds_rows booking count ran =
+    let put = inserts old new club_schema holds_rows.schema ADD_BOOKING.now booking_plain 5 booking_table booking_terms 11 (booking_values booking)
     (booking_values booking) refl booking_is refl refl refl
     (rw (
       cast_null,
@@ -141,5 +142,5 @@ booking_put old new rows lies booking count ran =
       cast_int (pos booking.refund),
     )) (λ row.
     refl) count ran in
-    on_bookings old.now new.now rows lies put.0 put.3 put.2 (rows.bookings ++ booking ∷ [])
-    (subst (λ rs. Holds booking_values rs (rows.bookings ++ booking ∷ [])) (sym put.1) (holds_more booking_values _ rows.bookings booking lies.bookings))
+    on_bookings old.now new.now rows holds_rows put.0 put.3 put.2 (rows.bookings ++ booking ∷ [])
+    (subst (λ rs. Holds booking_values rs (rows.bookings ++ booking ∷ [])) (sym put.1) (holds_more booking_values _ rows.bookings booking holds_rows.bookings))

@@ -29,15 +29,15 @@ use Rattle.club_core.specs.Club.{Club}
 use Rattle.club_tables.specs.declared.texts.TheConstants.{SLOT, BOOKING, COSTS_UNDER_KEY}
 use Rattle.club_tables.specs.Schema.{club_schema}
 use Rattle.club_tables.specs.Columns.{whole, slot_values, use_values, booking_values, cost_values}
-use Rattle.club_tables.specs.Stored.{SlotRow, unused, row_of}
+use Rattle.club_tables.specs.Stored.{SlotRow, no_slot_use, row_of}
 use Rattle.club_tables.specs.Use.{ShowsUse}
 use Rattle.club_core.specs.Basis.{slot_use}
-use Rattle.club_tables.specs.Tables.{Stands, slots_tree, bookings_tree}
+use Rattle.club_tables.specs.Tables.{Represents, slots_tree, bookings_tree}
 use Rattle.club_tables.specs.Statements.{select, is_given}
-use Rattle.club_transactions.specs.Transaction.{Asked}
+use Rattle.club_tables.specs.Transaction.{Asked}
 use Rattle.club_tables.proofs.SelectLemmas.{selected, text_equal, whole_equal, apart_from_pairs, one_passes}
-use Rattle.club_tables.proofs.StandLemmas.{asked_tables, asked_reads, bookings_held}
-use Rattle.club_tables.proofs.KeyLemmas.{and_true, first_told}
+use Rattle.club_tables.proofs.RepresentsLemmas.{asked_tables, asked_reads, bookings_held}
+use Rattle.club_tables.proofs.KeyLemmas.{and_true, first_returned}
 
 slot_is : command_of (understood club_schema SLOT.now) ≡ Select (record {
   lets = [];
@@ -72,28 +72,28 @@ same_slots a b h =
     ∙ ap (λ d. let s : Slot = record b { day = d; hour = a.hour } in s) ((unsigned_Decides a.day b.day).0 two.1)
     ∙ ap (λ h. let s : Slot = record b { hour = h } in s) ((unsigned_Decides a.hour b.hour).0 one.1)
 
--- what is told of a slot by the row that was found, or by none
+-- the use of a slot by the row that was found, or by none
 shows_by : (club : Club) (slot : Slot) (found : Option SlotRow) (rows : List Row) → rows ≡ map (λ (row : SlotRow). use_values row.held) (option_to_list found)
-    → unwrap_or (option_map (λ (row : SlotRow). row.held) found) unused ≡ slot_use club slot → ShowsUse club slot rows
+    → unwrap_or (option_map (λ (row : SlotRow). row.held) found) no_slot_use ≡ slot_use club slot → ShowsUse club slot rows
 shows_by club slot (Some row) rows is same = inl (is ∙ ap (λ held. use_values held ∷ []) same)
 shows_by club slot None rows is same = inr (is, sym same)
 
-pub slot_told : {S : Type 0} (g : Ghosts S) (old : Held S) (slot : Slot) (rows : List Row) → HasCleanDisk (state g old)
+pub slot_returned : {S : Type 0} (g : Ghosts S) (old : Held S) (slot : Slot) (rows : List Row) → HasCleanDisk (state g old)
     → Asked g SLOT.now (Text slot.facility ∷ whole slot.day ∷ whole slot.hour ∷ []) old rows
-    → (club : Club) (others : List Club) → Stands (state g old) club others → ShowsUse club slot rows
-slot_told g old slot rows clean asked club others stands =
-    let tables = asked_tables g SLOT.now _ old rows asked clean club others stands in
-    let reads = asked_reads g SLOT.now _ old rows asked tables.lies.schema _ slot_is slot_plain slot_unlisted in
+    → (club : Club) (others : List Club) → Represents (state g old) club others → ShowsUse club slot rows
+slot_returned g old slot rows clean asked club others represents =
+    let tables = asked_tables g SLOT.now _ old rows asked clean club others represents in
+    let reads = asked_reads g SLOT.now _ old rows asked tables.holds_rows.schema _ slot_is slot_plain slot_unlisted in
     let p : SlotRow → Bool = λ row. same_slot row.slot slot in
     let show : SlotRow → Row = λ row. use_values row.held in
     let R : SlotRow → SlotRow → Type 0 = λ a b. a.slot ≢ b.slot in
     let tests = λ (id : ℤ) (row : SlotRow). three_tests _ _ _ _ _ _ (text_equal row.slot.facility slot.facility) (whole_equal row.slot.day slot.day)
     (whole_equal row.slot.hour slot.hour) in
     let same = selected slot_values _ (is_given 1 0 ∷ is_given 2 1 ∷ is_given 3 2 ∷ []) (col 1 4 ∷ col 1 5 ∷ []) p show tests (λ id row.
-    refl) slots_tree (codes "closed" ∷ codes "taken" ∷ []) (state g old).now tables.rows.slots rows tables.lies.slots reads in
+    refl) slots_tree (codes "closed" ∷ codes "taken" ∷ []) (state g old).now tables.rows.slots rows tables.holds_rows.slots reads in
     let low = one_passes R p tables.rows.slots (λ x y a b apart. apart (same_slots x.slot slot a ∙ sym (same_slots y.slot slot b)))
     (apart_from_pairs R tables.rows.slots tables.stored.once) in
-    shows_by club slot (row_of slot tables.rows.slots) rows (first_told show p tables.rows.slots rows low same) (tables.stored.slots slot)
+    shows_by club slot (row_of slot tables.rows.slots) rows (first_returned show p tables.rows.slots rows low same) (tables.stored.slots slot)
 
 two_tests : (a a' b b' : Bool) → a ≡ a' → b ≡ b' → (a && (b && true)) ≡ (a' && b')
 two_tests a a' b b' p q = let e = and_true b in cc
@@ -115,13 +115,13 @@ booking_unlisted : reads_listing club_schema BOOKING.now ≡ false
 unfolding everything
 booking_unlisted = refl
 
-pub booking_told : {S : Type 0} (g : Ghosts S) (old : Held S) (key : List ℕ) (number : ℕ) (rows : List Row) → HasCleanDisk (state g old)
+pub booking_returned : {S : Type 0} (g : Ghosts S) (old : Held S) (key : List ℕ) (number : ℕ) (rows : List Row) → HasCleanDisk (state g old)
     → Asked g BOOKING.now (Text key ∷ whole number ∷ []) old rows
-    → (club : Club) (others : List Club) → Stands (state g old) club others
+    → (club : Club) (others : List Club) → Represents (state g old) club others
     → rows ≡ map booking_values (option_to_list (booking_under key number club.bookings))
-booking_told g old key number rows clean asked club others stands =
-    let tables = asked_tables g BOOKING.now _ old rows asked clean club others stands in
-    let reads = asked_reads g BOOKING.now _ old rows asked tables.lies.schema _ booking_is booking_plain booking_unlisted in
+booking_returned g old key number rows clean asked club others represents =
+    let tables = asked_tables g BOOKING.now _ old rows asked clean club others represents in
+    let reads = asked_reads g BOOKING.now _ old rows asked tables.holds_rows.schema _ booking_is booking_plain booking_unlisted in
     let p : Booking → Bool = λ booking. is_under key booking && booking.number == number in
     let R : Booking → Booking → Type 0 = λ a b. ¬ ((a.key ≡ b.key) × (a.number ≡ b.number)) in
     let tests = λ (id : ℤ) (b : Booking).
@@ -139,10 +139,10 @@ booking_told g old key number rows clean asked club others stands =
           ∙ sym ((unsigned_Decides y.number number).0 n.1),
     ))
     (apart_from_pairs R club.bookings tables.sound.unique.bookings) in
-    first_told booking_values p club.bookings rows low same
+    first_returned booking_values p club.bookings rows low same
 
-abbrev pub stands_still : Term
-stands_still = op2 (Compare Eq Binary) (col 1 9) (lit (Int (pos 0)))
+abbrev pub is_uncancelled : Term
+is_uncancelled = op2 (Compare Eq Binary) (col 1 9) (lit (Int (pos 0)))
 
 pub no_truth : (b : Bool) → (truth b == 0) ≡ not b
 no_truth true = refl
@@ -164,12 +164,12 @@ costs_unlisted : reads_listing club_schema COSTS_UNDER_KEY.now ≡ false
 unfolding everything
 costs_unlisted = refl
 
-pub costs_told : {S : Type 0} (g : Ghosts S) (old : Held S) (key : List ℕ) (rows : List Row) → HasCleanDisk (state g old)
+pub costs_returned : {S : Type 0} (g : Ghosts S) (old : Held S) (key : List ℕ) (rows : List Row) → HasCleanDisk (state g old)
     → Asked g COSTS_UNDER_KEY.now (Text key ∷ []) old rows
-    → (club : Club) (others : List Club) → Stands (state g old) club others → IsPermutation (map cost_values (filter (is_under key) club.bookings)) rows
-costs_told g old key rows clean asked club others stands =
-    let tables = asked_tables g COSTS_UNDER_KEY.now _ old rows asked clean club others stands in
-    let reads = asked_reads g COSTS_UNDER_KEY.now _ old rows asked tables.lies.schema _ costs_is costs_plain costs_unlisted in
+    → (club : Club) (others : List Club) → Represents (state g old) club others → IsPermutation (map cost_values (filter (is_under key) club.bookings)) rows
+costs_returned g old key rows clean asked club others represents =
+    let tables = asked_tables g COSTS_UNDER_KEY.now _ old rows asked clean club others represents in
+    let reads = asked_reads g COSTS_UNDER_KEY.now _ old rows asked tables.holds_rows.schema _ costs_is costs_plain costs_unlisted in
     selected booking_values _ (is_given 1 0 ∷ []) (col 1 7 ∷ col 1 10 ∷ []) (is_under key) cost_values (λ id b. and_true _
     ∙ text_equal b.key key) (λ id b. refl) bookings_tree (map codes ("charge" ∷ "refund" ∷ [])) (state g old).now club.bookings rows
     (bookings_held _ club tables) reads

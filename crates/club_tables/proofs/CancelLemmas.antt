@@ -20,14 +20,14 @@ use Rattle.sqlite.specs.State.{State, Executes}
 use Rattle.sqlite.proofs.Callers.{IsPlain, command_of}
 use Rattle.club_rows.specs.Columns.{truth}
 use Rattle.club_rows.specs.declared.booking.Booking.{Booking}
-use Rattle.club_core.specs.After.{cancelled, is_marked}
+use Rattle.club_core.specs.After.{cancelled_booking, is_marked}
 use Rattle.club_tables.specs.declared.texts.TheConstants.{CANCEL_BOOKING}
 use Rattle.club_tables.specs.Schema.{bookings_table, club_schema}
 use Rattle.club_tables.specs.Columns.{whole, flag, booking_values}
 use Rattle.club_tables.specs.Statements.{select, is_given}
 use Rattle.club_tables.specs.Stored.{Rows}
-use Rattle.club_tables.specs.Tables.{Lies, Holds, bookings_tree}
-use Rattle.club_tables.proofs.LiesLemmas.{on_bookings}
+use Rattle.club_tables.specs.Tables.{HoldsRows, Holds, bookings_tree}
+use Rattle.club_tables.proofs.HoldsRowsLemmas.{on_bookings}
 use Rattle.club_tables.proofs.InsertLemmas.{cast_int}
 use Rattle.club_tables.proofs.SelectLemmas.{text_equal, whole_equal, apart_from_pairs, one_passes}
 use Rattle.club_tables.proofs.UpdateLemmas.{updates}
@@ -38,11 +38,11 @@ abbrev booking_table : Table
 booking_table = record bookings_table { tree = bookings_tree }
 
 -- not cancelled
-abbrev stands : Term
-stands = op2 (Compare Eq Binary) (col 1 9) (lit (Int (pos 0)))
+abbrev is_uncancelled : Term
+is_uncancelled = op2 (Compare Eq Binary) (col 1 9) (lit (Int (pos 0)))
 
 abbrev cancel_tests : List Term
-cancel_tests = is_given 1 0 ∷ is_given 2 1 ∷ stands ∷ []
+cancel_tests = is_given 1 0 ∷ is_given 2 1 ∷ is_uncancelled ∷ []
 
 abbrev cancel_terms : List Term
 cancel_terms = col 1 0 ∷ col 1 0 ∷ col 1 1 ∷ col 1 2 ∷ col 1 3 ∷ col 1 4 ∷ col 1 5 ∷ col 1 6 ∷ col 1 7 ∷ col 1 8 ∷ lit (Int (pos 1)) ∷ col 0 2 ∷ []
@@ -72,7 +72,7 @@ three false b c = refl
 three_tests : (a a' b b' c c' : Bool) → a ≡ a' → b ≡ b' → c ≡ c' → (a && (b && (c && true))) ≡ (a' && b' && c')
 three_tests a a' b b' c c' p q r = let e = three a b c in cc
 
--- keys and numbers tell the bookings apart
+-- keys and numbers identify the bookings
 pub one_marked : (key : List ℕ) (number : ℕ) (bookings : List Booking) → AllPairs (λ (a : Booking) (b : Booking). ¬ ((a.key ≡ b.key)
     × (a.number ≡ b.number))) bookings → length (filter (is_marked key number) bookings) ≤ 1
 one_marked key number bookings unique =
@@ -87,15 +87,16 @@ one_marked key number bookings unique =
     ))
     (apart_from_pairs R bookings unique)
 
-pub booking_cancelled : (old new : State) (rows : Rows) → Lies old.now rows
+pub booking_cancelled : (old new : State) (rows : Rows) → HoldsRows old.now rows
     → AllPairs (λ (a : Booking) (b : Booking). ¬ ((a.key ≡ b.key) × (a.number ≡ b.number))) rows.bookings → (key : List ℕ) (number refund count : ℕ)
     → Executes CANCEL_BOOKING.now (Text key ∷ whole number ∷ whole refund ∷ []) old new (Ok count)
-    → Lies new.now (record rows { bookings = map (cancelled key number refund) rows.bookings })
-booking_cancelled old new rows lies unique key number refund count ran =
+    → HoldsRows new.now (record rows { bookings = map (cancelled_booking key number refund) rows.bookings })
+booking_cancelled old new rows holds_rows unique key number refund count ran =
     let params = Text key ∷ whole number ∷ whole refund ∷ [] in
     let p : Booking → Bool = is_marked key number in
-    let change = cancelled key number refund in
-    let put = updates old new lies.schema CANCEL_BOOKING.now cancel_plain 5 booking_table (select (inner bookings_tree end) cancel_tests cancel_terms) params
+    let change = cancelled_booking key number refund in
+    let put = updates old new holds_rows.schema CANCEL_BOOKING.now cancel_plain 5 booking_table
+    (select (inner bookings_tree end) cancel_tests cancel_terms) params
     refl cancel_is count ran in
     let as_marked : Booking → Bool → Booking = λ booking b. record booking { cancelled = booking.cancelled || b; refund = cond b refund booking.refund } in
     let same : (booking : Booking) → p booking ≡ false → change booking ≡ booking = λ booking fails.
@@ -105,8 +106,8 @@ booking_cancelled old new rows lies unique key number refund count ran =
     let tested = λ (id : ℤ) (booking : Booking).
     let key_is = text_equal booking.key key in
     let number_is = whole_equal booking.number number in
-    let stands_is = whole_equal (truth booking.cancelled) 0 ∙ no_truth booking.cancelled in
-    three_tests _ _ _ _ _ _ key_is number_is stands_is in
+    let uncancelled_is = whole_equal (truth booking.cancelled) 0 ∙ no_truth booking.cancelled in
+    three_tests _ _ _ _ _ _ key_is number_is uncancelled_is in
     let bookings = replaced booking_values p change same params cancel_tests cancel_terms tested booking_table
     (record { schema = club_schema; trees = old.now.trees }) rows.bookings put.0 (λ _. Unit {0}) (nothing_more rows.bookings)
     (λ id booking _ passes.
@@ -123,6 +124,6 @@ booking_cancelled old new rows lies unique key number refund count ran =
       cast_int (pos (truth booking.cancelled)),
       cast_int (pos booking.refund),
     ))
-    lies.bookings (one_marked key number rows.bookings unique) put.1 in
-    on_bookings old.now new.now rows lies put.2 put.5 put.4 (map change rows.bookings)
+    holds_rows.bookings (one_marked key number rows.bookings unique) put.1 in
+    on_bookings old.now new.now rows holds_rows put.2 put.5 put.4 (map change rows.bookings)
     (subst (λ rs. Holds booking_values rs (map change rows.bookings)) (sym put.3) bookings)

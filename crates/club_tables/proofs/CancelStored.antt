@@ -11,14 +11,14 @@ use Rattle.club_rows.specs.declared.booking.Booking.{Booking}
 use Rattle.club_rows.specs.declared.member.Member.{Member}
 use Rattle.club_core.specs.declared.slot_use.SlotUse.{SlotUse}
 use Rattle.club_core.specs.declared.change.Change.TheVariants.{MarkCancelled}
-use Rattle.club_core.specs.After.{after, cancelled, is_marked}
+use Rattle.club_core.specs.After.{after, cancelled_booking, is_marked}
 use Rattle.club_rows.specs.Booking.{same_slot, persons_of}
 use Rattle.club_core.specs.Club.{Club, IsSound, is_key_of}
 use Rattle.club_rows.specs.Rows.{IsBooking}
 use Rattle.club_core.specs.Sums.{is_in, is_under, taken_in, cost_of}
 use Rattle.club_tables.specs.declared.row.MemberRow.{MemberRow}
 use Rattle.club_tables.specs.Stored.{Rows, IsStoredAs, member_row, used_by}
-use Rattle.club_tables.specs.Told.{IsOwnedBy, IsToCancel, HasNoneToCancel}
+use Rattle.club_tables.specs.ReadsAndChanges.{IsOwnedBy, IsToCancel, HasNoneToCancel}
 use Rattle.club_tables.proofs.ChangeLemmas.{used_row, or_true, or_false}
 use Rattle.club_tables.proofs.JoinLemmas.{map_map}
 use Rattle.club_tables.proofs.SelectLemmas.{Apart, apart_from_pairs}
@@ -27,7 +27,7 @@ use Rattle.club_tables.proofs.UpsertLemmas.{take_use}
 use Rattle.club_tables.proofs.FindLemmas.{found}
 use Rattle.std.specs.Cmp.{unsigned_Decides}
 use Rattle.club_tables.proofs.OwnerLemmas.{map_agree, IsAlone, none_changed, others_fail, picked_changed, same_name, owner_is}
-use Rattle.club_tables.proofs.StoredLemmas.{take_told}
+use Rattle.club_tables.proofs.StoredLemmas.{recounted_use}
 
 -- ---- cancellations
 
@@ -39,17 +39,17 @@ index_mapped f (x ∷ xs) (suc k) d low = index_mapped f xs k d (omega arith)
 abbrev pub is_named : List ℕ → ℕ → Booking → Bool
 is_named key number booking = is_under key booking && booking.number == number
 
-unmarked : (key : List ℕ) (number refund : ℕ) (booking : Booking) → is_marked key number booking ≡ false → cancelled key number refund booking ≡ booking
+unmarked : (key : List ℕ) (number refund : ℕ) (booking : Booking) → is_marked key number booking ≡ false → cancelled_booking key number refund booking ≡ booking
 unmarked key number refund booking fails =
     ap (λ b. let k : Booking = record booking { cancelled = booking.cancelled || b; refund = if b then refund else booking.refund } in k) fails
     ∙ ap (λ b. let k : Booking = record booking { cancelled = b } in k) (or_false booking.cancelled)
 
-unnamed : (key : List ℕ) (number refund : ℕ) (booking : Booking) → is_named key number booking ≡ false → cancelled key number refund booking ≡ booking
+unnamed : (key : List ℕ) (number refund : ℕ) (booking : Booking) → is_named key number booking ≡ false → cancelled_booking key number refund booking ≡ booking
 unnamed key number refund booking fails = unmarked key number refund booking (rw fails refl)
 
 named_alone : (key : List ℕ) (number refund : ℕ) (bookings : List Booking)
     → Apart (λ (a : Booking) (b : Booking). ¬ ((a.key ≡ b.key) × (a.number ≡ b.number))) bookings
-    → Apart (IsAlone (is_named key number) (cancelled key number refund) (unnamed key number refund)) bookings
+    → Apart (IsAlone (is_named key number) (cancelled_booking key number refund) (unnamed key number refund)) bookings
 named_alone key number refund [] apart = tt
 named_alone key number refund (b ∷ bookings) apart = (each bookings apart.0, named_alone key number refund bookings apart.1)
   where
@@ -77,7 +77,7 @@ module _ (club : Club) (sound : IsSound club) (booking : Booking) (cancels : IsT
   number = booking.number
 
   abbrev change : Booking → Booking
-  change = cancelled key number refund
+  change = cancelled_booking key number refund
 
   abbrev next : Club
   next = after (MarkCancelled key number refund) club
@@ -187,7 +187,7 @@ module _ (club : Club) (sound : IsSound club) (booking : Booking) (cancels : IsT
         let less : ℕ → ℕ = λ n. n - persons_of booking in
         use_put booking.slot (take_use less) s rows.slots ∙ ap (λ u. let v : SlotUse = if same_slot booking.slot s then take_use less u else u in
         v) (stored.slots s)
-        ∙ take_told club s less (same_slot booking.slot s) (taken_in s next.bookings) (taken_less s);
+        ∙ recounted_use club s less (same_slot booking.slot s) (taken_in s next.bookings) (taken_less s);
     olders = stored.olders;
     rotated = stored.rotated;
     once = put_once booking.slot (take_use (λ n. n - persons_of booking)) rows.slots stored.once;
@@ -195,31 +195,31 @@ module _ (club : Club) (sound : IsSound club) (booking : Booking) (cancels : IsT
 
 -- where there is none to cancel, the bookings stay as they are
 none_marked : (key : List ℕ) (number refund : ℕ) (bookings : List Booking)
-    → Apart (IsAlone (is_named key number) (cancelled key number refund) (unnamed key number refund)) bookings
-    → IfSome (find (is_named key number) bookings) (λ (b : Booking). IsTrue b.cancelled) → map (cancelled key number refund) bookings ≡ bookings
+    → Apart (IsAlone (is_named key number) (cancelled_booking key number refund) (unnamed key number refund)) bookings
+    → IfSome (find (is_named key number) bookings) (λ (b : Booking). IsTrue b.cancelled) → map (cancelled_booking key number refund) bookings ≡ bookings
 none_marked key number refund [] alone none = refl
 none_marked key number refund (b ∷ bookings) alone none = go (none_marked key number refund bookings alone.1) (is_named key number b) refl none
   where
-    go : (IfSome (find (is_named key number) bookings) (λ (b : Booking). IsTrue b.cancelled) → map (cancelled key number refund) bookings ≡ bookings)
+    go : (IfSome (find (is_named key number) bookings) (λ (b : Booking). IsTrue b.cancelled) → map (cancelled_booking key number refund) bookings ≡ bookings)
         → (named : Bool) → is_named key number b ≡ named → IfSome (cond named (Some b) (find (is_named key number) bookings)) (λ (b : Booking).
-        IsTrue b.cancelled) → map (cancelled key number refund) (b ∷ bookings) ≡ b ∷ bookings
+        IsTrue b.cancelled) → map (cancelled_booking key number refund) (b ∷ bookings) ≡ b ∷ bookings
     go later true is marked =
         let stays = unmarked key number refund b (rw (is, marked) refl) in
-        let rest = none_changed (is_named key number) (cancelled key number refund) (unnamed key number refund) bookings
-        (others_fail (is_named key number) (cancelled key number refund) (unnamed key number refund) b is bookings alone.0) in cc
+        let rest = none_changed (is_named key number) (cancelled_booking key number refund) (unnamed key number refund) bookings
+        (others_fail (is_named key number) (cancelled_booking key number refund) (unnamed key number refund) b is bookings alone.0) in cc
     go later false is more = let stays = unnamed key number refund b is in let rest = later more in cc
 
 pub same_stored : (club : Club) (rows : Rows) → IsStoredAs club rows → IsSound club → (key : List ℕ) (number refund : ℕ) → HasNoneToCancel key number club
-    → IsStoredAs (after (MarkCancelled key number refund) club) (record rows { bookings = map (cancelled key number refund) rows.bookings })
+    → IsStoredAs (after (MarkCancelled key number refund) club) (record rows { bookings = map (cancelled_booking key number refund) rows.bookings })
 same_stored club rows stored sound key number refund none =
     let R : Booking → Booking → Type 0 = λ a b. ¬ ((a.key ≡ b.key) × (a.number ≡ b.number)) in
     let same = none_marked key number refund club.bookings (named_alone key number refund club.bookings
     (apart_from_pairs R club.bookings sound.unique.bookings)) none in
-    let unmoved : IsStoredAs club (record rows { bookings = map (cancelled key number refund) rows.bookings }) = record {
+    let unmoved : IsStoredAs club (record rows { bookings = map (cancelled_booking key number refund) rows.bookings }) = record {
       members = stored.members;
       facilities = stored.facilities;
       keys = stored.keys;
-      bookings = ap (map (cancelled key number refund)) stored.bookings ∙ same;
+      bookings = ap (map (cancelled_booking key number refund)) stored.bookings ∙ same;
       slots = stored.slots;
       olders = stored.olders;
       rotated = stored.rotated;
@@ -227,5 +227,5 @@ same_stored club rows stored sound key number refund none =
     } in
     subst (λ (bookings : List Booking). IsStoredAs (record club { bookings = bookings }) (record rows {
       bookings =
-          map (cancelled key number refund) rows.bookings;
+          map (cancelled_booking key number refund) rows.bookings;
     })) (sym same) unmoved

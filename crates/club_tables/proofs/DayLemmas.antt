@@ -31,12 +31,12 @@ use Rattle.club_tables.specs.declared.texts.TheConstants.{DAY}
 use Rattle.club_tables.specs.Schema.{club_schema}
 use Rattle.club_tables.specs.Columns.{whole, booking_values}
 use Rattle.club_tables.specs.Sheet.{ShowsDay}
-use Rattle.club_tables.specs.Tables.{Stands, bookings_tree}
+use Rattle.club_tables.specs.Tables.{Represents, bookings_tree}
 use Rattle.club_tables.specs.Statements.{select, in_order, is_given}
-use Rattle.club_transactions.specs.Transaction.{Asked}
+use Rattle.club_tables.specs.Transaction.{Asked}
 use Rattle.club_tables.proofs.SelectLemmas.{whole_equal, apart_from_pairs}
-use Rattle.club_tables.proofs.StandLemmas.{asked_tables, asked_reads, bookings_held}
-use Rattle.club_tables.proofs.BookingLemmas.{stands_still, no_truth}
+use Rattle.club_tables.proofs.RepresentsLemmas.{asked_tables, asked_reads, bookings_held}
+use Rattle.club_tables.proofs.BookingLemmas.{is_uncancelled, no_truth}
 use Rattle.club_tables.proofs.OrderLemmas.{selected_in_order, none_less, apart-permutation, pairs_from_apart}
 
 -- ---- the order of the sheet
@@ -113,7 +113,7 @@ abbrev booking_names : List (List ℕ)
 booking_names = map codes ("pass_key" ∷ "number" ∷ "facility" ∷ "day" ∷ "hour" ∷ "guests" ∷ "charge" ∷ "remains" ∷ "cancelled" ∷ "refund" ∷ [])
 
 abbrev day_tests : List Term
-day_tests = is_given 4 0 ∷ stands_still ∷ []
+day_tests = is_given 4 0 ∷ is_uncancelled ∷ []
 
 day_is : command_of (understood club_schema DAY.now) ≡ Select (record {
   lets = [];
@@ -146,28 +146,30 @@ two_turned a a' b b' p q = turned a b ∙ cc
     turned false true = refl
     turned false false = refl
 
-pub day_told : {S : Type 0} (g : Ghosts S) (old : Held S) (day : ℕ) (rows : List Row) → HasCleanDisk (state g old) → Asked g DAY.now (whole day ∷ []) old rows
-    → (club : Club) (others : List Club) → Stands (state g old) club others → ShowsDay club day rows
-day_told g old day rows clean asked club others stands =
-    let tables = asked_tables g DAY.now _ old rows asked clean club others stands in
-    let reads = asked_reads g DAY.now _ old rows asked tables.lies.schema _ day_is day_plain day_unlisted in
+pub day_returned : {S : Type 0} (g : Ghosts S) (old : Held S) (day : ℕ) (rows : List Row) → HasCleanDisk (state g old)
+    → Asked g DAY.now (whole day ∷ []) old rows
+    → (club : Club) (others : List Club) → Represents (state g old) club others → ShowsDay club day rows
+day_returned g old day rows clean asked club others represents =
+    let tables = asked_tables g DAY.now _ old rows asked clean club others represents in
+    let reads = asked_reads g DAY.now _ old rows asked tables.holds_rows.schema _ day_is day_plain day_unlisted in
     let tests = λ (id : ℤ) (b : Booking). two_turned _ _ _ _ (whole_equal b.slot.day day) (whole_equal (truth b.cancelled) 0 ∙ no_truth b.cancelled) in
-    let told = selected_in_order booking_values (whole day ∷ []) day_tests booking_terms (map (λ term. (term, ascending Binary)) sheet_terms) (is_on day)
+    let day_selection = selected_in_order booking_values (whole day
+    ∷ []) day_tests booking_terms (map (λ term. (term, ascending Binary)) sheet_terms) (is_on day)
     booking_values sheet_key
     tests (λ id b. refl) (λ id b. refl) bookings_tree booking_names (state g old).now club.bookings rows (bookings_held _ club tables) reads in
-    let bookings = told.ordered in
+    let bookings = day_selection.ordered in
     let same_cmp : (λ (a b : Booking). key_cmp 0 (map (λ _. ascending Binary) sheet_terms) (sheet_key a) (sheet_key b)) ≡ sheet_cmp =
     λ i a b. by_values a b i in
-    let none_before = none_less sheet_cmp sheet_total bookings (subst (λ cmp. IsSorted cmp bookings) same_cmp told.sorted) in
+    let none_before = none_less sheet_cmp sheet_total bookings (subst (λ cmp. IsSorted cmp bookings) same_cmp day_selection.sorted) in
     let unique = AllPairs-filter Differ (is_on day) club.bookings tables.sound.unique.bookings in
-    let apart = apart-permutation Differ (λ a b differ same. differ (sym same.0, sym same.1)) (filter (is_on day) club.bookings) bookings told.same
+    let apart = apart-permutation Differ (λ a b differ same. differ (sym same.0, sym same.1)) (filter (is_on day) club.bookings) bookings day_selection.same
     (apart_from_pairs Differ _ unique) in
     let differ = pairs_from_apart Differ bookings apart in (
       bookings,
       record {
-        same = told.same;
+        same = day_selection.same;
         sorted = λ i j d less low. strictly (slice_index_or bookings i d) (slice_index_or bookings j d)
             (none_before i j d less low) (differ i j d less low);
       },
-      told.shown,
+      day_selection.shown,
     )

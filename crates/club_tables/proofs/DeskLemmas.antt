@@ -125,11 +125,11 @@ makes_where kept same other =
     if kept then Err Unsupported else and_then (creates false (codes "desk") same other) (λ is_new. if is_new then Ok CreateTable else Ok Nothing)
 
 -- the text makes the table where nothing has its name
-desk_commands : (schema : Schema) (base : ℕ) → and_then (first MAKE_DESK.now) (λ p. command schema p.formats base p.statement)
+clubdesk_commands : (schema : Schema) (base : ℕ) → and_then (first MAKE_DESK.now) (λ p. command schema p.formats base p.statement)
     ≡ makes_where (is_attached schema (codes "desk")) (option_or (table_named schema (codes "desk")) (view_named schema (codes "desk")))
     (index_named schema (codes "desk"))
 unfolding everything
-desk_commands schema base = refl
+clubdesk_commands schema base = refl
 
 made_free : (kept : Bool) (same other : Option ℕ) → is_ok (makes_where kept same other) ≡ true → (same ≡ None) × (other ≡ None)
 unfolding creates is_reserved same_name
@@ -164,7 +164,7 @@ module _ (schema : Schema) where
   pub desk_made : is_ok (understood schema MAKE_DESK.now) ≡ true → HasNoDesk schema
   unfolding compiled
   desk_made h =
-      let made = commanded (first MAKE_DESK.now) _ (desk_commands schema) (desk_compiled h) in
+      let made = commanded (first MAKE_DESK.now) _ (clubdesk_commands schema) (desk_compiled h) in
       let free = made_free _ _ _ made in
       let none = none_of _ _ free.0 in
-      record { unused = rw (none.0, none.1, free.1) refl; unasked = λ asked. true≢false (sym asked ∙ version_missing schema none.0 none.1) }
+      record { no_desk_name = rw (none.0, none.1, free.1) refl; no_version_query = λ asked. true≢false (sym asked ∙ version_missing schema none.0 none.1) }

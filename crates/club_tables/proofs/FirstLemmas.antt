@@ -1,4 +1,4 @@
--- What a row tells is what it was made of.
+-- A row is decoded to the value of which it was made.
 use Rattle.std.proofs.Common.{◌≡◌, ℕ, List, [], ◌∷◌, map, get_or, slice_get, Option, Some, None, Result, Ok, Err, IfOk, IfSome, refl, ap, subst, ◌∙◌, arith}
 use Rattle.std.specs.Prelude.{option_map}
 use Rattle.std.specs.Option.{option_to_list}
@@ -18,35 +18,35 @@ use Rattle.club_tables.specs.Stored.{fresh}
 use Rattle.club_tables.proofs.BookingRows.{truths, one_booking}
 
 -- the first row, if any
-pub first_none : {A : Type 0} (Says : Row → A → Type 0) (rows : List Row) → slice_get rows 0 ≡ None → IsFirst Says rows None
-first_none Says [] none = refl
-first_none Says (row ∷ rows) none = absurd (cc)
+pub first_none : {A : Type 0} (Yields : Row → A → Type 0) (rows : List Row) → slice_get rows 0 ≡ None → IsFirst Yields rows None
+first_none Yields [] none = refl
+first_none Yields (row ∷ rows) none = absurd (cc)
 
-pub first_some : {A : Type 0} (Says : Row → A → Type 0) (rows : List Row) (row : Row) (a : A) → slice_get rows 0 ≡ Some row → Says row a
-    → IsFirst Says rows (Some a)
-first_some Says [] row a some said = absurd (cc)
-first_some Says (other ∷ rows) row a some said = let same : row ≡ other = cc in subst (λ r. Says r a) same said
+pub first_some : {A : Type 0} (Yields : Row → A → Type 0) (rows : List Row) (row : Row) (a : A) → slice_get rows 0 ≡ Some row → Yields row a
+    → IsFirst Yields rows (Some a)
+first_some Yields [] row a some yielded = absurd (cc)
+first_some Yields (other ∷ rows) row a some yielded = let same : row ≡ other = cc in subst (λ r. Yields r a) same yielded
 
-pub first_not : {A : Type 0} (Says : Row → A → Type 0) (rows : List Row) (row : Row) → slice_get rows 0 ≡ Some row → ((a : A) → ¬ (Says row a))
-    → ((found : Option A) × IsFirst Says rows found) → ⊥
-first_not Says [] row some none read = absurd (cc)
-first_not Says (other ∷ rows) row some none (None, read) = read
-first_not Says (other ∷ rows) row some none (Some a, read) = let same : other ≡ row = cc in none a (subst (λ r. Says r a) same read)
+pub first_not : {A : Type 0} (Yields : Row → A → Type 0) (rows : List Row) (row : Row) → slice_get rows 0 ≡ Some row → ((a : A) → ¬ (Yields row a))
+    → ((found : Option A) × IsFirst Yields rows found) → ⊥
+first_not Yields [] row some none read = absurd (cc)
+first_not Yields (other ∷ rows) row some none (None, read) = read
+first_not Yields (other ∷ rows) row some none (Some a, read) = let same : other ≡ row = cc in none a (subst (λ r. Yields r a) same read)
 
--- what is told is said by a row
-pub said_if : {A E : Type 0} (Says : Row → A → Type 0) (P : A → Type 0) (r : Result (Option A) E)
-    → IfOk r (λ found. IfSome found (λ it. (row : Row) × Says row it)) → ((row : Row) (it : A) → Says row it → P it) → IfOk r (λ found. IfSome found P)
-said_if Says P (Ok None) said f = tt
-said_if Says P (Ok (Some it)) said f = f said.0 it said.1
-said_if Says P (Err e) said f = tt
+-- a property of each value that a row yields holds of the result
+pub yielded_if : {A E : Type 0} (Yields : Row → A → Type 0) (P : A → Type 0) (r : Result (Option A) E)
+    → IfOk r (λ found. IfSome found (λ it. (row : Row) × Yields row it)) → ((row : Row) (it : A) → Yields row it → P it) → IfOk r (λ found. IfSome found P)
+yielded_if Yields P (Ok None) yielded f = tt
+yielded_if Yields P (Ok (Some it)) yielded f = f yielded.0 it yielded.1
+yielded_if Yields P (Err e) yielded f = tt
 
--- of the rows that an option makes, the first tells what it was made of
-first_of : {X A : Type 0} (values : X → Row) (into : X → A) (Says : Row → A → Type 0) → ((x : X) (a : A) → Says (values x) a → a ≡ into x)
-    → (held : Option X) (rows : List Row) (found : Option A) → rows ≡ map values (option_to_list held) → IsFirst Says rows found
+-- of the rows that are made of an option, the first yields its value
+first_of : {X A : Type 0} (values : X → Row) (into : X → A) (Yields : Row → A → Type 0) → ((x : X) (a : A) → Yields (values x) a → a ≡ into x)
+    → (held : Option X) (rows : List Row) (found : Option A) → rows ≡ map values (option_to_list held) → IsFirst Yields rows found
     → found ≡ option_map into held
-first_of {X} {A} values into Says one held rows found is first = go held found (subst (λ rs. IsFirst Says rs found) is first)
+first_of {X} {A} values into Yields one held rows found is first = go held found (subst (λ rs. IsFirst Yields rs found) is first)
   where
-    go : (held : Option X) (found : Option A) → IsFirst Says (map values (option_to_list held)) found → found ≡ option_map into held
+    go : (held : Option X) (found : Option A) → IsFirst Yields (map values (option_to_list held)) found → found ≡ option_map into held
     go None found h = h
     go (Some x) None h = absurd h
     go (Some x) (Some a) h = ap Some (one x a h)
@@ -66,7 +66,7 @@ key_values_are a b older h =
 
 pub key_first : (held : Option Key) (rows : List Row) (found : Option Key) → rows ≡ map key_values (option_to_list held) → IsFirst IsKeyIn rows found
     → found ≡ option_map fresh held
-key_first held rows found is first = first_of key_values fresh IsKeyIn (λ a b said. key_values_are a b said.1 said.2) held rows found is first
+key_first held rows found is first = first_of key_values fresh IsKeyIn (λ a b yielded. key_values_are a b yielded.1 yielded.2) held rows found is first
 
 older_values_are : (a b : OlderRoot) → HasValues (older_root_values a) (older_root_values b) → b ≡ a
 older_values_are a b h =
@@ -77,7 +77,7 @@ older_values_are a b h =
 pub older_first : (held : Option OlderRoot) (rows : List Row) (found : Option OlderRoot) → rows ≡ map older_root_values (option_to_list held)
     → IsFirst IsOlderRootIn rows found → found ≡ held
 older_first held rows found is first =
-    first_of older_root_values (λ (x : OlderRoot). x) IsOlderRootIn (λ a b said. older_values_are a b said.1) held rows found is first ∙ same_option held
+    first_of older_root_values (λ (x : OlderRoot). x) IsOlderRootIn (λ a b yielded. older_values_are a b yielded.1) held rows found is first ∙ same_option held
 
 member_values_are : (a b : MemberRow) → HasValues (member_values a) (member_values b) → b ≡ a
 member_values_are a b h =
@@ -90,7 +90,7 @@ member_values_are a b h =
 pub member_first : (held : Option MemberRow) (rows : List Row) (found : Option MemberRow) → rows ≡ map member_values (option_to_list held)
     → IsFirst IsMemberIn rows found → found ≡ held
 member_first held rows found is first =
-    first_of member_values (λ (x : MemberRow). x) IsMemberIn (λ a b said. member_values_are a b said.1) held rows found is first ∙ same_option held
+    first_of member_values (λ (x : MemberRow). x) IsMemberIn (λ a b yielded. member_values_are a b yielded.1) held rows found is first ∙ same_option held
 
 letters : (a b : List ℕ) → a ≡ b → get_or a 0 0 ≡ get_or b 0 0
 letters a b e = ap (λ (l : List ℕ). get_or l 0 0) e
@@ -121,12 +121,12 @@ facility_values_are a b h =
 pub facility_first : (held : Option Facility) (rows : List Row) (found : Option Facility) → rows ≡ map facility_values (option_to_list held)
     → IsFirst IsFacilityIn rows found → found ≡ held
 facility_first held rows found is first =
-    first_of facility_values (λ (x : Facility). x) IsFacilityIn (λ a b said. facility_values_are a b said.1) held rows found is first ∙ same_option held
+    first_of facility_values (λ (x : Facility). x) IsFacilityIn (λ a b yielded. facility_values_are a b yielded.1) held rows found is first ∙ same_option held
 
 pub booking_first : (held : Option Booking) (rows : List Row) (found : Option Booking) → rows ≡ map booking_values (option_to_list held)
     → IsFirst IsBookingIn rows found → found ≡ held
 booking_first held rows found is first =
-    first_of booking_values (λ (x : Booking). x) IsBookingIn (λ a b said. one_booking a b said.1) held rows found is first ∙ same_option held
+    first_of booking_values (λ (x : Booking). x) IsBookingIn (λ a b yielded. one_booking a b yielded.1) held rows found is first ∙ same_option held
 
 module _ (key : List ℕ) (number : ℕ) where
   -- a booking that was asked for is one
@@ -144,7 +144,7 @@ module _ (key : List ℕ) (number : ℕ) where
   one_named [] booking h named = absurd (let e : ◌≡◌ {A = Option Booking} (Some booking) None = h in cc)
   one_named (row ∷ rows) booking h named = (h, named)
 
-  -- a row says one booking, so that of another key or number isn't the one that was asked for
+  -- a row yields one booking, so one of another key or number isn't the one that is read
   pub not_named : (rows : List Row) (booking : Booking) → IsFirst IsBookingIn rows (Some booking)
       → ¬ ((booking.key ≡ key) × (booking.number ≡ number)) → (found : Option Booking) → ¬ (IsFirst (IsBookingNamed key number) rows found)
   not_named [] booking h other found named = absurd (let e : ◌≡◌ {A = Option Booking} (Some booking) None = h in cc)

@@ -114,8 +114,8 @@ module _ (old new : State) (schema : Schema) (has : old.now.schema ≡ schema) (
       let db = old.now.trees in
       let command = Insert at (Values terms width) in
       let w = runs_as text params old new schema has command is plain count h in
-      let words = statement_of text (understood schema text) in
-      let does = subst (λ s. Does old.step_limit (mode_of old) params (record old.now { schema = s }) words None command (Ok (w.tally, new.now))) has
+      let statement = statement_of text (understood schema text) in
+      let does = subst (λ s. Does old.step_limit (mode_of old) params (record old.now { schema = s }) statement None command (Ok (w.tally, new.now))) has
       w.changed in
       let done = went (rw listed at does) in
       let now = ap (λ (p : Tally × Database). p.1) (same_value (went (went done.2).2).2) in
@@ -124,9 +124,9 @@ module _ (old new : State) (schema : Schema) (has : old.now.schema ≡ schema) (
       let sourced : given.0 ≡ (Null ∷ values) ∷ [] = given.1.1 ∙ ap (λ p. value_rows p width (length terms / width) terms) stamp ∙ gives in
       let c1 = went given.2 in
       let written = went c1.2 in
-      let counted = went written.2 in
-      let top : Ok counted.0 ≡ Ok written.0 = uncounts table.is_counted _ _ _ uncounted counted.1 in
-      let trees : done.0.trees ≡ written.0 = ap (λ (it : Written). it.trees) (same_value counted.2) ∙ same_value top in
+      let written_count = went written.2 in
+      let top : Ok written_count.0 ≡ Ok written.0 = uncounts table.is_counted _ _ _ uncounted written_count.1 in
+      let trees : done.0.trees ≡ written.0 = ap (λ (it : Written). it.trees) (same_value written_count.2) ∙ same_value top in
       let edit_from : Rowids → List Row → Edit = λ rowids rows. edit_of db table [] rowids 0 rows in
       let chosen : ActionWrites schema Enforced db (edit_from Chosen given.0) (Ok written.0) =
       subst (λ b. ActionWrites schema Enforced db (edit_from (cond b (Above (count_of c1.0)) Chosen) given.0) (Ok written.0)) uncounted written.1 in

@@ -26,11 +26,11 @@ use Rattle.club_tables.specs.declared.texts.TheConstants.{KEY, MEMBER, FACILITY,
 use Rattle.club_tables.specs.Schema.{club_schema}
 use Rattle.club_tables.specs.Columns.{key_values, member_values, facility_values, older_values, older_root_values}
 use Rattle.club_tables.specs.Stored.{OlderRow, member_row, older_of}
-use Rattle.club_tables.specs.Tables.{Stands, Holds, keys_tree, members_tree, facilities_tree, olders_tree}
+use Rattle.club_tables.specs.Tables.{Represents, Holds, keys_tree, members_tree, facilities_tree, olders_tree}
 use Rattle.club_tables.specs.Statements.{select, is_given}
-use Rattle.club_transactions.specs.Transaction.{Asked}
+use Rattle.club_tables.specs.Transaction.{Asked}
 use Rattle.club_tables.proofs.SelectLemmas.{selected, text_equal, find_first, apart_from_pairs, one_passes, short_permutation}
-use Rattle.club_tables.proofs.StandLemmas.{asked_tables, asked_reads, keys_held}
+use Rattle.club_tables.proofs.RepresentsLemmas.{asked_tables, asked_reads, keys_held}
 
 pub filter_mapped : {X Y : Type 0} (p : Y → Bool) (f : X → Y) (xs : List X) → filter p (map f xs) ≡ map f (filter (λ x. p (f x)) xs)
 filter_mapped p f [] = refl
@@ -73,30 +73,30 @@ one_listed (x ∷ []) low = refl
 one_listed (x ∷ y ∷ xs) low = absurd (omega arith)
 
 -- where one element passes at most, the rows are of the first that does
-pub first_told : {X : Type 0} (show : X → Row) (p : X → Bool) (xs : List X) (rows : List Row) → length (filter p xs) ≤ 1
+pub first_returned : {X : Type 0} (show : X → Row) (p : X → Bool) (xs : List X) (rows : List Row) → length (filter p xs) ≤ 1
     → IsPermutation (map show (filter p xs)) rows → rows ≡ map show (option_to_list (find p xs))
-first_told show p xs rows low same =
+first_returned show p xs rows low same =
     short_permutation (map show (filter p xs)) rows (omega (arith, length-map (filter p xs) show)) same
     ∙ ap (map show) (one_listed (filter p xs) low ∙ ap option_to_list (sym (find_first p xs)))
 
--- names tell the elements apart
+-- names identify the elements
 pub one_named : {X : Type 0} (name_of : X → List ℕ) (name : List ℕ) (xs : List X) → AllPairs (λ a b. name_of a ≢ name_of b) xs
     → length (filter (λ x. bytes_eq (name_of x) name) xs) ≤ 1
 one_named {X} name_of name xs unique =
     let R : X → X → Type 0 = λ a b. name_of a ≢ name_of b in
     one_passes R (λ x. bytes_eq (name_of x) name) xs (λ x y a b apart. apart (same_names name (name_of x) (name_of y) a b)) (apart_from_pairs R xs unique)
 
-pub key_told : {S : Type 0} (g : Ghosts S) (old : Held S) (name : List ℕ) (rows : List Row) → HasCleanDisk (state g old)
+pub key_returned : {S : Type 0} (g : Ghosts S) (old : Held S) (name : List ℕ) (rows : List Row) → HasCleanDisk (state g old)
     → Asked g KEY.now (Text name ∷ []) old rows
-    → (club : Club) (others : List Club) → Stands (state g old) club others → rows ≡ map key_values (option_to_list (key_named name club))
-key_told g old name rows clean asked club others stands =
-    let tables = asked_tables g KEY.now _ old rows asked clean club others stands in
-    let reads = asked_reads g KEY.now _ old rows asked tables.lies.schema _ key_is key_plain key_unlisted in
+    → (club : Club) (others : List Club) → Represents (state g old) club others → rows ≡ map key_values (option_to_list (key_named name club))
+key_returned g old name rows clean asked club others represents =
+    let tables = asked_tables g KEY.now _ old rows asked clean club others represents in
+    let reads = asked_reads g KEY.now _ old rows asked tables.holds_rows.schema _ key_is key_plain key_unlisted in
     let p : Key → Bool = λ key. bytes_eq key.name name in
     let same = selected key_values (Text name ∷ []) (is_given 1 0 ∷ []) _ p key_values (λ id key. and_true _
     ∙ text_equal key.name name) (λ id key. refl) keys_tree
     (map codes ("name" ∷ "member" ∷ "root" ∷ "revoked" ∷ [])) (state g old).now club.keys rows (keys_held _ club tables) reads in
-    first_told key_values p club.keys rows (one_named (λ (key : Key). key.name) name club.keys tables.sound.unique.keys) same
+    first_returned key_values p club.keys rows (one_named (λ (key : Key). key.name) name club.keys tables.sound.unique.keys) same
 
 older_is : command_of (understood club_schema OLDER_ROOT.now) ≡ Select (record {
   lets = [];
@@ -119,18 +119,18 @@ shown_again : (found : Option OlderRow) → map (λ (row : OlderRow). older_root
 shown_again None = refl
 shown_again (Some row) = refl
 
-pub older_told : {S : Type 0} (g : Ghosts S) (old : Held S) (name : List ℕ) (rows : List Row) → HasCleanDisk (state g old)
+pub older_returned : {S : Type 0} (g : Ghosts S) (old : Held S) (name : List ℕ) (rows : List Row) → HasCleanDisk (state g old)
     → Asked g OLDER_ROOT.now (Text name ∷ []) old rows
-    → (club : Club) (others : List Club) → Stands (state g old) club others → rows ≡ map older_root_values (option_to_list (older_of name club))
-older_told g old name rows clean asked club others stands =
-    let tables = asked_tables g OLDER_ROOT.now _ old rows asked clean club others stands in
-    let reads = asked_reads g OLDER_ROOT.now _ old rows asked tables.lies.schema _ older_is older_plain older_unlisted in
+    → (club : Club) (others : List Club) → Represents (state g old) club others → rows ≡ map older_root_values (option_to_list (older_of name club))
+older_returned g old name rows clean asked club others represents =
+    let tables = asked_tables g OLDER_ROOT.now _ old rows asked clean club others represents in
+    let reads = asked_reads g OLDER_ROOT.now _ old rows asked tables.holds_rows.schema _ older_is older_plain older_unlisted in
     let p : OlderRow → Bool = λ row. bytes_eq row.key name in
     let show : OlderRow → Row = λ row. older_root_values row.older in
     let olders = tables.rows.olders in
     let same = selected older_values (Text name ∷ []) (is_given 1 0 ∷ []) _ p show (λ id row. and_true _ ∙ text_equal row.key name) (λ id row. refl) olders_tree
-    (map codes ("root" ∷ "until" ∷ [])) (state g old).now olders rows tables.lies.olders reads in
-    first_told show p olders rows (one_named (λ (row : OlderRow). row.key) name olders tables.stored.rotated) same
+    (map codes ("root" ∷ "until" ∷ [])) (state g old).now olders rows tables.holds_rows.olders reads in
+    first_returned show p olders rows (one_named (λ (row : OlderRow). row.key) name olders tables.stored.rotated) same
     ∙ shown_again (find p olders) ∙ ap (λ o. map older_root_values (option_to_list o)) (tables.stored.olders name)
 
 member_is : command_of (understood club_schema MEMBER.now) ≡ Select (record {
@@ -149,21 +149,21 @@ member_unlisted : reads_listing club_schema MEMBER.now ≡ false
 unfolding everything
 member_unlisted = refl
 
-pub member_told : {S : Type 0} (g : Ghosts S) (old : Held S) (name : List ℕ) (rows : List Row) → HasCleanDisk (state g old)
+pub member_returned : {S : Type 0} (g : Ghosts S) (old : Held S) (name : List ℕ) (rows : List Row) → HasCleanDisk (state g old)
     → Asked g MEMBER.now (Text name ∷ []) old rows
-    → (club : Club) (others : List Club) → Stands (state g old) club others
+    → (club : Club) (others : List Club) → Represents (state g old) club others
     → rows ≡ map member_values (option_to_list (option_map (member_row club) (member_named name club)))
-member_told g old name rows clean asked club others stands =
-    let tables = asked_tables g MEMBER.now _ old rows asked clean club others stands in
-    let reads = asked_reads g MEMBER.now _ old rows asked tables.lies.schema _ member_is member_plain member_unlisted in
+member_returned g old name rows clean asked club others represents =
+    let tables = asked_tables g MEMBER.now _ old rows asked clean club others represents in
+    let reads = asked_reads g MEMBER.now _ old rows asked tables.holds_rows.schema _ member_is member_plain member_unlisted in
     let p : MemberRow → Bool = λ row. bytes_eq row.member.name name in
-    let held = subst (Holds member_values _) tables.stored.members tables.lies.members in
+    let held = subst (Holds member_values _) tables.stored.members tables.holds_rows.members in
     let same = selected member_values (Text name ∷ []) (is_given 1 0 ∷ []) _ p member_values (λ id row. and_true _
     ∙ text_equal row.member.name name) (λ id row. refl) members_tree
     (map codes ("name" ∷ "credited" ∷ "quota" ∷ "used" ∷ [])) (state g old).now (map (member_row club) club.members) rows held reads in
     let low = one_named (λ (member : Member). member.name) name club.members tables.sound.unique.members in
     let fewer = filter_mapped p (member_row club) club.members in
-    first_told member_values p (map (member_row club) club.members) rows (rw fewer (omega (
+    first_returned member_values p (map (member_row club) club.members) rows (rw fewer (omega (
       arith,
       low,
       length-map (filter (λ (m : Member). bytes_eq m.name name) club.members) (member_row club),
@@ -187,16 +187,17 @@ facility_unlisted : reads_listing club_schema FACILITY.now ≡ false
 unfolding everything
 facility_unlisted = refl
 
-pub facility_told : {S : Type 0} (g : Ghosts S) (old : Held S) (name : List ℕ) (rows : List Row) → HasCleanDisk (state g old)
+pub facility_returned : {S : Type 0} (g : Ghosts S) (old : Held S) (name : List ℕ) (rows : List Row) → HasCleanDisk (state g old)
     → Asked g FACILITY.now (Text name ∷ []) old rows
-    → (club : Club) (others : List Club) → Stands (state g old) club others → rows ≡ map facility_values (option_to_list (facility_named name club))
-facility_told g old name rows clean asked club others stands =
-    let tables = asked_tables g FACILITY.now _ old rows asked clean club others stands in
-    let reads = asked_reads g FACILITY.now _ old rows asked tables.lies.schema _ facility_is facility_plain facility_unlisted in
+    → (club : Club) (others : List Club) → Represents (state g old) club others → rows ≡ map facility_values (option_to_list (facility_named name club))
+facility_returned g old name rows clean asked club others represents =
+    let tables = asked_tables g FACILITY.now _ old rows asked clean club others represents in
+    let reads = asked_reads g FACILITY.now _ old rows asked tables.holds_rows.schema _ facility_is facility_plain facility_unlisted in
     let p : Facility → Bool = λ facility. bytes_eq facility.name name in
     let same = selected facility_values (Text name ∷ []) (is_given 1 0 ∷ []) _ p facility_values (λ id facility. and_true _
     ∙ text_equal facility.name name) (λ id facility. refl) facilities_tree
     (map codes ("name" ∷ "kind" ∷ "places" ∷ "price" ∷ "opens" ∷ "shuts" ∷ [])) (state g old).now club.facilities rows
-    (subst (Holds facility_values _) tables.stored.facilities tables.lies.facilities) reads in
-    first_told facility_values p club.facilities rows (one_named (λ (facility : Facility). facility.name) name club.facilities tables.sound.unique.facilities)
+    (subst (Holds facility_values _) tables.stored.facilities tables.holds_rows.facilities) reads in
+    first_returned facility_values p club.facilities rows
+    (one_named (λ (facility : Facility). facility.name) name club.facilities tables.sound.unique.facilities)
     same

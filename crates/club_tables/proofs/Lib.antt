@@ -1,12 +1,12 @@
 pub mod RowLemmas
 pub mod InsertLemmas
 pub mod SelectLemmas
-pub mod StandLemmas
+pub mod RepresentsLemmas
 pub mod KeyLemmas
 pub mod MakesLemmas
 pub mod MakingLemmas
 pub mod OpenLemmas
-pub mod LiesLemmas
+pub mod HoldsRowsLemmas
 pub mod AddLemmas
 pub mod WriteLemmas
 pub mod UpdateLemmas
@@ -14,7 +14,7 @@ pub mod ReplaceLemmas
 pub mod ChangeLemmas
 pub mod CancelLemmas
 pub mod SlotRows
-pub mod SlotTold
+pub mod SlotUseLemmas
 pub mod UpsertLemmas
 pub mod OwnerLemmas
 pub mod StoredLemmas
@@ -40,3 +40,5 @@ pub mod FindLemmas
 pub mod ReadLemmas
 pub mod FirstLemmas
 pub mod SurviveLemmas
+pub mod TransactionLemmas
+pub mod TurnLemmas

@@ -21,22 +21,22 @@ use Rattle.club_rows.specs.declared.key.Key.{Key}
 use Rattle.club_rows.specs.declared.member.Member.{Member}
 use Rattle.club_core.specs.declared.change.Change.TheVariants.{InsertMember, AddCredit, InsertFacility, InsertKey, MarkRevoked, ReplaceRoot, MarkClosed}
 use Rattle.club_core.specs.declared.change.Change.TheVariants.{InsertBooking, MarkCancelled}
-use Rattle.club_core.specs.After.{after, credited, good_until}
+use Rattle.club_core.specs.After.{after, credited_member, good_until}
 use Rattle.club_rows.specs.Booking.{same_slot, persons_of}
 use Rattle.club_core.specs.Club.{Club, IsSound, is_key_of}
 use Rattle.club_rows.specs.Rows.{IsMember, IsFacility, IsBooking}
 use Rattle.club_core.specs.Basis.{slot_use}
-use Rattle.club_core.specs.Store.{Fits}
+use Rattle.club_core.specs.Store.{FitsClub}
 use Rattle.club_core.specs.Sums.{taken_in, cost_of}
 use Rattle.club_tables.specs.declared.row.MemberRow.{MemberRow}
 use Rattle.club_tables.specs.declared.texts.TheConstants.{ADD_MEMBER, ADD_FACILITY, ADD_KEY, ADD_CREDIT, REVOKE_KEY, PUT_OLDER_ROOT, SET_ROOT, CLOSE_SLOT}
 use Rattle.club_tables.specs.declared.texts.TheConstants.{ADD_BOOKING, CANCEL_BOOKING}
 use Rattle.club_tables.specs.Columns.{whole, facility_values, key_values, older_root_values, booking_values, name_values}
-use Rattle.club_tables.specs.Stored.{SlotRow, Rows, member_row, used_by, unused, use_by, persons_taken}
-use Rattle.club_tables.specs.Tables.{Tables}
-use Rattle.club_tables.specs.Told.{IsOwnedBy, HasRoot, IsToCancel, HasNoneToCancel}
-use Rattle.club_transactions.specs.Transaction.{Words, Ran, begun}
-use Rattle.club_tables.specs.Words.{with_totals}
+use Rattle.club_tables.specs.Stored.{SlotRow, Rows, member_row, used_by, no_slot_use, stored_slot_use, persons_taken}
+use Rattle.club_tables.specs.Tables.{HoldsClub}
+use Rattle.club_tables.specs.ReadsAndChanges.{IsOwnedBy, HasRoot, IsToCancel, HasNoneToCancel}
+use Rattle.club_tables.specs.Transaction.{BoundStatement, Ran, transaction_start}
+use Rattle.club_tables.specs.ChangeStatements.{with_totals}
 use Rattle.club_tables.proofs.AddLemmas.{member_put, facility_put, key_put, booking_put}
 use Rattle.club_tables.proofs.BookingLemmas.{same_slots}
 use Rattle.club_tables.proofs.CancelLemmas.{booking_cancelled}
@@ -45,7 +45,7 @@ use Rattle.club_tables.proofs.MemberLemmas.{total}
 use Rattle.club_tables.proofs.OrderLemmas.{pairs_from_apart}
 use Rattle.club_tables.proofs.SelectLemmas.{Apart, apart_from_pairs}
 use Rattle.club_tables.proofs.SlotRows.{AreApart, same_itself, not_same}
-use Rattle.club_tables.proofs.OlderLemmas.{put_older, older_stands}
+use Rattle.club_tables.proofs.OlderLemmas.{put_older, older_represents}
 use Rattle.club_tables.proofs.OwnerLemmas.{all_of, all_last, owner_is}
 use Rattle.club_tables.proofs.StoredLemmas.{member_stored, credit_stored, facility_stored, key_stored, revoke_stored, rotate_stored, close_stored}
 use Rattle.club_tables.proofs.StoredLemmas.{booking_stored, taken_more}
@@ -56,17 +56,17 @@ use Rattle.club_tables.proofs.UpsertLemmas.{slot_closed, slot_taken, Takes}
 
 module _ {S : Type 0} (g : Ghosts S) (old : Held S) (db : Database) where
   -- one statement, and what it left
-  record Turn (words : Words) : Type 0 where
+  record Turn (statement : BoundStatement) : Type 0 where
     mid : Held S
     count : ℕ
-    ran : Executes words.0 words.1 (state g (begun old)) (state g mid) (Ok count)
+    ran : Executes statement.0 statement.1 (state g (transaction_start old)) (state g mid) (Ok count)
     left : db ≡ (state g mid).now
 
-  one_turn : (words : Words) → Ran g (words ∷ []) old db → Turn words
-  one_turn words ran = let t = ran.turns in record { mid = t.0; count = t.1; ran = t.2; left = ran.is ∙ ap (λ h. (state g h).now) t.3 }
+  one_turn : (statement : BoundStatement) → Ran g (statement ∷ []) old db → Turn statement
+  one_turn statement ran = let t = ran.turns in record { mid = t.0; count = t.1; ran = t.2; left = ran.is ∙ ap (λ h. (state g h).now) t.3 }
 
-  held_by : (club : Club) (mid : Held S) → db ≡ (state g mid).now → Tables (state g mid).now club → Tables db club
-  held_by club mid left tables = subst (λ (d : Database). Tables d club) (sym left) tables
+  held_by : (club : Club) (mid : Held S) → db ≡ (state g mid).now → HoldsClub (state g mid).now club → HoldsClub db club
+  held_by club mid left tables = subst (λ (d : Database). HoldsClub d club) (sym left) tables
 
 -- ---- rows of members
 
@@ -91,7 +91,7 @@ all_mapped : {X Y : Type 0} (P : Y → Type 0) (f : X → Y) (xs : List X) → A
 all_mapped P f [] h = tt
 all_mapped P f (x ∷ xs) h = (h.0, all_mapped P f xs h.1)
 
-credits_of : (club : Club) (name : List ℕ) (points : ℕ) (ms : List Member) → AllByRecursion (λ (m : Member). IsMember (credited name points m)) ms
+credits_of : (club : Club) (name : List ℕ) (points : ℕ) (ms : List Member) → AllByRecursion (λ (m : Member). IsMember (credited_member name points m)) ms
     → AllByRecursion (Credits name points) (map (member_row club) ms)
 credits_of club name points [] h = tt
 credits_of club name points (m ∷ ms) h = (first, credits_of club name points ms h.1)
@@ -135,35 +135,36 @@ uses_less club name refund (m ∷ ms) h enough = (
 
 -- ---- rows of slots
 
--- each row tells what is taken of its slot
-held_is : (rows : List SlotRow) → AreApart rows → AllByRecursion (λ (x : SlotRow). use_by x.slot rows ≡ x.held) rows
+-- each row holds its slot's use
+held_is : (rows : List SlotRow) → AreApart rows → AllByRecursion (λ (x : SlotRow). stored_slot_use x.slot rows ≡ x.held) rows
 held_is [] apart = tt
 held_is (x ∷ rows) apart = (rw (same_itself x.slot) refl, others rows apart.0 (held_is rows apart.1))
   where
-    others : (ys : List SlotRow) → AllByRecursion (λ (y : SlotRow). x.slot ≢ y.slot) ys → AllByRecursion (λ (y : SlotRow). use_by y.slot rows ≡ y.held) ys
-        → AllByRecursion (λ (y : SlotRow). use_by y.slot (x ∷ rows) ≡ y.held) ys
+    others : (ys : List SlotRow) → AllByRecursion (λ (y : SlotRow). x.slot ≢ y.slot) ys
+        → AllByRecursion (λ (y : SlotRow). stored_slot_use y.slot rows ≡ y.held) ys
+        → AllByRecursion (λ (y : SlotRow). stored_slot_use y.slot (x ∷ rows) ≡ y.held) ys
     others [] apart h = tt
     others (y ∷ ys) apart h = (rw (not_same x.slot y.slot apart.0) h.0, others ys apart.1 h.1)
 
-takes_of : (club : Club) (rows : List SlotRow) → ((s : Slot) → use_by s rows ≡ slot_use club s) → (slot : Slot) (persons : ℤ) (next : ℕ → ℕ)
+takes_of : (club : Club) (rows : List SlotRow) → ((s : Slot) → stored_slot_use s rows ≡ slot_use club s) → (slot : Slot) (persons : ℤ) (next : ℕ → ℕ)
     → binary (Arith Add) (whole (taken_in slot club.bookings)) (Int persons) ≡ whole (next (taken_in slot club.bookings))
-    → (xs : List SlotRow) → AllByRecursion (λ (x : SlotRow). use_by x.slot rows ≡ x.held) xs → AllByRecursion (Takes slot persons next) xs
-takes_of club rows told slot persons next sum [] h = tt
-takes_of club rows told slot persons next sum (x ∷ xs) h = (first, takes_of club rows told slot persons next sum xs h.1)
+    → (xs : List SlotRow) → AllByRecursion (λ (x : SlotRow). stored_slot_use x.slot rows ≡ x.held) xs → AllByRecursion (Takes slot persons next) xs
+takes_of club rows returned slot persons next sum [] h = tt
+takes_of club rows returned slot persons next sum (x ∷ xs) h = (first, takes_of club rows returned slot persons next sum xs h.1)
   where
     first : Takes slot persons next x
     first same =
-        let here : x.held ≡ slot_use club slot = sym h.0 ∙ told x.slot ∙ ap (slot_use club) (same_slots x.slot slot same) in
+        let here : x.held ≡ slot_use club slot = sym h.0 ∙ returned x.slot ∙ ap (slot_use club) (same_slots x.slot slot same) in
         let taken : x.held.taken ≡ taken_in slot club.bookings = ap (λ u. u.taken) here in
         subst (λ n. binary (Arith Add) (whole n) (Int persons) ≡ whole (next n)) (sym taken) sum
 
 -- no row, and so nothing taken
-no_row : (slot : Slot) (rows : List SlotRow) → list_any (λ (row : SlotRow). same_slot row.slot slot) rows ≡ false → use_by slot rows ≡ unused
+no_row : (slot : Slot) (rows : List SlotRow) → list_any (λ (row : SlotRow). same_slot row.slot slot) rows ≡ false → stored_slot_use slot rows ≡ no_slot_use
 no_row slot [] none = refl
 no_row slot (x ∷ rows) none = go (no_row slot rows) (same_slot x.slot slot) refl none
   where
-    go : (list_any (λ (row : SlotRow). same_slot row.slot slot) rows ≡ false → use_by slot rows ≡ unused) → (b : Bool) → same_slot x.slot slot ≡ b
-        → (b || list_any (λ (row : SlotRow). same_slot row.slot slot) rows) ≡ false → use_by slot (x ∷ rows) ≡ unused
+    go : (list_any (λ (row : SlotRow). same_slot row.slot slot) rows ≡ false → stored_slot_use slot rows ≡ no_slot_use) → (b : Bool) → same_slot x.slot slot ≡ b
+        → (b || list_any (λ (row : SlotRow). same_slot row.slot slot) rows) ≡ false → stored_slot_use slot (x ∷ rows) ≡ no_slot_use
     go later true is h = absurd cc
     go later false is h = rw is (later h)
 
@@ -181,91 +182,93 @@ few_taken club sound slot has = each club.facilities (all_of _ club.facilities s
 
 -- ---- the changes
 
-module _ {S : Type 0} (g : Ghosts S) (old : Held S) (db : Database) (club : Club) (tables : Tables (state g old).now club) where
-  pub member_made : (member : Member) → Fits (InsertMember member) club → Ran g ((
+module _ {S : Type 0} (g : Ghosts S) (old : Held S) (db : Database) (club : Club) (tables : HoldsClub (state g old).now club) where
+  pub member_made : (member : Member) → FitsClub (InsertMember member) club → Ran g ((
     ADD_MEMBER.now,
     Text member.name ∷ whole member.credited ∷ whole member.quota ∷ [],
-  ) ∷ []) old db → Tables db (after (InsertMember member) club)
+  ) ∷ []) old db → HoldsClub db (after (InsertMember member) club)
   member_made member fits ran =
       let t = one_turn g old db _ ran in
       held_by g old db _ t.mid t.left (record {
         rows = _;
-        lies = member_put (state g (begun old)) (state g t.mid) tables.rows tables.lies member t.count t.ran;
+        holds_rows = member_put (state g (transaction_start old)) (state g t.mid) tables.rows tables.holds_rows member t.count t.ran;
         stored = member_stored club tables.rows tables.stored tables.sound member fits;
         sound = fits;
       })
 
-  pub facility_made : (facility : Facility) → Fits (InsertFacility facility) club → Ran g ((ADD_FACILITY.now, facility_values facility) ∷ []) old db
-      → Tables db (after (InsertFacility facility) club)
+  pub facility_made : (facility : Facility) → FitsClub (InsertFacility facility) club → Ran g ((ADD_FACILITY.now, facility_values facility) ∷ []) old db
+      → HoldsClub db (after (InsertFacility facility) club)
   facility_made facility fits ran =
       let t = one_turn g old db _ ran in
       held_by g old db _ t.mid t.left (record {
         rows = _;
-        lies = facility_put (state g (begun old)) (state g t.mid) tables.rows tables.lies facility t.count t.ran;
+        holds_rows = facility_put (state g (transaction_start old)) (state g t.mid) tables.rows tables.holds_rows facility t.count t.ran;
         stored = facility_stored club tables.rows tables.stored facility;
         sound = fits;
       })
 
-  pub key_made : (key : Key) → key.older ≡ None → Fits (InsertKey key) club → Ran g ((ADD_KEY.now, key_values key) ∷ []) old db
-      → Tables db (after (InsertKey key) club)
+  pub key_made : (key : Key) → key.older ≡ None → FitsClub (InsertKey key) club → Ran g ((ADD_KEY.now, key_values key) ∷ []) old db
+      → HoldsClub db (after (InsertKey key) club)
   key_made key new fits ran =
       let t = one_turn g old db _ ran in
       held_by g old db _ t.mid t.left (record {
         rows = _;
-        lies = key_put (state g (begun old)) (state g t.mid) tables.rows tables.lies key t.count t.ran;
+        holds_rows = key_put (state g (transaction_start old)) (state g t.mid) tables.rows tables.holds_rows key t.count t.ran;
         stored = key_stored club tables.rows tables.stored tables.sound key new fits;
         sound = fits;
       })
 
-  pub credit_made : (name : List ℕ) (points : ℕ) → Fits (AddCredit name points) club → Ran g ((ADD_CREDIT.now, Text name ∷ whole points ∷ []) ∷ []) old db
-      → Tables db (after (AddCredit name points) club)
+  pub credit_made : (name : List ℕ) (points : ℕ) → FitsClub (AddCredit name points) club → Ran g ((ADD_CREDIT.now, Text name ∷ whole points ∷ []) ∷ []) old db
+      → HoldsClub db (after (AddCredit name points) club)
   credit_made name points fits ran =
       let t = one_turn g old db _ ran in
-      let within = all_mapped IsMember (credited name points) club.members (all_of IsMember (map (credited name points) club.members) fits.rows.members) in
+      let within = all_mapped IsMember (credited_member name points) club.members
+      (all_of IsMember (map (credited_member name points) club.members) fits.rows.members) in
       let sums = subst (AllByRecursion (Credits name points)) (sym tables.stored.members) (credits_of club name points club.members within) in
       held_by g old db _ t.mid t.left (record {
         rows = _;
-        lies = member_credited (state g (begun old)) (state g t.mid) tables.rows tables.lies
+        holds_rows = member_credited (state g (transaction_start old)) (state g t.mid) tables.rows tables.holds_rows
             (named_once club tables.rows.members tables.stored.members tables.sound) name points sums t.count t.ran;
         stored = credit_stored club tables.rows tables.stored name points;
         sound = fits;
       })
 
-  pub revoke_made : (name : List ℕ) → Fits (MarkRevoked name) club → Ran g ((REVOKE_KEY.now, Text name ∷ []) ∷ []) old db
-      → Tables db (after (MarkRevoked name) club)
+  pub revoke_made : (name : List ℕ) → FitsClub (MarkRevoked name) club → Ran g ((REVOKE_KEY.now, Text name ∷ []) ∷ []) old db
+      → HoldsClub db (after (MarkRevoked name) club)
   revoke_made name fits ran =
       let t = one_turn g old db _ ran in
       let unique = subst (AllPairs (λ (a : Key) (b : Key). a.name ≢ b.name)) (sym tables.stored.keys) tables.sound.unique.keys in
       held_by g old db _ t.mid t.left (record {
         rows = _;
-        lies = key_revoked (state g (begun old)) (state g t.mid) tables.rows tables.lies unique name t.count t.ran;
+        holds_rows = key_revoked (state g (transaction_start old)) (state g t.mid) tables.rows tables.holds_rows unique name t.count t.ran;
         stored = revoke_stored club tables.rows tables.stored name;
         sound = fits;
       })
 
-  pub rotate_made : (name root was : List ℕ) (until : ℕ) → HasRoot name was club → Fits (ReplaceRoot name root until) club
+  pub rotate_made : (name root was : List ℕ) (until : ℕ) → HasRoot name was club → FitsClub (ReplaceRoot name root until) club
       → Ran g ((PUT_OLDER_ROOT.now, Text name ∷ older_root_values (good_until until was)) ∷ (SET_ROOT.now, Text name ∷ Blob root ∷ []) ∷ []) old db
-      → Tables db (after (ReplaceRoot name root until) club)
+      → HoldsClub db (after (ReplaceRoot name root until) club)
   rotate_made name root was until has fits ran =
       let t1 = ran.turns in
       let t2 = t1.3 in
       let unique = subst (AllPairs (λ (a : Key) (b : Key). a.name ≢ b.name)) (sym tables.stored.keys) tables.sound.unique.keys in
-      let put = older_stands (state g (begun old)) (state g t1.0) tables.rows tables.lies tables.stored.rotated name (good_until until was) t1.1 t1.2 in
+      let put = older_represents (state g (transaction_start old)) (state g t1.0) tables.rows tables.holds_rows tables.stored.rotated name
+      (good_until until was) t1.1 t1.2 in
       let mid : Rows = record tables.rows { olders = put_older name (good_until until was) tables.rows.olders } in
       held_by g old db _ t2.0 (ran.is ∙ ap (λ h. (state g h).now) t2.3) (record {
         rows = _;
-        lies = root_set (state g t1.0) (state g t2.0) mid put unique name root until t2.1 t2.2;
+        holds_rows = root_set (state g t1.0) (state g t2.0) mid put unique name root until t2.1 t2.2;
         stored = rotate_stored club tables.rows tables.stored name root was until has;
         sound = fits;
       })
 
-  pub close_made : (slot : Slot) → Fits (MarkClosed slot) club → Ran g ((CLOSE_SLOT.now, name_values slot) ∷ []) old db
-      → Tables db (after (MarkClosed slot) club)
+  pub close_made : (slot : Slot) → FitsClub (MarkClosed slot) club → Ran g ((CLOSE_SLOT.now, name_values slot) ∷ []) old db
+      → HoldsClub db (after (MarkClosed slot) club)
   close_made slot fits ran =
       let t = one_turn g old db _ ran in
       held_by g old db _ t.mid t.left (record {
         rows = _;
-        lies = slot_closed (state g (begun old)) (state g t.mid) tables.rows tables.lies tables.stored.once slot t.count t.ran;
+        holds_rows = slot_closed (state g (transaction_start old)) (state g t.mid) tables.rows tables.holds_rows tables.stored.once slot t.count t.ran;
         stored = close_stored club tables.rows tables.stored slot;
         sound = fits;
       })
@@ -274,23 +277,24 @@ module _ {S : Type 0} (g : Ghosts S) (old : Held S) (db : Database) (club : Club
   bookings_once = subst (AllPairs (λ (a : Booking) (b : Booking). ¬ ((a.key ≡ b.key) × (a.number ≡ b.number)))) (sym tables.stored.bookings)
       tables.sound.unique.bookings
 
-  all_held : AllByRecursion (λ (x : SlotRow). use_by x.slot tables.rows.slots ≡ x.held) tables.rows.slots
+  all_held : AllByRecursion (λ (x : SlotRow). stored_slot_use x.slot tables.rows.slots ≡ x.held) tables.rows.slots
   all_held = held_is tables.rows.slots (apart_from_pairs (λ (a : SlotRow) (b : SlotRow). a.slot ≢ b.slot) tables.rows.slots tables.stored.once)
 
-  pub nothing_made : (key : List ℕ) (number refund : ℕ) → HasNoneToCancel key number club → Fits (MarkCancelled key number refund) club
-      → Ran g ((CANCEL_BOOKING.now, Text key ∷ whole number ∷ whole refund ∷ []) ∷ []) old db → Tables db (after (MarkCancelled key number refund) club)
+  pub nothing_made : (key : List ℕ) (number refund : ℕ) → HasNoneToCancel key number club → FitsClub (MarkCancelled key number refund) club
+      → Ran g ((CANCEL_BOOKING.now, Text key ∷ whole number ∷ whole refund ∷ []) ∷ []) old db → HoldsClub db (after (MarkCancelled key number refund) club)
   nothing_made key number refund none fits ran =
       let t = one_turn g old db _ ran in
       held_by g old db _ t.mid t.left (record {
         rows = _;
-        lies = booking_cancelled (state g (begun old)) (state g t.mid) tables.rows tables.lies bookings_once key number refund t.count t.ran;
+        holds_rows = booking_cancelled (state g (transaction_start old))
+            (state g t.mid) tables.rows tables.holds_rows bookings_once key number refund t.count t.ran;
         stored = same_stored club tables.rows tables.stored tables.sound key number refund none;
         sound = fits;
       })
 
-  pub booking_made : (booking : Booking) (member : List ℕ) → IsOwnedBy member booking.key club → Fits (InsertBooking booking) club
+  pub booking_made : (booking : Booking) (member : List ℕ) → IsOwnedBy member booking.key club → FitsClub (InsertBooking booking) club
       → Ran g (with_totals ADD_BOOKING.now (booking_values booking) (Text member ∷ Int (pos (cost_of booking)) ∷ []) (name_values booking.slot
-      ++ Int (pos (persons_taken booking)) ∷ [])) old db → Tables db (after (InsertBooking booking) club)
+      ++ Int (pos (persons_taken booking)) ∷ [])) old db → HoldsClub db (after (InsertBooking booking) club)
   booking_made booking member owned fits ran =
       let t1 = ran.turns in
       let t2 = t1.3 in
@@ -310,24 +314,24 @@ module _ {S : Type 0} (g : Ghosts S) (old : Held S) (db : Database) (club : Club
       let sum = total (taken_in booking.slot club.bookings) (persons_taken booking) (omega (arith, few, more, here)) in
       let takes = takes_of club tables.rows.slots tables.stored.slots booking.slot (pos (persons_taken booking)) (λ n.
       n + persons_taken booking) sum tables.rows.slots all_held in
-      let first = booking_put (state g (begun old)) (state g t1.0) tables.rows tables.lies booking t1.1 t1.2 in
+      let first = booking_put (state g (transaction_start old)) (state g t1.0) tables.rows tables.holds_rows booking t1.1 t1.2 in
       let second = member_used (state g t1.0) (state g t2.0) _ first (named_once club tables.rows.members tables.stored.members tables.sound) member
       (pos (cost_of booking)) (λ n. n + cost_of booking) uses t2.1 t2.2 in
       let third = slot_taken (state g t2.0) (state g t3.0) _ second tables.stored.once booking.slot (pos (persons_taken booking)) (λ n.
       n + persons_taken booking) takes (λ none. let e : persons_taken booking ≡ 0 + persons_taken booking = omega arith in ap pos e) t3.1 t3.2 in
       held_by g old db _ t3.0 left (record {
         rows = _;
-        lies = third;
+        holds_rows = third;
         stored =
             booking_stored club tables.rows tables.stored tables.sound member booking owned;
         sound = fits;
       })
 
   pub cancel_made : (booking : Booking) (member : List ℕ) (refund : ℕ) → IsToCancel booking club → IsOwnedBy member booking.key club
-      → Fits (MarkCancelled booking.key booking.number refund) club
+      → FitsClub (MarkCancelled booking.key booking.number refund) club
       → Ran g (with_totals CANCEL_BOOKING.now (Text booking.key ∷ whole booking.number ∷ whole refund ∷ []) (Text member ∷ Int (neg_ℤ (pos refund)) ∷ [])
       (name_values booking.slot ++ Int (neg_ℤ (pos (persons_of booking))) ∷ [])) old db
-      → Tables db (after (MarkCancelled booking.key booking.number refund) club)
+      → HoldsClub db (after (MarkCancelled booking.key booking.number refund) club)
   cancel_made booking member refund cancels owned fits ran =
       let t1 = ran.turns in
       let t2 = t1.3 in
@@ -356,14 +360,15 @@ module _ {S : Type 0} (g : Ghosts S) (old : Held S) (db : Database) (club : Club
       let nothing : taken_in booking.slot club.bookings ≡ 0 = ap (λ u. u.taken) (sym (tables.stored.slots booking.slot)
       ∙ no_row booking.slot tables.rows.slots none) in
       absurd (omega (arith, nothing, there_are)) in
-      let first = booking_cancelled (state g (begun old)) (state g t1.0) tables.rows tables.lies bookings_once booking.key booking.number refund t1.1 t1.2 in
+      let first = booking_cancelled (state g (transaction_start old))
+      (state g t1.0) tables.rows tables.holds_rows bookings_once booking.key booking.number refund t1.1 t1.2 in
       let second = member_used (state g t1.0) (state g t2.0) _ first (named_once club tables.rows.members tables.stored.members tables.sound) member
       (neg_ℤ (pos refund)) (λ n. n - refund) uses t2.1 t2.2 in
       let third = slot_taken (state g t2.0) (state g t3.0) _ second tables.stored.once booking.slot (neg_ℤ (pos (persons_of booking))) (λ n.
       n - persons_of booking) takes fresh t3.1 t3.2 in
       held_by g old db _ t3.0 left (record {
         rows = _;
-        lies = third;
+        holds_rows = third;
         stored =
             cancel_stored club tables.sound booking cancels refund fits tables.rows tables.stored member owned;
         sound = fits;

@@ -20,8 +20,8 @@ use Rattle.club_tables.specs.Schema.{old_roots_table, keys_by_member, first_sche
 use Rattle.club_tables.specs.Columns.{whole, version_values}
 use Rattle.club_tables.specs.Opening.{table_batch, HasNoDesk}
 use Rattle.club_tables.specs.Stored.{Rows, IsStoredAs}
-use Rattle.club_tables.specs.Tables.{Tables, Lies, Holds}
-use Rattle.club_transactions.specs.Transaction.{Ran, begun}
+use Rattle.club_tables.specs.Tables.{HoldsClub, HoldsRows, Holds}
+use Rattle.club_tables.specs.Transaction.{Ran, transaction_start}
 use Rattle.club_tables.proofs.DeskLemmas.{desk_made}
 use Rattle.club_tables.proofs.InsertLemmas.{creates, indexes, inserts, cast_null, cast_int}
 use Rattle.club_tables.proofs.RowLemmas.{holds_more, holds_none}
@@ -86,7 +86,7 @@ empty_is_stored = record {
 
 module _ {S : Type 0} (g : Ghosts S) (old : Held S) (db : Database) (ran : Ran g table_batch old db) where
   -- over no tables it makes those of the empty club
-  pub made_tables : (state g old).now.schema ≡ no_schema → Tables db empty_club
+  pub made_tables : (state g old).now.schema ≡ no_schema → HoldsClub db empty_club
   made_tables has =
       let t1 = ran.turns in
       let t2 = t1.3 in
@@ -98,7 +98,7 @@ module _ {S : Type 0} (g : Ghosts S) (old : Held S) (db : Database) (ran : Ran g
       let t8 = t7.3 in
       let t9 = t8.3 in
       let t10 = t9.3 in
-      let c1 = creates (state g (begun old)) (state g t1.0) no_schema has MAKE_DESK.now makes_desk.plain desk_table makes_desk.is makes_desk.whole
+      let c1 = creates (state g (transaction_start old)) (state g t1.0) no_schema has MAKE_DESK.now makes_desk.plain desk_table makes_desk.is makes_desk.whole
       makes_desk.defined makes_desk.uncounted t1.1 t1.2 in
       let c2 = creates (state g t1.0) (state g t2.0) schema_1 c1.1 MAKE_MEMBERS.now makes_members.plain members_table makes_members.is makes_members.whole
       makes_members.defined makes_members.uncounted t2.1 t2.2 in
@@ -129,7 +129,7 @@ module _ {S : Type 0} (g : Ghosts S) (old : Held S) (db : Database) (ran : Ran g
       let others = c10.2 in
       let is : db ≡ (state g t10.0).now = ran.is ∙ ap (λ h. (state g h).now) t10.3 in
       let before : Holds version_values ((state g t9.0).now.trees 0) [] = holds_none version_values _ desk in
-      let lies : Lies (state g t10.0).now no_rows = record {
+      let holds_rows : HoldsRows (state g t10.0).now no_rows = record {
         schema = c10.0;
         version = subst (λ rows. Holds version_values rows (2 ∷ [])) (sym c10.1) (holds_more version_values _ [] 2 before);
         members = holds_none _ _ (others.1.0 (λ e. omega arith) ∙ members);
@@ -140,8 +140,9 @@ module _ {S : Type 0} (g : Ghosts S) (old : Held S) (db : Database) (ran : Ran g
         olders = holds_none _ _ (others.1.1.1.1.1.1.0 (λ e. omega arith) ∙ olders);
         database = c10.3;
       } in
-      let held : Tables (state g t10.0).now empty_club = record { rows = no_rows; lies = lies; stored = empty_is_stored; sound = empty_is_sound } in
-      subst (λ (d : Database). Tables d empty_club) (sym is) held
+      let held : HoldsClub
+      (state g t10.0).now empty_club = record { rows = no_rows; holds_rows = holds_rows; stored = empty_is_stored; sound = empty_is_sound } in
+      subst (λ (d : Database). HoldsClub d empty_club) (sym is) held
 
   -- it does not run over the club's tables
   pub makes_no_more : (state g old).now.schema ≡ club_schema → ⊥

@@ -40,12 +40,12 @@ use Rattle.club_core.specs.Club.{Club, is_key_of, bookings_of}
 use Rattle.club_tables.specs.declared.texts.TheConstants.{OPEN}
 use Rattle.club_tables.specs.Schema.{club_schema}
 use Rattle.club_tables.specs.Columns.{whole, key_values, booking_values}
-use Rattle.club_tables.specs.Tables.{Stands, keys_tree, bookings_tree}
+use Rattle.club_tables.specs.Tables.{Represents, keys_tree, bookings_tree}
 use Rattle.club_tables.specs.Statements.{select, is_given}
-use Rattle.club_transactions.specs.Transaction.{Asked}
-use Rattle.club_tables.proofs.SelectLemmas.{apart_from_pairs, told, text_equal, whole_equal}
+use Rattle.club_tables.specs.Transaction.{Asked}
+use Rattle.club_tables.proofs.SelectLemmas.{apart_from_pairs, from_truth_is, text_equal, whole_equal}
 use Rattle.club_tables.proofs.JoinLemmas.{filter_filter, map_flat_map, IsElsewhere, pairs_of, selected_both}
-use Rattle.club_tables.proofs.StandLemmas.{asked_tables, asked_reads, keys_held, bookings_held}
+use Rattle.club_tables.proofs.RepresentsLemmas.{asked_tables, asked_reads, keys_held, bookings_held}
 use Rattle.club_tables.proofs.KeyLemmas.{and_true}
 use Rattle.club_tables.proofs.BookingLemmas.{no_truth}
 
@@ -53,8 +53,8 @@ use Rattle.club_tables.proofs.BookingLemmas.{no_truth}
 abbrev under_it : Term
 under_it = op2 (Compare Eq Binary) (col 1 1) (col 2 1)
 
-abbrev stands_still : Term
-stands_still = op2 (Compare Eq Binary) (col 2 9) (lit (Int (pos 0)))
+abbrev is_uncancelled : Term
+is_uncancelled = op2 (Compare Eq Binary) (col 2 9) (lit (Int (pos 0)))
 
 abbrev begins_later : Term
 begins_later = op2 (Compare Gt Binary) (op2 (Arith Add) (op2 (Arith Mul) (col 2 4) (lit (Int (pos 1440)))) (op2 (Arith Mul) (col 2 5) (lit (Int (pos 60)))))
@@ -66,7 +66,7 @@ from_day = op2 (Compare Ge Binary) (col 2 4) (col 0 2)
 open_is : command_of (understood club_schema OPEN.now)
     ≡ Select (record {
       lets = [];
-      body = select (inner keys_tree (inner bookings_tree end)) (under_it ∷ is_given 2 0 ∷ stands_still ∷ begins_later ∷ from_day ∷ [])
+      body = select (inner keys_tree (inner bookings_tree end)) (under_it ∷ is_given 2 0 ∷ is_uncancelled ∷ begins_later ∷ from_day ∷ [])
           (col 2 2 ∷ []);
     }) (codes "number" ∷ [])
 unfolding understood everything
@@ -88,7 +88,7 @@ int_gt m n = grind (arith, nat_tests)
 
 whole_above : (m n : ℕ) → is_true (binary (Compare Gt Binary) (Int (pos m)) (Int (pos n))) ≡ nat_lt n m
 unfolding binary
-whole_above m n = told _ ∙ ap is_gt (value_cmp-Int (pos m) (pos n)) ∙ int_gt m n
+whole_above m n = from_truth_is _ ∙ ap is_gt (value_cmp-Int (pos m) (pos n)) ∙ int_gt m n
 
 -- `>=` of two whole numbers
 int_ge : (m n : ℕ) → is_ge (int_cmp (pos m) (pos n)) ≡ nat_le n m
@@ -96,9 +96,9 @@ int_ge m n = grind (arith, nat_tests)
 
 whole_from : (m n : ℕ) → is_true (binary (Compare Ge Binary) (Int (pos m)) (Int (pos n))) ≡ nat_le n m
 unfolding binary
-whole_from m n = told _ ∙ ap is_ge (value_cmp-Int (pos m) (pos n)) ∙ int_ge m n
+whole_from m n = from_truth_is _ ∙ ap is_ge (value_cmp-Int (pos m) (pos n)) ∙ int_ge m n
 
--- what begins after a moment lies on its day or a later one
+-- what begins after a moment is on its day or a later one
 day_after : (moment day hour : ℕ) → hour < 24 → nat_lt moment (day * 1440 + hour * 60) ≡ true → nat_le (moment / 1440) day ≡ true
 day_after moment day hour low later =
     let after : moment < day * 1440 + hour * 60 = grind (arith, nat_tests) in
@@ -128,7 +128,7 @@ start_value_is b row =
 
 -- ---- the bookings of a member, by its keys
 
--- the booking stands under the key, the key is the member's, and the booking passes a test
+-- the booking is the key's, the key is the member's, and the booking passes a test
 abbrev pub is_owned : List ℕ → (Booking → Bool) → Key → Booking → Bool
 is_owned member test key booking = bytes_eq key.name booking.key && (bytes_eq key.member member && test booking)
 
@@ -214,12 +214,12 @@ filter_where : {X : Type 0} (P : X → Type 0) (p q : X → Bool) → ((x : X) �
 filter_where P p q same [] all = refl
 filter_where P p q same (x ∷ xs) all = let e = same x (All-head P x xs all) in let more = filter_where P p q same xs (All-tail P x xs all) in rw (e, more) refl
 
-pub open_told : {S : Type 0} (g : Ghosts S) (old : Held S) (member : List ℕ) (moment : ℕ) (rows : List Row) → HasCleanDisk (state g old)
+pub open_returned : {S : Type 0} (g : Ghosts S) (old : Held S) (member : List ℕ) (moment : ℕ) (rows : List Row) → HasCleanDisk (state g old)
     → Asked g OPEN.now (Text member ∷ whole moment ∷ whole (moment / 1440) ∷ []) old rows
-    → (club : Club) (others : List Club) → Stands (state g old) club others → length rows ≡ count_to_come moment (bookings_of member club)
-open_told g old member moment rows clean asked club others stands =
-    let tables = asked_tables g OPEN.now _ old rows asked clean club others stands in
-    let reads = asked_reads g OPEN.now _ old rows asked tables.lies.schema _ open_is open_plain open_unlisted in
+    → (club : Club) (others : List Club) → Represents (state g old) club others → length rows ≡ count_to_come moment (bookings_of member club)
+open_returned g old member moment rows clean asked club others represents =
+    let tables = asked_tables g OPEN.now _ old rows asked clean club others represents in
+    let reads = asked_reads g OPEN.now _ old rows asked tables.holds_rows.schema _ open_is open_plain open_unlisted in
     let number : Booking → Row = λ b. whole b.number ∷ [] in
     let tests = λ (i j : ℤ) (k : Key) (b : Booking).
     let e = text_equal k.name b.key in
@@ -232,7 +232,7 @@ open_told g old member moment rows clean asked club others stands =
     && (is_true (binary (Compare Ge Binary) (whole b.slot.day) (whole (moment / 1440))) && true)))))
     ≡ is_owned member (comes moment) k b = cc in h in
     let both = selected_both key_values booking_values (Text member ∷ whole moment ∷ whole (moment / 1440) ∷ [])
-    (under_it ∷ is_given 2 0 ∷ stands_still ∷ begins_later ∷ from_day ∷ []) (col 2 2 ∷ []) (is_owned member (comes moment)) number tests (λ i j k b. refl)
+    (under_it ∷ is_given 2 0 ∷ is_uncancelled ∷ begins_later ∷ from_day ∷ []) (col 2 2 ∷ []) (is_owned member (comes moment)) number tests (λ i j k b. refl)
     keys_tree bookings_tree (codes "number" ∷ []) (state g old).now club.keys club.bookings rows (keys_held _ club tables) (bookings_held _ club tables)
     reads in
     let own = bookings_of member club in

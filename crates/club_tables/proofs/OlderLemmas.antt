@@ -26,11 +26,11 @@ use Rattle.club_tables.specs.declared.texts.TheConstants.{PUT_OLDER_ROOT}
 use Rattle.club_tables.specs.Schema.{old_roots_table, club_schema}
 use Rattle.club_tables.specs.Columns.{older_root_values, older_values}
 use Rattle.club_tables.specs.Stored.{Rows, OlderRow, older_by}
-use Rattle.club_tables.specs.Tables.{Lies, olders_tree}
+use Rattle.club_tables.specs.Tables.{HoldsRows, olders_tree}
 use Rattle.club_tables.proofs.ChangeLemmas.{or_false}
 use Rattle.club_tables.proofs.InsertLemmas.{cast_null, cast_int}
 use Rattle.club_tables.proofs.KeyLemmas.{and_true}
-use Rattle.club_tables.proofs.LiesLemmas.{on_olders}
+use Rattle.club_tables.proofs.HoldsRowsLemmas.{on_olders}
 use Rattle.club_tables.proofs.OrderLemmas.{pairs_from_apart}
 use Rattle.club_tables.proofs.PutLemmas.{first_clause, sets_by, row_put}
 use Rattle.club_tables.proofs.PutRows.{IsLone, put_among}
@@ -102,16 +102,16 @@ module _ (key : List ℕ) (older : OlderRoot) where
   itself : bytes_eq key key ≡ true
   itself = (bytes_eq-Decides key key).1 refl
 
-  -- what is told of each key once the row is put
-  abbrev Told : List ℕ → Option OlderRoot → Option OlderRoot → Type 0
-  Told name new old = new ≡ (if bytes_eq key name then Some older else old)
+  -- the older root of each key once the row is put
+  abbrev PutsOlder : List ℕ → Option OlderRoot → Option OlderRoot → Type 0
+  PutsOlder name new old = new ≡ (if bytes_eq key name then Some older else old)
 
   abbrev shown_by : Option OlderRow → Option OlderRoot
   shown_by found = option_map (λ (row : OlderRow). row.older) found
 
-  -- of a row that is told, whether it is the key's
-  told_row : (name : List ℕ) (row : OlderRow) → bytes_eq row.key name ≡ true → bytes_eq row.key key ≡ bytes_eq key name
-  told_row name row is =
+  -- a row of this name is the key's exactly if the name is the key's
+  same_key_row : (name : List ℕ) (row : OlderRow) → bytes_eq row.key name ≡ true → bytes_eq row.key key ≡ bytes_eq key name
+  same_key_row name row is =
       let same = (bytes_eq-Decides row.key name).0 is in
       go (bytes_eq key name) refl same
     where
@@ -120,9 +120,9 @@ module _ (key : List ℕ) (older : OlderRoot) where
       go false e same = false_from_ne_true (bytes_eq row.key key) (λ h. true≢false
           (sym ((bytes_eq-Decides key name).1 (sym ((bytes_eq-Decides row.key key).0 h) ∙ same)) ∙ e))
 
-  -- a row that isn't told, and is the key's, says that the key isn't asked for
-  told_other : (name : List ℕ) (row : OlderRow) → bytes_eq row.key name ≡ false → bytes_eq row.key key ≡ true → bytes_eq key name ≡ false
-  told_other name row other is = ap (λ n. bytes_eq n name) (sym ((bytes_eq-Decides row.key key).0 is)) ∙ other
+  -- if the key's row isn't of this name, the name is another one
+  other_key_row : (name : List ℕ) (row : OlderRow) → bytes_eq row.key name ≡ false → bytes_eq row.key key ≡ true → bytes_eq key name ≡ false
+  other_key_row name row other is = ap (λ n. bytes_eq n name) (sym ((bytes_eq-Decides row.key key).0 is)) ∙ other
 
   on_renewed : (name : List ℕ) (rows : List OlderRow) → bytes_eq key name ≡ false → older_by name (map renewed rows) ≡ older_by name rows
   on_renewed name [] other = refl
@@ -131,39 +131,39 @@ module _ (key : List ℕ) (older : OlderRoot) where
       go : older_by name (map renewed rows) ≡ older_by name rows → (b : Bool) → bytes_eq row.key name ≡ b
           → shown_by (cond b (Some (renewed row)) (find (λ (x : OlderRow). bytes_eq x.key name) (map renewed rows)))
           ≡ shown_by (cond b (Some row) (find (λ (x : OlderRow). bytes_eq x.key name) rows))
-      go more true is = ap (λ b. let told : Option OlderRoot = Some (if b then older else row.older) in told) (told_row name row is ∙ other)
+      go more true is = ap (λ b. let returned : Option OlderRoot = Some (if b then older else row.older) in returned) (same_key_row name row is ∙ other)
       go more false is = more
 
-  on_changed : (name : List ℕ) (rows : List OlderRow) → list_any is_of rows ≡ true → Told name (older_by name (map renewed rows)) (older_by name rows)
+  on_changed : (name : List ℕ) (rows : List OlderRow) → list_any is_of rows ≡ true → PutsOlder name (older_by name (map renewed rows)) (older_by name rows)
   on_changed name [] any = absurd cc
   on_changed name (row ∷ rows) any = go (on_changed name rows) (bytes_eq row.key name) (bytes_eq row.key key) refl refl any
     where
-      go : (list_any is_of rows ≡ true → Told name (older_by name (map renewed rows)) (older_by name rows)) → (b c : Bool) → bytes_eq row.key name ≡ b
+      go : (list_any is_of rows ≡ true → PutsOlder name (older_by name (map renewed rows)) (older_by name rows)) → (b c : Bool) → bytes_eq row.key name ≡ b
           → bytes_eq row.key key ≡ c → (c || list_any is_of rows) ≡ true
-          → Told name (shown_by (cond b (Some (record row { older = if c then older else row.older }))
+          → PutsOlder name (shown_by (cond b (Some (record row { older = if c then older else row.older }))
           (find (λ (x : OlderRow). bytes_eq x.key name) (map renewed rows))))
           (shown_by (cond b (Some row) (find (λ (x : OlderRow). bytes_eq x.key name) rows)))
-      go later true c is this h = let same : c ≡ bytes_eq key name = sym this ∙ told_row name row is in
+      go later true c is this h = let same : c ≡ bytes_eq key name = sym this ∙ same_key_row name row is in
           subst (λ b. Some (if c then older else row.older) ≡ (if b then Some older else Some row.older)) same (either c)
         where
           either : (b : Bool) → ◌≡◌ {A = Option OlderRoot} (Some (if b then older else row.older)) (if b then Some older else Some row.older)
           either true = refl
           either false = refl
-      go later false true is this h = let other = told_other name row is this in rw other (on_renewed name rows other)
+      go later false true is this h = let other = other_key_row name row is this in rw other (on_renewed name rows other)
       go later false false is this h = later h
 
   on_added : (name : List ℕ) (rows : List OlderRow) → list_any is_of rows ≡ false
-      → Told name (older_by name (rows ++ record { key = key; older = older } ∷ [])) (older_by name rows)
+      → PutsOlder name (older_by name (rows ++ record { key = key; older = older } ∷ [])) (older_by name rows)
   on_added name [] none = elim (bytes_eq key name) as (λ b. shown_by (cond b (Some (record { key = key; older = older })) None)
       ≡ (if b then Some older else None)) [ true ↦ refl | false ↦ refl ]
   on_added name (row ∷ rows) none = go (on_added name rows) (bytes_eq row.key name) (bytes_eq row.key key) refl refl none
     where
-      go : (list_any is_of rows ≡ false → Told name (older_by name (rows ++ record { key = key; older = older } ∷ [])) (older_by name rows)) → (b c : Bool)
+      go : (list_any is_of rows ≡ false → PutsOlder name (older_by name (rows ++ record { key = key; older = older } ∷ [])) (older_by name rows)) → (b c : Bool)
           → bytes_eq row.key name ≡ b → bytes_eq row.key key ≡ c → (c || list_any is_of rows) ≡ false
-          → Told name (shown_by (cond b (Some row) (find (λ (x : OlderRow). bytes_eq x.key name) (rows ++ record { key = key; older = older } ∷ []))))
+          → PutsOlder name (shown_by (cond b (Some row) (find (λ (x : OlderRow). bytes_eq x.key name) (rows ++ record { key = key; older = older } ∷ []))))
           (shown_by (cond b (Some row) (find (λ (x : OlderRow). bytes_eq x.key name) rows)))
       go later b true is this h = absurd cc
-      go later true false is this h = let other : bytes_eq key name ≡ false = sym (told_row name row is) ∙ this in rw other refl
+      go later true false is this h = let other : bytes_eq key name ≡ false = sym (same_key_row name row is) ∙ this in rw other refl
       go later false false is this h = later h
 
   pub older_put : (name : List ℕ) (rows : List OlderRow) → older_by name (put_older rows) ≡ (if bytes_eq key name then Some older else older_by name rows)
@@ -208,25 +208,25 @@ module _ (key : List ℕ) (older : OlderRoot) where
   casts : (id : ℤ) (row : OlderRow) → cast_row older_table (Int id ∷ older_values row) ≡ Int id ∷ older_values row
   casts id row = rw (cast_int id, cast_int (pos row.older.until)) refl
 
-  says_each : (P : OlderRow → Type 0) → ((x : OlderRow) → P x) → (rows : List OlderRow) → AllByRecursion P rows
-  says_each P h [] = tt
-  says_each P h (x ∷ rows) = (h x, says_each P h rows)
+  yields_each : (P : OlderRow → Type 0) → ((x : OlderRow) → P x) → (rows : List OlderRow) → AllByRecursion P rows
+  yields_each P h [] = tt
+  yields_each P h (x ∷ rows) = (h x, yields_each P h rows)
 
-pub older_stands : (old new : State) (rows : Rows) → Lies old.now rows → AllPairs (λ (a : OlderRow) (b : OlderRow). a.key ≢ b.key) rows.olders
+pub older_represents : (old new : State) (rows : Rows) → HoldsRows old.now rows → AllPairs (λ (a : OlderRow) (b : OlderRow). a.key ≢ b.key) rows.olders
     → (key : List ℕ) (older : OlderRoot) (count : ℕ)
     → Executes PUT_OLDER_ROOT.now (Text key ∷ older_root_values older) old new (Ok count)
-    → Lies new.now (record rows { olders = put_older key older rows.olders })
-older_stands old new rows lies once key older count executed =
+    → HoldsRows new.now (record rows { olders = put_older key older rows.olders })
+older_represents old new rows holds_rows once key older count executed =
     let params = Text key ∷ older_root_values older in
     let t = old_roots_table in
     let kept : (row : OlderRow) → is_of key older row ≡ false → renewed key older row ≡ row =
     λ row fails. ap (λ b. let r : OlderRow = record row { older = if b then older else row.older } in r) fails in
     let put = row_put t.name t.columns t.uniques t.checks t.references olders_tree target 6 refl PUT_OLDER_ROOT.now put_terms put_sets 4 3 put_clause put_is
-    put_plain put_target put_update old new lies.schema params params refl
+    put_plain put_target put_update old new holds_rows.schema params params refl
     (rw (cast_null, cast_int (pos older.until)) refl) (λ id. rw (cast_int id, cast_int (pos older.until)) refl)
     older_values (is_of key older) (renewed key older) kept (record { key = key; older = older }) (λ id row.
-    olders_conflict id (next_rowid (old.now.trees olders_tree)) row key older) (casts key older) rows.olders lies.olders
+    olders_conflict id (next_rowid (old.now.trees olders_tree)) row key older) (casts key older) rows.olders holds_rows.olders
     (lone key older rows.olders (apart_from_pairs (λ (a : OlderRow) (b : OlderRow). a.key ≢ b.key) rows.olders once))
-    (λ _. refl) (λ there. refl) (says_each key older _ (λ x id there passes.
+    (λ _. refl) (λ there. refl) (yields_each key older _ (λ x id there passes.
     ap (λ b. Int id ∷ Int id ∷ Text x.key ∷ older_root_values (if b then older else x.older)) (sym passes)) rows.olders) count executed in
-    on_olders old.now new.now rows lies put.0 put.3 put.2 (put_older key older rows.olders) put.1
+    on_olders old.now new.now rows holds_rows put.0 put.3 put.2 (put_older key older rows.olders) put.1

@@ -20,14 +20,15 @@ use Rattle.sqlite_trees.specs.declared.memory.MemStore.{MemStore}
 use Rattle.sqlite.specs.Steps.{over_memory, IsEmpty}
 use Rattle.sqlite.specs.Held.{Held, state}
 use Rattle.club_core.specs.Club.{Club, empty_club}
-use Rattle.club_core.specs.Store.{KeepsStanding}
+use Rattle.club_core.specs.Store.{KeepsClub}
 use Rattle.club_tables.specs.Schema.{club_schema, first_schema, unindexed_schema, no_schema}
-use Rattle.club_tables.specs.Tables.{Tables, SecondTables, HoldsClub, Holds, Stands, FirstStands, SecondStands, IsFound, desk_tree}
-use Rattle.club_tables.specs.Told.{found_in}
+use Rattle.club_tables.specs.Tables.{HoldsClub, HoldsClubVersion2, HoldsClubAnyVersion, Holds, Represents, RepresentsVersion1, RepresentsVersion2, IsFound}
+use Rattle.club_tables.specs.Tables.{desk_tree}
+use Rattle.club_tables.specs.ReadsAndChanges.{found_in}
 use Rattle.club_tables.specs.Opening.{table_batch}
-use Rattle.club_transactions.specs.Transaction.{Asked, Ran, IsKept}
+use Rattle.club_tables.specs.Transaction.{Asked, Ran, IsKept}
 use Rattle.club_tables.proofs.SelectLemmas.{selected, short_permutation}
-use Rattle.club_tables.proofs.StandLemmas.{asked_open, reads_over}
+use Rattle.club_tables.proofs.RepresentsLemmas.{asked_open, reads_over}
 use Rattle.club_tables.proofs.MakingLemmas.{made_tables, makes_no_more, makes_no_unindexed, makes_no_second}
 
 -- every crash leaves what was committed last
@@ -35,8 +36,8 @@ abbrev pub IsSettled : State → Type 0
 IsSettled state = IsTrue state.is_open → (trees : Trees) → state.may_leave trees → trees ≡ state.committed.trees
 
 -- a store that holds the club, and of which each crash leaves what was committed
-pub settles : (now : State) (club : Club) (others : List Club) → (HasCleanDisk now → IsTrue now.is_open → Tables now.committed club)
-    → (HasCleanDisk now → IsTrue now.is_open) → now.now ≡ now.committed → IsSettled now → Stands now club others
+pub settles : (now : State) (club : Club) (others : List Club) → (HasCleanDisk now → IsTrue now.is_open → HoldsClub now.committed club)
+    → (HasCleanDisk now → IsTrue now.is_open) → now.now ≡ now.committed → IsSettled now → Represents now club others
 settles now club others held opens same settled = record {
   held = held;
   settled = λ clean is_open. same;
@@ -46,29 +47,29 @@ settles now club others held opens same settled = record {
 module _ {S : Type 0} (g : Ghosts S) (old new : Held S) where
   -- what the batch leaves holds the club that was found
   holds_found : (db : Database) → Ran g table_batch old db → HasCleanDisk (state g old) → (club : Club) (others : List Club) → IsFound (state g old) club others
-      → Tables db club
+      → HoldsClub db club
   holds_found db ran clean club others found =
       let is_open = ran.opened (omega arith) in
       let now = found.settled clean is_open in
       elim (found.held clean is_open) [
-        | inl (inl tables) ↦ absurd (makes_no_more g old db ran (ap (λ (d : Database). d.schema) now ∙ tables.lies.schema))
-        | inl (inr unindexed) ↦ absurd (makes_no_unindexed g old db ran (ap (λ (d : Database). d.schema) now ∙ unindexed.lies.schema))
-        | inr (inl first) ↦ absurd (makes_no_second g old db ran (ap (λ (d : Database). d.schema) now ∙ first.lies.schema))
-        | inr (inr blank) ↦ subst (Tables db) (sym blank.1) (made_tables g old db ran (ap (λ (d : Database). d.schema) now ∙ blank.0))
+        | inl (inl tables) ↦ absurd (makes_no_more g old db ran (ap (λ (d : Database). d.schema) now ∙ tables.holds_rows.schema))
+        | inl (inr unindexed) ↦ absurd (makes_no_unindexed g old db ran (ap (λ (d : Database). d.schema) now ∙ unindexed.holds_rows.schema))
+        | inr (inl first) ↦ absurd (makes_no_second g old db ran (ap (λ (d : Database). d.schema) now ∙ first.holds_rows.schema))
+        | inr (inr blank) ↦ subst (HoldsClub db) (sym blank.1) (made_tables g old db ran (ap (λ (d : Database). d.schema) now ∙ blank.0))
       ]
 
-  pub made_stands : HasCleanDisk (state g old) → IsTrue (state g new).is_open → Ran g table_batch old (state g new).committed
+  pub made_represents : HasCleanDisk (state g old) → IsTrue (state g new).is_open → Ran g table_batch old (state g new).committed
       → (state g new).now ≡ (state g new).committed → IsSettled (state g new)
-      → (club : Club) (others : List Club) → IsFound (state g old) club others → Stands (state g new) club others
-  made_stands clean is_open ran same settled club others found =
+      → (club : Club) (others : List Club) → IsFound (state g old) club others → Represents (state g new) club others
+  made_represents clean is_open ran same settled club others found =
       settles (state g new) club others (λ _ _. holds_found (state g new).committed ran clean club others found) (λ _. is_open) same settled
 
   pub refused_found : IsKept (state g old) (state g new) → Survives (state g old) (state g new) (λ trees. (db : Database) × Ran g table_batch old db
-      × (trees ≡ db.trees)) → KeepsStanding (found_in g) old new
+      × (trees ≡ db.trees)) → KeepsClub (found_in g) old new
   refused_found kept survives club others found =
       let earlier = λ (clean : HasCleanDisk (state g new)). let e : HasCleanDisk (state g old) = omega (arith, survives.clean) in e in
       record {
-        held = λ clean is_open. let k = kept clean is_open in subst (λ db. HoldsClub db club) (sym k.2) (found.held (earlier clean) k.0);
+        held = λ clean is_open. let k = kept clean is_open in subst (λ db. HoldsClubAnyVersion db club) (sym k.2) (found.held (earlier clean) k.0);
         settled = λ clean is_open. let k = kept clean is_open in k.1 ∙ sym k.2;
         left = λ clean trees may. elim (survives.crash clean trees may) [
           | inl was ↦ found.left (earlier clean) trees was
@@ -111,31 +112,31 @@ version_row g old rows asked schema asks over version held =
     short_permutation (version_values version ∷ []) rows (omega arith) same
 
 -- a database whose version was read has the tables of the club that was found
-pub version_told : {S : Type 0} (g : Ghosts S) (old : Held S) (rows : List Row) → HasCleanDisk (state g old) → Asked g VERSION.now [] old rows
-    → (club : Club) (others : List Club) → IsFound (state g old) club others → (SecondStands (state g old) club others × (rows ≡ version_values 2 ∷ []))
-    ⊎ (FirstStands (state g old) club others × (rows ≡ version_values 1 ∷ []))
+pub version_returned : {S : Type 0} (g : Ghosts S) (old : Held S) (rows : List Row) → HasCleanDisk (state g old) → Asked g VERSION.now [] old rows
+    → (club : Club) (others : List Club) → IsFound (state g old) club others → (RepresentsVersion2 (state g old) club others × (rows ≡ version_values 2 ∷ []))
+    ⊎ (RepresentsVersion1 (state g old) club others × (rows ≡ version_values 1 ∷ []))
 unfolding Shown
-version_told g old rows clean asked club others found =
+version_returned g old rows clean asked club others found =
     let is_open = asked_open g VERSION.now [] old rows asked in
     let now = found.settled clean is_open in
     let schema = ap (λ (d : Database). d.schema) now in
-    let second : SecondTables (state g old).committed club → SecondStands (state g old) club others = λ held.
+    let second : HoldsClubVersion2 (state g old).committed club → RepresentsVersion2 (state g old) club others = λ held.
     record { held = λ _ _. held; settled = found.settled; left = found.left } in
     elim (found.held clean is_open) [
       | inl (inl tables) ↦ inl (
         second (inl tables),
-        version_row g old rows asked club_schema asks_club (schema ∙ tables.lies.schema) 2
-            (subst (λ (d : Database). Holds version_values (d.trees desk_tree) (2 ∷ [])) (sym now) tables.lies.version),
+        version_row g old rows asked club_schema asks_club (schema ∙ tables.holds_rows.schema) 2
+            (subst (λ (d : Database). Holds version_values (d.trees desk_tree) (2 ∷ [])) (sym now) tables.holds_rows.version),
       )
       | inl (inr unindexed) ↦ inl (
         second (inr unindexed),
-        version_row g old rows asked unindexed_schema asks_unindexed (schema ∙ unindexed.lies.schema) 2
-            (subst (λ (d : Database). Holds version_values (d.trees desk_tree) (2 ∷ [])) (sym now) unindexed.lies.version),
+        version_row g old rows asked unindexed_schema asks_unindexed (schema ∙ unindexed.holds_rows.schema) 2
+            (subst (λ (d : Database). Holds version_values (d.trees desk_tree) (2 ∷ [])) (sym now) unindexed.holds_rows.version),
       )
       | inr (inl first) ↦ inr (
         record { held = λ _ _. first; settled = found.settled; left = found.left },
-        version_row g old rows asked first_schema asks_first (schema ∙ first.lies.schema) 1
-            (subst (λ (d : Database). Holds version_values (d.trees desk_tree) (1 ∷ [])) (sym now) first.lies.version),
+        version_row g old rows asked first_schema asks_first (schema ∙ first.holds_rows.schema) 1
+            (subst (λ (d : Database). Holds version_values (d.trees desk_tree) (1 ∷ [])) (sym now) first.holds_rows.version),
       )
       | inr (inr blank) ↦
           let none : is_ok (understood (state g old).now.schema VERSION.now) ≡ false = ap (λ s. is_ok (understood s VERSION.now)) (schema ∙ blank.0)
@@ -143,23 +144,23 @@ version_told g old rows clean asked club others found =
           absurd (true≢false (sym (ap is_ok asked.shown.1.is) ∙ none))
     ]
 
--- rows tell one version
+-- rows hold one version
 pub one_version : (rows : List Row) (m n : ℕ) → rows ≡ version_values m ∷ [] → (row : Row) × (rows ≡ row ∷ []) × HasValues row (version_values n) → m ≡ n
 one_version rows m n is one =
     let same : one.0 ≡ version_values m = let e : one.0 ∷ [] ≡ version_values m ∷ [] = sym one.1 ∙ is in cc in
     let values : whole m ≡ whole n = subst (λ (row : Row). column row 0 ≡ whole n) same one.2.0 in
     cc
 
-pub second_found : (s : State) (club : Club) (others : List Club) → SecondStands s club others → IsFound s club others
+pub second_found : (s : State) (club : Club) (others : List Club) → RepresentsVersion2 s club others → IsFound s club others
 second_found s club others second = record { held = λ clean is_open. inl (second.held clean is_open); settled = second.settled; left = second.left }
 
-pub first_found : (s : State) (club : Club) (others : List Club) → FirstStands s club others → IsFound s club others
+pub first_found : (s : State) (club : Club) (others : List Club) → RepresentsVersion1 s club others → IsFound s club others
 first_found s club others first = record { held = λ clean is_open. inr (inl (first.held clean is_open)); settled = first.settled; left = first.left }
 
 -- a new database in memory is found to hold the empty club
 pub empty_found : (c : Held MemStore) → IsEmpty (state over_memory c) → IsFound (state over_memory c) empty_club []
 empty_found c empty =
-    let blank : HoldsClub (state over_memory c).committed empty_club = inr (inr (
+    let blank : HoldsClubAnyVersion (state over_memory c).committed empty_club = inr (inr (
       ap (λ (d : Database). d.schema) (sym empty.0.clean) ∙ empty.2,
       refl,
       (empty.1 empty.0.is_open).1,

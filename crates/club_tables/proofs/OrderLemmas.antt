@@ -73,8 +73,8 @@ module _ {X : Type 0} (values : X → Row) (params : Row) (tests project : List 
   abbrev out : X → Output
   out x = (sort x, show x)
 
-  says : (tree : ℕ) (id : ℤ) (x : X) → output (query tree) (each (Int id ∷ values x)) ≡ out x
-  says tree id x = let k = keyed id x in let s = shown id x in λ i. (k i, s i)
+  yields : (tree : ℕ) (id : ℤ) (x : X) → output (query tree) (each (Int id ∷ values x)) ≡ out x
+  yields tree id x = let k = keyed id x in let s = shown id x in λ i. (k i, s i)
 
   -- the answer has what is shown of each element that passes, sorted by what the order asks of it
   pub selected_in_order : (tree : ℕ) (names : List (List ℕ)) (db : Database) (xs : List X) (rows : List Row) → Holds values (db.trees tree) xs
@@ -88,7 +88,7 @@ module _ {X : Type 0} (values : X → Row) (params : Row) (tests project : List 
       a.grouped ∙ ap (flat_map (λ row. cond (passes row) (each row ∷ []) [])) (no_overlay db.trees tree) ∙ pick_by_if passes each (db.trees tree) in
       let kept : a.kept ≡ map out (filter p xs) =
       a.distinct ∙ ap (map (output q)) staged ∙ map-map (output q) each (filter passes (db.trees tree))
-      ∙ picked values p out passes (λ row. output q (each row)) tested (says tree) (db.trees tree) xs held.same in
+      ∙ picked values p out passes (λ row. output q (each row)) tested (yields tree) (db.trees tree) xs held.same in
       let back = pull_back out a.kept a.ordered a.same (filter p xs) kept in
       record {
         ordered = back.0;

@@ -9,7 +9,7 @@ use Rattle.std.proofs.lemmas.List.Sums.{sum_by-cons, sum_by_push}
 use Rattle.std.proofs.lemmas.Slice.Eq.{bytes_eq-Decides}
 use Rattle.club_rows.specs.declared.key.Key.{Key}
 use Rattle.club_core.specs.Club.{Club, IsSound, is_key_of}
-use Rattle.club_tables.specs.Told.{IsOwnedBy}
+use Rattle.club_tables.specs.ReadsAndChanges.{IsOwnedBy}
 use Rattle.club_tables.proofs.MemberLemmas.{any_owned}
 use Rattle.club_tables.proofs.SelectLemmas.{Apart, apart_from_pairs, fail_beside}
 
@@ -146,7 +146,7 @@ lone_keys name (key ∷ keys) apart = (each keys apart.0, lone_keys name keys ap
     each [] apart = tt
     each (other ∷ others) apart = (λ both. apart.0 (same_name name key.name other.name both.0 both.1), each others apart.1)
 
--- a key is a member's where its row says so
+-- a key is the member's whose name its row holds
 pub owner_is : (club : Club) → IsSound club → (key member name : List ℕ) → IsOwnedBy member key club → is_key_of name club key ≡ bytes_eq name member
 owner_is club sound key member name owned =
     let names : Key → Bool = λ row. bytes_eq row.name key in

@@ -6,15 +6,15 @@ use Rattle.std.proofs.lemmas.List.{map-append}
 use Rattle.std.proofs.lemmas.List.Elements.{All-push}
 use Rattle.sqlite.specs.Effect.{Database}
 use Rattle.sqlite.specs.State.{State, HasCleanDisk}
-use Rattle.club_transactions.specs.Transaction.{IsKept, IsAtRest}
+use Rattle.club_tables.specs.Transaction.{IsKept, IsIdle}
 use Rattle.club_tables.specs.Opening.{OneOf}
-use Rattle.club_transactions.specs.Transaction.{IsUnderstood}
+use Rattle.club_tables.specs.Transaction.{IsUnderstood}
 
 abbrev pub text_at : Bor (List ℕ) → List ℕ
 text_at text = text.now
 
-pub kept_at_rest : (s : State) → IsAtRest s → IsKept s s
-kept_at_rest s rest clean is_open = (is_open, rest is_open, refl)
+pub kept_when_idle : (s : State) → IsIdle s → IsKept s s
+kept_when_idle s rest clean is_open = (is_open, rest is_open, refl)
 
 pub kept_then : (a b c : State) → (HasCleanDisk c → HasCleanDisk b) → IsKept a b → IsKept b c → IsKept a c
 kept_then a b c earlier first next clean is_open =

@@ -82,9 +82,9 @@ module _ (name : List ℕ) (columns : List Column) (keys : List (List ℕ)) (che
       abbrev task : Task
       task = task_of limit params
 
-      judged : (verdict : Option Refusal) → Judged task Abort (clause ∷ []) new db verdict (Ok one) → Upserts task Abort new db (clause ∷ []) (Ok one)
-      judged None h = h
-      judged (Some why) h = absurd cc
+      checked : (verdict : Option Refusal) → Judged task Abort (clause ∷ []) new db verdict (Ok one) → Upserts task Abort new db (clause ∷ []) (Ok one)
+      checked None h = h
+      checked (Some why) h = absurd cc
 
       -- which rows it meets, and what it makes of them
       abbrev Met : Type 0
@@ -93,7 +93,7 @@ module _ (name : List ℕ) (columns : List Column) (keys : List (List ℕ)) (che
 
       met : Tries task Abort (clause ∷ []) new db (Ok one) → Met
       met (inl refused) = absurd (let e = refused.1 in cc)
-      met (inr tried) = judged tried.0 tried.2
+      met (inr tried) = checked tried.0 tried.2
 
       cleared : (found : List Row) → Clears task Abort new db found (Ok one) → Puts task new db (Ok one)
       cleared [] h = h
@@ -188,22 +188,22 @@ module _ (name : List ℕ) (columns : List Column) (keys : List (List ℕ)) (che
       ran count h =
           let command = InsertOr at Abort (Values terms width) (clause ∷ []) in
           let w = runs_as text params old new club_schema has command is plain count h in
-          let words = statement_of text (understood club_schema text) in
-          let does = subst (λ s. Does old.step_limit (mode_of old) params (record old.now { schema = s }) words None command (Ok (w.tally, new.now))) has
+          let statement = statement_of text (understood club_schema text) in
+          let does = subst (λ s. Does old.step_limit (mode_of old) params (record old.now { schema = s }) statement None command (Ok (w.tally, new.now))) has
           w.changed in
           let done = went (rw listed at does) in
           let now = ap (λ (p : Tally × Database). p.1) (same_value (went (went done.2).2).2) in
           let given = went done.1 in
           let counter = went given.2 in
           let tried = went counter.2 in
-          let counted = went tried.2 in
+          let written_count = went tried.2 in
           let sourced : given.0 ≡ (Null ∷ source) ∷ [] = given.1.1 ∙ ap (λ p. value_rows p width (length terms / width) terms) (append-nil params) ∙ gives in
           let first = went (subst (λ rows. TriesEach (task_of old.step_limit params) Abort (clause ∷ []) rows (count_of counter.0) (nothing db) (Ok tried.0))
           sourced tried.1) in
           let alone : Tries (task_of old.step_limit params) Abort (clause ∷ []) new_row db (Ok first.0) =
           subst (λ row. Tries (task_of old.step_limit params) Abort (clause ∷ []) (with_rowid Chosen (db tree) row) db (Ok first.0)) casts_source first.1 in
           let last : tried.0.0.trees ≡ first.0.trees = ap (λ (p : Written × ℤ). p.0.trees) (same_value first.2) in
-          let trees : done.0.trees ≡ first.0.trees = ap (λ (it : Written). it.trees) (same_value counted.2) ∙ same_value counted.1 ∙ last in
+          let trees : done.0.trees ≡ first.0.trees = ap (λ (it : Written). it.trees) (same_value written_count.2) ∙ same_value written_count.1 ∙ last in
           record {
             one = first.0;
             schema = ap (λ (d : Database). d.schema) now;
@@ -219,9 +219,9 @@ module _ (name : List ℕ) (columns : List Column) (keys : List (List ℕ)) (che
           → change x ≡ x) (first : X) (hit_is : (id : ℤ) (x : X) → hit new_row (Int id ∷ values x) ≡ p x)
           (casts : (id : ℤ) (x : X) → cast_row table (Int id ∷ values x) ≡ Int id ∷ values x) (xs : List X) (held : Holds values (db tree) xs)
           (lone : Apart (IsLone values p) xs) where
-        -- what the clause says of each element that passes
-        abbrev pub Says : X → Type 0
-        Says x = (id : ℤ) (there : Row) → p x ≡ true → eval_all sets (env there ∷ (Int id ∷ values x) ∷ []) ≡ Int id ∷ Int id ∷ values (change x)
+        -- what the clause yields for each element that passes
+        abbrev pub Yields : X → Type 0
+        Yields x = (id : ℤ) (there : Row) → p x ≡ true → eval_all sets (env there ∷ (Int id ∷ values x) ∷ []) ≡ Int id ∷ Int id ∷ values (change x)
 
         -- a row is put behind the others
         put_new : source ≡ values first → list_any p xs ≡ false → (it : Ran) → (left : List Row) × Leaves db new.now.trees left
@@ -247,9 +247,9 @@ module _ (name : List ℕ) (columns : List Column) (keys : List (List ℕ)) (che
             (one ∙ found.0, tests before ys same.1 there id of found.1)
 
         -- the row that is met is changed
-        put_old : ((there : Row) → column (env there) there_at ≡ rowid there) → AllByRecursion Says xs → list_any p xs ≡ true → (it : Ran) → (left : List Row)
+        put_old : ((there : Row) → column (env there) there_at ≡ rowid there) → AllByRecursion Yields xs → list_any p xs ≡ true → (it : Ran) → (left : List Row)
             × Leaves db new.now.trees left × Holds values left (map change xs)
-        put_old ids says any it =
+        put_old ids yields any it =
             let q : Program = record { lets = []; body = select (inner tree end) (is_there there_at ∷ []) sets } in
             let one = meets_one values p (hit new_row) hit_is (db tree) xs held.same any in
             let up = updated old.step_limit params new_row db it.one clause q aims by one.0 one.1 one.2 it.meets in
@@ -260,21 +260,21 @@ module _ (name : List ℕ) (columns : List Column) (keys : List (List ℕ)) (che
             let low = one_passes (IsLone values p) p xs (λ x y a b apart. apart (a, b)) lone in
             let after = replaced_where values p change kept (env there) (is_there there_at ∷ []) sets table
             (record { schema = club_schema; trees = db }) xs up.5
-            Says says (λ id x say passes. say id there passes) casts
+            Yields yields (λ id x yields_it passes. yields_it id there passes) casts
             (tests (db tree) xs held.same there place.0 (ids there ∙ id_is) found) held low up.6 in
             (_, others_left it _ up.7, after)
 
         -- the row is put, where there was one and where there was none
-        pub row_put : (list_any p xs ≡ false → source ≡ values first) → ((there : Row) → column (env there) there_at ≡ rowid there) → AllByRecursion Says xs
+        pub row_put : (list_any p xs ≡ false → source ≡ values first) → ((there : Row) → column (env there) there_at ≡ rowid there) → AllByRecursion Yields xs
             → (count : ℕ) → Executes text params old new (Ok count)
             → (new.now.schema ≡ club_schema) × Holds values (new.now.trees tree) (put_among values p change first xs)
             × AllByRecursion (λ (t : Table). t.tree ≢ tree → new.now.trees t.tree ≡ db t.tree) club_schema.tables × IsDatabase new.now
-        row_put same ids says count executed = let it = ran count executed in go it (list_any p xs) refl
+        row_put same ids yields count executed = let it = ran count executed in go it (list_any p xs) refl
           where
             go : (it : Ran) (b : Bool) → list_any p xs ≡ b
                 → (new.now.schema ≡ club_schema) × Holds values (new.now.trees tree) (if b then map change xs else xs ++ first ∷ [])
                 × AllByRecursion (λ (t : Table). t.tree ≢ tree → new.now.trees t.tree ≡ db t.tree) club_schema.tables × IsDatabase new.now
-            go it true any = let put = put_old ids says any it in (
+            go it true any = let put = put_old ids yields any it in (
               it.schema,
               subst (λ rows. Holds values rows (map change xs)) (sym put.1.0) put.2,
               put.1.1,

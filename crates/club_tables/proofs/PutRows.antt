@@ -15,7 +15,7 @@ use Rattle.sqlite.specs.Order.{Row, value_cmp}
 use Rattle.sqlite.specs.Tree.{rowid, IsTable}
 use Rattle.sqlite_rules.specs.Lists.{Has}
 use Rattle.club_tables.specs.Tables.{IsRowOf}
-use Rattle.club_tables.proofs.SelectLemmas.{Apart, told}
+use Rattle.club_tables.proofs.SelectLemmas.{Apart, from_truth_is}
 use Rattle.club_tables.proofs.ReplaceLemmas.{flipped}
 
 -- the row's rowid is this one
@@ -25,7 +25,7 @@ has_id id row = is_eq (value_cmp (rowid row) (Int id))
 -- `=` of two rowids
 pub id_equal : (a b : ℤ) → is_true (binary (Compare Eq Binary) (Int a) (Int b)) ≡ is_eq (value_cmp (Int a) (Int b))
 unfolding binary
-id_equal a b = told _
+id_equal a b = from_truth_is _
 
 -- the elements that pass are those of the key
 module _ {X : Type 0} (values : X → Row) (p : X → Bool) where

@@ -176,7 +176,7 @@ module _ {X : Type 0} (values : X → Row) (p : X → Bool) (change : X → X) (
     both (r ∷ rows) [] same hits = absurd same
     both (r ∷ rows) (x ∷ xs) same hits = ((same.0, hits.0), both rows xs same.1 hits.1)
 
-    -- an UPDATE that sets what `change` says leaves the changed list
+    -- an UPDATE whose terms compute `change` leaves the changed list
     pub replaced_where : (table : Table) (db : Database) (xs : List X) (rows : List Row) (Q : X → Type 0) → AllByRecursion Q xs
         → ((id : ℤ) (x : X) → Q x → p x ≡ true → eval_all project (params ∷ (Int id ∷ values x) ∷ []) ≡ Int id ∷ Int id ∷ values (change x))
         → ((id : ℤ) (x : X) → cast_row table (Int id ∷ values x) ≡ Int id ∷ values x)

@@ -27,14 +27,14 @@ use Rattle.club_tables.specs.Statements.{select}
 
 -- ---- tests
 
-pub told : (b : Bool) → is_true (from_truth (Some b)) ≡ b
-told true = refl
-told false = refl
+pub from_truth_is : (b : Bool) → is_true (from_truth (Some b)) ≡ b
+from_truth_is true = refl
+from_truth_is false = refl
 
 -- `=` of two texts
 pub text_equal : (a b : List ℕ) → is_true (binary (Compare Eq Binary) (Text a) (Text b)) ≡ bytes_eq a b
 unfolding binary
-text_equal a b = told _ ∙ ap is_eq (value_cmp-Text a b) ∙ is_eq-slice_cmp a b
+text_equal a b = from_truth_is _ ∙ ap is_eq (value_cmp-Text a b) ∙ is_eq-slice_cmp a b
 
 int_eq : (m n : ℕ) → is_eq (int_cmp (pos m) (pos n)) ≡ (m == n)
 int_eq m n = grind (arith, nat_tests)
@@ -42,7 +42,7 @@ int_eq m n = grind (arith, nat_tests)
 -- `=` of two whole numbers
 pub whole_equal : (m n : ℕ) → is_true (binary (Compare Eq Binary) (Int (pos m)) (Int (pos n))) ≡ (m == n)
 unfolding binary
-whole_equal m n = told _ ∙ ap is_eq (value_cmp-Int (pos m) (pos n)) ∙ int_eq m n
+whole_equal m n = from_truth_is _ ∙ ap is_eq (value_cmp-Int (pos m) (pos n)) ∙ int_eq m n
 
 -- ---- lists
 
@@ -96,13 +96,13 @@ module _ {X B : Type 0} (values : X → Row) (p : X → Bool) (show : X → B) w
   pub picked : (passes : Row → Bool) (shown : Row → B) → ((id : ℤ) (x : X) → passes (Int id ∷ values x) ≡ p x)
       → ((id : ℤ) (x : X) → shown (Int id ∷ values x) ≡ show x)
       → (rows : List Row) (xs : List X) → AllZip (λ row x. IsRowOf (values x) row) rows xs → map shown (filter passes rows) ≡ map show (filter p xs)
-  picked passes shown tested says [] [] h = refl
-  picked passes shown tested says [] (x ∷ xs) h = absurd h
-  picked passes shown tested says (r ∷ rows) [] h = absurd h
-  picked passes shown tested says (r ∷ rows) (x ∷ xs) h =
-      let more = picked passes shown tested says rows xs h.1 in
+  picked passes shown tested yields [] [] h = refl
+  picked passes shown tested yields [] (x ∷ xs) h = absurd h
+  picked passes shown tested yields (r ∷ rows) [] h = absurd h
+  picked passes shown tested yields (r ∷ rows) (x ∷ xs) h =
+      let more = picked passes shown tested yields rows xs h.1 in
       let first : passes r ≡ p x = ap passes h.0.1 ∙ tested h.0.0 x in
-      let one : shown r ≡ show x = ap shown h.0.1 ∙ says h.0.0 x in
+      let one : shown r ≡ show x = ap shown h.0.1 ∙ yields h.0.0 x in
       let rest = filter passes rows in
       subst (λ b. map shown (cond b (r ∷ rest) rest) ≡ map show (filter p (x ∷ xs))) (sym first)
       (elim (p x) as (λ b. map shown (cond b (r ∷ rest) rest) ≡ map show (cond b (x ∷ filter p xs) (filter p xs)))

@@ -17,14 +17,14 @@ use Rattle.club_rows.specs.declared.member.Member.{Member}
 use Rattle.club_core.specs.declared.slot_use.SlotUse.{SlotUse}
 use Rattle.club_core.specs.declared.change.Change.TheVariants.{InsertMember, AddCredit, InsertFacility, InsertKey, MarkRevoked, ReplaceRoot, MarkClosed}
 use Rattle.club_core.specs.declared.change.Change.TheVariants.{InsertBooking}
-use Rattle.club_core.specs.After.{after, credited, revoked, good_until, rotated}
+use Rattle.club_core.specs.After.{after, credited_member, revoked_key, good_until, rotated_key}
 use Rattle.club_rows.specs.Booking.{same_slot, persons_of}
 use Rattle.club_core.specs.Club.{Club, IsSound, key_named, is_key_of, is_closed}
 use Rattle.club_core.specs.Basis.{slot_use}
 use Rattle.club_core.specs.Sums.{is_in, taken_in, cost_of}
 use Rattle.club_tables.specs.declared.row.MemberRow.{MemberRow}
 use Rattle.club_tables.specs.Stored.{Rows, IsStoredAs, member_row, used_by, persons_taken}
-use Rattle.club_tables.specs.Told.{IsOwnedBy, HasRoot}
+use Rattle.club_tables.specs.ReadsAndChanges.{IsOwnedBy, HasRoot}
 use Rattle.club_tables.proofs.AddLemmas.{new_row}
 use Rattle.club_tables.proofs.ChangeLemmas.{credited_row, used_row, or_true, or_false}
 use Rattle.club_tables.proofs.JoinLemmas.{map_map}
@@ -79,7 +79,7 @@ pub credit_stored : (club : Club) (rows : Rows) → IsStoredAs club rows → (na
     → IsStoredAs (after (AddCredit name points) club) (record rows { members = map (credited_row name points) rows.members })
 credit_stored club rows stored name points = record {
   members = ap (map (credited_row name points)) stored.members ∙ map_map (credited_row name points) (member_row club) club.members
-      ∙ sym (map_map (member_row (after (AddCredit name points) club)) (credited name points) club.members);
+      ∙ sym (map_map (member_row (after (AddCredit name points) club)) (credited_member name points) club.members);
   facilities = stored.facilities;
   keys = stored.keys;
   bookings = stored.bookings;
@@ -180,39 +180,39 @@ owned_mapped names owns f named owned (k ∷ keys) =
     [ true ↦ let e = named k in cc | false ↦ more ])
 
 pub revoke_stored : (club : Club) (rows : Rows) → IsStoredAs club rows → (name : List ℕ)
-    → IsStoredAs (after (MarkRevoked name) club) (record rows { keys = map (revoked name) rows.keys })
+    → IsStoredAs (after (MarkRevoked name) club) (record rows { keys = map (revoked_key name) rows.keys })
 revoke_stored club rows stored name = record {
   members = stored.members ∙ map_agree (member_row club) (member_row (after (MarkRevoked name) club)) (λ (m : Member).
       ap (λ n. let row : MemberRow = record { member = m; used = n } in row)
-      (sym (used_same club (map (revoked name) club.keys) m.name (each m.name club.bookings)))) club.members;
+      (sym (used_same club (map (revoked_key name) club.keys) m.name (each m.name club.bookings)))) club.members;
   facilities = stored.facilities;
-  keys = ap (map (revoked name)) stored.keys;
+  keys = ap (map (revoked_key name)) stored.keys;
   bookings = stored.bookings;
   slots = stored.slots;
-  olders = λ n. stored.olders n ∙ sym (older_mapped (revoked name) (λ k. refl) (λ k. refl) n club.keys);
+  olders = λ n. stored.olders n ∙ sym (older_mapped (revoked_key name) (λ k. refl) (λ k. refl) n club.keys);
   rotated = stored.rotated;
   once = stored.once;
 }
   where
     each : (owner : List ℕ) (bookings : List Booking) → AllByRecursion (λ (b : Booking).
-        list_any (λ (k : Key). bytes_eq k.name b.key) (filter (λ (k : Key). bytes_eq k.member owner) (map (revoked name) club.keys))
+        list_any (λ (k : Key). bytes_eq k.name b.key) (filter (λ (k : Key). bytes_eq k.member owner) (map (revoked_key name) club.keys))
         ≡ is_key_of owner club b.key) bookings
     each owner [] = tt
     each owner (b ∷ bookings) = (
-      owned_mapped (λ (k : Key). bytes_eq k.name b.key) (λ (k : Key). bytes_eq k.member owner) (revoked name) (λ k. refl) (λ k.
+      owned_mapped (λ (k : Key). bytes_eq k.name b.key) (λ (k : Key). bytes_eq k.member owner) (revoked_key name) (λ k. refl) (λ k.
           refl) club.keys,
       each owner bookings,
     )
 
--- the older roots that are told after a rotation
+-- the older roots after a rotation
 older_rotated : (name root : List ℕ) (until : ℕ) (n : List ℕ) (keys : List Key)
-    → option_and_then (λ (k : Key). k.older) (find (λ (k : Key). bytes_eq k.name n) (map (rotated name root until) keys))
+    → option_and_then (λ (k : Key). k.older) (find (λ (k : Key). bytes_eq k.name n) (map (rotated_key name root until) keys))
     ≡ option_and_then (λ (k : Key). if bytes_eq k.name name then Some (good_until until k.root) else k.older) (find (λ (k : Key). bytes_eq k.name n) keys)
 older_rotated name root until n [] = refl
 older_rotated name root until n (k ∷ keys) =
     let older : Key → Option OlderRoot = λ key. if bytes_eq key.name name then Some (good_until until key.root) else key.older in
     elim (bytes_eq k.name n) as (λ b. option_and_then (λ (j : Key). j.older)
-    (cond b (Some (rotated name root until k)) (find (λ (j : Key). bytes_eq j.name n) (map (rotated name root until) keys)))
+    (cond b (Some (rotated_key name root until k)) (find (λ (j : Key). bytes_eq j.name n) (map (rotated_key name root until) keys)))
     ≡ option_and_then older (cond b (Some k) (find (λ (j : Key). bytes_eq j.name n) keys)))
     [ true ↦ refl | false ↦ older_rotated name root until n keys ]
 
@@ -244,32 +244,33 @@ named_so name root n until (Some k) is has = go (bytes_eq name n) refl
 
 pub rotate_stored : (club : Club) (rows : Rows) → IsStoredAs club rows → (name root was : List ℕ) (until : ℕ) → HasRoot name was club
     → IsStoredAs (after (ReplaceRoot name root until) club) (record rows {
-      keys = map (rotated name root until) rows.keys;
+      keys = map (rotated_key name root until) rows.keys;
       olders =
           put_older name (good_until until was) rows.olders;
     })
 rotate_stored club rows stored name root was until has = record {
   members = stored.members ∙ map_agree (member_row club) (member_row (after (ReplaceRoot name root until) club)) (λ (m : Member).
       ap (λ n. let row : MemberRow = record { member = m; used = n } in row)
-      (sym (used_same club (map (rotated name root until) club.keys) m.name (each m.name club.bookings)))) club.members;
+      (sym (used_same club (map (rotated_key name root until) club.keys) m.name (each m.name club.bookings)))) club.members;
   facilities = stored.facilities;
-  keys = ap (map (rotated name root until)) stored.keys;
+  keys = ap (map (rotated_key name root until)) stored.keys;
   bookings = stored.bookings;
   slots = stored.slots;
   once = stored.once;
   olders = λ n.
-      older_put name (good_until until was) n rows.olders ∙ ap (λ o. let told : Option OlderRoot = if bytes_eq name n then Some (good_until until was) else o in
-      told) (stored.olders n)
+      older_put name (good_until until was) n rows.olders
+      ∙ ap (λ o. let returned : Option OlderRoot = if bytes_eq name n then Some (good_until until was) else o in
+      returned) (stored.olders n)
       ∙ sym (named_so name was n until (key_named n club) (found_named n) (of_name n)) ∙ sym (older_rotated name root until n club.keys);
   rotated = olders_once name (good_until until was) rows.olders stored.rotated;
 }
   where
     each : (owner : List ℕ) (bookings : List Booking) → AllByRecursion (λ (b : Booking).
-        list_any (λ (k : Key). bytes_eq k.name b.key) (filter (λ (k : Key). bytes_eq k.member owner) (map (rotated name root until) club.keys))
+        list_any (λ (k : Key). bytes_eq k.name b.key) (filter (λ (k : Key). bytes_eq k.member owner) (map (rotated_key name root until) club.keys))
         ≡ is_key_of owner club b.key) bookings
     each owner [] = tt
     each owner (b ∷ bookings) = (
-      owned_mapped (λ (k : Key). bytes_eq k.name b.key) (λ (k : Key). bytes_eq k.member owner) (rotated name root until) (λ k.
+      owned_mapped (λ (k : Key). bytes_eq k.name b.key) (λ (k : Key). bytes_eq k.member owner) (rotated_key name root until) (λ k.
           refl) (λ k. refl) club.keys,
       each owner bookings,
     )
@@ -286,10 +287,10 @@ rotate_stored club rows stored name root was until has = record {
 
 -- ---- slots
 
-close_told : (club : Club) (s : Slot) (b : Bool) → (if b then close_use (slot_use club s) else slot_use club s)
+closed_use : (club : Club) (s : Slot) (b : Bool) → (if b then close_use (slot_use club s) else slot_use club s)
     ≡ record { taken = taken_in s club.bookings; closed = is_closed s club || (b || false) }
-close_told club s true = ap (λ c. let u : SlotUse = record { taken = taken_in s club.bookings; closed = c } in u) (sym (or_true (is_closed s club)))
-close_told club s false = ap (λ c. let u : SlotUse = record { taken = taken_in s club.bookings; closed = c } in u) (sym (or_false (is_closed s club)))
+closed_use club s true = ap (λ c. let u : SlotUse = record { taken = taken_in s club.bookings; closed = c } in u) (sym (or_true (is_closed s club)))
+closed_use club s false = ap (λ c. let u : SlotUse = record { taken = taken_in s club.bookings; closed = c } in u) (sym (or_false (is_closed s club)))
 
 pub close_stored : (club : Club) (rows : Rows) → IsStoredAs club rows → (slot : Slot)
     → IsStoredAs (after (MarkClosed slot) club) (record rows { slots = put_slot slot close_use rows.slots })
@@ -300,7 +301,7 @@ close_stored club rows stored slot = record {
   bookings = stored.bookings;
   slots = λ s.
       use_put slot close_use s rows.slots ∙ ap (λ u. let v : SlotUse = if same_slot slot s then close_use u else u in v) (stored.slots s)
-      ∙ close_told club s (same_slot slot s)
+      ∙ closed_use club s (same_slot slot s)
       ∙ ap (λ c. let u : SlotUse = record { taken = taken_in s club.bookings; closed = c } in
       u) (sym (list_any-append (λ other. same_slot other s) club.closed (slot ∷ [])));
   olders = stored.olders;
@@ -356,12 +357,12 @@ taken_more club booking s = go booking.cancelled (same_slot booking.slot s) refl
         let taken : persons_taken booking ≡ persons_of booking = ap (λ c. if c then 0 else persons_of booking) is in omega (arith, more, some, taken)
     go false false is same more = let none : cond (is_in s booking) (persons_of booking) 0 ≡ 0 = counts false false is same in omega (arith, more, none)
 
--- what is told of a slot whose persons are counted anew
-pub take_told : (club : Club) (s : Slot) (next : ℕ → ℕ) (b : Bool) (taken : ℕ)
+-- the use of a slot whose persons are recounted
+pub recounted_use : (club : Club) (s : Slot) (next : ℕ → ℕ) (b : Bool) (taken : ℕ)
     → taken ≡ (if b then next (taken_in s club.bookings) else taken_in s club.bookings)
     → (if b then take_use next (slot_use club s) else slot_use club s) ≡ record { taken = taken; closed = is_closed s club }
-take_told club s next true taken is = ap (λ n. let u : SlotUse = record { taken = n; closed = is_closed s club } in u) (sym is)
-take_told club s next false taken is = ap (λ n. let u : SlotUse = record { taken = n; closed = is_closed s club } in u) (sym is)
+recounted_use club s next true taken is = ap (λ n. let u : SlotUse = record { taken = n; closed = is_closed s club } in u) (sym is)
+recounted_use club s next false taken is = ap (λ n. let u : SlotUse = record { taken = n; closed = is_closed s club } in u) (sym is)
 
 pub booking_stored : (club : Club) (rows : Rows) → IsStoredAs club rows → IsSound club → (member : List ℕ) (booking : Booking)
     → IsOwnedBy member booking.key club → IsStoredAs (after (InsertBooking booking) club) (book_rows rows member booking)
@@ -376,7 +377,7 @@ booking_stored club rows stored sound member booking owned = record {
       let next : ℕ → ℕ = λ n. n + persons_taken booking in
       use_put booking.slot (take_use next) s rows.slots ∙ ap (λ u. let v : SlotUse = if same_slot booking.slot s then take_use next u else u in
       v) (stored.slots s)
-      ∙ take_told club s next (same_slot booking.slot s) (taken_in s (club.bookings ++ booking ∷ [])) (taken_more club booking s);
+      ∙ recounted_use club s next (same_slot booking.slot s) (taken_in s (club.bookings ++ booking ∷ [])) (taken_more club booking s);
   olders = stored.olders;
   rotated = stored.rotated;
   once = put_once booking.slot (take_use (λ n. n + persons_taken booking)) rows.slots stored.once;

@@ -11,7 +11,7 @@ use Rattle.club_tables.specs.Answers.{AreCosts}
 use Rattle.club_tables.specs.Columns.{cost_values, cost_in, IsCostIn, IsCostRow}
 
 pub cost_in_is : (row : Row) (cost : ℕ) → IsCostIn row cost → cost_in row ≡ cost
-cost_in_is row cost h = let low : h.charge - h.refund ≡ cost = omega arith in rw (h.charged, h.refunded) low
+cost_in_is row cost h = let low : h.charge - h.refund ≡ cost = omega arith in rw (h.charge_column, h.refund_column) low
 
 -- the costs of the rows are those of the bookings
 pub costs_are : (bookings : List Booking) (rows : List Row) → IsPermutation (map cost_values bookings) rows → sum_by cost_in rows ≡ sum_by cost_of bookings

@@ -6,7 +6,7 @@ use Rattle.sqlite.specs.Effect.{Database}
 use Rattle.sqlite.specs.State.{State, HasCleanDisk, Survives}
 use Rattle.sqlite.specs.Held.{Held, state}
 use Rattle.sqlite.proofs.StateLemmas.{survives_then}
-use Rattle.club_transactions.specs.Transaction.{Words, Ran, IsUntouched, MayCommit}
+use Rattle.club_tables.specs.Transaction.{BoundStatement, Ran, IsUntouched, MayCommit}
 use Rattle.club_core.specs.declared.store.StoreFault.{StoreFault}
 use Rattle.club_tables.specs.Answers.{IsAfterReadings}
 use Rattle.club_tables.specs.Opening.{IsOpeningFault}
@@ -21,8 +21,8 @@ survives_as old new P Q s leaves = record {
   crash = λ clean trees may. elim (s.crash clean trees may) [ inl was ↦ inl was | inr left ↦ inr (leaves clean trees left) ];
 }
 
-pub kept_at_rest : (s : State) → IsUntouched s s
-kept_at_rest s rest clean is_open = (is_open, rest is_open, refl)
+pub kept_when_idle : (s : State) → IsUntouched s s
+kept_when_idle s rest clean is_open = (is_open, rest is_open, refl)
 
 pub untouched_then : (a b c : State) → (HasCleanDisk c → HasCleanDisk b) → IsUntouched a b → IsUntouched b c → IsUntouched a c
 untouched_then a b c earlier first next rest clean is_open =
@@ -33,16 +33,16 @@ untouched_then a b c earlier first next rest clean is_open =
 
 module _ {S : Type 0} (g : Ghosts S) where
   -- these statements
-  pub may_commit : (all : List Words) (AreWords : List Words → Type 0) → AreWords all → (old new : Held S)
+  pub may_commit : (all : List BoundStatement) (AreStatements : List BoundStatement → Type 0) → AreStatements all → (old new : Held S)
       → Survives (state g old) (state g new) (λ trees. (db : Database) × Ran g all old db × (trees ≡ db.trees))
-      → Survives (state g old) (state g new) (MayCommit g AreWords old)
-  may_commit all AreWords are old new survives =
-      survives_as (state g old) (state g new) (λ trees. (db : Database) × Ran g all old db × (trees ≡ db.trees)) (MayCommit g AreWords old) survives
+      → Survives (state g old) (state g new) (MayCommit g AreStatements old)
+  may_commit all AreStatements are old new survives =
+      survives_as (state g old) (state g new) (λ trees. (db : Database) × Ran g all old db × (trees ≡ db.trees)) (MayCommit g AreStatements old) survives
       (λ clean trees left. let earlier : HasCleanDisk (state g old) = omega (arith, survives.clean) in record {
         from = old;
-        same = kept_at_rest (state g old);
+        same = kept_when_idle (state g old);
         clean = earlier;
-        words = all;
+        statements = all;
         are = are;
         db = left.0;
         ran = left.1;
@@ -50,22 +50,24 @@ module _ {S : Type 0} (g : Ghosts S) where
       })
 
   -- none
-  pub commits_nothing : (AreWords : List Words → Type 0) (old new : Held S) → Survives (state g old) (state g new) (λ _. ⊥)
-      → Survives (state g old) (state g new) (MayCommit g AreWords old)
-  commits_nothing AreWords old new survives = survives_as (state g old) (state g new) (λ _. ⊥) (MayCommit g AreWords old) survives (λ _ _ none. absurd none)
+  pub commits_nothing : (AreStatements : List BoundStatement → Type 0) (old new : Held S) → Survives (state g old) (state g new) (λ _. ⊥)
+      → Survives (state g old) (state g new) (MayCommit g AreStatements old)
+  commits_nothing AreStatements old new survives = survives_as (state g old) (state g new) (λ _. ⊥) (MayCommit g AreStatements old) survives
+      (λ _ _ none. absurd none)
 
   -- some, after a reading
-  pub commits_after : (AreWords : List Words → Type 0) (a b c : Held S) → IsUntouched (state g a) (state g b) → Survives (state g a) (state g b) (λ _. ⊥)
-      → Survives (state g b) (state g c) (MayCommit g AreWords b)
-      → Survives (state g a) (state g c) (MayCommit g AreWords a)
-  commits_after AreWords a b c untouched first next =
-      let P = MayCommit g AreWords a in
-      survives_then (state g a) (state g b) (state g c) (λ _. ⊥) (MayCommit g AreWords b) P (λ _ db none. absurd none)
+  pub commits_after : (AreStatements : List BoundStatement → Type 0) (a b c : Held S) → IsUntouched (state g a) (state g b)
+      → Survives (state g a) (state g b) (λ _. ⊥)
+      → Survives (state g b) (state g c) (MayCommit g AreStatements b)
+      → Survives (state g a) (state g c) (MayCommit g AreStatements a)
+  commits_after AreStatements a b c untouched first next =
+      let P = MayCommit g AreStatements a in
+      survives_then (state g a) (state g b) (state g c) (λ _. ⊥) (MayCommit g AreStatements b) P (λ _ db none. absurd none)
       (λ clean db may. let earlier : HasCleanDisk (state g b) = omega (arith, next.clean) in let p : P db = record {
         from = may.from;
         same = untouched_then (state g a) (state g b) (state g may.from) (λ _. earlier) untouched may.same;
         clean = may.clean;
-        words = may.words;
+        statements = may.statements;
         are = may.are;
         db = may.db;
         ran = may.ran;
@@ -77,13 +79,13 @@ module _ {S : Type 0} (g : Ghosts S) where
   after_then a b c first next = record {
     same = untouched_then (state g a) (state g b) (state g c) (λ _. first.clean) first.same next.same;
     clean = next.clean;
-    counted = omega (arith, first.counted, next.counted);
+    fault_count = omega (arith, first.fault_count, next.fault_count);
   }
 
   -- a reading
   pub after_one : (old new : Held S) → HasCleanDisk (state g new) → IsUntouched (state g old) (state g new) → Survives (state g old) (state g new) (λ _. ⊥)
       → IsAfterReadings g old new
-  after_one old new clean same survives = record { same = same; clean = clean; counted = survives.counts }
+  after_one old new clean same survives = record { same = same; clean = clean; fault_count = survives.counts }
 
   -- an opening after a reading
   pub opened_after : (a b c : Held S) (fault : StoreFault) → IsAfterReadings g a b → IsOpeningFault g b c fault → IsOpeningFault g a c fault

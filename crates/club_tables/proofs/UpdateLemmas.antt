@@ -31,7 +31,7 @@ no_works tree olds news =
     [ true ↦ refl | false ↦ refl ]
 
 module _ (old new : State) (has : old.now.schema ≡ club_schema) (text : List ℕ) (plain : IsPlain (understood club_schema text)) where
-  -- the rows that the query gives are taken out and put back as it says
+  -- the rows that the query yields are removed, and put back with the new values
   pub updates : (at : ℕ) (table : Table) (query : Query) (params : Row) → slice_get club_schema.tables at ≡ Some table
       → command_of (understood club_schema text) ≡ Update at (record { lets = []; body = query })
       → (count : ℕ) → Executes text params old new (Ok count)
@@ -43,8 +43,8 @@ module _ (old new : State) (has : old.now.schema ≡ club_schema) (text : List �
       let db = old.now.trees in
       let command = Update at (record { lets = []; body = query }) in
       let w = runs_as text params old new club_schema has command is plain count h in
-      let words = statement_of text (understood club_schema text) in
-      let does = subst (λ s. Does old.step_limit (mode_of old) params (record old.now { schema = s }) words None command (Ok (w.tally, new.now))) has
+      let statement = statement_of text (understood club_schema text) in
+      let does = subst (λ s. Does old.step_limit (mode_of old) params (record old.now { schema = s }) statement None command (Ok (w.tally, new.now))) has
       w.changed in
       let done = went (rw listed at does) in
       let now = ap (λ (p : Tally × Database). p.1) (same_value (went (went done.2).2).2) in

@@ -31,10 +31,10 @@ use Rattle.club_core.specs.declared.slot_use.SlotUse.{SlotUse}
 use Rattle.club_tables.specs.declared.texts.TheConstants.{CLOSE_SLOT, ADD_TAKEN}
 use Rattle.club_tables.specs.Schema.{slots_table, club_schema}
 use Rattle.club_tables.specs.Columns.{whole, flag, name_values, use_values, slot_values}
-use Rattle.club_tables.specs.Stored.{Rows, SlotRow, unused}
-use Rattle.club_tables.specs.Tables.{Lies, slots_tree}
+use Rattle.club_tables.specs.Stored.{Rows, SlotRow, no_slot_use}
+use Rattle.club_tables.specs.Tables.{HoldsRows, slots_tree}
 use Rattle.club_tables.proofs.InsertLemmas.{cast_null, cast_int}
-use Rattle.club_tables.proofs.LiesLemmas.{on_slots}
+use Rattle.club_tables.proofs.HoldsRowsLemmas.{on_slots}
 use Rattle.club_tables.proofs.SelectLemmas.{Apart, apart_from_pairs}
 use Rattle.club_tables.proofs.BookingLemmas.{same_slots}
 use Rattle.club_tables.proofs.PutLemmas as put
@@ -66,48 +66,50 @@ module _ (slot : Slot) where
 module _ (text : List ℕ) (terms sets : List Term) (at : ℕ) (clause : Upsert) (is : command_of (understood club_schema text)
     ≡ InsertOr 4 Abort (Values terms 6) (clause ∷ [])) (plain : IsPlain (understood club_schema text))
     (aims : clause.target ≡ target) (by : clause.update ≡ sets_by at sets)
-    (old new : State) (rows : Rows) (lies : Lies old.now rows) (once : AllPairs (λ (a : SlotRow) (b : SlotRow). a.slot ≢ b.slot) rows.slots) (slot : Slot)
+    (old new : State) (rows : Rows) (holds_rows : HoldsRows old.now rows) (once : AllPairs (λ (a : SlotRow) (b : SlotRow). a.slot ≢ b.slot) rows.slots)
+    (slot : Slot)
     (params : Row) (closed taken : Value)
     (gives : value_rows params 6 (length terms / 6) terms ≡ (Null ∷ name_values slot ++ closed ∷ taken ∷ []) ∷ []) (casts_closed : cast Integer closed
     ≡ closed) (casts_taken : cast Integer taken ≡ taken) (change : SlotUse → SlotUse) where
   abbrev new_row : Row
   new_row = Int (next_rowid (old.now.trees slots_tree)) ∷ name_values slot ++ closed ∷ taken ∷ []
 
-  -- what the clause says of the slot's row
-  abbrev SaysUse : SlotRow → Type 0
-  SaysUse x = (id : ℤ) (there : Row) → same_slot x.slot slot ≡ true → eval_all sets ((params ++ rowid there ∷ shown slot_table new_row)
+  -- what the clause yields for the slot's row
+  abbrev YieldsUse : SlotRow → Type 0
+  YieldsUse x = (id : ℤ) (there : Row) → same_slot x.slot slot ≡ true → eval_all sets ((params ++ rowid there ∷ shown slot_table new_row)
       ∷ (Int id ∷ slot_values x) ∷ []) ≡ Int id ∷ Int id ∷ name_values x.slot ++ use_values (change x.held)
 
-  abbrev SaysRow : SlotRow → Type 0
-  SaysRow x = (id : ℤ) (there : Row) → same_slot x.slot slot ≡ true → eval_all sets ((params ++ rowid there ∷ shown slot_table new_row)
+  abbrev YieldsRow : SlotRow → Type 0
+  YieldsRow x = (id : ℤ) (there : Row) → same_slot x.slot slot ≡ true → eval_all sets ((params ++ rowid there ∷ shown slot_table new_row)
       ∷ (Int id ∷ slot_values x) ∷ []) ≡ Int id ∷ Int id ∷ slot_values (changed slot change x)
 
-  each_says : (xs : List SlotRow) → AllByRecursion SaysUse xs → AllByRecursion SaysRow xs
-  each_says [] says = tt
-  each_says (x ∷ xs) says = (
-    λ id there passes. says.0 id there passes ∙ ap (λ b. Int id ∷ Int id ∷ name_values x.slot ++ use_values (if b then change x.held else x.held)) (sym passes),
-    each_says xs says.1,
+  each_yields : (xs : List SlotRow) → AllByRecursion YieldsUse xs → AllByRecursion YieldsRow xs
+  each_yields [] yields = tt
+  each_yields (x ∷ xs) yields = (
+    λ id there passes. yields.0 id there passes
+        ∙ ap (λ b. Int id ∷ Int id ∷ name_values x.slot ++ use_values (if b then change x.held else x.held)) (sym passes),
+    each_yields xs yields.1,
   )
 
   -- the slot's row is put, where there was one and where there was none
-  slot_put : (list_any (λ (row : SlotRow). same_slot row.slot slot) rows.slots ≡ false → closed ∷ taken ∷ [] ≡ use_values (change unused))
+  slot_put : (list_any (λ (row : SlotRow). same_slot row.slot slot) rows.slots ≡ false → closed ∷ taken ∷ [] ≡ use_values (change no_slot_use))
       → ((there : Row) → column (params ++ rowid there ∷ shown slot_table new_row) at ≡ rowid there)
-      → AllByRecursion SaysUse rows.slots → (count : ℕ) → Executes text params old new (Ok count)
-      → Lies new.now (record rows { slots = put_slot slot change rows.slots })
-  slot_put values ids says count executed =
+      → AllByRecursion YieldsUse rows.slots → (count : ℕ) → Executes text params old new (Ok count)
+      → HoldsRows new.now (record rows { slots = put_slot slot change rows.slots })
+  slot_put values ids yields count executed =
       let t = slots_table in
       let kept : (x : SlotRow) → same_slot x.slot slot ≡ false → changed slot change x ≡ x =
       λ x fails. ap (λ b. let y : SlotRow = record x { held = if b then change x.held else x.held } in y) fails in
       let left = row_put t.name t.columns t.uniques t.checks t.references slots_tree target 4 refl text terms sets 6 at clause is plain aims by old new
-      lies.schema params (name_values slot ++ closed ∷ taken ∷ []) gives
+      holds_rows.schema params (name_values slot ++ closed ∷ taken ∷ []) gives
       (rw (cast_null, cast_int (pos slot.day), cast_int (pos slot.hour), casts_closed, casts_taken) refl) (λ id.
       rw (cast_int id, cast_int (pos slot.day), cast_int (pos slot.hour), casts_closed, casts_taken) refl)
-      slot_values (is_of slot) (changed slot change) kept (record { slot = slot; held = change unused }) (λ id x.
+      slot_values (is_of slot) (changed slot change) kept (record { slot = slot; held = change no_slot_use }) (λ id x.
       slots_conflict id (next_rowid (old.now.trees slots_tree)) x slot closed taken)
       (λ id x. rw (cast_int id, cast_int (pos x.slot.day), cast_int (pos x.slot.hour), cast_int (pos (truth x.held.closed)), cast_int (pos x.held.taken)) refl)
-      rows.slots lies.slots (lone slot rows.slots (apart_from_pairs (λ (a : SlotRow) (b : SlotRow). a.slot ≢ b.slot) rows.slots once))
-      (λ none. ap (λ vs. name_values slot ++ vs) (values none)) ids (each_says rows.slots says) count executed in
-      on_slots old.now new.now rows lies left.0 left.3 left.2 (put_slot slot change rows.slots) left.1
+      rows.slots holds_rows.slots (lone slot rows.slots (apart_from_pairs (λ (a : SlotRow) (b : SlotRow). a.slot ≢ b.slot) rows.slots once))
+      (λ none. ap (λ vs. name_values slot ++ vs) (values none)) ids (each_yields rows.slots yields) count executed in
+      on_slots old.now new.now rows holds_rows left.0 left.3 left.2 (put_slot slot change rows.slots) left.1
 
 -- ---- a slot is closed
 
@@ -143,11 +145,12 @@ each_slot : (P : SlotRow → Type 0) → ((x : SlotRow) → P x) → (xs : List 
 each_slot P h [] = tt
 each_slot P h (x ∷ xs) = (h x, each_slot P h xs)
 
-pub slot_closed : (old new : State) (rows : Rows) → Lies old.now rows → AllPairs (λ (a : SlotRow) (b : SlotRow). a.slot ≢ b.slot) rows.slots
+pub slot_closed : (old new : State) (rows : Rows) → HoldsRows old.now rows → AllPairs (λ (a : SlotRow) (b : SlotRow). a.slot ≢ b.slot) rows.slots
     → (slot : Slot) (count : ℕ)
-    → Executes CLOSE_SLOT.now (name_values slot) old new (Ok count) → Lies new.now (record rows { slots = put_slot slot close_use rows.slots })
-slot_closed old new rows lies once slot count executed =
-    slot_put CLOSE_SLOT.now close_terms close_sets 3 close_clause close_is close_plain close_target close_update old new rows lies once slot (name_values slot)
+    → Executes CLOSE_SLOT.now (name_values slot) old new (Ok count) → HoldsRows new.now (record rows { slots = put_slot slot close_use rows.slots })
+slot_closed old new rows holds_rows once slot count executed =
+    slot_put CLOSE_SLOT.now close_terms close_sets 3 close_clause close_is close_plain close_target close_update old new rows holds_rows once slot
+    (name_values slot)
     (whole 1) (whole 0) refl (cast_int (pos 1)) (cast_int (pos 0))
     close_use (λ _. refl) (λ there. refl) (each_slot _ (λ x id there same. refl) rows.slots) count executed
 
@@ -185,25 +188,26 @@ take_use next held = record held { taken = next held.taken }
 abbrev pub Takes : Slot → ℤ → (ℕ → ℕ) → SlotRow → Type 0
 Takes slot persons next row = same_slot row.slot slot ≡ true → binary (Arith Add) (whole row.held.taken) (Int persons) ≡ whole (next row.held.taken)
 
-says_there : (slot : Slot) (persons : ℤ) (next : ℕ → ℕ) (row : Row) (xs : List SlotRow) → AllByRecursion (Takes slot persons next) xs
+yields_there : (slot : Slot) (persons : ℤ) (next : ℕ → ℕ) (row : Row) (xs : List SlotRow) → AllByRecursion (Takes slot persons next) xs
     → AllByRecursion (λ (x : SlotRow). (id : ℤ) (there : Row) → same_slot x.slot slot ≡ true
     → eval_all taken_sets (((name_values slot ++ Int persons ∷ []) ++ rowid there ∷ shown slot_table row) ∷ (Int id ∷ slot_values x) ∷ [])
     ≡ Int id ∷ Int id ∷ name_values x.slot ++ use_values (take_use next x.held)) xs
-says_there slot persons next row [] h = tt
-says_there slot persons next row (x ∷ xs) h = (
+yields_there slot persons next row [] h = tt
+yields_there slot persons next row (x ∷ xs) h = (
   λ id there same. ap (λ v. Int id ∷ Int id ∷ name_values x.slot ++ flag x.held.closed ∷ v ∷ []) (h.0 same),
-  says_there slot persons next row xs h.1,
+  yields_there slot persons next row xs h.1,
 )
 
-pub slot_taken : (old new : State) (rows : Rows) → Lies old.now rows → AllPairs (λ (a : SlotRow) (b : SlotRow). a.slot ≢ b.slot) rows.slots
+pub slot_taken : (old new : State) (rows : Rows) → HoldsRows old.now rows → AllPairs (λ (a : SlotRow) (b : SlotRow). a.slot ≢ b.slot) rows.slots
     → (slot : Slot) (persons : ℤ) (next : ℕ → ℕ)
     → AllByRecursion (Takes slot persons next) rows.slots → (list_any (λ (row : SlotRow). same_slot row.slot slot) rows.slots ≡ false → persons ≡ pos (next 0))
     → (count : ℕ)
     → Executes ADD_TAKEN.now (name_values slot ++ Int persons ∷ []) old new (Ok count)
-    → Lies new.now (record rows { slots = put_slot slot (take_use next) rows.slots })
-slot_taken old new rows lies once slot persons next sums fresh count executed =
-    slot_put ADD_TAKEN.now taken_terms taken_sets 4 taken_clause taken_is taken_plain taken_target taken_update old new rows lies once slot (name_values slot
+    → HoldsRows new.now (record rows { slots = put_slot slot (take_use next) rows.slots })
+slot_taken old new rows holds_rows once slot persons next sums fresh count executed =
+    slot_put ADD_TAKEN.now taken_terms taken_sets 4 taken_clause taken_is taken_plain taken_target taken_update old new rows holds_rows once slot
+    (name_values slot
     ++ Int persons ∷ []) (whole 0) (Int persons) refl (cast_int (pos 0)) (cast_int persons)
     (take_use next) (λ none. ap (λ n. whole 0 ∷ Int n ∷ []) (fresh none)) (λ there.
-    refl) (says_there slot persons next (Int (next_rowid (old.now.trees slots_tree)) ∷ name_values slot ++ whole 0 ∷ Int persons ∷ []) rows.slots sums)
+    refl) (yields_there slot persons next (Int (next_rowid (old.now.trees slots_tree)) ∷ name_values slot ++ whole 0 ∷ Int persons ∷ []) rows.slots sums)
     count executed

@@ -14,7 +14,7 @@ use Rattle.sqlite.specs.Effect.{Reads}
 use Rattle.sqlite.specs.Listing.{understood, reads_listing, listing_schema, if_select, IsSourceOf}
 use Rattle.sqlite.specs.State.{State, Shown}
 use Rattle.club_tables.specs.declared.texts.TheConstants.{VERSION}
-use Rattle.club_tables.specs.Opening.{IsAnswered}
+use Rattle.club_tables.specs.Opening.{YieldsRows}
 
 abbrev returned_by : Checked Compiled → Option Returning
 returned_by (Ok c) = c.returning
@@ -24,7 +24,7 @@ abbrev formats_by : Checked Compiled → List (List ℕ)
 formats_by (Ok c) = c.formats
 formats_by (Err e) = []
 
--- what is understood returns nothing beside its rows, and wants no time
+-- the compiled query returns nothing beside its rows, and needs no time
 abbrev IsBare : Checked Compiled → Type 0
 IsBare r = (returned_by r ≡ None) × (formats_by r ≡ [])
 
@@ -71,7 +71,7 @@ version_understood schema c h = elim (cases_Bool (reads_listing schema VERSION.n
 ]
 
 -- what is shown for the version is the query's answer
-pub version_answered : (old new : State) (rows : List Row) → Shown VERSION.now [] old new rows → IsAnswered VERSION.now old.now rows
+pub version_answered : (old new : State) (rows : List Row) → Shown VERSION.now [] old new rows → YieldsRows VERSION.now old.now rows
 unfolding Shown
 version_answered old new rows h =
     let bare = version_understood old.now.schema h.0 h.1.is in

@@ -1,4 +1,4 @@
--- What the rows of a statement tell, whatever the tables hold, and why a reading gives no answer (ours).
+-- What the rows of a query are decoded to, whatever the tables hold, and why a read fails (ours).
 use Rattle.std.specs.Prelude.{◌≡◌, ◌⊎◌, ℕ, ◌<◌, ◌≤◌, ◌^◌, ◌/◌, List, [], ◌∷◌, length, sum_by, All}
 use Rattle.std.specs.Prelude.{Option, None, Result, IfOk, IfErr, IsSomeAnd}
 use Rattle.sqlite_value.specs.declared.value.Value.TheVariants.{Text}
@@ -32,11 +32,11 @@ use Rattle.club_tables.specs.Columns.{
   use_values,
 }
 use Rattle.club_tables.specs.Sheet.{AreBookings}
-use Rattle.club_tables.specs.Stored.{IsMemberRow, unused}
-use Rattle.club_transactions.specs.Transaction.{Words, Asked, IsUntouched}
-use Rattle.club_transactions.specs.Fault.{FailsToAsk}
+use Rattle.club_tables.specs.Stored.{IsMemberRow, no_slot_use}
+use Rattle.club_tables.specs.Transaction.{BoundStatement, Asked, IsUntouched}
+use Rattle.club_tables.specs.Fault.{FailsToAsk}
 
--- what a row says: a value within its limits, by whose columns it is
+-- the row decodes to a value: the value is within its limits, and the row has its columns
 abbrev pub IsKeyIn : Row → Key → Type 0
 IsKeyIn row key = IsKey key × (key.older ≡ None) × HasValues row (key_values key)
 
@@ -52,25 +52,25 @@ IsFacilityIn row facility = IsFacility facility × HasValues row (facility_value
 abbrev pub IsBookingIn : Row → Booking → Type 0
 IsBookingIn row booking = IsBooking booking × HasValues row (booking_values booking)
 
--- the same of the booking that was asked for
+-- the same for a booking of this key and number
 abbrev pub IsBookingNamed : List ℕ → ℕ → Row → Booking → Type 0
 IsBookingNamed key number row booking = IsBookingIn row booking × ((booking.key ≡ key) × (booking.number ≡ number))
 
 abbrev pub IsUseIn : Row → SlotUse → Type 0
 IsUseIn row found = (found.taken ≤ 50) × HasValues row (use_values found)
 
--- what the first row says, and nothing exactly where there is none
+-- the value of the first row; None exactly if there is no row
 abbrev pub IsFirst : {A : Type 0} → (Row → A → Type 0) → List Row → Option A → Type 0
-IsFirst Says [] found = found ≡ None
-IsFirst Says (row ∷ rows) found = IsSomeAnd found (Says row)
+IsFirst Yields [] found = found ≡ None
+IsFirst Yields (row ∷ rows) found = IsSomeAnd found (Yields row)
 
--- what is taken of a slot, by its one row; nothing where there is none
+-- the use of a slot by its one row; no use if there is no row
 abbrev pub IsUse : List Row → SlotUse → Type 0
-IsUse [] found = found ≡ unused
+IsUse [] found = found ≡ no_slot_use
 IsUse (row ∷ []) found = IsUseIn row found
 IsUse (row ∷ other ∷ rows) found = ⊥
 
--- the cost of rows of charge and refund
+-- the total cost of rows of charge and refund
 abbrev pub AreCosts : List Row → ℕ → Type 0
 AreCosts rows cost = All IsCostRow rows × (cost ≡ sum_by cost_in rows) × (cost < 2 ^ 64)
 
@@ -78,25 +78,26 @@ AreCosts rows cost = All IsCostRow rows × (cost ≡ sum_by cost_in rows) × (co
 abbrev pub IsCount : List Row → ℕ → Type 0
 IsCount rows count = count ≡ length rows
 
--- the statement gave rows that tell nothing
-pub record IsUnread {S : Type 0} (g : Ghosts S) (words : Words) (CanRead : List Row → Type 0) (old : Held S) (fault : StoreFault) : Type 0 where
+-- the query returned rows that can't be decoded
+pub record IsUnread {S : Type 0} (g : Ghosts S) (statement : BoundStatement) (CanRead : List Row → Type 0) (old : Held S) (fault : StoreFault) : Type 0 where
   pub rows : List Row
-  pub asked : Asked g words.0 words.1 old rows
+  pub asked : Asked g statement.0 statement.1 old rows
   pub unread : ¬ CanRead rows
-  pub told : fault ≡ Storage
+  pub returned : fault ≡ Storage
 
--- a statement was refused, or gave rows that tell nothing
-abbrev pub FailsToRead : {S : Type 0} → Ghosts S → Words → (List Row → Type 0) → Held S → Held S → StoreFault → Type 0
-FailsToRead g words CanRead old new fault = FailsToAsk g words old new fault ⊎ IsUnread g words CanRead old fault
+-- the query was refused, or returned rows that can't be decoded
+abbrev pub FailsToRead : {S : Type 0} → Ghosts S → BoundStatement → (List Row → Type 0) → Held S → Held S → StoreFault → Type 0
+FailsToRead g statement CanRead old new fault = FailsToAsk g statement old new fault ⊎ IsUnread g statement CanRead old fault
 
--- An answer is what the rows that the statement gave tell. There is none only where the statement was refused, and then the fault is that of the
--- error, or where the rows tell nothing, and then it is one of storage.
-pub record Answers {S A : Type 0} (g : Ghosts S) (words : Words) (IsAnswer : List Row → A → Type 0) (old new : Held S) (result : Result A StoreFault) : Type 0
+-- A result is decoded from the rows that the query returned. The call fails only if the query was refused, with the fault of that error, or if the
+-- rows can't be decoded, with Storage.
+pub record Answers {S A : Type 0} (g : Ghosts S) (statement : BoundStatement) (IsAnswer : List Row → A
+    → Type 0) (old new : Held S) (result : Result A StoreFault) : Type 0
   where
-    pub told : HasCleanDisk (state g new) → IfOk result (λ answer. (rows : List Row) × Asked g words.0 words.1 old rows × IsAnswer rows answer)
-    pub failed : HasCleanDisk (state g new) → IfErr result (FailsToRead g words (λ rows. (answer : A) × IsAnswer rows answer) old new)
+    pub returned : HasCleanDisk (state g new) → IfOk result (λ answer. (rows : List Row) × Asked g statement.0 statement.1 old rows × IsAnswer rows answer)
+    pub failed : HasCleanDisk (state g new) → IfErr result (FailsToRead g statement (λ rows. (answer : A) × IsAnswer rows answer) old new)
 
--- what is read
+-- a read
 pub data Reading : Type 0 where
   OfKey : (name : List ℕ) → Reading
   OfOlderRoot : (key : List ℕ) → Reading
@@ -108,19 +109,19 @@ pub data Reading : Type 0 where
   OfDay : (day : ℕ) → Reading
   OfOpen : (member : List ℕ) (moment : ℕ) → Reading
 
--- by which statement, with which values
-abbrev pub words_for : Reading → Words
-words_for (OfKey name) = (KEY.now, Text name ∷ [])
-words_for (OfOlderRoot key) = (OLDER_ROOT.now, Text key ∷ [])
-words_for (OfMember name) = (MEMBER.now, Text name ∷ [])
-words_for (OfFacility name) = (FACILITY.now, Text name ∷ [])
-words_for (OfSlot slot) = (SLOT.now, name_values slot)
-words_for (OfBooking key number) = (BOOKING.now, Text key ∷ whole number ∷ [])
-words_for (OfCosts key) = (COSTS_UNDER_KEY.now, Text key ∷ [])
-words_for (OfDay day) = (DAY.now, whole day ∷ [])
-words_for (OfOpen member moment) = (OPEN.now, Text member ∷ whole moment ∷ whole (moment / minutes_a_day) ∷ [])
+-- its statement, with the values of its parameters
+abbrev pub reading_statement : Reading → BoundStatement
+reading_statement (OfKey name) = (KEY.now, Text name ∷ [])
+reading_statement (OfOlderRoot key) = (OLDER_ROOT.now, Text key ∷ [])
+reading_statement (OfMember name) = (MEMBER.now, Text name ∷ [])
+reading_statement (OfFacility name) = (FACILITY.now, Text name ∷ [])
+reading_statement (OfSlot slot) = (SLOT.now, name_values slot)
+reading_statement (OfBooking key number) = (BOOKING.now, Text key ∷ whole number ∷ [])
+reading_statement (OfCosts key) = (COSTS_UNDER_KEY.now, Text key ∷ [])
+reading_statement (OfDay day) = (DAY.now, whole day ∷ [])
+reading_statement (OfOpen member moment) = (OPEN.now, Text member ∷ whole moment ∷ whole (moment / minutes_a_day) ∷ [])
 
--- which rows tell something
+-- which rows it can decode
 abbrev pub CanRead : Reading → List Row → Type 0
 CanRead (OfKey name) rows = (found : Option Key) × IsFirst IsKeyIn rows found
 CanRead (OfOlderRoot key) rows = (found : Option OlderRoot) × IsFirst IsOlderRootIn rows found
@@ -132,28 +133,28 @@ CanRead (OfCosts key) rows = (cost : ℕ) × AreCosts rows cost
 CanRead (OfDay day) rows = (bookings : List Booking) × AreBookings rows bookings
 CanRead (OfOpen member moment) rows = (count : ℕ) × IsCount rows count
 
--- a day's rows were given, and there was no room for their bookings
-abbrev pub LacksRoom : {S : Type 0} → Ghosts S → Reading → Held S → StoreFault → Type 0
-LacksRoom g (OfDay day) old fault = (fault ≡ Memory) × (rows : List Row) × Asked g DAY.now (whole day ∷ []) old rows
-LacksRoom g (OfKey name) old fault = ⊥
-LacksRoom g (OfOlderRoot key) old fault = ⊥
-LacksRoom g (OfMember name) old fault = ⊥
-LacksRoom g (OfFacility name) old fault = ⊥
-LacksRoom g (OfSlot slot) old fault = ⊥
-LacksRoom g (OfBooking key number) old fault = ⊥
-LacksRoom g (OfCosts key) old fault = ⊥
-LacksRoom g (OfOpen member moment) old fault = ⊥
+-- the query for a day returned its rows, and there was no memory for their bookings
+abbrev pub LacksMemory : {S : Type 0} → Ghosts S → Reading → Held S → StoreFault → Type 0
+LacksMemory g (OfDay day) old fault = (fault ≡ Memory) × (rows : List Row) × Asked g DAY.now (whole day ∷ []) old rows
+LacksMemory g (OfKey name) old fault = ⊥
+LacksMemory g (OfOlderRoot key) old fault = ⊥
+LacksMemory g (OfMember name) old fault = ⊥
+LacksMemory g (OfFacility name) old fault = ⊥
+LacksMemory g (OfSlot slot) old fault = ⊥
+LacksMemory g (OfBooking key number) old fault = ⊥
+LacksMemory g (OfCosts key) old fault = ⊥
+LacksMemory g (OfOpen member moment) old fault = ⊥
 
 abbrev pub FailsAtReading : {S : Type 0} → Ghosts S → Reading → Held S → Held S → StoreFault → Type 0
-FailsAtReading g reading old new fault = FailsToRead g (words_for reading) (CanRead reading) old new fault ⊎ LacksRoom g reading old fault
+FailsAtReading g reading old new fault = FailsToRead g (reading_statement reading) (CanRead reading) old new fault ⊎ LacksMemory g reading old fault
 
--- a connection after readings: one that was at rest is as it was
+-- a connection after reads: one that was idle is unchanged
 pub record IsAfterReadings {S : Type 0} (g : Ghosts S) (old new : Held S) : Type 0 where
   pub same : IsUntouched (state g old) (state g new)
   pub clean : HasCleanDisk (state g new)
-  pub counted : (state g old).faults ≤ (state g new).faults
+  pub fault_count : (state g old).faults ≤ (state g new).faults
 
--- a fault of readings: one of them failed, after others
+-- a fault of reads: one of them failed, after others
 pub record IsReadFault {S : Type 0} (g : Ghosts S) (old new : Held S) (fault : StoreFault) : Type 0 where
   pub from : Held S
   pub after : IsAfterReadings g old from

@@ -35,7 +35,7 @@ facility_values facility =
 abbrev pub key_values : Key → Row
 key_values key = Text key.name ∷ Text key.member ∷ Blob key.root ∷ flag key.revoked ∷ []
 
--- the columns that name a slot, and those that tell what is taken of it
+-- the columns that name a slot, and those of its use
 abbrev pub name_values : Slot → Row
 name_values slot = Text slot.facility ∷ whole slot.day ∷ whole slot.hour ∷ []
 
@@ -45,7 +45,7 @@ use_values held = flag held.closed ∷ whole held.taken ∷ []
 abbrev pub slot_values : SlotRow → Row
 slot_values row = name_values row.slot ++ use_values row.held
 
--- what is told of an older root, and its row
+-- the columns of an older root that are read, and its whole row
 abbrev pub older_root_values : OlderRoot → Row
 older_root_values older = Blob older.root ∷ whole older.until ∷ []
 
@@ -57,7 +57,7 @@ booking_values booking =
     Text booking.key ∷ whole booking.number ∷ Text booking.slot.facility ∷ whole booking.slot.day ∷ whole booking.slot.hour
     ∷ whole booking.guests ∷ whole booking.charge ∷ whole booking.left ∷ flag booking.cancelled ∷ whole booking.refund ∷ []
 
--- the row has these values, from a place on
+-- the row has these values, from an index on
 abbrev pub HasFrom : ℕ → Row → Row → Type 0
 HasFrom at row [] = ⊤
 HasFrom at row (value ∷ values) = (column row at ≡ value) × HasFrom (at + 1) row values
@@ -82,7 +82,7 @@ abbrev pub whole_in : Value → ℕ
 whole_in (Int (pos n)) = n
 whole_in _ = 0
 
--- what is asked of the bookings of a key
+-- the columns that are read of a key's bookings
 abbrev pub cost_values : Booking → Row
 cost_values booking = whole booking.charge ∷ whole booking.refund ∷ []
 
@@ -94,8 +94,8 @@ cost_in row = whole_in (column row 0) - whole_in (column row 1)
 pub record IsCostIn (row : Row) (cost : ℕ) : Type 0 where
   pub charge : ℕ
   pub refund : ℕ
-  pub charged : column row 0 ≡ whole charge
-  pub refunded : column row 1 ≡ whole refund
+  pub charge_column : column row 0 ≡ whole charge
+  pub refund_column : column row 1 ≡ whole refund
   pub largest : charge ≤ 499_950
   pub at_most : refund ≤ charge
   pub left : cost + refund ≡ charge

@@ -2,10 +2,12 @@ pub mod Schema
 pub mod Columns
 pub mod Stored
 pub mod Tables
-pub mod Words
-pub mod Told
+pub mod ChangeStatements
+pub mod ReadsAndChanges
 pub mod Answers
 pub mod Statements
 pub mod Opening
 pub mod Sheet
 pub mod Use
+pub mod Transaction
+pub mod Fault

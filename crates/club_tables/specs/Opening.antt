@@ -1,4 +1,4 @@
--- What an opening finds, what it takes for the tables of a club, and what it makes (ours).
+-- What an opening finds, what it accepts as the tables of a club, and what it makes (ours).
 use Rattle.std.specs.Prelude.{◌≡◌, ◌≢◌, ◌⊎◌, ℕ, List, [], ◌∷◌, ◌++◌, map, All, Ok, IsTrue, false, codes}
 use Rattle.sqlite.specs.Order.{Row}
 use Rattle.sqlite.specs.Schema.{Schema}
@@ -15,18 +15,18 @@ use Rattle.club_tables.specs.declared.texts.TheConstants.{MAKE_BOOKINGS_BY_KEY, 
 use Rattle.club_tables.specs.Columns.{HasValues, version_values}
 use Rattle.club_core.specs.declared.store.StoreFault.{StoreFault}
 use Rattle.club_core.specs.declared.store.StoreFault.TheVariants.{Memory, Storage}
-use Rattle.club_transactions.specs.Transaction.{Words, Asked, Ran, IsKept, IsUnderstood}
-use Rattle.club_transactions.specs.Fault.{FailsToAsk, FailsToPrepare, FailsToRun}
+use Rattle.club_tables.specs.Transaction.{BoundStatement, Asked, Ran, IsKept, IsUnderstood}
+use Rattle.club_tables.specs.Fault.{FailsToAsk, FailsToPrepare, FailsToRun}
 use Rattle.club_tables.specs.Answers.{IsAfterReadings}
 
--- the statements that give a row by its key, over tables of version 1 and of version 2
+-- the statements that read a row by its key, over tables of version 1 and of version 2
 abbrev pub first_texts : List (List ℕ)
 first_texts = KEY.now ∷ MEMBER.now ∷ FACILITY.now ∷ SLOT.now ∷ BOOKING.now ∷ []
 
 abbrev pub texts_by_key : List (List ℕ)
 texts_by_key = KEY.now ∷ MEMBER.now ∷ FACILITY.now ∷ SLOT.now ∷ BOOKING.now ∷ OLDER_ROOT.now ∷ []
 
--- a statement only where there is an index of the bookings' name; it is never run
+-- a statement only if the bookings' index exists; it is prepared, and never run
 abbrev pub index_text : List ℕ
 index_text = DROP_BOOKINGS_BY_KEY.now
 
@@ -44,56 +44,56 @@ abbrev pub migration_texts : List (List ℕ)
 migration_texts = MAKE_OLD_ROOTS.now ∷ MAKE_BOOKINGS_BY_KEY.now ∷ SET_VERSION.now ∷ []
 
 -- texts without parameters
-abbrev pub batch : List (List ℕ) → List Words
+abbrev pub batch : List (List ℕ) → List BoundStatement
 batch texts = map (λ (text : List ℕ). (text, [])) texts
 
-abbrev pub table_batch : List Words
+abbrev pub table_batch : List BoundStatement
 table_batch = batch table_texts
 
-abbrev pub migration : List Words
+abbrev pub migration : List BoundStatement
 migration = batch migration_texts
 
-abbrev pub index_batch : List Words
+abbrev pub index_batch : List BoundStatement
 index_batch = batch (MAKE_BOOKINGS_BY_KEY.now ∷ [])
 
--- what an opening may run: the batch that makes the tables, the migration, or the one that makes the index
-abbrev pub IsOpeningBatch : List Words → Type 0
-IsOpeningBatch words = (words ≡ table_batch) ⊎ ((words ≡ migration) ⊎ (words ≡ index_batch))
+-- a batch that an opening may run: it makes the tables, migrates them, or makes the index
+abbrev pub IsOpeningBatch : List BoundStatement → Type 0
+IsOpeningBatch statements = (statements ≡ table_batch) ⊎ ((statements ≡ migration) ⊎ (statements ≡ index_batch))
 
--- nothing is called `desk`, in capitals or not, and so no version can be asked for
+-- nothing is called `desk`, in upper or lower case, so no version can be read
 pub record HasNoDesk (schema : Schema) : Type 0 where
-  pub unused : is_used schema (codes "desk") ≡ false
-  pub unasked : ¬ IsUnderstood schema VERSION.now
+  pub no_desk_name : is_used schema (codes "desk") ≡ false
+  pub no_version_query : ¬ IsUnderstood schema VERSION.now
 
--- the text is a query that has these rows for its answer
-abbrev pub IsAnswered : List ℕ → Database → List Row → Type 0
-IsAnswered sql db rows = (c : Compiled) × (understood db.schema sql ≡ Ok c) × Reads c.command db [] rows
+-- the text is a query that returns these rows
+abbrev pub YieldsRows : List ℕ → Database → List Row → Type 0
+YieldsRows sql db rows = (c : Compiled) × (understood db.schema sql ≡ Ok c) × Reads c.command db [] rows
 
--- tables of a version: that is told in one row, and each row can be asked for by its key
+-- tables of a version: one row holds the version, and each row can be read by its key
 pub record IsReady (version : ℕ) (texts : List (List ℕ)) (db : Database) : Type 0 where
-  pub told : (row : Row) × IsAnswered VERSION.now db (row ∷ []) × HasValues row (version_values version)
+  pub returned : (row : Row) × YieldsRows VERSION.now db (row ∷ []) × HasValues row (version_values version)
   pub by_key : All (IsUnderstood db.schema) texts
 
--- tables of a version were there, and are as they were
+-- tables of a version were there, and are unchanged
 pub record FoundReady (version : ℕ) (texts : List (List ℕ)) (old new : State) : Type 0 where
   pub ready : IsReady version texts new.committed
   pub same : new.committed ≡ old.committed
 
--- tables of a version were there, and this whole batch was run over them
-pub record Upgrade (version : ℕ) (texts : List (List ℕ)) (words : List Words) {S : Type 0} (g : Ghosts S) (old new : Held S) : Type 0 where
+-- tables of a version were there, and this whole batch ran over them
+pub record Upgrade (version : ℕ) (texts : List (List ℕ)) (statements : List BoundStatement) {S : Type 0} (g : Ghosts S) (old new : Held S) : Type 0 where
   pub from : Held S
   pub found : FoundReady version texts (state g old) (state g from)
   pub same : (state g from).now ≡ (state g old).committed
-  pub ran : Ran g words from (state g new).committed
+  pub ran : Ran g statements from (state g new).committed
 
--- what was there was understood, and this whole batch was run over it
-abbrev pub HasRunOver : List (List ℕ) → List Words → {S : Type 0} → Ghosts S → Held S → Held S → Type 0
-HasRunOver texts words {S} g old new =
+-- each text was a statement over the tables, and this whole batch ran over them
+abbrev pub HasRunOver : List (List ℕ) → List BoundStatement → {S : Type 0} → Ghosts S → Held S → Held S → Type 0
+HasRunOver texts statements {S} g old new =
     (from : Held S) × IsTrue (state g old).is_open × (All (IsUnderstood (state g old).committed.schema) texts)
     × ((state g from).committed ≡ (state g old).committed)
-    × ((state g from).now ≡ (state g old).committed) × Ran g words from (state g new).committed
+    × ((state g from).now ≡ (state g old).committed) × Ran g statements from (state g new).committed
 
--- tables of version 1 were there, and the whole migration was run over them
+-- tables of version 1 were there, and the whole migration ran over them
 abbrev pub Migrated : {S : Type 0} → Ghosts S → Held S → Held S → Type 0
 Migrated g old new = Upgrade 1 first_texts migration g old new
 
@@ -104,50 +104,50 @@ HasMigrated g old new = HasRunOver first_texts migration g old new
 abbrev pub AddsIndex : {S : Type 0} → Ghosts S → Held S → Held S → Type 0
 AddsIndex g old new = Upgrade 2 texts_by_key index_batch g old new
 
--- the index could be named, and nothing was changed; or it was made after a reading
+-- the index was there, and nothing was changed; or it was made after a reading
 abbrev pub HasOrGetsIndex : {S : Type 0} → Ghosts S → Held S → Held S → Type 0
 HasOrGetsIndex {S} g old new =
     (IsUnderstood (state g old).now.schema index_text × IsKept (state g old) (state g new))
     ⊎ ((from : Held S) × HasCleanDisk (state g from) × IsKept (state g old) (state g from) × Ran g index_batch from (state g new).committed)
 
--- what was there was understood with the index, and is as it was; or it was understood, and the index was made
+-- each text, and that of the index, was a statement, and nothing was changed; or each text was one, and the index was made
 abbrev pub EnsuresIndex : {S : Type 0} → Ghosts S → Held S → Held S → Type 0
 EnsuresIndex g old new =
     (IsKept (state g old) (state g new) × All (IsUnderstood (state g new).committed.schema) indexed_texts) ⊎ HasRunOver texts_by_key index_batch g old new
 
--- there was no version, and the whole batch was run over what was there
+-- no version could be read, and the whole batch ran over what was there
 pub record MadeAll {S : Type 0} (g : Ghosts S) (old new : Held S) : Type 0 where
   pub from : Held S
   pub same : (state g from).now ≡ (state g old).committed
-  pub unversioned : HasNoDesk (state g old).committed.schema
+  pub no_desk_table : HasNoDesk (state g old).committed.schema
   pub ran : Ran g table_batch from (state g new).committed
 
--- what an opening takes: tables of version 2 that were there with the index of the bookings, those without it once it is made, those of version 1
--- once they are migrated, or those that the whole batch made where there was no version
-abbrev pub IsAccepted : {S : Type 0} → Ghosts S → Held S → Held S → Type 0
-IsAccepted g old new =
+-- what an opening accepts: tables of version 2 with the index of the bookings; without it, once the index is made; tables of version 1, once they
+-- are migrated; or no version, once the whole batch has made the tables
+abbrev pub AcceptsTables : {S : Type 0} → Ghosts S → Held S → Held S → Type 0
+AcceptsTables g old new =
     FoundReady 2 indexed_texts (state g old) (state g new) ⊎ (AddsIndex g old new ⊎ (Migrated g old new ⊎ MadeAll g old new))
 
 abbrev pub version_text : List ℕ
 version_text = VERSION.now
 
--- this holds of one of the texts
+-- the property holds of one of the texts
 abbrev pub OneOf : (List ℕ → Type 0) → List (List ℕ) → Type 0
 OneOf P [] = ⊥
 OneOf P (text ∷ texts) = P text ⊎ OneOf P texts
 
--- one of the texts was no statement over these tables, or couldn't be tried
+-- one of the texts wasn't a statement over these tables, or couldn't be prepared
 pub record FailsToPrepareOne {S : Type 0} (g : Ghosts S) (texts : List (List ℕ)) (old new : Held S) (fault : StoreFault) : Type 0 where
   pub from : Held S
   pub after : IsAfterReadings g old from
   pub failed : OneOf (λ text. FailsToPrepare g text from new fault) texts
 
--- why tables aren't taken: there is no memory to read their version, or to look for the index; the batch that makes them, migrates them or makes the
--- index is refused; a row can't be asked for by its key; the version is another one
+-- why an opening fails: out of memory while it reads the version or looks for the index; the batch that makes the tables, migrates them or makes the
+-- index is refused; a row can't be read by its key; the version is another one
 abbrev pub FailsToTake : {S : Type 0} → Ghosts S → Held S → Held S → StoreFault → Type 0
 FailsToTake g old new fault =
     ((fault ≡ Memory) × (FailsToAsk g (version_text, []) old new fault ⊎ FailsToPrepare g index_text old new fault))
-    ⊎ (((words : List Words) × IsOpeningBatch words × FailsToRun g words old new fault)
+    ⊎ (((statements : List BoundStatement) × IsOpeningBatch statements × FailsToRun g statements old new fault)
     ⊎ (OneOf (λ text. FailsToPrepare g text old new fault) texts_by_key
     ⊎ ((fault ≡ Storage) × (rows : List Row) × Asked g version_text [] old rows × (rows ≢ version_values 2 ∷ []) × (rows ≢ version_values 1 ∷ []))))
 

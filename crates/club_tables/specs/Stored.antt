@@ -1,4 +1,4 @@
--- Rows as they are stored, with their totals, and which of them are those of a club (ours).
+-- Rows as they are stored, with their totals, and when they are the rows of a club (ours).
 use Rattle.std.specs.Prelude.{◌≡◌, ◌≢◌, ◌≤◌, ℕ, false, List, map, find, sum_by, Option, option_map, option_and_then, None, if◌then◌else◌, unwrap_or, AllPairs}
 use Rattle.std.specs.Str.{bytes_eq}
 use Rattle.club_values.specs.declared.slot.Slot.{Slot}
@@ -15,7 +15,7 @@ use Rattle.club_core.specs.Basis.{slot_use}
 use Rattle.club_core.specs.Sums.{cost_of}
 use Rattle.club_tables.specs.declared.row.MemberRow.{MemberRow}
 
--- a row of `slots`: a slot that was closed or booked, and what is taken of it
+-- a row of `slots`: a slot that was closed or booked, and its use
 pub record SlotRow : Type 0 where
   pub slot : Slot
   pub held : SlotUse
@@ -45,15 +45,15 @@ pub record IsMemberRow (row : MemberRow) : Type 0 where
   pub member : IsMember row.member
   pub used : row.used ≤ 999_999_999
 
-abbrev pub unused : SlotUse
-unused = record { taken = 0; closed = false }
+abbrev pub no_slot_use : SlotUse
+no_slot_use = record { taken = 0; closed = false }
 
 abbrev pub row_of : Slot → List SlotRow → Option SlotRow
 row_of slot rows = find (λ (row : SlotRow). same_slot row.slot slot) rows
 
--- what is taken of a slot by these rows: nothing of one without a row
-abbrev pub use_by : Slot → List SlotRow → SlotUse
-use_by slot rows = unwrap_or (option_map (λ (row : SlotRow). row.held) (row_of slot rows)) unused
+-- the use of a slot by these rows: none without a row
+abbrev pub stored_slot_use : Slot → List SlotRow → SlotUse
+stored_slot_use slot rows = unwrap_or (option_map (λ (row : SlotRow). row.held) (row_of slot rows)) no_slot_use
 
 -- the older root of the key of this name, where it was rotated
 abbrev pub older_of : List ℕ → Club → Option OlderRoot
@@ -67,13 +67,13 @@ older_by name rows = option_map (λ (row : OlderRow). row.older) (find (λ (row 
 abbrev pub fresh : Key → Key
 fresh key = record key { older = None }
 
--- the rows are those of the club, and each total is the sum that it stands for; in which order slots and older roots lie isn't told
+-- the rows are those of the club, and each stored total equals its sum; the order of slots and of older roots is left open
 pub record IsStoredAs (club : Club) (rows : Rows) : Type 0 where
   pub members : rows.members ≡ map (member_row club) club.members
   pub facilities : rows.facilities ≡ club.facilities
   pub keys : rows.keys ≡ club.keys
   pub bookings : rows.bookings ≡ club.bookings
-  pub slots : (slot : Slot) → use_by slot rows.slots ≡ slot_use club slot
+  pub slots : (slot : Slot) → stored_slot_use slot rows.slots ≡ slot_use club slot
   pub olders : (name : List ℕ) → older_by name rows.olders ≡ older_of name club
   pub rotated : AllPairs (λ (a : OlderRow) (b : OlderRow). a.key ≢ b.key) rows.olders
   pub once : AllPairs (λ (a : SlotRow) (b : SlotRow). a.slot ≢ b.slot) rows.slots

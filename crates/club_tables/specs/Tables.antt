@@ -1,4 +1,4 @@
--- When a database holds a club, and which clubs a store stands for (ours).
+-- When a database holds a club, and which club a connection represents (ours).
 use Rattle.std.specs.Prelude.{◌≡◌, ◌⊎◌, ℕ, ℤ, List, [], ◌∷◌, IsTrue}
 use Rattle.std.specs.List.{AllZip}
 use Rattle.sqlite_value.specs.declared.value.Value.TheVariants.{Int}
@@ -34,17 +34,17 @@ bookings_tree = 9
 abbrev pub olders_tree : ℕ
 olders_tree = 12
 
--- the row is a rowid and these values
+-- the row is a rowid followed by these values
 abbrev pub IsRowOf : Row → Row → Type 0
 IsRowOf values row = (id : ℤ) × (row ≡ Int id ∷ values)
 
--- the rows are those of the list, in its order, with rowids that rise
+-- the rows are those of the list, in its order, with ascending rowids
 pub record Holds {X : Type 0} (values : X → Row) (rows : List Row) (xs : List X) : Type 0 where
   pub rising : IsTable rows
   pub same : AllZip (λ row x. IsRowOf (values x) row) rows xs
 
 -- tables of version 2, with these indexes, hold these rows and no others
-pub record LiesWith (tables : Schema) (db : Database) (rows : Rows) : Type 0 where
+pub record HoldsRowsWith (tables : Schema) (db : Database) (rows : Rows) : Type 0 where
   pub schema : db.schema ≡ tables
   pub version : Holds version_values (db.trees desk_tree) (2 ∷ [])
   pub members : Holds member_values (db.trees members_tree) rows.members
@@ -53,29 +53,29 @@ pub record LiesWith (tables : Schema) (db : Database) (rows : Rows) : Type 0 whe
   pub slots : Holds slot_values (db.trees slots_tree) rows.slots
   pub bookings : Holds booking_values (db.trees bookings_tree) rows.bookings
   pub olders : Holds older_values (db.trees olders_tree) rows.olders
-  -- the trees list this schema, and obey it
+  -- the catalog lists this schema, and the rows obey it
   pub database : IsDatabase db
 
 -- the tables of version 2 hold these rows and no others
-abbrev pub Lies : Database → Rows → Type 0
-Lies = LiesWith club_schema
+abbrev pub HoldsRows : Database → Rows → Type 0
+HoldsRows = HoldsRowsWith club_schema
 
 -- the tables hold the rows of the club, which is sound, and no others
-pub record Tables (db : Database) (club : Club) : Type 0 where
+pub record HoldsClub (db : Database) (club : Club) : Type 0 where
   pub rows : Rows
-  pub lies : Lies db rows
+  pub holds_rows : HoldsRows db rows
   pub stored : IsStoredAs club rows
   pub sound : IsSound club
 
 -- the same of tables of version 2 without the index of the bookings
-pub record UnindexedTables (db : Database) (club : Club) : Type 0 where
+pub record HoldsClubUnindexed (db : Database) (club : Club) : Type 0 where
   pub rows : Rows
-  pub lies : LiesWith unindexed_schema db rows
+  pub holds_rows : HoldsRowsWith unindexed_schema db rows
   pub stored : IsStoredAs club rows
   pub sound : IsSound club
 
 -- the tables of version 1 hold these rows and no others: they have none for older roots
-pub record FirstLies (db : Database) (rows : Rows) : Type 0 where
+pub record HoldsRowsVersion1 (db : Database) (rows : Rows) : Type 0 where
   pub schema : db.schema ≡ first_schema
   pub version : Holds version_values (db.trees desk_tree) (1 ∷ [])
   pub members : Holds member_values (db.trees members_tree) rows.members
@@ -86,48 +86,48 @@ pub record FirstLies (db : Database) (rows : Rows) : Type 0 where
   pub olders : rows.olders ≡ []
   pub database : IsDatabase db
 
-pub record FirstTables (db : Database) (club : Club) : Type 0 where
+pub record HoldsClubVersion1 (db : Database) (club : Club) : Type 0 where
   pub rows : Rows
-  pub lies : FirstLies db rows
+  pub holds_rows : HoldsRowsVersion1 db rows
   pub stored : IsStoredAs club rows
   pub sound : IsSound club
 
--- a database without tables stands for the empty club
+-- a database without tables holds the empty club
 abbrev pub IsBlank : Database → Club → Type 0
 IsBlank db club = (db.schema ≡ no_schema) × (club ≡ empty_club) × IsDatabase db
 
 -- tables of version 2, with the index of the bookings or without it
-abbrev pub SecondTables : Database → Club → Type 0
-SecondTables db club = Tables db club ⊎ UnindexedTables db club
+abbrev pub HoldsClubVersion2 : Database → Club → Type 0
+HoldsClubVersion2 db club = HoldsClub db club ⊎ HoldsClubUnindexed db club
 
 -- tables of version 2, tables of version 1, or none
-abbrev pub HoldsClub : Database → Club → Type 0
-HoldsClub db club = SecondTables db club ⊎ (FirstTables db club ⊎ IsBlank db club)
+abbrev pub HoldsClubAnyVersion : Database → Club → Type 0
+HoldsClubAnyVersion db club = HoldsClubVersion2 db club ⊎ (HoldsClubVersion1 db club ⊎ IsBlank db club)
 
--- a crash left a database of one of these clubs
+-- the trees are those of a database that holds one of these clubs
 abbrev pub IsLeftOf : Trees → List Club → Type 0
 IsLeftOf trees [] = ⊥
-IsLeftOf trees (club ∷ others) = ((db : Database) × (db.trees ≡ trees) × HoldsClub db club) ⊎ IsLeftOf trees others
+IsLeftOf trees (club ∷ others) = ((db : Database) × (db.trees ≡ trees) × HoldsClubAnyVersion db club) ⊎ IsLeftOf trees others
 
--- A connection at rest: what was committed holds the club, nothing else is on its way, and a crash leaves the club or one of the others.
--- It says nothing of a connection that is shut, or whose disk has lied.
-pub record Rests (IsHeld : Database → Club → Type 0) (state : State) (club : Club) (others : List Club) : Type 0 where
+-- An idle connection represents a club: the committed state holds it, no write is pending, and a crash recovers to it or to one of the others.
+-- Nothing is claimed of a closed connection, or after the disk has returned other bytes than were written.
+pub record RepresentsBy (IsHeld : Database → Club → Type 0) (state : State) (club : Club) (others : List Club) : Type 0 where
   pub held : HasCleanDisk state → IsTrue state.is_open → IsHeld state.committed club
   pub settled : HasCleanDisk state → IsTrue state.is_open → state.now ≡ state.committed
   pub left : HasCleanDisk state → (trees : Trees) → state.may_leave trees → IsLeftOf trees (club ∷ others)
 
--- the tables stand
-abbrev pub Stands : State → Club → List Club → Type 0
-Stands = Rests Tables
+-- the tables, of version 2 with the index of the bookings, represent the club
+abbrev pub Represents : State → Club → List Club → Type 0
+Represents = RepresentsBy HoldsClub
 
--- the tables of version 1 stand
-abbrev pub FirstStands : State → Club → List Club → Type 0
-FirstStands = Rests FirstTables
+-- the tables of version 1 represent it
+abbrev pub RepresentsVersion1 : State → Club → List Club → Type 0
+RepresentsVersion1 = RepresentsBy HoldsClubVersion1
 
--- tables of version 2 stand, with the index of the bookings or without it
-abbrev pub SecondStands : State → Club → List Club → Type 0
-SecondStands = Rests SecondTables
+-- tables of version 2 represent it, with the index of the bookings or without
+abbrev pub RepresentsVersion2 : State → Club → List Club → Type 0
+RepresentsVersion2 = RepresentsBy HoldsClubVersion2
 
--- the tables stand, or are still to be indexed, migrated or made
+-- the tables represent it, or are still to be indexed, migrated or made
 abbrev pub IsFound : State → Club → List Club → Type 0
-IsFound = Rests HoldsClub
+IsFound = RepresentsBy HoldsClubAnyVersion

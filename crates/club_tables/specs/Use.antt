@@ -1,13 +1,13 @@
--- What is taken of a slot, as rows (ours).
+-- The use of a slot, as rows (ours).
 use Rattle.std.specs.Prelude.{◌≡◌, ◌⊎◌, List, [], ◌∷◌}
 use Rattle.sqlite_value.specs.Order.{Row}
 use Rattle.club_values.specs.declared.slot.Slot.{Slot}
 use Rattle.club_core.specs.Club.{Club}
 use Rattle.club_core.specs.Basis.{slot_use}
 use Rattle.club_tables.specs.Columns.{use_values}
-use Rattle.club_tables.specs.Stored.{unused}
+use Rattle.club_tables.specs.Stored.{no_slot_use}
 
--- one row tells what is taken of the slot, or none does where nothing is
+-- one row holds the slot's use, or there is no row and no use
 abbrev pub ShowsUse : Club → Slot → List Row → Type 0
 ShowsUse club slot rows =
-    (rows ≡ use_values (slot_use club slot) ∷ []) ⊎ ((rows ≡ []) × (slot_use club slot ≡ unused))
+    (rows ≡ use_values (slot_use club slot) ∷ []) ⊎ ((rows ≡ []) × (slot_use club slot ≡ no_slot_use))

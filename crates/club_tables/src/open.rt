@@ -1,5 +1,5 @@
-//! The tables of a database: found, completed where they are of version 1 or lack the index of the
-//! bookings, or made where there are none.
+//! Opens the tables of a database: migrates version 1, adds a missing index of the bookings, and
+//! makes all tables if there are none.
 
 ghost use Rattle.std.specs.Prelude.{
   ◌≡◌,
@@ -18,23 +18,23 @@ ghost use Rattle.std.specs.Prelude.{
 ghost use Rattle.sqlite.specs.State.{HasCleanDisk, Survives};
 ghost use Rattle.sqlite.specs.Held.{state};
 ghost use Rattle.club_core.specs.Club.{Club};
-ghost use Rattle.club_core.specs.Store.{KeepsStanding};
-ghost use Rattle.club_tables.specs.Told.{first_in, second_in, found_in};
+ghost use Rattle.club_core.specs.Store.{KeepsClub};
+ghost use Rattle.club_tables.specs.ReadsAndChanges.{version_1_in, version_2_in, found_in};
 ghost use Rattle.club_tables.specs.Columns.{version_values, HasValues};
-ghost use Rattle.club_tables.specs.Tables.{IsFound, Stands, FirstStands, SecondStands};
-ghost use Rattle.club_transactions.specs.Transaction.{
+ghost use Rattle.club_tables.specs.Tables.{IsFound, Represents, RepresentsVersion1, RepresentsVersion2};
+ghost use Rattle.club_tables.specs.Transaction.{
   Asked,
-  IsAtRest,
+  IsIdle,
   IsKept,
   IsUnderstood,
   MayCommit,
   Ran,
 };
-ghost use Rattle.club_transactions.specs.Fault.{FailsToAsk, FailsToRun};
+ghost use Rattle.club_tables.specs.Fault.{FailsToAsk, FailsToRun};
 ghost use Rattle.club_tables.specs.Opening.{
   FailsToPrepareOne,
-  IsAccepted,
-  IsAnswered,
+  AcceptsTables,
+  YieldsRows,
   IsOpeningFault,
   HasMigrated,
   EnsuresIndex,
@@ -48,54 +48,55 @@ ghost use Rattle.club_tables.specs.Opening.{
 
 use crate::row::integer_at;
 use crate::texts;
+use crate::transaction::{Statement, ask, prepare, run};
 use club_core::StoreFault;
-use club_transactions::{Statement, ask, prepare, run};
 use sqlite::{Alter, Connection, Row};
 
-/// The version of the tables that are made here.
+/// The current version of the tables.
 const VERSION: u8 = 2;
 
-/// The version without older roots.
+/// The version that has no older roots.
 const FIRST_VERSION: u8 = 1;
 
-/// The version of the tables. Where it is read, tables of that version stand.
+/// Reads the version of the tables. If it is read, tables of that version represent the club.
 fn version<S: Alter>(conn: &mut Connection<S>) -> Result<Vec<Row>, StoreFault>
     requires { conn.old.in_transaction ≡ false }
     ensures idle { conn.new.in_transaction ≡ false }
     ensures answered { HasCleanDisk (state S.Store conn.new) → IfOk result
-        (λ rows. IsAnswered version_text (state S.Store conn.old).now rows.items) }
+        (λ rows. YieldsRows version_text (state S.Store conn.old).now rows.items) }
     ensures asked { HasCleanDisk (state S.Store conn.new) → IfOk result
         (λ rows. Asked S.Store version_text [] conn.old rows.items) }
     ensures fault { HasCleanDisk (state S.Store conn.new) → IfErr result
         (FailsToAsk S.Store (version_text, []) conn.old conn.new) }
     ensures same { IsKept (state S.Store conn.old) (state S.Store conn.new) }
-    ensures told { HasCleanDisk (state S.Store conn.new) → IfOk result
+    ensures returned { HasCleanDisk (state S.Store conn.new) → IfOk result
         (λ rows. (club : Club) (others : _) → IsFound (state S.Store conn.old) club others →
-        (SecondStands (state S.Store conn.new) club others ×
+        (RepresentsVersion2 (state S.Store conn.new) club others ×
         (rows.items ≡ version_values 2 ∷ [])) ⊎
-        (FirstStands (state S.Store conn.new) club others × (rows.items ≡ version_values 1 ∷ []))) }
-    ensures kept { HasCleanDisk (state S.Store conn.new) → KeepsStanding
+        (RepresentsVersion1 (state S.Store conn.new) club others
+        × (rows.items ≡ version_values 1 ∷ []))) }
+    ensures kept { HasCleanDisk (state S.Store conn.new) → KeepsClub
         (found_in S.Store) conn.old conn.new }
     ensures survives { Survives (state S.Store conn.old) (state S.Store conn.new) (λ _. ⊥) }
 {
     ask(conn, texts::VERSION, &[])
 }
 
-/// Makes the tables of an empty club, in one transaction. Where there are other tables of these
-/// names it is refused.
+/// Makes the tables of an empty club, in one transaction. Fails if there are tables of these names.
 fn make_tables<S: Alter>(conn: &mut Connection<S>) -> Result<(), StoreFault>
     requires { conn.old.in_transaction ≡ false }
     ensures idle { conn.new.in_transaction ≡ false }
-    ensures honest { HasCleanDisk (state S.Store conn.new) → HasCleanDisk (state S.Store conn.old) }
+    ensures was_clean { HasCleanDisk (state S.Store conn.new)
+        → HasCleanDisk (state S.Store conn.old) }
     ensures made { HasCleanDisk (state S.Store conn.new) → OnOk result
-        ((club : Club) (others : _) → IsFound (state S.Store conn.old) club others → Stands
+        ((club : Club) (others : _) → IsFound (state S.Store conn.old) club others → Represents
         (state S.Store conn.new) club others) }
     ensures ran { HasCleanDisk (state S.Store conn.new) → OnOk result
         (Ran S.Store table_batch conn.old (state S.Store conn.new).committed) }
     ensures fault { HasCleanDisk (state S.Store conn.new) → IfErr result
         (FailsToRun S.Store table_batch conn.old conn.new) }
     ensures refused { HasCleanDisk (state S.Store conn.new) → OnErr result
-        (KeepsStanding (found_in S.Store) conn.old conn.new) }
+        (KeepsClub (found_in S.Store) conn.old conn.new) }
     ensures untouched { OnErr result (IsKept (state S.Store conn.old) (state S.Store conn.new)) }
     ensures survives { Survives (state S.Store conn.old) (state S.Store conn.new)
         (MayCommit S.Store IsOpeningBatch conn.old) }
@@ -147,7 +148,7 @@ fn make_tables<S: Alter>(conn: &mut Connection<S>) -> Result<(), StoreFault>
     )
 }
 
-/// Whether the rows tell this version.
+/// Whether the rows hold this version, and nothing else.
 fn is_version(rows: &[Row], version: u8) -> bool
     ensures one { rows.now ≡ version_values version ∷ [] → IsTrue result }
     ensures only { IsTrue result → (row : _) × (rows.now ≡ row ∷ []) × HasValues row
@@ -159,14 +160,15 @@ fn is_version(rows: &[Row], version: u8) -> bool
     }
 }
 
-/// Whether the texts are statements over the tables. Nothing is changed.
+/// Prepares each text, so that it fails unless all are statements over the tables. Nothing is
+/// changed.
 fn prepare_all<S: Alter>(conn: &mut Connection<S>, texts: &[&str]) -> Result<(), StoreFault>
     requires { conn.old.in_transaction ≡ false }
     ensures idle { conn.new.in_transaction ≡ false }
-    ensures same { IsAtRest (state S.Store conn.old) → IsKept (state S.Store conn.old)
+    ensures same { IsIdle (state S.Store conn.old) → IsKept (state S.Store conn.old)
         (state S.Store conn.new) }
     ensures understood { HasCleanDisk (state S.Store conn.new) → OnOk result
-        (IsTrue (state S.Store conn.new).is_open → IsAtRest (state S.Store conn.old) → All
+        (IsTrue (state S.Store conn.new).is_open → IsIdle (state S.Store conn.old) → All
         (IsUnderstood (state S.Store conn.new).committed.schema)
         (map (λ text. text.now) texts.now)) }
     ensures fault { HasCleanDisk (state S.Store conn.new) → IfErr result
@@ -182,21 +184,23 @@ fn prepare_all<S: Alter>(conn: &mut Connection<S>, texts: &[&str]) -> Result<(),
     Ok(())
 }
 
-/// Makes tables of version 1 those of version 2, in one transaction: no key has an older root yet,
-/// and the bookings get their index.
+/// Turns tables of version 1 into version 2, in one transaction: adds the table of older roots,
+/// which is empty, and the index of the bookings.
 fn add_old_roots<S: Alter>(conn: &mut Connection<S>) -> Result<(), StoreFault>
     requires { conn.old.in_transaction ≡ false }
     ensures idle { conn.new.in_transaction ≡ false }
-    ensures honest { HasCleanDisk (state S.Store conn.new) → HasCleanDisk (state S.Store conn.old) }
+    ensures was_clean { HasCleanDisk (state S.Store conn.new)
+        → HasCleanDisk (state S.Store conn.old) }
     ensures migrated { HasCleanDisk (state S.Store conn.new) → OnOk result
-        ((club : Club) (others : _) → FirstStands (state S.Store conn.old) club others → Stands
+        ((club : Club) (others : _) → RepresentsVersion1 (state S.Store conn.old) club others
+        → Represents
         (state S.Store conn.new) club others) }
     ensures ran { HasCleanDisk (state S.Store conn.new) → OnOk result
         (Ran S.Store migration conn.old (state S.Store conn.new).committed) }
     ensures fault { HasCleanDisk (state S.Store conn.new) → IfErr result
         (FailsToRun S.Store migration conn.old conn.new) }
     ensures refused { HasCleanDisk (state S.Store conn.new) → OnErr result
-        (KeepsStanding (first_in S.Store) conn.old conn.new) }
+        (KeepsClub (version_1_in S.Store) conn.old conn.new) }
     ensures untouched { OnErr result (IsKept (state S.Store conn.old) (state S.Store conn.new)) }
     ensures survives { Survives (state S.Store conn.old) (state S.Store conn.new)
         (MayCommit S.Store IsOpeningBatch conn.old) }
@@ -220,21 +224,22 @@ fn add_old_roots<S: Alter>(conn: &mut Connection<S>) -> Result<(), StoreFault>
     )
 }
 
-/// Migrates tables of version 1, once each of their rows can be asked for by its key. A refusal
-/// leaves them whole, and a crash leaves them or those of version 2.
+/// Migrates tables of version 1, after checking that each of their rows can be read by its key. If
+/// it fails, they are unchanged; after a crash they are of version 1 or of version 2.
 fn migrate<S: Alter>(conn: &mut Connection<S>) -> Result<(), StoreFault>
     requires { conn.old.in_transaction ≡ false }
     ensures idle { conn.new.in_transaction ≡ false }
-    ensures honest { HasCleanDisk (state S.Store conn.new) → HasCleanDisk (state S.Store conn.old) }
+    ensures was_clean { HasCleanDisk (state S.Store conn.new)
+        → HasCleanDisk (state S.Store conn.old) }
     ensures migrated { HasCleanDisk (state S.Store conn.new) → OnOk result
-        (IsAtRest (state S.Store conn.old) → (club : Club) (others : _) → FirstStands
-        (state S.Store conn.old) club others → Stands (state S.Store conn.new) club others) }
+        (IsIdle (state S.Store conn.old) → (club : Club) (others : _) → RepresentsVersion1
+        (state S.Store conn.old) club others → Represents (state S.Store conn.new) club others) }
     ensures ran { HasCleanDisk (state S.Store conn.new) → OnOk result
-        (IsAtRest (state S.Store conn.old) → HasMigrated S.Store conn.old conn.new) }
+        (IsIdle (state S.Store conn.old) → HasMigrated S.Store conn.old conn.new) }
     ensures refused { HasCleanDisk (state S.Store conn.new) → OnErr result
-        (IsAtRest (state S.Store conn.old) → KeepsStanding (first_in S.Store) conn.old conn.new) }
+        (IsIdle (state S.Store conn.old) → KeepsClub (version_1_in S.Store) conn.old conn.new) }
     ensures untouched { OnErr result
-        (IsAtRest (state S.Store conn.old) → IsKept (state S.Store conn.old)
+        (IsIdle (state S.Store conn.old) → IsKept (state S.Store conn.old)
         (state S.Store conn.new)) }
     ensures fault { HasCleanDisk (state S.Store conn.new) → IfErr result
         (IsOpeningFault S.Store conn.old conn.new) }
@@ -247,21 +252,22 @@ fn migrate<S: Alter>(conn: &mut Connection<S>) -> Result<(), StoreFault>
     }
 }
 
-/// Makes the index of the bookings, in one transaction. Where there is one of this name it is
-/// refused.
+/// Makes the index of the bookings, in one transaction. Fails if there is an index of this name.
 fn add_index<S: Alter>(conn: &mut Connection<S>) -> Result<(), StoreFault>
     requires { conn.old.in_transaction ≡ false }
     ensures idle { conn.new.in_transaction ≡ false }
-    ensures honest { HasCleanDisk (state S.Store conn.new) → HasCleanDisk (state S.Store conn.old) }
+    ensures was_clean { HasCleanDisk (state S.Store conn.new)
+        → HasCleanDisk (state S.Store conn.old) }
     ensures indexed { HasCleanDisk (state S.Store conn.new) → OnOk result
-        ((club : Club) (others : _) → SecondStands (state S.Store conn.old) club others → Stands
+        ((club : Club) (others : _) → RepresentsVersion2 (state S.Store conn.old) club others
+        → Represents
         (state S.Store conn.new) club others) }
     ensures ran { HasCleanDisk (state S.Store conn.new) → OnOk result
         (Ran S.Store index_batch conn.old (state S.Store conn.new).committed) }
     ensures fault { HasCleanDisk (state S.Store conn.new) → IfErr result
         (FailsToRun S.Store index_batch conn.old conn.new) }
     ensures refused { HasCleanDisk (state S.Store conn.new) → OnErr result
-        (KeepsStanding (second_in S.Store) conn.old conn.new) }
+        (KeepsClub (version_2_in S.Store) conn.old conn.new) }
     ensures untouched { OnErr result (IsKept (state S.Store conn.old) (state S.Store conn.new)) }
     ensures survives { Survives (state S.Store conn.old) (state S.Store conn.new)
         (MayCommit S.Store IsOpeningBatch conn.old) }
@@ -275,20 +281,22 @@ fn add_index<S: Alter>(conn: &mut Connection<S>) -> Result<(), StoreFault>
     )
 }
 
-/// Finds the index of the bookings, or makes it where none can be named.
+/// Finds the index of the bookings, or makes it if there is none.
 fn ensure_index<S: Alter>(conn: &mut Connection<S>) -> Result<(), StoreFault>
     requires { conn.old.in_transaction ≡ false }
     ensures idle { conn.new.in_transaction ≡ false }
-    ensures honest { HasCleanDisk (state S.Store conn.new) → HasCleanDisk (state S.Store conn.old) }
+    ensures was_clean { HasCleanDisk (state S.Store conn.new)
+        → HasCleanDisk (state S.Store conn.old) }
     ensures indexed { HasCleanDisk (state S.Store conn.new) → OnOk result
-        ((club : Club) (others : _) → SecondStands (state S.Store conn.old) club others → Stands
+        ((club : Club) (others : _) → RepresentsVersion2 (state S.Store conn.old) club others
+        → Represents
         (state S.Store conn.new) club others) }
     ensures ensured { HasCleanDisk (state S.Store conn.new) → OnOk result
         (HasOrGetsIndex S.Store conn.old conn.new) }
     ensures fault { HasCleanDisk (state S.Store conn.new) → IfErr result
         (IsOpeningFault S.Store conn.old conn.new) }
     ensures refused { HasCleanDisk (state S.Store conn.new) → OnErr result
-        (KeepsStanding (second_in S.Store) conn.old conn.new) }
+        (KeepsClub (version_2_in S.Store) conn.old conn.new) }
     ensures untouched { OnErr result (IsKept (state S.Store conn.old) (state S.Store conn.new)) }
     ensures survives { Survives (state S.Store conn.old) (state S.Store conn.new)
         (MayCommit S.Store IsOpeningBatch conn.old) }
@@ -300,23 +308,24 @@ fn ensure_index<S: Alter>(conn: &mut Connection<S>) -> Result<(), StoreFault>
     }
 }
 
-/// Takes tables of version 2, once each of their rows can be asked for by its key, with the index
-/// of the bookings. A refusal leaves them as they were, and a crash leaves them so or with the
-/// index.
+/// Accepts tables of version 2, after checking that each of their rows can be read by its key, and
+/// adds the index of the bookings if it is missing. If it fails, they are unchanged; after a crash
+/// they are unchanged or have the index.
 fn complete<S: Alter>(conn: &mut Connection<S>) -> Result<(), StoreFault>
     requires { conn.old.in_transaction ≡ false }
     ensures idle { conn.new.in_transaction ≡ false }
-    ensures honest { HasCleanDisk (state S.Store conn.new) → HasCleanDisk (state S.Store conn.old) }
+    ensures was_clean { HasCleanDisk (state S.Store conn.new)
+        → HasCleanDisk (state S.Store conn.old) }
     ensures indexed { HasCleanDisk (state S.Store conn.new) → OnOk result
-        (IsAtRest (state S.Store conn.old) → (club : Club) (others : _) → SecondStands
-        (state S.Store conn.old) club others → Stands (state S.Store conn.new) club others) }
+        (IsIdle (state S.Store conn.old) → (club : Club) (others : _) → RepresentsVersion2
+        (state S.Store conn.old) club others → Represents (state S.Store conn.new) club others) }
     ensures ensured { HasCleanDisk (state S.Store conn.new) → OnOk result
-        (IsTrue (state S.Store conn.new).is_open → IsAtRest (state S.Store conn.old) →
+        (IsTrue (state S.Store conn.new).is_open → IsIdle (state S.Store conn.old) →
         EnsuresIndex S.Store conn.old conn.new) }
     ensures refused { HasCleanDisk (state S.Store conn.new) → OnErr result
-        (IsAtRest (state S.Store conn.old) → KeepsStanding (second_in S.Store) conn.old conn.new) }
+        (IsIdle (state S.Store conn.old) → KeepsClub (version_2_in S.Store) conn.old conn.new) }
     ensures untouched { OnErr result
-        (IsAtRest (state S.Store conn.old) → IsKept (state S.Store conn.old)
+        (IsIdle (state S.Store conn.old) → IsKept (state S.Store conn.old)
         (state S.Store conn.new)) }
     ensures fault { HasCleanDisk (state S.Store conn.new) → IfErr result
         (IsOpeningFault S.Store conn.old conn.new) }
@@ -334,15 +343,16 @@ fn complete<S: Alter>(conn: &mut Connection<S>) -> Result<(), StoreFault>
 pub fn open_tables<S: Alter>(conn: &mut Connection<S>) -> Result<(), StoreFault>
     requires { conn.old.in_transaction ≡ false }
     ensures idle { conn.new.in_transaction ≡ false }
-    ensures honest { HasCleanDisk (state S.Store conn.new) → HasCleanDisk (state S.Store conn.old) }
+    ensures was_clean { HasCleanDisk (state S.Store conn.new)
+        → HasCleanDisk (state S.Store conn.old) }
     ensures opened { HasCleanDisk (state S.Store conn.new) → OnOk result
-        ((club : Club) (others : _) → IsFound (state S.Store conn.old) club others → Stands
+        ((club : Club) (others : _) → IsFound (state S.Store conn.old) club others → Represents
         (state S.Store conn.new) club others) }
     ensures accepted { HasCleanDisk (state S.Store conn.new) → OnOk result
-        (IsTrue (state S.Store conn.new).is_open → IsAtRest (state S.Store conn.old) →
-        IsAccepted S.Store conn.old conn.new) }
+        (IsTrue (state S.Store conn.new).is_open → IsIdle (state S.Store conn.old) →
+        AcceptsTables S.Store conn.old conn.new) }
     ensures refused { HasCleanDisk (state S.Store conn.new) → OnErr result
-        (KeepsStanding (found_in S.Store) conn.old conn.new) }
+        (KeepsClub (found_in S.Store) conn.old conn.new) }
     ensures untouched { OnErr result (IsKept (state S.Store conn.old) (state S.Store conn.new)) }
     ensures fault { HasCleanDisk (state S.Store conn.new) → IfErr result
         (IsOpeningFault S.Store conn.old conn.new) }

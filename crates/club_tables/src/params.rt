@@ -20,12 +20,12 @@ ghost use Rattle.club_tables.specs.Columns.{
   name_values,
 };
 
-use club_core::{Booking, BookingNumber, Facility, Key, Member, OlderRoot, Root};
-use pass_caveats::{Name, Slot};
+use club_rows::{Booking, BookingNumber, Facility, Key, Member, OlderRoot, Root};
+use club_values::{Name, Slot};
 use sqlite::types::ValueRef;
 
-/// A truth value as a number.
-fn number_of(value: bool) -> i64
+/// A truth value as 0 or 1.
+fn bool_as_number(value: bool) -> i64
     ensures { result ≡ pos (truth value) }
 {
     if value { 1 } else { 0 }
@@ -65,11 +65,11 @@ pub(crate) fn of_key(key: &Key) -> [ValueRef<'_>; 4]
         ValueRef::Text(key.name.as_bytes()),
         ValueRef::Text(key.member.as_bytes()),
         ValueRef::Blob(key.root.as_bytes()),
-        ValueRef::Int(number_of(key.revoked)),
+        ValueRef::Int(bool_as_number(key.revoked)),
     ]
 }
 
-/// A new root for a key, and the root that it has with the moment until which that one is good.
+/// A new root for a key, and its current root with the moment until which that one stays good.
 #[derive(Clone, Copy)]
 pub struct Rotation {
     pub key: Name,
@@ -111,7 +111,7 @@ pub(crate) fn of_booking(booking: &Booking) -> [ValueRef<'_>; 10]
         ValueRef::Int(i64::from(booking.guests.get())),
         ValueRef::Int(i64::from(booking.charge)),
         ValueRef::Int(i64::from(booking.left)),
-        ValueRef::Int(number_of(booking.cancelled)),
+        ValueRef::Int(bool_as_number(booking.cancelled)),
         ValueRef::Int(i64::from(booking.refund)),
     ]
 }
@@ -149,7 +149,7 @@ pub(crate) fn of_cost<'a>(member: &'a Name, booking: &Booking) -> [ValueRef<'a>;
     of_points(member, i64::from(cost))
 }
 
-/// A member, and a refund, which is taken away from what the member's bookings have cost.
+/// A member, and a refund, which is subtracted from what the member's bookings have cost.
 pub(crate) fn of_return(member: &Name, refund: u32) -> [ValueRef<'_>; 2]
     ensures { bound result ≡ TextValue member.now ∷ IntValue (neg_ℤ (pos refund)) ∷ [] }
 {
@@ -168,7 +168,7 @@ fn of_persons(slot: &Slot, persons: i64) -> [ValueRef<'_>; 4]
     ]
 }
 
-/// A booking's slot, and the persons that it takes: none where it is cancelled.
+/// A booking's slot, and the persons that it takes: 0 if it is cancelled.
 pub(crate) fn of_places(booking: &Booking) -> [ValueRef<'_>; 4]
     ensures { bound result ≡ name_values booking.now.slot ++ IntValue
         (pos (persons_taken booking.now)) ∷ [] }
@@ -181,7 +181,7 @@ pub(crate) fn of_places(booking: &Booking) -> [ValueRef<'_>; 4]
     of_persons(&booking.slot, i64::from(persons))
 }
 
-/// A booking's slot, and its persons, which are taken away.
+/// A booking's slot, and its persons, which are subtracted.
 pub(crate) fn of_freed(booking: &Booking) -> [ValueRef<'_>; 4]
     ensures { bound result ≡ name_values booking.now.slot ++ IntValue
         (neg_ℤ (pos (persons_of booking.now))) ∷ [] }
@@ -190,7 +190,7 @@ pub(crate) fn of_freed(booking: &Booking) -> [ValueRef<'_>; 4]
     of_persons(&booking.slot, -persons)
 }
 
-/// A key, a number of a booking, and what is given back.
+/// A key, a booking's number, and its refund.
 pub(crate) fn of_refund(key: &Name, number: BookingNumber, refund: u32) -> [ValueRef<'_>; 3]
     ensures { bound result ≡ TextValue key.now ∷ whole number ∷ whole refund ∷ [] }
 {

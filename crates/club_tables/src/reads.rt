@@ -1,4 +1,4 @@
-//! Rows of the club as they are read. They change nothing. A row out of its limits is a fault of
+//! Reads the rows of the club. These calls change nothing. A row out of its limits is a fault of
 //! storage.
 
 ghost use Rattle.std.specs.Prelude.{◌≡◌, ◌↔◌, false, List, All, IsTrue, IfOk, IfErr, IfSome};
@@ -12,10 +12,10 @@ ghost use Rattle.club_core.specs.Club.{bookings_of, key_named, member_named, fac
 ghost use Rattle.club_core.specs.Basis.{slot_use};
 ghost use Rattle.club_core.specs.Sheet.{AreRowsOf};
 ghost use Rattle.club_core.specs.Sums.{booking_under, count_to_come, spent_under};
-ghost use Rattle.club_tables.specs.Told.{ReadsClub};
+ghost use Rattle.club_tables.specs.ReadsAndChanges.{ReadsClub};
 ghost use Rattle.club_tables.specs.Sheet.{AreBookings};
 ghost use Rattle.club_tables.specs.Stored.{IsMemberRow, fresh, member_row, older_of};
-ghost use Rattle.club_transactions.specs.Transaction.{Asked, IsKept};
+ghost use Rattle.club_tables.specs.Transaction.{Asked, IsKept};
 ghost use Rattle.club_tables.specs.Answers.{
   Answers,
   FailsAtReading,
@@ -28,7 +28,7 @@ ghost use Rattle.club_tables.specs.Answers.{
   IsUse,
   AreCosts,
   IsCount,
-  words_for,
+  reading_statement,
 };
 ghost use Rattle.club_tables.specs.declared.texts.TheConstants.{DAY};
 ghost use Rattle.club_tables.specs.Answers.{
@@ -44,15 +44,16 @@ ghost use Rattle.club_tables.specs.Answers.{
 };
 
 use crate::row::{FromRow, MemberRow, bookings_in, slot_use_of};
+use crate::transaction::ask;
 use crate::{sum, texts};
-use club_core::{Booking, BookingNumber, Facility, Key, OlderRoot, SlotUse, StoreFault};
-use club_transactions::ask;
-use pass_caveats::{Day, Moment, Name, Slot};
+use club_core::{SlotUse, StoreFault};
+use club_rows::{Booking, BookingNumber, Facility, Key, OlderRoot};
+use club_values::{Day, Moment, Name, Slot};
 use sqlite::types::ValueRef;
 use sqlite::{Alter, Connection, params};
 use std::alloc::Global;
 
-/// What the first row of a query says; `None` where it gives no row.
+/// Runs a query and decodes its first row; `None` if it returns no row.
 fn one<S: Alter, T: FromRow>(
     conn: &mut Connection<S>,
     sql: &str,
@@ -60,9 +61,9 @@ fn one<S: Alter, T: FromRow>(
 ) -> Result<Option<T>, StoreFault>
     requires { conn.old.in_transaction ≡ false }
     ensures idle { conn.new.in_transaction ≡ false }
-    ensures gives { Answers S.Store (sql.now, bound params.now) (IsFirst T.says) conn.old conn.new
+    ensures gives { Answers S.Store (sql.now, bound params.now) (IsFirst T.yields) conn.old conn.new
         result }
-    ensures said { IfOk result (λ found. IfSome found (λ it. (row : Values) × T.says row it)) }
+    ensures yielded { IfOk result (λ found. IfSome found (λ it. (row : Values) × T.yields row it)) }
     ensures kept { IsKept (state S.Store conn.old) (state S.Store conn.new) }
     ensures survives { Survives (state S.Store conn.old) (state S.Store conn.new) (λ _. ⊥) }
 {
@@ -79,20 +80,20 @@ fn one<S: Alter, T: FromRow>(
     }
 }
 
-/// The key of this name, without its older root; `None` where there is none.
+/// The key of this name, without its older root; `None` if there is none.
 pub fn key<S: Alter>(conn: &mut Connection<S>, name: &Name) -> Result<Option<Key>, StoreFault>
     requires { conn.old.in_transaction ≡ false }
     ensures idle { conn.new.in_transaction ≡ false }
     ensures reads { ReadsClub S.Store conn.old conn.new result
         (λ club key. key ≡ option_map fresh (key_named name.now club)) }
-    ensures gives { Answers S.Store (words_for (OfKey name.now)) (IsFirst IsKeyIn)
+    ensures gives { Answers S.Store (reading_statement (OfKey name.now)) (IsFirst IsKeyIn)
         conn.old conn.new result }
     ensures limits { IfOk result (λ key. IfSome key IsKey) }
 {
     one(conn, texts::KEY, &[ValueRef::Text(name.as_bytes())])
 }
 
-/// The older root of the key of this name; `None` where it was never rotated.
+/// The older root of the key of this name; `None` if it was never rotated.
 pub fn older_root<S: Alter>(
     conn: &mut Connection<S>,
     key: &Name,
@@ -101,15 +102,16 @@ pub fn older_root<S: Alter>(
     ensures idle { conn.new.in_transaction ≡ false }
     ensures reads { ReadsClub S.Store conn.old conn.new result
         (λ club older. older ≡ older_of key.now club) }
-    ensures gives { Answers S.Store (words_for (OfOlderRoot key.now)) (IsFirst IsOlderRootIn)
+    ensures gives { Answers S.Store (reading_statement (OfOlderRoot key.now))
+        (IsFirst IsOlderRootIn)
         conn.old conn.new result }
     ensures limits { IfOk result (λ older. IfSome older IsOlderRoot) }
 {
     one(conn, texts::OLDER_ROOT, &[ValueRef::Text(key.as_bytes())])
 }
 
-/// The row of the member of this name, with what the member's bookings have cost; `None` where
-/// there is none.
+/// The row of the member of this name, with what the member's bookings have cost; `None` if there
+/// is none.
 pub fn member<S: Alter>(
     conn: &mut Connection<S>,
     name: &Name,
@@ -118,14 +120,14 @@ pub fn member<S: Alter>(
     ensures idle { conn.new.in_transaction ≡ false }
     ensures reads { ReadsClub S.Store conn.old conn.new result
         (λ club row. row ≡ option_map (member_row club) (member_named name.now club)) }
-    ensures gives { Answers S.Store (words_for (OfMember name.now)) (IsFirst IsMemberIn)
+    ensures gives { Answers S.Store (reading_statement (OfMember name.now)) (IsFirst IsMemberIn)
         conn.old conn.new result }
     ensures limits { IfOk result (λ row. IfSome row IsMemberRow) }
 {
     one(conn, texts::MEMBER, &[ValueRef::Text(name.as_bytes())])
 }
 
-/// The facility of this name; `None` where there is none.
+/// The facility of this name; `None` if there is none.
 pub fn facility<S: Alter>(
     conn: &mut Connection<S>,
     name: &Name,
@@ -134,20 +136,21 @@ pub fn facility<S: Alter>(
     ensures idle { conn.new.in_transaction ≡ false }
     ensures reads { ReadsClub S.Store conn.old conn.new result
         (λ club facility. facility ≡ facility_named name.now club) }
-    ensures gives { Answers S.Store (words_for (OfFacility name.now)) (IsFirst IsFacilityIn)
+    ensures gives { Answers S.Store (reading_statement (OfFacility name.now)) (IsFirst IsFacilityIn)
         conn.old conn.new result }
     ensures limits { IfOk result (λ facility. IfSome facility IsFacility) }
 {
     one(conn, texts::FACILITY, &[ValueRef::Text(name.as_bytes())])
 }
 
-/// What is taken of a slot: nothing of one that nobody booked or closed.
+/// The use of a slot: the persons who booked it, and whether it is closed.
 pub fn slot<S: Alter>(conn: &mut Connection<S>, slot: &Slot) -> Result<SlotUse, StoreFault>
     requires { conn.old.in_transaction ≡ false }
     ensures idle { conn.new.in_transaction ≡ false }
     ensures reads { ReadsClub S.Store conn.old conn.new result
         (λ club found. found ≡ slot_use club slot.now) }
-    ensures gives { Answers S.Store (words_for (OfSlot slot.now)) IsUse conn.old conn.new result }
+    ensures gives { Answers S.Store
+        (reading_statement (OfSlot slot.now)) IsUse conn.old conn.new result }
 {
     let params = params![
         slot.facility.as_str(),
@@ -171,8 +174,8 @@ fn is_named(booking: &Booking, key: &Name, number: BookingNumber) -> bool
     booking.key == *key && booking.number == number
 }
 
-/// The booking of a key with a number; `None` where there is none. A row of another booking is a
-/// fault of storage, too.
+/// The booking of a key with a number; `None` if there is none. A row of another booking is a fault
+/// of storage, too.
 pub fn booking<S: Alter>(
     conn: &mut Connection<S>,
     key: &Name,
@@ -182,7 +185,7 @@ pub fn booking<S: Alter>(
     ensures idle { conn.new.in_transaction ≡ false }
     ensures reads { ReadsClub S.Store conn.old conn.new result
         (λ club found. found ≡ booking_under key.now number club.bookings) }
-    ensures gives { Answers S.Store (words_for (OfBooking key.now number))
+    ensures gives { Answers S.Store (reading_statement (OfBooking key.now number))
         (IsFirst (IsBookingNamed key.now number)) conn.old conn.new result }
     ensures limits { IfOk result (λ found. IfSome found IsBooking) }
     ensures named { IfOk result (λ found. IfSome found
@@ -219,8 +222,8 @@ pub fn day<S: Alter>(
     ensures idle { conn.new.in_transaction ≡ false }
     ensures reads { ReadsClub S.Store conn.old conn.new result
         (λ club rows. AreRowsOf club day rows.items) }
-    ensures told { HasCleanDisk (state S.Store conn.new) → IfOk result
-        (λ bookings. (rows : List Values) × Asked S.Store DAY.now (words_for (OfDay day)).1
+    ensures returned { HasCleanDisk (state S.Store conn.new) → IfOk result
+        (λ bookings. (rows : List Values) × Asked S.Store DAY.now (reading_statement (OfDay day)).1
         conn.old rows × AreBookings rows bookings.items) }
     ensures failed { HasCleanDisk (state S.Store conn.new) → IfErr result
         (FailsAtReading S.Store (OfDay day) conn.old conn.new) }
@@ -239,7 +242,7 @@ pub fn spent<S: Alter>(conn: &mut Connection<S>, key: &Name) -> Result<u64, Stor
     ensures idle { conn.new.in_transaction ≡ false }
     ensures reads { ReadsClub S.Store conn.old conn.new result
         (λ club spent. spent ≡ spent_under key.now club.bookings) }
-    ensures gives { Answers S.Store (words_for (OfCosts key.now)) AreCosts
+    ensures gives { Answers S.Store (reading_statement (OfCosts key.now)) AreCosts
         conn.old conn.new result }
 {
     let rows = match ask(conn, texts::COSTS_UNDER_KEY, params![key.as_str()]) {
@@ -259,7 +262,7 @@ pub fn open_count<S: Alter>(
     ensures idle { conn.new.in_transaction ≡ false }
     ensures reads { ReadsClub S.Store conn.old conn.new result
         (λ club count. count ≡ count_to_come moment (bookings_of member.now club)) }
-    ensures gives { Answers S.Store (words_for (OfOpen member.now moment)) IsCount
+    ensures gives { Answers S.Store (reading_statement (OfOpen member.now moment)) IsCount
         conn.old conn.new result }
 {
     let params = params![

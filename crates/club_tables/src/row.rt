@@ -1,5 +1,5 @@
-//! Rows of the tables as rows of the club: none where a value is of another kind, or out of its
-//! limits.
+//! Decodes rows of the tables into rows of the club: `None` if a value is of another kind, or out
+//! of its limits.
 
 ghost use Rattle.std.specs.Prelude.{
   ◌≡◌,
@@ -18,23 +18,21 @@ ghost use Rattle.club_values.specs.Reading.{Reads};
 ghost use Rattle.club_rows.specs.declared.booking.Booking.{Booking as BookingRow};
 ghost use Rattle.club_tables.specs.Answers.{IsUseIn};
 ghost use Rattle.club_tables.specs.Sheet.{AreBookings};
-ghost use Rattle.club_tables.specs.Stored.{unused};
+ghost use Rattle.club_tables.specs.Stored.{no_slot_use};
 ghost use Rattle.club_tables.specs.Columns.{whole, text_in, bytes_in, integer_in};
 
-use club_core::{
-    Booking, BookingColumns, Facility, FacilityColumns, Key, Member, OlderRoot, Root, SlotUse,
-    StoreFault,
-};
-use pass_caveats::Moment;
+use club_core::{SlotUse, StoreFault};
+use club_rows::{Booking, BookingColumns, Facility, FacilityColumns, Key, Member, OlderRoot, Root};
+use club_values::Moment;
 use sqlite::Row;
 use sqlite::types::ValueRef;
 use std::alloc::Global;
 
 /// The most points that a member's bookings cost: no more than were credited.
-const MOST_USED: u32 = 999_999_999;
+const MAX_USED: u32 = 999_999_999;
 
 /// The most persons of a slot: no facility has more places.
-const MOST_TAKEN: u32 = 50;
+const MAX_TAKEN: u32 = 50;
 
 /// A member, and what the member's bookings have cost.
 #[derive(Clone, Copy)]
@@ -79,7 +77,7 @@ pub(crate) fn number_within(row: &Row, at: usize, high: u32) -> Option<u32>
     if number <= high { Some(number) } else { None }
 }
 
-/// What is taken of a slot, by the columns `closed` and `taken`: at most so many persons as a
+/// Decodes the use of a slot from the columns `closed` and `taken`: at most as many persons as a
 /// facility has places.
 fn slot_use_in(row: &Row) -> Option<SlotUse>
     ensures { Reads (IsUseIn row.now) result }
@@ -88,13 +86,13 @@ fn slot_use_in(row: &Row) -> Option<SlotUse>
         0 => false,
         _ => true,
     };
-    let taken = number_within(row, 1, MOST_TAKEN)?;
+    let taken = number_within(row, 1, MAX_TAKEN)?;
     Some(SlotUse { taken, closed })
 }
 
-/// What is taken of a slot, by its rows: nothing where there is none.
+/// Decodes the use of a slot from its rows: no use if there is no row; `None` if there are several.
 pub(crate) fn slot_use_of(rows: &[Row]) -> Option<SlotUse>
-    ensures none { rows.now ≡ [] → result ≡ Some unused }
+    ensures none { rows.now ≡ [] → result ≡ Some no_slot_use }
     ensures one { (row : _) → rows.now ≡ row ∷ [] → Reads (IsUseIn row) result }
     ensures more { (row other more : _) → rows.now ≡ row ∷ other ∷ more → result ≡ None }
 {
@@ -108,23 +106,23 @@ pub(crate) fn slot_use_of(rows: &[Row]) -> Option<SlotUse>
     }
 }
 
-/// What a row of the tables says.
+/// A value that is decoded from a row of the tables.
 pub(crate) trait FromRow: Sized {
     ghost use Rattle.sqlite_value.specs.Order.{Row as Values};
     ghost use Rattle.club_values.specs.Reading.{Reads};
 
-    // the row says this
-    ghost says: { Values → Self → Type 0 };
+    // the row holds this value
+    ghost yields: { Values → Self → Type 0 };
 
-    /// What the row says; `None` where a value is of another kind, or out of its limits.
+    /// Decodes the row; `None` if a value is of another kind, or out of its limits.
     fn from_row(row: &Row) -> Option<Self>
-        ensures { Reads (says row.now) result };
+        ensures { Reads (yields row.now) result };
 }
 
 impl FromRow for MemberRow {
     ghost use Rattle.club_tables.specs.Answers.{IsMemberIn};
 
-    ghost says = { IsMemberIn };
+    ghost yields = { IsMemberIn };
 
     /// A member's row, of the columns `name`, `credited`, `quota` and `used`.
     fn from_row(row: &Row) -> Option<MemberRow> {
@@ -133,7 +131,7 @@ impl FromRow for MemberRow {
             integer_at(row, 1)?,
             integer_at(row, 2)?,
         )?;
-        let used = number_within(row, 3, MOST_USED)?;
+        let used = number_within(row, 3, MAX_USED)?;
         Some(MemberRow { member, used })
     }
 }
@@ -141,9 +139,9 @@ impl FromRow for MemberRow {
 impl FromRow for Key {
     ghost use Rattle.club_tables.specs.Answers.{IsKeyIn};
 
-    ghost says = { IsKeyIn };
+    ghost yields = { IsKeyIn };
 
-    /// A key's row, which tells of no older root.
+    /// A key's row, without its older root.
     fn from_row(row: &Row) -> Option<Key> {
         Key::from_columns(
             text_at(row, 0)?,
@@ -157,7 +155,7 @@ impl FromRow for Key {
 impl FromRow for OlderRoot {
     ghost use Rattle.club_tables.specs.Answers.{IsOlderRootIn};
 
-    ghost says = { IsOlderRootIn };
+    ghost yields = { IsOlderRootIn };
 
     /// The older root of a key, of the columns `root` and `until`.
     fn from_row(row: &Row) -> Option<OlderRoot> {
@@ -170,7 +168,7 @@ impl FromRow for OlderRoot {
 impl FromRow for Facility {
     ghost use Rattle.club_tables.specs.Answers.{IsFacilityIn};
 
-    ghost says = { IsFacilityIn };
+    ghost yields = { IsFacilityIn };
 
     /// A facility's row.
     fn from_row(row: &Row) -> Option<Facility> {
@@ -189,7 +187,7 @@ impl FromRow for Facility {
 impl FromRow for Booking {
     ghost use Rattle.club_tables.specs.Answers.{IsBookingIn};
 
-    ghost says = { IsBookingIn };
+    ghost yields = { IsBookingIn };
 
     /// A booking's row.
     fn from_row(row: &Row) -> Option<Booking> {
@@ -209,7 +207,7 @@ impl FromRow for Booking {
     }
 }
 
-/// The bookings of rows, in their order. A row that is out of its limits is a fault of storage.
+/// Decodes the bookings of rows, in their order. A row out of its limits is a fault of storage.
 pub(crate) fn bookings_in(alloc: Global, rows: &[Row]) -> Result<Vec<Booking>, StoreFault>
     ensures are { IfOk result (λ bookings. AreBookings rows.now bookings.items) }
     ensures storage { result ≡ Err StoreFault.Storage → (bookings : List BookingRow) → ¬

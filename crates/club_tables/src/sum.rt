@@ -1,4 +1,4 @@
-//! Sums over rows, taken here. A number out of its limits is a fault of storage.
+//! Sums the costs of rows. A number out of its limits is a fault of storage.
 
 ghost use Rattle.std.specs.Prelude.{◌≡◌, ◌<◌, ◌^◌, ℕ, sum_by, All, IfOk, IfErr};
 ghost use Rattle.club_values.specs.Reading.{Reads};
@@ -20,7 +20,7 @@ fn cost_of(row: &Row) -> Option<u32>
 
 /// The cost of rows of charge and refund.
 pub(crate) fn costs(rows: &[Row]) -> Result<u64, StoreFault>
-    ensures told { IfOk result (λ n. n ≡ sum_by cost_in rows.now) }
+    ensures returned { IfOk result (λ n. n ≡ sum_by cost_in rows.now) }
     ensures limits { IfOk result (λ _. All IsCostRow rows.now) }
     ensures range { IfOk result (λ n. n < 2 ^ 64) }
     ensures storage { IfErr result

@@ -1,4 +1,4 @@
-//! The texts of the tables and of the statements.
+//! The SQL of the tables and of the statements.
 
 /// The version of the tables, in one row.
 pub(crate) const MAKE_DESK: &str = "CREATE TABLE desk (version INTEGER NOT NULL) STRICT";
@@ -62,21 +62,21 @@ pub(crate) const MAKE_OLD_ROOTS: &str = "\
         until INTEGER NOT NULL CHECK (until BETWEEN 15778080 AND 68374079)\
     ) STRICT";
 
-/// The keys of a member are found without a walk over all keys.
+/// Finds the keys of a member without a scan over all keys.
 pub(crate) const MAKE_KEYS_BY_MEMBER: &str = "CREATE INDEX keys_by_member ON keys (member)";
 
-/// What is summed of a key's bookings is read from this index alone, and those that are cancelled
-/// or begun are passed over.
+/// The sums over a key's bookings read this index alone, and skip bookings that are cancelled or
+/// begun.
 pub(crate) const MAKE_BOOKINGS_BY_KEY: &str = "\
     CREATE INDEX bookings_by_key \
     ON bookings (pass_key, cancelled, day, hour, number, charge, refund)";
 
-/// It is a statement only where there is an index of this name. It is prepared, and never run.
+/// A statement only if there is an index of this name. It is prepared, and never run.
 pub(crate) const DROP_BOOKINGS_BY_KEY: &str = "DROP INDEX bookings_by_key";
 
 pub(crate) const ADD_VERSION: &str = "INSERT INTO desk (version) VALUES (2)";
 
-/// Makes tables of version 1 those of version 2, once they have older roots.
+/// Turns version 1 into version 2, once the table of older roots is there.
 pub(crate) const SET_VERSION: &str = "UPDATE desk SET version = 2";
 
 pub(crate) const VERSION: &str = "SELECT version FROM desk";
@@ -108,7 +108,7 @@ pub(crate) const ADD_MEMBER: &str = "\
 
 pub(crate) const ADD_CREDIT: &str = "UPDATE members SET credited = credited + ?2 WHERE name = ?1";
 
-/// Adds to what the bookings of a member have cost; less than nothing where points come back.
+/// Adds to what the bookings of a member have cost; a negative number gives points back.
 pub(crate) const ADD_USED: &str = "UPDATE members SET used = used + ?2 WHERE name = ?1";
 
 pub(crate) const ADD_FACILITY: &str = "\
@@ -121,7 +121,7 @@ pub(crate) const ADD_KEY: &str = "\
 
 pub(crate) const REVOKE_KEY: &str = "UPDATE keys SET revoked = 1 WHERE name = ?1";
 
-/// Takes the place of an older root from before.
+/// Inserts an older root, or replaces the one that the key has.
 pub(crate) const PUT_OLDER_ROOT: &str = "\
     INSERT INTO old_roots (pass_key, root, until) \
     VALUES (?1, ?2, ?3) \
@@ -136,8 +136,8 @@ pub(crate) const CLOSE_SLOT: &str = "\
     ON CONFLICT (facility, day, hour) \
     DO UPDATE SET closed = 1";
 
-/// Adds to the persons of a slot, which is open where it had no row; less than nothing where a
-/// booking is cancelled.
+/// Adds to the persons of a slot, which is open if it had no row; a negative number for a cancelled
+/// booking.
 pub(crate) const ADD_TAKEN: &str = "\
     INSERT INTO slots (facility, day, hour, closed, taken) \
     VALUES (?1, ?2, ?3, 0, ?4) \
@@ -162,14 +162,14 @@ pub(crate) const DAY: &str = "\
     WHERE day = ?1 AND cancelled = 0 \
     ORDER BY facility, hour, pass_key, number";
 
-/// The last parameter is the moment's day: what lies on an earlier one has begun.
+/// The last parameter is the moment's day: slots of an earlier day have begun.
 pub(crate) const OPEN: &str = "\
     SELECT number \
     FROM keys JOIN bookings ON name = pass_key \
     WHERE member = ?1 AND cancelled = 0 AND day * 1440 + hour * 60 > ?2 AND day >= ?3";
 
-/// The statements that give a row by its key over tables of version 1.
+/// The statements that read a row by its key, over tables of version 1.
 pub(crate) const FIRST_ROWS_BY_KEY: [&str; 5] = [KEY, MEMBER, FACILITY, SLOT, BOOKING];
 
-/// The statements that give a row by its key.
+/// The statements that read a row by its key.
 pub(crate) const ROWS_BY_KEY: [&str; 6] = [KEY, MEMBER, FACILITY, SLOT, BOOKING, OLDER_ROOT];

@@ -1,4 +1,4 @@
-//! The changes, each in a transaction of its own.
+//! Writes the changes of a club, each in a transaction of its own.
 
 ghost use Rattle.std.specs.Prelude.{◌≡◌, false, None};
 ghost use Rattle.sqlite.specs.Values.{bound};
@@ -13,8 +13,8 @@ ghost use Rattle.club_core.specs.declared.change.Change.TheVariants.{
   MarkClosed,
   MarkCancelled,
 };
-ghost use Rattle.club_transactions.specs.Fault.{Commits};
-ghost use Rattle.club_tables.specs.Words.{
+ghost use Rattle.club_tables.specs.Fault.{Commits};
+ghost use Rattle.club_tables.specs.ChangeStatements.{
   adding_member,
   adding_facility,
   adding_key,
@@ -28,7 +28,7 @@ ghost use Rattle.club_tables.specs.Words.{
   marking,
   cancelling,
 };
-ghost use Rattle.club_tables.specs.Told.{
+ghost use Rattle.club_tables.specs.ReadsAndChanges.{
   ChangesClub,
   ChangesClubWhere,
   IsOwnedBy,
@@ -38,10 +38,11 @@ ghost use Rattle.club_tables.specs.Told.{
 };
 
 use crate::params::Rotation;
+use crate::transaction::{Statement, run};
 use crate::{params, texts};
-use club_core::{Booking, BookingNumber, Facility, Key, Member, StoreFault};
-use club_transactions::{Statement, run};
-use pass_caveats::{Name, Slot};
+use club_core::StoreFault;
+use club_rows::{Booking, BookingNumber, Facility, Key, Member};
+use club_values::{Name, Slot};
 use sqlite::types::ValueRef;
 use sqlite::{Alter, Connection};
 
@@ -82,7 +83,7 @@ pub fn insert_facility<S: Alter>(
     )
 }
 
-/// Inserts a key. One that has an older root is refused, and nothing is changed.
+/// Inserts a key. Fails, and changes nothing, if the key has an older root.
 pub fn insert_key<S: Alter>(conn: &mut Connection<S>, key: &Key) -> Result<(), StoreFault>
     requires { conn.old.in_transaction ≡ false }
     ensures idle { conn.new.in_transaction ≡ false }
@@ -141,7 +142,7 @@ pub fn revoke_key<S: Alter>(conn: &mut Connection<S>, key: &Name) -> Result<(), 
     )
 }
 
-/// Gives a key a new root. The one that it has becomes its older root, in place of one from before.
+/// Gives a key a new root. Its current root becomes its older root, and replaces an earlier one.
 pub fn replace_root<S: Alter>(
     conn: &mut Connection<S>,
     rotation: &Rotation,
@@ -160,7 +161,7 @@ pub fn replace_root<S: Alter>(
     run_rotation(conn, &put, &set)
 }
 
-/// Puts an older root, and sets a key's root.
+/// Stores a key's older root, and sets its root.
 fn run_rotation<S: Alter>(
     conn: &mut Connection<S>,
     put: &[ValueRef<'_>],
@@ -257,8 +258,8 @@ pub fn insert_booking<S: Alter>(
     run_with_totals(conn, texts::ADD_BOOKING, &row, &used, &taken)
 }
 
-/// Marks a booking cancelled with its refund, gives that back to the member, and its places to its
-/// slot.
+/// Marks a booking cancelled with its refund, gives the refund back to the member, and the places
+/// to the slot.
 pub fn cancel_booking<S: Alter>(
     conn: &mut Connection<S>,
     booking: &Booking,
@@ -279,7 +280,7 @@ pub fn cancel_booking<S: Alter>(
     run_with_totals(conn, texts::CANCEL_BOOKING, &mark, &used, &taken)
 }
 
-/// Marks a booking cancelled where none is to be marked: nothing is changed.
+/// Runs the statement that cancels a booking when there is none to cancel: nothing is changed.
 pub fn mark_cancelled<S: Alter>(
     conn: &mut Connection<S>,
     key: &Name,

@@ -16,7 +16,7 @@ use Rattle.jiff_core.proofs.DateLemmas.{epoch_day_injective}
 use Rattle.club_values.proofs.DateTextLemmas.{date_record}
 use Rattle.club_values.proofs.DigitLemmas.{two_digits_injective, four_digits_injective}
 
--- a day lies in its year from March, at its place
+-- a day's place in its year from March
 pub march_year_bounds : (n : ℕ) → IsDay n →
     (3 ≤ march_year n) × (march_year n ≤ 103) × (day_of_march_year n < 366) × (n ≡ 9556 + 365 * march_year n + march_year n / 4 + day_of_march_year n)
 march_year_bounds n h = (omega arith, omega arith, omega arith, omega arith)
@@ -114,8 +114,8 @@ cast_back : (w : Width) (z : ℤ) (n : ℕ) → z ≡ pos n → n < 2 ^ hbits w 
 cast_back w z n e h = rw e (back_small w (pos n) h)
 
 -- the year of a day's date, as the code gets it
-pub year_told : (n : ℕ) (d : Date) → IsDay n → epoch_day d ≡ pos n → to_z w16 (of_z w16 d.year) ≡ pos (year_of n)
-year_told n d h e =
+pub year_after_cast : (n : ℕ) (d : Date) → IsDay n → epoch_day d ≡ pos n → to_z w16 (of_z w16 d.year) ≡ pos (year_of n)
+year_after_cast n d h e =
     let b = date_bounds n h in
     cast_back w16 d.year (year_of n) (date_of_day n d h e).0 (omega arith)
 
@@ -148,7 +148,7 @@ same_number y m d y₂ m₂ d₂ year month day = rw (year, month, day)
 from_pos : (a b : ℕ) → pos a ≡ pos b → a ≡ b
 from_pos a b e = cc
 
--- no two days have one text, whatever follows
+-- different days have different texts, whatever follows them
 pub day_text_injective : (a b : ℕ) (xs ys : List ℕ) → IsDay a → IsDay b → day_text a ++ xs ≡ day_text b ++ ys → a ≡ b
 unfolding day_text
 day_text_injective a b xs ys h k e =

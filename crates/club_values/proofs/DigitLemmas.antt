@@ -1,4 +1,4 @@
--- Digits of a fixed width tell their number.
+-- Digits of a fixed width determine their number.
 use Rattle.std.proofs.Common.{◌≡◌, ℕ, ◌+◌, ◌/◌, ◌%◌, List, ◌++◌, get_or, drop, ap, arith}
 use Rattle.club_values.specs.Digits.{two_digits, four_digits}
 

@@ -7,13 +7,13 @@ use Rattle.club_values.specs.Name.{is_name_byte, IsName}
 use Rattle.std.specs.Str.{IsAscii}
 use Rattle.std.proofs.lemmas.Str.Ascii.{IsAscii-from_all}
 use Rattle.std.proofs.lemmas.Bool.Decides.{nat_tests}
-use Rattle.club_values.specs.NameInside.{bytes_of, inside_of, HoldsName}
+use Rattle.club_values.specs.NameInside.{name_bytes, name_inside, HoldsName}
 
 -- the name that is read from what holds it
-pub bytes_of-inside_of : (name : List ℕ) → bytes_of (inside_of name) ≡ name
+pub bytes_of-inside_of : (name : List ℕ) → name_bytes (name_inside name) ≡ name
 bytes_of-inside_of name = take-append_seam name _
 
-pub HoldsName-inside_of : (name : List ℕ) → IsName name → HoldsName (inside_of name)
+pub HoldsName-inside_of : (name : List ℕ) → IsName name → HoldsName (name_inside name)
 HoldsName-inside_of name h =
     let same = bytes_of-inside_of name in
     record {

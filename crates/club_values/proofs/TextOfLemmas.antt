@@ -1,4 +1,4 @@
--- The functions of texts find just what the texts spell.
+-- The functions `.._of_text` return exactly what the text spells.
 use Rattle.std.proofs.Common.{◌≡◌, ◌↔◌, ℕ, Bool, true, false, cond, List, [], Option, Some, None, refl, sym, ap, subst, ◌∙◌, Decides}
 use Rattle.std.specs.Prelude.{◌&&◌}
 use Rattle.std.specs.Str.{bytes_eq}
@@ -16,7 +16,8 @@ use Rattle.club_values.specs.Moment.{IsMoment, SpellsMoment, moment_text}
 use Rattle.club_values.specs.Hour.{IsHour, SpellsHour}
 use Rattle.club_values.specs.Kind.{kind_text}
 use Rattle.club_values.specs.Action.{action_text}
-use Rattle.club_values.specs.TextOf.{is_name, two_at, day_of, moment_of, kind_of, action_of, where_spelled, name_of_text, day_of_text, moment_of_text}
+use Rattle.club_values.specs.TextOf.{is_name, two_at, day_of, moment_of, candidate_kind, candidate_action, where_spelled, name_of_text, day_of_text}
+use Rattle.club_values.specs.TextOf.{moment_of_text}
 use Rattle.club_values.specs.TextOf.{hour_of_text, kind_of_text, action_of_text}
 use Rattle.club_values.proofs.TestLemmas.{Decides-is_name, Decides-range}
 use Rattle.club_values.proofs.GuessLemmas.{two_again, day_of-day_text, moment_of-moment_text}
@@ -24,7 +25,7 @@ use Rattle.club_values.proofs.DayLemmas.{day_text-spells, spells-day_text}
 use Rattle.club_values.proofs.MomentLemmas.{moment_text-spells, spells-moment_text}
 use Rattle.club_values.specs.Laws.{ReadsNames, ReadsKinds, ReadsActions, ReadsDays, ReadsHours, ReadsMoments}
 
--- a value that its text gives back is found just where it is spelled
+-- a value that is computed back from its text is returned exactly if the text spells it
 found : {A : Type 0} (Spells : A → Type 0) (guess : A) (test : Bool) → Decides test (Spells guess) → ((x : A) → Spells x → guess ≡ x) → (x : A) →
     (cond test (Some guess) None ≡ Some x) ↔ Spells x
 found Spells guess true d same x = let P = Spells in ((λ e. let is : guess ≡ x = cc in subst P is (d.0 refl)), (λ s. ap Some (same x s)))
@@ -42,11 +43,11 @@ found_where text Spells Fits guess text_of fits decides to from again =
     (Decides-and _ _ (decides (guess text)) (bytes_eq-Decides text (text_of (guess text)))))
     (λ x s. ap guess (to x s).1 ∙ again x (to x s).0)
 
--- so a reader of the same values answers what such a function does
+-- so a parser of the same values returns what such a function returns
 pub same_reading : {A : Type 0} (Spells : A → Type 0) (found r : Option A) → ((x : A) → (found ≡ Some x) ↔ Spells x) → Reads Spells r → r ≡ found
-same_reading Spells found (Some x) tells h = sym ((tells x).1 h)
-same_reading Spells None None tells h = refl
-same_reading Spells (Some y) None tells h = absurd (h y ((tells y).0 refl))
+same_reading Spells found (Some x) agrees h = sym ((agrees x).1 h)
+same_reading Spells None None agrees h = refl
+same_reading Spells (Some y) None agrees h = absurd (h y ((agrees y).0 refl))
 
 day_of-whole : (n : ℕ) → IsDay n → day_of (day_text n) ≡ n
 unfolding day_text
@@ -77,7 +78,7 @@ reads_hours text =
 always : {A : Type 0} (x : A) → Decides true (Unit {0})
 always x = ((λ e. tt), (λ u. refl))
 
-kind_again : (kind : Kind) → Unit {0} → kind_of (kind_text kind) ≡ kind
+kind_again : (kind : Kind) → Unit {0} → candidate_kind (kind_text kind) ≡ kind
 kind_again Court u = refl
 kind_again Boat u = refl
 kind_again Room u = refl
@@ -85,9 +86,9 @@ kind_again Room u = refl
 pub reads_kinds : ReadsKinds
 unfolding kind_of_text
 reads_kinds text =
-    found_where text (λ kind. text ≡ kind_text kind) (λ _. Unit {0}) kind_of kind_text (λ _. true) always (λ kind e. (tt, e)) (λ kind u e. e) kind_again
+    found_where text (λ kind. text ≡ kind_text kind) (λ _. Unit {0}) candidate_kind kind_text (λ _. true) always (λ kind e. (tt, e)) (λ kind u e. e) kind_again
 
-action_again : (action : Action) → Unit {0} → action_of (action_text action) ≡ action
+action_again : (action : Action) → Unit {0} → candidate_action (action_text action) ≡ action
 action_again View u = refl
 action_again Book u = refl
 action_again Cancel u = refl
@@ -96,7 +97,7 @@ action_again Account u = refl
 pub reads_actions : ReadsActions
 unfolding action_of_text
 reads_actions text =
-    found_where text (λ action. text ≡ action_text action) (λ _. Unit {0}) action_of action_text (λ _. true) always (λ action e. (tt, e))
+    found_where text (λ action. text ≡ action_text action) (λ _. Unit {0}) candidate_action action_text (λ _. true) always (λ action e. (tt, e))
     (λ action u e. e) action_again
 
 pub reads_names : ReadsNames

@@ -44,7 +44,7 @@ pub record IsDateText (text : List ℕ) (date : Date) : Type 0 where
   pub same_year : date.year ≡ pos year
   pub spelled : text ≡ date_text year date.month date.day
 
--- The date of a day by arithmetic. Its years begin on 1 March, so that a leap day is the last of its year; day 9556 is 1996-03-01.
+-- The date of a day by arithmetic. Years begin on 1 March here, so that a leap day is the last of its year; day 9556 is 1996-03-01.
 -- the years since 1 March 1996
 abbrev pub march_year : ℕ → ℕ
 march_year n = (4 * (n - 9556) + 3) / 1461

@@ -10,8 +10,8 @@ use Rattle.club_values.specs.Hour.{SpellsHour}
 use Rattle.club_values.specs.Moment.{IsMoment, SpellsMoment, moment_text}
 use Rattle.club_values.specs.TextOf.{name_of_text, kind_of_text, action_of_text, day_of_text, hour_of_text, moment_of_text}
 
--- The functions of texts find just what the texts spell, whatever numbers stand in the list.
--- a name is found exactly where the text is one, and it is the text
+-- The functions `.._of_text` return exactly what the text spells, for any list of numbers.
+-- a name is returned exactly if the text is one, and the name is the text
 abbrev pub ReadsNames : Type 0
 ReadsNames = (text name : List ℕ) → (name_of_text text ≡ Some name) ↔ (IsName text × (name ≡ text))
 
@@ -34,13 +34,13 @@ ReadsMoments = (text : List ℕ) (n : ℕ) → (moment_of_text text ≡ Some n) 
 abbrev pub IsTextOfDay : Type 0
 IsTextOfDay = (text : List ℕ) (n : ℕ) → SpellsDay text n ↔ (IsDay n × (text ≡ day_text n))
 
--- the same of moments
+-- the same for moments
 abbrev pub IsTextOfMoment : Type 0
 IsTextOfMoment = (text : List ℕ) (n : ℕ) → SpellsMoment text n ↔ (IsMoment n × (text ≡ moment_text n))
 
--- no two days have one text, and no two moments
-abbrev pub TellsDays : Type 0
-TellsDays = (a b : ℕ) → IsDay a → IsDay b → day_text a ≡ day_text b → a ≡ b
+-- different days have different texts, and so have different moments
+abbrev pub DistinctDayTexts : Type 0
+DistinctDayTexts = (a b : ℕ) → IsDay a → IsDay b → day_text a ≡ day_text b → a ≡ b
 
-abbrev pub TellsMoments : Type 0
-TellsMoments = (a b : ℕ) → IsMoment a → IsMoment b → moment_text a ≡ moment_text b → a ≡ b
+abbrev pub DistinctMomentTexts : Type 0
+DistinctMomentTexts = (a b : ℕ) → IsMoment a → IsMoment b → moment_text a ≡ moment_text b → a ≡ b

@@ -1,5 +1,5 @@
--- The values that texts are, as functions for whoever computes with them. What they mean is said by `IsName`, `SpellsDay` and
--- the like; the readers' contracts say both.
+-- The values of texts as functions, for definitions that compute. `IsName`, `SpellsDay` and the like define what the values mean; the
+-- contracts of the parsers state both.
 use Rattle.std.specs.Prelude.{ℕ, ◌+◌, ◌-◌, ◌*◌, ◌/◌, ◌==◌, ◌&&◌, not, Bool, true, List, length, slice_index, nat_lt, nat_le, if◌then◌else◌, Option, Some, None}
 use Rattle.std.specs.List.{list_all}
 use Rattle.std.specs.Str.{bytes_eq}
@@ -39,16 +39,16 @@ day_of text = number_of_date (100 * two_at text 0 + two_at text 2) (two_at text 
 abbrev pub moment_of : List ℕ → ℕ
 moment_of text = day_of text * minutes_a_day + two_at text 11 * minutes_an_hour + two_at text 14
 
-abbrev pub kind_of : List ℕ → AKind
-kind_of text = if slice_index text 0 == 99 then Court else (if slice_index text 0 == 98 then Boat else Room)
+abbrev pub candidate_kind : List ℕ → AKind
+candidate_kind text = if slice_index text 0 == 99 then Court else (if slice_index text 0 == 98 then Boat else Room)
 
-abbrev pub action_of : List ℕ → Action
-action_of text =
+abbrev pub candidate_action : List ℕ → Action
+candidate_action text =
     if slice_index text 0 == 118 then View
     else (if slice_index text 0 == 98 then Book
     else (if slice_index text 0 == 99 then Cancel else Account))
 
--- a value, where its text is the text
+-- the value, if its text is this text
 abbrev pub where_spelled : {A : Type 0} → List ℕ → A → List ℕ → Bool → Option A
 where_spelled text value spelled fits = if fits && bytes_eq text spelled then Some value else None
 
@@ -66,7 +66,7 @@ unfoldable pub hour_of_text : List ℕ → Option ℕ
 hour_of_text text = where_spelled text (two_at text 0) (two_digits (two_at text 0)) (nat_lt (two_at text 0) hours_a_day)
 
 unfoldable pub kind_of_text : List ℕ → Option AKind
-kind_of_text text = where_spelled text (kind_of text) (kind_text (kind_of text)) true
+kind_of_text text = where_spelled text (candidate_kind text) (kind_text (candidate_kind text)) true
 
 unfoldable pub action_of_text : List ℕ → Option Action
-action_of_text text = where_spelled text (action_of text) (action_text (action_of text)) true
+action_of_text text = where_spelled text (candidate_action text) (action_text (candidate_action text)) true

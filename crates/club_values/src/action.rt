@@ -1,3 +1,5 @@
+//! The actions that a request may ask for.
+
 ghost use Rattle.std.specs.Prelude.{◌≡◌, Some};
 ghost use Rattle.club_values.specs.Reading.{Reads};
 ghost use Rattle.club_values.specs.Action.{action_text};
@@ -5,7 +7,7 @@ ghost use Rattle.club_values.specs.TextOf.{action_of_text};
 
 use std::fmt;
 
-/// What a request asks for.
+/// The action that a request asks for.
 #[derive(Clone, Copy, Debug, PartialEq, Eq)]
 pub enum Action {
     /// Shows a slot.

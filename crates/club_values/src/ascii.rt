@@ -1,3 +1,5 @@
+//! ASCII bytes as text.
+
 ghost use Rattle.std.specs.Prelude.{◌≡◌};
 ghost use Rattle.std.specs.Str.{IsAscii};
 

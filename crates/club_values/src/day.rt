@@ -1,3 +1,5 @@
+//! Days from 2000 to 2099, and their texts.
+
 ghost use Rattle.std.specs.Prelude.{◌≡◌, ◌<◌, ◌≤◌, ◌↔◌, IsSome, IfSome, Some, pos};
 ghost use Rattle.jiff_core.specs.Date.{epoch_day};
 ghost use Rattle.club_values.specs.Reading.{Reads};
@@ -142,7 +144,7 @@ impl Day {
         [y1, y2, y3, y4, b'-', m1, m2, b'-', d1, d2]
     }
 
-    /// The day of a text `YYYY-MM-DD`; `None` where the text is no real date in range.
+    /// The day of a text `YYYY-MM-DD`; `None` if the text isn't a real date in range.
     pub fn read(text: &[u8]) -> Option<Day>
         ensures spelled { Reads (SpellsDay text.now) result }
         ensures function { result ≡ day_of_text text.now }

@@ -1,8 +1,10 @@
+//! Two decimal digits, parsed and written.
+
 ghost use Rattle.std.specs.Prelude.{◌≡◌, ◌<◌, ◌++◌, [], ◌∷◌};
 ghost use Rattle.club_values.specs.Reading.{Reads};
 ghost use Rattle.club_values.specs.Digits as spec;
 
-/// The number that two decimal digits spell.
+/// The number that two decimal digits spell; `None` if either isn't a digit.
 pub fn read_two(tens: u8, ones: u8) -> Option<u8>
     ensures { Reads (λ n. (n < 100) × (tens ∷ ones ∷ [] ≡ spec.two_digits n)) result }
 {

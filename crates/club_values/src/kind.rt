@@ -1,3 +1,5 @@
+//! The kinds of facilities, and their texts.
+
 ghost use Rattle.std.specs.Prelude.{◌≡◌, Some};
 ghost use Rattle.club_values.specs.Reading.{Reads};
 ghost use Rattle.club_values.specs.Kind.{kind_text};
@@ -5,7 +7,7 @@ ghost use Rattle.club_values.specs.TextOf.{kind_of_text};
 
 use std::fmt;
 
-/// What kind of facility it is.
+/// The kind of a facility.
 #[derive(Clone, Copy, Debug, PartialEq, Eq)]
 pub enum Kind {
     Court,

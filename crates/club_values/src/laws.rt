@@ -9,36 +9,36 @@ ghost use Rattle.club_values.specs.Laws.{
   ReadsMoments,
   IsTextOfDay,
   IsTextOfMoment,
-  TellsDays,
-  TellsMoments,
+  DistinctDayTexts,
+  DistinctMomentTexts,
 };
 
-/// `name_of_text` gives a name exactly where the text is one, and that name.
+/// `name_of_text` returns a name exactly if the text is a name, and the name is the text.
 pub fn reads_names()
     ensures { ReadsNames }
 {}
 
-/// `kind_of_text` gives a kind exactly where the text is the kind's.
+/// `kind_of_text` returns a kind exactly if the text spells that kind.
 pub fn reads_kinds()
     ensures { ReadsKinds }
 {}
 
-/// `action_of_text` gives an action exactly where the text is the action's.
+/// `action_of_text` returns an action exactly if the text spells that action.
 pub fn reads_actions()
     ensures { ReadsActions }
 {}
 
-/// `day_of_text` gives a day exactly where the text spells the day.
+/// `day_of_text` returns a day exactly if the text spells that day.
 pub fn reads_days()
     ensures { ReadsDays }
 {}
 
-/// `hour_of_text` gives an hour exactly where the text spells the hour.
+/// `hour_of_text` returns an hour exactly if the text spells that hour.
 pub fn reads_hours()
     ensures { ReadsHours }
 {}
 
-/// `moment_of_text` gives a moment exactly where the text spells the moment.
+/// `moment_of_text` returns a moment exactly if the text spells that moment.
 pub fn reads_moments()
     ensures { ReadsMoments }
 {}
@@ -53,12 +53,12 @@ pub fn is_text_of_moment()
     ensures { IsTextOfMoment }
 {}
 
-/// No two days have one text.
-pub fn tells_days()
-    ensures { TellsDays }
+/// Different days have different texts.
+pub fn distinct_day_texts()
+    ensures { DistinctDayTexts }
 {}
 
-/// No two moments have one text.
-pub fn tells_moments()
-    ensures { TellsMoments }
+/// Different moments have different texts.
+pub fn distinct_moment_texts()
+    ensures { DistinctMomentTexts }
 {}

@@ -1,5 +1,5 @@
-//! The values of the club's texts: names, kinds, actions, days, hours, moments and slots, each with
-//! its one text. Nothing here takes memory.
+//! The values of the club: names, kinds, actions, days, hours, moments and slots. Each but the slot
+//! has exactly one text. Nothing here allocates memory.
 #![tactic(auto)]
 
 mod action;

@@ -1,3 +1,5 @@
+//! Civil minutes from 2000 to 2099, and their texts.
+
 ghost use Rattle.std.specs.Prelude.{◌≡◌, ◌+◌, ◌*◌, ◌/◌, ◌%◌, ◌<◌, ◌↔◌, IsSome, IfSome, Some};
 ghost use Rattle.club_values.specs.Reading.{Reads};
 ghost use Rattle.club_values.specs.Day.{IsDay};
@@ -128,7 +130,7 @@ impl Moment {
         (self.number % u32::from(MINUTES_A_DAY)) as u16
     }
 
-    /// The moment of a text `YYYY-MM-DDTHH:MM`; `None` where the text is no moment in range.
+    /// The moment of a text `YYYY-MM-DDTHH:MM`; `None` if the text isn't a moment in range.
     pub fn read(text: &[u8]) -> Option<Moment>
         ensures spelled { Reads (SpellsMoment text.now) result }
         ensures function { result ≡ moment_of_text text.now }

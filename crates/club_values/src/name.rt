@@ -1,3 +1,5 @@
+//! The names of members, keys and facilities.
+
 ghost use Rattle.std.specs.Prelude.{◌≡◌, ◌↔◌, IsTrue, IsSome, IfSome, Some, nat_eq, refl};
 ghost use Rattle.std.specs.Ordering.{nat_cmp};
 ghost use Rattle.std.specs.Hash as fed;
@@ -40,17 +42,17 @@ impl Model for Name {
     ghost Value = { List ℕ };
 
     ghost use Rattle.club_values.specs.NameInside.{
-      bytes_of,
-      inside_of,
+      name_bytes,
+      name_inside,
       HoldsName,
       inside_of-bytes_of,
     };
 
-    ghost view = { bytes_of };
+    ghost view = { name_bytes };
 
     ghost invariant = { HoldsName };
 
-    ghost inverse = { inside_of };
+    ghost inverse = { name_inside };
 
     ghost inverse_ok = { inside_of-bytes_of };
 }
@@ -85,7 +87,7 @@ impl Name {
             && text.iter().all(|byte| is_name_byte(*byte))
     }
 
-    /// The name that a text is; `None` where it is no name.
+    /// The text as a name; `None` if it isn't one.
     pub fn read(text: &[u8]) -> Option<Name>
         ensures named { IsSome result ↔ IsName text.now }
         ensures value { IfSome result (λ name. name ≡ text.now) }

@@ -1,3 +1,5 @@
+//! Slots: an hour of a facility on a day.
+
 ghost use Rattle.std.specs.Prelude.{◌≡◌, ◌+◌, ◌≤◌};
 ghost use Rattle.club_values.specs.Moment.{last_moment, minutes_an_hour};
 
@@ -6,7 +8,7 @@ use crate::hour::Hour;
 use crate::moment::{MINUTES_A_DAY, MINUTES_AN_HOUR};
 use crate::name::Name;
 
-/// The most guests that a booking of a slot brings, beside its member.
+/// The most guests of a booking, not counting its member.
 pub const MAX_GUESTS: u8 = 49;
 
 /// An hour of a facility on a day.

@@ -1,13 +1,13 @@
-//! The facilities desk of a club on the command line: `desk_commands` on the process's words, its
-//! standard input, output and error, over databases in files.
+//! The facilities desk of a club on the command line: runs `clubdesk_commands` on the process's
+//! arguments and standard streams, over databases in files.
 #![tactic(auto)]
 
 ghost use Rattle.std.specs.Prelude.{IfErr};
-ghost use Rattle.desk_commands.specs.Fault.{IsNotText};
+ghost use Rattle.clubdesk_commands.specs.Fault.{IsNotText};
 
 use club_http::WriteOutlet;
-use desk_commands::{Fault, not_text, run};
-use desk_files::Files;
+use clubdesk_commands::{Fault, not_text, run};
+use clubdesk_files::Files;
 use desk_server::LogLines;
 use std::process::ExitCode;
 use std::{env, io};
@@ -16,7 +16,7 @@ fn main(rt: HostRuntime) -> ExitCode {
     let status = match run_here(&rt) {
         Ok(()) => 0,
         Err(fault) => {
-            // Nothing is left to be told where standard error fails.
+            // A failure of standard error can't be reported.
             let _ = report(&rt, &fault);
             fault.status()
         }
@@ -24,7 +24,7 @@ fn main(rt: HostRuntime) -> ExitCode {
     ExitCode::from(status)
 }
 
-// Runs on the process's words, standard input and standard output.
+// Runs the program on the process's arguments and standard streams.
 fn run_here(rt: &HostRuntime) -> Result<(), Fault> {
     let words = given_words(rt)?;
     let mut files = Files::new(rt);

@@ -1,47 +1,46 @@
-//! A task over two files of which one stops, at each of its calls in turn, and what stands then.
+//! A task over two files, of which one fails at each of its calls in turn, and the club after it.
 
 use crate::disk::{Bytes, Part, Stops, has_calls_left, restarted};
 use crate::events::{Event, FIXTURE};
 use crate::expect::{append, expect_eq, push, text};
-use crate::plain::{Version, lines_of, replies};
+use crate::reference_club::{Version, lines_of, replies};
 use crate::texts::FAILURES;
 use crate::version_1::{OLDER_ROOTS, STATEMENTS};
 use crate::work::{Work, done};
-use club_plain::Club;
+use club_reference::Club;
 use sqlite::Files;
 use std::alloc::Global;
 use std::process::Abort;
 
-/// What stands in the files before the task.
+/// The files before the task.
 #[derive(Clone, Copy)]
 pub(crate) enum Beginning {
     /// They are empty.
     Nothing,
     /// A desk has made the club of the fixture and these events.
     Made(&'static [Event]),
-    /// Statements have made tables of version 1 with such a club.
+    /// Statements have made tables of version 1 with such a club in them.
     First(&'static [Event]),
-    /// And then those of version 2 without the index of the bookings.
+    /// The same, then changed to version 2 without the index of the bookings.
     Unindexed(&'static [Event]),
 }
 
-/// A task, and what comes of it.
+/// A task, and its expected results.
 pub(crate) struct Trial {
     pub beginning: Beginning,
-    /// Events at the desk that is opened, or none where the opening is the task.
+    /// Events at the desk that is opened; none if the opening is the task.
     pub task: &'static [Event],
-    /// What happens once the machine is back: the task again, and more that changes nothing.
+    /// Events after the restart: the task again, and requests that change nothing.
     pub again: &'static [Event],
-    /// The replies to that where the task wasn't done, and where it was.
+    /// The replies to these if the task wasn't done, and if it was.
     pub first: &'static [&'static str],
     pub repeated: &'static [&'static str],
-    /// How often the task calls the log, and the database.
+    /// The number of the task's calls of the log, and of the database.
     pub calls: [u64; 2],
 }
 
-/// The files before the task; and what is found in files in which the club from before it stands,
-/// and in such with the one from after it: their rows, the replies to the task again, and the rows
-/// then.
+/// The files before the task; and the expected lines of files with the club from before the task,
+/// and with the one from after it: their rows, the replies to the task again, and the rows then.
 #[derive(Drop)]
 struct Prepared {
     bytes: Bytes,
@@ -58,7 +57,7 @@ impl Beginning {
         }
     }
 
-    /// The plain machine's club.
+    /// The reference machine's club.
     fn club(&self, rt: &(impl Abort + Alloc<A = Global>)) -> Club {
         let mut club = Club::new(rt.alloc());
         match *self {
@@ -104,12 +103,12 @@ fn owned(rt: &(impl Abort + Alloc<A = Global>), lines: &[&str]) -> Vec<String> {
 enum End {
     /// The database wasn't opened.
     NotOpened,
-    /// All that the desk replied is that it failed.
+    /// The desk replied only that it failed.
     Failed,
     Done,
 }
 
-/// Whether all that a desk replied is that it failed.
+/// Whether a desk replied only that it failed.
 fn has_failed(replies: &[String]) -> bool {
     match replies {
         [reply] => FAILURES.contains(&reply.as_str()),
@@ -117,8 +116,7 @@ fn has_failed(replies: &[String]) -> bool {
     }
 }
 
-/// What is found where these rows stand and the replies are these, after which the rows are those
-/// of the club.
+/// The lines of files with these rows, these replies, and the club's rows after them.
 fn found_from(
     rt: &(impl Abort + Alloc<A = Global>),
     mut rows: Vec<String>,
@@ -143,14 +141,14 @@ impl Trial {
         }
     }
 
-    /// The replies where the task is done, which are the first of those to it again.
+    /// The replies if the task is done: the first of those to the task again.
     fn replies(&self, rt: &(impl Abort + Alloc<A = Global>)) -> Vec<String> {
         let mut wanted = owned(rt, self.first);
         wanted.truncate(self.task.len());
         wanted
     }
 
-    /// How the task ended, by its replies: where it wasn't done, they are none or a failure.
+    /// How the task ended, by its replies: if it wasn't done, there is none or a failure.
     fn end(&self, rt: &(impl Abort + Alloc<A = Global>), replies: &Option<Vec<String>>) -> End {
         match replies {
             None => End::NotOpened,
@@ -162,8 +160,9 @@ impl Trial {
         }
     }
 
-    /// Whether the club of before the task may stand once it has ended so, and that of after it.
-    fn may_stand(&self, end: End) -> (bool, bool) {
+    /// Whether the club from before the task may be found after this end, and the one from after
+    /// it.
+    fn may_be_found(&self, end: End) -> (bool, bool) {
         match end {
             End::NotOpened => (true, self.task.is_empty()),
             End::Failed => (true, true),
@@ -171,9 +170,9 @@ impl Trial {
         }
     }
 
-    /// Ends the test unless the club in these files is whole and one that may stand, and with the
-    /// task again is the one after it.
-    fn stands(
+    /// Ends the test unless the files hold one of the clubs that may be found, whole, and after the
+    /// task again the club after it.
+    fn expect_whole(
         &self,
         rt: &(impl Abort + Alloc<A = Global>),
         prepared: &Prepared,
@@ -182,7 +181,7 @@ impl Trial {
     ) {
         let (found, _) = done(rt, files, Work::Inspects(self.again));
         let found = found.expect(rt, "a database");
-        let (before, after) = self.may_stand(end);
+        let (before, after) = self.may_be_found(end);
         let is_before = before && found == prepared.from_before;
         if !is_before {
             let wanted = if after {
@@ -194,9 +193,9 @@ impl Trial {
         }
     }
 
-    /// Does the task on files of which one stops after so many calls. The files are opened again
-    /// as a machine leaves them that loses what wasn't synced, and as one that loses nothing.
-    /// Answers whether the file would have taken a call more: then it didn't stop.
+    /// Does the task on files of which one fails after so many calls. Then reopens the files, once
+    /// without what wasn't synced, and once with it. Returns whether the file had calls left: then
+    /// it didn't fail.
     fn survives(
         &self,
         rt: &(impl Abort + Alloc<A = Global>),
@@ -207,20 +206,20 @@ impl Trial {
         let files = prepared.bytes.stopping(rt, part, calls);
         let (replies, mut files) = done(rt, files, Work::Serves(self.task));
         let end = self.end(rt, &replies);
-        let goes_on = has_calls_left(&mut files, part);
+        let has_more_calls = has_calls_left(&mut files, part);
         let kept = Bytes::left_in(rt, &files);
-        self.stands(rt, prepared, end, kept.files(rt));
-        self.stands(rt, prepared, end, restarted(files));
+        self.expect_whole(rt, prepared, end, kept.files(rt));
+        self.expect_whole(rt, prepared, end, restarted(files));
         expect_eq(
             rt,
             "done or stopped",
-            &(end == End::Done || !goes_on),
+            &(end == End::Done || !has_more_calls),
             &true,
         );
-        goes_on
+        has_more_calls
     }
 
-    /// How many calls of one of the files the task makes. It stops at each of them in turn.
+    /// The number of the task's calls of one file, which fails at each of them in turn.
     fn calls_of(
         &self,
         rt: &(impl Abort + Alloc<A = Global>),
@@ -235,7 +234,7 @@ impl Trial {
         1_000
     }
 
-    /// Ends the test unless the club is whole wherever one of the files stops.
+    /// Ends the test unless the club is whole wherever one of the files fails.
     pub fn holds(&self, rt: &(impl Abort + Alloc<A = Global>)) {
         let prepared = self.prepared(rt);
         let files = prepared.bytes.files(rt);

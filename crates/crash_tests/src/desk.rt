@@ -7,7 +7,7 @@ use club_gate::OfficeReply;
 use club_http::{
     Desk, Face, MAX_REPLY_LEN, ReadInlet, Routes, WriteOutlet, answer, reply_bytes, words_of,
 };
-use pass_caveats::Day;
+use club_values::Day;
 use std::alloc::Global;
 use std::process::Abort;
 
@@ -19,7 +19,7 @@ pub(crate) fn reply_text(rt: &(impl Abort + Alloc<A = Global>), reply: &Reply) -
     String::from_utf8(bytes).ok().expect(rt, "a text")
 }
 
-/// What the office is answered: `done`, the signature of a pass, or why nothing was done.
+/// The answer to the office: `done`, the signature of a pass, or why nothing was done.
 pub(crate) fn office_text(rt: &(impl Abort + Alloc<A = Global>), reply: &OfficeReply) -> String {
     match reply {
         OfficeReply::Done => text(rt, format!(in rt.alloc(); "done")),
@@ -28,7 +28,7 @@ pub(crate) fn office_text(rt: &(impl Abort + Alloc<A = Global>), reply: &OfficeR
     }
 }
 
-/// The desk is asked what the bytes of a request ask.
+/// The reply to a request's bytes, by `Desk::ask`.
 fn asked<S: ClubStore>(
     rt: &(impl Abort + Alloc<A = Global>),
     desk: &mut Desk<S>,
@@ -43,7 +43,7 @@ fn asked<S: ClubStore>(
     reply_text(rt, &reply)
 }
 
-/// The bytes of a request are read, and what is written is the reply and nothing else.
+/// The reply to a request's bytes, by `answer`, which writes the reply and nothing else.
 fn exchanged<S: ClubStore>(
     rt: &(impl Abort + Alloc<A = Global>),
     desk: &mut Desk<S>,

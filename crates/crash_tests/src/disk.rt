@@ -1,4 +1,4 @@
-//! Two files in memory, of which one stops after so many calls.
+//! Two files in memory, of which one fails after so many calls.
 
 use sqlite::Files;
 use sqlite_disk::{Crash, Disk, Fuse, Memory};
@@ -15,7 +15,7 @@ pub(crate) enum Part {
     Database,
 }
 
-/// What the files hold.
+/// The bytes of the files.
 #[derive(Drop)]
 pub(crate) struct Bytes {
     log: Vec<u8>,
@@ -32,7 +32,7 @@ fn disk(rt: &(impl Abort + Alloc<A = Global>), bytes: &[u8]) -> Memory {
     disk
 }
 
-/// Whatever is in the file, synced or not.
+/// The bytes of the file, synced or not.
 fn bytes_in(rt: &(impl Abort + Alloc<A = Global>), file: &Stops) -> Vec<u8> {
     Vec::from_slice(rt.alloc(), file.inner().bytes()).expect(rt, "memory")
 }
@@ -46,7 +46,7 @@ impl Bytes {
         }
     }
 
-    /// What a process leaves in these files that ends where the machine goes on: all of it.
+    /// What remains of the files if the process ends, but the machine doesn't stop: all of it.
     pub fn left_in(rt: &(impl Abort + Alloc<A = Global>), files: &Files<Stops>) -> Bytes {
         Bytes {
             log: bytes_in(rt, &files.log),
@@ -54,12 +54,12 @@ impl Bytes {
         }
     }
 
-    /// Files that never stop.
+    /// Files that never fail.
     pub fn files(&self, rt: &(impl Abort + Alloc<A = Global>)) -> Files<Stops> {
         self.stopping(rt, Part::Log, u64::MAX)
     }
 
-    /// Files of which one stops after so many calls.
+    /// Files of which one fails after so many calls.
     pub fn stopping(
         &self,
         rt: &(impl Abort + Alloc<A = Global>),
@@ -90,7 +90,7 @@ pub(crate) fn has_calls_left(files: &mut Files<Stops>, part: Part) -> bool {
     }
 }
 
-/// The machine comes back: what was not synced is lost, and no call stops.
+/// The files after a restart of the machine: what wasn't synced is lost, and no call fails.
 pub(crate) fn restarted(mut files: Files<Stops>) -> Files<Stops> {
     files.log.crash();
     files.db.crash();

@@ -1,7 +1,8 @@
-//! What happens at a desk, in plain values.
+//! Events at a desk, as plain values.
 
-use club_core::{Command, Root};
-use pass_caveats::{Day, Hour, Kind, Moment, Name, Slot};
+use club_core::Command;
+use club_rows::Root;
+use club_values::{Day, Hour, Kind, Moment, Name, Slot};
 use std::process::Abort;
 
 /// The first root of the keys, and another one.
@@ -21,19 +22,19 @@ pub(crate) enum Order {
     AddFacility(&'static str, Kind, u32, u32),
     /// A key of a member with this root.
     AddKey(&'static str, &'static str, &'static [u8]),
-    /// Another root for a key. Passes under the one that it had are good until the moment.
+    /// Another root for a key. Passes under the older root are good until the moment.
     RotateKey(&'static str, &'static [u8], &'static str),
     /// Closes `court-1` on 2026-05-01 at this hour.
     CloseSlot(u8),
 }
 
-/// What happens at a desk.
+/// An event at a desk.
 #[derive(Clone, Copy)]
 pub(crate) enum Event {
     Orders(Order),
-    /// At a moment the desk is asked what these bytes ask.
+    /// The request of these bytes, at a moment, by `Desk::ask`.
     Asks(&'static str, &'static str),
-    /// At a moment these bytes are read, and the reply is written.
+    /// The request of these bytes, at a moment, by `answer`.
     Exchanges(&'static str, &'static str),
 }
 

@@ -1,5 +1,5 @@
-//! Tests of crashes: a task at a desk over two files, of which one stops at each of its calls in
-//! turn, and the club that a store finds which is opened on what the crash left.
+//! Tests of crashes: a task at a desk over two files, of which one fails at each of its calls in
+//! turn, and the club that a reopened store finds.
 #![tactic(auto)]
 
 #[cfg(test)]
@@ -13,9 +13,9 @@ mod events;
 #[cfg(test)]
 mod expect;
 #[cfg(test)]
-mod plain;
-#[cfg(test)]
 mod real_files;
+#[cfg(test)]
+mod reference_club;
 #[cfg(test)]
 mod tables;
 #[cfg(test)]

@@ -1,12 +1,13 @@
-//! Real files: one whose last booking lies in its log alone, and the laws of crashes at two.
+//! Real files: one whose last booking is only in its log, and two at which the crash laws are
+//! called.
 
 use crate::events::{Event, FIXTURE};
 use crate::expect::expect_eq;
 use crate::texts::{BOOK_7, BOOKED_7, DONE, NOON};
 use crate::work::{Work, worked};
 use club_store::Store;
-use club_store::laws::{files_hold_one_of, memory_is_honest, one_stands_again};
-use desk_law::served_survives_a_crash;
+use club_store::laws::{files_hold_one_of, memory_disk_is_clean, one_club_recovered};
+use desk_theorem::served_survives_a_crash;
 use sqlite::{FileFrom, FileStore, MemStore, Unknown};
 use std::alloc::Global;
 use std::process::Abort;
@@ -40,7 +41,7 @@ fn opened(rt: &HostRuntime, path: &str) -> Result<RealStore, Fail> {
     }
 }
 
-/// What is done over a real file.
+/// A task over a real file.
 #[derive(Clone, Copy)]
 enum Visit {
     /// The fixture is made, and the file is closed.
@@ -66,7 +67,7 @@ impl Visit {
         }
     }
 
-    /// The last line that comes of it.
+    /// The last line of its output.
     fn line(self) -> &'static str {
         match self {
             Visit::Makes => DONE,
@@ -86,9 +87,9 @@ fn visited(rt: &(impl Abort + Alloc<A = Global>), store: RealStore, visit: Visit
     }
 }
 
-// The booking leaves the file as it was, and its log has it: the sheet that is printed then too.
+// The booking is only in the log, and the file is unchanged: the sheet shows the booking.
 #[test]
-fn prints_a_booking_that_lies_in_the_log_alone(rt: HostRuntime) -> Result<(), Fail> {
+fn prints_a_booking_in_the_log_alone(rt: HostRuntime) -> Result<(), Fail> {
     let path = new_path(&rt, "log")?;
     let path = path.as_str();
     visited(&rt, opened(&rt, path)?, Visit::Makes);
@@ -101,12 +102,12 @@ fn prints_a_booking_that_lies_in_the_log_alone(rt: HostRuntime) -> Result<(), Fa
     Ok(())
 }
 
-/// Each law, at these stores.
+/// Calls each law at these stores.
 fn hold(before: &FileStore<FileFrom<Unknown>>, after: &RealStore, memory: &Store<MemStore>) {
     files_hold_one_of(before);
-    one_stands_again(before, after);
+    one_club_recovered(before, after);
     served_survives_a_crash(before, after);
-    memory_is_honest(memory);
+    memory_disk_is_clean(memory);
 }
 
 #[test]

@@ -5,8 +5,8 @@ use sqlite::{Alter, Connection, Row};
 use std::alloc::Global;
 use std::process::Abort;
 
-/// A table: its name, and what makes a line of each row that says something. A slot that is open
-/// and that nobody has booked is as one without a row.
+/// A table: its name, and the statement that makes a line of each row. The row of a slot that is
+/// open and that nobody has booked is left out.
 struct Table {
     name: &'static str,
     lines: &'static str,
@@ -49,7 +49,7 @@ static TABLES: [Table; 7] = [
     },
 ];
 
-/// The line that stands for a table that isn't there.
+/// The line of a table that isn't there.
 pub(crate) fn none_of(rt: &(impl Abort + Alloc<A = Global>), table: &str) -> String {
     text(rt, format!(in rt.alloc(); "no {table}"))
 }

@@ -1,4 +1,4 @@
-//! The tasks in which a disk stops.
+//! The tasks in which a disk fails.
 
 use crate::crash::{Beginning, Trial};
 use crate::events::{Event, Order, ROOT, SECOND_ROOT};

@@ -1,4 +1,4 @@
-//! Requests and replies byte for byte, and what the office is answered, from worked rows and by an
+//! Requests and replies byte for byte, and answers to the office, from worked rows and by an
 //! independent program.
 
 pub(crate) const NOON: &str = "2026-04-20T12:00";
@@ -68,7 +68,7 @@ const UNAVAILABLE: &str =
 
 const _: () = prove!(UNAVAILABLE.len() == 140);
 
-/// What a member or the office may be answered where a disk stops.
+/// The replies to a member and to the office if a disk fails.
 pub(crate) static FAILURES: [&str; 2] = [UNAVAILABLE, "storage failed"];
 
 pub(crate) const DONE: &str = "done";

@@ -1,5 +1,5 @@
-//! Tables of version 1 with a club, and what makes them those of version 2 without the index of
-//! the bookings.
+//! Statements that make tables of version 1 with a club, and that change them to version 2 without
+//! the index of the bookings.
 
 /// Makes the tables, and the rows of the fixture: amy's booking of the court under number 7, and
 /// her booking of the room under number 8, which is cancelled with a refund of 300.

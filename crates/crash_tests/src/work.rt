@@ -1,4 +1,4 @@
-//! What is done over a database in two files.
+//! Tasks over a database in two files.
 
 use crate::desk::{replies, sheet};
 use crate::disk::Stops;
@@ -12,12 +12,12 @@ use sqlite_disk::Disk;
 use std::alloc::Global;
 use std::process::Abort;
 
-/// What is done over a database that is opened for it, and closed behind it.
+/// A task over a database that is opened before it and closed after it.
 #[derive(Clone, Copy)]
 pub(crate) enum Work {
     /// Statements are run.
     Runs(&'static [&'static str]),
-    /// A desk is opened, at which this happens.
+    /// A desk is opened, and answers these events.
     Serves(&'static [Event]),
     /// The sheet of 2026-05-01 is printed.
     Prints,
@@ -31,7 +31,7 @@ fn run<S: Alter>(rt: &impl Abort, connection: &mut Connection<S>, statements: &[
     }
 }
 
-/// The replies of a desk over the database; `None` where no store takes it.
+/// The replies of a desk over the database; `None` if no store adopts it.
 fn served<S: Alter + Drop>(
     rt: &(impl Abort + Alloc<A = Global>),
     connection: Connection<S>,
@@ -47,7 +47,7 @@ fn served<S: Alter + Drop>(
     }
 }
 
-/// The sheet that a desk over the database prints; `None` where no store takes it.
+/// The sheet that a desk over the database prints; `None` if no store adopts it.
 fn printed<S: Alter + Drop>(
     rt: &(impl Abort + Alloc<A = Global>),
     connection: Connection<S>,
@@ -75,7 +75,7 @@ fn inspected<S: Alter + Drop>(
     (Some(lines), connection)
 }
 
-/// Does this over a database: the lines that come of it, `None` where no store takes it.
+/// Does this over a database: the lines of output, `None` if no store adopts it.
 pub(crate) fn worked<S: Alter + Drop>(
     rt: &(impl Abort + Alloc<A = Global>),
     mut connection: Connection<S>,
@@ -112,8 +112,8 @@ fn closed<D: Disk + Drop>(connection: Connection<FileStore<D>>) -> Files<D> {
     }
 }
 
-/// Does this over the database in these files: the lines that come of it, `None` where it wasn't
-/// opened; and the files as they are left. It is the one function here that
+/// Does this over the database in these files: the lines of output, `None` if it wasn't opened; and
+/// the files after it. It is the one function here that
 /// names their type: the proof of each takes half a minute.
 pub(crate) fn done(
     rt: &(impl Abort + Alloc<A = Global>),

@@ -1,20 +1,20 @@
 -- The lines of a log, from what it notes.
 use Rattle.std.proofs.Common.{◌≡◌, ℕ, List, Option}
 use Rattle.desk_server.specs.Laws.{WritesLines}
-use Rattle.desk_server.specs.Log.{AreWritten, IsWritten, line_text}
+use Rattle.desk_server.specs.Log.{AreWritten, IsTextWritten, line_text}
 use Rattle.desk_server.specs.Log as log
 use Rattle.desk_server.specs.Served.{AreNoted, IsNoted, Notes}
 use Rattle.desk_server.specs.Served as served
 use Rattle.desk_server.specs.declared.log.Fate.{Fate}
 use Rattle.desk_server.specs.declared.log.Fate.TheVariants.{Absent, Unanswered, Exchanged}
 
--- a log whose notes write a line each
+-- a log that writes a line for each note
 module _ {Log : Type 0} (Begins : Log → Log → Type 0) (Noted : Notes Log) (taken : Log → Option (List ℕ)) (failures : Log → ℕ)
     (keeps : (old new : Log) → Begins old new → (taken new ≡ taken old) × (failures new ≡ failures old))
     (writes : (old : Log) (fate : Fate) (new : Log) → Noted old fate new
-    → (microseconds : ℕ) × IsWritten (taken old) (taken new) (failures old) (failures new) (line_text fate microseconds)) where
+    → (microseconds : ℕ) × IsTextWritten (taken old) (taken new) (failures old) (failures new) (line_text fate microseconds)) where
   abbrev Line : Log → Fate → Log → Type 0
-  Line old fate new = (microseconds : ℕ) × IsWritten (taken old) (taken new) (failures old) (failures new) (line_text fate microseconds)
+  Line old fate new = (microseconds : ℕ) × IsTextWritten (taken old) (taken new) (failures old) (failures new) (line_text fate microseconds)
 
   line_behind : (old begun : Log) (fate : Fate) (new : Log) → Begins old begun → Noted begun fate new → Line old fate new
   line_behind old begun fate new begins noted =

@@ -18,7 +18,7 @@ at_most request len few = elim (cases_lt (length request) 96) [
   | inr long ↦ let whole : len ≡ 96 = grind (arith, nat_tests) in ap (λ (n : ℕ). take n request) whole
 ]
 
--- the first 96 bytes, at the front of a room
+-- the first 96 bytes, at the front of a buffer
 pub front_kept : (request part rest : List ℕ) (len : ℕ) → len ≡ min (length request) 96 → part ≡ take len request → take len (part ++ rest) ≡ take 96 request
 front_kept request part rest len few is =
     let within : len ≤ length request = grind (arith, nat_tests) in

@@ -1,24 +1,24 @@
--- Lemmas on what a server does.
+-- Lemmas on the steps of a server.
 use Rattle.std.proofs.Common.{◌≡◌, ℕ, ◌+◌, List, [], ◌∷◌, ◌++◌, length, arith, add-one, length-append, refl, Ok, Err}
 use Rattle.std.specs.Prelude.{Option, Result}
 use Rattle.club_core.specs.declared.reply.Reply.{Reply}
 use Rattle.club_http.specs.Ends.{one_more}
 use Rattle.club_http.specs.Exchange.{Exchanges, Replies}
-use Rattle.club_http.specs.Replied.{Asks}
+use Rattle.club_http.specs.Replied.{AnswerRelation}
 use Rattle.club_http.specs.declared.fault.AnswerFault.{AnswerFault}
 use Rattle.club_http.specs.declared.fault.AnswerFault.TheVariants.{Read, Write}
-use Rattle.desk_server.specs.Served.{AreServed, CountsOn, Ends, HasAnswered, Idles, IsExchanged, IsServed, Tells, failures_after}
+use Rattle.desk_server.specs.Served.{AreServed, CountsOn, Ends, HasAnswered, Idles, IsExchanged, ServesOne, GivesMoment, failures_after}
 use Rattle.desk_server.specs.Served as spec
 use Rattle.desk_server.specs.declared.log.Fate.{Fate}
 use Rattle.desk_server.specs.declared.log.Fate.TheVariants.{Absent, Unanswered, Exchanged}
 
--- one more than so many
+-- a count of i, and one more
 pub counts_more : (waited i now new : ℕ) → CountsOn waited i now → CountsOn now 1 new → CountsOn waited (i + 1) new
 counts_more waited i now new so_far more fits = let before : now ≡ waited + i = so_far (omega arith) in let last : new ≡ now + 1 = more (omega arith) in
     omega arith
 
--- what an exchange did to a desk, of all that it did
-pub exchanged : {Desk : Type 0} (Answers : Asks Desk) (before after : Option (List ℕ)) (bytes : List ℕ) (old new : Desk) (Cut Silent : Type 0)
+-- the part of an exchange's contract that is about the desk
+pub exchanged : {Desk : Type 0} (Answers : AnswerRelation Desk) (before after : Option (List ℕ)) (bytes : List ℕ) (old new : Desk) (Cut Silent : Type 0)
     (Writes : List ℕ → Type 0) (outcome : Result Reply AnswerFault)
     → Exchanges (λ reply. Replies Answers before after bytes old reply new) (Cut × (new ≡ old) × Silent) Writes outcome
     → IsExchanged Answers bytes old outcome new
@@ -26,42 +26,42 @@ exchanged Answers before after bytes old new Cut Silent Writes (Ok reply) (decid
 exchanged Answers before after bytes old new Cut Silent Writes (Err Read) (cut, same, silent) = same
 exchanged Answers before after bytes old new Cut Silent Writes (Err (Write n)) (reply, decides, fewer, written) = (reply, decides.replied, fewer, tt)
 
--- of a list that is one longer
+-- the length of a list with one more item
 pub length_more : (fates : List Fate) (fate : Fate) → length (fates ++ fate ∷ []) ≡ length fates + 1
 length_more fates fate = length-append fates (fate ∷ [])
 
-one_failure : (failures failed : ℕ) → one_more (failures_after failures failed) ≡ failures_after failures (failed + 1)
-one_failure failures failed = rw (add-one failed) refl
+one_failure : (failures failed_count : ℕ) → one_more (failures_after failures failed_count) ≡ failures_after failures (failed_count + 1)
+one_failure failures failed_count = rw (add-one failed_count) refl
 
-module _ {Clock Desk Connection : Type 0} (Told : Tells Clock) (Answers : ℕ → Asks Desk) (Idled : Idles Desk)
+module _ {Clock Desk Connection : Type 0} (Gives : GivesMoment Clock) (Answers : ℕ → AnswerRelation Desk) (Idled : Idles Desk)
     (Ended : Ends Connection) where
   -- one connection more
   answered_more : (n : ℕ) (desk : Desk) (failures : ℕ) (clock : Clock) (d : Desk) (f : ℕ) (fate : Fate) (clock' : Clock) (desk' : Desk) (failures' : ℕ)
-      → HasAnswered Answers Idled n desk failures d f → IsServed Told Answers Idled Ended clock d f fate clock' desk' failures'
+      → HasAnswered Answers Idled n desk failures d f → ServesOne Gives Answers Idled Ended clock d f fate clock' desk' failures'
       → HasAnswered Answers Idled (n + 1) desk failures desk' failures'
   answered_more n desk failures clock d f Absent clock' desk' failures' so_far (one, same, kept) = record {
     exchanges = so_far.exchanges;
-    failed = so_far.failed + 1;
+    failed_count = so_far.failed_count + 1;
     all = omega (arith, so_far.all);
-    counted = rw (one, so_far.counted) (one_failure failures so_far.failed);
-    answered = rw kept so_far.answered;
+    failure_count = rw (one, so_far.failure_count) (one_failure failures so_far.failed_count);
+    desk_steps = rw kept so_far.desk_steps;
   }
   answered_more n desk failures clock d f (Exchanged moment line outcome) clock' desk' failures' so_far
-      (same, told, (bytes, begins, exchange), ended) = record {
+      (same, returned, (bytes, begins, exchange), ended) = record {
         exchanges = so_far.exchanges + 1;
-        failed = so_far.failed;
+        failed_count = so_far.failed_count;
         all = omega (arith, so_far.all);
-        counted = rw same so_far.counted;
-        answered = spec.another so_far.exchanges d desk' moment bytes outcome so_far.answered exchange;
+        failure_count = rw same so_far.failure_count;
+        desk_steps = spec.another so_far.exchanges d desk' moment bytes outcome so_far.desk_steps exchange;
       }
   answered_more n desk failures clock d f Unanswered clock' desk' failures' so_far never = absurd never
 
-  -- what the desk did, of all that was done
-  pub answered : (clock : Clock) (desk : Desk) (failures : ℕ) (fates : List Fate) (clock' : Clock) (desk' : Desk) (failures' : ℕ)
-      → AreServed Told Answers Idled Ended clock desk failures fates clock' desk' failures'
+  -- the part of the server's steps that is about the desk
+  pub desk_steps : (clock : Clock) (desk : Desk) (failures : ℕ) (fates : List Fate) (clock' : Clock) (desk' : Desk) (failures' : ℕ)
+      → AreServed Gives Answers Idled Ended clock desk failures fates clock' desk' failures'
       → HasAnswered Answers Idled (length fates) desk failures desk' failures'
-  answered clock desk failures _ _ _ _ spec.none =
-      record { exchanges = 0; failed = 0; all = refl; counted = refl; answered = spec.nobody }
-  answered clock desk failures _ _ _ _ (spec.more fates fate c d f c' d' f' before one) =
+  desk_steps clock desk failures _ _ _ _ spec.none =
+      record { exchanges = 0; failed_count = 0; all = refl; failure_count = refl; desk_steps = spec.nobody }
+  desk_steps clock desk failures _ _ _ _ (spec.more fates fate c d f c' d' f' before one) =
       rw (length_more fates fate) (answered_more (length fates) desk failures c d f fate c' d' f'
-      (answered clock desk failures fates c d f before) one)
+      (desk_steps clock desk failures fates c d f before) one)

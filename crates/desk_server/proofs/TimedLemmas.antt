@@ -1,4 +1,4 @@
--- Lemmas on bytes that several reads take.
+-- Lemmas on the bytes of several reads.
 use Rattle.std.proofs.Common.{◌≡◌, ℕ, ◌+◌, List, ◌++◌, length, Option, Some, None, sym, ap, ◌∙◌, append_assoc, length-append, arith}
 use Rattle.std.specs.Io.KnownBytes.{Consumes}
 

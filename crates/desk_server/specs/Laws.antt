@@ -4,7 +4,7 @@ use Rattle.desk_server.specs.Log.{AreWritten}
 use Rattle.desk_server.specs.Served.{AreNoted, Notes}
 use Rattle.desk_server.specs.declared.log.Fate.{Fate}
 
--- a log that has noted connections wrote their lines
+-- after a log has noted connections, it has written their lines
 abbrev pub WritesLines : {Log : Type 0} → (Log → Log → Type 0) → Notes Log → (Log → Option (List ℕ)) → (Log → ℕ) → Type 0
 WritesLines {Log} Begins Noted taken failures = (old new : Log) (fates : List Fate) → AreNoted Begins Noted old fates new
     → AreWritten (taken old) (failures old) fates (taken new) (failures new)

@@ -4,7 +4,7 @@ use Rattle.std.specs.Fmt.{decimal}
 use Rattle.std.specs.Io.KnownBytes.{Appends}
 use Rattle.club_core.specs.declared.reply.Reply.{Reply}
 use Rattle.club_core.specs.declared.reply.Reply.TheVariants.{Refused}
-use Rattle.club_core.specs.Refusal.{telling_of}
+use Rattle.club_core.specs.Refusal.{details_of}
 use Rattle.club_http.specs.Ends.{one_more}
 use Rattle.club_http.specs.declared.fault.AnswerFault.{AnswerFault}
 use Rattle.club_values.specs.Moment.{moment_text}
@@ -12,17 +12,17 @@ use Rattle.desk_server.specs.RequestLine.{method_of, path_of}
 use Rattle.desk_server.specs.declared.log.Fate.{Fate}
 use Rattle.desk_server.specs.declared.log.Fate.TheVariants.{Absent, Unanswered, Exchanged}
 
--- a word, or a dash where there is none
+-- a word, or a dash if there is none
 abbrev pub or_dash : Option (List ℕ) → List ℕ
 or_dash None = codes "-"
 or_dash (Some word) = word
 
 -- the HTTP status of a reply
 abbrev pub status_number : Reply → ℕ
-status_number (Refused refusal) = (telling_of refusal).status
+status_number (Refused refusal) = (details_of refusal).status
 status_number reply = 200
 
--- the status, where the reply was written whole
+-- the status, or a dash if the reply wasn't written whole
 abbrev pub status_text : Result Reply AnswerFault → List ℕ
 status_text (Ok reply) = decimal (status_number reply)
 status_text (Err fault) = codes "-"
@@ -37,18 +37,18 @@ front_text Absent = codes "- - - -"
 front_text Unanswered = codes "- - - -"
 front_text (Exchanged moment line outcome) = moment_text moment ++ request_text line ++ status_text outcome
 
--- a line: these, and the microseconds that the connection took
+-- a line: the front, and the microseconds that the connection took
 unfoldable pub line_text : Fate → ℕ → List ℕ
 line_text fate microseconds = front_text fate ++ codes " " ++ decimal microseconds ++ codes "\n"
 
--- a text was written whole; or, where the writer failed, a beginning of it
-abbrev pub IsWritten : Option (List ℕ) → Option (List ℕ) → ℕ → ℕ → List ℕ → Type 0
-IsWritten taken taken' failures failures' text =
+-- the writer took the whole text; or it failed, and took a prefix of it
+abbrev pub IsTextWritten : Option (List ℕ) → Option (List ℕ) → ℕ → ℕ → List ℕ → Type 0
+IsTextWritten taken taken' failures failures' text =
     (Appends taken taken' text × (failures' ≡ failures))
     ⊎ ((n : ℕ) × (n < length text) × Appends taken taken' (take n text) × (failures' ≡ one_more failures))
 
--- the lines of connections, in their order, each with some number of microseconds
+-- the writer took the lines of the connections, in their order, each with some number of microseconds
 pub data AreWritten (taken : Option (List ℕ)) (failures : ℕ) : List Fate → Option (List ℕ) → ℕ → Type 0 where
   no_line : AreWritten taken failures [] taken failures
   one_line : (fates : List Fate) (fate : Fate) (microseconds : ℕ) (t : Option (List ℕ)) (f : ℕ) (t' : Option (List ℕ)) (f' : ℕ)
-      → AreWritten taken failures fates t f → IsWritten t t' f f' (line_text fate microseconds) → AreWritten taken failures (fates ++ fate ∷ []) t' f'
+      → AreWritten taken failures fates t f → IsTextWritten t t' f f' (line_text fate microseconds) → AreWritten taken failures (fates ++ fate ∷ []) t' f'

@@ -13,7 +13,7 @@ use Rattle.club_values.specs.Reading.{Reads}
 unfoldable pub zone_of : List ℕ → Option (List ℕ)
 zone_of text = if is_some (read_whole text) then Some text else None
 
--- the zone is what the rule reads as
+-- the zone is the parsed rule
 abbrev pub IsZoneOf : List ℕ → TimeZone → Type 0
 IsZoneOf rule zone = read_whole rule ≡ Some (tz_view zone)
 
@@ -22,13 +22,13 @@ abbrev pub IsInMinute : ℤ → ℕ → Type 0
 IsInMinute nanos minute =
     (pos (minute * 60_000_000_000) ≤ℤ nanos) × (nanos <ℤ pos (minute * 60_000_000_000 + 60_000_000_000))
 
--- what a clock in the zone of a rule shows at an instant: its minute, where that is a moment of the club
+-- what a clock in the zone of a rule shows at an instant: the minute, if it is a moment of the club
 pub record IsShown (rule : List ℕ) (instant : ℤ) (moment : Option ℕ) : Type 0 where
   pub zone : TimeZone
   pub of_rule : IsZoneOf rule zone
   pub minute : Reads (λ n. IsMoment n × IsInMinute (instant +ℤ nanos_of_seconds (offset_at zone instant).seconds) n) moment
 
--- what is shown in the zone of a rule of the instant that was given, and none where none was
+-- the moment that the zone of a rule shows at a given instant; none without an instant
 abbrev pub ShowsIn : List ℕ → (Option Timestamp → Type 0) → Option ℕ → Type 0
 ShowsIn rule Given moment = (given : Option Timestamp) × Given given
     × MatchOption given (moment ≡ None) (λ instant. IsShown rule instant.nanosecond moment)

@@ -13,11 +13,11 @@ use std::time::{Clock, Duration};
 pub trait Connection {
     ghost use Rattle.desk_server.specs.Served.{Ends, IsExchanged};
 
-    // how an exchange with it may end
+    // the outcomes that an exchange with it may have
     ghost ends: { Ends Self };
 
-    /// One exchange with the desk, at a moment. Its outcome tells what the desk did; what was read
-    /// of the request stays in the face.
+    /// One exchange with the desk, at a moment. The desk changed as the returned outcome says; the
+    /// bytes that were read of the request stay in the face.
     ///
     /// # Errors
     ///
@@ -32,8 +32,8 @@ pub trait Connection {
         ensures ended { ends self.old result };
 }
 
-/// A connection that a listener accepted. Its request has to be there within the patience, its
-/// reply taken in as long, and what its client still sends is taken in as long once more.
+/// A connection that a listener accepted. The client has the patience for its request, the same
+/// time again for taking the reply, and once more for bytes that it still sends.
 #[derive(Drop)]
 pub struct Accepted<'c, C> {
     stream: TcpStream,
@@ -43,7 +43,7 @@ pub struct Accepted<'c, C> {
 }
 
 impl<'c, C: MonotonicClock> Accepted<'c, C> {
-    // One that was accepted now.
+    // A connection that was accepted now.
     fn new(stream: TcpStream, clock: &'c C, patience: Duration) -> Accepted<'c, C> {
         Accepted {
             stream,
@@ -54,8 +54,8 @@ impl<'c, C: MonotonicClock> Accepted<'c, C> {
     }
 
     // Ends a connection whose reply was written. A socket that is closed while bytes of its client
-    // are unread resets the connection, and a client that is still sending may then never read its
-    // reply. So the client learns first that no more comes, and what it still sends is taken.
+    // are unread resets the connection, and a client that is still sending may then lose its reply.
+    // So this shuts the writing side first, and then reads what the client still sends.
     fn end(&self) {
         if self.stream.shutdown(Shutdown::Write).is_ok() {
             let limit = Limit::after(self.clock, self.patience);
@@ -64,8 +64,8 @@ impl<'c, C: MonotonicClock> Accepted<'c, C> {
     }
 }
 
-/// As `club_http::answer` says, over the two ends of a stream. What they gave and took is known to
-/// no contract.
+/// An exchange as `club_http::answer` specifies, over a socket. No contract states which bytes a
+/// socket gives or takes.
 impl<C: MonotonicClock> Connection for Accepted<'_, C> {
     ghost ends = { λ _ _. Unit {0} };
 
@@ -94,20 +94,20 @@ pub trait Connections {
     ghost use Rattle.club_http.specs.Ends.{read_failures};
     ghost use Rattle.desk_server.specs.Served.{CountsOn};
 
-    // how many were waited for
+    // the number of calls of `accept`
     ghost waited: { Self → ℕ };
 
-    // how many of them failed before they were there
+    // the number of these calls that failed
     ghost failures: { Self → ℕ };
 
-    /// Waits for the next one; `None` where it failed.
+    /// Waits for the next connection; `None` if that failed.
     fn accept(&mut self) -> Option<Self::Connection>
         ensures waited { CountsOn (waited self.old) 1 (waited self.new) }
-        ensures counted { failures self.new ≡ read_failures (failures self.old) result };
+        ensures failure_count { failures self.new ≡ read_failures (failures self.old) result };
 }
 
-/// How many milliseconds the server rests after a connection that failed before it was there, so
-/// that a listener that fails at once doesn't count away all connections in a moment.
+/// How many milliseconds the server sleeps after `accept` failed, so that a listener that keeps
+/// failing doesn't use up all connections at once.
 const REST_MILLISECONDS: u64 = 10;
 
 /// The connections that a listener accepts, each with the same patience.
@@ -123,7 +123,7 @@ pub struct Listening<'a, C> {
 impl<'a, C: Clock> Listening<'a, C> {
     ghost use Rattle.std.specs.Prelude.{◌≡◌};
 
-    /// None was waited for yet. Limits are reckoned by this clock.
+    /// A source whose `accept` wasn't called yet. This clock measures the limits.
     pub fn new(listener: &'a TcpListener, clock: &'a C, patience: Duration) -> Listening<'a, C>
         ensures { result ≡ record {
           listener = listener.entry;

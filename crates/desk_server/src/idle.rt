@@ -7,15 +7,15 @@ use club_http::{Desk, Responder};
 pub trait IdleHook: Responder {
     ghost use Rattle.desk_server.specs.Served.{Idles};
 
-    // what a call does, with what it was before and is after
+    // the responder before and after a call
     ghost idles: { Idles Self };
 
-    /// An exchange is over, and its connection closed.
+    /// Called when an exchange is over and its connection closed.
     fn on_idle(&mut self)
         ensures { idles self.old self.new };
 }
 
-/// A desk stays as it is.
+/// A desk is unchanged.
 impl<S: ClubStore> IdleHook for Desk<S> {
     ghost use Rattle.std.specs.Prelude.{◌≡◌};
 

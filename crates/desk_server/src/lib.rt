@@ -1,5 +1,5 @@
-//! The server of the desk: connections one after the other, each at the moment that the club's
-//! clock shows.
+//! The server of the desk: it accepts connections one after the other, each at the moment that the
+//! club's clock shows.
 #![tactic(auto)]
 
 mod connections;

@@ -7,15 +7,15 @@ pub trait MonotonicClock {
     ghost use Rattle.std.specs.Prelude.{ℕ, Option};
     ghost use Rattle.desk_server.specs.Limits.{nanos_of};
 
-    // the nanoseconds that it may show; none where it can't be read
+    // the nanoseconds that it may show; none if it can't be read
     ghost shows: { Self → Option ℕ → Type 0 };
 
-    /// The instant now; `None` where it can't be read.
+    /// The instant now; `None` if the clock can't be read.
     fn instant_now(&self) -> Option<Instant>
         ensures { shows self.now (nanos_of result) };
 }
 
-/// That of the machine, of which nothing is promised.
+/// The machine's clock; the contract promises nothing about its instants.
 impl<C: Clock> MonotonicClock for C {
     ghost shows = { λ _ _. Unit {0} };
 
@@ -24,7 +24,7 @@ impl<C: Clock> MonotonicClock for C {
     }
 }
 
-/// The time by which something has to be there.
+/// A deadline by a clock.
 #[derive(Drop)]
 pub struct Limit<'c, C> {
     clock: &'c C,
@@ -36,8 +36,8 @@ impl<'c, C: MonotonicClock> Limit<'c, C> {
     ghost use Rattle.std.specs.Duration.{as_nanos};
     ghost use Rattle.desk_server.specs.Limits.{AtShown, due_after, left_until, nanos_of};
 
-    /// The time that is so much later than now. Where the clock can't be read, or has no such time,
-    /// nothing is ever left of it.
+    /// The deadline that is this much later than now. If the clock can't be read, or has no such
+    /// time, the limit is over at once.
     pub fn after(clock: &'c C, patience: Duration) -> Limit<'c, C>
         ensures clock { result.clock ≡ clock.entry }
         ensures due { AtShown (C.shows clock.entry.now)
@@ -50,7 +50,7 @@ impl<'c, C: MonotonicClock> Limit<'c, C> {
         Limit { clock, due }
     }
 
-    /// How long it is until then; zero where it has passed, or the clock can't be read.
+    /// The time until the deadline; zero if it has passed, or the clock can't be read.
     pub fn left(&self) -> Duration
         ensures { AtShown (C.shows self.now.clock.now)
             (λ shown. as_nanos result ≡ left_until (nanos_of self.now.due) shown) }

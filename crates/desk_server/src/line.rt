@@ -1,10 +1,10 @@
-//! A line of the log, as it is made.
+//! A buffer for one line of the log.
 
 use itoa::Buffer;
 use std::marker::Model;
 
-/// Room for a line: the texts of a moment, a method and a path have 16, 7 and at most 96 bytes, and
-/// each of two numbers at most 20.
+/// The length of the buffer: the texts of a moment, a method and a path have at most 16, 7 and 96
+/// bytes, and each of two numbers at most 20.
 const MAX_LINE_LEN: usize = 192;
 
 /// The bytes that were pushed so far. Contracts see them as a list, which has at most 192 bytes.
@@ -28,7 +28,7 @@ impl Line {
     ghost use Rattle.std.specs.Prelude.{◌≡◌, ◌≤◌, ◌+◌, ◌++◌, [], length};
     ghost use Rattle.std.specs.Fmt.{decimal};
 
-    /// Nothing was pushed yet.
+    /// An empty line.
     pub(crate) fn new() -> Line
         ensures { result ≡ [] }
     {
@@ -38,7 +38,7 @@ impl Line {
         }
     }
 
-    /// Puts bytes behind the others.
+    /// Appends bytes.
     pub(crate) fn push(&mut self, bytes: &[u8])
         requires { length self.old + length bytes.now ≤ 192 }
         ensures bytes { self.new ≡ self.old ++ bytes.now }
@@ -49,7 +49,7 @@ impl Line {
         self.len = end;
     }
 
-    /// Puts the decimal digits of a number behind the others.
+    /// Appends the decimal digits of a number.
     pub(crate) fn push_number(&mut self, number: u64)
         requires { length self.old + 20 ≤ 192 }
         ensures digits { self.new ≡ self.old ++ decimal number }

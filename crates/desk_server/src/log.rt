@@ -2,7 +2,7 @@
 
 ghost use Rattle.std.specs.Prelude.{◌≡◌, ◌≤◌, ◌+◌, ◌++◌, length};
 ghost use Rattle.desk_server.specs.Log as spec;
-ghost use Rattle.desk_server.specs.RequestLine.{bytes_of};
+ghost use Rattle.desk_server.specs.RequestLine.{word_bytes};
 
 use crate::line::Line;
 use crate::request_line::RequestLine;
@@ -17,12 +17,12 @@ const OK: u16 = 200;
 /// What became of a connection.
 #[derive(Drop)]
 pub enum Fate {
-    /// It failed before it was there.
+    /// `accept` failed.
     Absent,
-    /// It was closed unanswered, since the clock told no moment.
+    /// It was closed unanswered, since the clock showed no moment of the club's.
     Unanswered,
-    /// It had its exchange at a moment: how the request began, and the reply, or the fault, of
-    /// `club_http::answer`.
+    /// It had an exchange at this moment: the start of its request, and the reply or the fault
+    /// that `club_http::answer` returned.
     Exchanged {
         moment: Moment,
         line: RequestLine,
@@ -30,21 +30,21 @@ pub enum Fate {
     },
 }
 
-/// What is told of each connection. It learns what became of it, and can change nothing of it.
+/// A log of connections. It is called as each begins and ends, and changes nothing of the outcome.
 pub trait Log {
     ghost use Rattle.desk_server.specs.Served.{Notes};
 
-    // what it becomes where a connection begins
+    // the log before and after a call of `begin`
     ghost begins: { Self → Self → Type 0 };
 
-    // what it becomes where one came to its end
+    // the log before and after a call of `note`
     ghost notes: { Notes Self };
 
-    /// A connection is there.
+    /// Notes that a connection was accepted.
     fn begin(&mut self)
         ensures { begins self.old self.new };
 
-    /// A connection came to its end.
+    /// Notes how a connection ended.
     fn note(&mut self, fate: &Fate)
         ensures { notes self.old fate.now self.new };
 }
@@ -64,8 +64,8 @@ impl Log for Unlogged {
 }
 
 /// Writes a line for each connection: the moment, the method, the path, the status of the reply and
-/// the microseconds that it took, with spaces between them. A dash stands for what isn't there; for
-/// the status, where no reply was written whole. A log that can't be written ends nothing.
+/// the microseconds that it took, with spaces between them. A dash replaces a missing value and
+/// the status of a reply that wasn't written whole. If the writer fails, the server goes on.
 #[derive(Drop)]
 pub struct LogLines<'a, W, C> {
     /// What the lines are written to.
@@ -84,7 +84,7 @@ impl<'a, W: Outlet, C: Clock> LogLines<'a, W, C> {
         }
     }
 
-    // How long the connection has been there; 0 where the clock can't be read.
+    // The microseconds since `begin`; 0 if the clock can't be read.
     fn microseconds(&self) -> u64 {
         let Some(began) = self.began else {
             return 0;
@@ -98,11 +98,11 @@ impl<'a, W: Outlet, C: Clock> LogLines<'a, W, C> {
 
 impl<'a, W: Outlet, C: Clock> Log for LogLines<'a, W, C> {
     ghost use Rattle.std.specs.Prelude.{◌≡◌, ℕ};
-    ghost use Rattle.desk_server.specs.Log.{IsWritten, line_text};
+    ghost use Rattle.desk_server.specs.Log.{IsTextWritten, line_text};
 
     ghost begins = { λ old new. new.writer ≡ old.writer };
 
-    ghost notes = { λ old fate new. (microseconds : ℕ) × IsWritten
+    ghost notes = { λ old fate new. (microseconds : ℕ) × IsTextWritten
         (W.taken old.writer) (W.taken new.writer)
         (W.failures old.writer) (W.failures new.writer)
         (line_text fate microseconds) };
@@ -180,7 +180,7 @@ fn push_status(front: &mut Line, outcome: &Result<Reply, AnswerFault>)
 
 // A word, or a dash where there is none.
 fn or_dash<'a>(word: Option<&'a [u8]>) -> &'a [u8]
-    ensures { result.now ≡ spec.or_dash (bytes_of word.entry) }
+    ensures { result.now ≡ spec.or_dash (word_bytes word.entry) }
 {
     match word {
         Some(word) => word,

@@ -9,19 +9,19 @@ use club_values::Moment;
 use jiff_core::Timestamp;
 use std::time::{Clock, SystemTime};
 
-/// What tells the moment of a connection.
+/// A source of the moments of connections.
 pub trait Moments {
-    ghost use Rattle.desk_server.specs.Served.{Tells};
+    ghost use Rattle.desk_server.specs.Served.{GivesMoment};
 
-    // what it tells, with what it was before and is after
-    ghost tells: { Tells Self };
+    // what `now` may return, with the source before and after
+    ghost gives: { GivesMoment Self };
 
-    /// The moment now; `None` where there is none of the club's.
+    /// The moment now; `None` if it is out of the club's years or can't be read.
     fn now(&mut self) -> Option<Moment>
-        ensures { tells self.old result self.new };
+        ensures { gives self.old result self.new };
 }
 
-/// One moment, always.
+/// A source that always returns one moment.
 #[derive(Clone, Copy, Debug, PartialEq, Eq)]
 pub struct Fixed {
     pub moment: Moment,
@@ -30,27 +30,27 @@ pub struct Fixed {
 impl Moments for Fixed {
     ghost use Rattle.std.specs.Prelude.{◌≡◌, Some};
 
-    ghost tells = { λ old told new. (told ≡ Some old.moment) × (new ≡ old) };
+    ghost gives = { λ old returned new. (returned ≡ Some old.moment) × (new ≡ old) };
 
     fn now(&mut self) -> Option<Moment> {
         Some(self.moment)
     }
 }
 
-/// What shows instants.
+/// A clock that shows instants.
 pub trait Instants {
     ghost use Rattle.std.specs.Prelude.{Option};
     ghost use Rattle.jiff_core.specs.declared.timestamp.Timestamp.{Timestamp};
 
-    // what it may show
+    // the instants that it may show
     ghost shows: { Self → Option Timestamp → Type 0 };
 
-    /// The instant now; `None` where it can't be told.
+    /// The instant now; `None` if the clock can't be read or its time is no `Timestamp`.
     fn instant(&self) -> Option<Timestamp>
         ensures { shows self.now result };
 }
 
-/// Those of a clock, of which nothing is promised.
+/// The instants of a clock of the machine; the contract promises nothing about them.
 impl<C: Clock> Instants for C {
     ghost shows = { λ _ _. Unit {0} };
 
@@ -59,7 +59,7 @@ impl<C: Clock> Instants for C {
     }
 }
 
-// The instant of a time; `None` where it is too late for one.
+// The instant of a time; `None` if it is too late for a `Timestamp`.
 fn instant_of(time: SystemTime) -> Option<Timestamp>
     ensures { MatchOption result
         (¬ (IsTimestampNanos (pos (system_time_nanos time))))
@@ -69,7 +69,7 @@ fn instant_of(time: SystemTime) -> Option<Timestamp>
     Timestamp::from_nanosecond(i128::try_from(since.as_nanos()).ok()?).ok()
 }
 
-/// What shows instants, in a zone.
+/// A clock, and the zone in which it is read.
 #[derive(Drop)]
 pub struct ClockIn<'z, 'c, C> {
     zone: Zone<'z>,
@@ -91,9 +91,9 @@ impl<'z, 'c, C: Instants> Moments for ClockIn<'z, 'c, C> {
     ghost use Rattle.std.specs.Prelude.{◌≡◌};
     ghost use Rattle.desk_server.specs.Zone.{ShowsIn};
 
-    // that of the instant which the clock gave, and none where it gave none
-    ghost tells = { λ old told new.
-        ShowsIn old.zone (C.shows old.clock.now) told × (new ≡ old) };
+    // the moment of the instant that the clock gave; none if it gave none
+    ghost gives = { λ old returned new.
+        ShowsIn old.zone (C.shows old.clock.now) returned × (new ≡ old) };
 
     fn now(&mut self) -> Option<Moment> {
         let instant = self.clock.instant()?;

@@ -8,17 +8,17 @@ ghost use Rattle.desk_server.specs.RequestLine as spec;
 
 use std::marker::Model;
 
-/// The most bytes that are kept: the longest request line of the desk has 80, that of the
-/// cancellation of a booking at a facility whose name has 24 letters.
+/// The most bytes that are kept. The desk's longest request line has 80: it cancels a booking at a
+/// facility whose name has 24 letters.
 pub const MAX_KEPT: usize = 96;
 
-/// The most letters of a method that is told; `DELETE` is the longest of the desk's.
+/// The most letters of a method that is logged; the desk's longest is `DELETE`.
 const MAX_METHOD_LEN: usize = 7;
 
 /// The first bytes of a request. Contracts see it as these bytes.
 ///
-/// It tells the method and the path where they are made of the letters that the desk's own are made
-/// of. So it tells no pass: the text of every pass has a capital letter or a brace in it.
+/// It returns the method and the path only if they consist of the characters of the desk's own. So
+/// no pass is logged: the text of every pass has a capital letter or a brace in it.
 #[derive(Drop)]
 pub struct RequestLine {
     bytes: [u8; MAX_KEPT],
@@ -37,7 +37,7 @@ impl Model for RequestLine {
 
 impl RequestLine {
     ghost use Rattle.std.specs.Prelude.{◌≡◌, ◌≤◌, IfSome, length, take};
-    ghost use Rattle.desk_server.specs.RequestLine.{bytes_of, method_of, path_of};
+    ghost use Rattle.desk_server.specs.RequestLine.{word_bytes, method_of, path_of};
 
     /// The first bytes of a request, as many as are kept.
     pub fn of(request: &[u8]) -> RequestLine
@@ -49,17 +49,17 @@ impl RequestLine {
         RequestLine { bytes, len }
     }
 
-    /// The method, where it is 1 to 7 capital letters.
+    /// The method, if it is 1 to 7 capital letters.
     pub fn method(&self) -> Option<&[u8]>
-        ensures word { bytes_of result ≡ method_of self.now }
+        ensures word { word_bytes result ≡ method_of self.now }
         ensures len { IfSome result (λ word. length word.now ≤ 7) }
     {
         method_in(self.kept())
     }
 
-    /// The path, where it is made of small letters, digits, dashes and slashes.
+    /// The path, if it consists of small letters, digits, dashes and slashes.
     pub fn path(&self) -> Option<&[u8]>
-        ensures word { bytes_of result ≡ path_of self.now }
+        ensures word { word_bytes result ≡ path_of self.now }
         ensures len { IfSome result (λ word. length word.now ≤ 96) }
     {
         path_in(self.kept())
@@ -74,7 +74,7 @@ impl RequestLine {
 }
 
 fn method_in(bytes: &[u8]) -> Option<&[u8]>
-    ensures word { spec.bytes_of result ≡ spec.method_of bytes.now }
+    ensures word { spec.word_bytes result ≡ spec.method_of bytes.now }
     ensures len { IfSome result (λ word. length word.now ≤ 7) }
 {
     let (method, _) = two_words(bytes)?;
@@ -86,14 +86,14 @@ fn method_in(bytes: &[u8]) -> Option<&[u8]>
 }
 
 fn path_in(bytes: &[u8]) -> Option<&[u8]>
-    ensures word { spec.bytes_of result ≡ spec.path_of bytes.now }
+    ensures word { spec.word_bytes result ≡ spec.path_of bytes.now }
     ensures len { IfSome result (λ word. length word.now ≤ length bytes.now) }
 {
     let (_, path) = two_words(bytes)?;
     if is_path(path) { Some(path) } else { None }
 }
 
-// The first two words, where a space stands behind each.
+// The first two words, if a space follows each.
 fn two_words(bytes: &[u8]) -> Option<(&[u8], &[u8])>
     ensures words { MatchOption result (spec.has_two_words bytes.now ≡ false)
         (λ words. (spec.has_two_words bytes.now ≡ true)
@@ -106,7 +106,7 @@ fn two_words(bytes: &[u8]) -> Option<(&[u8], &[u8])>
     Some((first, second))
 }
 
-// What stands before the first space, and what behind it; `None` without one.
+// The bytes before and after the first space; `None` without one.
 fn split_at_space(bytes: &[u8]) -> Option<(&[u8], &[u8])>
     ensures parts { MatchOption result (spec.has_space bytes.now ≡ false)
         (λ parts. (spec.has_space bytes.now ≡ true)
@@ -121,7 +121,7 @@ fn split_at_space(bytes: &[u8]) -> Option<(&[u8], &[u8])>
     }
 }
 
-// How many bytes stand before the first space.
+// The number of bytes before the first space.
 fn place_of_space(bytes: &[u8]) -> Option<usize>
     ensures { MatchOption result (EachIndex bytes.now (λ k. slice_index bytes.now k ≢ 32))
         (λ place. (place < length bytes.now)

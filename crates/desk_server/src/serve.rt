@@ -1,7 +1,7 @@
 //! The server.
 
 ghost use Rattle.std.specs.Prelude.{◌≡◌, length, MatchResult, Some, None};
-ghost use Rattle.desk_server.specs.Served.{AreNoted, CountsOn, IsNoted, IsServed, Serves, Steps};
+ghost use Rattle.desk_server.specs.Served.{AreNoted, CountsOn, IsNoted, ServesOne, Serves, ServerSteps};
 ghost use Rattle.desk_server.specs.declared.log.Fate.{Fate};
 ghost use Rattle.desk_server.specs.declared.log.Fate.TheVariants.{Unanswered};
 
@@ -14,7 +14,7 @@ use club_http::Face;
 use std::error::Error;
 use std::fmt;
 
-/// The clock doesn't stand in the years 2000 to 2099, or can't be read.
+/// The clock shows a year before 2000 or after 2099, or can't be read.
 #[derive(Clone, Copy, Debug, PartialEq, Eq)]
 pub struct ClockOutOfRange;
 
@@ -30,15 +30,15 @@ impl fmt::Display for ClockOutOfRange {
 
 impl Error for ClockOutOfRange {}
 
-/// Serves this many connections, one after the other, each at the moment that is told once it is
-/// there. One that fails, before it is there or in its exchange, counts like any other, and so does
-/// one whose request was refused. Once an exchange is over and its connection closed, the desk's
-/// hook is called.
+/// Serves this many connections, one after the other. Each gets the moment of the clock at its
+/// start. A connection that fails, in `accept` or in its exchange, counts like any other, and so
+/// does one whose request was refused. After each exchange, with the connection closed, the server
+/// calls the desk's hook.
 ///
 /// # Errors
 ///
-/// `ClockOutOfRange` where no moment is told. The connection is closed unanswered, and none is
-/// waited for after it.
+/// `ClockOutOfRange` if the clock shows no moment of the club's. The connection is closed
+/// unanswered, and the server accepts no other.
 pub fn serve_on<L: Connections, M: Moments, D: IdleHook>(
     connections: &mut L,
     count: u32,
@@ -46,20 +46,19 @@ pub fn serve_on<L: Connections, M: Moments, D: IdleHook>(
     face: &mut Face,
     desk: &mut D,
 ) -> Result<(), ClockOutOfRange>
-    ensures served { Serves M.tells D.answers D.idles L.Connection.ends count
+    ensures served { Serves M.gives D.answers D.idles L.Connection.ends count
         moments.old desk.old (L.failures connections.old) result
         moments.new desk.new (L.failures connections.new)
         (λ fates. CountsOn (L.waited connections.old) (length fates) (L.waited connections.new)) }
-    // Of the desk alone: it stepped by an exchange for each connection that was there, and by the
-    // call of its hook after it.
-    ensures answered { Steps D.answers D.idles count
+    // The desk alone: it changed by an exchange for each accepted connection, and by the call of
+    // its hook after it.
+    ensures desk_steps { ServerSteps D.answers D.idles count
         desk.old (L.failures connections.old) result desk.new (L.failures connections.new) }
 {
     serve_logged(connections, count, moments, face, desk, &mut Unlogged)
 }
 
-/// Serves connections as `serve_on`, and tells a log of each. What is served is the same whatever
-/// the log does.
+/// Serves connections as `serve_on`, and logs each. The log doesn't change what is served.
 ///
 /// # Errors
 ///
@@ -72,12 +71,12 @@ pub fn serve_logged<L: Connections, M: Moments, D: IdleHook, G: Log>(
     desk: &mut D,
     log: &mut G,
 ) -> Result<(), ClockOutOfRange>
-    ensures served { Serves M.tells D.answers D.idles L.Connection.ends count
+    ensures served { Serves M.gives D.answers D.idles L.Connection.ends count
         moments.old desk.old (L.failures connections.old) result
         moments.new desk.new (L.failures connections.new)
         (λ fates. CountsOn (L.waited connections.old) (length fates) (L.waited connections.new)
         × AreNoted G.begins G.notes log.old fates log.new) }
-    ensures answered { Steps D.answers D.idles count
+    ensures desk_steps { ServerSteps D.answers D.idles count
         desk.old (L.failures connections.old) result desk.new (L.failures connections.new) }
 {
     for served in 0..count {
@@ -89,7 +88,7 @@ pub fn serve_logged<L: Connections, M: Moments, D: IdleHook, G: Log>(
     Ok(())
 }
 
-// Serves one connection, and tells the log of it.
+// Serves one connection, and logs it.
 fn serve_next<L: Connections, M: Moments, D: IdleHook, G: Log>(
     connections: &mut L,
     moments: &mut M,
@@ -100,11 +99,11 @@ fn serve_next<L: Connections, M: Moments, D: IdleHook, G: Log>(
     ensures waited { CountsOn (L.waited connections.old) 1 (L.waited connections.new) }
     ensures served { MatchResult result
         (λ _. (fate : Fate) × IsNoted G.begins G.notes log.old fate log.new
-        × IsServed M.tells D.answers D.idles L.Connection.ends
+        × ServesOne M.gives D.answers D.idles L.Connection.ends
         moments.old desk.old (L.failures connections.old) fate
         moments.new desk.new (L.failures connections.new))
         (λ _. IsNoted G.begins G.notes log.old Unanswered log.new
-        × M.tells moments.old None moments.new
+        × M.gives moments.old None moments.new
         × (desk.new ≡ desk.old)
         × (L.failures connections.new ≡ L.failures connections.old)) }
 {
@@ -117,7 +116,7 @@ fn serve_next<L: Connections, M: Moments, D: IdleHook, G: Log>(
         log.note(&Fate::Unanswered);
         return Err(ClockOutOfRange);
     };
-    // Whatever comes of it, the next one is served.
+    // Whatever the outcome, the server goes on.
     let outcome = connection.exchange(face, desk, moment);
     drop(connection);
     let line = RequestLine::of(face.request());

@@ -6,54 +6,54 @@ use std::io::{Read, Write};
 use std::net::TcpStream;
 use std::time::Duration;
 
-/// A reader whose reads wait no longer than they may, such as a socket.
+/// A reader whose reads take a time limit, such as a socket.
 pub trait TimedRead {
     ghost use Rattle.std.specs.Prelude.{◌≤◌, ℕ, List, length, Option, IfSome};
     ghost use Rattle.std.specs.Duration.{as_nanos};
     ghost use Rattle.club_http.specs.Ends.{Fills};
     ghost use Rattle.desk_server.specs.Limits.{Calls};
 
-    // the bytes to come, where they are known
+    // the bytes to come, if they are known
     ghost to_come: { Self → Option (List ℕ) };
 
-    // what a read does that waits so long at most
+    // a read that waits at most this long, with the reader before and after
     ghost reads: { Calls Self };
 
-    /// Puts the next bytes at the front of the room, and returns how many; none in a room that has
-    /// room is the end of the input. `None` is a failure, and so it is where none come in time.
+    /// Puts the next bytes at the front of the buffer, and returns how many; 0 with a buffer that
+    /// isn't empty is the end of the input. `None` if the read failed, or no bytes came in time.
     fn read_within(&mut self, limit: Duration, room: &mut [u8]) -> Option<usize>
         ensures within { IfSome result (λ n. n ≤ length room.new) }
         ensures bytes { Fills (to_come self.old) (to_come self.new) result room.new }
         ensures limited { reads self.old (as_nanos limit) result self.new };
 
-    /// The same of bytes that are there already. It waits for none, and fails where none are there.
+    /// Reads bytes that have arrived already. It doesn't wait, and fails if there are none.
     fn read_ready(&mut self, room: &mut [u8]) -> Option<usize>
         ensures within { IfSome result (λ n. n ≤ length room.new) }
         ensures bytes { Fills (to_come self.old) (to_come self.new) result room.new };
 }
 
-/// A writer whose writes wait no longer than they may, such as a socket.
+/// A writer whose writes take a time limit, such as a socket.
 pub trait TimedWrite {
     ghost use Rattle.std.specs.Prelude.{◌≤◌, ℕ, List, length, Option, IfSome};
     ghost use Rattle.std.specs.Duration.{as_nanos};
     ghost use Rattle.club_http.specs.Ends.{Takes};
     ghost use Rattle.desk_server.specs.Limits.{Calls};
 
-    // the bytes that it took, where they are known
+    // the bytes that it took, if they are known
     ghost taken: { Self → Option (List ℕ) };
 
-    // what a write does that waits so long at most
+    // a write that waits at most this long, with the writer before and after
     ghost writes: { Calls Self };
 
-    /// Takes the first of the bytes, and returns how many. `None` is a failure, and so it is where
-    /// none are taken in time.
+    /// Takes the first of the bytes, and returns how many. `None` if the write failed, or no bytes
+    /// were taken in time.
     fn write_within(&mut self, limit: Duration, bytes: &[u8]) -> Option<usize>
         ensures within { IfSome result (λ n. n ≤ length bytes.now) }
         ensures bytes { Takes (taken self.old) (taken self.new) result bytes.now }
         ensures limited { writes self.old (as_nanos limit) result self.new };
 }
 
-/// What a socket gives is known to no contract.
+/// No contract states which bytes a socket gives.
 impl TimedRead for &TcpStream {
     ghost use Rattle.std.specs.Prelude.{None};
 
@@ -74,7 +74,7 @@ impl TimedRead for &TcpStream {
     }
 }
 
-/// What a socket takes is known to no contract.
+/// No contract states which bytes a socket takes.
 impl TimedWrite for &TcpStream {
     ghost use Rattle.std.specs.Prelude.{None};
 
@@ -88,7 +88,7 @@ impl TimedWrite for &TcpStream {
     }
 }
 
-/// What is read before a limit is over.
+/// A reader under a limit of time.
 #[derive(Drop)]
 pub struct TimedInlet<'l, 'c, R, C> {
     reader: R,
@@ -99,7 +99,7 @@ pub struct TimedInlet<'l, 'c, R, C> {
 /// The most bytes that `take_rest` takes.
 pub const MAX_REST: usize = 65_536;
 
-/// The most of them at once.
+/// The most bytes that it reads in a call.
 const MAX_REST_AT_ONCE: usize = 4_096;
 
 impl<'l, 'c, R: TimedRead, C: MonotonicClock> TimedInlet<'l, 'c, R, C> {
@@ -107,7 +107,7 @@ impl<'l, 'c, R: TimedRead, C: MonotonicClock> TimedInlet<'l, 'c, R, C> {
     ghost use Rattle.club_http.specs.Ends.{Fills, read_failures};
     ghost use Rattle.desk_server.specs.Limits.{IsCalledUnder, TakesAtMost};
 
-    /// Nothing was read yet.
+    /// A reader without failures yet.
     pub fn new(reader: R, limit: &'l Limit<'c, C>) -> TimedInlet<'l, 'c, R, C>
         ensures { result ≡ record { reader = reader; limit = limit.entry; failures = 0 } }
     {
@@ -118,13 +118,13 @@ impl<'l, 'c, R: TimedRead, C: MonotonicClock> TimedInlet<'l, 'c, R, C> {
         }
     }
 
-    /// Reads as `fill`, and waits no longer than what is left of the limit at this call. Where
-    /// nothing is left, or the clock can't be read, it fails, and nothing is read.
+    /// Reads as `fill`, and waits at most for the time that is left of the limit. If none is left,
+    /// or the clock can't be read, it fails without reading.
     pub fn read(&mut self, room: &mut [u8]) -> Option<usize>
         ensures within { IfSome result (λ n. n ≤ length room.new) }
         ensures bytes { Fills (R.to_come self.old.reader) (R.to_come self.new.reader)
             result room.new }
-        ensures counted { self.new.failures ≡ read_failures self.old.failures result }
+        ensures failure_count { self.new.failures ≡ read_failures self.old.failures result }
         ensures limited { IsCalledUnder C.shows R.reads self.old.limit.now
             self.old.reader result self.new.reader }
         ensures limit { self.new.limit ≡ self.old.limit }
@@ -141,8 +141,8 @@ impl<'l, 'c, R: TimedRead, C: MonotonicClock> TimedInlet<'l, 'c, R, C> {
         came
     }
 
-    /// Takes what is there, and then what still comes before the limit is over, till the end of the
-    /// input and at most `MAX_REST` bytes. Where nothing is there it waits for nothing.
+    /// Reads the bytes that have arrived, and then those that come before the limit is over: up to
+    /// the end of the input, at most `MAX_REST` bytes. If none have arrived, it returns at once.
     pub fn take_rest(&mut self)
         ensures { TakesAtMost 65_536 (R.to_come self.old.reader) (R.to_come self.new.reader) }
     {
@@ -178,7 +178,7 @@ impl<R: TimedRead, C: MonotonicClock> Inlet for TimedInlet<'_, '_, R, C> {
     }
 }
 
-/// What is written before a limit is over, which begins with the first write.
+/// A writer under a limit of time, which begins with the first write.
 #[derive(Drop)]
 pub struct TimedOutlet<'c, W, C> {
     writer: W,
@@ -192,10 +192,10 @@ impl<'c, W: TimedWrite, C: MonotonicClock> TimedOutlet<'c, W, C> {
     ghost use Rattle.std.specs.Prelude.{◌≡◌, ◌≤◌, length, IfSome, IsSomeAnd, None};
     ghost use Rattle.std.specs.Duration.{as_nanos};
     ghost use Rattle.club_http.specs.Ends.{Takes, put_failures};
-    ghost use Rattle.desk_server.specs.Limits.{AtShown, Begins, IsCalledUnder};
+    ghost use Rattle.desk_server.specs.Limits.{AtShown, StartsLimit, IsCalledUnder};
     ghost use Rattle.desk_server.specs.Limits.{left_until, nanos_of};
 
-    /// Nothing was written yet.
+    /// A writer whose limit hasn't begun.
     pub fn new(writer: W, clock: &'c C, patience: Duration) -> TimedOutlet<'c, W, C>
         ensures { result ≡ record {
           writer = writer;
@@ -214,15 +214,15 @@ impl<'c, W: TimedWrite, C: MonotonicClock> TimedOutlet<'c, W, C> {
         }
     }
 
-    /// Writes as `put`, and waits no longer than what is left of the limit at this call. Where
-    /// nothing is left, or the clock can't be read, it fails, and nothing is written.
+    /// Writes as `put`, and waits at most for the time that is left of the limit. If none is left,
+    /// or the clock can't be read, it fails without writing.
     pub fn write(&mut self, bytes: &[u8]) -> Option<usize>
         ensures within { IfSome result (λ n. n ≤ length bytes.now) }
         ensures bytes { Takes (W.taken self.old.writer) (W.taken self.new.writer)
             result bytes.now }
-        ensures counted { self.new.failures
+        ensures failure_count { self.new.failures
             ≡ put_failures self.old.failures result bytes.now }
-        ensures begins { Begins C.shows self.old.clock.now (as_nanos self.old.patience)
+        ensures begins { StartsLimit C.shows self.old.clock.now (as_nanos self.old.patience)
             self.old.limit self.new.limit }
         ensures limited { IsSomeAnd self.new.limit (λ limit. IsCalledUnder C.shows W.writes limit
             self.old.writer result self.new.writer) }
@@ -244,9 +244,9 @@ impl<'c, W: TimedWrite, C: MonotonicClock> TimedOutlet<'c, W, C> {
         taken
     }
 
-    // How long is left of the limit, which begins now where it hadn't begun.
+    // The time left of the limit, which begins now if it hasn't begun.
     fn left(&mut self) -> Duration
-        ensures begins { Begins C.shows self.old.clock.now (as_nanos self.old.patience)
+        ensures begins { StartsLimit C.shows self.old.clock.now (as_nanos self.old.patience)
             self.old.limit self.new.limit }
         ensures left { IsSomeAnd self.new.limit (λ limit. AtShown (C.shows limit.clock.now)
             (λ shown. as_nanos result ≡ left_until (nanos_of limit.due) shown)) }

@@ -31,7 +31,7 @@ impl<'a> Model for Zone<'a> {
 }
 
 impl<'a> Zone<'a> {
-    /// The zone of a rule; `None` where the text is none.
+    /// The zone of a rule; `None` if the text is no POSIX rule.
     pub fn from_rule(rule: &'a str) -> Option<Zone<'a>>
         ensures { result ≡ zone_of rule.entry.now }
     {
@@ -41,8 +41,8 @@ impl<'a> Zone<'a> {
         }
     }
 
-    /// The minute that a clock in the zone shows at an instant; `None` where its year isn't 2000 to
-    /// 2099.
+    /// The minute that a clock in the zone shows at an instant; `None` if its year is before 2000
+    /// or after 2099.
     pub fn moment_at(&self, instant: Timestamp) -> Option<Moment>
         ensures { IsShown self.now instant.nanosecond result }
     {

@@ -1,6 +1,6 @@
-//! Prints how many passes of three caveats are signed, read and verified in a second: `pass_bench
-//! COUNT`. A pass is read and verified whole, from a `Pass` in memory, and by its fields as they
-//! are read, without one.
+//! Measures how many passes of three caveats are signed, read and verified in a second: `pass_bench
+//! COUNT`. Reading and verifying are measured twice: with a `Pass` in memory, and field by field
+//! without one.
 #![tactic(auto)]
 
 mod task;
@@ -31,7 +31,7 @@ fn main(rt: HostRuntime) -> Result<()> {
     }
 }
 
-// The number behind the program's name.
+// The argument after the program's name, as a number.
 fn asked_count(rt: &HostRuntime) -> Result<Option<u32>> {
     match env::args(rt)?.nth(1) {
         Some(word) => Ok(word.as_str().parse::<u32>().ok()),
@@ -58,12 +58,12 @@ fn new_pass(alloc: Global) -> Result<Pass, FormFault> {
 
 fn compare_tasks(rt: &HostRuntime, name: &str, text: &[u8], count: u32) -> Result<()> {
     println!(rt; "a pass of three caveats in {name}, times a second")?;
-    let mut room = [0; MAX_BYTES];
-    let unwrapped = unwrap_text(text, &mut room)?;
+    let mut buffer = [0; MAX_BYTES];
+    let unwrapped = unwrap_text(text, &mut buffer)?;
     let written = Written {
         form: unwrapped.form,
         text,
-        bytes: unwrapped.bytes(text, &room),
+        bytes: unwrapped.bytes(text, &buffer),
     };
     for (what, task) in &TASKS {
         measure(rt, what, *task, &written, count)?;
@@ -71,7 +71,7 @@ fn compare_tasks(rt: &HostRuntime, name: &str, text: &[u8], count: u32) -> Resul
     Ok(())
 }
 
-// Prints how often a task is done in a second.
+// Prints how often a task runs in a second.
 fn measure(
     rt: &(impl Alloc<A = Global> + Clock + Print),
     what: &str,
@@ -92,7 +92,7 @@ fn print_row(rt: &impl Print, what: &str, rate: u128, folded: u8) -> Result<()> 
     Ok(println!(rt; "{what:>28} {rate:>9} (folded to {folded:02x})")?)
 }
 
-// Does a task so many times.
+// Runs a task `count` times.
 fn fold(alloc: Global, task: Task, written: &Written<'_>, count: u32) -> Result<u8, FormFault> {
     let mut folded = 0;
     for _ in 0..count {

@@ -1,4 +1,4 @@
-//! What is measured, each for one pass.
+//! The measured tasks, each on one pass.
 
 use pass_forms::{
     Field, FieldSource, Form, FormFault, MAX_BYTES, V1Fields, V2Fields, read_v1, read_v2,
@@ -16,7 +16,7 @@ pub static CAVEATS: [&[u8]; 3] = [
     b"spend <= 600",
 ];
 
-/// What is done with a pass in V1 or V2.
+/// A task on a pass in V1 or V2.
 #[derive(Clone, Copy)]
 pub enum Task {
     /// Its signature is computed.
@@ -40,7 +40,7 @@ pub struct Written<'a> {
 }
 
 impl Task {
-    /// Does it once. Answers a byte of the result, so that nothing of it can be left out.
+    /// Runs it once. Returns a byte of the result, so that the compiler can't remove the work.
     pub fn once(self, alloc: Global, written: &Written<'_>) -> Result<u8, FormFault> {
         match self {
             Task::Sign => Ok(sign()),
@@ -74,12 +74,12 @@ fn verify_whole(alloc: Global, text: &[u8]) -> Result<u8, FormFault> {
 }
 
 fn verify_fields(text: &[u8]) -> Result<u8, FormFault> {
-    let mut room = [0; MAX_BYTES];
-    let unwrapped = unwrap_text(text, &mut room)?;
-    with_fields(unwrapped.form, unwrapped.bytes(text, &room), Step::Verify)
+    let mut buffer = [0; MAX_BYTES];
+    let unwrapped = unwrap_text(text, &mut buffer)?;
+    with_fields(unwrapped.form, unwrapped.bytes(text, &buffer), Step::Verify)
 }
 
-// What is done with the fields.
+// The work on each field.
 #[derive(Clone, Copy)]
 enum Step {
     Read,

@@ -12,7 +12,7 @@ use Rattle.pass_caveats.specs.declared.actions.Actions.{Actions as SomeActions}
 use Rattle.pass_caveats.specs.declared.weekdays.Weekdays.{Weekdays as SomeWeekdays}
 use Rattle.pass_caveats.specs.Actions.{all_actions, has_action, action_texts}
 use Rattle.pass_caveats.specs.Weekdays.{weekday_text, has_weekday, weekday_texts}
-use Rattle.pass_caveats.specs.Parts.{joined}
+use Rattle.pass_caveats.specs.Parts.{comma_list}
 use Rattle.pass_caveats.specs.Caveat.{IsCaveat, caveat_text, Understood}
 use Rattle.club_values.specs.TextOf.{day_of}
 use Rattle.pass_caveats.specs.CaveatOf.{candidate, actions_from, actions_of, weekdays_from, weekdays_of}
@@ -26,10 +26,10 @@ action_words = record { distinct = refl; plain = refl }
 pub weekday_words : AreWords weekday_text weekdays
 weekday_words = record { distinct = refl; plain = refl }
 
-actions_again : (actions : SomeActions) → action_texts actions ≢ [] → actions_of (joined (action_texts actions)) ≡ actions
+actions_again : (actions : SomeActions) → action_texts actions ≢ [] → actions_of (comma_list (action_texts actions)) ≡ actions
 actions_again actions some = ap actions_from (choice_again (has_action actions) action_text all_actions action_words some)
 
-weekdays_again : (set : SomeWeekdays) → weekday_texts set ≢ [] → weekdays_of (joined (weekday_texts set)) ≡ set
+weekdays_again : (set : SomeWeekdays) → weekday_texts set ≢ [] → weekdays_of (comma_list (weekday_texts set)) ≡ set
 weekdays_again set some = ap weekdays_from (choice_again (has_weekday set) weekday_text weekdays weekday_words some)
 
 same_hours : (a b c d : ℕ) → a ≡ c → b ≡ d → Hours a b ≡ Hours c d

@@ -1,4 +1,4 @@
--- The functions say what the definitions say.
+-- The functions agree with the definitions.
 use Rattle.std.proofs.Common.{◌≡◌, ◌↔◌, ℕ, ◌+◌, Bool, true, false, cond, List, [], ◌∷◌, ◌++◌, length, map, ◌⊎◌, Option, Some, None, inl, inr, refl, sym, ap}
 use Rattle.std.proofs.Common.{subst, ◌∙◌, arith, add-zero}
 use Rattle.std.specs.Option.{option_or}
@@ -43,7 +43,7 @@ unfolding caveat_of
 caveat_of-unknown text h =
     none_chosen (candidate text) (spells text (candidate text)) (λ e. h (candidate text) ((Decides-spells text (candidate text)).0 e))
 
--- a reader answers what the function does
+-- a parser returns what the function returns
 pub reads_caveat_of : (text : List ℕ) (r : Option Caveat) → Reads (Understood text) r → r ≡ caveat_of text
 reads_caveat_of text (Some caveat) h = sym (caveat_of-understood text caveat h)
 reads_caveat_of text None h = sym (caveat_of-unknown text h)
@@ -69,7 +69,7 @@ all_passed n (text ∷ texts) ask h =
     rw (caveat_of-understood text first.0 first.1, (Decides-permits first.0 ask).1 first.2)
     (all_passed (n + 1) texts ask (All-tail (λ t. Allows t ask) text texts h))
 
--- the function finds the first fault
+-- the function returns the first fault
 pub first_fault-is : (texts : List (List ℕ)) (ask : Ask) (r : Option CaveatFault) → IsFirstFault texts ask r → r ≡ first_fault_of (map caveat_of texts) ask
 first_fault-is texts ask None h = sym (all_passed 1 texts ask h)
 first_fault-is texts ask (Some (NotUnderstood n)) h =
@@ -90,7 +90,7 @@ verdict_by : (text : List ℕ) (ask : Ask) (found : Option Caveat) → caveat_of
 verdict_by text ask None e = inr (inl (λ caveat h. let t = caveat_of-understood text caveat h in cc))
 verdict_by text ask (Some caveat) e = verdict_on text ask caveat _ (understood-caveat_of text caveat e) refl
 
--- what a text says to a request
+-- the fault of one text, or none
 verdict : (text : List ℕ) (ask : Ask) → Allows text ask ⊎ (IsUnknown text ⊎ Denies text ask)
 verdict text ask = verdict_by text ask (caveat_of text) refl
 
@@ -111,7 +111,7 @@ some_fault front (text ∷ texts) ask h =
           (Some (Denied (length front + 1)), record { front = front; text = text; rest = texts; place = refl; number = refl; before = h; fault = denies })
     ]
 
--- and the function gives it
+-- and the function returns it
 pub first_fault_of-is_first : (texts : List (List ℕ)) (ask : Ask) → IsFirstFault texts ask (first_fault_of (map caveat_of texts) ask)
 first_fault_of-is_first texts ask =
     let found = some_fault [] texts ask (All-nil (λ t. Allows t ask)) in

@@ -1,4 +1,4 @@
--- Some words of a list, in its order: how the text of them is read, word after word.
+-- Some words of a list, in its order: how their text is parsed, word after word.
 use Rattle.std.proofs.Common.{◌≡◌, ◌≢◌, ℕ, ◌<◌, Bool, true, false, cond, List, [], ◌∷◌, ◌++◌, length, map, Option, Some, None, refl, sym, ap, ◌∙◌, arith}
 use Rattle.std.proofs.Common.{Decides, Bor}
 use Rattle.std.specs.Prelude.{◌==◌, ◌&&◌, ◌||◌, not, filter, is_some, All}
@@ -9,7 +9,7 @@ use Rattle.std.proofs.lemmas.Bool.Decides.{Decides-by_and}
 use Rattle.std.proofs.lemmas.List.{length-map, append-nil}
 use Rattle.std.proofs.lemmas.List.Elements.{All-head, All-tail, All-nil, All-cons}
 use Rattle.std.proofs.lemmas.Slice.Eq.{bytes_eq-Decides}
-use Rattle.pass_caveats.specs.Parts.{parts_of, joined, parts_left, is_next, after_next, words_found}
+use Rattle.pass_caveats.specs.Parts.{comma_parts, comma_list, parts_left, is_next, after_next, words_found}
 use Rattle.pass_caveats.proofs.PartLemmas.{HasNoComma, parts_of-joined, joined-parts_of, some_part, skip_takes}
 
 -- the words whose flag is set
@@ -78,7 +78,7 @@ all_left : (word : List ℕ) (parts : List (List ℕ)) → is_next word parts �
 all_left word [] e = refl
 all_left word (part ∷ parts) e = rw e refl
 
--- what is left behind all words
+-- what is left after all words
 abbrev left_after : List (List ℕ) → List (List ℕ) → List (List ℕ)
 left_after [] parts = parts
 left_after (word ∷ words) parts = left_after words (after_next word parts)
@@ -100,7 +100,7 @@ found_again (false ∷ flags) (word ∷ words) same distinct =
     let left = all_left word (chosen flags words) other in
     (rw (other, left) (ap (λ (found : List Bool). false ∷ found) rest.0), rw left rest.1)
 
--- the steps of a reader: for each word its flag, and what is left behind it
+-- the steps of a parser: for each word its flag, and what is left after it
 abbrev pub Steps : List Bool → List (List ℕ) → List (List ℕ) → List (List ℕ) → Type 0
 Steps [] [] parts last = parts ≡ last
 Steps [] (word ∷ words) parts last = ⊥
@@ -150,42 +150,42 @@ some_of (part ∷ parts) h = omega arith
 
 -- what is chosen is the list of the parts of its text
 parts_again : (flags : List Bool) (words : List (List ℕ)) → are_plain words ≡ true → chosen flags words ≢ [] →
-    parts_of (joined (chosen flags words)) ≡ chosen flags words
+    comma_parts (comma_list (chosen flags words)) ≡ chosen flags words
 parts_again flags words plain some =
     parts_of-joined (chosen flags words) (some_of (chosen flags words) some) (chosen_plain flags words (plain_words words plain))
 
 same_length : {A : Type 0} (test : A → Bool) (text : A → List ℕ) (xs : List A) → length (map test xs) ≡ length (map text xs)
 same_length test text xs = length-map xs test ∙ sym (length-map xs text)
 
--- a text that was read to its end is that of the items
-pub reads_choice : {A : Type 0} (test : A → Bool) (text : A → List ℕ) (xs : List A) (t : List ℕ) → Steps (map test xs) (map text xs) (parts_of t) [] →
-    (map text (filter test xs) ≢ []) × (t ≡ joined (map text (filter test xs)))
+-- a text that was parsed to its end is that of the items
+pub reads_choice : {A : Type 0} (test : A → Bool) (text : A → List ℕ) (xs : List A) (t : List ℕ) → Steps (map test xs) (map text xs) (comma_parts t) [] →
+    (map text (filter test xs) ≢ []) × (t ≡ comma_list (map text (filter test xs)))
 reads_choice test text xs t steps =
-    let parts : parts_of t ≡ map text (filter test xs) =
-    steps_take (map test xs) (map text xs) (parts_of t) [] steps ∙ (append-nil (chosen (map test xs) (map text xs)) ∙ sym (chosen_is test text xs)) in
-    ((λ none. absurd (omega (arith, some_part t, ap (length {A = List ℕ}) (parts ∙ none)))), sym (joined-parts_of t) ∙ ap joined parts)
+    let parts : comma_parts t ≡ map text (filter test xs) =
+    steps_take (map test xs) (map text xs) (comma_parts t) [] steps ∙ (append-nil (chosen (map test xs) (map text xs)) ∙ sym (chosen_is test text xs)) in
+    ((λ none. absurd (omega (arith, some_part t, ap (length {A = List ℕ}) (parts ∙ none)))), sym (joined-parts_of t) ∙ ap comma_list parts)
 
 -- a text of which something was left is that of no items
 pub no_choice : {A : Type 0} (text : A → List ℕ) (xs : List A) → AreWords text xs → (found : List Bool) (t : List ℕ) (last : List (List ℕ)) → last ≢ [] →
-    Steps found (map text xs) (parts_of t) last → (test : A → Bool) → map text (filter test xs) ≢ [] → t ≡ joined (map text (filter test xs)) → ⊥
+    Steps found (map text xs) (comma_parts t) last → (test : A → Bool) → map text (filter test xs) ≢ [] → t ≡ comma_list (map text (filter test xs)) → ⊥
 no_choice text xs are found t last some steps test chooses e =
     let items = chosen_is test text xs in
-    let is : t ≡ joined (chosen (map test xs) (map text xs)) = e ∙ ap joined items in
-    let parts : parts_of t ≡ chosen (map test xs) (map text xs) =
-    ap parts_of is ∙ parts_again (map test xs) (map text xs) are.plain (λ none. chooses (items ∙ none)) in
-    some (steps_leave found (map text xs) (parts_of t) last steps
+    let is : t ≡ comma_list (chosen (map test xs) (map text xs)) = e ∙ ap comma_list items in
+    let parts : comma_parts t ≡ chosen (map test xs) (map text xs) =
+    ap comma_parts is ∙ parts_again (map test xs) (map text xs) are.plain (λ none. chooses (items ∙ none)) in
+    some (steps_leave found (map text xs) (comma_parts t) last steps
     ∙ (ap (left_after (map text xs)) parts ∙ (found_again (map test xs) (map text xs) (same_length test text xs) are.distinct).1))
 
 -- the words that are found in a text are those of its items
 pub choice_again : {A : Type 0} (test : A → Bool) (text : A → List ℕ) (xs : List A) → AreWords text xs → map text (filter test xs) ≢ [] →
-    words_found (map text xs) (parts_of (joined (map text (filter test xs)))) ≡ map test xs
+    words_found (map text xs) (comma_parts (comma_list (map text (filter test xs)))) ≡ map test xs
 choice_again test text xs are chooses =
     let items = chosen_is test text xs in
-    ap (λ (texts : List (List ℕ)). words_found (map text xs) (parts_of (joined texts))) items
+    ap (λ (texts : List (List ℕ)). words_found (map text xs) (comma_parts (comma_list texts))) items
     ∙ (ap (words_found (map text xs)) (parts_again (map test xs) (map text xs) are.plain (λ none. chooses (items ∙ none)))
     ∙ (found_again (map test xs) (map text xs) (same_length test text xs) are.distinct).0)
 
--- the two ends of a reader
+-- the two ends of a parser
 pub something_left : (rest : Option (Bor (List ℕ))) → is_some rest ≡ true → parts_left (option_copied rest) ≢ []
 something_left (Some text) e none = absurd (omega (arith, some_part text.now, ap (length {A = List ℕ}) none))
 something_left None e none = cc

@@ -12,25 +12,26 @@ use Rattle.club_values.specs.Reading.{Reads}
 use Rattle.pass_caveats.specs.Number.{SpellsNumber}
 use Rattle.club_values.specs.Day.{SpellsDay, day_text}
 use Rattle.club_values.specs.Moment.{SpellsMoment}
-use Rattle.pass_caveats.specs.Caveat.{Spells}
+use Rattle.pass_caveats.specs.Caveat.{SpellsCaveat}
 use Rattle.club_values.proofs.DayLemmas.{day_text-spells, spells-day_text, day_text_injective}
 use Rattle.club_values.proofs.MomentLemmas.{moment_text-spells, spells-moment_text}
 
--- a reader of one thing reads another where each is spelled just where the other is
+-- a parser of one thing is a parser of another if the same texts spell both
 reads_as : {A : Type 0} (P Q : A → Type 0) (r : Option A) → Reads P r → ((x : A) → P x → Q x) → ((x : A) → Q x → P x) → Reads Q r
 reads_as P Q (Some x) h to from = to x h
 reads_as P Q None never to from = λ x q. never x (from x q)
 
 pub reads_until : (text rest : List ℕ) (r : Option ℕ) → text ≡ codes "until < " ++ rest → Reads (SpellsMoment rest) r →
-    Reads (λ moment. Spells text (Until moment)) r
+    Reads (λ moment. SpellsCaveat text (Until moment)) r
 reads_until text rest r e h =
-    reads_as (SpellsMoment rest) (λ moment. Spells text (Until moment)) r h
+    reads_as (SpellsMoment rest) (λ moment. SpellsCaveat text (Until moment)) r h
     (λ n s. let is = spells-moment_text rest n s in record { real = is.1; spelled = e ∙ ap (λ (t : List ℕ). codes "until < " ++ t) is.0 })
     (λ n s. let P : List ℕ → Type 0 = λ t. SpellsMoment t n in
     subst P (sym (ap (drop 8) (sym e ∙ s.spelled))) (moment_text-spells n s.real))
 
--- a number above 49 is no number of guests
-pub too_many_guests : (text rest : List ℕ) (n : ℕ) → text ≡ codes "guests <= " ++ rest → SpellsNumber rest n → 49 < n → (x : ℕ) → Spells text (Guests x) → ⊥
+-- a number above 49 isn't a number of guests
+pub too_many_guests : (text rest : List ℕ) (n : ℕ) → text ≡ codes "guests <= " ++ rest → SpellsNumber rest n → 49 < n → (x : ℕ) → SpellsCaveat text (Guests x)
+    → ⊥
 too_many_guests text rest n e s large x h =
     let same : n ≡ x = decimal_injective n x (omega (arith, s.within)) (omega (arith, h.real)) (sym s.spelled ∙ ap (drop 10) (sym e ∙ h.spelled)) in
     absurd (omega (arith, h.real))
@@ -41,37 +42,37 @@ pub record AreDates (rest : List ℕ) (a b : ℕ) : Type 0 where
   pub second : drop 10 rest ≡ codes ".." ++ day_text b
   pub long : length rest ≡ 22
 
-pub dates_of : (text rest : List ℕ) (a b : ℕ) → text ≡ codes "days = " ++ rest → Spells text (Days a b) → AreDates rest a b
+pub dates_of : (text rest : List ℕ) (a b : ℕ) → text ≡ codes "days = " ++ rest → SpellsCaveat text (Days a b) → AreDates rest a b
 unfolding day_text
 dates_of text rest a b e h =
     let apart : rest ≡ day_text a ++ (codes ".." ++ day_text b) = ap (drop 7) (sym e ∙ h.spelled) in
     record { first = ap (take 10) apart; second = ap (drop 10) apart; long = ap (length {A = ℕ}) apart }
 
 pub no_first_day : (text rest front : List ℕ) → text ≡ codes "days = " ++ rest → front ≡ take 10 rest → ((n : ℕ) → SpellsDay front n → ⊥) → (x : ℕ × ℕ) →
-    Spells text (Days x.0 x.1) → ⊥
+    SpellsCaveat text (Days x.0 x.1) → ⊥
 no_first_day text rest front e front_is never x h =
     let P : List ℕ → Type 0 = λ t. SpellsDay t x.0 in
     never x.0 (subst P (sym (front_is ∙ (dates_of text rest x.0 x.1 e h).first)) (day_text-spells x.0 h.real.0))
 
 pub no_dots : (text rest back : List ℕ) → text ≡ codes "days = " ++ rest → back ≡ drop 10 rest → ((last : List ℕ) → back ≡ codes ".." ++ last → ⊥) →
-    (x : ℕ × ℕ) → Spells text (Days x.0 x.1) → ⊥
+    (x : ℕ × ℕ) → SpellsCaveat text (Days x.0 x.1) → ⊥
 no_dots text rest back e back_is never x h =
     never (day_text x.1) (back_is ∙ (dates_of text rest x.0 x.1 e h).second)
 
--- what stands behind the dots is the second date
+-- what follows the dots is the second date
 second_is : (text rest back last : List ℕ) (a b : ℕ) → text ≡ codes "days = " ++ rest → back ≡ drop 10 rest → back ≡ codes ".." ++ last →
-    Spells text (Days a b) → last ≡ day_text b
+    SpellsCaveat text (Days a b) → last ≡ day_text b
 second_is text rest back last a b e back_is dots h =
     ap (drop 2) (sym dots ∙ (back_is ∙ (dates_of text rest a b e h).second))
 
 pub no_second_day : (text rest back last : List ℕ) → text ≡ codes "days = " ++ rest → back ≡ drop 10 rest → back ≡ codes ".." ++ last →
-    ((n : ℕ) → SpellsDay last n → ⊥) → (x : ℕ × ℕ) → Spells text (Days x.0 x.1) → ⊥
+    ((n : ℕ) → SpellsDay last n → ⊥) → (x : ℕ × ℕ) → SpellsCaveat text (Days x.0 x.1) → ⊥
 no_second_day text rest back last e back_is dots never x h =
     let P : List ℕ → Type 0 = λ t. SpellsDay t x.1 in
     never x.1 (subst P (sym (second_is text rest back last x.0 x.1 e back_is dots h)) (day_text-spells x.1 h.real.1))
 
 pub spells_days : (text rest front back last : List ℕ) (a b : ℕ) → text ≡ codes "days = " ++ rest → front ≡ take 10 rest → back ≡ drop 10 rest →
-    back ≡ codes ".." ++ last → SpellsDay front a → SpellsDay last b → a ≤ b → Spells text (Days a b)
+    back ≡ codes ".." ++ last → SpellsDay front a → SpellsDay last b → a ≤ b → SpellsCaveat text (Days a b)
 spells_days text rest front back last a b e front_is back_is dots s t le =
     let first = spells-day_text front a s in
     let second = spells-day_text last b t in
@@ -83,7 +84,7 @@ spells_days text rest front back last a b e front_is back_is dots s t le =
 
 -- days in the wrong order
 pub days_fall : (text rest front back last : List ℕ) (a b : ℕ) → text ≡ codes "days = " ++ rest → front ≡ take 10 rest → back ≡ drop 10 rest →
-    back ≡ codes ".." ++ last → SpellsDay front a → SpellsDay last b → b < a → (x : ℕ × ℕ) → Spells text (Days x.0 x.1) → ⊥
+    back ≡ codes ".." ++ last → SpellsDay front a → SpellsDay last b → b < a → (x : ℕ × ℕ) → SpellsCaveat text (Days x.0 x.1) → ⊥
 days_fall text rest front back last a b e front_is back_is dots s t lt x h =
     let first : day_text a ≡ day_text x.0 = sym (spells-day_text front a s) ∙ (front_is ∙ (dates_of text rest x.0 x.1 e h).first) in
     let second : day_text b ≡ day_text x.1 = sym (spells-day_text last b t) ∙ second_is text rest back last x.0 x.1 e back_is dots h in
@@ -92,10 +93,11 @@ days_fall text rest front back last a b e front_is back_is dots s t lt x h =
     absurd (omega (arith, h.real.2))
 
 -- a text that is no line of any kind
-pub no_line : (text : List ℕ) → ((x : List (List ℕ)) → Spells text (Facility x) → ⊥) → ((x : AKind) → Spells text (Kind x) → ⊥) →
-    ((x : ℕ × ℕ) → Spells text (Hours x.0 x.1) → ⊥) → ((x : ℕ × ℕ) → Spells text (Days x.0 x.1) → ⊥) → ((x : SomeWeekdays) → Spells text (Weekdays x) → ⊥) →
-    ((x : ℕ) → Spells text (Until x) → ⊥) → ((x : ℕ) → Spells text (Guests x) → ⊥) → ((x : ℕ) → Spells text (Spend x) → ⊥) →
-    ((x : SomeActions) → Spells text (Actions x) → ⊥) → (caveat : Caveat) → Spells text caveat → ⊥
+pub no_line : (text : List ℕ) → ((x : List (List ℕ)) → SpellsCaveat text (Facility x) → ⊥) → ((x : AKind) → SpellsCaveat text (Kind x) → ⊥) →
+    ((x : ℕ × ℕ) → SpellsCaveat text (Hours x.0 x.1) → ⊥) → ((x : ℕ × ℕ) → SpellsCaveat text (Days x.0 x.1) → ⊥)
+    → ((x : SomeWeekdays) → SpellsCaveat text (Weekdays x) → ⊥) →
+    ((x : ℕ) → SpellsCaveat text (Until x) → ⊥) → ((x : ℕ) → SpellsCaveat text (Guests x) → ⊥) → ((x : ℕ) → SpellsCaveat text (Spend x) → ⊥) →
+    ((x : SomeActions) → SpellsCaveat text (Actions x) → ⊥) → (caveat : Caveat) → SpellsCaveat text caveat → ⊥
 no_line text f k h d w u g s a (Facility names) = f names
 no_line text f k h d w u g s a (Kind kind) = k kind
 no_line text f k h d w u g s a (Hours from until) = h (from, until)

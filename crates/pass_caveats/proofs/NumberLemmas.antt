@@ -14,15 +14,15 @@ use Rattle.pass_caveats.specs.Number.{IsNumber, SpellsNumber}
 abbrev AreDigits : List ℕ → Type 0
 AreDigits = All (λ byte. IsInRange 48 57 byte)
 
-tells_digits : IsDigitsTest AreDigits
-tells_digits = record {
+digits_test : IsDigitsTest AreDigits
+digits_test = record {
   empty = λ k d within. absurd (omega arith);
   parts = λ c cs h. (All-head (λ byte. IsInRange 48 57 byte) c cs h, All-tail (λ byte. IsInRange 48 57 byte) c cs h);
   more = λ c cs first rest. All-cons (λ byte. IsInRange 48 57 byte) c cs first rest;
 }
 
 own : IsNumeralModel AreDigits (digits_value 10)
-own = numerals_by_value AreDigits tells_digits
+own = numerals_by_value AreDigits digits_test
 
 -- digits spell their value
 value_below : (text : List ℕ) → IsNumber text → digits_value 10 text < 10 ^ 9
@@ -36,7 +36,7 @@ spells_value text h =
       within = omega arith;
     }
 
--- and that is what `parse` gives
+-- and `parse` returns it
 pub reads_number : {E : Type 0} (text read : List ℕ) (r : Result ℕ E) (o : Option ℕ) → IsNumber text → read ≡ text → ParsesUnsigned 32 10 read r →
     o ≡ result_ok r → Reads (SpellsNumber text) o
 reads_number text read r o h e parses is =

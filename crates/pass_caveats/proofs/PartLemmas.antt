@@ -12,17 +12,17 @@ use Rattle.std.proofs.lemmas.List.Elements.{All-head, All-tail}
 use Rattle.std.proofs.lemmas.List.Splits.{slice_split_none, slice_split_at, length-slice_split, join_with_byte-slice_split}
 use Rattle.club_values.specs.Name.{is_name_byte, IsName}
 use Rattle.pass_caveats.specs.Names.{AreNames}
-use Rattle.pass_caveats.specs.Parts.{parts_of, joined, is_next, after_next}
+use Rattle.pass_caveats.specs.Parts.{comma_parts, comma_list, is_next, after_next}
 use Rattle.std.specs.Str.{bytes_eq}
 use Rattle.std.proofs.lemmas.Slice.Eq.{bytes_eq-Decides}
 
--- what `any` answers of a list's items that are x
+-- what `any` returns for the items that are x
 pub contains_from_any : (r : Bool) (xs : List (List ℕ)) (x : List ℕ) →
     MatchBool r ((k : ℕ) × (k < length xs) × HoldsAt (λ y. y ≡ x) xs k) (AllWithin (λ y. y ≢ x) xs 0 (length xs)) → IsTrue r ↔ Contains xs x
 contains_from_any true xs x h = ((λ e. (h.0, h.1, h.2 x)), (λ c. refl))
 contains_from_any false xs x h = ((λ e. cc), (λ c. absurd (h c.0 x (omega arith) c.1 c.2)))
 
--- what `all` answers of a list's items with P
+-- what `all` returns for the items with P
 pub all_from_all : (r : Bool) (xs : List (List ℕ)) (P : List ℕ → Type 0) →
     MatchBool r (AllWithin P xs 0 (length xs)) ((k : ℕ) × (k < length xs) × HoldsAt (λ y. P y → ⊥) xs k) → IsTrue r ↔ All P xs
 all_from_all true xs P h = ((λ e k d within. h k d (omega arith) within), (λ c. refl))
@@ -40,26 +40,26 @@ no_comma name h = λ k d within. no_comma_byte _ (h.letters k d within)
 no_commas : (names : List (List ℕ)) → All IsName names → All HasNoComma names
 no_commas names h = λ k d within. no_comma _ (h k d within)
 
--- texts without commas that are joined come apart again
-pub parts_of-joined : (parts : List (List ℕ)) → 0 < length parts → All HasNoComma parts → parts_of (joined parts) ≡ parts
+-- splitting a list of texts without commas gives the texts again
+pub parts_of-joined : (parts : List (List ℕ)) → 0 < length parts → All HasNoComma parts → comma_parts (comma_list parts) ≡ parts
 parts_of-joined [] some h = absurd (omega arith)
 parts_of-joined (x ∷ []) some h = slice_split_none (λ byte. byte == 44) x (All-head HasNoComma x [] h)
 parts_of-joined (x ∷ y ∷ rest) some h =
-    slice_split_at (λ byte. byte == 44) x 44 (joined (y ∷ rest)) (All-head HasNoComma x (y ∷ rest) h) refl
+    slice_split_at (λ byte. byte == 44) x 44 (comma_list (y ∷ rest)) (All-head HasNoComma x (y ∷ rest) h) refl
     ∙ ap (λ (parts : List (List ℕ)). x ∷ parts) (parts_of-joined (y ∷ rest) (omega arith) (All-tail HasNoComma x (y ∷ rest) h))
 
-pub names_again : (names : List (List ℕ)) → AreNames names → parts_of (joined names) ≡ names
+pub names_again : (names : List (List ℕ)) → AreNames names → comma_parts (comma_list names) ≡ names
 names_again names h = parts_of-joined names h.some (no_commas names h.named)
 
-pub joined-parts_of : (text : List ℕ) → joined (parts_of text) ≡ text
+pub joined-parts_of : (text : List ℕ) → comma_list (comma_parts text) ≡ text
 joined-parts_of text = join_with_byte-slice_split 44 text
 
 -- there is always a part
-pub some_part : (text : List ℕ) → 0 < length (parts_of text)
+pub some_part : (text : List ℕ) → 0 < length (comma_parts text)
 some_part text = omega (arith, length-slice_split (λ byte. byte == 44) text)
 
 -- a text that spells names has them as its parts
-pub names_are_parts : (text : List ℕ) (names : List (List ℕ)) → AreNames names × (text ≡ joined names) → AreNames (parts_of text)
+pub names_are_parts : (text : List ℕ) (names : List (List ℕ)) → AreNames names × (text ≡ comma_list names) → AreNames (comma_parts text)
 names_are_parts text names h = rw (h.1, names_again names h.0) h.0
 
 -- cut at the first comma
@@ -74,12 +74,12 @@ no_comma_before text i h none = λ k d within.
     rw get_or-take (grind (arith, nat_tests))
 
 pub parts_of-comma : (text rest : List ℕ) (i : ℕ) → i < length text → HoldsAt (λ byte. byte ≡ 44) text i → AllWithin (λ byte. byte ≢ 44) text 0 i →
-    rest ≡ drop (i + 1) text → parts_of text ≡ take i text ∷ parts_of rest
+    rest ≡ drop (i + 1) text → comma_parts text ≡ take i text ∷ comma_parts rest
 parts_of-comma text rest i h here before e =
-    rw e (ap parts_of (at_comma text i h (here 0)) ∙ slice_split_at (λ byte. byte == 44) (take i text) 44 (drop (i + 1) text)
+    rw e (ap comma_parts (at_comma text i h (here 0)) ∙ slice_split_at (λ byte. byte == 44) (take i text) 44 (drop (i + 1) text)
     (no_comma_before text i (omega arith) before) refl)
 
-pub parts_of-no_comma : (text : List ℕ) → AllWithin (λ byte. byte ≢ 44) text 0 (length text) → parts_of text ≡ text ∷ []
+pub parts_of-no_comma : (text : List ℕ) → AllWithin (λ byte. byte ≢ 44) text 0 (length text) → comma_parts text ≡ text ∷ []
 parts_of-no_comma text none =
     slice_split_none (λ byte. byte == 44) text (λ k d within. let other : get_or text k d ≢ 44 = none k d (omega arith) within in grind (arith, nat_tests))
 

@@ -1,5 +1,6 @@
 -- What was spent before changes the first fault of a list only under a spend limit, and only where something is owed.
-use Rattle.std.proofs.Common.{◌≡◌, ◌⊎◌, inl, inr, ℕ, zero, suc, ◌+◌, ◌≤◌, Bool, true, false, cond, List, [], ◌∷◌, map, Option, Some, None, refl, sym, ◌∙◌, arith}
+use Rattle.std.proofs.Common.{◌≡◌, ◌⊎◌, inl, inr, ℕ, zero, suc, ◌+◌, ◌≤◌, Bool, true, false, cond, List, [], ◌∷◌, map, Option, Some, None, refl, sym, ◌∙◌}
+use Rattle.std.proofs.Common.{arith}
 use Rattle.pass_caveats.specs.declared.ask.Ask.{Ask}
 use Rattle.pass_caveats.specs.declared.caveat.Caveat.{Caveat}
 use Rattle.pass_caveats.specs.declared.caveat.Caveat.TheVariants.{Spend}
@@ -11,7 +12,7 @@ use Rattle.pass_caveats.specs.Spending.{after_spending}
 use Rattle.pass_caveats.proofs.CaveatOfLemmas.{understood-caveat_of}
 use Rattle.pass_caveats.proofs.DecisionLemmas.{Decides-permits}
 
--- whoever spent less is allowed no less
+-- a key that spent less is allowed at least as much
 allowed_less : (caveat : Caveat) (ask : Ask) (less more : ℕ) → less ≤ more → Permits caveat (after_spending more ask)
     → Permits caveat (after_spending less ask)
 allowed_less (Spend n) ask less more short (inl nothing) = inl nothing
@@ -24,7 +25,7 @@ permits_less caveat ask less more short e =
     (Decides-permits caveat (after_spending less ask)).1
     (allowed_less caveat ask less more short ((Decides-permits caveat (after_spending more ask)).0 e))
 
--- where nothing is owed all are allowed alike
+-- if nothing is owed, what was spent makes no difference
 allowed_free : (caveat : Caveat) (ask : Ask) (one other : ℕ) → ask.owed ≡ 0 → Permits caveat (after_spending one ask)
     → Permits caveat (after_spending other ask)
 allowed_free (Spend n) ask one other free h = inl free
@@ -88,7 +89,7 @@ between n (Some caveat ∷ caveats) ask spent most short e =
         let late = numbered (n + 1) caveats (after_spending 0 ask) n (sym h) in absurd (omega (arith, late))
     go false false false f g rest h = refl
 
--- what is allowed to one who spent as much as the greatest limit is allowed to all
+-- what is allowed after spending the greatest limit is allowed after any amount
 allowed_beyond : (caveat : Caveat) (ask : Ask) (spent most : ℕ) → IsCaveat caveat → number_limit ≤ most → Permits caveat (after_spending most ask)
     → Permits caveat (after_spending spent ask)
 allowed_beyond (Spend n) ask spent most real far (inl nothing) = inl nothing
@@ -101,7 +102,7 @@ permits_beyond caveat ask spent most real far e =
     (Decides-permits caveat (after_spending spent ask)).1
     (allowed_beyond caveat ask spent most real far ((Decides-permits caveat (after_spending most ask)).0 e))
 
--- all who spent as much as that find the same first fault
+-- after spending at least that much the first fault is always the same
 beyond : (n : ℕ) (texts : List (List ℕ)) (ask : Ask) (spent most : ℕ) → number_limit ≤ most → most ≤ spent
     → first_fault_from n (map caveat_of texts) (after_spending spent ask) ≡ first_fault_from n (map caveat_of texts) (after_spending most ask)
 beyond n [] ask spent most far more = refl

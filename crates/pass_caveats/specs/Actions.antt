@@ -3,7 +3,7 @@ use Rattle.std.specs.Prelude.{◌≡◌, ◌≢◌, ℕ, Bool, List, [], ◌∷�
 use Rattle.club_values.specs.declared.action.Action.{Action}
 use Rattle.club_values.specs.declared.action.Action.TheVariants.{View, Book, Cancel, Account}
 use Rattle.club_values.specs.Action.{action_text}
-use Rattle.pass_caveats.specs.Parts.{joined}
+use Rattle.pass_caveats.specs.Parts.{comma_list}
 use Rattle.pass_caveats.specs.declared.actions.Actions.{Actions}
 
 -- in the order of a list (ours)
@@ -22,4 +22,4 @@ action_texts actions = map action_text (filter (has_action actions) all_actions)
 
 -- the list of a set that isn't empty, with commas
 abbrev pub SpellsActions : List ℕ → Actions → Type 0
-SpellsActions text actions = (action_texts actions ≢ []) × (text ≡ joined (action_texts actions))
+SpellsActions text actions = (action_texts actions ≢ []) × (text ≡ comma_list (action_texts actions))

@@ -12,7 +12,7 @@ use Rattle.club_values.specs.Kind.{kind_text}
 use Rattle.club_values.specs.Slot.{guests_limit}
 use Rattle.pass_caveats.specs.Names.{AreNames}
 use Rattle.pass_caveats.specs.Number.{number_limit}
-use Rattle.pass_caveats.specs.Parts.{joined}
+use Rattle.pass_caveats.specs.Parts.{comma_list}
 use Rattle.club_values.specs.Weekday.{weekday_of}
 use Rattle.pass_caveats.specs.Actions.{has_action, action_texts}
 use Rattle.pass_caveats.specs.Weekdays.{has_weekday, weekday_texts}
@@ -31,18 +31,18 @@ IsCaveat (Actions actions) = action_texts actions ≢ []
 
 -- the line of these values
 abbrev pub caveat_text : Caveat → List ℕ
-caveat_text (Facility names) = codes "facility = " ++ joined names
+caveat_text (Facility names) = codes "facility = " ++ comma_list names
 caveat_text (Kind kind) = codes "kind = " ++ kind_text kind
 caveat_text (Hours from until) = codes "hours = " ++ (two_digits from ++ 45 ∷ two_digits until)
 caveat_text (Days first last) = codes "days = " ++ (day_text first ++ (codes ".." ++ day_text last))
-caveat_text (Weekdays set) = codes "weekday = " ++ joined (weekday_texts set)
+caveat_text (Weekdays set) = codes "weekday = " ++ comma_list (weekday_texts set)
 caveat_text (Until moment) = codes "until < " ++ moment_text moment
 caveat_text (Guests n) = codes "guests <= " ++ decimal n
 caveat_text (Spend n) = codes "spend <= " ++ decimal n
-caveat_text (Actions actions) = codes "actions = " ++ joined (action_texts actions)
+caveat_text (Actions actions) = codes "actions = " ++ comma_list (action_texts actions)
 
 -- the text is a line
-pub record Spells (text : List ℕ) (caveat : Caveat) : Type 0 where
+pub record SpellsCaveat (text : List ℕ) (caveat : Caveat) : Type 0 where
   pub real : IsCaveat caveat
   pub spelled : text ≡ caveat_text caveat
 
@@ -50,12 +50,12 @@ pub record Spells (text : List ℕ) (caveat : Caveat) : Type 0 where
 abbrev pub max_caveat_len : ℕ
 max_caveat_len = 256
 
--- the text is a line that isn't longer
+-- the text is such a line, not longer than that
 pub record Understood (text : List ℕ) (caveat : Caveat) : Type 0 where
-  pub line : Spells text caveat
+  pub line : SpellsCaveat text caveat
   pub short : length text ≤ max_caveat_len
 
--- the set of the requests that a caveat allows
+-- the requests that a caveat allows
 abbrev pub Permits : Caveat → Ask → Type 0
 Permits (Facility names) ask = IsSomeAnd ask.slot (λ slot. Contains names slot.facility)
 Permits (Kind kind) ask = IsSomeAnd ask.slot (λ _. ask.kind ≡ Some kind)

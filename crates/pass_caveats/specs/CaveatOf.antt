@@ -1,5 +1,5 @@
--- The caveat that a text is, and whether it permits a request, as functions for whoever computes with them. What they mean is
--- said by `Understood` and `Permits`; laws say that they agree.
+-- Parsing a caveat, and testing a request against it, as functions for definitions that compute. `Understood` and `Permits` define what
+-- they mean; laws state that both agree.
 use Rattle.std.specs.Prelude.{ℕ, ◌+◌, ◌==◌, ◌&&◌, ◌||◌, Bool, true, false, List, [], ◌∷◌, length, drop, slice_index, slice_index_or, map, nat_lt, nat_le}
 use Rattle.std.specs.Prelude.{if◌then◌else◌, Option, Some, None}
 use Rattle.std.specs.List.{list_all, list_any}
@@ -17,7 +17,7 @@ use Rattle.club_values.specs.Slot.{guests_limit}
 use Rattle.pass_caveats.specs.declared.ask.Ask.{Ask}
 use Rattle.pass_caveats.specs.declared.fault.CaveatFault.{CaveatFault}
 use Rattle.pass_caveats.specs.declared.fault.CaveatFault.TheVariants.{NotUnderstood, Denied}
-use Rattle.club_values.specs.TextOf.{two_at, day_of, moment_of, kind_of, is_name}
+use Rattle.club_values.specs.TextOf.{two_at, day_of, moment_of, candidate_kind, is_name}
 use Rattle.club_values.specs.Day.{first_day, last_day}
 use Rattle.club_values.specs.Hour.{hours_a_day}
 use Rattle.club_values.specs.Moment.{first_moment, last_moment}
@@ -25,12 +25,12 @@ use Rattle.club_values.specs.Action.{action_text}
 use Rattle.club_values.specs.Weekday.{weekdays, weekday_of}
 use Rattle.pass_caveats.specs.Names.{max_names}
 use Rattle.pass_caveats.specs.Number.{number_limit}
-use Rattle.pass_caveats.specs.Parts.{parts_of, words_found}
+use Rattle.pass_caveats.specs.Parts.{comma_parts, words_found}
 use Rattle.pass_caveats.specs.Actions.{all_actions, has_action, action_texts}
 use Rattle.pass_caveats.specs.Weekdays.{weekday_text, has_weekday, weekday_texts}
 use Rattle.pass_caveats.specs.Caveat.{caveat_text, max_caveat_len}
 
--- the sets of what is found
+-- the set of the flags that are found
 abbrev pub actions_from : List Bool → SomeActions
 actions_from found =
     let at : ℕ → Bool = λ i. slice_index_or found i false in
@@ -42,17 +42,17 @@ weekdays_from found =
     record { monday = at 0; tuesday = at 1; wednesday = at 2; thursday = at 3; friday = at 4; saturday = at 5; sunday = at 6 }
 
 abbrev pub actions_of : List ℕ → SomeActions
-actions_of text = actions_from (words_found (map action_text all_actions) (parts_of text))
+actions_of text = actions_from (words_found (map action_text all_actions) (comma_parts text))
 
 abbrev pub weekdays_of : List ℕ → SomeWeekdays
-weekdays_of text = weekdays_from (words_found (map weekday_text weekdays) (parts_of text))
+weekdays_of text = weekdays_from (words_found (map weekday_text weekdays) (comma_parts text))
 
--- the one caveat that a text can be: its first letter tells which line
+-- the only caveat that a text can be: its first letter gives the kind of line
 unfoldable pub candidate : List ℕ → Caveat
 candidate text =
     let first = slice_index text 0 in
-    if first == 102 then Facility (parts_of (drop 11 text))
-    else (if first == 107 then Kind (kind_of (drop 7 text))
+    if first == 102 then Facility (comma_parts (drop 11 text))
+    else (if first == 107 then Kind (candidate_kind (drop 7 text))
     else (if first == 104 then Hours (two_at text 8) (two_at text 11)
     else (if first == 100 then Days (day_of (drop 7 text)) (day_of (drop 19 text))
     else (if first == 119 then Weekdays (weekdays_of (drop 10 text))
@@ -61,7 +61,7 @@ candidate text =
     else (if first == 115 then Spend (digits_value 10 (drop 9 text))
     else Actions (actions_of (drop 10 text)))))))))
 
--- whether the values may stand in a line
+-- whether the values are within their limits
 abbrev pub is_caveat : Caveat → Bool
 is_caveat (Facility names) = nat_lt 0 (length names) && nat_le (length names) max_names && list_all is_name names
 is_caveat (Kind kind) = true
@@ -76,7 +76,7 @@ is_caveat (Actions actions) = nat_lt 0 (length (action_texts actions))
 abbrev pub spells : List ℕ → Caveat → Bool
 spells text caveat = is_caveat caveat && bytes_eq text (caveat_text caveat) && nat_le (length text) max_caveat_len
 
--- the caveat that is understood
+-- the parsed caveat
 unfoldable pub caveat_of : List ℕ → Option Caveat
 caveat_of text = if spells text (candidate text) then Some (candidate text) else None
 
@@ -106,7 +106,7 @@ permits (Guests n) ask = nat_le ask.guests n
 permits (Spend n) ask = ask.owed == 0 || nat_le (ask.spent + ask.owed) n
 permits (Actions actions) ask = has_action actions ask.action
 
--- the first fault of caveats that were read, of which the first has this number
+-- the first fault of parsed caveats, where the first caveat has this number
 abbrev pub first_fault_from : ℕ → List (Option Caveat) → Ask → Option CaveatFault
 first_fault_from n [] ask = None
 first_fault_from n (None ∷ caveats) ask = Some (NotUnderstood n)

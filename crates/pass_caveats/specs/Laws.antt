@@ -12,30 +12,30 @@ use Rattle.pass_caveats.specs.Fault.{Allowed, IsFirstFault}
 abbrev pub Narrows : Type 0
 Narrows = (texts more : List (List ℕ)) (ask : Ask) → Allowed (texts ++ more) ask → Allowed texts ask
 
--- the first fault is none exactly where the request is allowed
+-- the first fault is none exactly if the request is allowed
 abbrev pub FaultsOnlyWhereNotAllowed : Type 0
 FaultsOnlyWhereNotAllowed =
     (texts : List (List ℕ)) (ask : Ask) (fault : Option CaveatFault) → IsFirstFault texts ask fault → (fault ≡ None) ↔ Allowed texts ask
 
--- a list of caveats has one first fault or none, and this function finds it
+-- `first_fault_of` returns the first fault of a list of caveats
 abbrev pub FindsTheFirstFault : Type 0
 FindsTheFirstFault =
     (texts : List (List ℕ)) (ask : Ask) (fault : Option CaveatFault) → IsFirstFault texts ask fault ↔ (fault ≡ first_fault_of (map caveat_of texts) ask)
 
--- with one more caveat the first fault is that of the caveats before it, and else that of the last one
+-- with one more caveat the first fault is that of the caveats before, or else that of the last one
 abbrev pub FindsTheFaultOfOneMore : Type 0
 FindsTheFaultOfOneMore =
     (caveats : List (Option Caveat)) (caveat : Option Caveat) (ask : Ask) →
     first_fault_of (caveats ++ caveat ∷ []) ask ≡ option_or (first_fault_of caveats ask) (first_fault_from (length caveats + 1) (caveat ∷ []) ask)
 
--- this function reads what is understood
+-- `caveat_of` returns a caveat exactly if the text is understood as that caveat
 abbrev pub ReadsWhatIsUnderstood : Type 0
 ReadsWhatIsUnderstood = (text : List ℕ) (caveat : Caveat) → Understood text caveat ↔ (caveat_of text ≡ Some caveat)
 
--- this function tests the set
+-- `permits` is true exactly if the caveat allows the request
 abbrev pub TestsTheSet : Type 0
 TestsTheSet = (caveat : Caveat) (ask : Ask) → Permits caveat ask ↔ IsTrue (permits caveat ask)
 
--- a text is understood as one caveat at most
+-- a text is understood as at most one caveat
 abbrev pub IsUnderstoodOnce : Type 0
 IsUnderstoodOnce = (text : List ℕ) (a b : Caveat) → Understood text a → Understood text b → a ≡ b

@@ -15,7 +15,7 @@ pub record SpellsNumber (text : List ℕ) (n : ℕ) : Type 0 where
   pub spelled : text ≡ decimal n
   pub within : n ≤ number_limit
 
--- the same of the digits alone
+-- the same by the digits alone
 pub record IsNumber (text : List ℕ) : Type 0 where
   pub some : 0 < length text
   pub short : length text ≤ max_digits

@@ -4,17 +4,17 @@ use Rattle.std.specs.List.{slice_split, join_with_byte}
 use Rattle.std.specs.Str.{bytes_eq}
 
 -- the parts of a text, between its commas
-abbrev pub parts_of : List ℕ → List (List ℕ)
-parts_of text = slice_split (λ byte. byte == 44) text
+abbrev pub comma_parts : List ℕ → List (List ℕ)
+comma_parts text = slice_split (λ byte. byte == 44) text
 
 -- the text of the parts, with a comma between each two
-abbrev pub joined : List (List ℕ) → List ℕ
-joined parts = join_with_byte 44 parts
+abbrev pub comma_list : List (List ℕ) → List ℕ
+comma_list parts = join_with_byte 44 parts
 
--- the parts of what is left of a text
+-- the parts of the rest of a text
 abbrev pub parts_left : Option (List ℕ) → List (List ℕ)
 parts_left None = []
-parts_left (Some text) = parts_of text
+parts_left (Some text) = comma_parts text
 
 -- whether the first part is the word
 abbrev pub is_next : List ℕ → List (List ℕ) → Bool
@@ -26,7 +26,7 @@ abbrev pub after_next : List ℕ → List (List ℕ) → List (List ℕ)
 after_next word [] = []
 after_next word (part ∷ parts) = if bytes_eq part word then parts else part ∷ parts
 
--- which of the words stand in the parts, where they stand in the order of their list
+-- for each word whether it is among the parts, if the parts are in the words' order
 abbrev pub words_found : List (List ℕ) → List (List ℕ) → List Bool
 words_found [] parts = []
 words_found (word ∷ words) parts = is_next word parts ∷ words_found words (after_next word parts)

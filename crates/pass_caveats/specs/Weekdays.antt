@@ -3,7 +3,7 @@ use Rattle.std.specs.Prelude.{◌≡◌, ◌≢◌, ℕ, Bool, List, [], filter,
 use Rattle.jiff_core.specs.declared.civil.weekday.Weekday.{Weekday}
 use Rattle.jiff_core.specs.declared.civil.weekday.Weekday.TheVariants.{Monday, Tuesday, Wednesday, Thursday, Friday, Saturday, Sunday}
 use Rattle.club_values.specs.Weekday.{weekdays}
-use Rattle.pass_caveats.specs.Parts.{joined}
+use Rattle.pass_caveats.specs.Parts.{comma_list}
 use Rattle.pass_caveats.specs.declared.weekdays.Weekdays.{Weekdays}
 
 -- the texts of weekdays (ours)
@@ -31,4 +31,4 @@ weekday_texts set = map weekday_text (filter (has_weekday set) weekdays)
 
 -- the list of a set that isn't empty, with commas
 abbrev pub SpellsWeekdays : List ℕ → Weekdays → Type 0
-SpellsWeekdays text set = (weekday_texts set ≢ []) × (text ≡ joined (weekday_texts set))
+SpellsWeekdays text set = (weekday_texts set ≢ []) × (text ≡ comma_list (weekday_texts set))

@@ -1,6 +1,8 @@
+//! The caveats that are understood, and the requests that each allows.
+
 ghost use Rattle.std.specs.Prelude.{◌≡◌, ◌⊎◌, ◌+◌, ◌≤◌, ◌↔◌, IsTrue};
 ghost use Rattle.club_values.specs.Reading.{Reads};
-ghost use Rattle.pass_caveats.specs.Caveat.{Spells, Understood, Permits};
+ghost use Rattle.pass_caveats.specs.Caveat.{SpellsCaveat, Understood, Permits};
 ghost use Rattle.pass_caveats.specs.CaveatOf.{caveat_of, permits};
 
 use crate::actions::Actions;
@@ -13,10 +15,10 @@ use crate::names::Names;
 use crate::weekdays::Weekdays;
 use club_values::{Day, Kind, Moment};
 
-/// The most bytes of a caveat that is understood.
+/// The most bytes of an understood caveat.
 pub const MAX_CAVEAT_LEN: usize = 256;
 
-/// A caveat that is understood. Each kind of line allows a set of requests.
+/// An understood caveat. Each kind of line allows a set of requests.
 #[derive(Debug, Drop)]
 pub enum Caveat<'a> {
     /// The slot's facility is one of the names.
@@ -25,23 +27,23 @@ pub enum Caveat<'a> {
     Kind(Kind),
     /// The slot's hour is `from` or later, and before `until`, 1 to 24.
     Hours { from: u8, until: u8 },
-    /// The slot's day lies from `first` to `last`, both included.
+    /// The slot's day is between `first` and `last`, both included.
     Days { first: Day, last: Day },
     /// The weekday of the slot's day is in the set.
     Weekdays(Weekdays),
     /// The moment of the request is before this one.
     Until(Moment),
-    /// No more guests than this, 0 to 49.
+    /// At most this many guests, 0 to 49.
     Guests(u8),
-    /// Nothing is owed, or all that the key has spent comes to no more than this, 0 to 999,999,999
-    /// points.
+    /// Nothing is owed, or what the key has spent and what is owed come to at most this many
+    /// points, 0 to 999,999,999.
     Spend(u32),
     /// The action is in the set.
     Actions(Actions),
 }
 
 fn line_of(text: &[u8]) -> Option<Caveat<'_>>
-    ensures { Reads (Spells text.now) result }
+    ensures { Reads (SpellsCaveat text.now) result }
 {
     if let Some(names) = read_facility(text) {
         return Some(Caveat::Facility(names));
@@ -80,7 +82,7 @@ fn short_line_of(text: &[u8]) -> Option<Caveat<'_>>
     line_of(text)
 }
 
-/// The caveat that a text is; `None` where the text is no line of the language, or longer than 256
+/// The caveat of a text; `None` if the text isn't a line of the language, or is longer than 256
 /// bytes.
 pub fn read(bytes: &[u8]) -> Option<Caveat<'_>>
     ensures understood { Reads (Understood bytes.now) result }
@@ -119,7 +121,7 @@ fn is_within(ask: &Ask, points: u64) -> bool
     ask.owed == 0 || (ask.spent <= points && ask.owed <= points - ask.spent)
 }
 
-/// Whether a caveat allows a request: whether the request is in its set.
+/// Whether a caveat allows a request.
 pub fn allows(caveat: &Caveat, ask: &Ask) -> bool
     ensures set { IsTrue result ↔ Permits caveat.now ask.now }
     ensures function { result ≡ permits caveat.now ask.now }

@@ -1,3 +1,5 @@
+//! The first fault of a list of caveats.
+
 ghost use Rattle.std.specs.Prelude.{◌≡◌, [], ◌∷◌, map};
 ghost use Rattle.std.specs.Vec.{vec_items};
 ghost use Rattle.pass_caveats.specs.Fault.{IsFaultAt, IsFirstFault};
@@ -13,15 +15,15 @@ use std::fmt;
 pub enum CaveatFault {
     /// The caveat isn't understood.
     NotUnderstood(usize),
-    /// The caveat is understood, and its set lacks the request.
+    /// The caveat is understood and doesn't allow the request.
     Denied(usize),
 }
 
 impl fmt::Display for CaveatFault {
     ghost use Rattle.std.specs.Prelude.{Some};
-    ghost use Rattle.pass_caveats.specs.Fault.{fault_text};
+    ghost use Rattle.pass_caveats.specs.Fault.{caveat_fault_text};
 
-    ghost output = { λ fault. Some (fault_text fault) };
+    ghost output = { λ fault. Some (caveat_fault_text fault) };
 
     fn fmt<W: fmt::Write>(&self, f: &mut fmt::Formatter<W>) -> fmt::Result {
         match self {
@@ -46,9 +48,9 @@ fn fault_of_text(text: &[u8], number: usize, ask: &Ask) -> Option<CaveatFault>
     }
 }
 
-/// The fault of one caveat, whose number in its list is told; `None` where it allows the request.
-/// Whoever takes caveats one by one numbers them from 1: the first fault that is told is that of
-/// their list.
+/// The fault of one caveat with this number in its list; `None` if it allows the request. A caller
+/// that tests caveats one by one numbers them from 1; the first fault that comes is that of the
+/// list.
 pub fn fault_at(text: &[u8], number: usize, ask: &Ask) -> Option<CaveatFault>
     ensures cases { IsFaultAt text.now number ask.now result }
     ensures function { result ≡ first_fault_from number (caveat_of text.now ∷ []) ask.now }
@@ -67,7 +69,7 @@ fn fault_of(caveats: &[Vec<u8>], ask: &Ask) -> Option<CaveatFault>
     None
 }
 
-/// The first caveat that isn't understood or denies the request; `None` where all allow it.
+/// The first caveat that isn't understood or denies the request; `None` if all allow it.
 pub fn first_fault(caveats: &[Vec<u8>], ask: &Ask) -> Option<CaveatFault>
     ensures first { IsFirstFault (map vec_items caveats.now) ask.now result }
     ensures function { result ≡ first_fault_of (map caveat_of (map vec_items caveats.now)) ask.now }

@@ -11,49 +11,49 @@ ghost use Rattle.pass_caveats.specs.Laws.{
 };
 ghost use Rattle.pass_caveats.specs.Spending.{LimitsNoMore, OwesNothing};
 
-/// What a list of caveats allows with more caveats added, it allows without them.
+/// A request that a list allows with more caveats added is also allowed without them.
 pub fn narrows()
     ensures { Narrows }
 {}
 
-/// The first fault is none exactly where the request is allowed.
+/// The first fault is none exactly if the request is allowed.
 pub fn faults_only_where_not_allowed()
     ensures { FaultsOnlyWhereNotAllowed }
 {}
 
-/// A list of caveats has one first fault or none, and `first_fault_of` is it.
+/// `first_fault_of` returns the first fault of a list of caveats.
 pub fn finds_the_first_fault()
     ensures { FindsTheFirstFault }
 {}
 
-/// With one more caveat the first fault is that of the caveats before it where there is one, and
-/// else that of the last one, whose number is one more than there were before.
+/// With one more caveat the first fault is that of the caveats before, or else that of the last
+/// one, whose number is one more than the number of those before.
 pub fn finds_the_fault_of_one_more()
     ensures { FindsTheFaultOfOneMore }
 {}
 
-/// `caveat_of` is the caveat that a text is understood as, and none where it isn't understood.
+/// `caveat_of` returns a caveat exactly if the text is understood as that caveat.
 pub fn reads_what_is_understood()
     ensures { ReadsWhatIsUnderstood }
 {}
 
-/// `permits` tests whether a request is in a caveat's set.
+/// `permits` is true exactly if the caveat allows the request.
 pub fn tests_the_set()
     ensures { TestsTheSet }
 {}
 
-/// A text is understood as one caveat at most.
+/// A text is understood as at most one caveat.
 pub fn is_understood_once()
     ensures { IsUnderstoodOnce }
 {}
 
-/// Where nothing is owed, the first fault of a list is the same whatever the key has spent.
+/// If nothing is owed, the first fault of a list doesn't depend on what the key has spent.
 pub fn owes_nothing()
     ensures { OwesNothing }
 {}
 
-/// No spend limit is above 999,999,999 points: where the first fault of a list is the same with
-/// nothing spent and with that much or more, it is so whatever was spent.
+/// No spend limit is above 999,999,999 points: if the first fault of a list is the same with
+/// nothing spent and with that much or more, it is the same for any amount.
 pub fn limits_no_more()
     ensures { LimitsNoMore }
 {}

@@ -1,30 +1,30 @@
-//! A reader for each kind of line that a caveat may be.
+//! A parser for each kind of line that a caveat may be.
 
 ghost use Rattle.club_values.specs.Reading.{Reads};
-ghost use Rattle.pass_caveats.specs.Caveat.{Spells};
+ghost use Rattle.pass_caveats.specs.Caveat.{SpellsCaveat};
 ghost use Rattle.pass_caveats.specs.declared.caveat.Caveat.TheVariants as caveats;
 
 use crate::actions::Actions;
 use crate::names::Names;
-use crate::text::{after, number_of};
+use crate::text::{after, parse_number};
 use crate::weekdays::Weekdays;
 use club_values::digits::read_two;
 use club_values::{Day, HOURS_A_DAY, Kind, MAX_GUESTS, Moment};
 
 pub(crate) fn read_facility(text: &[u8]) -> Option<Names<'_>>
-    ensures { Reads (λ names. Spells text.now (caveats.Facility names)) result }
+    ensures { Reads (λ names. SpellsCaveat text.now (caveats.Facility names)) result }
 {
     Names::read(after(text, b"facility = ")?)
 }
 
 pub(crate) fn read_kind(text: &[u8]) -> Option<Kind>
-    ensures { Reads (λ kind. Spells text.now (caveats.Kind kind)) result }
+    ensures { Reads (λ kind. SpellsCaveat text.now (caveats.Kind kind)) result }
 {
     Kind::read(after(text, b"kind = ")?)
 }
 
 pub(crate) fn read_hours(text: &[u8]) -> Option<(u8, u8)>
-    ensures { Reads (λ hours. Spells text.now (caveats.Hours hours.0 hours.1)) result }
+    ensures { Reads (λ hours. SpellsCaveat text.now (caveats.Hours hours.0 hours.1)) result }
 {
     let [a1, a2, b'-', b1, b2] = *after(text, b"hours = ")? else {
         return None;
@@ -39,7 +39,7 @@ pub(crate) fn read_hours(text: &[u8]) -> Option<(u8, u8)>
 }
 
 pub(crate) fn read_days(text: &[u8]) -> Option<(Day, Day)>
-    ensures { Reads (λ days. Spells text.now (caveats.Days days.0 days.1)) result }
+    ensures { Reads (λ days. SpellsCaveat text.now (caveats.Days days.0 days.1)) result }
 {
     let rest = after(text, b"days = ")?;
     if rest.len() < 10 {
@@ -56,21 +56,21 @@ pub(crate) fn read_days(text: &[u8]) -> Option<(Day, Day)>
 }
 
 pub(crate) fn read_weekdays(text: &[u8]) -> Option<Weekdays>
-    ensures { Reads (λ set. Spells text.now (caveats.Weekdays set)) result }
+    ensures { Reads (λ set. SpellsCaveat text.now (caveats.Weekdays set)) result }
 {
     Weekdays::read(after(text, b"weekday = ")?)
 }
 
 pub(crate) fn read_until(text: &[u8]) -> Option<Moment>
-    ensures { Reads (λ moment. Spells text.now (caveats.Until moment)) result }
+    ensures { Reads (λ moment. SpellsCaveat text.now (caveats.Until moment)) result }
 {
     Moment::read(after(text, b"until < ")?)
 }
 
 pub(crate) fn read_guests(text: &[u8]) -> Option<u8>
-    ensures { Reads (λ n. Spells text.now (caveats.Guests n)) result }
+    ensures { Reads (λ n. SpellsCaveat text.now (caveats.Guests n)) result }
 {
-    let guests = number_of(after(text, b"guests <= ")?)?;
+    let guests = parse_number(after(text, b"guests <= ")?)?;
     if guests <= u32::from(MAX_GUESTS) {
         Some(guests as u8)
     } else {
@@ -79,13 +79,13 @@ pub(crate) fn read_guests(text: &[u8]) -> Option<u8>
 }
 
 pub(crate) fn read_spend(text: &[u8]) -> Option<u32>
-    ensures { Reads (λ n. Spells text.now (caveats.Spend n)) result }
+    ensures { Reads (λ n. SpellsCaveat text.now (caveats.Spend n)) result }
 {
-    number_of(after(text, b"spend <= ")?)
+    parse_number(after(text, b"spend <= ")?)
 }
 
 pub(crate) fn read_actions(text: &[u8]) -> Option<Actions>
-    ensures { Reads (λ actions. Spells text.now (caveats.Actions actions)) result }
+    ensures { Reads (λ actions. SpellsCaveat text.now (caveats.Actions actions)) result }
 {
     Actions::read(after(text, b"actions = ")?)
 }

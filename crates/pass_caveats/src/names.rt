@@ -1,7 +1,9 @@
+//! Lists of names in a caveat.
+
 ghost use Rattle.std.specs.Prelude.{◌≡◌, ◌↔◌, IsTrue, Contains};
 ghost use Rattle.club_values.specs.Reading.{Reads};
 ghost use Rattle.pass_caveats.specs.Names.{AreNames};
-ghost use Rattle.pass_caveats.specs.Parts.{joined};
+ghost use Rattle.pass_caveats.specs.Parts.{comma_list};
 
 use crate::parts::{are_all_names, count_of_parts, has_part};
 use club_values::Name;
@@ -10,8 +12,8 @@ use std::marker::Model;
 /// The most names of a list in a caveat.
 pub const MAX_NAMES: usize = 8;
 
-/// One to eight names with commas between them, borrowed from a text. Contracts see the list of the
-/// names.
+/// One to eight names with commas between them, borrowed from a text. Contracts see them as the
+/// list of the names.
 #[derive(Debug, Drop)]
 pub struct Names<'a> {
     text: &'a [u8],
@@ -23,17 +25,17 @@ impl<'a> Model for Names<'a> {
     ghost Value = { List (List ℕ) };
 
     ghost use Rattle.pass_caveats.specs.Names.{AreNames};
-    ghost use Rattle.pass_caveats.specs.Parts.{parts_of};
+    ghost use Rattle.pass_caveats.specs.Parts.{comma_parts};
 
-    ghost view = { λ names. parts_of names.text.now };
+    ghost view = { λ names. comma_parts names.text.now };
 
-    ghost invariant = { λ names. AreNames (parts_of names.text.now) };
+    ghost invariant = { λ names. AreNames (comma_parts names.text.now) };
 }
 
 impl<'a> Names<'a> {
-    /// The names of a list with commas; `None` where it is no list of one to eight names.
+    /// The names of a list with commas; `None` if it isn't a list of one to eight names.
     pub fn read(text: &'a [u8]) -> Option<Names<'a>>
-        ensures { Reads (λ names. AreNames names × (text.now ≡ joined names)) result }
+        ensures { Reads (λ names. AreNames names × (text.now ≡ comma_list names)) result }
     {
         if are_all_names(text) && count_of_parts(text) <= MAX_NAMES {
             Some(Names { text })

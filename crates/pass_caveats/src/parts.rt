@@ -1,34 +1,36 @@
+//! The parts of a text between its commas.
+
 ghost use Rattle.std.specs.Prelude.{◌≡◌, ◌↔◌, ◌∷◌, IsTrue, All, Contains, length};
 ghost use Rattle.std.specs.Option.{option_copied};
 ghost use Rattle.club_values.specs.Name.{IsName};
-ghost use Rattle.pass_caveats.specs.Parts.{parts_of, parts_left, is_next, after_next};
+ghost use Rattle.pass_caveats.specs.Parts.{comma_parts, parts_left, is_next, after_next};
 
 use club_values::Name;
 
 /// How many parts a text has between its commas.
 pub(crate) fn count_of_parts(text: &[u8]) -> usize
-    ensures { result ≡ length (parts_of text.now) }
+    ensures { result ≡ length (comma_parts text.now) }
 {
     text.split(|byte| *byte == b',').count()
 }
 
 /// Whether each part is a name.
 pub(crate) fn are_all_names(text: &[u8]) -> bool
-    ensures { IsTrue result ↔ All IsName (parts_of text.now) }
+    ensures { IsTrue result ↔ All IsName (comma_parts text.now) }
 {
     text.split(|byte| *byte == b',').all(Name::is_name)
 }
 
-/// Whether one of the parts is that name.
+/// Whether one of the parts is this name.
 pub(crate) fn has_part(text: &[u8], name: &[u8]) -> bool
-    ensures { IsTrue result ↔ Contains (parts_of text.now) name.now }
+    ensures { IsTrue result ↔ Contains (comma_parts text.now) name.now }
 {
     text.split(|byte| *byte == b',').any(|part| part == name)
 }
 
-/// The part before the first comma, and what follows that comma where there is one.
+/// The part before the first comma, and what follows the comma, if there is one.
 fn first_part(text: &[u8]) -> (&[u8], Option<&[u8]>)
-    ensures { parts_of text.now ≡ result.0.now ∷ parts_left (option_copied result.1) }
+    ensures { comma_parts text.now ≡ result.0.now ∷ parts_left (option_copied result.1) }
 {
     match text.iter().position(|byte| *byte == b',') {
         Some(comma) => (&text[..comma], Some(&text[comma + 1..])),
@@ -36,7 +38,7 @@ fn first_part(text: &[u8]) -> (&[u8], Option<&[u8]>)
     }
 }
 
-/// Whether the next part is the word, and what follows the word; where it isn't, all is left.
+/// Whether the next part is the word, and what follows it; if it isn't, the whole rest.
 pub(crate) fn skip<'a>(rest: Option<&'a [u8]>, word: &[u8]) -> (bool, Option<&'a [u8]>)
     ensures next { result.0 ≡ is_next word.now (parts_left (option_copied rest.entry)) }
     ensures left { parts_left (option_copied result.1)

@@ -1,3 +1,5 @@
+//! Sets of weekdays in a caveat.
+
 ghost use Rattle.std.specs.Prelude.{◌≡◌};
 ghost use Rattle.club_values.specs.Reading.{Reads};
 

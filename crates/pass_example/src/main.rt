@@ -1,6 +1,6 @@
-//! Passes in code, from their making to their test: a pass is minted for a key, narrowed by its
-//! holder, read and verified as a desk does, and its caveats are tested against what is asked. A
-//! program of your own begins like this.
+//! Passes in code, from minting to checking. The program mints a pass for a key, narrows it as its
+//! holder would, reads and verifies it as a desk does, and tests its caveats against a request.
+//! Copy it to begin a program of your own.
 #![tactic(auto)]
 
 use anyhow::{Result, anyhow};
@@ -12,10 +12,10 @@ use pass_json::{read_any, write_any};
 use std::alloc::Global;
 use std::fmt;
 
-// The key's secret. Yours is random, and nobody but the office and the desk has it.
+// The key's secret. Yours must be random, and known to the office and the desk alone.
 const ROOT: &[u8] = b"\x00\x11\x22\x33\x44\x55\x66\x77\x88\x99\xaa\xbb\xcc\xdd\xee\xff";
 
-// What a desk answers to a pass.
+// A desk's answer to a pass.
 #[derive(Clone, Copy)]
 enum Verdict {
     Allowed,
@@ -71,7 +71,7 @@ fn mint(alloc: Global) -> Result<String, FormFault> {
     write_any(alloc, Form::V2, &pass)
 }
 
-// Whoever holds a pass: it is narrowed without the root, and stays signed. The text may be in any
+// The holder of a pass narrows it without the root, and it stays signed. The text may be in any
 // form.
 fn narrowed_by(alloc: Global, text: &str, caveats: &[&str]) -> Result<String, FormFault> {
     let (form, mut pass) = read_any(alloc, text.as_bytes())?;
@@ -81,7 +81,7 @@ fn narrowed_by(alloc: Global, text: &str, caveats: &[&str]) -> Result<String, Fo
     write_any(alloc, form, &pass)
 }
 
-// The desk: the signature comes first, then the caveats in their order.
+// The desk checks the signature first, then the caveats in order.
 fn verdict_on(alloc: Global, text: &str, ask: &Ask) -> Result<Verdict, FormFault> {
     let (_, pass) = read_any(alloc, text.as_bytes())?;
     if !pass.is_signed(ROOT) {
@@ -93,7 +93,7 @@ fn verdict_on(alloc: Global, text: &str, ask: &Ask) -> Result<Verdict, FormFault
     })
 }
 
-// What somebody might try who wants the caveats gone: the signature is still theirs.
+// An attempt to remove the caveats: the signature still covers them.
 fn without_caveats(alloc: Global, text: &str) -> Result<String, FormFault> {
     let (form, pass) = read_any(alloc, text.as_bytes())?;
     let location = Vec::from_slice(alloc, pass.location())?;
@@ -102,7 +102,7 @@ fn without_caveats(alloc: Global, text: &str) -> Result<String, FormFault> {
     write_any(alloc, form, &bare)
 }
 
-// One caveat: read as a line of the language, then tested.
+// One caveat, parsed and then tested.
 fn answer_of(line: &str, ask: &Ask) -> &'static str {
     match read(line.as_bytes()) {
         None => "not understood",

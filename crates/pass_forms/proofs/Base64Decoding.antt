@@ -35,16 +35,16 @@ sound_by e text strict bytes spells b decoded =
     spells b parts.0 parts.1
 
 url_safe_no_pad_sound : (text : List ℕ) → IsBytes text → IsSound text (decoded_of url_safe_no_pad text)
-url_safe_no_pad_sound text bytes = sound_by url_safe_no_pad text (refl, refl) bytes (λ b e are. record { are_bytes = are; spelled = inl e })
+url_safe_no_pad_sound text bytes = sound_by url_safe_no_pad text (refl, refl) bytes (λ b e are. record { are_bytes = are; spelling = inl e })
 
 url_safe_sound : (text : List ℕ) → IsBytes text → IsSound text (decoded_of url_safe text)
-url_safe_sound text bytes = sound_by url_safe text (refl, refl) bytes (λ b e are. record { are_bytes = are; spelled = inr (inl e) })
+url_safe_sound text bytes = sound_by url_safe text (refl, refl) bytes (λ b e are. record { are_bytes = are; spelling = inr (inl e) })
 
 standard_no_pad_sound : (text : List ℕ) → IsBytes text → IsSound text (decoded_of standard_no_pad text)
-standard_no_pad_sound text bytes = sound_by standard_no_pad text (refl, refl) bytes (λ b e are. record { are_bytes = are; spelled = inr (inr (inl e)) })
+standard_no_pad_sound text bytes = sound_by standard_no_pad text (refl, refl) bytes (λ b e are. record { are_bytes = are; spelling = inr (inr (inl e)) })
 
 standard_sound : (text : List ℕ) → IsBytes text → IsSound text (decoded_of standard text)
-standard_sound text bytes = sound_by standard text (refl, refl) bytes (λ b e are. record { are_bytes = are; spelled = inr (inr (inr e)) })
+standard_sound text bytes = sound_by standard text (refl, refl) bytes (λ b e are. record { are_bytes = are; spelling = inr (inr (inr e)) })
 
 -- the first answer of two
 or_sound : (text : List ℕ) (x y : Option (List ℕ)) → IsSound text x → IsSound text y → IsSound text (option_or x y)
@@ -62,7 +62,7 @@ at_second text (Some c) y b sound is found = ap (λ (l : List ℕ). Some l) (spe
 
 -- what decodes the text is what decodes the encoding
 decoded_by : (e : GeneralPurpose) (text b : List ℕ) → IsConsistent e → IsBytes b → text ≡ encode_of e b → decoded_of e text ≡ Some b
-decoded_by e text b consistent bytes spelled = rw spelled (decoded-encode e b consistent bytes)
+decoded_by e text b consistent bytes spelling = rw spelling (decoded-encode e b consistent bytes)
 
 -- The four engines in turn give the bytes that the text is base64 of.
 pub from_base64_spells : (text b : List ℕ) → IsBytes text → from_base64 text ≡ Some b → IsBase64 text b
@@ -74,7 +74,7 @@ from_base64_spells text b bytes found =
 -- If it is base64 of bytes, they give those.
 pub spells_from_base64 : (text b : List ℕ) → IsBytes text → IsBase64 text b → from_base64 text ≡ Some b
 unfolding from_base64
-spells_from_base64 text b bytes is = elim is.spelled [
+spells_from_base64 text b bytes is = elim is.spelling [
   | inl e ↦ at_first _ _ b (decoded_by url_safe_no_pad text b refl is.are_bytes e)
   | inr other ↦ at_second text _ _ b (url_safe_no_pad_sound text bytes) is (elim other [
     | inl e ↦ at_first _ _ b (decoded_by url_safe text b refl is.are_bytes e)
@@ -128,7 +128,7 @@ from_padded text bytes ends =
     (λ b h. spells_from_base64 text b bytes (or_sound text _ _ (url_safe_sound text bytes) (standard_sound text bytes) b h))
     (λ b h.
     let is = from_base64_spells text b bytes h in
-    elim is.spelled [
+    elim is.spelling [
       | inl e ↦ absurd (unpadded_end (engine_symbols url_safe) b refl (rw e at ends))
       | inr other ↦ elim other [
         | inl e ↦ at_first _ _ b (decoded_by url_safe text b refl is.are_bytes e)
@@ -151,7 +151,7 @@ from_unpadded text bytes ends =
     λ e. at_first _ _ b (decoded_by url_safe_no_pad text b refl is.are_bytes e) in
     let second : text ≡ encode_of standard_no_pad b → option_or (decoded_of url_safe_no_pad text) (decoded_of standard_no_pad text) ≡ Some b =
     λ e. at_second text _ _ b (url_safe_no_pad_sound text bytes) is (decoded_by standard_no_pad text b refl is.are_bytes e) in
-    elim is.spelled [
+    elim is.spelling [
       | inl e ↦ first e
       | inr other ↦ elim other [
         | inl e ↦ first (e ∙ padded_end (engine_symbols url_safe) b (rw e at ends))
@@ -171,7 +171,7 @@ decoded_into e text old new (Ok n) answer is ok err = rw (is, ok.0) refl
 decoded_into e text old new (Err error) answer is ok err = rw (is, err) refl
 
 -- how many bytes it answers at most
-pub decoded_within : (e : GeneralPurpose) (text old new : List ℕ) (r : Result ℕ DecodeError) (answer : Option ℕ) (room : ℕ) → answer ≡ result_ok r
-    → IfOk r (λ n. IsDecodedInto e text n old new) → length old ≤ room → IfSome answer (λ n. n ≤ room)
-decoded_within e text old new (Ok n) answer room is ok fits = rw is (omega arith)
-decoded_within e text old new (Err error) answer room is ok fits = rw is tt
+pub decoded_within : (e : GeneralPurpose) (text old new : List ℕ) (r : Result ℕ DecodeError) (answer : Option ℕ) (buffer : ℕ) → answer ≡ result_ok r
+    → IfOk r (λ n. IsDecodedInto e text n old new) → length old ≤ buffer → IfSome answer (λ n. n ≤ buffer)
+decoded_within e text old new (Ok n) answer buffer is ok fits = rw is (omega arith)
+decoded_within e text old new (Err error) answer buffer is ok fits = rw is tt

@@ -42,7 +42,7 @@ decoded-encode e b consistent bytes = rw (decode_of-encode_of e b consistent byt
 
 -- Base64 of bytes is their standard symbols, made bare.
 bare-spelling : (text b : List ℕ) → IsBase64 text b → bare text ≡ encode_symbols standard_symbols b
-bare-spelling text b is = elim is.spelled [
+bare-spelling text b is = elim is.spelling [
   | inl e ↦ rw e (bare-encode url_safe_symbols standard_symbols b false refl)
   | inr other ↦ elim other [
     | inl e ↦ rw e (bare-encode url_safe_symbols standard_symbols b true refl)
@@ -65,7 +65,7 @@ spells_one text a b left right =
 -- base64 passes a test that both alphabets, 0 and the padding pass
 spelling_passes : (p : ℕ → Bool) (text b : List ℕ) → p 0 ≡ true → p 61 ≡ true → list_all p standard_symbols ≡ true → list_all p url_safe_symbols ≡ true
     → IsBase64 text b → list_all p text ≡ true
-spelling_passes p text b past padded std url is = elim is.spelled [
+spelling_passes p text b past padded std url is = elim is.spelling [
   | inl e ↦ rw e (encode_passes p url_safe_symbols b 61 false past padded url)
   | inr other ↦ elim other [
     | inl e ↦ rw e (encode_passes p url_safe_symbols b 61 true past padded url)

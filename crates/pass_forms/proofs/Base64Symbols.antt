@@ -52,7 +52,7 @@ unfoldable pub bare : List ℕ → List ℕ
 bare [] = []
 bare (x ∷ xs) = if x == 61 then bare xs else standard_symbol x ∷ bare xs
 
--- a symbol is no padding, and stands for the same six bits as the standard one
+-- a symbol isn't padding, and encodes the same six bits as the standard one
 abbrev pub agrees : ℕ → ℕ → Bool
 agrees x y = not (x == 61) && (standard_symbol x == y)
 

@@ -1,4 +1,4 @@
--- Caveats that are read are the caveats that were written, and what was written is read, in whichever layout.
+-- The caveats that are read are the caveats that were written, and the reverse, in either layout.
 use Rattle.std.proofs.Common.{◌≡◌, ℕ, zero, suc, ◌≤◌, List, [], ◌∷◌, ◌++◌, length, Option, Some, None, refl, sym, ap, ◌∙◌, append_assoc, subst, arith}
 use Rattle.std.specs.List.{flat_map, AllByRecursion}
 use Rattle.std.proofs.lemmas.List.Concat.{flat_map-cons}

@@ -2,12 +2,12 @@
 use Rattle.std.proofs.Common.{◌≡◌, ℕ, List, [], ◌∷◌, ◌++◌, map, Result, Ok, Err, sym, ap, ◌∙◌, append_assoc, subst}
 use Rattle.std.proofs.lemmas.List.{append-nil}
 use Rattle.pass_forms.specs.declared.fault.FormFault.{FormFault}
-use Rattle.pass_forms.specs.FieldSource.{IsOpening, PassField, caveat_field, fields_of, no_fields, opened, signature_field, with_fields}
+use Rattle.pass_forms.specs.FieldSource.{IsOpening, PassField, caveat_field, pass_fields, no_fields, opening_of, signature_field, with_fields}
 use Rattle.pass_forms.specs.Pass.{Plain}
 
--- What is opened is what bytes stand for, if the reading is.
+-- An opening is right if the reading is.
 pub opens : (Reads : Result Plain FormFault → Type 0) (reading : Result Plain FormFault) (answer : Result (List PassField) FormFault) → Reads reading →
-    answer ≡ opened reading → IsOpening Reads answer
+    answer ≡ opening_of reading → IsOpening Reads answer
 opens Reads (Ok pass) (Ok fields) h e = (pass, h, cc)
 opens Reads (Ok pass) (Err fault) h e = absurd cc
 opens Reads (Err fault) (Ok fields) h e = absurd cc
@@ -26,17 +26,17 @@ last_fields location identifier front (caveat ∷ caveats) before signature =
     ∙ ap (λ (cs : List (List ℕ)). let p : Plain = record { location = location; identifier = identifier; caveats = cs; signature = signature } in p)
     (append_assoc front (caveat ∷ []) caveats)
 
-all_fields : (pass : Plain) → with_fields no_fields (fields_of pass) ≡ pass
+all_fields : (pass : Plain) → with_fields no_fields (pass_fields pass) ≡ pass
 all_fields pass = last_fields pass.location pass.identifier [] pass.caveats no_fields.signature pass.signature
 
 -- Fields were opened, so a pass is read, and the fields are its own.
-pub was_read : (reading : Result Plain FormFault) (fields : List PassField) → Ok fields ≡ opened reading → reading ≡ Ok (with_fields no_fields fields)
+pub was_read : (reading : Result Plain FormFault) (fields : List PassField) → Ok fields ≡ opening_of reading → reading ≡ Ok (with_fields no_fields fields)
 was_read (Ok pass) fields e =
-    let same : fields ≡ fields_of pass = cc in
+    let same : fields ≡ pass_fields pass = cc in
     ap (λ (p : Plain). Ok p) (sym (all_fields pass) ∙ ap (with_fields no_fields) (sym same))
 was_read (Err fault) fields e = absurd cc
 
 -- No fields were opened, for the fault of the reading.
-pub not_read : (reading : Result Plain FormFault) (fault : FormFault) → Err fault ≡ opened reading → reading ≡ Err fault
+pub not_read : (reading : Result Plain FormFault) (fault : FormFault) → Err fault ≡ opening_of reading → reading ≡ Err fault
 not_read (Ok pass) fault e = absurd cc
 not_read (Err other) fault e = cc

@@ -1,7 +1,7 @@
 -- A digit that is read is the digit that was written, and so are four of them.
 use Rattle.std.proofs.Common.{◌≡◌, ℕ, ◌+◌, ◌*◌, ◌/◌, ◌%◌, ◌^◌, ◌<◌, List, [], ◌∷◌, ◌++◌, Option, Some, None, refl, sym, ap, ◌∙◌, arith}
 use Rattle.std.proofs.lemmas.Bool.Decides.{nat_tests}
-use Rattle.pass_forms.specs.V1.{hex_digit, four_digits}
+use Rattle.pass_forms.specs.V1.{hex_digit, four_hex_digits}
 use Rattle.pass_forms.specs.Parts.{◌>>=◌}
 use Rattle.pass_forms.specs.V1Reading.{digit_value, len_at}
 
@@ -14,7 +14,8 @@ digit_takes byte n h = grind (arith, nat_tests)
 abbrev value : ℕ → ℕ → ℕ → ℕ → ℕ
 value x y z w = x * 4096 + y * 256 + z * 16 + w
 
-digits_of_value : (x y z w : ℕ) → x < 16 → y < 16 → z < 16 → w < 16 → four_digits (value x y z w) ≡ hex_digit x ∷ hex_digit y ∷ hex_digit z ∷ hex_digit w ∷ []
+digits_of_value : (x y z w : ℕ) → x < 16 → y < 16 → z < 16 → w < 16
+    → four_hex_digits (value x y z w) ≡ hex_digit x ∷ hex_digit y ∷ hex_digit z ∷ hex_digit w ∷ []
 digits_of_value x y z w hx hy hz hw =
     let first : value x y z w / 4096 ≡ x = omega arith in
     let second : value x y z w / 256 % 16 ≡ y = omega arith in
@@ -31,13 +32,13 @@ pub some_is : {A : Type 0} (x y : A) → ◌≡◌ {A = Option A} (Some x) (Some
 some_is x y e = cc
 
 joined : (a b c d x y z w n : ℕ) (rest : List ℕ) → (x < 16) × (a ≡ hex_digit x) → (y < 16) × (b ≡ hex_digit y) → (z < 16) × (c ≡ hex_digit z) →
-    (w < 16) × (d ≡ hex_digit w) → value x y z w ≡ n → (n < 2 ^ 16) × (a ∷ b ∷ c ∷ d ∷ rest ≡ four_digits n ++ rest)
+    (w < 16) × (d ≡ hex_digit w) → value x y z w ≡ n → (n < 2 ^ 16) × (a ∷ b ∷ c ∷ d ∷ rest ≡ four_hex_digits n ++ rest)
 joined a b c d x y z w n rest ha hb hc hd is_n =
-    let e : four_digits n ≡ hex_digit x ∷ hex_digit y ∷ hex_digit z ∷ hex_digit w ∷ [] =
-    ap four_digits (sym is_n) ∙ digits_of_value x y z w ha.0 hb.0 hc.0 hd.0 in
+    let e : four_hex_digits n ≡ hex_digit x ∷ hex_digit y ∷ hex_digit z ∷ hex_digit w ∷ [] =
+    ap four_hex_digits (sym is_n) ∙ digits_of_value x y z w ha.0 hb.0 hc.0 hd.0 in
     (omega arith, rw (ha.1, hb.1, hc.1, hd.1) (ap (λ (ds : List ℕ). ds ++ rest) (sym e)))
 
-pub len_takes : (bytes : List ℕ) (n : ℕ) → len_at bytes ≡ Some n → (n < 2 ^ 16) × (rest : List ℕ) × (bytes ≡ four_digits n ++ rest)
+pub len_takes : (bytes : List ℕ) (n : ℕ) → len_at bytes ≡ Some n → (n < 2 ^ 16) × (rest : List ℕ) × (bytes ≡ four_hex_digits n ++ rest)
 len_takes [] n e = absurd cc
 len_takes (a ∷ []) n e = absurd cc
 len_takes (a ∷ b ∷ []) n e = absurd cc
@@ -54,7 +55,7 @@ len_takes (a ∷ b ∷ c ∷ d ∷ rest) n e =
     let j = joined a b c d x.0 y.0 z.0 w.0 n rest tx ty tz tw (some_is (value x.0 y.0 z.0 w.0) n w.2) in
     (j.0, rest, j.1)
 
-pub len_again : (n : ℕ) (rest : List ℕ) → n < 2 ^ 16 → len_at (four_digits n ++ rest) ≡ Some n
+pub len_again : (n : ℕ) (rest : List ℕ) → n < 2 ^ 16 → len_at (four_hex_digits n ++ rest) ≡ Some n
 len_again n rest h =
     let first : n / 4096 < 16 = omega arith in
     let second : n / 256 % 16 < 16 = omega arith in

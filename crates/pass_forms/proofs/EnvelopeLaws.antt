@@ -1,4 +1,4 @@
--- What a text wraps, and the answer that tells it.
+-- What a text wraps, and the result of unwrapping it.
 use Rattle.std.proofs.Common.{◌≡◌, ◌↔◌, ◌⊎◌, ◌≤◌, ℕ, false, List, length, refl, sym, subst, ◌∙◌, inl, inr, Result, Ok, Err, Option, None, Some, arith}
 use Rattle.std.specs.Option.{ok_or, option_and_then}
 use Rattle.std.proofs.lemmas.Bool.{cases_Bool, cases_lt, lt-ltb, le-ltb}
@@ -6,7 +6,7 @@ use Rattle.base64.specs.GeneralPurpose.{IsBytes}
 use Rattle.pass_forms.specs.declared.fault.FormFault.{FormFault}
 use Rattle.pass_forms.specs.declared.fault.FormFault.TheVariants.{TooLong, Malformed, ThirdParty, TooMany, Memory}
 use Rattle.pass_forms.specs.declared.form.Form.{Form}
-use Rattle.pass_forms.specs.Envelope.{IsBase64, IsUnwrapped, Wraps, form_of, from_base64, starts_with_brace, unwrapped, with_form}
+use Rattle.pass_forms.specs.Envelope.{IsBase64, IsUnwrapped, Wraps, form_of, from_base64, starts_with_brace, unwrapping, with_its_form}
 use Rattle.pass_forms.specs.Reading.{max_text_len}
 use Rattle.pass_forms.proofs.Base64Decoding.{from_base64_spells, spells_from_base64}
 use Rattle.pass_forms.proofs.Base64Spelling.{spelling_brace, spells_one}
@@ -18,13 +18,13 @@ wraps_one text f g a b (inl x) (inr y) = absurd (spelling_brace text b y.0 x.0)
 wraps_one text f g a b (inr x) (inl y) = absurd (spelling_brace text a x.0 y.0)
 wraps_one text f g a b (inr x) (inr y) =
     let same = spells_one text a b x.0 y.0 in
-    let told = sym x.1 ∙ rw (sym same) at y.1 in
-    (cc told, same)
+    let content = sym x.1 ∙ rw (sym same) at y.1 in
+    (cc content, same)
 
 -- What it wraps is bytes, if the text is.
 pub wraps_bytes : (text : List ℕ) (form : Form) (b : List ℕ) → IsBytes text → Wraps text form b → IsBytes b
 wraps_bytes text form b bytes (inl plain) = subst IsBytes (sym plain.2) bytes
-wraps_bytes text form b bytes (inr told) = told.0.are_bytes
+wraps_bytes text form b bytes (inr content) = content.0.are_bytes
 
 abbrev pub Answer : Type 0
 Answer = Result (Form × List ℕ) FormFault
@@ -35,7 +35,7 @@ option_cases (Some x) = inr (x, refl)
 
 -- what a text answers that is no longer than it may be, and does not start with a brace
 decoded_answer : (text : List ℕ) → IsBytes text → length text ≤ max_text_len → starts_with_brace text ≡ false
-    → IsUnwrapped text (ok_or (option_and_then with_form (from_base64 text)) Malformed)
+    → IsUnwrapped text (ok_or (option_and_then with_its_form (from_base64 text)) Malformed)
 decoded_answer text bytes short brace = elim (option_cases (from_base64 text)) [
   | inl none ↦
       rw none (
@@ -54,18 +54,18 @@ decoded_answer text bytes short brace = elim (option_cases (from_base64 text)) [
               short,
               λ form other wraps. elim wraps [
                 | inl plain ↦ cc (plain.0, brace)
-                | inr told ↦
-                    let same : other ≡ b = spells_one text other b told.0 is in
-                    cc (rw same at told.1, none)
+                | inr content ↦
+                    let same : other ≡ b = spells_one text other b content.0 is in
+                    cc (rw same at content.1, none)
               ],
             )
         | inr form ↦ rw (some.1, form.1) (short, inr (is, form.1))
       ]
 ]
 
--- `unwrapped` is what taking the text out of its envelope answers.
-pub unwrapped_answers : (text : List ℕ) → IsBytes text → IsUnwrapped text (unwrapped text)
-unfolding unwrapped
+-- `unwrapping` is what taking the text out of its envelope answers.
+pub unwrapped_answers : (text : List ℕ) → IsBytes text → IsUnwrapped text (unwrapping text)
+unfolding unwrapping
 unwrapped_answers text bytes = elim (cases_lt max_text_len (length text)) [
   | inl long ↦ rw (lt-ltb max_text_len (length text) long) long
   | inr short ↦ elim (cases_Bool (starts_with_brace text)) [
@@ -95,10 +95,10 @@ one_answer text x (Err TooMany) left right = absurd right
 one_answer text x (Err Memory) left right = absurd right
 
 -- Nothing else is.
-pub unwrapped_is : (text : List ℕ) (answer : Answer) → IsBytes text → (unwrapped text ≡ answer) ↔ IsUnwrapped text answer
+pub unwrapped_is : (text : List ℕ) (answer : Answer) → IsBytes text → (unwrapping text ≡ answer) ↔ IsUnwrapped text answer
 unwrapped_is text answer bytes =
-    (λ e. subst (IsUnwrapped text) e (unwrapped_answers text bytes), one_answer text (unwrapped text) answer (unwrapped_answers text bytes))
+    (λ e. subst (IsUnwrapped text) e (unwrapped_answers text bytes), one_answer text (unwrapping text) answer (unwrapped_answers text bytes))
 
--- an answer that is `unwrapped` of the text
-pub answers_as : (text : List ℕ) (answer : Answer) → IsBytes text → answer ≡ unwrapped text → IsUnwrapped text answer
+-- an answer that is `unwrapping` of the text
+pub answers_as : (text : List ℕ) (answer : Answer) → IsBytes text → answer ≡ unwrapping text → IsUnwrapped text answer
 answers_as text answer bytes is = subst (IsUnwrapped text) (sym is) (unwrapped_answers text bytes)

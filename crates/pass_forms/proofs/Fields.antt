@@ -104,7 +104,7 @@ again_below (suc bound) n rest b = elim (cases_lt n 128) [
 pub varint_again : (n : ℕ) (rest : List ℕ) → varint_at (varint n ++ rest) ≡ Some (n, rest)
 varint_again n rest = again_below n n rest (omega arith)
 
--- What follows a number is no longer than what it stood in.
+-- The bytes after a number are no more than the bytes with it.
 pub varint_shortens : (bytes : List ℕ) (n : ℕ) (rest : List ℕ) → varint_at bytes ≡ Some (n, rest) → length rest ≤ length bytes
 varint_shortens bytes n rest e = omega (arith, ap length (varint_takes bytes n rest e), length-append (varint n) rest)
 

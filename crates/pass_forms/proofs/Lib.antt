@@ -14,7 +14,7 @@ pub mod WholeV1
 pub mod Fields
 pub mod WholeV2
 pub mod V2Exact
-pub mod Judging
+pub mod Checking
 pub mod V1Exact
 pub mod Collecting
 pub mod TextExact

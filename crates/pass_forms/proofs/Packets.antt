@@ -6,7 +6,7 @@ use Rattle.std.proofs.lemmas.Bool.{leb-true, le-leb}
 use Rattle.std.proofs.Math.Seq.{take-append-add}
 use Rattle.std.proofs.lemmas.List.{drop-take, take-take, take_at, drop_at, take-append-drop, length-append, length-take, length-drop}
 use Rattle.std.proofs.lemmas.Slice.Eq.{bytes_eq-Decides}
-use Rattle.pass_forms.specs.V1.{four_digits, packet_len, packet, FitsPacket}
+use Rattle.pass_forms.specs.V1.{four_hex_digits, packet_len, packet, FitsPacket}
 use Rattle.pass_forms.specs.Parts.{◌>>=◌, after_prefix, before_suffix}
 use Rattle.pass_forms.specs.V1Reading.{len_at, packet_at}
 use Rattle.pass_forms.proofs.Digits.{bind_some, some_is, len_takes, len_again}
@@ -42,7 +42,7 @@ before_suffix_again suffix front =
     rw (cut, back, same, whole) refl
 
 -- the frame of a packet: its length, its key and its end
-framed : (bytes more key text : List ℕ) (n : ℕ) → n < 2 ^ 16 → bytes ≡ four_digits n ++ more → n ≤ length bytes →
+framed : (bytes more key text : List ℕ) (n : ℕ) → n < 2 ^ 16 → bytes ≡ four_hex_digits n ++ more → n ≤ length bytes →
     drop 4 (take n bytes) ≡ key ++ (text ++ 10 ∷ []) → (bytes ≡ packet key text ++ drop n bytes) × FitsPacket key text
 framed bytes more key text n fits begins within body =
     let whole = take n bytes in
@@ -51,10 +51,10 @@ framed bytes more key text n fits begins within body =
     ap length body ∙ omega (arith, length-append key (text ++ 10 ∷ []), length-append text (10 ∷ [])) in
     let long : 4 ≤ n = omega (arith, length-drop 4 whole) in
     let is_n : packet_len key text ≡ n = omega (arith, length-drop 4 whole) in
-    let digits : take 4 whole ≡ four_digits n = take-take 4 n bytes long ∙ ap (take 4) begins ∙ take_at (four_digits n) more 4 refl in
+    let digits : take 4 whole ≡ four_hex_digits n = take-take 4 n bytes long ∙ ap (take 4) begins ∙ take_at (four_hex_digits n) more 4 refl in
     let split : whole ≡ packet key text =
-    sym (take-append-drop 4 whole) ∙ ap (λ (x : List ℕ). x ++ drop 4 whole) (digits ∙ ap four_digits (sym is_n)) ∙ ap
-    (λ (x : List ℕ). four_digits (packet_len key text) ++ x) body in
+    sym (take-append-drop 4 whole) ∙ ap (λ (x : List ℕ). x ++ drop 4 whole) (digits ∙ ap four_hex_digits (sym is_n)) ∙ ap
+    (λ (x : List ℕ). four_hex_digits (packet_len key text) ++ x) body in
     (sym (take-append-drop n bytes) ∙ ap (λ (x : List ℕ). x ++ drop n bytes) split, omega arith)
 
 pub packet_takes : (key bytes text rest : List ℕ) → packet_at key bytes ≡ Some (text, rest) → (bytes ≡ packet key text ++ rest) × FitsPacket key text
@@ -99,18 +99,18 @@ packet_again key text rest fits =
     let body = key ++ (text ++ 10 ∷ []) in
     let n = packet_len key text in
     let body_len : length body ≡ length key + (length text + 1) = omega (arith, length-append key (text ++ 10 ∷ []), length-append text (10 ∷ [])) in
-    let len : length (packet key text) ≡ n = omega (arith, length-append (four_digits n) body) in
-    let read : len_at (packet key text ++ rest) ≡ Some n = ap len_at (append_assoc (four_digits n) body rest) ∙ len_again n (body ++ rest) fits in
+    let len : length (packet key text) ≡ n = omega (arith, length-append (four_hex_digits n) body) in
+    let read : len_at (packet key text ++ rest) ≡ Some n = ap len_at (append_assoc (four_hex_digits n) body rest) ∙ len_again n (body ++ rest) fits in
     let within : leb n (length (packet key text ++ rest)) ≡ true = le-leb _ _ (omega (arith, length-append (packet key text) rest)) in
     let front : take n (packet key text ++ rest) ≡ packet key text = take_at (packet key text) rest n len in
     let back : drop n (packet key text ++ rest) ≡ rest = drop_at (packet key text) rest n len in
-    let inner : drop 4 (packet key text) ≡ body = drop_at (four_digits n) body 4 refl in
+    let inner : drop 4 (packet key text) ≡ body = drop_at (four_hex_digits n) body 4 refl in
     rw (read, within, front, back, inner, after_prefix_again key (text ++ 10 ∷ []), before_suffix_again (10 ∷ []) text) refl
 
 pub length-packet : (key text : List ℕ) → length (packet key text) ≡ packet_len key text
 length-packet key text =
     let body = key ++ (text ++ 10 ∷ []) in
-    omega (arith, length-append (four_digits (packet_len key text)) body, length-append key (text ++ 10 ∷ []), length-append text (10 ∷ []))
+    omega (arith, length-append (four_hex_digits (packet_len key text)) body, length-append key (text ++ 10 ∷ []), length-append text (10 ∷ []))
 
 -- A packet of one key is none of a key with which its body doesn't begin.
 pub packet_other : (key other text rest : List ℕ) → FitsPacket other text → after_prefix key (other ++ (text ++ 10 ∷ [])) ≡ None →
@@ -120,34 +120,34 @@ packet_other key other text rest fits differs =
     let body = other ++ (text ++ 10 ∷ []) in
     let n = packet_len other text in
     let len = length-packet other text in
-    let read : len_at (packet other text ++ rest) ≡ Some n = ap len_at (append_assoc (four_digits n) body rest) ∙ len_again n (body ++ rest) fits in
+    let read : len_at (packet other text ++ rest) ≡ Some n = ap len_at (append_assoc (four_hex_digits n) body rest) ∙ len_again n (body ++ rest) fits in
     let within : leb n (length (packet other text ++ rest)) ≡ true = le-leb _ _ (omega (arith, length-append (packet other text) rest)) in
     let front : take n (packet other text ++ rest) ≡ packet other text = take_at (packet other text) rest n len in
-    let inner : drop 4 (packet other text) ≡ body = drop_at (four_digits n) body 4 refl in
+    let inner : drop 4 (packet other text) ≡ body = drop_at (four_hex_digits n) body 4 refl in
     rw (read, within, front, inner, differs) refl
 
 -- A length that the key doesn't fit into is no packet's.
 none_so_short : (key bytes : List ℕ) (n : ℕ) (found : Option (List ℕ × List ℕ)) → packet_at key bytes ≡ found → len_at bytes ≡ Some n → n < 4 + length key →
     found ≡ None
-none_so_short key bytes n None e told short = refl
-none_so_short key bytes n (Some (text, rest)) e told short =
+none_so_short key bytes n None e content short = refl
+none_so_short key bytes n (Some (text, rest)) e content short =
     let parts = packet_takes key bytes text rest e in
     let body = key ++ (text ++ 10 ∷ []) in
     let again : len_at bytes ≡ Some (packet_len key text) =
-    ap len_at (parts.0 ∙ append_assoc (four_digits (packet_len key text)) body rest) ∙ len_again (packet_len key text) (body ++ rest) parts.1 in
-    let same : n ≡ packet_len key text = some_is n (packet_len key text) (sym told ∙ again) in
+    ap len_at (parts.0 ∙ append_assoc (four_hex_digits (packet_len key text)) body rest) ∙ len_again (packet_len key text) (body ++ rest) parts.1 in
+    let same : n ≡ packet_len key text = some_is n (packet_len key text) (sym content ∙ again) in
     absurd (omega (arith, same, short))
 
 pub too_short : (key bytes : List ℕ) (n : ℕ) → len_at bytes ≡ Some n → n < 4 + length key → packet_at key bytes ≡ None
-too_short key bytes n told short = none_so_short key bytes n (packet_at key bytes) refl told short
+too_short key bytes n content short = none_so_short key bytes n (packet_at key bytes) refl content short
 
 -- What the length cuts of the bytes behind the key is the packet's data, with its end.
 pub packet_of_body : (key bytes body : List ℕ) (n m : ℕ) → after_prefix key (drop 4 bytes) ≡ Some body → len_at bytes ≡ Some n → n ≡ 4 + (length key + m) →
     n ≤ length bytes →
     packet_at key bytes ≡ (before_suffix (10 ∷ []) (take m body) >>= λ text. Some (text, drop n bytes))
 unfolding packet_at
-packet_of_body key bytes body n m begins told is_len within =
+packet_of_body key bytes body n m begins content is_len within =
     let leads : drop 4 bytes ≡ key ++ body = after_prefix_takes key (drop 4 bytes) body begins in
     let cut : drop 4 (take n bytes) ≡ key ++ take m body =
     ap (λ (x : ℕ). drop 4 (take x bytes)) is_len ∙ drop-take 4 (length key + m) bytes ∙ ap (take (length key + m)) leads ∙ take-append-add key body m in
-    rw (told, le-leb n (length bytes) within, cut, after_prefix_again key (take m body)) refl
+    rw (content, le-leb n (length bytes) within, cut, after_prefix_again key (take m body)) refl

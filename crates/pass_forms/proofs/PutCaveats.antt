@@ -5,7 +5,7 @@ use Rattle.std.proofs.Math.ListN.{get_or-map}
 use Rattle.std.specs.List.{flat_map}
 use Rattle.std.proofs.lemmas.List.{length-append}
 use Rattle.pass_forms.specs.Pass.{WideCaveat, widened_caveat}
-use Rattle.pass_forms.specs.Putting.{room_len}
+use Rattle.pass_forms.specs.Putting.{buffer_len}
 
 -- the bytes of the caveats from the i-th on, where each has this text
 abbrev pub left_from : (WideCaveat → List ℕ) → List (List ℕ) → ℕ → List ℕ
@@ -19,26 +19,26 @@ left_next text caveats i caveat h is =
     ap (λ (left : List (List ℕ)). flat_map text (map widened_caveat left)) split
 
 -- One more caveat was put.
-pub one_put : (text : WideCaveat → List ℕ) (caveats : List (List ℕ)) (i : ℕ) (caveat room next total : List ℕ) → i < length caveats →
+pub one_put : (text : WideCaveat → List ℕ) (caveats : List (List ℕ)) (i : ℕ) (caveat buffer next total : List ℕ) → i < length caveats →
     caveat ≡ get_or caveats i caveat →
-    room ++ left_from text caveats i ≡ total → next ≡ room ++ text (widened_caveat caveat) → next ++ left_from text caveats (i + 1) ≡ total
-one_put text caveats i caveat room next total h is kept put =
+    buffer ++ left_from text caveats i ≡ total → next ≡ buffer ++ text (widened_caveat caveat) → next ++ left_from text caveats (i + 1) ≡ total
+one_put text caveats i caveat buffer next total h is kept put =
     rw (put, append_assoc, ← left_next text caveats i caveat h is) kept
 
--- What has no room with one more caveat has none with all.
-pub one_full : (text : WideCaveat → List ℕ) (caveats : List (List ℕ)) (i : ℕ) (caveat room total : List ℕ) → i < length caveats →
+-- Bytes that don't fit with one more caveat don't fit with all.
+pub one_full : (text : WideCaveat → List ℕ) (caveats : List (List ℕ)) (i : ℕ) (caveat buffer total : List ℕ) → i < length caveats →
     caveat ≡ get_or caveats i caveat →
-    room ++ left_from text caveats i ≡ total → room_len < length (room ++ text (widened_caveat caveat)) → room_len < length total
-one_full text caveats i caveat room total h is kept full =
+    buffer ++ left_from text caveats i ≡ total → buffer_len < length (buffer ++ text (widened_caveat caveat)) → buffer_len < length total
+one_full text caveats i caveat buffer total h is kept full =
     let piece : List ℕ = text (widened_caveat caveat) in
     let rest : List ℕ = left_from text caveats (i + 1) in
     omega (
       arith,
       ap length kept,
       ap length (left_next text caveats i caveat h is),
-      length-append room (left_from text caveats i),
+      length-append buffer (left_from text caveats i),
       length-append piece rest,
-      length-append room piece,
+      length-append buffer piece,
     )
 
 -- the caveat that a loop has come to, as one of the list

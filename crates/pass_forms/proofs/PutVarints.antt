@@ -1,4 +1,4 @@
--- The varints of the lengths that have room.
+-- The varints of the lengths that fit the buffer.
 use Rattle.std.proofs.Common.{◌≡◌, ℕ, ◌+◌, ◌/◌, ◌%◌, ◌^◌, ◌<◌, ◌≤◌, List, [], ◌∷◌, ap, ◌∙◌, arith}
 use Rattle.pass_forms.specs.V2.{varint}
 use Rattle.pass_forms.proofs.Fields.{varint_large, varint_small}

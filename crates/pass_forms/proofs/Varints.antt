@@ -69,27 +69,27 @@ high_above bytes first others most is low top big n rest e =
 -- The number that the other bytes spell is known.
 known_groups : (bytes : List ℕ) (first : ℕ) (others : List ℕ) (high : ℕ) (after : List ℕ) (n : ℕ) (rest : List ℕ) → bytes ≡ first ∷ others → 128 ≤ first →
     first < 256 → varint_at others ≡ Some (high, after) → varint_at bytes ≡ Some (n, rest) → (0 < high) × (n ≡ (first - 128) + 128 * high)
-known_groups bytes first others high after n rest is low top told e =
+known_groups bytes first others high after n rest is low top content e =
     let more = more_groups first others n rest low top (sym (ap varint_at is) ∙ e) in
-    let same = ap (λ (x : ℕ × List ℕ). x.0) (some_is (more.0, rest) (high, after) (sym more.1 ∙ told)) in
+    let same = ap (λ (x : ℕ × List ℕ). x.0) (some_is (more.0, rest) (high, after) (sym more.1 ∙ content)) in
     (omega (arith, more.2, same), omega (arith, more.3, same))
 
 pub nothing_above : (bytes : List ℕ) (first : ℕ) (others : List ℕ) (most high : ℕ) (after : List ℕ) → bytes ≡ first ∷ others → 128 ≤ first → first < 256 →
     varint_at others ≡ Some (high, after) → high ≡ 0 → Above bytes most
-nothing_above bytes first others most high after is low top told none n rest e =
-    absurd (omega (arith, (known_groups bytes first others high after n rest is low top told e).0))
+nothing_above bytes first others most high after is low top content none n rest e =
+    absurd (omega (arith, (known_groups bytes first others high after n rest is low top content e).0))
 
 pub sum_above : (bytes : List ℕ) (first : ℕ) (others : List ℕ) (most high : ℕ) (after : List ℕ) → bytes ≡ first ∷ others → 128 ≤ first → first < 256 →
     varint_at others ≡ Some (high, after) → most < high * 128 + (first - 128) → Above bytes most
-sum_above bytes first others most high after is low top told big n rest e =
-    omega (arith, (known_groups bytes first others high after n rest is low top told e).1)
+sum_above bytes first others most high after is low top content big n rest e =
+    omega (arith, (known_groups bytes first others high after n rest is low top content e).1)
 
 pub whole_number : (bytes : List ℕ) (first : ℕ) (others : List ℕ) (high : ℕ) (after : List ℕ) → bytes ≡ first ∷ others → 128 ≤ first → first < 256 →
     varint_at others ≡ Some (high, after) → high ≢ 0 → varint_at bytes ≡ Some (high * 128 + (first - 128), after)
-whole_number bytes first others high after is low top told some =
+whole_number bytes first others high after is low top content some =
     let positive : eqb high 0 ≡ false = grind (arith, nat_tests) in
     let number : (first - 128) + 128 * high ≡ high * 128 + (first - 128) = omega arith in
-    ap varint_at is ∙ varint_more first others low top ∙ rw (told, positive, number) refl
+    ap varint_at is ∙ varint_more first others low top ∙ rw (content, positive, number) refl
 
 pub one_byte : (bytes : List ℕ) (first : ℕ) (others : List ℕ) → bytes ≡ first ∷ others → first < 128 → varint_at bytes ≡ Some (first, others)
 one_byte bytes first others is low = ap varint_at is ∙ varint_last first others low

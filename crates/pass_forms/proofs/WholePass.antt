@@ -1,7 +1,7 @@
 -- From the parts that were found one after another to the whole pass.
 use Rattle.std.proofs.Common.{◌≡◌, ℕ, Bool, List, length, map, Option, Some, option_map, refl, ap, ◌∙◌}
-use Rattle.pass_forms.specs.Caveats.{caveats_at, gone_over, whole_at, Counts}
-use Rattle.pass_forms.specs.FieldSource.{fields_of}
+use Rattle.pass_forms.specs.Caveats.{caveats_at, scan_summary, whole_at, Counts}
+use Rattle.pass_forms.specs.FieldSource.{pass_fields}
 use Rattle.pass_forms.specs.Parts.{◌>>=◌}
 use Rattle.pass_forms.specs.Pass.{WideCaveat, WidePass, first_party_caveat}
 use Rattle.pass_forms.proofs.Digits.{bind_some, some_is}
@@ -11,7 +11,7 @@ use Rattle.pass_forms.proofs.CaveatRuns.{Reader, as_many}
 pub gone_over_whole : (header_at : List ℕ → Option (List ℕ × List ℕ × List ℕ)) (caveat_at : Reader) (footer_at : List ℕ → Option (List ℕ))
     (bytes location identifier caveats signature after : List ℕ) (count : ℕ) (third_party : Bool) → Some (location, identifier, caveats) ≡ header_at bytes →
     Counts count third_party after (caveats_at caveat_at (length caveats) caveats) → Some signature ≡ footer_at after → Some (
-      fields_of (record {
+      pass_fields (record {
         location = location;
         identifier = identifier;
         caveats = map first_party_caveat
@@ -20,14 +20,14 @@ pub gone_over_whole : (header_at : List ℕ → Option (List ℕ × List ℕ × 
       }),
       count,
       third_party,
-    ) ≡ option_map gone_over (whole_at header_at caveat_at footer_at bytes)
+    ) ≡ option_map scan_summary (whole_at header_at caveat_at footer_at bytes)
 unfolding whole_at
 gone_over_whole header_at caveat_at footer_at bytes location identifier caveats signature after count third_party h counts s =
     let read = caveats_at caveat_at (length caveats) caveats in
     let last : Some signature ≡ footer_at read.1 = s ∙ ap footer_at counts.after in
     let same : (caveats_at caveat_at count caveats).0 ≡ read.0 =
-    rw (counts.counted) (ap (λ (x : List WideCaveat × List ℕ). x.0) (as_many caveat_at (length caveats) caveats)) in
-    rw (← h, ← last, same, counts.counted, counts.any) refl
+    rw (counts.count_is) (ap (λ (x : List WideCaveat × List ℕ). x.0) (as_many caveat_at (length caveats) caveats)) in
+    rw (← h, ← last, same, counts.count_is, counts.any) refl
 
 -- the pass of a header, the caveats and a signature
 abbrev pub made : List ℕ × List ℕ × List ℕ → List WideCaveat → List ℕ → WidePass

@@ -5,7 +5,7 @@ use Rattle.std.proofs.lemmas.Bool.{eqb-true}
 use Rattle.std.proofs.lemmas.List.{append-nil, nil_from_length, length-append}
 use Rattle.pass_forms.specs.Pass.{WidePass}
 use Rattle.pass_forms.specs.V1.{packet, location_key, identifier_key, caveat_key, verifier_id_key, caveat_location_key, signature_key, caveat_packets}
-use Rattle.pass_forms.specs.V1.{packets_of, FitsPacket, FitsCaveat, Fits, SpellsV1}
+use Rattle.pass_forms.specs.V1.{packets_of, FitsPacket, FitsCaveat, FitsPackets, SpellsV1}
 use Rattle.pass_forms.specs.Parts.{◌>>=◌}
 use Rattle.pass_forms.specs.V1Reading.{packet_at, header_at, caveat_at, signature_at, wide_at}
 use Rattle.pass_forms.specs.Caveats.{caveats_at}
@@ -88,18 +88,18 @@ wide_takes bytes wide e =
     let parts : bytes ≡ packets_of (made p.header read.0 p.signature) =
     h.0 ∙ ap (λ (x : List ℕ). packet location_key p.header.0 ++ (packet identifier_key p.header.1 ++ x))
     (c.0 ∙ ap (λ (x : List ℕ). flat_map caveat_packets read.0 ++ x) s.0) in
-    let fits : Fits (made p.header read.0 p.signature) = record { location = h.1; identifier = h.2; caveats = c.1; signature = s.1 } in
-    let spelled : SpellsV1 bytes (made p.header read.0 p.signature) = record { packets = parts; fits = fits } in
-    subst (λ (w : WidePass). SpellsV1 bytes w) p.whole spelled
+    let fits : FitsPackets (made p.header read.0 p.signature) = record { location = h.1; identifier = h.2; caveats = c.1; signature = s.1 } in
+    let spelling : SpellsV1 bytes (made p.header read.0 p.signature) = record { packets = parts; fits = fits } in
+    subst (λ (w : WidePass). SpellsV1 bytes w) p.whole spelling
 
 pub wide_again : (bytes : List ℕ) (wide : WidePass) → SpellsV1 bytes wide → wide_at bytes ≡ Some wide
-wide_again bytes wide spelled =
-    let fits = spelled.fits in
+wide_again bytes wide spelling =
+    let fits = spelling.fits in
     let last = packet signature_key wide.signature in
     let caveats = flat_map caveat_packets wide.caveats ++ last in
     let fuel : length wide.caveats ≤ length caveats =
     omega (arith, caveats_fit caveat_packets caveat_has_bytes wide.caveats, length-append (flat_map caveat_packets wide.caveats) last) in
-    let h = ap header_at spelled.packets ∙ header_again wide.location wide.identifier caveats fits.location fits.identifier in
+    let h = ap header_at spelling.packets ∙ header_again wide.location wide.identifier caveats fits.location fits.identifier in
     let c =
     caveats_again caveat_at caveat_packets FitsCaveat EndsCaveat exact_caveats (length caveats) wide.caveats last fuel fits.caveats
     (signature_ends wide.signature fits.signature) (signature_is_no_caveat wide.signature fits.signature) in

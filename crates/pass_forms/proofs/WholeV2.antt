@@ -167,24 +167,24 @@ wide_takes bytes wide e =
     let parts : bytes ≡ sections h.location (made p.header read.0 p.signature) =
     h.parts ∙ ap (λ (x : List ℕ). 2 ∷ optional_field location_type h.location ++ (field identifier_type p.header.1 ++ (end_of_section ++ x)))
     (c.0 ∙ ap (λ (x : List ℕ). flat_map caveat_section read.0 ++ x) s.0) in
-    let spelled : SpellsV2 bytes (made p.header read.0 p.signature) =
+    let spelling : SpellsV2 bytes (made p.header read.0 p.signature) =
     record { location = h.location; is_location = h.is_location; sections = parts; signature = s.1 } in
-    subst (λ (w : WidePass). SpellsV2 bytes w) p.whole spelled
+    subst (λ (w : WidePass). SpellsV2 bytes w) p.whole spelling
 
 all_fit : (caveats : List WideCaveat) → AllByRecursion (λ _. Unit {0}) caveats
 all_fit [] = tt
 all_fit (caveat ∷ caveats) = (tt, all_fit caveats)
 
 pub wide_again : (bytes : List ℕ) (wide : WidePass) → SpellsV2 bytes wide → wide_at bytes ≡ Some wide
-wide_again bytes wide spelled =
+wide_again bytes wide spelling =
     let last = end_of_section ++ field signature_type wide.signature in
     let caveats = flat_map caveat_section wide.caveats ++ last in
     let fuel : length wide.caveats ≤ length caveats =
     omega (arith, caveats_fit caveat_section caveat_has_bytes wide.caveats, length-append (flat_map caveat_section wide.caveats) last) in
-    let h = ap header_at spelled.sections ∙ header_again spelled.location wide.identifier caveats in
+    let h = ap header_at spelling.sections ∙ header_again spelling.location wide.identifier caveats in
     let c =
     caveats_again caveat_at caveat_section (λ _. Unit {0}) (λ _. Unit {0}) exact_caveats (length caveats) wide.caveats last fuel (all_fit wide.caveats) tt
     (end_is_no_caveat (field signature_type wide.signature)) in
-    whole_again header_at caveat_at footer_at bytes (unwrap_or spelled.location [], wide.identifier, caveats) wide.caveats last wide.signature h c
-    (footer_again wide.signature spelled.signature)
-    ∙ ap (λ (l : List ℕ). Some (made (l, wide.identifier, caveats) wide.caveats wide.signature)) spelled.is_location
+    whole_again header_at caveat_at footer_at bytes (unwrap_or spelling.location [], wide.identifier, caveats) wide.caveats last wide.signature h c
+    (footer_again wide.signature spelling.signature)
+    ∙ ap (λ (l : List ℕ). Some (made (l, wide.identifier, caveats) wide.caveats wide.signature)) spelling.is_location

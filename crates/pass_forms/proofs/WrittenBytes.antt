@@ -5,12 +5,13 @@ use Rattle.std.proofs.lemmas.Bool.{cases_lt, ltb-true}
 use Rattle.std.proofs.lemmas.Bool.Decides.{nat_tests}
 use Rattle.std.proofs.lemmas.List.{length-append}
 use Rattle.base64.specs.GeneralPurpose.{IsBytes}
-use Rattle.pass_forms.specs.Pass.{Plain, widened, widened_caveat}
-use Rattle.pass_forms.specs.Putting.{room_len}
-use Rattle.pass_forms.specs.V1.{Fits, FitsCaveat, FitsPacket, caveat_key, caveat_packets, four_digits, hex_digit, identifier_key, location_key, packet}
+use Rattle.pass_forms.specs.Pass.{Plain, as_wide_pass, widened_caveat}
+use Rattle.pass_forms.specs.Putting.{buffer_len}
+use Rattle.pass_forms.specs.V1.{FitsPackets, FitsCaveat, FitsPacket, caveat_key, caveat_packets, four_hex_digits, hex_digit, identifier_key, location_key}
+use Rattle.pass_forms.specs.V1.{packet}
 use Rattle.pass_forms.specs.V1.{packet_len, signature_key}
 use Rattle.pass_forms.specs.V2.{caveat_section, end_of_section, field, identifier_type, location_type, optional_field, signature_type, varint}
-use Rattle.pass_forms.specs.Writing.{HasBytes, told_location, v1_bytes, v2_bytes}
+use Rattle.pass_forms.specs.Writing.{HasBytes, nonempty_location, v1_bytes, v2_bytes}
 use Rattle.pass_forms.proofs.Base64Bytes.{append_is_bytes, nil_is_bytes}
 use Rattle.pass_forms.proofs.PutVarints.{varint_of_one, varint_of_two}
 use Rattle.pass_forms.proofs.WholeV1.{both_true}
@@ -27,7 +28,7 @@ digit_is_byte n h = grind (arith, nat_tests)
 four_bytes : (a b c d : ℕ) → a < 256 → b < 256 → c < 256 → d < 256 → IsBytes (a ∷ b ∷ c ∷ d ∷ [])
 four_bytes a b c d ha hb hc hd = one_more a (b ∷ c ∷ d ∷ []) ha (one_more b (c ∷ d ∷ []) hb (one_more c (d ∷ []) hc (one_more d [] hd nil_is_bytes)))
 
-digits_are_bytes : (n : ℕ) → n < 2 ^ 16 → IsBytes (four_digits n)
+digits_are_bytes : (n : ℕ) → n < 2 ^ 16 → IsBytes (four_hex_digits n)
 digits_are_bytes n h =
     four_bytes (hex_digit (n / 4096)) (hex_digit (n / 256 % 16)) (hex_digit (n / 16 % 16)) (hex_digit (n % 16))
     (digit_is_byte (n / 4096) (omega arith)) (digit_is_byte (n / 256 % 16) (omega arith)) (digit_is_byte (n / 16 % 16) (omega arith))
@@ -41,7 +42,7 @@ key_is_bytes (byte ∷ bytes) h =
 
 packet_is_bytes : (key bytes : List ℕ) → list_all (λ byte. ltb byte 256) key ≡ true → FitsPacket key bytes → IsBytes bytes → IsBytes (packet key bytes)
 packet_is_bytes key bytes passes fits are =
-    append_is_bytes (four_digits (packet_len key bytes)) (key ++ (bytes ++ 10 ∷ [])) (digits_are_bytes (packet_len key bytes) fits)
+    append_is_bytes (four_hex_digits (packet_len key bytes)) (key ++ (bytes ++ 10 ∷ [])) (digits_are_bytes (packet_len key bytes) fits)
     (append_is_bytes key (bytes ++ 10 ∷ []) (key_is_bytes key passes)
     (append_is_bytes bytes (10 ∷ []) are (one_more 10 [] (omega arith) nil_is_bytes)))
 
@@ -53,7 +54,7 @@ packets_are_bytes (caveat ∷ caveats) fit are =
     (append_is_bytes (packet caveat_key caveat) [] (packet_is_bytes caveat_key caveat refl fit.0.identifier are.0) nil_is_bytes)
     (packets_are_bytes caveats fit.1 are.1)
 
-pub v1_is_bytes : (pass : Plain) → Fits (widened pass) → HasBytes pass → IsBytes (v1_bytes pass)
+pub v1_is_bytes : (pass : Plain) → FitsPackets (as_wide_pass pass) → HasBytes pass → IsBytes (v1_bytes pass)
 unfolding v1_bytes
 v1_is_bytes pass fits are =
     let location : List ℕ = packet location_key pass.location in
@@ -76,20 +77,20 @@ varint_is_bytes n h = elim (cases_lt n 128) [
       (one_more (128 + n % 128) (n / 128 ∷ []) (omega arith) (one_more (n / 128) [] (omega arith) nil_is_bytes))
 ]
 
-field_is_bytes : (type : ℕ) (bytes : List ℕ) → type < 256 → length (field type bytes) ≤ room_len → IsBytes bytes → IsBytes (field type bytes)
+field_is_bytes : (type : ℕ) (bytes : List ℕ) → type < 256 → length (field type bytes) ≤ buffer_len → IsBytes bytes → IsBytes (field type bytes)
 field_is_bytes type bytes small fits are =
     one_more type (varint (length bytes) ++ bytes) small
     (append_is_bytes (varint (length bytes)) bytes (varint_is_bytes (length bytes) (omega (arith, length-append (varint (length bytes)) bytes))) are)
 
-location_is_bytes : (location : List ℕ) → length (optional_field location_type (told_location location)) ≤ room_len → IsBytes location →
-    IsBytes (optional_field location_type (told_location location))
+location_is_bytes : (location : List ℕ) → length (optional_field location_type (nonempty_location location)) ≤ buffer_len → IsBytes location →
+    IsBytes (optional_field location_type (nonempty_location location))
 location_is_bytes [] fits are = nil_is_bytes
 location_is_bytes (byte ∷ bytes) fits are = field_is_bytes location_type (byte ∷ bytes) (omega arith) fits are
 
 ends_are_bytes : IsBytes end_of_section
 ends_are_bytes = one_more 0 [] (omega arith) nil_is_bytes
 
-sections_are_bytes : (caveats : List (List ℕ)) → length (flat_map caveat_section (map widened_caveat caveats)) ≤ room_len → AllByRecursion IsBytes caveats →
+sections_are_bytes : (caveats : List (List ℕ)) → length (flat_map caveat_section (map widened_caveat caveats)) ≤ buffer_len → AllByRecursion IsBytes caveats →
     IsBytes (flat_map caveat_section (map widened_caveat caveats))
 sections_are_bytes [] fits are = nil_is_bytes
 sections_are_bytes (caveat ∷ caveats) fits are =
@@ -101,10 +102,10 @@ sections_are_bytes (caveat ∷ caveats) fits are =
     (append_is_bytes identifier end_of_section (field_is_bytes identifier_type caveat (omega arith) (omega (arith, one, two)) are.0) ends_are_bytes)
     (sections_are_bytes caveats (omega (arith, one)) are.1)
 
-pub v2_is_bytes : (pass : Plain) → length (v2_bytes pass) ≤ room_len → HasBytes pass → IsBytes (v2_bytes pass)
+pub v2_is_bytes : (pass : Plain) → length (v2_bytes pass) ≤ buffer_len → HasBytes pass → IsBytes (v2_bytes pass)
 unfolding v2_bytes
 v2_is_bytes pass fits are =
-    let location : List ℕ = optional_field location_type (told_location pass.location) in
+    let location : List ℕ = optional_field location_type (nonempty_location pass.location) in
     let identifier : List ℕ = field identifier_type pass.identifier in
     let caveats : List ℕ = flat_map caveat_section (map widened_caveat pass.caveats) in
     let signature : List ℕ = field signature_type pass.signature in

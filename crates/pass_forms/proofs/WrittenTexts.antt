@@ -10,9 +10,9 @@ use Rattle.base64.proofs.RoundTrip.{length-encode_symbols}
 use Rattle.pass_forms.specs.declared.fault.FormFault.{FormFault}
 use Rattle.pass_forms.specs.declared.fault.FormFault.TheVariants.{TooLong, Malformed, ThirdParty, TooMany, Memory}
 use Rattle.pass_forms.specs.declared.form.Form.{Form}
-use Rattle.pass_forms.specs.Envelope.{IsBase64, form_of, unwrapped}
+use Rattle.pass_forms.specs.Envelope.{IsBase64, form_of, unwrapping}
 use Rattle.pass_forms.specs.Pass.{Plain}
-use Rattle.pass_forms.specs.Putting.{RefusesBytes, WritesBytes, room_len}
+use Rattle.pass_forms.specs.Putting.{RefusesBytes, WritesBytes, buffer_len}
 use Rattle.pass_forms.specs.Reading.{max_caveats, max_text_len}
 use Rattle.pass_forms.specs.Writing.{FailsAs, in_base64, writing_of}
 use Rattle.pass_forms.proofs.EnvelopeLaws.{unwrapped_is}
@@ -20,37 +20,37 @@ use Rattle.pass_forms.proofs.EnvelopeLaws.{unwrapped_is}
 length-in_base64 : (bytes : List ℕ) → length (in_base64 bytes) ≡ unpadded_len (length bytes)
 length-in_base64 bytes = rw append-nil (length-encode_symbols (engine_symbols url_safe_no_pad) bytes)
 
--- what has room has a text, and what has none has none
-pub text_fits : (bytes : List ℕ) → length bytes ≤ room_len → length (in_base64 bytes) ≤ max_text_len
+-- bytes that fit the buffer have a text within the limit, and others don't
+pub text_fits : (bytes : List ℕ) → length bytes ≤ buffer_len → length (in_base64 bytes) ≤ max_text_len
 text_fits bytes h = omega (arith, length-in_base64 bytes)
 
-pub text_too_long : (bytes : List ℕ) → room_len < length bytes → max_text_len < length (in_base64 bytes)
+pub text_too_long : (bytes : List ℕ) → buffer_len < length bytes → max_text_len < length (in_base64 bytes)
 text_too_long bytes h = omega (arith, length-in_base64 bytes)
 
-pub bytes_fit : (bytes : List ℕ) → length (in_base64 bytes) ≤ max_text_len → length bytes ≤ room_len
+pub bytes_fit : (bytes : List ℕ) → length (in_base64 bytes) ≤ max_text_len → length bytes ≤ buffer_len
 bytes_fit bytes h = omega (arith, length-in_base64 bytes)
 
 -- ---- the computed answer
 
-pub written_by : (bytes : List ℕ) (pass : Plain) (text : List ℕ) → text ≡ in_base64 bytes → length pass.caveats ≤ max_caveats → length bytes ≤ room_len →
+pub written_by : (bytes : List ℕ) (pass : Plain) (text : List ℕ) → text ≡ in_base64 bytes → length pass.caveats ≤ max_caveats → length bytes ≤ buffer_len →
     writing_of bytes pass ≡ Ok text
-written_by bytes pass text encoded few fits =
+written_by bytes pass text encoding few fits =
     let few_enough : ltb max_caveats (length pass.caveats) ≡ false = le-ltb _ _ few in
     let short : ltb max_text_len (length (in_base64 bytes)) ≡ false = le-ltb _ _ (text_fits bytes fits) in
-    rw (few_enough, short) (ap (λ (t : List ℕ). Ok t) (sym encoded))
+    rw (few_enough, short) (ap (λ (t : List ℕ). Ok t) (sym encoding))
 
 pub writes : (bytes : List ℕ) (pass : Plain) (text : List ℕ) → WritesBytes bytes pass text → writing_of bytes pass ≡ Ok text
-writes bytes pass text written = written_by bytes pass text written.encoded written.room.few written.room.fits
+writes bytes pass text written = written_by bytes pass text written.encoding written.buffer.few written.buffer.fits
 
-written_in : (many long : Bool) (encoded text : List ℕ) →
-    ◌≡◌ {A = Result (List ℕ) FormFault} (cond many (Err TooMany) (cond long (Err TooLong) (Ok encoded))) (Ok text) →
-    (text ≡ encoded) × (many ≡ false) × (long ≡ false)
-written_in true long encoded text e = absurd cc
-written_in false true encoded text e = absurd cc
-written_in false false encoded text e = (cc, refl, refl)
+written_in : (many long : Bool) (encoding text : List ℕ) →
+    ◌≡◌ {A = Result (List ℕ) FormFault} (cond many (Err TooMany) (cond long (Err TooLong) (Ok encoding))) (Ok text) →
+    (text ≡ encoding) × (many ≡ false) × (long ≡ false)
+written_in true long encoding text e = absurd cc
+written_in false true encoding text e = absurd cc
+written_in false false encoding text e = (cc, refl, refl)
 
 pub written_parts : (bytes : List ℕ) (pass : Plain) (text : List ℕ) → writing_of bytes pass ≡ Ok text →
-    (text ≡ in_base64 bytes) × (length pass.caveats ≤ max_caveats) × (length bytes ≤ room_len)
+    (text ≡ in_base64 bytes) × (length pass.caveats ≤ max_caveats) × (length bytes ≤ buffer_len)
 written_parts bytes pass text e =
     let parts = written_in (ltb max_caveats (length pass.caveats)) (ltb max_text_len (length (in_base64 bytes))) (in_base64 bytes) text e in
     (parts.0, ltb-false _ _ parts.1, bytes_fit bytes (ltb-false _ _ parts.2))
@@ -61,18 +61,18 @@ fails bytes pass TooLong long =
     let few : ltb max_caveats (length pass.caveats) ≡ false = le-ltb _ _ long.0 in
     let over : ltb max_text_len (length (in_base64 bytes)) ≡ true = lt-ltb _ _ (text_too_long bytes long.1) in
     rw (few, over) refl
-fails bytes pass Memory room =
-    let few : ltb max_caveats (length pass.caveats) ≡ false = le-ltb _ _ room.few in
-    let short : ltb max_text_len (length (in_base64 bytes)) ≡ false = le-ltb _ _ (text_fits bytes room.fits) in
+fails bytes pass Memory buffer =
+    let few : ltb max_caveats (length pass.caveats) ≡ false = le-ltb _ _ buffer.few in
+    let short : ltb max_text_len (length (in_base64 bytes)) ≡ false = le-ltb _ _ (text_fits bytes buffer.fits) in
     rw (few, short) refl
 fails bytes pass Malformed never = absurd never
 fails bytes pass ThirdParty never = absurd never
 
 -- ---- reading back
 
-pub unwraps : (form : Form) (bytes : List ℕ) → IsBytes bytes → length bytes ≤ room_len → form_of bytes ≡ Some form →
-    unwrapped (in_base64 bytes) ≡ Ok (form, bytes)
-unwraps form bytes are short told =
+pub unwraps : (form : Form) (bytes : List ℕ) → IsBytes bytes → length bytes ≤ buffer_len → form_of bytes ≡ Some form →
+    unwrapping (in_base64 bytes) ≡ Ok (form, bytes)
+unwraps form bytes are short content =
     let ascii = IsAscii-encode_of url_safe_no_pad bytes in
-    let spelled : IsBase64 (in_base64 bytes) bytes = record { are_bytes = are; spelled = inl refl } in
-    (unwrapped_is (in_base64 bytes) (Ok (form, bytes)) (λ i. let byte = ascii i in omega arith)).1 (text_fits bytes short, inr (spelled, told))
+    let spelling : IsBase64 (in_base64 bytes) bytes = record { are_bytes = are; spelling = inl refl } in
+    (unwrapped_is (in_base64 bytes) (Ok (form, bytes)) (λ i. let byte = ascii i in omega arith)).1 (text_fits bytes short, inr (spelling, content))

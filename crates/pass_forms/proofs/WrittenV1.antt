@@ -5,21 +5,22 @@ use Rattle.std.proofs.lemmas.Bool.Decides.{nat_tests}
 use Rattle.std.proofs.lemmas.List.{append-nil, length-append}
 use Rattle.pass_forms.specs.declared.form.Form.TheVariants.{V1}
 use Rattle.pass_forms.specs.Envelope.{form_of, form_of_byte}
-use Rattle.pass_forms.specs.Pass.{Plain, widened, widened_caveat}
-use Rattle.pass_forms.specs.Putting.{room_len}
-use Rattle.pass_forms.specs.V1.{Fits, FitsCaveat, FitsPacket, SpellsV1, caveat_key, caveat_packets, hex_digit, identifier_key, location_key, packet, packet_len}
+use Rattle.pass_forms.specs.Pass.{Plain, as_wide_pass, widened_caveat}
+use Rattle.pass_forms.specs.Putting.{buffer_len}
+use Rattle.pass_forms.specs.V1.{FitsPackets, FitsCaveat, FitsPacket, SpellsV1, caveat_key, caveat_packets, hex_digit, identifier_key, location_key, packet}
+use Rattle.pass_forms.specs.V1.{packet_len}
 use Rattle.pass_forms.specs.V1.{packets_of, signature_key}
-use Rattle.pass_forms.specs.Writing.{HasBytes, IsReadBack, IsV1Text, IsWritten, v1_bytes, writing_v1}
+use Rattle.pass_forms.specs.Writing.{HasBytes, IsReadBack, IsV1Text, IsWritableText, v1_bytes, writing_v1}
 use Rattle.pass_forms.proofs.Packets.{length-packet}
 use Rattle.pass_forms.specs.V1Reading.{reading_v1}
 use Rattle.pass_forms.proofs.V1Exact.{reading_v1_determined}
 use Rattle.pass_forms.proofs.WrittenBytes.{v1_is_bytes}
 use Rattle.pass_forms.proofs.WrittenForm.{BytesForm, exact, reads_back}
 
-fits_packet : (key bytes : List ℕ) → length (packet key bytes) ≤ room_len → FitsPacket key bytes
+fits_packet : (key bytes : List ℕ) → length (packet key bytes) ≤ buffer_len → FitsPacket key bytes
 fits_packet key bytes h = omega (arith, length-packet key bytes)
 
-fit_caveats : (caveats : List (List ℕ)) → length (flat_map caveat_packets (map widened_caveat caveats)) ≤ room_len →
+fit_caveats : (caveats : List (List ℕ)) → length (flat_map caveat_packets (map widened_caveat caveats)) ≤ buffer_len →
     AllByRecursion FitsCaveat (map widened_caveat caveats)
 fit_caveats [] h = tt
 fit_caveats (caveat ∷ caveats) h =
@@ -29,8 +30,8 @@ fit_caveats (caveat ∷ caveats) h =
     length-append first others ∙ ap (λ (x : List ℕ). length x + length others) (append-nil (packet caveat_key caveat)) in
     (record { identifier = fits_packet caveat_key caveat (omega arith); verifier_id = tt; location = tt }, fit_caveats caveats (omega arith))
 
-fits_room : (pass : Plain) → length (packets_of (widened pass)) ≤ room_len → length pass.signature ≡ 32 → Fits (widened pass)
-fits_room pass h len =
+fits_buffer : (pass : Plain) → length (packets_of (as_wide_pass pass)) ≤ buffer_len → length pass.signature ≡ 32 → FitsPackets (as_wide_pass pass)
+fits_buffer pass h len =
     let location : List ℕ = packet location_key pass.location in
     let identifier : List ℕ = packet identifier_key pass.identifier in
     let caveats : List ℕ = flat_map caveat_packets (map widened_caveat pass.caveats) in
@@ -45,9 +46,9 @@ fits_room pass h len =
       signature = len;
     }
 
-pub spells_v1 : (pass : Plain) → length (v1_bytes pass) ≤ room_len → length pass.signature ≡ 32 → SpellsV1 (v1_bytes pass) (widened pass)
+pub spells_v1 : (pass : Plain) → length (v1_bytes pass) ≤ buffer_len → length pass.signature ≡ 32 → SpellsV1 (v1_bytes pass) (as_wide_pass pass)
 unfolding v1_bytes
-spells_v1 pass short len = record { packets = refl; fits = fits_room pass short len }
+spells_v1 pass short len = record { packets = refl; fits = fits_buffer pass short len }
 
 hex_first : (k : ℕ) → k < 16 → form_of_byte (hex_digit k) ≡ Some V1
 hex_first k h = grind (arith, nat_tests)
@@ -63,15 +64,15 @@ v1_form = record {
   form = V1;
   reading = reading_v1;
   spells = spells_v1;
-  tells = λ pass spelled. form_v1 pass spelled.fits.location;
+  has_form = λ pass spelling. form_v1 pass spelling.fits.location;
   determined = reading_v1_determined;
 }
 
 -- The law: bytes that are written of bytes are bytes.
-pub law_v1 : (pass : Plain) (text : List ℕ) → HasBytes pass → IsWritten IsV1Text pass text → IsReadBack reading_v1 V1 (v1_bytes pass) pass text
+pub law_v1 : (pass : Plain) (text : List ℕ) → HasBytes pass → IsWritableText IsV1Text pass text → IsReadBack reading_v1 V1 (v1_bytes pass) pass text
 law_v1 pass text are written =
-    reads_back v1_form pass text (v1_is_bytes pass written.is_text.spelled.fits are) written
+    reads_back v1_form pass text (v1_is_bytes pass written.is_text.spelling.fits are) written
 
-pub exact_v1 : (pass : Plain) (text : List ℕ) → length pass.signature ≡ 32 → (writing_v1 pass ≡ Ok text) ↔ IsWritten IsV1Text pass text
+pub exact_v1 : (pass : Plain) (text : List ℕ) → length pass.signature ≡ 32 → (writing_v1 pass ≡ Ok text) ↔ IsWritableText IsV1Text pass text
 unfolding writing_v1
 exact_v1 pass text len = exact v1_form pass text len

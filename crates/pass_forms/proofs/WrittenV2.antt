@@ -3,21 +3,21 @@ use Rattle.std.proofs.Common.{◌≡◌, ◌↔◌, ℕ, List, [], ◌∷◌, le
 use Rattle.std.specs.Prelude.{unwrap_or}
 use Rattle.pass_forms.specs.declared.form.Form.TheVariants.{V2}
 use Rattle.pass_forms.specs.Envelope.{form_of}
-use Rattle.pass_forms.specs.Pass.{Plain, widened}
+use Rattle.pass_forms.specs.Pass.{Plain, as_wide_pass}
 use Rattle.pass_forms.specs.V2.{SpellsV2}
-use Rattle.pass_forms.specs.Writing.{HasBytes, IsReadBack, IsV2Text, IsWritten, told_location, v2_bytes, writing_v2}
+use Rattle.pass_forms.specs.Writing.{HasBytes, IsReadBack, IsV2Text, IsWritableText, nonempty_location, v2_bytes, writing_v2}
 use Rattle.pass_forms.specs.V2Reading.{reading_v2}
 use Rattle.pass_forms.proofs.V2Exact.{reading_v2_determined}
 use Rattle.pass_forms.proofs.WrittenBytes.{v2_is_bytes}
-use Rattle.pass_forms.proofs.WrittenForm.{BytesForm, exact, fits_room, reads_back}
+use Rattle.pass_forms.proofs.WrittenForm.{BytesForm, exact, fits_buffer, reads_back}
 
-told_is : (location : List ℕ) → unwrap_or (told_location location) [] ≡ location
-told_is [] = refl
-told_is (byte ∷ bytes) = refl
+nonempty_is : (location : List ℕ) → unwrap_or (nonempty_location location) [] ≡ location
+nonempty_is [] = refl
+nonempty_is (byte ∷ bytes) = refl
 
-pub spells_v2 : (pass : Plain) → length pass.signature ≡ 32 → SpellsV2 (v2_bytes pass) (widened pass)
+pub spells_v2 : (pass : Plain) → length pass.signature ≡ 32 → SpellsV2 (v2_bytes pass) (as_wide_pass pass)
 unfolding v2_bytes
-spells_v2 pass len = record { location = told_location pass.location; is_location = told_is pass.location; sections = refl; signature = len }
+spells_v2 pass len = record { location = nonempty_location pass.location; is_location = nonempty_is pass.location; sections = refl; signature = len }
 
 pub form_v2 : (pass : Plain) → form_of (v2_bytes pass) ≡ Some V2
 unfolding v2_bytes
@@ -30,14 +30,14 @@ v2_form = record {
   form = V2;
   reading = reading_v2;
   spells = λ pass fits len. spells_v2 pass len;
-  tells = λ pass spelled. form_v2 pass;
+  has_form = λ pass spelling. form_v2 pass;
   determined = reading_v2_determined;
 }
 
 -- The law: bytes that are written of bytes are bytes.
-pub law_v2 : (pass : Plain) (text : List ℕ) → HasBytes pass → IsWritten IsV2Text pass text → IsReadBack reading_v2 V2 (v2_bytes pass) pass text
-law_v2 pass text are written = reads_back v2_form pass text (v2_is_bytes pass (fits_room v2_form pass text written) are) written
+pub law_v2 : (pass : Plain) (text : List ℕ) → HasBytes pass → IsWritableText IsV2Text pass text → IsReadBack reading_v2 V2 (v2_bytes pass) pass text
+law_v2 pass text are written = reads_back v2_form pass text (v2_is_bytes pass (fits_buffer v2_form pass text written) are) written
 
-pub exact_v2 : (pass : Plain) (text : List ℕ) → length pass.signature ≡ 32 → (writing_v2 pass ≡ Ok text) ↔ IsWritten IsV2Text pass text
+pub exact_v2 : (pass : Plain) (text : List ℕ) → length pass.signature ≡ 32 → (writing_v2 pass ≡ Ok text) ↔ IsWritableText IsV2Text pass text
 unfolding writing_v2
 exact_v2 pass text len = exact v2_form pass text len

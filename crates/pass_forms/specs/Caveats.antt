@@ -1,10 +1,10 @@
--- Caveats that follow one another, in either layout of bytes. A layout reads the caveat at the front, if there is one,
--- and answers it with the bytes after it.
+-- Lists of caveats, in either layout of bytes. A layout reads the caveat at the front, if there is one, and returns it
+-- with the bytes after it.
 use Rattle.std.specs.Prelude.{◌≡◌, ℕ, Bool, zero, suc, List, [], ◌∷◌, length, map, Option, Some, None}
 use Rattle.std.specs.List.{list_any}
 use Rattle.pass_forms.specs.declared.layout.Caveats.{Caveats}
 use Rattle.pass_forms.specs.declared.layout.Walk.{Walk}
-use Rattle.pass_forms.specs.FieldSource.{PassField, fields_of, those_left}
+use Rattle.pass_forms.specs.FieldSource.{PassField, pass_fields, those_left}
 use Rattle.pass_forms.specs.Parts.{◌>>=◌}
 use Rattle.pass_forms.specs.Pass.{WideCaveat, WidePass, has_third_party, is_third_party, first_party, first_party_caveat}
 
@@ -13,23 +13,23 @@ abbrev pub and_others : (List ℕ → List WideCaveat × List ℕ) → List ℕ 
 and_others others bytes None = ([], bytes)
 and_others others bytes (Some found) = (found.0 ∷ (others found.1).0, (others found.1).1)
 
--- the caveats at the front, but at most this number of them, and the bytes after them
+-- at most this number of caveats at the front, and the bytes after them
 unfoldable pub caveats_at : (List ℕ → Option (WideCaveat × List ℕ)) → ℕ → List ℕ → List WideCaveat × List ℕ
 caveats_at caveat_at zero bytes = ([], bytes)
 caveats_at caveat_at (suc n) bytes = and_others (caveats_at caveat_at n) bytes (caveat_at bytes)
 
 -- what a reader keeps of a caveat: its identifier, whether it is a third party's, and the bytes after it
-abbrev pub seen : WideCaveat × List ℕ → List ℕ × Bool × List ℕ
-seen found = (found.0.identifier, is_third_party found.0, found.1)
+abbrev pub summary : WideCaveat × List ℕ → List ℕ × Bool × List ℕ
+summary found = (found.0.identifier, is_third_party found.0, found.1)
 
--- what a reader tells of the caveats that it went over
+-- what a reader returns for the caveats that it scanned
 pub record Counts (count : ℕ) (third_party : Bool) (rest : List ℕ) (caveats : List WideCaveat × List ℕ) : Type 0 where
-  pub counted : count ≡ length caveats.0
+  pub count_is : count ≡ length caveats.0
   pub any : third_party ≡ list_any is_third_party caveats.0
   pub after : rest ≡ caveats.1
 
--- A pass is a header (its location and its identifier), then its caveats, then what holds its signature. No caveat is
--- without bytes, so there are no more caveats than bytes.
+-- A pass is a header (its location and its identifier), its caveats, and a footer that holds its signature. Each caveat
+-- has at least one byte, so there are at most as many caveats as bytes.
 unfoldable pub whole_at : (List ℕ → Option (List ℕ × List ℕ × List ℕ)) → (List ℕ → Option (WideCaveat × List ℕ)) → (List ℕ → Option (List ℕ)) → List ℕ →
     Option WidePass
 whole_at header_at caveat_at footer_at bytes = do
@@ -42,18 +42,18 @@ whole_at header_at caveat_at footer_at bytes = do
     signature = signature;
   })
 
--- ---- the fields of a pass that was gone over
+-- ---- the fields of a scanned pass
 
--- what is learned of a wide pass by going over it: the fields of the pass that is left where verifier ids and locations of
--- caveats are, the number of caveats, whether any is a third party's
-abbrev pub gone_over : WidePass → List PassField × ℕ × Bool
-gone_over wide = (fields_of (first_party wide), length wide.caveats, has_third_party wide)
+-- the result of scanning a wide pass: its fields without the verifier ids and locations of its caveats, the number of
+-- caveats, whether any is a third party's
+abbrev pub scan_summary : WidePass → List PassField × ℕ × Bool
+scan_summary wide = (pass_fields (first_party wide), length wide.caveats, has_third_party wide)
 
--- the caveats that are still bytes
+-- the identifiers of the caveats that aren't read yet
 abbrev pub identifiers_in : (List ℕ → Option (WideCaveat × List ℕ)) → Caveats → List (List ℕ)
 identifiers_in caveat_at caveats = map first_party_caveat (caveats_at caveat_at caveats.count caveats.bytes.now).0
 
--- the fields still to come
+-- the fields that are left
 unfoldable pub to_come : (List ℕ → Option (WideCaveat × List ℕ)) → Walk → List PassField
 to_come caveat_at walk =
     those_left (λ bytes. bytes.now) walk.location walk.identifier (identifiers_in caveat_at walk.caveats) walk.signature

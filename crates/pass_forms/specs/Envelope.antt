@@ -17,7 +17,7 @@ use Rattle.pass_forms.specs.Reading.{max_text_len}
 -- (section 3.5). That either alphabet will do, and that padding may be left out, is ours.
 pub record IsBase64 (text bytes : List ℕ) : Type 0 where
   pub are_bytes : IsBytes bytes
-  pub spelled : (text ≡ encode_of url_safe_no_pad bytes) ⊎ (text ≡ encode_of url_safe bytes)
+  pub spelling : (text ≡ encode_of url_safe_no_pad bytes) ⊎ (text ≡ encode_of url_safe bytes)
       ⊎ (text ≡ encode_of standard_no_pad bytes) ⊎ (text ≡ encode_of standard bytes)
 
 -- `{`
@@ -31,7 +31,7 @@ starts_with_brace bytes = starts_with nat_eq bytes (open_brace ∷ [])
 abbrev pub is_lower_hex_digit : ℕ → Bool
 is_lower_hex_digit byte = (nat_le 48 byte && nat_le byte 57) || (nat_le 97 byte && nat_le byte 102)
 
--- What the first byte tells: a V2 pass begins with the byte 2, a JSON pass with `{`, and a V1 pass
+-- The form by the first byte: a V2 pass begins with the byte 2, a JSON pass with `{`, and a V1 pass
 -- with the lower-case hexadecimal length of a packet (ours, after libmacaroons' formats).
 abbrev pub form_of_byte : ℕ → Option Form
 form_of_byte first =
@@ -44,25 +44,25 @@ form_of_byte first =
 abbrev pub form_of : List ℕ → Option Form
 form_of bytes = option_and_then form_of_byte (slice_get bytes 0)
 
--- The text wraps those bytes, in that form: a text that starts with `{` is JSON as it stands, and any
--- other is base64 of bytes whose first tells the form (ours).
+-- The text wraps those bytes, in that form: a text that starts with `{` is itself JSON, and any other is
+-- base64 of bytes whose first byte decides the form (ours).
 abbrev pub Wraps : List ℕ → Form → List ℕ → Type 0
 Wraps text form bytes =
     (IsTrue (starts_with_brace text) × (form ≡ Json) × (bytes ≡ text))
     ⊎ (IsBase64 text bytes × (form_of bytes ≡ Some form))
 
--- What taking a text out of its envelope answers (ours): it is too long above the limit, else malformed
--- where it wraps nothing, else there is what it wraps. No other fault comes.
+-- The result of unwrapping a text (ours): too long above the limit, else malformed if it wraps nothing,
+-- else the form and the bytes. There are no other faults.
 abbrev pub IsUnwrapped : List ℕ → Result (Form × List ℕ) FormFault → Type 0
-IsUnwrapped text (Ok told) = (length text ≤ max_text_len) × Wraps text told.0 told.1
+IsUnwrapped text (Ok content) = (length text ≤ max_text_len) × Wraps text content.0 content.1
 IsUnwrapped text (Err TooLong) = max_text_len < length text
 IsUnwrapped text (Err Malformed) =
     (length text ≤ max_text_len) × ((form : Form) (bytes : List ℕ) → ¬ Wraps text form bytes)
 IsUnwrapped text (Err other) = ⊥
 
--- The same as functions of the text, which compute.
+-- The same, computed from the text.
 
--- the bytes by the first of the four spellings that decodes
+-- the bytes, by the first of the four decoders that accepts the text
 unfoldable pub from_base64 : List ℕ → Option (List ℕ)
 from_base64 text =
     option_or (decoded_of url_safe_no_pad text)
@@ -70,29 +70,29 @@ from_base64 text =
     (option_or (decoded_of standard_no_pad text) (decoded_of standard text)))
 
 -- the bytes, with the form that they are in
-abbrev pub with_form : List ℕ → Option (Form × List ℕ)
-with_form bytes = option_map (λ form. (form, bytes)) (form_of bytes)
+abbrev pub with_its_form : List ℕ → Option (Form × List ℕ)
+with_its_form bytes = option_map (λ form. (form, bytes)) (form_of bytes)
 
-unfoldable pub unwrapped : List ℕ → Result (Form × List ℕ) FormFault
-unwrapped text =
+unfoldable pub unwrapping : List ℕ → Result (Form × List ℕ) FormFault
+unwrapping text =
     if nat_lt max_text_len (length text) then Err TooLong
     else if starts_with_brace text then Ok (Json, text)
-    else ok_or (option_and_then with_form (from_base64 text)) Malformed
+    else ok_or (option_and_then with_its_form (from_base64 text)) Malformed
 
--- What a result of `unwrap_text` tells, beside the text and what the room holds after the call.
+-- What a result of `unwrap_text` means, with the text and the buffer after the call.
 
--- the bytes: the text where it is plain, else the first of the room
-abbrev pub told_bytes : Unwrapped → List ℕ → List ℕ → List ℕ
-told_bytes unwrapping text room = if unwrapping.plain then text else take unwrapping.len room
+-- the bytes: the text if it is plain, else the front of the buffer
+abbrev pub unwrapped_bytes : Unwrapped → List ℕ → List ℕ → List ℕ
+unwrapped_bytes unwrapping text buffer = if unwrapping.plain then text else take unwrapping.len buffer
 
 -- the form and the bytes, or the fault
-abbrev pub told_unwrapping : Result Unwrapped FormFault → List ℕ → List ℕ → Result (Form × List ℕ) FormFault
-told_unwrapping (Ok unwrapping) text room = Ok (unwrapping.form, told_bytes unwrapping text room)
-told_unwrapping (Err fault) text room = Err fault
+abbrev pub unwrapped_result : Result Unwrapped FormFault → List ℕ → List ℕ → Result (Form × List ℕ) FormFault
+unwrapped_result (Ok unwrapping) text buffer = Ok (unwrapping.form, unwrapped_bytes unwrapping text buffer)
+unwrapped_result (Err fault) text buffer = Err fault
 
 -- Laws.
 
--- A text wraps one form and one list of bytes at most.
+-- A text wraps at most one form and one list of bytes.
 abbrev pub WrapsOne : Type 0
 WrapsOne = (text : List ℕ) (form other_form : Form) (bytes other_bytes : List ℕ)
     → Wraps text form bytes → Wraps text other_form other_bytes
@@ -103,12 +103,12 @@ abbrev pub WrapsBytes : Type 0
 WrapsBytes = (text : List ℕ) (form : Form) (bytes : List ℕ)
     → IsBytes text → Wraps text form bytes → IsBytes bytes
 
--- `from_base64` gives the bytes that the text is base64 of, and nothing where there are none.
+-- `from_base64` returns the bytes that the text is base64 of, and `None` if there are none.
 abbrev pub FromBase64IsBase64 : Type 0
 FromBase64IsBase64 = (text bytes : List ℕ)
     → IsBytes text → (from_base64 text ≡ Some bytes) ↔ IsBase64 text bytes
 
--- `unwrapped` of a text is what taking it out of its envelope answers, and nothing else is.
+-- `unwrapping` of a text is the only result that `IsUnwrapped` allows.
 abbrev pub UnwrappedIsTheAnswer : Type 0
 UnwrappedIsTheAnswer = (text : List ℕ) (answer : Result (Form × List ℕ) FormFault)
-    → IsBytes text → (unwrapped text ≡ answer) ↔ IsUnwrapped text answer
+    → IsBytes text → (unwrapping text ≡ answer) ↔ IsUnwrapped text answer

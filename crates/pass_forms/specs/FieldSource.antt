@@ -13,43 +13,43 @@ pub data PassField : Type 0 where
   signature_field : (bytes : List ℕ) → PassField
 
 -- the fields of a pass, in their order
-abbrev pub fields_of : Plain → List PassField
-fields_of pass =
+abbrev pub pass_fields : Plain → List PassField
+pass_fields pass =
     location_field pass.location ∷ identifier_field pass.identifier
     ∷ (map caveat_field pass.caveats ++ signature_field pass.signature ∷ [])
 
--- a field, unless it was handed out already
+-- a field, unless it was returned already
 abbrev pub if_left : {A : Type 0} → (A → PassField) → Option A → List PassField
 if_left field None = []
 if_left field (Some bytes) = field bytes ∷ []
 
--- the fields that are left, of those that a source holds: a location and an identifier with these bytes, caveats, a signature
+-- the fields that are left in a source: a location and an identifier with these bytes, caveats, a signature
 abbrev pub those_left : {A : Type 0} → (A → List ℕ) → Option A → Option A → List (List ℕ) → Option (List ℕ) → List PassField
 those_left bytes location identifier caveats signature =
     if_left (λ l. location_field (bytes l)) location ++ (if_left (λ i. identifier_field (bytes i)) identifier
     ++ (map caveat_field caveats ++ if_left signature_field signature))
 
--- what a reader opens: the fields of what it reads, or the fault
-abbrev pub opened_by : {A : Type 0} → (A → List PassField) → Result A FormFault → Result (List PassField) FormFault
-opened_by fields (Ok read) = Ok (fields read)
-opened_by fields (Err fault) = Err fault
+-- the result of opening: the fields of what is read, or the fault
+abbrev pub opening_by : {A : Type 0} → (A → List PassField) → Result A FormFault → Result (List PassField) FormFault
+opening_by fields (Ok read) = Ok (fields read)
+opening_by fields (Err fault) = Err fault
 
-abbrev pub opened : Result Plain FormFault → Result (List PassField) FormFault
-opened reading = opened_by fields_of reading
+abbrev pub opening_of : Result Plain FormFault → Result (List PassField) FormFault
+opening_of reading = opening_by pass_fields reading
 
--- What the answer to opening stands for, by what bytes stand for: the fields of the pass, or the same fault.
+-- Whether this is a result of opening: the fields of a pass that `Reads` allows, or a fault that it allows.
 abbrev pub IsOpening : (Result Plain FormFault → Type 0) → Result (List PassField) FormFault → Type 0
-IsOpening Reads (Ok fields) = (pass : Plain) × Reads (Ok pass) × (fields ≡ fields_of pass)
+IsOpening Reads (Ok fields) = (pass : Plain) × Reads (Ok pass) × (fields ≡ pass_fields pass)
 IsOpening Reads (Err fault) = Reads (Err fault)
 
--- the field that is handed out
-abbrev pub told : Field → PassField
-told (Location bytes) = location_field bytes.now
-told (Identifier bytes) = identifier_field bytes.now
-told (Caveat bytes) = caveat_field bytes.now
-told (Signature bytes) = signature_field bytes
+-- the field that the source returns
+abbrev pub as_field : Field → PassField
+as_field (Location bytes) = location_field bytes.now
+as_field (Identifier bytes) = identifier_field bytes.now
+as_field (Caveat bytes) = caveat_field bytes.now
+as_field (Signature bytes) = signature_field bytes
 
--- A pass from fields, in whichever order: each takes its place, a caveat behind the others.
+-- A pass from fields in any order: each sets its value, and a caveat is appended to the list.
 abbrev pub with_field : Plain → PassField → Plain
 with_field pass (location_field bytes) = record pass { location = bytes }
 with_field pass (identifier_field bytes) = record pass { identifier = bytes }
@@ -59,6 +59,6 @@ with_field pass (signature_field bytes) = record pass { signature = bytes }
 abbrev pub with_fields : Plain → List PassField → Plain
 with_fields pass fields = fold with_field pass fields
 
--- a pass to which no field was added yet
+-- a pass without any field
 abbrev pub no_fields : Plain
 no_fields = record { location = []; identifier = []; caveats = []; signature = replicate 32 0 }

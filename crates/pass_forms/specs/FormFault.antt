@@ -1,4 +1,4 @@
--- What is shown of a fault (ours).
+-- The text of a fault (ours).
 use Rattle.std.specs.Prelude.{ℕ, List, codes}
 use Rattle.pass_forms.specs.declared.fault.FormFault.{FormFault}
 use Rattle.pass_forms.specs.declared.fault.FormFault.TheVariants.{TooLong, Malformed, ThirdParty, TooMany, Memory}

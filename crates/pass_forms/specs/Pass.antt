@@ -1,5 +1,5 @@
--- What a pass is: a macaroon (NDSS 2014) of first-party caveats. A wide pass is what the formats can
--- spell: its caveats may be third-party.
+-- A pass is a macaroon (NDSS 2014) of first-party caveats. A wide pass is what the formats can spell: its
+-- caveats may be third-party.
 use Rattle.std.specs.Prelude.{◌≡◌, ◌↔◌, ℕ, Bool, true, ◌||◌, List, [], Option, None, map, is_some}
 use Rattle.std.specs.List.{list_any}
 use Rattle.std.specs.Str.{bytes_eq}
@@ -33,15 +33,15 @@ has_third_party wide = list_any is_third_party wide.caveats
 abbrev pub widened_caveat : List ℕ → WideCaveat
 widened_caveat identifier = record { identifier = identifier; verifier_id = None; location = None }
 
-abbrev pub widened : Plain → WidePass
-widened pass = record {
+abbrev pub as_wide_pass : Plain → WidePass
+as_wide_pass pass = record {
   location = pass.location;
   identifier = pass.identifier;
   caveats = map widened_caveat pass.caveats;
   signature = pass.signature;
 }
 
--- the pass that is left where verifier ids and locations of caveats are
+-- the pass without the verifier ids and locations of its caveats
 abbrev pub first_party_caveat : WideCaveat → List ℕ
 first_party_caveat caveat = caveat.identifier
 
@@ -57,17 +57,17 @@ first_party wide = record {
 abbrev pub IsSigned : List ℕ → Plain → Type 0
 IsSigned root pass = pass.signature ≡ chain (derived_key root) pass.identifier pass.caveats
 
--- the same as a test
+-- the same, computed
 unfoldable pub is_signed : List ℕ → Plain → Bool
 is_signed root pass = bytes_eq (chain (derived_key root) pass.identifier pass.caveats) pass.signature
 
--- It says exactly whether the pass is signed.
-abbrev pub TellsSigned : Type 0
-TellsSigned = (root : List ℕ) (pass : Plain) → IsSigned root pass ↔ (is_signed root pass ≡ true)
+-- `is_signed` decides `IsSigned`.
+abbrev pub DecidesSigned : Type 0
+DecidesSigned = (root : List ℕ) (pass : Plain) → IsSigned root pass ↔ (is_signed root pass ≡ true)
 
 -- a new pass under a root, with no caveats yet
-abbrev pub minted : List ℕ → List ℕ → List ℕ → Plain
-minted root location identifier = record {
+abbrev pub minted_pass : List ℕ → List ℕ → List ℕ → Plain
+minted_pass root location identifier = record {
   location = location;
   identifier = identifier;
   caveats = [];

@@ -1,5 +1,5 @@
 -- V1, the packets of libmacaroons. A packet is its whole length in four lower-case hexadecimal digits, a key,
--- one space, the data and one line feed. The length rules, so data may hold any bytes.
+-- one space, the data and one line feed. The length decides where a packet ends, so data may hold any bytes.
 use Rattle.std.specs.Prelude.{◌≡◌, ℕ, ◌+◌, ◌/◌, ◌%◌, ◌^◌, ◌<◌, nat_lt, if◌then◌else◌, List, [], ◌∷◌, ◌++◌, length, Option, Some, None, IfSome, codes}
 use Rattle.std.specs.List.{flat_map, AllByRecursion}
 use Rattle.pass_forms.specs.Pass.{WideCaveat, WidePass}
@@ -8,8 +8,8 @@ use Rattle.pass_forms.specs.Pass.{WideCaveat, WidePass}
 abbrev pub hex_digit : ℕ → ℕ
 hex_digit n = if nat_lt n 10 then 48 + n else 87 + n
 
-abbrev pub four_digits : ℕ → List ℕ
-four_digits n = hex_digit (n / 4096) ∷ hex_digit (n / 256 % 16) ∷ hex_digit (n / 16 % 16) ∷ hex_digit (n % 16) ∷ []
+abbrev pub four_hex_digits : ℕ → List ℕ
+four_hex_digits n = hex_digit (n / 4096) ∷ hex_digit (n / 256 % 16) ∷ hex_digit (n / 16 % 16) ∷ hex_digit (n % 16) ∷ []
 
 -- the length of a packet: four digits, the key and its space, the data, a line feed
 abbrev pub packet_len : List ℕ → List ℕ → ℕ
@@ -17,7 +17,7 @@ packet_len key bytes = 4 + length key + length bytes + 1
 
 -- a packet; the key is written with its space
 abbrev pub packet : List ℕ → List ℕ → List ℕ
-packet key bytes = four_digits (packet_len key bytes) ++ (key ++ (bytes ++ 10 ∷ []))
+packet key bytes = four_hex_digits (packet_len key bytes) ++ (key ++ (bytes ++ 10 ∷ []))
 
 abbrev pub optional_packet : List ℕ → Option (List ℕ) → List ℕ
 optional_packet key None = []
@@ -52,7 +52,7 @@ packets_of wide =
     packet location_key wide.location ++ (packet identifier_key wide.identifier
     ++ (flat_map caveat_packets wide.caveats ++ packet signature_key wide.signature))
 
--- Four digits count below 2 ^ 16.
+-- Four digits hold a number below 2 ^ 16.
 abbrev pub FitsPacket : List ℕ → List ℕ → Type 0
 FitsPacket key bytes = packet_len key bytes < 2 ^ 16
 
@@ -61,8 +61,8 @@ pub record FitsCaveat (caveat : WideCaveat) : Type 0 where
   pub verifier_id : IfSome caveat.verifier_id (FitsPacket verifier_id_key)
   pub location : IfSome caveat.location (FitsPacket caveat_location_key)
 
--- what has packets
-pub record Fits (wide : WidePass) : Type 0 where
+-- a wide pass that can be written in packets
+pub record FitsPackets (wide : WidePass) : Type 0 where
   pub location : FitsPacket location_key wide.location
   pub identifier : FitsPacket identifier_key wide.identifier
   pub caveats : AllByRecursion FitsCaveat wide.caveats
@@ -71,4 +71,4 @@ pub record Fits (wide : WidePass) : Type 0 where
 -- The bytes are the packets of the wide pass.
 pub record SpellsV1 (bytes : List ℕ) (wide : WidePass) : Type 0 where
   pub packets : bytes ≡ packets_of wide
-  pub fits : Fits wide
+  pub fits : FitsPackets wide

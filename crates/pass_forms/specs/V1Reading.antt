@@ -1,4 +1,4 @@
--- V1 read from the front: what each part of the bytes stands for, and the bytes after it.
+-- V1, parsed from the front: each function returns a value and the bytes after it.
 use Rattle.std.specs.Prelude.{ℕ, ◌+◌, ◌-◌, ◌*◌, nat_le, ◌==◌, ◌&&◌, if◌then◌else◌, List, [], ◌∷◌, length, take, drop, Option, Some, None, Result}
 use Rattle.pass_forms.specs.declared.fault.FormFault.{FormFault}
 use Rattle.pass_forms.specs.Caveats.{whole_at}

@@ -4,7 +4,7 @@ use Rattle.std.specs.List.{flat_map}
 use Rattle.pass_forms.specs.Pass.{WideCaveat, WidePass}
 
 -- A number in seven bits a byte, the lowest first, with the top bit set on all bytes but the last. This is the
--- shortest spelling, the only one that is read (ours). At most the first number of bytes are followed by more.
+-- shortest spelling, the only one that is accepted (ours). The first argument bounds the number of bytes that are followed by more.
 unfoldable pub groups : ℕ → ℕ → List ℕ
 groups zero n = n ∷ []
 groups (suc more) n = if nat_lt n 128 then n ∷ [] else (128 + n % 128) ∷ groups more (n / 128)

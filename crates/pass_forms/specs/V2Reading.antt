@@ -1,4 +1,4 @@
--- V2 read from the front: what each part of the bytes stands for, and the bytes after it.
+-- V2, parsed from the front: each function returns a value and the bytes after it.
 use Rattle.std.specs.Prelude.{ℕ, ◌+◌, ◌-◌, ◌*◌, nat_lt, nat_le, ◌==◌, ◌&&◌, if◌then◌else◌, List, [], ◌∷◌, length, take, drop, Option, Some, None, Result}
 use Rattle.std.specs.Prelude.{unwrap_or}
 use Rattle.pass_forms.specs.declared.fault.FormFault.{FormFault}
@@ -8,7 +8,7 @@ use Rattle.pass_forms.specs.Pass.{Plain, WideCaveat, WidePass}
 use Rattle.pass_forms.specs.Reading.{reading_of}
 use Rattle.pass_forms.specs.V2.{location_type, identifier_type, verifier_id_type, signature_type, end_of_section}
 
--- the seven bits of a byte below the bits that follow, which aren't all zero
+-- seven low bits below the bits of the bytes that follow, which must not all be zero
 abbrev pub above : ℕ → Option (ℕ × List ℕ) → Option (ℕ × List ℕ)
 above low None = None
 above low (Some high) = if high.0 == 0 then None else Some (low + 128 * high.0, high.1)
@@ -19,7 +19,7 @@ varint_at (byte ∷ rest) =
     if nat_lt byte 128 then Some (byte, rest)
     else (if nat_lt byte 256 then above (byte - 128) (varint_at rest) else None)
 
--- as many bytes as the number tells
+-- as many bytes as the number says
 abbrev pub counted_at : ℕ × List ℕ → Option (List ℕ × List ℕ)
 counted_at len = if nat_le len.0 (length len.1) then Some (take len.0 len.1, drop len.0 len.1) else None
 
@@ -59,7 +59,7 @@ header_at bytes = do
   rest ← after_prefix end_of_section identifier.1
   Some (unwrap_or (optional_at location_type first).0 [], identifier.0, rest)
 
--- what follows the caveats: the end of their sections, and the signature
+-- the footer: the end of the caveats' sections, and the signature
 unfoldable pub footer_at : List ℕ → Option (List ℕ)
 footer_at bytes = do
   rest ← after_prefix end_of_section bytes

@@ -1,3 +1,5 @@
+//! The envelope of a pass text: plain JSON, or base64 of the bytes of any form.
+
 ghost use Rattle.std.specs.Prelude.{◌≡◌, ◌≤◌, Option, length, take, IfOk, IfSome};
 ghost use Rattle.std.specs.Option.{option_map, option_or};
 ghost use Rattle.base64.specs.Decode.{decoded_estimate};
@@ -8,9 +10,9 @@ ghost use Rattle.pass_forms.specs.Envelope.{
   form_of,
   from_base64,
   starts_with_brace,
-  told_unwrapping,
-  told_bytes,
-  unwrapped,
+  unwrapped_result,
+  unwrapped_bytes,
+  unwrapping,
 };
 
 use crate::fault::FormFault;
@@ -20,14 +22,14 @@ use base64::engine::general_purpose::{
 };
 use std::alloc::{AllocError, Global};
 
-/// The most bytes that a pass text has.
+/// The most bytes of a pass text.
 pub const MAX_TEXT: usize = 8192;
 
-/// The most bytes that base64 of so many characters stands for.
+/// The most bytes that base64 of `MAX_TEXT` characters can hold.
 pub const MAX_BYTES: usize = 6144;
 
-/// Where the bytes of a pass lie, and in which form they are. Where `plain` is true they are the
-/// whole text, else the first of the room. `len` is their number in both cases.
+/// Where the bytes of a pass are, and in which form. If `plain` is true they are the whole text,
+/// else the first `len` bytes of the buffer. `len` is their number in both cases.
 #[derive(Clone, Copy, Debug, PartialEq, Eq)]
 pub struct Unwrapped {
     pub form: Form,
@@ -36,39 +38,39 @@ pub struct Unwrapped {
 }
 
 impl Unwrapped {
-    /// The bytes of the pass, in the text and the room that `unwrap_text` was given. Where `len`
-    /// passes the room, they are the whole room.
-    pub fn bytes<'a>(&self, text: &'a [u8], room: &'a [u8; MAX_BYTES]) -> &'a [u8]
-        ensures { result.now ≡ told_bytes self.now text.now room.now }
+    /// The bytes of the pass, from the text and the buffer that `unwrap_text` was given. If `len`
+    /// is above the buffer's length, they are the whole buffer.
+    pub fn bytes<'a>(&self, text: &'a [u8], buffer: &'a [u8; MAX_BYTES]) -> &'a [u8]
+        ensures { result.now ≡ unwrapped_bytes self.now text.now buffer.now }
     {
         if self.plain {
             text
         } else {
-            &room[..self.len.min(MAX_BYTES)]
+            &buffer[..self.len.min(MAX_BYTES)]
         }
     }
 }
 
-/// Tells the form of a pass text and takes base64 off. A text that starts with `{` is JSON and
-/// stays where it is. Any other is base64 (RFC 4648), in the URL-safe or the standard alphabet,
-/// unpadded or padded, of bytes whose first tells the form: 2 is V2, `{` is JSON, `0` to `9` or `a`
-/// to `f` is V1. Those are written to the start of the room. What the room holds past them, or
-/// after a fault, is left open. It takes no memory.
+/// Finds the form of a pass text and decodes its base64. A text that starts with `{` is JSON and is
+/// not copied. Any other is base64 (RFC 4648), in the URL-safe or the standard alphabet, unpadded
+/// or padded. The first byte that it encodes decides the form: 2 is V2, `{` is JSON, `0` to `9` or
+/// `a` to `f` is V1. The bytes are written to the start of the buffer. The rest of the buffer is
+/// unspecified, and all of it after a fault. No memory is allocated.
 ///
 /// # Errors
 ///
-/// `TooLong` for a text of more than 8,192 bytes, else `Malformed` where it wraps nothing. No other
-/// comes.
-#[tactic(auto, unfolding(crate::specs::Envelope::unwrapped))]
-pub fn unwrap_text(text: &[u8], room: &mut [u8; MAX_BYTES]) -> Result<Unwrapped, FormFault>
-    ensures reading { IsUnwrapped text.now (told_unwrapping result text.now room.new) }
+/// `TooLong` for a text of more than 8,192 bytes, else `Malformed` if it wraps nothing. There are
+/// no other faults.
+#[tactic(auto, unfolding(crate::specs::Envelope::unwrapping))]
+pub fn unwrap_text(text: &[u8], buffer: &mut [u8; MAX_BYTES]) -> Result<Unwrapped, FormFault>
+    ensures reading { IsUnwrapped text.now (unwrapped_result result text.now buffer.new) }
     // The same, as a function of the text.
-    ensures value { told_unwrapping result text.now room.new ≡ unwrapped text.now }
+    ensures value { unwrapped_result result text.now buffer.new ≡ unwrapping text.now }
     ensures plain { IfOk result (λ unwrapping. unwrapping.plain ≡ starts_with_brace text.now) }
     ensures len { IfOk result (λ unwrapping.
-        unwrapping.len ≡ length (told_bytes unwrapping text.now room.new)) }
+        unwrapping.len ≡ length (unwrapped_bytes unwrapping text.now buffer.new)) }
     ensures short { IfOk result (λ unwrapping.
-        length (told_bytes unwrapping text.now room.new) ≤ max_text_len) }
+        length (unwrapped_bytes unwrapping text.now buffer.new) ≤ max_text_len) }
 {
     if text.len() > MAX_TEXT {
         return Err(FormFault::TooLong);
@@ -80,10 +82,10 @@ pub fn unwrap_text(text: &[u8], room: &mut [u8; MAX_BYTES]) -> Result<Unwrapped,
             len: text.len(),
         });
     }
-    let Some(len) = decode(text, room) else {
+    let Some(len) = decode(text, buffer) else {
         return Err(FormFault::Malformed);
     };
-    let Some(form) = form_of(&room[..len]) else {
+    let Some(form) = form_of(&buffer[..len]) else {
         return Err(FormFault::Malformed);
     };
     Ok(Unwrapped {
@@ -93,7 +95,7 @@ pub fn unwrap_text(text: &[u8], room: &mut [u8; MAX_BYTES]) -> Result<Unwrapped,
     })
 }
 
-// The form that bytes are in, by the first of them.
+// The form of the bytes, by the first byte.
 fn form_of(bytes: &[u8]) -> Option<Form>
     ensures { result ≡ form_of bytes.now }
 {
@@ -105,63 +107,64 @@ fn form_of(bytes: &[u8]) -> Option<Form>
     }
 }
 
-/// The bytes that a text is base64 of (RFC 4648), if it is base64 of any: in the URL-safe or the
-/// standard alphabet, unpadded or padded, with trailing bits that are zero. `from_base64_is_base64`
-/// among the laws ties this to the relation `IsBase64`.
+/// Decodes base64 (RFC 4648), or returns `None` if the text isn't base64. Either alphabet may be
+/// used, URL-safe or standard, unpadded or padded. Trailing bits must be zero. The law
+/// `from_base64_is_base64` ties this to the relation `IsBase64`.
 ///
 /// # Errors
 ///
-/// Memory was refused to the bytes.
+/// The allocation of the bytes failed.
 pub fn decode_base64(alloc: Global, text: &[u8]) -> Result<Option<Vec<u8>>, AllocError>
     ensures { IfOk result
         (λ found. option_map (λ bytes. bytes.items) found ≡ from_base64 text.now) }
 {
-    let mut room = vec![in alloc; 0; text.len().div_ceil(4) * 3]?;
-    let Some(len) = decode(text, &mut room) else {
+    let mut buffer = vec![in alloc; 0; text.len().div_ceil(4) * 3]?;
+    let Some(len) = decode(text, &mut buffer) else {
         return Ok(None);
     };
-    room.truncate(len);
-    Ok(Some(room))
+    buffer.truncate(len);
+    Ok(Some(buffer))
 }
 
-// Takes base64 off a text, into the start of the room, which holds what so long a text can stand
-// for. Answers the number of bytes.
-fn decode(text: &[u8], room: &mut [u8]) -> Option<usize>
-    requires { decoded_estimate (length text.now) ≤ length room.old }
-    ensures bytes { option_map (λ len. take len room.new) result ≡ from_base64 text.now }
-    ensures len { IfSome result (λ len. len ≤ length room.old) }
+// Decodes a text into the start of the buffer, which is long enough for it. Returns the number of
+// bytes.
+fn decode(text: &[u8], buffer: &mut [u8]) -> Option<usize>
+    requires { decoded_estimate (length text.now) ≤ length buffer.old }
+    ensures bytes { option_map (λ len. take len buffer.new) result ≡ from_base64 text.now }
+    ensures len { IfSome result (λ len. len ≤ length buffer.old) }
 {
     // Only a padded text ends in `=`.
     if text.ends_with(b"=") {
-        decode_under(&URL_SAFE, &STANDARD, text, room)
+        decode_under(&URL_SAFE, &STANDARD, text, buffer)
     } else {
-        decode_under(&URL_SAFE_NO_PAD, &STANDARD_NO_PAD, text, room)
+        decode_under(&URL_SAFE_NO_PAD, &STANDARD_NO_PAD, text, buffer)
     }
 }
 
-// The same by the first of two engines that decodes the text.
+// The same, with the first of two engines that accepts the text.
 fn decode_under(
     first: &GeneralPurpose,
     second: &GeneralPurpose,
     text: &[u8],
-    room: &mut [u8],
+    buffer: &mut [u8],
 ) -> Option<usize>
-    requires { decoded_estimate (length text.now) ≤ length room.old }
-    ensures bytes { option_map (λ len. take len room.new) result
+    requires { decoded_estimate (length text.now) ≤ length buffer.old }
+    ensures bytes { option_map (λ len. take len buffer.new) result
         ≡ option_or (decoded_of first.now text.now) (decoded_of second.now text.now) }
-    ensures len { IfSome result (λ len. len ≤ length room.old) }
+    ensures len { IfSome result (λ len. len ≤ length buffer.old) }
 {
-    if let Some(len) = decode_by(first, text, room) {
+    if let Some(len) = decode_by(first, text, buffer) {
         return Some(len);
     }
-    decode_by(second, text, room)
+    decode_by(second, text, buffer)
 }
 
-// The same by one engine.
-fn decode_by(engine: &GeneralPurpose, text: &[u8], room: &mut [u8]) -> Option<usize>
-    requires { decoded_estimate (length text.now) ≤ length room.old }
-    ensures bytes { option_map (λ len. take len room.new) result ≡ decoded_of engine.now text.now }
-    ensures len { IfSome result (λ len. len ≤ length room.old) }
+// The same, with one engine.
+fn decode_by(engine: &GeneralPurpose, text: &[u8], buffer: &mut [u8]) -> Option<usize>
+    requires { decoded_estimate (length text.now) ≤ length buffer.old }
+    ensures bytes { option_map (λ len. take len buffer.new) result
+        ≡ decoded_of engine.now text.now }
+    ensures len { IfSome result (λ len. len ≤ length buffer.old) }
 {
-    engine.decode_slice_unchecked(text, room).ok()
+    engine.decode_slice_unchecked(text, buffer).ok()
 }

@@ -1,3 +1,5 @@
+//! Why a pass can't be read or written.
+
 ghost use Rattle.std.specs.Prelude.{◌≡◌};
 ghost use Rattle.pass_forms.specs.declared.fault.FormFault.TheVariants.{Memory};
 
@@ -5,7 +7,7 @@ use std::alloc::{AllocError, AllocFailed};
 use std::error::Error;
 use std::fmt;
 
-/// Why a text is no pass, or why a pass has no text.
+/// Why a text isn't a pass, or why a pass has no text.
 #[derive(Clone, Copy, Debug, PartialEq, Eq)]
 pub enum FormFault {
     /// The text has more than 8,192 bytes.
@@ -16,7 +18,7 @@ pub enum FormFault {
     ThirdParty,
     /// There are more than 64 caveats.
     TooMany,
-    /// Memory was refused.
+    /// An allocation failed.
     Memory,
 }
 

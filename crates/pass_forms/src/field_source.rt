@@ -1,4 +1,4 @@
-//! The fields of a pass, handed out one after the other.
+//! The fields of a pass, read one after the other.
 
 ghost use Rattle.std.specs.Prelude.{◌≡◌, IfOk};
 ghost use Rattle.pass_forms.specs.FieldSource.{no_fields, with_fields};
@@ -6,12 +6,12 @@ ghost use Rattle.pass_forms.specs.FieldSource.{no_fields, with_fields};
 use crate::Pass;
 use std::alloc::{AllocError, Global};
 
-/// One field of a pass. Its bytes are a part of those that the pass is read from.
+/// One field of a pass. Its bytes are a slice of the input.
 #[derive(Clone, Copy, Debug, Drop, PartialEq, Eq)]
 pub enum Field<'a> {
-    /// A hint at where the pass is good, maybe empty.
+    /// A hint at where the pass is valid; it may be empty.
     Location(&'a [u8]),
-    /// What tells under which root the pass was signed.
+    /// Identifies the root that the pass was signed under.
     Identifier(&'a [u8]),
     /// A first-party caveat.
     Caveat(&'a [u8]),
@@ -19,27 +19,27 @@ pub enum Field<'a> {
     Signature([u8; 32]),
 }
 
-/// What hands out the fields of a pass: the location, the identifier, the caveats in their order,
-/// the signature. It takes no memory.
+/// An iterator over the fields of a pass: the location, the identifier, the caveats in order, the
+/// signature. It allocates no memory.
 pub trait FieldSource<'a> {
     ghost use Rattle.std.specs.Prelude.{◌≡◌, List, [], ◌∷◌, IfNone, IfSome};
-    ghost use Rattle.pass_forms.specs.FieldSource.{PassField, told};
+    ghost use Rattle.pass_forms.specs.FieldSource.{PassField, as_field};
 
-    // the fields still to come
+    // the fields that are left
     ghost left: { Self → List PassField };
 
-    /// Hands out the first of the fields still to come, or `None` where none is left.
+    /// Returns the next field, or `None` if none is left.
     fn next(&mut self) -> Option<Field<'a>>
-        ensures some { IfSome result (λ field. left self.old ≡ told field ∷ left self.new) }
+        ensures some { IfSome result (λ field. left self.old ≡ as_field field ∷ left self.new) }
         ensures none { IfNone result ((left self.old ≡ []) × (left self.new ≡ [])) };
 
-    /// Another source of the fields still to come, so that they can be gone over more than once. It
-    /// takes no memory either.
+    /// Another source of the fields that are left, for a second pass over them. It allocates no
+    /// memory either.
     fn again(&self) -> Self
         ensures { left result ≡ left self.now };
 }
 
-/// Copies the fields of a source into a pass, which has room for so many caveats from the start.
+/// Copies the fields of a source into a pass, with capacity for `caveat_count` caveats.
 pub fn collect<'a, S: FieldSource<'a>>(
     alloc: Global,
     caveat_count: usize,
@@ -47,7 +47,7 @@ pub fn collect<'a, S: FieldSource<'a>>(
 ) -> Result<Pass, AllocError>
     ensures { IfOk result (λ pass. pass ≡ with_fields no_fields (S.left source.old)) }
 {
-    let mut pass = Pass::with_room(alloc, caveat_count)?;
+    let mut pass = Pass::with_capacity_for(alloc, caveat_count)?;
     while let Some(field) = source.next() {
         pass.set(alloc, field)?;
     }

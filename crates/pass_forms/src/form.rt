@@ -1,3 +1,5 @@
+//! The forms of a pass text.
+
 /// The forms in which a pass is written.
 #[derive(Clone, Copy, Debug, PartialEq, Eq)]
 pub enum Form {

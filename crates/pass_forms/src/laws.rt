@@ -1,4 +1,4 @@
-//! Laws of the definitions, each the contract of a function that does nothing.
+//! Laws of the definitions. Each law is the contract of a function with an empty body.
 
 ghost use Rattle.pass_forms.specs.Envelope.{
   FromBase64IsBase64,
@@ -6,7 +6,7 @@ ghost use Rattle.pass_forms.specs.Envelope.{
   WrapsBytes,
   WrapsOne,
 };
-ghost use Rattle.pass_forms.specs.Pass.{TellsSigned};
+ghost use Rattle.pass_forms.specs.Pass.{DecidesSigned};
 ghost use Rattle.pass_forms.specs.Reading.{
   AnswersExactly,
   ComputesSpelled,
@@ -20,7 +20,7 @@ ghost use Rattle.pass_forms.specs.V2.{SpellsV2};
 ghost use Rattle.pass_forms.specs.V2Reading as v2;
 ghost use Rattle.pass_forms.specs.Writing.{NarrowedStaysSigned, TextsReadBack, WritesExactly};
 
-/// A text wraps one form and one list of bytes at most, whichever alphabet and padding it is in.
+/// A text wraps at most one form and one list of bytes, in any alphabet and padding.
 pub fn wraps_one()
     ensures { WrapsOne }
 {}
@@ -30,64 +30,63 @@ pub fn wraps_bytes()
     ensures { WrapsBytes }
 {}
 
-/// The function `from_base64` of a text is what the relation `IsBase64` says of it.
+/// The function `from_base64` computes the relation `IsBase64`.
 pub fn from_base64_is_base64()
     ensures { FromBase64IsBase64 }
 {}
 
-/// The function `unwrapped` of a text is what the relation `IsUnwrapped` says of it, in every case.
+/// The function `unwrapping` computes the relation `IsUnwrapped`, in every case.
 pub fn unwrapped_is_the_answer()
     ensures { UnwrappedIsTheAnswer }
 {}
 
-/// The bytes of V1 spell one pass at most.
+/// Bytes spell at most one pass in V1.
 pub fn one_pass_for_each_v1()
     ensures { OnePassEach SpellsV1 }
 {}
 
-/// What is computed of the bytes of V1 is what they spell.
+/// The computed pass of bytes in V1 is the one that they spell.
 pub fn computes_v1()
     ensures { ComputesSpelled SpellsV1 v1.wide_at }
 {}
 
-/// The answer to bytes of V1 is determined, and is the one that is computed.
+/// The relation allows exactly one result for bytes of V1: the computed one.
 pub fn reads_v1_exactly()
     ensures { ReadsExactly SpellsV1 v1.reading_v1 }
 {}
 
-/// The bytes of V2 spell one pass at most.
+/// Bytes spell at most one pass in V2.
 pub fn one_pass_for_each_v2()
     ensures { OnePassEach SpellsV2 }
 {}
 
-/// What is computed of the bytes of V2 is what they spell.
+/// The computed pass of bytes in V2 is the one that they spell.
 pub fn computes_v2()
     ensures { ComputesSpelled SpellsV2 v2.wide_at }
 {}
 
-/// The answer to bytes of V2 is determined, and is the one that is computed.
+/// The relation allows exactly one result for bytes of V2: the computed one.
 pub fn reads_v2_exactly()
     ensures { ReadsExactly SpellsV2 v2.reading_v2 }
 {}
 
-/// Of what is computed to be spelled, the answer is determined and is the one that is computed,
-/// whatever the form.
+/// The same for any form, if the pass that bytes spell in it is computed.
 pub fn answers_exactly()
     ensures { AnswersExactly }
 {}
 
-/// The answer to a text is determined and is the one that is computed, whatever bytes spell in each
-/// form.
+/// The relation allows exactly one result for a text: the computed one. The spelling of each form
+/// is a parameter.
 pub fn reads_texts_exactly()
     ensures { ReadsTextsExactly }
 {}
 
-/// The text that is computed of a pass is the one that may be written of it.
+/// The computed text of a pass is the only one that a writer may write.
 pub fn writes_exactly()
     ensures { WritesExactly }
 {}
 
-/// The text that is written of a pass, in either form, is read back as that form and that pass.
+/// A text that is written in V1 or V2 is read back as the same form and the same pass.
 pub fn texts_read_back()
     ensures { TextsReadBack }
 {}
@@ -97,7 +96,7 @@ pub fn narrowed_stays_signed()
     ensures { NarrowedStaysSigned }
 {}
 
-/// A pass is signed under a root exactly where the function `is_signed` of both says so.
-pub fn tells_signed()
-    ensures { TellsSigned }
+/// The function `is_signed` decides whether a pass is signed under a root.
+pub fn decides_signed()
+    ensures { DecidesSigned }
 {}

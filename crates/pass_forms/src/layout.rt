@@ -1,21 +1,21 @@
-//! What the readers of packets and of the binary form share: a pass is gone over whole, which finds
-//! each fault, and its fields are handed out then. Nothing here takes memory.
+//! The common part of both readers. A first scan over the whole pass finds each fault; its fields
+//! are read afterwards. Nothing here allocates memory.
 
 ghost use Rattle.std.specs.Prelude.{◌≡◌, [], ◌∷◌, Option, option_map, length, IfNone, IfSome};
 ghost use Rattle.pass_forms.specs.Caveats.{
   caveats_at,
-  gone_over,
+  scan_summary,
   identifiers_in,
   to_come,
   whole_at,
   Counts,
 };
-ghost use Rattle.pass_forms.specs.FieldSource.{opened, opened_by, told};
+ghost use Rattle.pass_forms.specs.FieldSource.{opening_of, opening_by, as_field};
 ghost use Rattle.pass_forms.specs.Reading.{reading_of};
 
 use crate::{Field, FormFault, MAX_CAVEATS, MAX_TEXT};
 
-/// The header at the front of some bytes, and what follows it.
+/// The header at the front of some bytes, and the bytes after it.
 #[derive(Drop)]
 pub struct Header<'a> {
     pub location: &'a [u8],
@@ -23,7 +23,7 @@ pub struct Header<'a> {
     pub rest: &'a [u8],
 }
 
-/// The caveat at the front of some bytes, and what follows it.
+/// The caveat at the front of some bytes, and the bytes after it.
 #[derive(Drop)]
 pub struct Caveat<'a> {
     pub identifier: &'a [u8],
@@ -31,14 +31,14 @@ pub struct Caveat<'a> {
     pub rest: &'a [u8],
 }
 
-/// So many caveats at the front of some bytes.
+/// `count` caveats at the front of some bytes.
 #[derive(Clone, Copy)]
 pub struct Caveats<'a> {
     pub count: usize,
     pub bytes: &'a [u8],
 }
 
-/// The fields of a pass that are still to come. Those that were handed out are gone.
+/// The fields of a pass that are left. Fields that were returned are `None`.
 #[derive(Clone, Copy)]
 pub struct Walk<'a> {
     pub location: Option<&'a [u8]>,
@@ -47,9 +47,9 @@ pub struct Walk<'a> {
     pub signature: Option<[u8; 32]>,
 }
 
-// What was learned of bytes by going over them.
+// The result of a scan over the bytes.
 #[derive(Drop)]
-struct GoneOver<'a> {
+struct ScanResult<'a> {
     fields: Walk<'a>,
     third_party: bool,
 }
@@ -57,7 +57,7 @@ struct GoneOver<'a> {
 /// How a pass is laid out as bytes: a header, the caveats, and a footer that holds the signature.
 pub trait Layout {
     ghost use Rattle.std.specs.Prelude.{◌≡◌, ℕ, List, Option, option_map};
-    ghost use Rattle.pass_forms.specs.Caveats.{seen};
+    ghost use Rattle.pass_forms.specs.Caveats.{summary};
     ghost use Rattle.pass_forms.specs.Pass.{WideCaveat};
 
     // the location, the identifier, and the bytes after them
@@ -79,14 +79,14 @@ pub trait Layout {
     fn first_caveat(bytes: &[u8]) -> Option<Caveat<'_>>
         ensures { option_map (λ found.
             (found.identifier.now, found.third_party, found.rest.now)) result
-            ≡ option_map seen (caveat_at bytes.now) };
+            ≡ option_map summary (caveat_at bytes.now) };
 
-    /// The signature, where the bytes are a footer.
+    /// The signature, if the bytes are a footer.
     fn footer(bytes: &[u8]) -> Option<[u8; 32]>
         ensures { result ≡ footer_at bytes.now };
 }
 
-// How many caveats follow one another, whether any is a third party's, and what follows them.
+// The number of caveats, whether any is a third party's, and the bytes after them.
 #[derive(Drop)]
 struct Skipped<'a> {
     count: usize,
@@ -94,7 +94,7 @@ struct Skipped<'a> {
     rest: &'a [u8],
 }
 
-// Goes over the caveats at the front.
+// Scans the caveats at the front.
 fn skip_caveats<L: Layout>(bytes: &[u8]) -> Skipped<'_>
     ensures { Counts result.count result.third_party result.rest.now
         (caveats_at L.caveat_at (length bytes.now) bytes.now) }
@@ -115,17 +115,17 @@ fn skip_caveats<L: Layout>(bytes: &[u8]) -> Skipped<'_>
     skipped
 }
 
-// Goes over a whole pass.
+// Scans a whole pass.
 #[tactic(auto, unfolding(crate::specs::Caveats::to_come, crate::specs::Caveats::whole_at))]
-fn go_over<L: Layout>(bytes: &[u8]) -> Option<GoneOver<'_>>
+fn scan_pass<L: Layout>(bytes: &[u8]) -> Option<ScanResult<'_>>
     ensures { option_map (λ pass.
         (to_come L.caveat_at pass.fields, pass.fields.caveats.count, pass.third_party)) result
-        ≡ option_map gone_over (whole_at L.header_at L.caveat_at L.footer_at bytes.now) }
+        ≡ option_map scan_summary (whole_at L.header_at L.caveat_at L.footer_at bytes.now) }
 {
     let header = L::first_header(bytes)?;
     let skipped = skip_caveats::<L>(header.rest);
     let signature = L::footer(skipped.rest)?;
-    Some(GoneOver {
+    Some(ScanResult {
         fields: Walk {
             location: Some(header.location),
             identifier: Some(header.identifier),
@@ -139,17 +139,17 @@ fn go_over<L: Layout>(bytes: &[u8]) -> Option<GoneOver<'_>>
     })
 }
 
-/// The fields of the pass that the bytes spell in this layout, or the first fault that fits. All of
-/// the bytes are gone over before the first field is handed out.
+/// The fields of the pass that the bytes spell in this layout, or the first fault that applies. It
+/// scans all of the bytes before the first field is returned.
 pub fn open<L: Layout>(bytes: &[u8]) -> Result<Walk<'_>, FormFault>
-    ensures { opened_by (to_come L.caveat_at) result
-        ≡ opened (reading_of (length bytes.now)
+    ensures { opening_by (to_come L.caveat_at) result
+        ≡ opening_of (reading_of (length bytes.now)
         (whole_at L.header_at L.caveat_at L.footer_at bytes.now)) }
 {
     if bytes.len() > MAX_TEXT {
         return Err(FormFault::TooLong);
     }
-    let Some(pass) = go_over::<L>(bytes) else {
+    let Some(pass) = scan_pass::<L>(bytes) else {
         return Err(FormFault::Malformed);
     };
     if pass.third_party {
@@ -162,7 +162,7 @@ pub fn open<L: Layout>(bytes: &[u8]) -> Result<Walk<'_>, FormFault>
 }
 
 impl<'a> Caveats<'a> {
-    // The identifier of the first caveat, which is taken off.
+    // Removes the first caveat and returns its identifier.
     fn next<L: Layout>(&mut self) -> Option<&'a [u8]>
         ensures some { IfSome result
             (λ caveat. identifiers_in L.caveat_at self.old ≡ caveat.now
@@ -179,11 +179,12 @@ impl<'a> Caveats<'a> {
 }
 
 impl<'a> Walk<'a> {
-    /// Hands out the first of the fields still to come, or `None` where none is left.
+    /// Returns the next field, or `None` if none is left.
     #[tactic(auto, unfolding(crate::specs::Caveats::to_come))]
     pub fn next<L: Layout>(&mut self) -> Option<Field<'a>>
         ensures some { IfSome result
-            (λ field. to_come L.caveat_at self.old ≡ told field ∷ to_come L.caveat_at self.new) }
+            (λ field. to_come L.caveat_at self.old ≡ as_field field
+            ∷ to_come L.caveat_at self.new) }
         ensures none { IfNone result
             ((to_come L.caveat_at self.old ≡ []) × (to_come L.caveat_at self.new ≡ [])) }
     {

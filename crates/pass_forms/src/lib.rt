@@ -1,6 +1,6 @@
-//! Passes, which are macaroons of first-party caveats: as bytes in libmacaroons' packets (V1) and
-//! in its binary form (V2), read field by field or whole, written and narrowed; and the envelope
-//! that carries each form as a text.
+//! Passes, which are macaroons of first-party caveats. The crate reads them field by field or
+//! whole, from libmacaroons' packets (V1) and its binary form (V2), and writes and narrows them.
+//! The envelope carries each form as a text.
 #![tactic(auto)]
 
 mod envelope;

@@ -1,3 +1,5 @@
+//! A pass in memory: minted, narrowed, and checked against a root.
+
 ghost use Rattle.std.specs.Prelude.{◌≡◌, ◌↔◌, ◌≤◌, ℕ, List, Err, IfErr, OnErr, OnOk, length, map};
 ghost use Rattle.pass_mac.specs.Chain.{chain, derived_key};
 ghost use Rattle.pass_forms.specs.declared.fault.FormFault.TheVariants.{Memory, TooMany};
@@ -22,10 +24,10 @@ pub struct Pass {
     signature: [u8; 32],
 }
 
-/// The values of a pass, each with its name, as `Pass::into_parts` gives them back.
+/// The values of a pass, as `Pass::into_parts` returns them.
 #[derive(Drop)]
 pub struct PassParts {
-    /// A hint at where the pass is good.
+    /// A hint at where the pass is valid.
     pub location: Vec<u8>,
     /// The identifier, which the signature covers.
     pub identifier: Vec<u8>,
@@ -53,10 +55,10 @@ impl Model for Pass {
 
 impl Pass {
     ghost use Rattle.std.specs.Prelude.{◌≡◌, ◌↔◌, length, map, IfOk, IsTrue, OnOk};
-    ghost use Rattle.pass_forms.specs.FieldSource.{no_fields, told, with_field};
-    ghost use Rattle.pass_forms.specs.Pass.{IsSigned, is_signed, minted};
+    ghost use Rattle.pass_forms.specs.FieldSource.{no_fields, as_field, with_field};
+    ghost use Rattle.pass_forms.specs.Pass.{IsSigned, is_signed, minted_pass};
 
-    /// A pass of these parts; nothing is tested.
+    /// A pass of these parts, without any check.
     pub fn new(
         location: Vec<u8>,
         identifier: Vec<u8>,
@@ -82,14 +84,14 @@ impl Pass {
     ///
     /// # Errors
     ///
-    /// Memory was refused to a copy of a field.
+    /// The allocation of a copy of a field failed.
     pub fn mint(
         alloc: Global,
         root: &[u8],
         location: &[u8],
         identifier: &[u8],
     ) -> Result<Pass, AllocError>
-        ensures ok { IfOk result (λ pass. pass ≡ minted root.now location.now identifier.now) }
+        ensures ok { IfOk result (λ pass. pass ≡ minted_pass root.now location.now identifier.now) }
         ensures signed { IfOk result (IsSigned root.now) }
     {
         let signature = Chain::start(root, identifier).signature();
@@ -98,8 +100,8 @@ impl Pass {
         Ok(Pass::new(location, identifier, Vec::new(alloc), signature))
     }
 
-    // A pass without fields, with room for so many caveats.
-    pub(crate) fn with_room(alloc: Global, caveat_count: usize) -> Result<Pass, AllocError>
+    // An empty pass, with capacity for `caveat_count` caveats.
+    pub(crate) fn with_capacity_for(alloc: Global, caveat_count: usize) -> Result<Pass, AllocError>
         ensures { IfOk result (λ pass. pass ≡ no_fields) }
     {
         Ok(Pass {
@@ -110,9 +112,9 @@ impl Pass {
         })
     }
 
-    // Copies a field to its place, a caveat behind the others.
+    // Copies a field to its place. A caveat goes to the end of the list.
     pub(crate) fn set(&mut self, alloc: Global, field: Field) -> Result<(), AllocError>
-        ensures { OnOk result (self.new ≡ with_field self.old (told field.entry)) }
+        ensures { OnOk result (self.new ≡ with_field self.old (as_field field.entry)) }
     {
         match field {
             Field::Location(bytes) => self.location = Vec::from_slice(alloc, bytes)?,
@@ -123,7 +125,7 @@ impl Pass {
         Ok(())
     }
 
-    /// The values that the pass is made of, without a copy: no memory is taken.
+    /// The values of the pass, without a copy. No memory is allocated.
     pub fn into_parts(self) -> PassParts
         ensures location { result.location.items ≡ self.location }
         ensures identifier { result.identifier.items ≡ self.identifier }
@@ -144,14 +146,14 @@ impl Pass {
         }
     }
 
-    /// A hint at where the pass is good. It isn't signed.
+    /// A hint at where the pass is valid. It isn't signed.
     pub fn location(&self) -> &[u8]
         ensures { result.now ≡ self.now.location }
     {
         self.location.as_slice()
     }
 
-    /// The identifier, which tells the desk under which root the pass was signed.
+    /// The identifier, by which the desk finds the root that the pass was signed under.
     pub fn identifier(&self) -> &[u8]
         ensures { result.now ≡ self.now.identifier }
     {
@@ -174,7 +176,7 @@ impl Pass {
     }
 
     /// Whether the signature is that of the identifier and the caveats under this root, of any
-    /// length. No memory is taken.
+    /// length. No memory is allocated.
     #[tactic(auto, unfolding(crate::specs::Pass::is_signed))]
     pub fn is_signed(&self, root: &[u8]) -> bool
         ensures signed { IsTrue result ↔ IsSigned root.now self.now }
@@ -197,13 +199,13 @@ fn signature_under(root: &[u8], identifier: &[u8], caveats: &[Vec<u8>]) -> [u8; 
     chain.signature()
 }
 
-/// Adds a caveat to a pass, and signs it without the root: the signature is one more HMAC, under
-/// the signature so far.
+/// Adds a caveat to a pass and signs it without the root: the new signature is the caveat's HMAC,
+/// with the old signature as the key.
 ///
 /// # Errors
 ///
-/// `TooMany` for a pass of 64 caveats or more. `Memory` comes only where memory was refused. The
-/// pass stays as it was then.
+/// `TooMany` for a pass of 64 caveats or more. `Memory` only if an allocation fails. The pass is
+/// unchanged then.
 pub fn narrow(alloc: Global, pass: &mut Pass, caveat: &[u8]) -> Result<(), FormFault>
     ensures ok { OnOk result (pass.new ≡ with_caveat caveat.now pass.old) }
     ensures signed { OnOk result

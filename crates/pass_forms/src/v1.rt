@@ -1,5 +1,7 @@
+//! The reader of V1, libmacaroons' packets.
+
 ghost use Rattle.std.specs.Prelude.{◌≡◌, length, option_map, is_some};
-ghost use Rattle.pass_forms.specs.Reading.{IsReading, OrOutOfMemory};
+ghost use Rattle.pass_forms.specs.Reading.{IsReadAs, OrOutOfMemory};
 ghost use Rattle.pass_forms.specs.V1.{SpellsV1};
 ghost use Rattle.pass_forms.specs.V1Reading as reading;
 
@@ -35,7 +37,7 @@ fn digit_value(byte: u8) -> Option<u8>
     }
 }
 
-// The length that a packet at the front tells.
+// The length in the four digits at the front.
 fn packet_len(bytes: &[u8]) -> Option<usize>
     ensures { result ≡ reading.len_at bytes.now }
 {
@@ -49,8 +51,8 @@ fn packet_len(bytes: &[u8]) -> Option<usize>
     Some(a * 4096 + b * 256 + c * 16 + d)
 }
 
-// The data of the packet of this key at the front, and what follows it. Inlined, so that a key,
-// which is known where it is called, is compared at once.
+// The data of the packet of this key at the front, and the bytes after it. Inlined, so that the
+// comparison uses the caller's constant key.
 #[inline(always)]
 #[tactic(auto, unfolding(crate::specs::V1Reading::packet_at))]
 fn first_packet<'a>(key: &[u8], bytes: &'a [u8]) -> Option<(&'a [u8], &'a [u8])>
@@ -60,7 +62,7 @@ fn first_packet<'a>(key: &[u8], bytes: &'a [u8]) -> Option<(&'a [u8], &'a [u8])>
     if bytes.len() < LEN_DIGITS {
         return None;
     }
-    // Most packets are of another key, which is seen before the length is read.
+    // Most packets have another key. This test comes before the length is parsed.
     let body = after_prefix(key, &bytes[LEN_DIGITS..])?;
     let len = packet_len(bytes)?;
     let body_len = len.checked_sub(LEN_DIGITS)?.checked_sub(key.len())?;
@@ -71,7 +73,7 @@ fn first_packet<'a>(key: &[u8], bytes: &'a [u8]) -> Option<(&'a [u8], &'a [u8])>
     Some((text, &bytes[len..]))
 }
 
-// The same for a packet that may be left out: nothing is taken off where there is none.
+// The same for an optional packet: without it, the bytes are returned unchanged.
 #[inline(always)]
 fn optional_packet<'a>(key: &[u8], bytes: &'a [u8]) -> (bool, &'a [u8])
     ensures { (is_some (reading.optional_at key.now bytes.now).0 ≡ result.0)
@@ -128,8 +130,8 @@ impl Layout for Packets {
     }
 }
 
-/// The fields of the pass that the packets of V1 spell. Contracts see them as the list of those
-/// still to come.
+/// The fields of the pass that the packets of V1 spell. Contracts see them as the list of the
+/// fields that are left.
 #[derive(Drop)]
 pub struct V1Fields<'a> {
     walk: Walk<'a>,
@@ -149,25 +151,24 @@ impl<'a> Model for V1Fields<'a> {
 
 impl<'a> V1Fields<'a> {
     ghost use Rattle.std.specs.Prelude.{◌≡◌, length};
-    ghost use Rattle.pass_forms.specs.FieldSource.{IsOpening, opened};
-    ghost use Rattle.pass_forms.specs.Reading.{IsReading};
+    ghost use Rattle.pass_forms.specs.FieldSource.{IsOpening, opening_of};
+    ghost use Rattle.pass_forms.specs.Reading.{IsReadAs};
     ghost use Rattle.pass_forms.specs.V1.{SpellsV1};
     ghost use Rattle.pass_forms.specs.V1Reading.{reading_v1};
 
-    /// Checks the packets of V1, all of the bytes, before it hands out the first field. They are
-    /// libmacaroons' packets, without base64. It takes no memory: each field is a part of the
-    /// bytes.
+    /// Checks all of the bytes before the first field is returned. They are libmacaroons' packets,
+    /// without base64. No memory is allocated: each field is a slice of the bytes.
     ///
     /// # Errors
     ///
-    /// The first that fits: `TooLong` for more than 8,192 bytes, `Malformed` where no pass is
-    /// spelled, `ThirdParty` where a caveat is a third party's, `TooMany` for more than 64 caveats.
+    /// The first that applies: `TooLong` for more than 8,192 bytes, `Malformed` if the bytes spell
+    /// no pass, `ThirdParty` if a caveat is a third party's, `TooMany` for more than 64 caveats.
     #[tactic(auto, unfolding(crate::specs::V1Reading::reading_v1))]
     pub fn open(bytes: &'a [u8]) -> Result<V1Fields<'a>, FormFault>
-        // By what the bytes spell.
-        ensures spelled { IsOpening (IsReading (length bytes.now) (SpellsV1 bytes.now)) result }
+        // The fields of the pass that the bytes spell.
+        ensures spelling { IsOpening (IsReadAs (length bytes.now) (SpellsV1 bytes.now)) result }
         // The same, computed.
-        ensures computed { result ≡ opened (reading_v1 bytes.now) }
+        ensures computed { result ≡ opening_of (reading_v1 bytes.now) }
     {
         let walk = layout::open::<Packets>(bytes)?;
         Ok(V1Fields { walk })
@@ -186,17 +187,16 @@ impl<'a> FieldSource<'a> for V1Fields<'a> {
     }
 }
 
-/// The pass that the packets of V1 spell, all of the bytes. They are libmacaroons' packets, without
-/// base64.
+/// Reads a pass from V1: all of the bytes, libmacaroons' packets without base64.
 ///
 /// # Errors
 ///
-/// The first that fits: `TooLong` for more than 8,192 bytes, `Malformed` where no pass is spelled,
-/// `ThirdParty` where a caveat is a third party's, `TooMany` for more than 64 caveats. `Memory`
-/// comes only for a pass that would have been read.
+/// The first that applies: `TooLong` for more than 8,192 bytes, `Malformed` if the bytes spell no
+/// pass, `ThirdParty` if a caveat is a third party's, `TooMany` for more than 64 caveats. `Memory`
+/// only for a pass that passed all checks.
 pub fn read_v1(alloc: Global, bytes: &[u8]) -> Result<Pass, FormFault>
-    // By what the bytes spell.
-    ensures spelled { OrOutOfMemory (IsReading (length bytes.now) (SpellsV1 bytes.now)) result }
+    // The pass that the bytes spell.
+    ensures spelling { OrOutOfMemory (IsReadAs (length bytes.now) (SpellsV1 bytes.now)) result }
     // The same, computed.
     ensures computed { OrOutOfMemory (λ answer. reading.reading_v1 bytes.now ≡ answer) result }
 {

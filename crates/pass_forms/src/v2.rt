@@ -1,3 +1,5 @@
+//! The reader of V2, libmacaroons' binary form.
+
 ghost use Rattle.std.specs.Prelude.{
   ◌≡◌,
   ℕ,
@@ -11,7 +13,7 @@ ghost use Rattle.std.specs.Prelude.{
   is_some,
   MatchOption,
 };
-ghost use Rattle.pass_forms.specs.Reading.{IsReading, OrOutOfMemory};
+ghost use Rattle.pass_forms.specs.Reading.{IsReadAs, OrOutOfMemory};
 ghost use Rattle.pass_forms.specs.V2.{SpellsV2};
 ghost use Rattle.pass_forms.specs.V2Reading as reading;
 
@@ -34,8 +36,7 @@ pub const SIGNATURE: u8 = 6;
 
 pub const END_OF_SECTION: &[u8] = &[0];
 
-// The number at the front, where it is at most so large. Each byte has seven bits of it, the lowest
-// first.
+// The varint at the front, if it is at most `most`. Each byte holds seven bits, the lowest first.
 fn varint_up_to(most: usize, bytes: &[u8]) -> Option<(usize, &[u8])>
     ensures { MatchOption result
         ((n : ℕ) (rest : List ℕ) → reading.varint_at bytes.now ≡ Some (n, rest) → most < n)
@@ -60,7 +61,7 @@ fn varint_up_to(most: usize, bytes: &[u8]) -> Option<(usize, &[u8])>
     Some((number + (low - 128), rest))
 }
 
-// The bytes of the field of this type at the front, and what follows it.
+// The data of the field of this type at the front, and the bytes after it.
 #[tactic(auto, unfolding(crate::specs::V2Reading::field_at))]
 fn first_field<'a>(kind: u8, bytes: &'a [u8]) -> Option<(&'a [u8], &'a [u8])>
     ensures { option_map (λ found. (found.0.now, found.1.now)) result
@@ -75,7 +76,7 @@ fn first_field<'a>(kind: u8, bytes: &'a [u8]) -> Option<(&'a [u8], &'a [u8])>
     Some((field, rest))
 }
 
-// The same for a field that may be left out: nothing is taken off where there is none.
+// The same for an optional field: without it, the bytes are returned unchanged.
 fn optional_field<'a>(kind: u8, bytes: &'a [u8]) -> (Option<&'a [u8]>, &'a [u8])
     ensures { (option_map (λ field. field.now) result.0, result.1.now)
         ≡ reading.optional_at kind bytes.now }
@@ -142,8 +143,8 @@ impl Layout for Sections {
     }
 }
 
-/// The fields of the pass that the bytes of V2 spell. Contracts see them as the list of those still
-/// to come.
+/// The fields of the pass that the bytes of V2 spell. Contracts see them as the list of the fields
+/// that are left.
 #[derive(Drop)]
 pub struct V2Fields<'a> {
     walk: Walk<'a>,
@@ -163,25 +164,25 @@ impl<'a> Model for V2Fields<'a> {
 
 impl<'a> V2Fields<'a> {
     ghost use Rattle.std.specs.Prelude.{◌≡◌, length};
-    ghost use Rattle.pass_forms.specs.FieldSource.{IsOpening, opened};
-    ghost use Rattle.pass_forms.specs.Reading.{IsReading};
+    ghost use Rattle.pass_forms.specs.FieldSource.{IsOpening, opening_of};
+    ghost use Rattle.pass_forms.specs.Reading.{IsReadAs};
     ghost use Rattle.pass_forms.specs.V2.{SpellsV2};
     ghost use Rattle.pass_forms.specs.V2Reading.{reading_v2};
 
-    /// Checks the bytes of V2, all of them, before it hands out the first field. They are
-    /// libmacaroons' binary form, without base64. Each number has its one shortest spelling (ours).
-    /// It takes no memory: each field is a part of the bytes.
+    /// Checks all of the bytes before the first field is returned. They are libmacaroons' binary
+    /// form, without base64. Each number must have its shortest spelling (ours). No memory is
+    /// allocated: each field is a slice of the bytes.
     ///
     /// # Errors
     ///
-    /// The first that fits: `TooLong` for more than 8,192 bytes, `Malformed` where no pass is
-    /// spelled, `ThirdParty` where a caveat is a third party's, `TooMany` for more than 64 caveats.
+    /// The first that applies: `TooLong` for more than 8,192 bytes, `Malformed` if the bytes spell
+    /// no pass, `ThirdParty` if a caveat is a third party's, `TooMany` for more than 64 caveats.
     #[tactic(auto, unfolding(crate::specs::V2Reading::reading_v2))]
     pub fn open(bytes: &'a [u8]) -> Result<V2Fields<'a>, FormFault>
-        // By what the bytes spell.
-        ensures spelled { IsOpening (IsReading (length bytes.now) (SpellsV2 bytes.now)) result }
+        // The fields of the pass that the bytes spell.
+        ensures spelling { IsOpening (IsReadAs (length bytes.now) (SpellsV2 bytes.now)) result }
         // The same, computed.
-        ensures computed { result ≡ opened (reading_v2 bytes.now) }
+        ensures computed { result ≡ opening_of (reading_v2 bytes.now) }
     {
         let walk = layout::open::<Sections>(bytes)?;
         Ok(V2Fields { walk })
@@ -200,17 +201,17 @@ impl<'a> FieldSource<'a> for V2Fields<'a> {
     }
 }
 
-/// The pass that the bytes of V2 spell, all of the bytes. They are libmacaroons' binary form,
-/// without base64. Each number has its one shortest spelling (ours).
+/// Reads a pass from V2: all of the bytes, libmacaroons' binary form without base64. Each number
+/// must have its shortest spelling (ours).
 ///
 /// # Errors
 ///
-/// The first that fits: `TooLong` for more than 8,192 bytes, `Malformed` where no pass is spelled,
-/// `ThirdParty` where a caveat is a third party's, `TooMany` for more than 64 caveats. `Memory`
-/// comes only for a pass that would have been read.
+/// The first that applies: `TooLong` for more than 8,192 bytes, `Malformed` if the bytes spell no
+/// pass, `ThirdParty` if a caveat is a third party's, `TooMany` for more than 64 caveats. `Memory`
+/// only for a pass that passed all checks.
 pub fn read_v2(alloc: Global, bytes: &[u8]) -> Result<Pass, FormFault>
-    // By what the bytes spell.
-    ensures spelled { OrOutOfMemory (IsReading (length bytes.now) (SpellsV2 bytes.now)) result }
+    // The pass that the bytes spell.
+    ensures spelling { OrOutOfMemory (IsReadAs (length bytes.now) (SpellsV2 bytes.now)) result }
     // The same, computed.
     ensures computed { OrOutOfMemory (λ answer. reading.reading_v2 bytes.now ≡ answer) result }
 {

@@ -10,10 +10,10 @@ ghost use Rattle.pass_forms.specs.V2Reading.{reading_v2};
 ghost use Rattle.pass_forms.specs.Writing.{
   FailsAs,
   IsReadBack,
-  IsRefused,
+  IsWriteFault,
   IsV1Text,
   IsV2Text,
-  IsWritten,
+  IsWritableText,
   in_base64,
   v1_bytes,
   v2_bytes,
@@ -25,14 +25,14 @@ use crate::v1::Packets;
 use crate::v2::Sections;
 use crate::{FormFault, MAX_CAVEATS, Pass};
 use base64::engine::general_purpose::URL_SAFE_NO_PAD;
-use room::Room;
+use buffer::Buffer;
 use std::alloc::{AllocError, Global};
 
+mod buffer;
 mod packets;
-mod room;
 mod sections;
 
-/// How the bytes of a pass are put.
+/// How the bytes of a pass are written in one layout.
 trait PutLayout {
     ghost use Rattle.std.specs.Prelude.{◌≡◌, ℕ, List, OnOk, length};
     ghost use Rattle.pass_forms.specs.Pass.{Plain};
@@ -41,9 +41,9 @@ trait PutLayout {
     // the bytes of a pass
     ghost bytes_of: { Plain → List ℕ };
 
-    /// Puts a pass.
-    fn put_pass(room: &mut Room, pass: &Pass) -> Result<(), FormFault>
-        ensures bytes { Puts (bytes_of pass.now) room.old room.new result }
+    /// Appends the bytes of a pass to the buffer.
+    fn put_pass(buffer: &mut Buffer, pass: &Pass) -> Result<(), FormFault>
+        ensures bytes { Puts (bytes_of pass.now) buffer.old buffer.new result }
         ensures signature { OnOk result (length pass.now.signature ≡ 32) };
 }
 
@@ -52,14 +52,14 @@ trait PutLayout {
 ///
 /// # Errors
 ///
-/// `TooMany` for more than 64 caveats, else `TooLong` where the pass has no such text of at most
-/// 8,192 bytes. `Memory` comes only where memory was refused to a text.
+/// `TooMany` for more than 64 caveats, else `TooLong` if the pass has no such text of at most 8,192
+/// bytes. `Memory` only if the allocation of the text fails.
 pub fn write_v1(alloc: Global, pass: &Pass) -> Result<String, FormFault>
-    ensures ok { IfOk result (λ text. IsWritten IsV1Text pass.now (string_bytes text)) }
-    ensures err { IfErr result (IsRefused IsV1Text pass.now) }
+    ensures ok { IfOk result (λ text. IsWritableText IsV1Text pass.now (string_bytes text)) }
+    ensures err { IfErr result (IsWriteFault IsV1Text pass.now) }
     ensures read_back { IfOk result
         (λ text. IsReadBack reading_v1 V1 (v1_bytes pass.now) pass.now (string_bytes text)) }
-    // By what is computed of the pass.
+    // The same, computed from the pass.
     ensures computed { MatchResult result (λ text. writing_v1 pass.now ≡ Ok (string_bytes text))
         (FailsAs (writing_v1 pass.now)) }
 {
@@ -71,21 +71,21 @@ pub fn write_v1(alloc: Global, pass: &Pass) -> Result<String, FormFault>
 ///
 /// # Errors
 ///
-/// `TooMany` for more than 64 caveats, else `TooLong` where the pass has no such text of at most
-/// 8,192 bytes. `Memory` comes only where memory was refused to a text.
+/// `TooMany` for more than 64 caveats, else `TooLong` if the pass has no such text of at most 8,192
+/// bytes. `Memory` only if the allocation of the text fails.
 pub fn write_v2(alloc: Global, pass: &Pass) -> Result<String, FormFault>
-    ensures ok { IfOk result (λ text. IsWritten IsV2Text pass.now (string_bytes text)) }
-    ensures err { IfErr result (IsRefused IsV2Text pass.now) }
+    ensures ok { IfOk result (λ text. IsWritableText IsV2Text pass.now (string_bytes text)) }
+    ensures err { IfErr result (IsWriteFault IsV2Text pass.now) }
     ensures read_back { IfOk result
         (λ text. IsReadBack reading_v2 V2 (v2_bytes pass.now) pass.now (string_bytes text)) }
-    // By what is computed of the pass.
+    // The same, computed from the pass.
     ensures computed { MatchResult result (λ text. writing_v2 pass.now ≡ Ok (string_bytes text))
         (FailsAs (writing_v2 pass.now)) }
 {
     write_in::<Sections>(alloc, pass)
 }
 
-// The text of a pass in this layout, or the first fault that fits.
+// The text of a pass in this layout, or the first fault that applies.
 fn write_in<L: PutLayout>(alloc: Global, pass: &Pass) -> Result<String, FormFault>
     ensures ok { IfOk result
         (λ text. WritesBytes (L.bytes_of pass.now) pass.now (string_bytes text)) }
@@ -94,12 +94,12 @@ fn write_in<L: PutLayout>(alloc: Global, pass: &Pass) -> Result<String, FormFaul
     if pass.caveats().len() > MAX_CAVEATS {
         return Err(FormFault::TooMany);
     }
-    let mut room = Room::new();
-    L::put_pass(&mut room, pass)?;
-    Ok(text_of(alloc, room.as_slice())?)
+    let mut buffer = Buffer::new();
+    L::put_pass(&mut buffer, pass)?;
+    Ok(text_of(alloc, buffer.as_slice())?)
 }
 
-// Bytes that were put, in base64.
+// The base64 text of the buffer's bytes.
 fn text_of(alloc: Global, bytes: &[u8]) -> Result<String, AllocError>
     ensures text { IfOk result (λ text. string_bytes text ≡ in_base64 bytes.now) }
     ensures bytes { IsBytes bytes.now }

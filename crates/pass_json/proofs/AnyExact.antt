@@ -11,7 +11,7 @@ use Rattle.pass_forms.specs.V1.{SpellsV1}
 use Rattle.pass_forms.specs.V1Reading as v1
 use Rattle.pass_forms.specs.V2.{SpellsV2}
 use Rattle.pass_forms.specs.V2Reading as v2
-use Rattle.pass_json.specs.AnyForm.{Spells, IsAnyReading, reading, wide_in}
+use Rattle.pass_json.specs.AnyForm.{SpellsForm, IsAnyReading, reading, wide_in}
 use Rattle.pass_json.specs.Json.{SpellsJson}
 use Rattle.pass_json.specs.JsonReading.{wide_json}
 use Rattle.pass_json.proofs.SameReading.{same_answer}
@@ -40,7 +40,7 @@ Computed form bytes wide = wide_in form bytes ≡ Some wide
 -- by the laws of each form, and of texts
 module _ (packets : ComputesSpelled SpellsV1 v1.wide_at) (sections : ComputesSpelled SpellsV2 v2.wide_at)
     (json : ComputesSpelled SpellsJson wide_json) (texts : ReadsTextsExactly) where
-  in_each : (form : Form) (bytes : List ℕ) (wide : WidePass) → Spells form bytes wide ↔ Computed form bytes wide
+  in_each : (form : Form) (bytes : List ℕ) (wide : WidePass) → SpellsForm form bytes wide ↔ Computed form bytes wide
   unfolding wide_in
   in_each V1 bytes wide = packets bytes wide
   in_each V2 bytes wide = sections bytes wide
@@ -52,4 +52,4 @@ module _ (packets : ComputesSpelled SpellsV1 v1.wide_at) (sections : ComputesSpe
       let to = λ (form : Form) (b : List ℕ) (wide : WidePass). (in_each form b wide).0 in
       let from = λ (form : Form) (b : List ℕ) (wide : WidePass). (in_each form b wide).1 in
       let exact = texts wide_in text answer bytes in
-      (λ h. exact.0 (same_reading Spells Computed to from text answer h), λ e. same_reading Computed Spells from to text answer (exact.1 e))
+      (λ h. exact.0 (same_reading SpellsForm Computed to from text answer h), λ e. same_reading Computed SpellsForm from to text answer (exact.1 e))

@@ -10,7 +10,7 @@ use Rattle.pass_forms.specs.Pass.{WideCaveat}
 use Rattle.serde_json.specs.Data.{Data, Items, no_items, item}
 use Rattle.serde_json.specs.View.{items_view, view}
 use Rattle.serde_json.specs.declared.value.Value.{Value}
-use Rattle.pass_json.specs.JsonReading.{caveat_of, caveats_of, kept_caveat, kept_caveats, RefusesPart}
+use Rattle.pass_json.specs.JsonReading.{caveat_from, caveats_of, kept_caveat, kept_caveats, RefusesPart}
 
 -- what was kept before the rest
 abbrev pub with_kept : List (List ℕ) → Bool → Option (List (List ℕ) × Bool) → Option (List (List ℕ) × Bool)
@@ -46,25 +46,25 @@ next_by identifiers third_party (Some caveat) (Some caveats) id third e =
     rw (← one, ← two, append_assoc, or_assoc) refl
 
 pub next_caveat : (identifiers : List (List ℕ)) (third_party : Bool) (value : Data) (values : Items) (id : List ℕ) (third : Bool)
-    → option_map kept_caveat (caveat_of value) ≡ Some (id, third)
+    → option_map kept_caveat (caveat_from value) ≡ Some (id, third)
     → with_kept identifiers third_party (option_map kept_caveats (caveats_of (item value values)))
     ≡ with_kept (identifiers ++ id ∷ []) (third_party || third) (option_map kept_caveats (caveats_of values))
 unfolding caveats_of
-next_caveat identifiers third_party value values id third e = next_by identifiers third_party (caveat_of value) (caveats_of values) id third e
+next_caveat identifiers third_party value values id third e = next_by identifiers third_party (caveat_from value) (caveats_of values) id third e
 
 nothing_kept : (found : Option (List WideCaveat)) (identifiers : List (List ℕ)) (third_party : Bool) →
     option_map kept_caveats found ≡ with_kept identifiers third_party None → found ≡ None
 nothing_kept None identifiers third_party e = refl
 nothing_kept (Some caveats) identifiers third_party e = absurd cc
 
-no_rest : (value : Data) (values : Items) → caveat_of value ≡ None → caveats_of (item value values) ≡ None
+no_rest : (value : Data) (values : Items) → caveat_from value ≡ None → caveats_of (item value values) ≡ None
 unfolding caveats_of
 no_rest value values e = rw e refl
 
 -- A caveat that is refused refuses the list.
 pub refused_caveat : (all : Items) (identifiers : List (List ℕ)) (third_party : Bool) (value : Data) (values : Items) (fault : FormFault)
     → option_map kept_caveats (caveats_of all) ≡ with_kept identifiers third_party (option_map kept_caveats (caveats_of (item value values)))
-    → RefusesPart (caveat_of value) fault → RefusesPart (caveats_of all) fault
+    → RefusesPart (caveat_from value) fault → RefusesPart (caveats_of all) fault
 refused_caveat all identifiers third_party value values Malformed e refused =
     nothing_kept (caveats_of all) identifiers third_party (rw (no_rest value values refused) at e)
 refused_caveat all identifiers third_party value values Memory e refused = tt
@@ -84,7 +84,7 @@ split_items list i value lt is =
 
 pub one_more : (all : Option (List (List ℕ) × Bool)) (list : List Value) (i : ℕ) (value : Value) (identifiers : List (List ℕ)) (third_party : Bool)
     (id : List ℕ) (third : Bool)
-    → i < length list → value ≡ get_or list i value → option_map kept_caveat (caveat_of (view value)) ≡ Some (id, third)
+    → i < length list → value ≡ get_or list i value → option_map kept_caveat (caveat_from (view value)) ≡ Some (id, third)
     → all ≡ with_kept identifiers third_party (option_map kept_caveats (caveats_of (items_view (drop i list))))
     → all ≡ with_kept (identifiers ++ id ∷ []) (third_party || third) (option_map kept_caveats (caveats_of (items_view (drop (i + 1) list))))
 one_more all list i value identifiers third_party id third lt is found e =
@@ -103,7 +103,7 @@ pub one_refused : (list : List Value) (i : ℕ) (value : Value) (identifiers : L
     → i < length list → value ≡ get_or list i value
     → option_map kept_caveats (caveats_of (items_view list)) ≡ with_kept identifiers third_party
     (option_map kept_caveats (caveats_of (items_view (drop i list))))
-    → RefusesPart (caveat_of (view value)) fault → RefusesPart (caveats_of (items_view list)) fault
+    → RefusesPart (caveat_from (view value)) fault → RefusesPart (caveats_of (items_view list)) fault
 one_refused list i value identifiers third_party fault lt is e refused =
     refused_caveat (items_view list) identifiers third_party (view value) (items_view (drop (i + 1) list)) fault
     (e ∙ ap (λ (items : Items). with_kept identifiers third_party (option_map kept_caveats (caveats_of items))) (split_items list i value lt is)) refused

@@ -14,7 +14,7 @@ use Rattle.serde_json.specs.Find.{get, as_str}
 use Rattle.pass_forms.specs.Envelope.{FromBase64IsBase64, IsBase64, from_base64}
 use Rattle.pass_forms.specs.Parts.{◌>>=◌}
 use Rattle.pass_json.specs.Json.{IsField}
-use Rattle.pass_json.specs.JsonReading.{base64_bytes, decoded_text, told, field_at, required}
+use Rattle.pass_json.specs.JsonReading.{base64_bytes, decoded_text, field_bytes, field_from, must_have}
 
 pub bound : {A B : Type 0} (o : Option A) (f : A → Option B) (b : B) → (o >>= f) ≡ Some b → (a : A) × (o ≡ Some a) × (f a ≡ Some b)
 bound None f b e = absurd cc
@@ -52,7 +52,7 @@ encoded_below e text bytes is i =
     omega (arith, ascii i)
 
 spelled_below : (text bytes : List ℕ) → IsBase64 text bytes → IsBytes text
-spelled_below text bytes is = elim is.spelled [
+spelled_below text bytes is = elim is.spelling [
   | inl e ↦ encoded_below url_safe_no_pad text bytes e
   | inr other ↦ elim other [
     | inl e ↦ encoded_below url_safe text bytes e
@@ -77,14 +77,14 @@ mapped : (o : Option (List ℕ)) (t : Option (List ℕ)) → option_map (λ byte
 mapped None t e = absurd cc
 mapped (Some bytes) t e = (bytes, refl, cc)
 
--- `IsField`, of what stands under the two names
-abbrev IsTold : Option Data → Option Data → Option (List ℕ) → Type 0
-IsTold plain base64 None = (plain ≡ None) × (base64 ≡ None)
-IsTold plain base64 (Some bytes) =
+-- `IsField`, for the values under the two names
+abbrev IsFieldBytes : Option Data → Option Data → Option (List ℕ) → Type 0
+IsFieldBytes plain base64 None = (plain ≡ None) × (base64 ≡ None)
+IsFieldBytes plain base64 (Some bytes) =
     ((plain ≡ Some (string bytes)) × (base64 ≡ None))
     ⊎ ((plain ≡ None) × (text : List ℕ) × (base64 ≡ Some (string text)) × IsBase64 text bytes)
 
-required_by : (o : Option (Option (List ℕ))) (bytes : List ℕ) → required o ≡ Some bytes → o ≡ Some (Some bytes)
+required_by : (o : Option (Option (List ℕ))) (bytes : List ℕ) → must_have o ≡ Some bytes → o ≡ Some (Some bytes)
 required_by None bytes e = absurd cc
 required_by (Some t) bytes e = ap (λ (x : Option (List ℕ)). Some x) e
 
@@ -120,38 +120,38 @@ module _ (law : FromBase64IsBase64) where
       let below : IsBytes text = spelled_below text bytes is in
       rw (base64_bytes_is text below) ((law text bytes below).1 is)
 
-  told_takes : (plain base64 : Option Data) (t : Option (List ℕ)) → told plain base64 ≡ Some t → IsTold plain base64 t
-  told_takes None None t e =
+  field_bytes_takes : (plain base64 : Option Data) (t : Option (List ℕ)) → field_bytes plain base64 ≡ Some t → IsFieldBytes plain base64 t
+  field_bytes_takes None None t e =
       let none : None ≡ t = cc in
-      subst (IsTold None None) none (refl, refl)
-  told_takes (Some value) None t e =
+      subst (IsFieldBytes None None) none (refl, refl)
+  field_bytes_takes (Some value) None t e =
       let m = mapped (as_str value) t e in
-      subst (IsTold (Some value) None) (sym m.2) (inl (ap (λ (d : Data). Some d) (str_of value m.0 m.1), refl))
-  told_takes None (Some value) t e =
+      subst (IsFieldBytes (Some value) None) (sym m.2) (inl (ap (λ (d : Data). Some d) (str_of value m.0 m.1), refl))
+  field_bytes_takes None (Some value) t e =
       let m = mapped (decoded_text value) t e in
       let d = bound (as_str value) base64_bytes m.0 m.1 in
-      subst (IsTold None (Some value)) (sym m.2) (inr (refl, d.0, ap (λ (d : Data). Some d) (str_of value d.0 d.1), base64_takes d.0 m.0 d.2))
-  told_takes (Some value) (Some other) t e = absurd cc
+      subst (IsFieldBytes None (Some value)) (sym m.2) (inr (refl, d.0, ap (λ (d : Data). Some d) (str_of value d.0 d.1), base64_takes d.0 m.0 d.2))
+  field_bytes_takes (Some value) (Some other) t e = absurd cc
 
-  told_again : (plain base64 : Option Data) (t : Option (List ℕ)) → IsTold plain base64 t → told plain base64 ≡ Some t
-  told_again plain base64 None h = rw (h.0, h.1) refl
-  told_again plain base64 (Some bytes) (inl h) = rw (h.0, h.1) refl
-  told_again plain base64 (Some bytes) (inr h) = rw (h.0, h.2, base64_again h.1 bytes h.3) refl
+  field_bytes_again : (plain base64 : Option Data) (t : Option (List ℕ)) → IsFieldBytes plain base64 t → field_bytes plain base64 ≡ Some t
+  field_bytes_again plain base64 None h = rw (h.0, h.1) refl
+  field_bytes_again plain base64 (Some bytes) (inl h) = rw (h.0, h.1) refl
+  field_bytes_again plain base64 (Some bytes) (inr h) = rw (h.0, h.2, base64_again h.1 bytes h.3) refl
 
-  pub field_takes : (plain base64 : List ℕ) (value : Data) (t : Option (List ℕ)) → field_at plain base64 value ≡ Some t → IsField plain base64 value t
-  unfolding field_at
-  field_takes plain base64 value None e = told_takes (get plain value) (get base64 value) None e
-  field_takes plain base64 value (Some bytes) e = told_takes (get plain value) (get base64 value) (Some bytes) e
+  pub field_takes : (plain base64 : List ℕ) (value : Data) (t : Option (List ℕ)) → field_from plain base64 value ≡ Some t → IsField plain base64 value t
+  unfolding field_from
+  field_takes plain base64 value None e = field_bytes_takes (get plain value) (get base64 value) None e
+  field_takes plain base64 value (Some bytes) e = field_bytes_takes (get plain value) (get base64 value) (Some bytes) e
 
-  pub field_again : (plain base64 : List ℕ) (value : Data) (t : Option (List ℕ)) → IsField plain base64 value t → field_at plain base64 value ≡ Some t
-  unfolding field_at
-  field_again plain base64 value None h = told_again (get plain value) (get base64 value) None h
-  field_again plain base64 value (Some bytes) h = told_again (get plain value) (get base64 value) (Some bytes) h
+  pub field_again : (plain base64 : List ℕ) (value : Data) (t : Option (List ℕ)) → IsField plain base64 value t → field_from plain base64 value ≡ Some t
+  unfolding field_from
+  field_again plain base64 value None h = field_bytes_again (get plain value) (get base64 value) None h
+  field_again plain base64 value (Some bytes) h = field_bytes_again (get plain value) (get base64 value) (Some bytes) h
 
-  pub required_takes : (plain base64 : List ℕ) (value : Data) (bytes : List ℕ) → required (field_at plain base64 value) ≡ Some bytes →
+  pub required_takes : (plain base64 : List ℕ) (value : Data) (bytes : List ℕ) → must_have (field_from plain base64 value) ≡ Some bytes →
       IsField plain base64 value (Some bytes)
-  required_takes plain base64 value bytes e = field_takes plain base64 value (Some bytes) (required_by (field_at plain base64 value) bytes e)
+  required_takes plain base64 value bytes e = field_takes plain base64 value (Some bytes) (required_by (field_from plain base64 value) bytes e)
 
   pub required_again : (plain base64 : List ℕ) (value : Data) (bytes : List ℕ) → IsField plain base64 value (Some bytes) →
-      required (field_at plain base64 value) ≡ Some bytes
-  required_again plain base64 value bytes h = ap required (field_again plain base64 value (Some bytes) h)
+      must_have (field_from plain base64 value) ≡ Some bytes
+  required_again plain base64 value bytes h = ap must_have (field_again plain base64 value (Some bytes) h)

@@ -1,4 +1,4 @@
--- What is written in one form, as any form tells it.
+-- A text written in one form, as the definitions for any form see it.
 use Rattle.std.proofs.Common.{◌≡◌, ◌↔◌, ℕ, List, length, Result, Ok, Err, sym, ◌∙◌}
 use Rattle.pass_forms.specs.declared.fault.FormFault.{FormFault}
 use Rattle.pass_forms.specs.declared.fault.FormFault.TheVariants.{TooLong, Malformed, ThirdParty, TooMany, Memory}
@@ -7,7 +7,7 @@ use Rattle.pass_forms.specs.declared.form.Form.TheVariants.{V1, V2, Json}
 use Rattle.pass_forms.specs.Pass.{Plain}
 use Rattle.pass_forms.specs.V1Reading.{reading_v1}
 use Rattle.pass_forms.specs.V2Reading.{reading_v2}
-use Rattle.pass_forms.specs.Writing.{FailsAs, HasBytes, IsReadBack, IsWritten, TextsReadBack, WritesExactly, v1_bytes, v2_bytes}
+use Rattle.pass_forms.specs.Writing.{FailsAs, HasBytes, IsReadBack, IsWritableText, TextsReadBack, WritesExactly, v1_bytes, v2_bytes}
 use Rattle.pass_json.specs.AnyForm.{IsTextIn, reading, wide_in, writing}
 use Rattle.pass_json.specs.JsonReading.{reading_json}
 use Rattle.pass_json.specs.JsonWriting.{JsonReadsBack, MayFailAs, WritesJsonExactly}
@@ -15,15 +15,15 @@ use Rattle.pass_json.proofs.Wrapped.{reads_back}
 
 pub back_from_v1 : (bytes : List ℕ) (pass : Plain) (text : List ℕ) → IsReadBack reading_v1 V1 bytes pass text → reading text ≡ Ok (V1, pass)
 unfolding wide_in reading_v1
-back_from_v1 bytes pass text back = reads_back text V1 bytes pass back.told back.read
+back_from_v1 bytes pass text back = reads_back text V1 bytes pass back.content back.read
 
 pub back_from_v2 : (bytes : List ℕ) (pass : Plain) (text : List ℕ) → IsReadBack reading_v2 V2 bytes pass text → reading text ≡ Ok (V2, pass)
 unfolding wide_in reading_v2
-back_from_v2 bytes pass text back = reads_back text V2 bytes pass back.told back.read
+back_from_v2 bytes pass text back = reads_back text V2 bytes pass back.content back.read
 
 pub back_from_json : (bytes : List ℕ) (pass : Plain) (text : List ℕ) → IsReadBack reading_json Json bytes pass text → reading text ≡ Ok (Json, pass)
 unfolding wide_in reading_json
-back_from_json bytes pass text back = reads_back text Json bytes pass back.told back.read
+back_from_json bytes pass text back = reads_back text Json bytes pass back.content back.read
 
 -- What the writers of V1 and V2 answer, any writer may.
 pub may_fail : (writing : Result (List ℕ) FormFault) (fault : FormFault) → FailsAs writing fault → MayFailAs writing fault
@@ -37,18 +37,18 @@ may_fail writing TooMany h = h
 -- ---- the laws of each form, in any
 
 pub one_text : (form : Form) (pass : Plain) (one other : List ℕ) → IsTextIn form pass one → IsTextIn form pass other → one ≡ other
-one_text V1 pass one other h k = h.encoded ∙ sym k.encoded
-one_text V2 pass one other h k = h.encoded ∙ sym k.encoded
+one_text V1 pass one other h k = h.encoding ∙ sym k.encoding
+one_text V2 pass one other h k = h.encoding ∙ sym k.encoding
 one_text Json pass one other h k = h.compact ∙ sym k.compact
 
-pub in_any_form : TextsReadBack → JsonReadsBack → (form : Form) (pass : Plain) (text : List ℕ) → HasBytes pass → IsWritten (IsTextIn form) pass text →
+pub in_any_form : TextsReadBack → JsonReadsBack → (form : Form) (pass : Plain) (text : List ℕ) → HasBytes pass → IsWritableText (IsTextIn form) pass text →
     reading text ≡ Ok (form, pass)
 in_any_form texts json V1 pass text are written = back_from_v1 (v1_bytes pass) pass text ((texts pass text are).0 written)
 in_any_form texts json V2 pass text are written = back_from_v2 (v2_bytes pass) pass text ((texts pass text are).1 written)
 in_any_form texts json Json pass text are written = back_from_json text pass text (json pass text written)
 
 pub exact_in_any_form : WritesExactly → WritesJsonExactly → (form : Form) (pass : Plain) (text : List ℕ) → HasBytes pass → length pass.signature ≡ 32
-    → (writing form pass ≡ Ok text) ↔ IsWritten (IsTextIn form) pass text
+    → (writing form pass ≡ Ok text) ↔ IsWritableText (IsTextIn form) pass text
 unfolding writing
 exact_in_any_form others json V1 pass text are len = (others pass text len).0
 exact_in_any_form others json V2 pass text are len = (others pass text len).1

@@ -11,9 +11,10 @@ use Rattle.serde_json.specs.Read.{read}
 use Rattle.pass_forms.specs.declared.fault.FormFault.{FormFault}
 use Rattle.pass_forms.specs.Envelope.{FromBase64IsBase64}
 use Rattle.pass_forms.specs.Pass.{Plain, WideCaveat, WidePass}
-use Rattle.pass_forms.specs.Reading.{AnswersExactly, IsReading}
-use Rattle.pass_json.specs.Json.{HasOnly, IsCaveat, AreCaveats, IsCaveatList, IsVersion, IsPass, SpellsJson, caveat_names, pass_names}
-use Rattle.pass_json.specs.JsonReading.{field_at, required, has_only, caveat_of, caveats_of, listed, is_version, of_length, signature_of, pass_of, value_of}
+use Rattle.pass_forms.specs.Reading.{AnswersExactly, IsReadAs}
+use Rattle.pass_json.specs.Json.{HasOnly, IsCaveatObject, AreCaveats, IsCaveatList, IsVersion, IsPass, SpellsJson, caveat_names, pass_names}
+use Rattle.pass_json.specs.JsonReading.{field_from, must_have, has_only_names, caveat_from, caveats_of, caveat_list, is_version, of_length, signature_from}
+use Rattle.pass_json.specs.JsonReading.{pass_from, value_of}
 use Rattle.pass_json.specs.JsonReading.{wide_json, reading_json}
 use Rattle.pass_json.proofs.SameReading.{same_answer}
 use Rattle.pass_json.proofs.FieldExact.{bound, field_takes, field_again, required_takes, required_again, is_object}
@@ -24,9 +25,9 @@ tested true value a e = refl
 tested false value a e = absurd cc
 
 has_only_of : (names : List (List ℕ)) (value : Data) (found : (members : Members) × (value ≡ object members)) → HasOnly names value →
-    has_only names value ≡ true
+    has_only_names names value ≡ true
 has_only_of names value found h =
-    ap (has_only names) found.1 ∙ has_only_again names found.0 (subst (HasOnly names) found.1 h)
+    ap (has_only_names names) found.1 ∙ has_only_again names found.0 (subst (HasOnly names) found.1 h)
 
 array_of : (value : Data) (items : Items) → as_array value ≡ Some items → value ≡ array items
 array_of null items e = absurd cc
@@ -73,25 +74,25 @@ value_takes bytes false value utf8 e = absurd cc
 -- ---- the pass, by the law of base64
 
 module _ (law : FromBase64IsBase64) where
-  caveat_takes : (value : Data) (caveat : WideCaveat) → caveat_of value ≡ Some caveat → IsCaveat value caveat
-  unfolding caveat_of
+  caveat_takes : (value : Data) (caveat : WideCaveat) → caveat_from value ≡ Some caveat → IsCaveatObject value caveat
+  unfolding caveat_from
   caveat_takes value caveat e =
-      let names = bound (cond (has_only caveat_names value) (Some value) None) _ caveat e in
-      let identifier = bound (required (field_at (codes "i") (codes "i64") value)) _ caveat names.2 in
-      let verifier_id = bound (field_at (codes "v") (codes "v64") value) _ caveat identifier.2 in
-      let location = bound (field_at (codes "l") (codes "l64") value) _ caveat verifier_id.2 in
+      let names = bound (cond (has_only_names caveat_names value) (Some value) None) _ caveat e in
+      let identifier = bound (must_have (field_from (codes "i") (codes "i64") value)) _ caveat names.2 in
+      let verifier_id = bound (field_from (codes "v") (codes "v64") value) _ caveat identifier.2 in
+      let location = bound (field_from (codes "l") (codes "l64") value) _ caveat verifier_id.2 in
       let w : WideCaveat = record { identifier = identifier.0; verifier_id = verifier_id.0; location = location.0 } in
       let is : w ≡ caveat = cc location.2 in
-      let spelled : IsCaveat value w = record {
-        names = has_only_takes caveat_names value (tested (has_only caveat_names value) value names.0 names.1);
+      let spelling : IsCaveatObject value w = record {
+        names = has_only_takes caveat_names value (tested (has_only_names caveat_names value) value names.0 names.1);
         identifier = required_takes law (codes "i") (codes "i64") value identifier.0 identifier.1;
         verifier_id = field_takes law (codes "v") (codes "v64") value verifier_id.0 verifier_id.1;
         location = field_takes law (codes "l") (codes "l64") value location.0 location.1;
       } in
-      subst (IsCaveat value) is spelled
+      subst (IsCaveatObject value) is spelling
 
-  caveat_again : (value : Data) (caveat : WideCaveat) → IsCaveat value caveat → caveat_of value ≡ Some caveat
-  unfolding caveat_of
+  caveat_again : (value : Data) (caveat : WideCaveat) → IsCaveatObject value caveat → caveat_from value ≡ Some caveat
+  unfolding caveat_from
   caveat_again value caveat is =
       let only = has_only_of caveat_names value (is_object (codes "i") (codes "i64") value caveat.identifier is.identifier) is.names in
       rw (
@@ -106,15 +107,15 @@ module _ (law : FromBase64IsBase64) where
   caveats_take no_items [] e = tt
   caveats_take no_items (caveat ∷ caveats) e = absurd cc
   caveats_take (item value values) [] e =
-      let one = bound (caveat_of value) _ [] e in
+      let one = bound (caveat_from value) _ [] e in
       let more = bound (caveats_of values) _ [] one.2 in
       absurd (cc more.2)
   caveats_take (item value values) (caveat ∷ caveats) e =
-      let one = bound (caveat_of value) _ (caveat ∷ caveats) e in
+      let one = bound (caveat_from value) _ (caveat ∷ caveats) e in
       let more = bound (caveats_of values) _ (caveat ∷ caveats) one.2 in
       let first : one.0 ≡ caveat = cc more.2 in
       let rest : more.0 ≡ caveats = cc more.2 in
-      (subst (IsCaveat value) first (caveat_takes value one.0 one.1), caveats_take values caveats (more.1 ∙ ap (λ (cs : List WideCaveat). Some cs) rest))
+      (subst (IsCaveatObject value) first (caveat_takes value one.0 one.1), caveats_take values caveats (more.1 ∙ ap (λ (cs : List WideCaveat). Some cs) rest))
 
   caveats_again : (items : Items) (caveats : List WideCaveat) → AreCaveats items caveats → caveats_of items ≡ Some caveats
   unfolding caveats_of
@@ -123,7 +124,7 @@ module _ (law : FromBase64IsBase64) where
   caveats_again (item value values) [] h = absurd h
   caveats_again (item value values) (caveat ∷ caveats) h = rw (caveat_again value caveat h.0, caveats_again values caveats h.1) refl
 
-  listed_takes : (found : Option Data) (caveats : List WideCaveat) → listed found ≡ Some caveats → IsCaveatList found caveats
+  listed_takes : (found : Option Data) (caveats : List WideCaveat) → caveat_list found ≡ Some caveats → IsCaveatList found caveats
   listed_takes None caveats e =
       let nothing : [] ≡ caveats = cc in
       sym nothing
@@ -131,26 +132,26 @@ module _ (law : FromBase64IsBase64) where
       let items = bound (as_array value) caveats_of caveats e in
       (items.0, array_of value items.0 items.1, caveats_take items.0 caveats items.2)
 
-  listed_again : (found : Option Data) (caveats : List WideCaveat) → IsCaveatList found caveats → listed found ≡ Some caveats
+  listed_again : (found : Option Data) (caveats : List WideCaveat) → IsCaveatList found caveats → caveat_list found ≡ Some caveats
   listed_again None caveats h = rw h refl
   listed_again (Some value) caveats h = rw h.1 (caveats_again h.0 caveats h.2)
 
-  pub pass_takes : (value : Data) (wide : WidePass) → pass_of value ≡ Some wide → IsPass value wide
-  unfolding pass_of
+  pub pass_takes : (value : Data) (wide : WidePass) → pass_from value ≡ Some wide → IsPass value wide
+  unfolding pass_from
   pass_takes value wide e =
-      let names = bound (cond (has_only pass_names value && is_version (get (codes "v") value)) (Some value) None) _ wide e in
-      let location = bound (field_at (codes "l") (codes "l64") value) _ wide names.2 in
-      let identifier = bound (required (field_at (codes "i") (codes "i64") value)) _ wide location.2 in
-      let caveats = bound (listed (get (codes "c") value)) _ wide identifier.2 in
-      let signature = bound (signature_of value) _ wide caveats.2 in
+      let names = bound (cond (has_only_names pass_names value && is_version (get (codes "v") value)) (Some value) None) _ wide e in
+      let location = bound (field_from (codes "l") (codes "l64") value) _ wide names.2 in
+      let identifier = bound (must_have (field_from (codes "i") (codes "i64") value)) _ wide location.2 in
+      let caveats = bound (caveat_list (get (codes "c") value)) _ wide identifier.2 in
+      let signature = bound (signature_from value) _ wide caveats.2 in
       let both =
-      both_true (has_only pass_names value) (is_version (get (codes "v") value))
-      (tested (has_only pass_names value && is_version (get (codes "v") value)) value names.0 names.1) in
-      let bytes = bound (required (field_at (codes "s") (codes "s64") value)) (of_length 32) signature.0 signature.1 in
+      both_true (has_only_names pass_names value) (is_version (get (codes "v") value))
+      (tested (has_only_names pass_names value && is_version (get (codes "v") value)) value names.0 names.1) in
+      let bytes = bound (must_have (field_from (codes "s") (codes "s64") value)) (of_length 32) signature.0 signature.1 in
       let sized = length_by (eqb (length bytes.0) 32) bytes.0 signature.0 bytes.2 in
       let w : WidePass = record { location = unwrap_or location.0 []; identifier = identifier.0; caveats = caveats.0; signature = signature.0 } in
       let is : w ≡ wide = cc signature.2 in
-      let spelled : IsPass value w = record {
+      let spelling : IsPass value w = record {
         names = has_only_takes pass_names value both.0;
         version = version_takes (get (codes "v") value) both.1;
         location = location.0;
@@ -161,10 +162,10 @@ module _ (law : FromBase64IsBase64) where
         signature = required_takes law (codes "s") (codes "s64") value signature.0 (bytes.1 ∙ ap (λ (b : List ℕ). Some b) sized.1);
         signature_len = subst (λ (b : List ℕ). length b ≡ 32) sized.1 ((Decides-eqb (length bytes.0) 32).0 sized.0);
       } in
-      subst (IsPass value) is spelled
+      subst (IsPass value) is spelling
 
-  pass_again : (value : Data) (wide : WidePass) → IsPass value wide → pass_of value ≡ Some wide
-  unfolding pass_of
+  pass_again : (value : Data) (wide : WidePass) → IsPass value wide → pass_from value ≡ Some wide
+  unfolding pass_from
   pass_again value wide is =
       let only = has_only_of pass_names value (is_object (codes "i") (codes "i64") value wide.identifier is.identifier) is.names in
       rw (
@@ -181,7 +182,7 @@ module _ (law : FromBase64IsBase64) where
   pub json_takes : (bytes : List ℕ) (wide : WidePass) → wide_json bytes ≡ Some wide → SpellsJson bytes wide
   unfolding wide_json value_of
   json_takes bytes wide e =
-      let value = bound (value_of bytes) pass_of wide e in
+      let value = bound (value_of bytes) pass_from wide e in
       let both = value_takes bytes (is_utf8 bytes) value.0 refl value.1 in
       record { value = value.0; utf8 = both.0; is_read = both.1; is_pass = pass_takes value.0 wide value.2 }
 
@@ -195,7 +196,7 @@ module _ (law : FromBase64IsBase64) where
       cc
 
   pub reading_json_exact : AnswersExactly → (bytes : List ℕ) (answer : Result Plain FormFault) →
-      IsReading (length bytes) (SpellsJson bytes) answer ↔ (reading_json bytes ≡ answer)
+      IsReadAs (length bytes) (SpellsJson bytes) answer ↔ (reading_json bytes ≡ answer)
   unfolding reading_json
   reading_json_exact exact bytes answer =
       let Computed = λ (wide : WidePass). wide_json bytes ≡ Some wide in

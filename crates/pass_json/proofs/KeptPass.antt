@@ -6,9 +6,9 @@ use Rattle.std.proofs.lemmas.List.{length-map}
 use Rattle.serde_json.specs.Data.{Data}
 use Rattle.serde_json.specs.Find.{get}
 use Rattle.pass_forms.specs.Pass.{WideCaveat, is_third_party, first_party_caveat}
-use Rattle.pass_forms.specs.Reading.{kept}
+use Rattle.pass_forms.specs.Reading.{pass_summary}
 use Rattle.pass_json.specs.Json.{pass_names}
-use Rattle.pass_json.specs.JsonReading.{field_at, has_only, is_version, kept_caveats, listed, pass_of, required, signature_of}
+use Rattle.pass_json.specs.JsonReading.{field_from, has_only_names, is_version, kept_caveats, caveat_list, pass_from, must_have, signature_from}
 
 were_kept : (found : Option (List WideCaveat)) (identifiers : List (List ℕ)) (third_party : Bool) →
     option_map kept_caveats found ≡ Some (identifiers, third_party)
@@ -19,16 +19,16 @@ were_kept (Some caveats) identifiers third_party e =
     (caveats, refl, ap (λ (p : List (List ℕ) × Bool). p.0) same, ap (λ (p : List (List ℕ) × Bool). p.1) same)
 
 pub kept_pass : (value : Data) (location : Option (List ℕ)) (identifier : List ℕ) (identifiers : List (List ℕ)) (third_party : Bool) (signature : List ℕ)
-    → has_only pass_names value ≡ true → is_version (get (codes "v") value) ≡ true
-    → field_at (codes "l") (codes "l64") value ≡ Some location
-    → required (field_at (codes "i") (codes "i64") value) ≡ Some identifier
-    → option_map kept_caveats (listed (get (codes "c") value)) ≡ Some (identifiers, third_party)
-    → signature_of value ≡ Some signature
-    → option_map kept (pass_of value)
+    → has_only_names pass_names value ≡ true → is_version (get (codes "v") value) ≡ true
+    → field_from (codes "l") (codes "l64") value ≡ Some location
+    → must_have (field_from (codes "i") (codes "i64") value) ≡ Some identifier
+    → option_map kept_caveats (caveat_list (get (codes "c") value)) ≡ Some (identifiers, third_party)
+    → signature_from value ≡ Some signature
+    → option_map pass_summary (pass_from value)
     ≡ Some (record { location = unwrap_or location []; identifier = identifier; caveats = identifiers; signature = signature }, length identifiers, third_party)
-unfolding pass_of
+unfolding pass_from
 kept_pass value location identifier identifiers third_party signature only version is_location is_identifier are_caveats is_signature =
-    let caveats = were_kept (listed (get (codes "c") value)) identifiers third_party are_caveats in
+    let caveats = were_kept (caveat_list (get (codes "c") value)) identifiers third_party are_caveats in
     let count : length caveats.0 ≡ length identifiers = sym (length-map caveats.0 first_party_caveat) ∙ ap length caveats.2 in
     rw (only, version, is_location, is_identifier, caveats.1, is_signature, caveats.2, caveats.3, count) refl
 

@@ -12,7 +12,7 @@ use Rattle.std.proofs.lemmas.Map.Text.{is_eq-slice_cmp}
 use Rattle.serde_json.specs.Data.{Data, null, boolean, number, string, array, object, Members, no_members, member}
 use Rattle.serde_json.specs.Find.{get_member}
 use Rattle.pass_json.specs.Json.{HasOnly, IsOneOf}
-use Rattle.pass_json.specs.JsonReading.{only_among, has_only}
+use Rattle.pass_json.specs.JsonReading.{only_among, has_only_names}
 
 either : (a b : Bool) → (a || b) ≡ true → (a ≡ true) ⊎ (b ≡ true)
 either true b e = inl refl
@@ -77,8 +77,8 @@ only_again names (member key value members) h =
     only_again names members (λ name found. h name (still_found (slice_cmp nat_cmp name key) (get_member name members) value found)) in
     rw (one_again names key here) later
 
-pub has_only_takes : (names : List (List ℕ)) (value : Data) → has_only names value ≡ true → HasOnly names value
-unfolding has_only
+pub has_only_takes : (names : List (List ℕ)) (value : Data) → has_only_names names value ≡ true → HasOnly names value
+unfolding has_only_names
 has_only_takes names null e = absurd cc
 has_only_takes names (boolean b) e = absurd cc
 has_only_takes names (number n) e = absurd cc
@@ -86,6 +86,6 @@ has_only_takes names (string s) e = absurd cc
 has_only_takes names (array items) e = absurd cc
 has_only_takes names (object members) e = only_takes names members e
 
-pub has_only_again : (names : List (List ℕ)) (members : Members) → HasOnly names (object members) → has_only names (object members) ≡ true
-unfolding has_only
+pub has_only_again : (names : List (List ℕ)) (members : Members) → HasOnly names (object members) → has_only_names names (object members) ≡ true
+unfolding has_only_names
 has_only_again names members h = only_again names members h

@@ -15,36 +15,36 @@ use Rattle.serde_json.specs.Read.{number_of, of_items, of_json}
 use Rattle.serde_json.specs.Written.{has_float, items_have_float, items_outline, members_outline, outline}
 use Rattle.serde_json.proofs.OnLiterals.{serde_json_on_literals}
 use Rattle.pass_forms.specs.Pass.{Plain}
-use Rattle.pass_json.specs.JsonWriting.{caveat_object, caveat_objects, object_of, with_field, with_location}
+use Rattle.pass_json.specs.JsonWriting.{caveat_object, caveat_objects, object_of, put_member, with_location}
 use Rattle.pass_json.proofs.ReadsText.{HasTexts, ItemsHaveTexts, MembersHaveTexts}
 
--- Whether bytes stand under the plain name, and the text that stands there.
-abbrev pub Told : Type 0
-Told = Bool × List ℕ
+-- Whether bytes are under the plain name, and their text.
+abbrev pub FieldText : Type 0
+FieldText = Bool × List ℕ
 
-abbrev pub told_by : Bool → List ℕ → Told
-told_by true bytes = (true, bytes)
-told_by false bytes = (false, encode_of url_safe_no_pad bytes)
+abbrev pub text_by_test : Bool → List ℕ → FieldText
+text_by_test true bytes = (true, bytes)
+text_by_test false bytes = (false, encode_of url_safe_no_pad bytes)
 
-abbrev pub told : List ℕ → Told
-told bytes = told_by (is_utf8 bytes) bytes
+abbrev pub field_text : List ℕ → FieldText
+field_text bytes = text_by_test (is_utf8 bytes) bytes
 
-abbrev pub told_location : List ℕ → Option Told
-told_location [] = None
-told_location (byte ∷ bytes) = Some (told (byte ∷ bytes))
+abbrev pub location_text : List ℕ → Option FieldText
+location_text [] = None
+location_text (byte ∷ bytes) = Some (field_text (byte ∷ bytes))
 
-abbrev pub named : List ℕ → List ℕ → Told → Members → Members
+abbrev pub named : List ℕ → List ℕ → FieldText → Members → Members
 named plain base64 (true, text) rest = member plain (string text) rest
 named plain base64 (false, text) rest = member base64 (string text) rest
 
-abbrev pub identified : Told → Members → Members
+abbrev pub identified : FieldText → Members → Members
 identified identifier rest = named (codes "i") (codes "i64") identifier rest
 
-abbrev pub located : Option Told → Members → Members
+abbrev pub located : Option FieldText → Members → Members
 located None rest = rest
 located (Some location) rest = named (codes "l") (codes "l64") location rest
 
-abbrev pub whole : Items → Told → Option Told → List ℕ → Data
+abbrev pub whole : Items → FieldText → Option FieldText → List ℕ → Data
 whole caveats identifier location signature =
     object (member (codes "c") (array caveats)
     (identified identifier (located location
@@ -52,32 +52,32 @@ whole caveats identifier location signature =
 
 -- ---- it is the object of the pass
 
-caveat_by : (test : Bool) (bytes : List ℕ) → is_utf8 bytes ≡ test → caveat_object bytes ≡ object (identified (told_by test bytes) no_members)
-unfolding with_field
+caveat_by : (test : Bool) (bytes : List ℕ) → is_utf8 bytes ≡ test → caveat_object bytes ≡ object (identified (text_by_test test bytes) no_members)
+unfolding put_member
 caveat_by true bytes e = rw e refl
 caveat_by false bytes e = rw e refl
 
-pub caveat_is : (bytes : List ℕ) → caveat_object bytes ≡ object (identified (told bytes) no_members)
+pub caveat_is : (bytes : List ℕ) → caveat_object bytes ≡ object (identified (field_text bytes) no_members)
 caveat_is bytes = caveat_by (is_utf8 bytes) bytes refl
 
 -- what holds of each member of the one name or the other holds of a caveat's object
-pub of_caveat : (Holds : Data → Type 0) → ((identifier : Told) → Holds (object (identified identifier no_members))) → (bytes : List ℕ) →
+pub of_caveat : (Holds : Data → Type 0) → ((identifier : FieldText) → Holds (object (identified identifier no_members))) → (bytes : List ℕ) →
     Holds (caveat_object bytes)
-of_caveat Holds all bytes = subst Holds (sym (caveat_is bytes)) (all (told bytes))
+of_caveat Holds all bytes = subst Holds (sym (caveat_is bytes)) (all (field_text bytes))
 
 location_by : (test : Bool) (bytes : List ℕ) → is_utf8 bytes ≡ test
-    → with_field (codes "l") (codes "l64") bytes no_members ≡ located (Some (told_by test bytes)) no_members
-unfolding with_field
+    → put_member (codes "l") (codes "l64") bytes no_members ≡ located (Some (text_by_test test bytes)) no_members
+unfolding put_member
 location_by true bytes e = rw e refl
 location_by false bytes e = rw e refl
 
-location_is : (location : List ℕ) → with_location location no_members ≡ located (told_location location) no_members
+location_is : (location : List ℕ) → with_location location no_members ≡ located (location_text location) no_members
 location_is [] = refl
 location_is (byte ∷ bytes) = location_by (is_utf8 (byte ∷ bytes)) (byte ∷ bytes) refl
 
-identifier_by : (test : Bool) (bytes : List ℕ) (location : Option Told) → is_utf8 bytes ≡ test
-    → with_field (codes "i") (codes "i64") bytes (located location no_members) ≡ identified (told_by test bytes) (located location no_members)
-unfolding with_field
+identifier_by : (test : Bool) (bytes : List ℕ) (location : Option FieldText) → is_utf8 bytes ≡ test
+    → put_member (codes "i") (codes "i64") bytes (located location no_members) ≡ identified (text_by_test test bytes) (located location no_members)
+unfolding put_member
 identifier_by true bytes None e = rw e refl
 identifier_by true bytes (Some (true, l)) e = rw e refl
 identifier_by true bytes (Some (false, l)) e = rw e refl
@@ -90,7 +90,7 @@ with_others : Items → List ℕ → Members → Data
 with_others caveats signature members =
     object (put (codes "v") (number (unsigned 2)) (put (codes "s64") (string signature) (put (codes "c") (array caveats) members)))
 
-others_are : (caveats : Items) (identifier : Told) (location : Option Told) (signature : List ℕ)
+others_are : (caveats : Items) (identifier : FieldText) (location : Option FieldText) (signature : List ℕ)
     → with_others caveats signature (identified identifier (located location no_members)) ≡ whole caveats identifier location signature
 unfolding with_others
 others_are caveats (true, i) None signature = refl
@@ -101,15 +101,15 @@ others_are caveats (true, i) (Some (false, l)) signature = refl
 others_are caveats (false, i) (Some (false, l)) signature = refl
 
 pub object_is : (pass : Plain) →
-    object_of pass ≡ whole (caveat_objects pass.caveats) (told pass.identifier) (told_location pass.location) (encode_of url_safe_no_pad pass.signature)
+    object_of pass ≡ whole (caveat_objects pass.caveats) (field_text pass.identifier) (location_text pass.location) (encode_of url_safe_no_pad pass.signature)
 unfolding object_of with_others
 object_is pass =
     let caveats : Items = caveat_objects pass.caveats in
     let signature : List ℕ = encode_of url_safe_no_pad pass.signature in
-    let location : Option Told = told_location pass.location in
-    ap (λ (members : Members). with_others caveats signature (with_field (codes "i") (codes "i64") pass.identifier members)) (location_is pass.location)
+    let location : Option FieldText = location_text pass.location in
+    ap (λ (members : Members). with_others caveats signature (put_member (codes "i") (codes "i64") pass.identifier members)) (location_is pass.location)
     ∙ ap (with_others caveats signature) (identifier_by (is_utf8 pass.identifier) pass.identifier location refl)
-    ∙ others_are caveats (told pass.identifier) location signature
+    ∙ others_are caveats (field_text pass.identifier) location signature
 
 -- ---- it is read back
 
@@ -121,7 +121,7 @@ two_is_two : number_of (decimal 2) ≡ Some (unsigned 2)
 unfolding serde_json_on_literals digits
 two_is_two = refl
 
-caveat_reads : (told : Told) → of_json (outline (object (identified told no_members))) ≡ Some (object (identified told no_members))
+caveat_reads : (field_text : FieldText) → of_json (outline (object (identified field_text no_members))) ≡ Some (object (identified field_text no_members))
 caveat_reads (true, text) = refl
 caveat_reads (false, text) = refl
 
@@ -134,7 +134,7 @@ caveats_read [] = refl
 caveats_read (caveat ∷ caveats) =
     one_reads (caveat_object caveat) (caveat_objects caveats) (of_caveat (λ d. of_json (outline d) ≡ Some d) caveat_reads caveat) (caveats_read caveats)
 
-whole_reads : (caveats : Items) (identifier : Told) (location : Option Told) (signature : List ℕ) → of_items (items_outline caveats) ≡ Some caveats
+whole_reads : (caveats : Items) (identifier : FieldText) (location : Option FieldText) (signature : List ℕ) → of_items (items_outline caveats) ≡ Some caveats
     → of_json (outline (whole caveats identifier location signature)) ≡ Some (whole caveats identifier location signature)
 whole_reads caveats (true, i) None signature e = rw (e, two_is_two) refl
 whole_reads caveats (false, i) None signature e = rw (e, two_is_two) refl
@@ -145,12 +145,12 @@ whole_reads caveats (false, i) (Some (false, l)) signature e = rw (e, two_is_two
 
 pub object_reads : (pass : Plain) → of_json (outline (object_of pass)) ≡ Some (object_of pass)
 object_reads pass =
-    rw (object_is pass) (whole_reads (caveat_objects pass.caveats) (told pass.identifier) (told_location pass.location)
+    rw (object_is pass) (whole_reads (caveat_objects pass.caveats) (field_text pass.identifier) (location_text pass.location)
     (encode_of url_safe_no_pad pass.signature) (caveats_read pass.caveats))
 
 -- ---- its numbers and its depth
 
-caveat_numbers : (told : Told) → HasNumbers (outline (object (identified told no_members)))
+caveat_numbers : (field_text : FieldText) → HasNumbers (outline (object (identified field_text no_members)))
 caveat_numbers (true, text) = (tt, tt)
 caveat_numbers (false, text) = (tt, tt)
 
@@ -158,13 +158,13 @@ caveats_numbers : (caveats : List (List ℕ)) → ItemsHaveNumbers (items_outlin
 caveats_numbers [] = tt
 caveats_numbers (caveat ∷ caveats) = (of_caveat (λ d. HasNumbers (outline d)) caveat_numbers caveat, caveats_numbers caveats)
 
-located_numbers : (location : Option Told) (rest : Members) → MembersHaveNumbers (members_outline rest) →
+located_numbers : (location : Option FieldText) (rest : Members) → MembersHaveNumbers (members_outline rest) →
     MembersHaveNumbers (members_outline (located location rest))
 located_numbers None rest h = h
 located_numbers (Some (true, l)) rest h = (tt, h)
 located_numbers (Some (false, l)) rest h = (tt, h)
 
-identified_numbers : (identifier : Told) (rest : Members) → MembersHaveNumbers (members_outline rest) →
+identified_numbers : (identifier : FieldText) (rest : Members) → MembersHaveNumbers (members_outline rest) →
     MembersHaveNumbers (members_outline (identified identifier rest))
 identified_numbers (true, i) rest h = (tt, h)
 identified_numbers (false, i) rest h = (tt, h)
@@ -172,11 +172,14 @@ identified_numbers (false, i) rest h = (tt, h)
 pub object_numbers : (pass : Plain) → HasNumbers (outline (object_of pass))
 object_numbers pass =
     let rest : Members = member (codes "s64") (string (encode_of url_safe_no_pad pass.signature)) (member (codes "v") (number (unsigned 2)) no_members) in
-    let location : Option Told = told_location pass.location in
-    rw (object_is pass)
-    (caveats_numbers pass.caveats, identified_numbers (told pass.identifier) (located location rest) (located_numbers location rest (tt, (two_is_number, tt))))
+    let location : Option FieldText = location_text pass.location in
+    rw (object_is pass) (
+      caveats_numbers pass.caveats,
+      identified_numbers (field_text pass.identifier) (located location rest)
+          (located_numbers location rest (tt, (two_is_number, tt))),
+    )
 
-caveat_depth : (told : Told) → tree.depth (outline (object (identified told no_members))) ≤ 1
+caveat_depth : (field_text : FieldText) → tree.depth (outline (object (identified field_text no_members))) ≤ 1
 caveat_depth (true, text) = omega arith
 caveat_depth (false, text) = omega arith
 
@@ -187,7 +190,7 @@ caveats_depth (caveat ∷ caveats) =
     let others : tree.items_depth (items_outline (caveat_objects caveats)) ≤ 1 = caveats_depth caveats in
     omega arith
 
-whole_depth : (caveats : Items) (identifier : Told) (location : Option Told) (signature : List ℕ) → tree.items_depth (items_outline caveats) ≤ 1
+whole_depth : (caveats : Items) (identifier : FieldText) (location : Option FieldText) (signature : List ℕ) → tree.items_depth (items_outline caveats) ≤ 1
     → tree.depth (outline (whole caveats identifier location signature)) ≤ 3
 whole_depth caveats (true, i) None signature h = omega arith
 whole_depth caveats (false, i) None signature h = omega arith
@@ -198,7 +201,7 @@ whole_depth caveats (false, i) (Some (false, l)) signature h = omega arith
 
 pub object_depth : (pass : Plain) → tree.depth (outline (object_of pass)) ≤ 3
 object_depth pass =
-    rw (object_is pass) (whole_depth (caveat_objects pass.caveats) (told pass.identifier) (told_location pass.location)
+    rw (object_is pass) (whole_depth (caveat_objects pass.caveats) (field_text pass.identifier) (location_text pass.location)
     (encode_of url_safe_no_pad pass.signature) (caveats_depth pass.caveats))
 
 -- ---- it has no floats
@@ -206,7 +209,7 @@ object_depth pass =
 neither : (a b : Bool) → a ≡ false → b ≡ false → (a || b) ≡ false
 neither a b e f = rw e f
 
-caveat_no_float : (identifier : Told) → has_float (object (identified identifier no_members)) ≡ false
+caveat_no_float : (identifier : FieldText) → has_float (object (identified identifier no_members)) ≡ false
 caveat_no_float (true, text) = refl
 caveat_no_float (false, text) = refl
 
@@ -216,7 +219,7 @@ caveats_no_float (caveat ∷ caveats) =
     neither (has_float (caveat_object caveat)) (items_have_float (caveat_objects caveats)) (of_caveat (λ d. has_float d ≡ false) caveat_no_float caveat)
     (caveats_no_float caveats)
 
-whole_no_float : (caveats : Items) (identifier : Told) (location : Option Told) (signature : List ℕ) → items_have_float caveats ≡ false
+whole_no_float : (caveats : Items) (identifier : FieldText) (location : Option FieldText) (signature : List ℕ) → items_have_float caveats ≡ false
     → has_float (whole caveats identifier location signature) ≡ false
 whole_no_float caveats (true, i) None signature e = rw e refl
 whole_no_float caveats (false, i) None signature e = rw e refl
@@ -228,7 +231,7 @@ whole_no_float caveats (false, i) (Some (false, l)) signature e = rw e refl
 pub object_no_float : (pass : Plain) → has_float (object_of pass) ≡ false
 object_no_float pass =
     rw (object_is pass)
-    (whole_no_float (caveat_objects pass.caveats) (told pass.identifier) (told_location pass.location) (encode_of url_safe_no_pad pass.signature)
+    (whole_no_float (caveat_objects pass.caveats) (field_text pass.identifier) (location_text pass.location) (encode_of url_safe_no_pad pass.signature)
     (caveats_no_float pass.caveats))
 
 -- ---- its strings
@@ -236,27 +239,28 @@ object_no_float pass =
 encoded_text : (bytes : List ℕ) → IsUtf8 (encode_of url_safe_no_pad bytes)
 encoded_text bytes = IsUtf8-from_ascii (encode_of url_safe_no_pad bytes) (IsAscii-encode_of url_safe_no_pad bytes)
 
-told_text_by : (test : Bool) (bytes : List ℕ) → is_utf8 bytes ≡ test → IsUtf8 (told_by test bytes).1
-told_text_by true bytes e = IsUtf8-from_is_utf8 bytes e
-told_text_by false bytes e = encoded_text bytes
+text_by_test_is_utf8 : (test : Bool) (bytes : List ℕ) → is_utf8 bytes ≡ test → IsUtf8 (text_by_test test bytes).1
+text_by_test_is_utf8 true bytes e = IsUtf8-from_is_utf8 bytes e
+text_by_test_is_utf8 false bytes e = encoded_text bytes
 
-told_text : (bytes : List ℕ) → IsUtf8 (told bytes).1
-told_text bytes = told_text_by (is_utf8 bytes) bytes refl
+field_text_is_utf8 : (bytes : List ℕ) → IsUtf8 (field_text bytes).1
+field_text_is_utf8 bytes = text_by_test_is_utf8 (is_utf8 bytes) bytes refl
 
-named_texts : (plain base64 : List ℕ) (told : Told) (rest : Members) → IsUtf8 plain → IsUtf8 base64 → IsUtf8 told.1 → MembersHaveTexts rest →
-    MembersHaveTexts (named plain base64 told rest)
+named_texts : (plain base64 : List ℕ) (field_text : FieldText) (rest : Members) → IsUtf8 plain → IsUtf8 base64 → IsUtf8 field_text.1 → MembersHaveTexts rest →
+    MembersHaveTexts (named plain base64 field_text rest)
 named_texts plain base64 (true, text) rest one two u h = (one, u, h)
 named_texts plain base64 (false, text) rest one two u h = (two, u, h)
 
-identified_texts : (bytes : List ℕ) (rest : Members) → MembersHaveTexts rest → MembersHaveTexts (identified (told bytes) rest)
+identified_texts : (bytes : List ℕ) (rest : Members) → MembersHaveTexts rest → MembersHaveTexts (identified (field_text bytes) rest)
 identified_texts bytes rest h =
-    named_texts (codes "i") (codes "i64") (told bytes) rest (IsUtf8-are_ascii (codes "i") refl) (IsUtf8-are_ascii (codes "i64") refl) (told_text bytes) h
+    named_texts (codes "i") (codes "i64") (field_text bytes) rest (IsUtf8-are_ascii (codes "i") refl) (IsUtf8-are_ascii (codes "i64") refl)
+    (field_text_is_utf8 bytes) h
 
-located_texts : (location : List ℕ) (rest : Members) → MembersHaveTexts rest → MembersHaveTexts (located (told_location location) rest)
+located_texts : (location : List ℕ) (rest : Members) → MembersHaveTexts rest → MembersHaveTexts (located (location_text location) rest)
 located_texts [] rest h = h
 located_texts (byte ∷ bytes) rest h =
-    named_texts (codes "l") (codes "l64") (told (byte ∷ bytes)) rest (IsUtf8-are_ascii (codes "l") refl) (IsUtf8-are_ascii (codes "l64") refl)
-    (told_text (byte ∷ bytes)) h
+    named_texts (codes "l") (codes "l64") (field_text (byte ∷ bytes)) rest (IsUtf8-are_ascii (codes "l") refl) (IsUtf8-are_ascii (codes "l64") refl)
+    (field_text_is_utf8 (byte ∷ bytes)) h
 
 caveats_texts : (caveats : List (List ℕ)) → ItemsHaveTexts (caveat_objects caveats)
 caveats_texts [] = tt
@@ -274,5 +278,5 @@ object_texts pass =
     rw (object_is pass) (
       IsUtf8-are_ascii (codes "c") refl,
       caveats_texts pass.caveats,
-      identified_texts pass.identifier (located (told_location pass.location) rest) (located_texts pass.location rest ends),
+      identified_texts pass.identifier (located (location_text pass.location) rest) (located_texts pass.location rest ends),
     )

@@ -1,16 +1,16 @@
--- What is told by one spelling is told by another that spells the same.
+-- Two spellings of the same pass have the same reading.
 use Rattle.std.proofs.Common.{ℕ, Result, Ok, Err}
 use Rattle.pass_forms.specs.declared.fault.FormFault.{FormFault}
 use Rattle.pass_forms.specs.declared.fault.FormFault.TheVariants.{TooLong, Malformed, ThirdParty, TooMany, Memory}
-use Rattle.pass_forms.specs.Pass.{Plain, WidePass, widened}
-use Rattle.pass_forms.specs.Reading.{IsReading, UnlessMemory}
+use Rattle.pass_forms.specs.Pass.{Plain, WidePass, as_wide_pass}
+use Rattle.pass_forms.specs.Reading.{IsReadAs, UnlessMemory}
 
 abbrev Spelling : Type 1
 Spelling = WidePass → Type 0
 
 pub same_answer : (One Other : Spelling) → ((wide : WidePass) → One wide → Other wide) → ((wide : WidePass) → Other wide → One wide)
-    → (len : ℕ) (answer : Result Plain FormFault) → IsReading len One answer → IsReading len Other answer
-same_answer One Other to from len (Ok pass) h = (h.0, to (widened pass) h.1, h.2)
+    → (len : ℕ) (answer : Result Plain FormFault) → IsReadAs len One answer → IsReadAs len Other answer
+same_answer One Other to from len (Ok pass) h = (h.0, to (as_wide_pass pass) h.1, h.2)
 same_answer One Other to from len (Err TooLong) h = h
 same_answer One Other to from len (Err Malformed) h = (h.0, λ wide k. h.1 wide (from wide k))
 same_answer One Other to from len (Err ThirdParty) h = (h.0, h.1, to h.1 h.2, h.3)

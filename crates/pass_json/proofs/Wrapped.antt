@@ -6,9 +6,9 @@ use Rattle.pass_forms.specs.declared.fault.FormFault.{FormFault}
 use Rattle.pass_forms.specs.declared.fault.FormFault.TheVariants.{TooLong, Malformed, ThirdParty, TooMany, Memory}
 use Rattle.pass_forms.specs.declared.form.Form.{Form}
 use Rattle.pass_forms.specs.declared.form.Form.TheVariants.{V1, V2, Json}
-use Rattle.pass_forms.specs.Envelope.{IsUnwrapped, unwrapped}
+use Rattle.pass_forms.specs.Envelope.{IsUnwrapped, unwrapping}
 use Rattle.pass_forms.specs.Pass.{Plain, WidePass}
-use Rattle.pass_forms.specs.Reading.{UnlessMemory, judged_if_any, max_text_len, reading_of}
+use Rattle.pass_forms.specs.Reading.{UnlessMemory, checked_if_any, max_text_len, reading_of}
 use Rattle.pass_forms.specs.Text.{in_form, text_reading}
 use Rattle.pass_forms.specs.V1Reading.{reading_v1}
 use Rattle.pass_forms.specs.V2Reading.{reading_v2}
@@ -16,11 +16,11 @@ use Rattle.pass_json.specs.AnyForm.{MayRunOut, reading, reading_in_form, wide_in
 use Rattle.pass_json.specs.JsonReading.{reading_json}
 
 -- what the envelope refuses
-pub refused_wrapping : (text : List ℕ) (fault : FormFault) → unwrapped text ≡ Err fault → reading text ≡ Err fault
+pub refused_wrapping : (text : List ℕ) (fault : FormFault) → unwrapping text ≡ Err fault → reading text ≡ Err fault
 unfolding reading text_reading
 refused_wrapping text fault e = rw e refl
 
-pub refused_unless_memory : (text : List ℕ) (fault : FormFault) → unwrapped text ≡ Err fault → UnlessMemory (λ a. reading text ≡ a) (Err fault)
+pub refused_unless_memory : (text : List ℕ) (fault : FormFault) → unwrapping text ≡ Err fault → UnlessMemory (λ a. reading text ≡ a) (Err fault)
 refused_unless_memory text TooLong e = refused_wrapping text TooLong e
 refused_unless_memory text Malformed e = refused_wrapping text Malformed e
 refused_unless_memory text ThirdParty e = refused_wrapping text ThirdParty e
@@ -39,12 +39,12 @@ reads_wide V2 bytes = refl
 reads_wide Json bytes = refl
 
 -- what it wraps
-pub reads_wrapped : (text : List ℕ) (form : Form) (bytes : List ℕ) → unwrapped text ≡ Ok (form, bytes) → length bytes ≤ max_text_len →
+pub reads_wrapped : (text : List ℕ) (form : Form) (bytes : List ℕ) → unwrapping text ≡ Ok (form, bytes) → length bytes ≤ max_text_len →
     reading text ≡ in_form form (reading_in_form form bytes)
 unfolding reading text_reading
 reads_wrapped text form bytes e short = rw (e, reads_wide form bytes, le-ltb max_text_len (length bytes) short) refl
 
-pub read_wrapping : (text : List ℕ) (form : Form) (bytes : List ℕ) (answer : Result Plain FormFault) → unwrapped text ≡ Ok (form, bytes) →
+pub read_wrapping : (text : List ℕ) (form : Form) (bytes : List ℕ) (answer : Result Plain FormFault) → unwrapping text ≡ Ok (form, bytes) →
     length bytes ≤ max_text_len
     → UnlessMemory (λ a. reading_in_form form bytes ≡ a) answer → UnlessMemory (λ a. reading text ≡ a) (in_form form answer)
 read_wrapping text form bytes (Ok pass) e short h = reads_wrapped text form bytes e short ∙ ap (in_form form) h
@@ -58,18 +58,18 @@ was_ok : (form : Form) (answer : Result Plain FormFault) → IsOk answer → IsO
 was_ok form (Ok pass) ok = ok
 was_ok form (Err fault) ok = ok
 
-pub may_run_out : (text : List ℕ) (form : Form) (bytes : List ℕ) → unwrapped text ≡ Ok (form, bytes) → length bytes ≤ max_text_len
+pub may_run_out : (text : List ℕ) (form : Form) (bytes : List ℕ) → unwrapping text ≡ Ok (form, bytes) → length bytes ≤ max_text_len
     → IsOk (reading_in_form form bytes) ⊎ (form ≡ Json) → MayRunOut text
 may_run_out text form bytes e short (inl ok) = inl (rw (reads_wrapped text form bytes e short) (was_ok form (reading_in_form form bytes) ok))
 may_run_out text form bytes e short (inr is) = inr (bytes, e ∙ ap (λ (f : Form). Ok (f, bytes)) is)
 
-judged_by : (long : Bool) (found : Option WidePass) (pass : Plain) → cond long (Err TooLong) (judged_if_any found) ≡ Ok pass → judged_if_any found ≡ Ok pass
-judged_by true found pass e = absurd cc
-judged_by false found pass e = e
+checked_by : (long : Bool) (found : Option WidePass) (pass : Plain) → cond long (Err TooLong) (checked_if_any found) ≡ Ok pass → checked_if_any found ≡ Ok pass
+checked_by true found pass e = absurd cc
+checked_by false found pass e = e
 
 -- what is read back from the bytes that a text wraps
-pub reads_back : (text : List ℕ) (form : Form) (bytes : List ℕ) (pass : Plain) → unwrapped text ≡ Ok (form, bytes)
+pub reads_back : (text : List ℕ) (form : Form) (bytes : List ℕ) (pass : Plain) → unwrapping text ≡ Ok (form, bytes)
     → reading_of (length bytes) (wide_in form bytes) ≡ Ok pass → reading text ≡ Ok (form, pass)
 unfolding reading text_reading
-reads_back text form bytes pass told read =
-    rw told (ap (in_form form) (judged_by (ltb max_text_len (length bytes)) (wide_in form bytes) pass read))
+reads_back text form bytes pass content read =
+    rw content (ap (in_form form) (checked_by (ltb max_text_len (length bytes)) (wide_in form bytes) pass read))

@@ -5,10 +5,10 @@ use Rattle.std.proofs.lemmas.Bool.{le-ltb, ltb-false, ltb-true}
 use Rattle.pass_forms.specs.declared.fault.FormFault.{FormFault}
 use Rattle.pass_forms.specs.declared.fault.FormFault.TheVariants.{TooLong, Malformed, ThirdParty, TooMany, Memory}
 use Rattle.pass_forms.specs.declared.form.Form.TheVariants.{Json}
-use Rattle.pass_forms.specs.Envelope.{FromBase64IsBase64, starts_with_brace, unwrapped}
-use Rattle.pass_forms.specs.Pass.{Plain, widened}
+use Rattle.pass_forms.specs.Envelope.{FromBase64IsBase64, starts_with_brace, unwrapping}
+use Rattle.pass_forms.specs.Pass.{Plain, as_wide_pass}
 use Rattle.pass_forms.specs.Reading.{ReadsExactly, max_caveats, max_text_len}
-use Rattle.pass_forms.specs.Writing.{HasBytes, IsReadBack, IsWritten}
+use Rattle.pass_forms.specs.Writing.{HasBytes, IsReadBack, IsWritableText}
 use Rattle.pass_json.specs.Json.{SpellsJson}
 use Rattle.pass_json.specs.JsonReading.{reading_json}
 use Rattle.pass_json.specs.JsonWriting.{IsJsonText, IsRefusedJson, MayFailAs, WritesJsonExactly, json_text, writing_json}
@@ -40,12 +40,16 @@ written_as pass text is few short =
     rw (few_enough, short_enough) (ap (λ (t : List ℕ). Ok t) (sym is))
 
 pub exact_json : FromBase64IsBase64 → (pass : Plain) (text : List ℕ) → HasBytes pass → length pass.signature ≡ 32 →
-    (writing_json pass ≡ Ok text) ↔ IsWritten IsJsonText pass text
+    (writing_json pass ≡ Ok text) ↔ IsWritableText IsJsonText pass text
 exact_json law pass text are len = (
   λ e.
       let parts = written_parts pass text e in
       record {
-        is_text = record { compact = parts.0; spelled = subst (λ (t : List ℕ). SpellsJson t (widened pass)) (sym parts.0) (spells_json law pass are len) };
+        is_text = record {
+          compact = parts.0;
+          spelling = subst
+              (λ (t : List ℕ). SpellsJson t (as_wide_pass pass)) (sym parts.0) (spells_json law pass are len);
+        };
         short = subst (λ (t : List ℕ). length t ≤ max_text_len) (sym parts.0) parts.2;
         few = parts.1;
       },
@@ -54,17 +58,17 @@ exact_json law pass text are len = (
 
 -- ---- reading back
 
-unwraps_json : (text : List ℕ) → length text ≤ max_text_len → starts_with_brace text ≡ true → unwrapped text ≡ Ok (Json, text)
-unfolding unwrapped
+unwraps_json : (text : List ℕ) → length text ≤ max_text_len → starts_with_brace text ≡ true → unwrapping text ≡ Ok (Json, text)
+unfolding unwrapping
 unwraps_json text short brace =
     let short_enough : ltb max_text_len (length text) ≡ false = le-ltb _ _ short in
     rw (short_enough, brace) refl
 
-pub reads_back_json : ReadsExactly SpellsJson reading_json → (pass : Plain) (text : List ℕ) → IsWritten IsJsonText pass text →
+pub reads_back_json : ReadsExactly SpellsJson reading_json → (pass : Plain) (text : List ℕ) → IsWritableText IsJsonText pass text →
     IsReadBack reading_json Json text pass text
 reads_back_json law pass text written = record {
-  told = unwraps_json text written.short (ap starts_with_brace written.is_text.compact ∙ starts_json pass);
-  read = (law text (Ok pass)).0 (written.short, written.is_text.spelled, written.few);
+  content = unwraps_json text written.short (ap starts_with_brace written.is_text.compact ∙ starts_json pass);
+  read = (law text (Ok pass)).0 (written.short, written.is_text.spelling, written.few);
 }
 
 -- ---- a refusal
@@ -95,7 +99,7 @@ is_refused_json pass fault e = refused_by pass (ltb max_caveats (length pass.cav
 pub written_if : {T : Type 0} (law : WritesJsonExactly) (pass : Plain) (bytes_of : T → List ℕ) (result : Result T FormFault) → OnOk result (HasBytes pass) →
     OnOk result (length pass.signature ≡ 32)
     → MatchResult result (λ text. writing_json pass ≡ Ok (bytes_of text)) (MayFailAs (writing_json pass)) → IfOk result
-    (λ text. IsWritten IsJsonText pass (bytes_of text))
+    (λ text. IsWritableText IsJsonText pass (bytes_of text))
 written_if law pass bytes_of (Ok text) are len e = (law pass (bytes_of text) are len).0 e
 written_if law pass bytes_of (Err fault) are len e = tt
 

@@ -7,8 +7,8 @@ use Rattle.serde_json.specs.Read.{read}
 use Rattle.pass_forms.specs.Envelope.{IsBase64}
 use Rattle.pass_forms.specs.Pass.{WideCaveat, WidePass}
 
--- Bytes stand under a plain name, as a text that has these bytes in UTF-8, or under a `64` name, as a text that is base64
--- of them. They never stand under both, and may stand under neither.
+-- Bytes are under a plain name, as a text that has these bytes in UTF-8, or under a `64` name, as a text that is base64
+-- of them. They are never under both, and may be under neither.
 abbrev pub IsField : List ℕ → List ℕ → Data → Option (List ℕ) → Type 0
 IsField plain base64 value None = (get plain value ≡ None) × (get base64 value ≡ None)
 IsField plain base64 value (Some bytes) =
@@ -43,8 +43,8 @@ pass_names =
 abbrev pub caveat_names : List (List ℕ)
 caveat_names = codes "i" ∷ codes "i64" ∷ codes "l" ∷ codes "l64" ∷ codes "v" ∷ codes "v64" ∷ []
 
--- what has an identifier is an object
-pub record IsCaveat (value : Data) (caveat : WideCaveat) : Type 0 where
+-- a value with an identifier is an object
+pub record IsCaveatObject (value : Data) (caveat : WideCaveat) : Type 0 where
   pub names : HasOnly caveat_names value
   pub identifier : IsIdentifier value (Some caveat.identifier)
   pub verifier_id : IsVerifierId value caveat.verifier_id
@@ -53,10 +53,10 @@ pub record IsCaveat (value : Data) (caveat : WideCaveat) : Type 0 where
 -- each item is a caveat, in their order
 abbrev pub AreCaveats : Items → List WideCaveat → Type 0
 AreCaveats no_items [] = Unit {0}
-AreCaveats (item value values) (caveat ∷ caveats) = IsCaveat value caveat × AreCaveats values caveats
+AreCaveats (item value values) (caveat ∷ caveats) = IsCaveatObject value caveat × AreCaveats values caveats
 AreCaveats values caveats = ⊥
 
--- the list of caveats, which may be left out where it is empty
+-- the list of caveats, which may be left out if it is empty
 abbrev pub IsCaveatList : Option Data → List WideCaveat → Type 0
 IsCaveatList None caveats = caveats ≡ []
 IsCaveatList (Some value) caveats = (items : Items) × (value ≡ array items) × AreCaveats items caveats
@@ -78,7 +78,7 @@ pub record IsPass (value : Data) (wide : WidePass) : Type 0 where
   pub signature : IsSignature value (Some wide.signature)
   pub signature_len : length wide.signature ≡ 32
 
--- The bytes are JSON, as `serde_json` reads it, of an object that holds the wide pass.
+-- The bytes are JSON, as `serde_json` parses it, of an object that holds the wide pass.
 pub record SpellsJson (bytes : List ℕ) (wide : WidePass) : Type 0 where
   pub value : Data
   pub utf8 : IsUtf8 bytes

@@ -1,4 +1,4 @@
--- The JSON form, computed: what each part of the object stands for.
+-- The JSON form, computed: the value of each part of the object.
 use Rattle.std.specs.Prelude.{◌≡◌, ℕ, ◌==◌, ◌&&◌, nat_lt, if◌then◌else◌, Bool, true, false, List, [], ◌∷◌, codes, length, map, Option, None, Some, option_map}
 use Rattle.std.specs.Prelude.{unwrap_or, Result}
 use Rattle.std.specs.List.{list_all, list_any}
@@ -22,65 +22,65 @@ base64_bytes text = if list_all (λ byte. nat_lt byte 256) text then from_base64
 abbrev pub decoded_text : Data → Option (List ℕ)
 decoded_text value = as_str value >>= base64_bytes
 
--- what stands under a plain name and under its `64` name: bytes or nothing, if it is well formed
-abbrev pub told : Option Data → Option Data → Option (Option (List ℕ))
-told None None = Some None
-told (Some value) None = option_map (λ bytes. Some bytes) (as_str value)
-told None (Some value) = option_map (λ bytes. Some bytes) (decoded_text value)
-told (Some value) (Some other) = None
+-- the value of a plain name and of its `64` name: bytes or nothing, if both are well formed
+abbrev pub field_bytes : Option Data → Option Data → Option (Option (List ℕ))
+field_bytes None None = Some None
+field_bytes (Some value) None = option_map (λ bytes. Some bytes) (as_str value)
+field_bytes None (Some value) = option_map (λ bytes. Some bytes) (decoded_text value)
+field_bytes (Some value) (Some other) = None
 
-unfoldable pub field_at : List ℕ → List ℕ → Data → Option (Option (List ℕ))
-field_at plain base64 value = told (get plain value) (get base64 value)
+unfoldable pub field_from : List ℕ → List ℕ → Data → Option (Option (List ℕ))
+field_from plain base64 value = field_bytes (get plain value) (get base64 value)
 
--- the same where it may not be left out
-abbrev pub required : Option (Option (List ℕ)) → Option (List ℕ)
-required None = None
-required (Some bytes) = bytes
+-- the same, for a field that may not be left out
+abbrev pub must_have : Option (Option (List ℕ)) → Option (List ℕ)
+must_have None = None
+must_have (Some bytes) = bytes
 
 abbrev pub only_among : List (List ℕ) → Members → Bool
 only_among names no_members = true
 only_among names (member name value members) = list_any (bytes_eq name) names && only_among names members
 
-unfoldable pub has_only : List (List ℕ) → Data → Bool
-has_only names value = unwrap_or (option_map (only_among names) (as_object value)) false
+unfoldable pub has_only_names : List (List ℕ) → Data → Bool
+has_only_names names value = unwrap_or (option_map (only_among names) (as_object value)) false
 
-unfoldable pub caveat_of : Data → Option WideCaveat
-caveat_of value = do
-  names ← if has_only caveat_names value then Some value else None
-  identifier ← required (field_at (codes "i") (codes "i64") value)
-  verifier_id ← field_at (codes "v") (codes "v64") value
-  location ← field_at (codes "l") (codes "l64") value
+unfoldable pub caveat_from : Data → Option WideCaveat
+caveat_from value = do
+  names ← if has_only_names caveat_names value then Some value else None
+  identifier ← must_have (field_from (codes "i") (codes "i64") value)
+  verifier_id ← field_from (codes "v") (codes "v64") value
+  location ← field_from (codes "l") (codes "l64") value
   Some (record { identifier = identifier; verifier_id = verifier_id; location = location })
 
 unfoldable pub caveats_of : Items → Option (List WideCaveat)
 caveats_of no_items = Some []
 caveats_of (item value values) = do
-  caveat ← caveat_of value
+  caveat ← caveat_from value
   caveats ← caveats_of values
   Some (caveat ∷ caveats)
 
-abbrev pub listed : Option Data → Option (List WideCaveat)
-listed None = Some []
-listed (Some value) = as_array value >>= caveats_of
+abbrev pub caveat_list : Option Data → Option (List WideCaveat)
+caveat_list None = Some []
+caveat_list (Some value) = as_array value >>= caveats_of
 
 abbrev pub is_version : Option Data → Bool
 is_version None = true
 is_version (Some value) = unwrap_or (option_map (λ n. n == 2) (as_number value >>= as_u64)) false
 
--- a signature of another length is none
+-- the bytes, if they have this length
 abbrev pub of_length : ℕ → List ℕ → Option (List ℕ)
 of_length len bytes = if length bytes == len then Some bytes else None
 
-abbrev pub signature_of : Data → Option (List ℕ)
-signature_of value = required (field_at (codes "s") (codes "s64") value) >>= of_length 32
+abbrev pub signature_from : Data → Option (List ℕ)
+signature_from value = must_have (field_from (codes "s") (codes "s64") value) >>= of_length 32
 
-unfoldable pub pass_of : Data → Option WidePass
-pass_of value = do
-  names ← if has_only pass_names value && is_version (get (codes "v") value) then Some value else None
-  location ← field_at (codes "l") (codes "l64") value
-  identifier ← required (field_at (codes "i") (codes "i64") value)
-  caveats ← listed (get (codes "c") value)
-  signature ← signature_of value
+unfoldable pub pass_from : Data → Option WidePass
+pass_from value = do
+  names ← if has_only_names pass_names value && is_version (get (codes "v") value) then Some value else None
+  location ← field_from (codes "l") (codes "l64") value
+  identifier ← must_have (field_from (codes "i") (codes "i64") value)
+  caveats ← caveat_list (get (codes "c") value)
+  signature ← signature_from value
   Some (record {
     location = unwrap_or location [];
     identifier = identifier;
@@ -94,7 +94,7 @@ value_of bytes = if is_utf8 bytes then read bytes else None
 
 -- the whole pass
 unfoldable pub wide_json : List ℕ → Option WidePass
-wide_json bytes = value_of bytes >>= pass_of
+wide_json bytes = value_of bytes >>= pass_from
 
 -- the reading of bytes in JSON
 unfoldable pub reading_json : List ℕ → Result Plain FormFault
@@ -107,7 +107,7 @@ kept_caveat caveat = (first_party_caveat caveat, is_third_party caveat)
 abbrev pub kept_caveats : List WideCaveat → List (List ℕ) × Bool
 kept_caveats caveats = (map first_party_caveat caveats, list_any is_third_party caveats)
 
--- What a part of the reader may refuse: what isn't well formed, and memory at any time.
+-- The faults of a part of the reader: malformed if the value isn't well formed, and out of memory at any time.
 abbrev pub RefusesPart : {A : Type 0} → Option A → FormFault → Type 0
 RefusesPart found Malformed = found ≡ None
 RefusesPart found Memory = Unit {0}

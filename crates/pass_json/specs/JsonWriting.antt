@@ -1,4 +1,4 @@
--- What the writer writes of a pass in JSON, and when it refuses.
+-- The JSON text of a pass, and the writer's faults.
 use Rattle.std.specs.Prelude.{◌≡◌, ◌↔◌, ℕ, ◌≤◌, nat_lt, if◌then◌else◌, List, [], ◌∷◌, codes, length, map, Result, Ok, Err}
 use Rattle.std.specs.Str.{is_utf8}
 use Rattle.base64.specs.Engines.{url_safe_no_pad}
@@ -9,9 +9,9 @@ use Rattle.serde_json.specs.Written.{compact_text}
 use Rattle.pass_forms.specs.declared.fault.FormFault.{FormFault}
 use Rattle.pass_forms.specs.declared.fault.FormFault.TheVariants.{TooLong, Malformed, ThirdParty, TooMany, Memory}
 use Rattle.pass_forms.specs.declared.form.Form.TheVariants.{Json}
-use Rattle.pass_forms.specs.Pass.{Plain, widened}
+use Rattle.pass_forms.specs.Pass.{Plain, as_wide_pass}
 use Rattle.pass_forms.specs.Reading.{max_caveats, max_text_len}
-use Rattle.pass_forms.specs.Writing.{HasBytes, IsReadBack, IsRefused, IsWritten}
+use Rattle.pass_forms.specs.Writing.{HasBytes, IsReadBack, IsWriteFault, IsWritableText}
 use Rattle.pass_json.specs.Json.{SpellsJson}
 use Rattle.pass_json.specs.JsonReading.{reading_json}
 
@@ -19,55 +19,56 @@ use Rattle.pass_json.specs.JsonReading.{reading_json}
 abbrev pub base64_text : List ℕ → Data
 base64_text bytes = string (encode_of url_safe_no_pad bytes)
 
--- Bytes stand under the plain name where they are UTF-8, else under the `64` name (ours).
-unfoldable pub with_field : List ℕ → List ℕ → List ℕ → Members → Members
-with_field plain base64 bytes members =
+-- Bytes are written under the plain name if they are UTF-8, else under the `64` name (ours).
+unfoldable pub put_member : List ℕ → List ℕ → List ℕ → Members → Members
+put_member plain base64 bytes members =
     if is_utf8 bytes then put plain (string bytes) members else put base64 (base64_text bytes) members
 
 -- an empty location is left out
 abbrev pub with_location : List ℕ → Members → Members
 with_location [] members = members
-with_location (byte ∷ bytes) members = with_field (codes "l") (codes "l64") (byte ∷ bytes) members
+with_location (byte ∷ bytes) members = put_member (codes "l") (codes "l64") (byte ∷ bytes) members
 
 abbrev pub caveat_object : List ℕ → Data
-caveat_object identifier = object (with_field (codes "i") (codes "i64") identifier no_members)
+caveat_object identifier = object (put_member (codes "i") (codes "i64") identifier no_members)
 
 abbrev pub caveat_objects : List (List ℕ) → Items
 caveat_objects identifiers = items_of (map caveat_object identifiers)
 
--- The object of a pass. The signature is always in base64, and the version and the list of caveats always there.
+-- The object of a pass. The signature is always in base64. The version and the list of caveats are always written.
 unfoldable pub object_of : Plain → Data
 object_of pass =
     object (put (codes "v") (number (unsigned 2))
     (put (codes "s64") (base64_text pass.signature)
     (put (codes "c") (array (caveat_objects pass.caveats))
-    (with_field (codes "i") (codes "i64") pass.identifier (with_location pass.location no_members)))))
+    (put_member (codes "i") (codes "i64") pass.identifier (with_location pass.location no_members)))))
 
 -- its text, with no white space, as `serde_json` writes it: the names in the order of their bytes
 unfoldable pub json_text : Plain → List ℕ
 json_text pass = compact_text (object_of pass)
 
--- The text is the writer's of this pass: that of its object, which spells it.
+-- The text of this pass: that of its object, which spells it.
 pub record IsJsonText (pass : Plain) (text : List ℕ) : Type 0 where
   pub compact : text ≡ json_text pass
-  pub spelled : SpellsJson text (widened pass)
+  pub spelling : SpellsJson text (as_wide_pass pass)
 
--- When the writer refuses: as those of the other forms do, but that memory may also be wanted for a text that is too long,
--- since a text is written before it is measured.
+-- The writer's faults: those of the other forms. Memory may also run out for a text that is too long, since the text is
+-- written before it is measured.
 abbrev pub IsRefusedJson : Plain → FormFault → Type 0
 IsRefusedJson pass Memory = length pass.caveats ≤ max_caveats
-IsRefusedJson pass TooLong = IsRefused IsJsonText pass TooLong
-IsRefusedJson pass Malformed = IsRefused IsJsonText pass Malformed
-IsRefusedJson pass ThirdParty = IsRefused IsJsonText pass ThirdParty
-IsRefusedJson pass TooMany = IsRefused IsJsonText pass TooMany
+IsRefusedJson pass TooLong = IsWriteFault IsJsonText pass TooLong
+IsRefusedJson pass Malformed = IsWriteFault IsJsonText pass Malformed
+IsRefusedJson pass ThirdParty = IsWriteFault IsJsonText pass ThirdParty
+IsRefusedJson pass TooMany = IsWriteFault IsJsonText pass TooMany
 
--- The same, computed: the text, or the first fault that fits.
+-- The same, computed: the text, or the first fault that applies.
 unfoldable pub writing_json : Plain → Result (List ℕ) FormFault
 writing_json pass =
     if nat_lt max_caveats (length pass.caveats) then Err TooMany
     else (if nat_lt max_text_len (length (json_text pass)) then Err TooLong else Ok (json_text pass))
 
--- A writer that would answer so may answer this fault: the same, or out of memory in place of a text or of `TooLong`.
+-- The fault that a writer may return for this computed result: the same fault, or out of memory in place of a text or of
+-- `TooLong`.
 abbrev pub MayFailAs : Result (List ℕ) FormFault → FormFault → Type 0
 MayFailAs writing Memory = ¬ (writing ≡ Err TooMany)
 MayFailAs writing TooLong = writing ≡ Err TooLong
@@ -75,11 +76,11 @@ MayFailAs writing Malformed = writing ≡ Err Malformed
 MayFailAs writing ThirdParty = writing ≡ Err ThirdParty
 MayFailAs writing TooMany = writing ≡ Err TooMany
 
--- What is written of a pass is read back as that pass.
+-- A written text is read back as the same pass.
 abbrev pub JsonReadsBack : Type 0
-JsonReadsBack = (pass : Plain) (text : List ℕ) → IsWritten IsJsonText pass text → IsReadBack reading_json Json text pass text
+JsonReadsBack = (pass : Plain) (text : List ℕ) → IsWritableText IsJsonText pass text → IsReadBack reading_json Json text pass text
 
--- Of a pass of bytes with a signature of 32 bytes, the computed text is what may be written, and nothing else is.
+-- For a pass of bytes with a signature of 32 bytes, the writer may return the computed text and no other.
 abbrev pub WritesJsonExactly : Type 0
 WritesJsonExactly = (pass : Plain) (text : List ℕ) → HasBytes pass → length pass.signature ≡ 32 →
-    (writing_json pass ≡ Ok text) ↔ IsWritten IsJsonText pass text
+    (writing_json pass ≡ Ok text) ↔ IsWritableText IsJsonText pass text

@@ -4,7 +4,7 @@ ghost use Rattle.std.specs.Prelude.{◌≡◌, ◌⊎◌, Err, IfErr, IfOk, IsOk
 ghost use Rattle.std.specs.String.{string_bytes};
 ghost use Rattle.pass_forms.specs.declared.fault.FormFault.TheVariants.{Memory};
 ghost use Rattle.pass_forms.specs.declared.form.Form.TheVariants.{Json};
-ghost use Rattle.pass_forms.specs.Writing.{IsWritten};
+ghost use Rattle.pass_forms.specs.Writing.{IsWritableText};
 ghost use Rattle.pass_forms.specs.Reading.{UnlessMemory};
 ghost use Rattle.pass_json.specs.AnyForm.{
   IsAnyReading,
@@ -24,36 +24,36 @@ use pass_forms::{
 };
 use std::alloc::Global;
 
-/// The form of a pass text, and the pass: JSON plainly or in base64, V1 and V2 in base64, as
-/// `unwrap_text` tells them.
+/// Reads a pass text in any form: JSON plain or in base64, V1 and V2 in base64. `unwrap_text`
+/// decides the form.
 ///
 /// # Errors
 ///
-/// The first that fits: `TooLong` for more than 8,192 bytes, `Malformed` where no pass is spelled
-/// in any form, `ThirdParty` where a caveat is a third party's, `TooMany` for more than 64 caveats.
-/// `Memory` comes only where memory was refused, in V1 and V2 only for a pass that would have been
-/// read.
+/// The first that applies: `TooLong` for more than 8,192 bytes, `Malformed` if the text spells no
+/// pass in any form, `ThirdParty` if a caveat is a third party's, `TooMany` for more than 64
+/// caveats. `Memory` only if an allocation fails, in V1 and V2 only for a pass that passed all
+/// checks.
 pub fn read_any(alloc: Global, text: &[u8]) -> Result<(Form, Pass), FormFault>
-    // By what the text spells, in whichever form.
-    ensures spelled { UnlessMemory (IsAnyReading text.now) result }
+    // The pass that the text spells, in any form.
+    ensures spelling { UnlessMemory (IsAnyReading text.now) result }
     // The same, computed.
     ensures computed { UnlessMemory (λ answer. reading text.now ≡ answer) result }
     ensures memory { result ≡ Err Memory → MayRunOut text.now }
 {
     reads_any_form_exactly();
-    unwrapped(alloc, text)
+    unwrapping(alloc, text)
 }
 
-// The same, by taking the text out of its envelope.
+// The same, computed from the unwrapped text.
 #[tactic(auto, unfolding(crate::specs::AnyForm::reading))]
-fn unwrapped(alloc: Global, text: &[u8]) -> Result<(Form, Pass), FormFault>
+fn unwrapping(alloc: Global, text: &[u8]) -> Result<(Form, Pass), FormFault>
     ensures answer { UnlessMemory (λ answer. reading text.now ≡ answer) result }
     ensures memory { result ≡ Err Memory → MayRunOut text.now }
 {
-    let mut room = [0; MAX_BYTES];
-    let unwrapped = unwrap_text(text, &mut room)?;
-    let pass = in_form(alloc, unwrapped.form, unwrapped.bytes(text, &room))?;
-    Ok((unwrapped.form, pass))
+    let mut buffer = [0; MAX_BYTES];
+    let unwrapping = unwrap_text(text, &mut buffer)?;
+    let pass = in_form(alloc, unwrapping.form, unwrapping.bytes(text, &buffer))?;
+    Ok((unwrapping.form, pass))
 }
 
 // The pass that the bytes spell in this form.
@@ -68,18 +68,17 @@ fn in_form(alloc: Global, form: Form, bytes: &[u8]) -> Result<Pass, FormFault>
     }
 }
 
-/// The text of a pass in this form: V1 and V2 in base64, JSON plainly.
+/// The text of a pass in this form: V1 and V2 in base64, JSON plain.
 ///
 /// # Errors
 ///
-/// `TooMany` for more than 64 caveats, else `TooLong` where the pass has no such text of at most
-/// 8,192 bytes. `Memory` comes only where memory was refused: to a text, or in JSON to one that
-/// would have been too long.
+/// `TooMany` for more than 64 caveats, else `TooLong` if the pass has no such text of at most 8,192
+/// bytes. `Memory` only if an allocation fails; in JSON also for a text that is too long.
 pub fn write_any(alloc: Global, form: Form, pass: &Pass) -> Result<String, FormFault>
-    ensures ok { IfOk result (λ text. IsWritten (IsTextIn form) pass.now (string_bytes text)) }
+    ensures ok { IfOk result (λ text. IsWritableText (IsTextIn form) pass.now (string_bytes text)) }
     ensures err { IfErr result (IsRefusedIn form pass.now) }
     ensures read_back { IfOk result (λ text. reading (string_bytes text) ≡ Ok (form, pass.now)) }
-    // By what is computed of the pass.
+    // The same, computed from the pass.
     ensures computed { MatchResult result (λ text. writing form pass.now ≡ Ok (string_bytes text))
         (MayFailAs (writing form pass.now)) }
 {

@@ -3,28 +3,28 @@
 ghost use Rattle.std.specs.Prelude.{◌≡◌, Some, option_map, IfErr, IfOk};
 ghost use Rattle.serde_json.specs.Find.{as_str};
 ghost use Rattle.serde_json.specs.View.{view};
-ghost use Rattle.pass_json.specs.JsonReading.{base64_bytes, decoded_text, field_at, RefusesPart};
+ghost use Rattle.pass_json.specs.JsonReading.{base64_bytes, decoded_text, field_from, RefusesPart};
 
 use pass_forms::{FormFault, decode_base64};
 use serde_json::Value;
 use std::alloc::{AllocError, Global};
 
-/// The bytes under the plain name or the `64` name, if there are any.
-#[tactic(auto, unfolding(crate::specs::JsonReading::field_at))]
+/// The bytes under the plain name or the `64` name, if one of them is present.
+#[tactic(auto, unfolding(crate::specs::JsonReading::field_from))]
 pub fn field(
     alloc: Global,
     object: &Value,
     plain: &str,
     base64: &str,
 ) -> Result<Option<Vec<u8>>, FormFault>
-    ensures ok { IfOk result (λ bytes. field_at plain.now base64.now (view object.now)
+    ensures ok { IfOk result (λ bytes. field_from plain.now base64.now (view object.now)
         ≡ Some (option_map (λ b. b.items) bytes)) }
-    ensures err { IfErr result (RefusesPart (field_at plain.now base64.now (view object.now))) }
+    ensures err { IfErr result (RefusesPart (field_from plain.now base64.now (view object.now))) }
 {
     match (object.get(plain), object.get(base64)) {
         (None, None) => Ok(None),
         (Some(text), None) => Ok(Some(plain_bytes(alloc, text)?)),
-        (None, Some(text)) => Ok(Some(decoded(alloc, text)?)),
+        (None, Some(text)) => Ok(Some(decode_text(alloc, text)?)),
         (Some(_), Some(_)) => Err(FormFault::Malformed),
     }
 }
@@ -41,7 +41,7 @@ fn plain_bytes(alloc: Global, value: &Value) -> Result<Vec<u8>, FormFault>
 }
 
 // The bytes that a text is base64 of.
-fn decoded(alloc: Global, value: &Value) -> Result<Vec<u8>, FormFault>
+fn decode_text(alloc: Global, value: &Value) -> Result<Vec<u8>, FormFault>
     ensures ok { IfOk result (λ bytes. decoded_text (view value.now) ≡ Some bytes.items) }
     ensures err { IfErr result (RefusesPart (decoded_text (view value.now))) }
 {

@@ -1,9 +1,10 @@
-//! The fields of a pass that was read whole, one after the other.
+//! The fields of a pass in memory, one after the other.
 
 use pass_forms::{Field, FieldSource, Pass};
 use std::marker::Model;
 
-/// The fields of a pass, without a copy. Contracts see them as the list of those still to come.
+/// The fields of a pass, without a copy. Contracts see them as the list of the fields that are
+/// left.
 #[derive(Drop)]
 pub struct JsonFields<'a> {
     location: Option<&'a [u8]>,
@@ -24,12 +25,11 @@ impl<'a> Model for JsonFields<'a> {
 
 impl<'a> JsonFields<'a> {
     ghost use Rattle.std.specs.Prelude.{◌≡◌};
-    ghost use Rattle.pass_forms.specs.FieldSource.{fields_of};
+    ghost use Rattle.pass_forms.specs.FieldSource.{pass_fields};
 
-    /// The fields of a pass that was read, from the first on. It takes no memory: each field is a
-    /// part of the pass.
+    /// All fields of a pass in memory. No memory is allocated: each field is a slice of the pass.
     pub fn over(pass: &'a Pass) -> JsonFields<'a>
-        ensures { result ≡ fields_of pass.now }
+        ensures { result ≡ pass_fields pass.now }
     {
         JsonFields {
             location: Some(pass.location()),

@@ -1,5 +1,5 @@
-//! Laws of the definitions, each the contract of a function that does nothing but cite those that
-//! it rests on.
+//! Laws of the definitions. Each law is the contract of a function that only cites the laws that it
+//! uses.
 
 ghost use Rattle.pass_json.specs.AnyForm.{
   AnyFormReadsBack,
@@ -19,21 +19,21 @@ use pass_forms::laws::{
     texts_read_back, writes_exactly,
 };
 
-/// The bytes of JSON spell one pass at most.
+/// Bytes spell at most one pass in JSON.
 pub fn one_pass_for_each_json()
     ensures { OnePassEach SpellsJson }
 {
     from_base64_is_base64();
 }
 
-/// What is computed of the bytes of JSON is what they spell.
+/// The computed pass of bytes in JSON is the one that they spell.
 pub fn computes_json()
     ensures { ComputesSpelled SpellsJson wide_json }
 {
     from_base64_is_base64();
 }
 
-/// The answer to bytes of JSON is determined, and is the one that is computed.
+/// The relation allows exactly one result for bytes of JSON: the computed one.
 pub fn reads_json_exactly()
     ensures { ReadsExactly SpellsJson reading_json }
 {
@@ -41,7 +41,7 @@ pub fn reads_json_exactly()
     answers_exactly();
 }
 
-/// The answer to a text in whichever form is determined, and is the one that is computed.
+/// The relation allows exactly one result for a text in any form: the computed one.
 pub fn reads_any_form_exactly()
     ensures { ReadsAnyFormExactly }
 {
@@ -61,26 +61,26 @@ pub fn refuses_what_wraps_nothing()
     ensures { RefusesWhatWrapsNothing }
 {}
 
-/// The text that is written of a pass in JSON is read back as that pass.
+/// A text that is written in JSON is read back as the same pass.
 pub fn json_reads_back()
     ensures { JsonReadsBack }
 {
     reads_json_exactly();
 }
 
-/// The text in JSON that is computed of a pass is the one that may be written of it.
+/// The computed JSON text of a pass is the only one that the writer may write.
 pub fn writes_json_exactly()
     ensures { WritesJsonExactly }
 {
     from_base64_is_base64();
 }
 
-/// A pass has one text in each form at most, which a writer may write.
+/// A pass has at most one text in each form that a writer may write.
 pub fn one_text_for_each_form()
     ensures { OneTextEachForm }
 {}
 
-/// The text that is written of a pass, in whichever form, is read back as that form and that pass.
+/// A written text, in any form, is read back as the same form and the same pass.
 pub fn any_form_reads_back()
     ensures { AnyFormReadsBack }
 {
@@ -88,7 +88,7 @@ pub fn any_form_reads_back()
     json_reads_back();
 }
 
-/// The text that is computed of a pass is the one that may be written of it, in whichever form.
+/// The computed text of a pass is the only one that a writer may write, in any form.
 pub fn writes_any_form_exactly()
     ensures { WritesAnyFormExactly }
 {

@@ -11,8 +11,8 @@ ghost use Rattle.pass_json.specs.JsonReading as reading;
 use serde_json::{Map, Value};
 
 /// Whether the value is an object with no other names than these.
-pub fn has_only(value: &Value, names: &[&str]) -> bool
-    ensures { result ≡ reading.has_only (map (λ name. name.now) names.now) (view value.now) }
+pub fn has_only_names(value: &Value, names: &[&str]) -> bool
+    ensures { result ≡ reading.has_only_names (map (λ name. name.now) names.now) (view value.now) }
 {
     match value.as_object() {
         Some(members) => are_among(members, names),

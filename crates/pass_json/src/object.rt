@@ -1,14 +1,14 @@
 //! The object of a pass, and those of its caveats.
 
 ghost use Rattle.std.specs.Prelude.{◌≡◌, Some, codes, option_map, map, IfErr, IfOk};
-ghost use Rattle.pass_forms.specs.Reading.{kept};
+ghost use Rattle.pass_forms.specs.Reading.{pass_summary};
 ghost use Rattle.serde_json.specs.Find.{get};
 ghost use Rattle.serde_json.specs.View.{items_view, view};
 ghost use Rattle.pass_json.specs.JsonReading as reading;
 ghost use Rattle.pass_json.specs.JsonReading.{RefusesPart, kept_caveat, kept_caveats};
 
 use crate::field::field;
-use crate::names::has_only;
+use crate::names::has_only_names;
 use pass_forms::{FormFault, Pass};
 use serde_json::Value;
 use std::alloc::Global;
@@ -17,7 +17,7 @@ const PASS_NAMES: [&str; 8] = ["v", "l", "l64", "i", "i64", "c", "s", "s64"];
 
 const CAVEAT_NAMES: [&str; 6] = ["i", "i64", "l", "l64", "v", "v64"];
 
-/// The pass of an object, and what is left out of it.
+/// The pass of an object, and what the pass itself doesn't hold.
 #[derive(Drop)]
 pub struct Read {
     pub pass: Pass,
@@ -40,17 +40,17 @@ struct Caveats {
 }
 
 /// The pass that an object holds.
-#[tactic(auto, unfolding(crate::specs::JsonReading::pass_of))]
-pub fn pass_of(alloc: Global, value: &Value) -> Result<Read, FormFault>
-    ensures ok { IfOk result (λ read. option_map kept (reading.pass_of (view value.now))
+#[tactic(auto, unfolding(crate::specs::JsonReading::pass_from))]
+pub fn pass_from(alloc: Global, value: &Value) -> Result<Read, FormFault>
+    ensures ok { IfOk result (λ read. option_map pass_summary (reading.pass_from (view value.now))
         ≡ Some (read.pass, read.caveat_count, read.third_party)) }
-    ensures err { IfErr result (RefusesPart (reading.pass_of (view value.now))) }
+    ensures err { IfErr result (RefusesPart (reading.pass_from (view value.now))) }
 {
-    if !has_only(value, &PASS_NAMES) || !is_version(value) {
+    if !has_only_names(value, &PASS_NAMES) || !is_version(value) {
         return Err(FormFault::Malformed);
     }
     let location = field(alloc, value, "l", "l64")?;
-    let identifier = required(alloc, value, "i", "i64")?;
+    let identifier = must_have(alloc, value, "i", "i64")?;
     let caveats = read_caveats(alloc, value)?;
     let signature = signature(alloc, value)?;
     Ok(Read {
@@ -76,21 +76,22 @@ fn is_version(value: &Value) -> bool
 }
 
 // The bytes of a field that may not be left out.
-fn required(alloc: Global, value: &Value, plain: &str, base64: &str) -> Result<Vec<u8>, FormFault>
+fn must_have(alloc: Global, value: &Value, plain: &str, base64: &str) -> Result<Vec<u8>, FormFault>
     ensures ok { IfOk result
-        (λ bytes. reading.required (reading.field_at plain.now base64.now (view value.now))
+        (λ bytes. reading.must_have (reading.field_from plain.now base64.now (view value.now))
         ≡ Some bytes.items) }
     ensures err { IfErr result
-        (RefusesPart (reading.required (reading.field_at plain.now base64.now (view value.now)))) }
+        (RefusesPart
+        (reading.must_have (reading.field_from plain.now base64.now (view value.now)))) }
 {
     field(alloc, value, plain, base64)?.ok_or(FormFault::Malformed)
 }
 
 fn signature(alloc: Global, value: &Value) -> Result<[u8; 32], FormFault>
-    ensures ok { IfOk result (λ bytes. reading.signature_of (view value.now) ≡ Some bytes) }
-    ensures err { IfErr result (RefusesPart (reading.signature_of (view value.now))) }
+    ensures ok { IfOk result (λ bytes. reading.signature_from (view value.now) ≡ Some bytes) }
+    ensures err { IfErr result (RefusesPart (reading.signature_from (view value.now))) }
 {
-    let bytes = required(alloc, value, "s", "s64")?;
+    let bytes = must_have(alloc, value, "s", "s64")?;
     let Ok(signature) = <[u8; 32]>::try_from(bytes.as_slice()) else {
         return Err(FormFault::Malformed);
     };
@@ -100,9 +101,10 @@ fn signature(alloc: Global, value: &Value) -> Result<[u8; 32], FormFault>
 // The caveats of a pass.
 fn read_caveats(alloc: Global, value: &Value) -> Result<Caveats, FormFault>
     ensures ok { IfOk result
-        (λ caveats. option_map kept_caveats (reading.listed (get (codes "c") (view value.now)))
+        (λ caveats. option_map kept_caveats (reading.caveat_list (get (codes "c") (view value.now)))
         ≡ Some (map (λ c. c.items) caveats.identifiers.items, caveats.third_party)) }
-    ensures err { IfErr result (RefusesPart (reading.listed (get (codes "c") (view value.now)))) }
+    ensures err { IfErr result
+        (RefusesPart (reading.caveat_list (get (codes "c") (view value.now)))) }
 {
     let Some(list) = value.get("c") else {
         return Ok(Caveats {
@@ -135,16 +137,17 @@ fn all_caveats(alloc: Global, list: &[Value]) -> Result<Caveats, FormFault>
     })
 }
 
-#[tactic(auto, unfolding(crate::specs::JsonReading::caveat_of))]
+#[tactic(auto, unfolding(crate::specs::JsonReading::caveat_from))]
 fn read_caveat(alloc: Global, value: &Value) -> Result<Caveat, FormFault>
-    ensures ok { IfOk result (λ caveat. option_map kept_caveat (reading.caveat_of (view value.now))
+    ensures ok { IfOk result
+        (λ caveat. option_map kept_caveat (reading.caveat_from (view value.now))
         ≡ Some (caveat.identifier.items, caveat.third_party)) }
-    ensures err { IfErr result (RefusesPart (reading.caveat_of (view value.now))) }
+    ensures err { IfErr result (RefusesPart (reading.caveat_from (view value.now))) }
 {
-    if !has_only(value, &CAVEAT_NAMES) {
+    if !has_only_names(value, &CAVEAT_NAMES) {
         return Err(FormFault::Malformed);
     }
-    let identifier = required(alloc, value, "i", "i64")?;
+    let identifier = must_have(alloc, value, "i", "i64")?;
     let verifier_id = field(alloc, value, "v", "v64")?;
     let location = field(alloc, value, "l", "l64")?;
     Ok(Caveat {

@@ -1,7 +1,7 @@
 //! The reader of the JSON form.
 
 ghost use Rattle.std.specs.Prelude.{◌≡◌, length, IfErr, IfOk, Some};
-ghost use Rattle.pass_forms.specs.Reading.{IsReading, UnlessMemory};
+ghost use Rattle.pass_forms.specs.Reading.{IsReadAs, UnlessMemory};
 ghost use Rattle.serde_json.specs.View.{view};
 ghost use Rattle.pass_json.specs.Json.{SpellsJson};
 ghost use Rattle.pass_json.specs.JsonReading as reading;
@@ -13,17 +13,17 @@ use pass_forms::{FormFault, MAX_CAVEATS, MAX_TEXT, Pass};
 use serde_json::Value;
 use std::alloc::Global;
 
-/// The pass that the bytes spell in JSON: one object after libmacaroons' V2 JSON, as `serde_json`
-/// reads it. Its names may stand in any order, and white space may stand round it.
+/// Reads a pass from JSON: one object after libmacaroons' V2 JSON, as `serde_json` parses it. Its
+/// names may come in any order, and white space is allowed.
 ///
 /// # Errors
 ///
-/// The first that fits: `TooLong` for more than 8,192 bytes, `Malformed` where no pass is spelled,
-/// `ThirdParty` where a caveat is a third party's, `TooMany` for more than 64 caveats. `Memory`
-/// comes only where memory was refused.
+/// The first that applies: `TooLong` for more than 8,192 bytes, `Malformed` if the bytes spell no
+/// pass, `ThirdParty` if a caveat is a third party's, `TooMany` for more than 64 caveats. `Memory`
+/// only if an allocation fails.
 pub fn read_json(alloc: Global, bytes: &[u8]) -> Result<Pass, FormFault>
-    // By what the bytes spell.
-    ensures spelled { UnlessMemory (IsReading (length bytes.now) (SpellsJson bytes.now)) result }
+    // The pass that the bytes spell.
+    ensures spelling { UnlessMemory (IsReadAs (length bytes.now) (SpellsJson bytes.now)) result }
     // The same, computed.
     ensures computed { UnlessMemory (λ answer. reading.reading_json bytes.now ≡ answer) result }
 {
@@ -31,7 +31,7 @@ pub fn read_json(alloc: Global, bytes: &[u8]) -> Result<Pass, FormFault>
     read_object(alloc, bytes)
 }
 
-// The pass of an object, or the first fault that fits.
+// The pass of an object, or the first fault that applies.
 #[tactic(auto, unfolding(crate::specs::JsonReading::reading_json, crate::specs::JsonReading::wide_json))]
 fn read_object(alloc: Global, bytes: &[u8]) -> Result<Pass, FormFault>
     ensures { UnlessMemory (λ answer. reading.reading_json bytes.now ≡ answer) result }
@@ -39,7 +39,7 @@ fn read_object(alloc: Global, bytes: &[u8]) -> Result<Pass, FormFault>
     if bytes.len() > MAX_TEXT {
         return Err(FormFault::TooLong);
     }
-    let read = object::pass_of(alloc, &value_of(alloc, bytes)?)?;
+    let read = object::pass_from(alloc, &value_of(alloc, bytes)?)?;
     if read.third_party {
         return Err(FormFault::ThirdParty);
     }
@@ -49,7 +49,7 @@ fn read_object(alloc: Global, bytes: &[u8]) -> Result<Pass, FormFault>
     Ok(read.pass)
 }
 
-// The value of the bytes, as `serde_json` reads them.
+// The value of the bytes, as `serde_json` parses them.
 fn value_of(alloc: Global, bytes: &[u8]) -> Result<Value, FormFault>
     ensures ok { IfOk result (λ value. reading.value_of bytes.now ≡ Some (view value)) }
     ensures err { IfErr result (RefusesPart (reading.value_of bytes.now)) }

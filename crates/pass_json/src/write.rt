@@ -8,14 +8,14 @@ ghost use Rattle.serde_json.specs.Data.{array};
 ghost use Rattle.serde_json.specs.View.{members_view, view};
 ghost use Rattle.pass_json.specs.JsonWriting as spec;
 ghost use Rattle.pass_forms.specs.declared.form.Form.TheVariants.{Json};
-ghost use Rattle.pass_forms.specs.Writing.{HasBytes, IsReadBack, IsWritten};
+ghost use Rattle.pass_forms.specs.Writing.{HasBytes, IsReadBack, IsWritableText};
 ghost use Rattle.pass_json.specs.JsonReading.{reading_json};
 ghost use Rattle.pass_json.specs.JsonWriting.{
   MayFailAs,
   IsJsonText,
   IsRefusedJson,
   base64_text,
-  with_field,
+  put_member,
   with_location,
   writing_json,
 };
@@ -27,19 +27,18 @@ use serde_json::{Map, Value, put};
 use std::alloc::{AllocError, Global};
 
 /// The text of a pass in JSON, with no white space and the names in the order of their bytes. A
-/// `64` name is written only where the bytes are no UTF-8, but for the signature, which always has
-/// it.
+/// `64` name is written only if the bytes aren't UTF-8. The signature always has its `64` name.
 ///
 /// # Errors
 ///
 /// `TooMany` for more than 64 caveats, else `TooLong` for a text of more than 8,192 bytes. `Memory`
-/// comes only where memory was refused.
+/// only if an allocation fails.
 pub fn write_json(alloc: Global, pass: &Pass) -> Result<String, FormFault>
-    ensures ok { IfOk result (λ text. IsWritten IsJsonText pass.now (string_bytes text)) }
+    ensures ok { IfOk result (λ text. IsWritableText IsJsonText pass.now (string_bytes text)) }
     ensures err { IfErr result (IsRefusedJson pass.now) }
     ensures read_back { IfOk result
         (λ text. IsReadBack reading_json Json (string_bytes text) pass.now (string_bytes text)) }
-    // By what is computed of the pass.
+    // The same, computed from the pass.
     ensures computed { MatchResult result (λ text. writing_json pass.now ≡ Ok (string_bytes text))
         (MayFailAs (writing_json pass.now)) }
 {
@@ -48,7 +47,7 @@ pub fn write_json(alloc: Global, pass: &Pass) -> Result<String, FormFault>
     short_text(alloc, pass)
 }
 
-// The text, or the first fault that fits.
+// The text, or the first fault that applies.
 #[tactic(auto, unfolding(crate::specs::JsonWriting::writing_json, crate::specs::JsonWriting::json_text))]
 fn short_text(alloc: Global, pass: &Pass) -> Result<String, FormFault>
     ensures bytes { OnOk result (HasBytes pass.now) }
@@ -66,7 +65,7 @@ fn short_text(alloc: Global, pass: &Pass) -> Result<String, FormFault>
     Ok(text)
 }
 
-// The text, however long it is.
+// The text, of any length.
 #[tactic(auto, unfolding(crate::specs::JsonWriting::json_text))]
 fn text_of(alloc: Global, pass: &Pass) -> Result<String, AllocError>
     ensures bytes { OnOk result (HasBytes pass.now) }
@@ -101,7 +100,7 @@ fn object_of(alloc: Global, pass: &Pass) -> Result<Value, AllocError>
     Ok(Value::Object(members))
 }
 
-// Puts a location, unless it is empty.
+// Adds a location, unless it is empty.
 fn put_location(
     alloc: Global,
     members: &mut Map<String, Value>,
@@ -140,8 +139,8 @@ fn caveat_object(alloc: Global, caveat: &[u8]) -> Result<Value, AllocError>
     Ok(Value::Object(members))
 }
 
-// Puts bytes under the plain name where they are UTF-8, else under the `64` name.
-#[tactic(auto, unfolding(crate::specs::JsonWriting::with_field))]
+// Adds bytes under the plain name if they are UTF-8, else under the `64` name.
+#[tactic(auto, unfolding(crate::specs::JsonWriting::put_member))]
 fn put_field(
     alloc: Global,
     members: &mut Map<String, Value>,
@@ -151,7 +150,7 @@ fn put_field(
 ) -> Result<(), AllocError>
     ensures bytes { IsBytes bytes.now }
     ensures members { OnOk result (members_view members.new.entries
-        ≡ with_field plain.now base64.now bytes.now (members_view members.old.entries)) }
+        ≡ put_member plain.now base64.now bytes.now (members_view members.old.entries)) }
 {
     match str::from_utf8(bytes) {
         Ok(text) => put(members, alloc, plain, Value::try_from_str(alloc, text)?),

@@ -6,19 +6,19 @@ use Rattle.sha2.specs.Sha256.{sha256}
 abbrev pub block_len : ℕ
 block_len = 64
 
--- A key longer than a block stands for its hash.
+-- A key longer than a block is replaced by its hash.
 abbrev pub short_key : List ℕ → List ℕ
 short_key key = if nat_lt block_len (length key) then sha256 key else key
 
--- the key as one block: zero bytes fill it up
+-- the key as one block, padded with zero bytes
 unfoldable pub key_block : List ℕ → List ℕ
 key_block key = short_key key ++ replicate (block_len - length (short_key key)) 0
 
--- each byte of a block, exclusive or the pad's byte
-abbrev pub masked : ℕ → List ℕ → List ℕ
-masked pad block = map (λ byte. bit_xor byte pad) block
+-- each byte of a block XOR the pad's byte
+abbrev pub masked_block : ℕ → List ℕ → List ℕ
+masked_block pad block = map (λ byte. bit_xor byte pad) block
 
 -- H((K xor opad) ++ H((K xor ipad) ++ text))
 unfoldable pub hmac : List ℕ → List ℕ → List ℕ
 hmac key text =
-    sha256 (masked 0x5c (key_block key) ++ sha256 (masked 0x36 (key_block key) ++ text))
+    sha256 (masked_block 0x5c (key_block key) ++ sha256 (masked_block 0x36 (key_block key) ++ text))

@@ -1,3 +1,5 @@
+//! The signature chain of a pass.
+
 ghost use Rattle.std.specs.Prelude.{◌≡◌, []};
 
 use crate::mac::{derive, hmac};
@@ -29,7 +31,7 @@ impl Chain {
         Chain::from_key(&derive(root), identifier)
     }
 
-    /// The chain of an identifier under a key that was derived already.
+    /// The chain of an identifier under an already derived key.
     pub fn from_key(derived: &[u8; 32], identifier: &[u8]) -> Chain
         ensures { result ≡ chain derived.now identifier.now [] }
     {
@@ -38,21 +40,21 @@ impl Chain {
         }
     }
 
-    /// The chain that has this signature so far.
+    /// Continues a chain from its current signature.
     pub fn resume(signature: [u8; 32]) -> Chain
         ensures { result ≡ signature }
     {
         Chain { signature }
     }
 
-    /// Adds a caveat: one more HMAC, under the signature so far.
+    /// Adds a caveat: one more HMAC, with the current signature as its key.
     pub fn add(&mut self, caveat: &[u8])
         ensures { self.new ≡ spec.hmac self.old caveat.now }
     {
         self.signature = hmac(&self.signature, caveat);
     }
 
-    /// The signature so far.
+    /// The current signature.
     pub fn signature(&self) -> [u8; 32]
         ensures { result ≡ self.now }
     {

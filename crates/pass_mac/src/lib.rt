@@ -1,5 +1,5 @@
 //! Message authentication for passes: HMAC-SHA-256, the derivation of keys, and the signature chain
-//! of a macaroon. Nothing here takes memory, and nothing refuses.
+//! of a macaroon. Nothing here allocates memory, and nothing fails.
 #![tactic(auto)]
 
 mod chain;

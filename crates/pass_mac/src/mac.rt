@@ -1,3 +1,5 @@
+//! HMAC-SHA-256, key derivation, and the comparison of signatures.
+
 ghost use Rattle.std.specs.Prelude.{◌≡◌, ◌↔◌, IsTrue};
 ghost use Rattle.std.specs.Str.{bytes_eq};
 ghost use Rattle.pass_mac.specs.Hmac as spec;
@@ -26,8 +28,8 @@ fn key_block(key: &[u8]) -> [u8; BLOCK_LEN]
     block
 }
 
-fn masked(block: &[u8; BLOCK_LEN], pad: u8) -> [u8; BLOCK_LEN]
-    ensures { result ≡ spec.masked pad block.now }
+fn masked_block(block: &[u8; BLOCK_LEN], pad: u8) -> [u8; BLOCK_LEN]
+    ensures { result ≡ spec.masked_block pad block.now }
 {
     let mut bytes = *block;
     for byte in bytes.iter_mut() {
@@ -43,10 +45,10 @@ pub fn hmac(key: &[u8], text: &[u8]) -> [u8; 32]
 {
     let block = key_block(key);
     let mut inner = Sha256::new();
-    inner.update(masked(&block, INNER_PAD));
+    inner.update(masked_block(&block, INNER_PAD));
     inner.update(text);
     let mut outer = Sha256::new();
-    outer.update(masked(&block, OUTER_PAD));
+    outer.update(masked_block(&block, OUTER_PAD));
     outer.update(inner.finalize());
     outer.finalize()
 }
@@ -59,7 +61,7 @@ pub fn derive(root: &[u8]) -> [u8; 32]
     hmac(DERIVATION_KEY, root)
 }
 
-/// Whether two signatures are equal. It doesn't promise to take equal time.
+/// Whether two signatures are equal. The time it takes may depend on their bytes.
 pub fn same(a: &[u8; 32], b: &[u8; 32]) -> bool
     ensures value { result ≡ bytes_eq a.now b.now }
     ensures equal { IsTrue result ↔ (a.now ≡ b.now) }

@@ -1,8 +1,8 @@
-//! A walk through the commands of `passtool`: each command line, with what it prints. A pass that
-//! is printed goes into a file, and the next commands read it from there.
+//! A walk through the commands of `passtool`: prints each command line and its output. A pass that
+//! is printed is saved in a file, and the next commands read it from there.
 #![tactic(auto)]
 
-use pass_commands::run;
+use passtool_commands::run;
 use std::alloc::Global;
 
 const ROOT: &str = "00112233445566778899aabbccddeeff";
@@ -10,7 +10,7 @@ const ROOT: &str = "00112233445566778899aabbccddeeff";
 const OTHER_ROOT: &str = "ffeeddccbbaa99887766554433221100";
 
 fn main(rt: HostRuntime) -> anyhow::Result<()> {
-    let pass = minted(&rt)?;
+    let pass = mint_pass(&rt)?;
     let words = [
         "passtool",
         "narrow",
@@ -41,7 +41,7 @@ fn main(rt: HostRuntime) -> anyhow::Result<()> {
     Ok(())
 }
 
-fn minted(rt: &(impl Print + Alloc<A = Global>)) -> anyhow::Result<String> {
+fn mint_pass(rt: &(impl Print + Alloc<A = Global>)) -> anyhow::Result<String> {
     let words = [
         "passtool",
         "mint",
@@ -55,7 +55,7 @@ fn minted(rt: &(impl Print + Alloc<A = Global>)) -> anyhow::Result<String> {
     step(rt, words.as_slice(), " | tee pass", "")
 }
 
-// Prints a command line and what a run on it prints, which is handed on.
+// Prints a command line and the output of its run, which it returns.
 fn step(
     rt: &(impl Print + Alloc<A = Global>),
     words: &[&str],
@@ -64,13 +64,13 @@ fn step(
 ) -> anyhow::Result<String> {
     let line = command_line(rt.alloc(), words)?;
     println!(rt; "$ {line}{files}")?;
-    let told = told_by(rt.alloc(), words, input)?;
-    print!(rt; "{told}")?;
-    Ok(told)
+    let output = output_of(rt.alloc(), words, input)?;
+    print!(rt; "{output}")?;
+    Ok(output)
 }
 
-// What a run writes, or its line on standard error.
-fn told_by(alloc: Global, words: &[&str], input: &str) -> anyhow::Result<String> {
+// The text that a run writes, or its line on standard error.
+fn output_of(alloc: Global, words: &[&str], input: &str) -> anyhow::Result<String> {
     let mut written = Vec::new(alloc);
     match run(alloc, words, &mut input.as_bytes(), &mut written) {
         Ok(_) => Ok(String::from_utf8_lossy(alloc, written.as_slice())?),

@@ -1,12 +1,13 @@
-//! Passes on the command line: `pass_commands` on the process's words, standard input and standard
-//! output.
+//! Passes on the command line: runs `passtool_commands` on the process's arguments, standard input
+//! and
+//! standard output.
 #![tactic(auto)]
 
 ghost use Rattle.std.specs.Prelude.{IfErr};
-ghost use Rattle.pass_commands.specs.Fault.{IsNotText};
+ghost use Rattle.passtool_commands.specs.Fault.{IsNotText};
 
-pub use pass_commands::run;
-use pass_commands::{Fault, Outcome, not_text};
+pub use passtool_commands::run;
+use passtool_commands::{Fault, Outcome, not_text};
 use std::process::ExitCode;
 use std::{env, io};
 
@@ -14,7 +15,7 @@ fn main(rt: HostRuntime) -> ExitCode {
     let status = match run_here(&rt) {
         Ok(outcome) => outcome.status(),
         Err(fault) => {
-            // Nothing is left to be told where standard error fails.
+            // If standard error fails too, there is nowhere to report it.
             let _ = report(&rt, &fault);
             fault.status()
         }
@@ -22,7 +23,7 @@ fn main(rt: HostRuntime) -> ExitCode {
     ExitCode::from(status)
 }
 
-// Runs on the process's words, standard input and standard output.
+// Runs on the process's arguments, standard input and standard output.
 fn run_here(rt: &HostRuntime) -> Result<Outcome, Fault> {
     let words = given_words(rt)?;
     run(

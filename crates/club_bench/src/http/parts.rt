@@ -4,7 +4,7 @@ use crate::sent::Sent;
 use anyhow::{Result, anyhow};
 use club_core::{ClubStore, Reply, Request};
 use club_http::{Desk, MAX_REPLY_LEN, Routes, Words, reply_bytes, words_of};
-use club_words::MAX_FIELDS;
+use http_request::MAX_FIELDS;
 use httparse::Status;
 use httparse::spans::{EMPTY_HEADER_SPAN, HeaderSpan, parse_request};
 use std::rt::Clock;

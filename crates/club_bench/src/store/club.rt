@@ -2,11 +2,11 @@
 
 use crate::known::known;
 use anyhow::Result;
-use club_core::{
-    Booking, BookingNumber, Change, ClubStore, Facility, FacilityColumns, Guests, Key, Member,
-    Root, View, slot_from_columns,
+use club_core::{Change, ClubStore, View};
+use club_rows::{
+    Booking, BookingNumber, Facility, FacilityColumns, Guests, Key, Member, Root, slot_from_columns,
 };
-use pass_caveats::{Moment, Name, Slot};
+use club_values::{Moment, Name, Slot};
 
 /// How many members there are, each with one key.
 const KEYS: u32 = 1_000;

@@ -3,7 +3,8 @@
 use crate::known::known;
 use crate::store::club;
 use anyhow::{Result, anyhow};
-use club_core::{Booking, ClubStore};
+use club_core::ClubStore;
+use club_rows::Booking;
 use std::alloc::{AllocError, Global};
 use std::io;
 use std::rt::Clock;
@@ -139,7 +140,7 @@ impl Pair {
     }
 }
 
-// Prints a number that is told in hundredths.
+// Prints a number that is given in hundredths.
 fn print_hundredths(rt: &impl Print, hundredths: u128) -> io::Result<()> {
     print!(rt; " {:>8}.{:02}", hundredths / 100, hundredths % 100)
 }

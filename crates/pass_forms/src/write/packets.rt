@@ -8,7 +8,7 @@ ghost use Rattle.pass_forms.specs.V1 as spec;
 
 use crate::v1::{CAVEAT, IDENTIFIER, LOCATION, Packets, SIGNATURE};
 use crate::write::PutLayout;
-use crate::write::room::Room;
+use crate::write::buffer::Buffer;
 use crate::{FormFault, MAX_BYTES, Pass};
 
 fn hex_digit(value: usize) -> u8
@@ -22,9 +22,9 @@ fn hex_digit(value: usize) -> u8
     }
 }
 
-fn four_digits(len: usize) -> [u8; 4]
+fn four_hex_digits(len: usize) -> [u8; 4]
     requires { len < 2 ^ 16 }
-    ensures { result ≡ spec.four_digits len }
+    ensures { result ≡ spec.four_hex_digits len }
 {
     [
         hex_digit(len / 4096),
@@ -34,27 +34,28 @@ fn four_digits(len: usize) -> [u8; 4]
     ]
 }
 
-// Puts the packet of a key, which is given with its space.
-fn put_packet(room: &mut Room, key: &[u8], bytes: &[u8]) -> Result<(), FormFault>
+// Appends the packet of a key. The key ends with its space.
+fn put_packet(buffer: &mut Buffer, key: &[u8], bytes: &[u8]) -> Result<(), FormFault>
     requires { length key.now ≤ 16 }
-    ensures { Puts (spec.packet key.now bytes.now) room.old room.new result }
+    ensures { Puts (spec.packet key.now bytes.now) buffer.old buffer.new result }
 {
     if bytes.len() > MAX_BYTES {
         return Err(FormFault::TooLong);
     }
     let len = 4 + key.len() + bytes.len() + 1;
-    room.put(&four_digits(len))?;
-    room.put(key)?;
-    room.put(bytes)?;
-    room.put(b"\n")
+    buffer.put(&four_hex_digits(len))?;
+    buffer.put(key)?;
+    buffer.put(bytes)?;
+    buffer.put(b"\n")
 }
 
-fn put_caveats(room: &mut Room, caveats: &[Vec<u8>]) -> Result<(), FormFault>
+fn put_caveats(buffer: &mut Buffer, caveats: &[Vec<u8>]) -> Result<(), FormFault>
     ensures { Puts (flat_map spec.caveat_packets
-        (map widened_caveat (map (λ caveat. caveat.items) caveats.now))) room.old room.new result }
+        (map widened_caveat (map (λ caveat. caveat.items) caveats.now))) buffer.old buffer.new
+        result }
 {
     for caveat in caveats {
-        put_packet(room, CAVEAT, caveat)?;
+        put_packet(buffer, CAVEAT, caveat)?;
     }
     Ok(())
 }
@@ -65,10 +66,10 @@ impl PutLayout for Packets {
     ghost bytes_of = { v1_bytes };
 
     #[tactic(auto, unfolding(crate::specs::Writing::v1_bytes))]
-    fn put_pass(room: &mut Room, pass: &Pass) -> Result<(), FormFault> {
-        put_packet(room, LOCATION, pass.location())?;
-        put_packet(room, IDENTIFIER, pass.identifier())?;
-        put_caveats(room, pass.caveats())?;
-        put_packet(room, SIGNATURE, pass.signature())
+    fn put_pass(buffer: &mut Buffer, pass: &Pass) -> Result<(), FormFault> {
+        put_packet(buffer, LOCATION, pass.location())?;
+        put_packet(buffer, IDENTIFIER, pass.identifier())?;
+        put_caveats(buffer, pass.caveats())?;
+        put_packet(buffer, SIGNATURE, pass.signature())
     }
 }

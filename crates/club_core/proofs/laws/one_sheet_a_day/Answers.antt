@@ -5,9 +5,9 @@ use Rattle.club_core.proofs.laws.one_sheet_a_day.Goals as goal
 
 pub returns-clause-one : goal.returns-clause-one
 returns-clause-one c =
-    λ club day text other a b. a.told ∙ ap (sheet_text day) (one_list club day a.rows b.rows a.are b.are) ∙ sym b.told
+    λ club day text other a b. a.spelling ∙ ap (sheet_text day) (one_list club day a.rows b.rows a.are b.are) ∙ sym b.spelling
 
 pub returns-clause-some : goal.returns-clause-some
 returns-clause-some c = λ club sound day.
     let made = day_rows club sound day in
-    (sheet_text day made.0, record { rows = made.0; are = made.1; told = refl })
+    (sheet_text day made.0, record { rows = made.0; are = made.1; spelling = refl })

@@ -1,5 +1,5 @@
 use Rattle.std.proofs.Common.{◌≡◌, true, false}
-use Rattle.club_gate.proofs.Signers.{unsigned_row, revoked_row, standing_row}
+use Rattle.club_gate.proofs.Signers.{unsigned_row, revoked_row, unrevoked_row}
 use Rattle.club_gate.proofs.SigningLemmas.{tested_alike}
 use Rattle.club_gate.proofs.verify.row_refusal.Goals as goal
 
@@ -25,4 +25,4 @@ returns g c = λ pass named e.
     let tested = tested_alike pass key c.args.moment c.args.identifier.now c.start-signing.result c.is_signed.result named c.start-signing.ensures
     (c.is_signed.ensures pass e) in
     let passes : c.is_signed.result ≡ true = cc in
-    standing_row pass key c.args.moment c.is_signed.result tested passes c.if-key.false
+    unrevoked_row pass key c.args.moment c.is_signed.result tested passes c.if-key.false

@@ -1,5 +1,5 @@
 use Rattle.club_http.proofs.face.reply_to.Goals as goal
-use Rattle.club_http.specs.Replied.{refused, answered, starved}
+use Rattle.club_http.specs.Replied.{refused, answered, out_of_memory}
 use Rattle.club_core.specs.declared.reply.Reply.TheVariants.{Refused}
 use Rattle.std.proofs.Common.{inl, inr, refl, ap}
 
@@ -8,6 +8,6 @@ returns-in-Ok g c = answered _ c.in-Ok.ensures c.ask.ensures
 
 pub returns-in-Err : goal.returns-in-Err
 returns-in-Err g c = elim c.in-Err.ensures [
-  | inl memory ↦ starved memory.1 (ap Refused memory.0) refl
+  | inl memory ↦ out_of_memory memory.1 (ap Refused memory.0) refl
   | inr reading ↦ refused c.in-Err.refusal reading refl refl
 ]

@@ -19,7 +19,7 @@ returns c = record {
     moment = noon;
     rest = ask (asked.Cancel (slot_at 18) 7) noon ∷ [];
     place = refl;
-    told = refl;
+    returned = refl;
     served = tt;
     same_key = refl;
     same_request = refl;
@@ -37,6 +37,6 @@ returns c = record {
     };
     read = refl;
     known = refl;
-    accepted = record { signed = refl; stands = refl; faultless = refl };
+    accepted = record { signed = refl; not_revoked = refl; faultless = refl };
   };
 }

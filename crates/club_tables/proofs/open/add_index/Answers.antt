@@ -1,8 +1,8 @@
 use Rattle.std.proofs.Common.{inr, refl, arith}
 use Rattle.sqlite.specs.State.{HasCleanDisk}
 use Rattle.sqlite.specs.Held.{state}
-use Rattle.club_tables.proofs.StandLemmas.{on_ok, on_err}
-use Rattle.club_tables.proofs.IndexLemmas.{indexed_stands, refused_second}
+use Rattle.club_tables.proofs.RepresentsLemmas.{on_ok, on_err}
+use Rattle.club_tables.proofs.IndexLemmas.{indexed_represents, refused_second}
 use Rattle.club_tables.specs.Opening.{IsOpeningBatch, index_batch}
 use Rattle.club_tables.proofs.SurviveLemmas.{may_commit}
 use Rattle.club_tables.proofs.open.add_index.Goals as goal
@@ -12,7 +12,7 @@ returns-clause-indexed g c clean =
     let old = c.args.conn.now in
     let new = c.run.new.conn in
     let earlier : HasCleanDisk (state g.S.Store old) = omega (arith, c.run.ensures.survives.clean) in
-    on_ok c.run.result (c.run.ensures.ran clean) (λ ran. indexed_stands g.S.Store old new earlier ran.0 ran.1 ran.2 (λ is_open trees may.
+    on_ok c.run.result (c.run.ensures.ran clean) (λ ran. indexed_represents g.S.Store old new earlier ran.0 ran.1 ran.2 (λ is_open trees may.
     g.met.S.Store.settled new.store trees is_open may))
 
 pub returns-clause-refused : goal.returns-clause-refused

@@ -5,10 +5,10 @@ use Rattle.sqlite.specs.Effect.{Database}
 use Rattle.sqlite.specs.State.{HasCleanDisk}
 use Rattle.sqlite.specs.Held.{Held, state}
 use Rattle.club_tables.specs.Opening.{IsOpeningBatch, IsOpeningFault, HasOrGetsIndex, EnsuresIndex, texts_by_key, index_text}
-use Rattle.club_transactions.specs.Transaction.{IsAtRest, IsKept, IsUnderstood}
+use Rattle.club_tables.specs.Transaction.{IsIdle, IsKept, IsUnderstood}
 use Rattle.club_tables.proofs.PrepareLemmas.{kept_then}
 use Rattle.club_tables.proofs.ReadLemmas.{fault_if}
-use Rattle.club_tables.proofs.StandLemmas.{on_ok, on_err, keeps_second}
+use Rattle.club_tables.proofs.RepresentsLemmas.{on_ok, on_err, keeps_second}
 use Rattle.club_tables.proofs.SurviveLemmas.{after_one, opened_after, commits_after, commits_nothing}
 use Rattle.club_tables.proofs.open.complete.Goals as goal
 
@@ -44,7 +44,7 @@ ensured_after g old mid new earlier clean is_open kept known (inr it) =
 pub returns-in-Ok-clause-ensured : goal.returns-in-Ok-clause-ensured
 returns-in-Ok-clause-ensured g c clean =
     let mid = c.prepare_all.new.conn in
-    let earlier : HasCleanDisk (state g.S.Store mid) = c.ensure_index.ensures.honest clean in
+    let earlier : HasCleanDisk (state g.S.Store mid) = c.ensure_index.ensures.was_clean clean in
     on_ok c.ensure_index.result (c.ensure_index.ensures.ensured clean) (λ ensured is_open rest.
     ensured_after g.S.Store c.args.conn.now mid c.ensure_index.new.conn earlier clean is_open (c.prepare_all.ensures.same rest) (λ opened.
     c.in-Ok.ensures.understood earlier opened rest) ensured)
@@ -60,7 +60,7 @@ pub returns-in-Ok-clause-untouched : goal.returns-in-Ok-clause-untouched
 returns-in-Ok-clause-untouched g c =
     on_err c.ensure_index.result c.ensure_index.ensures.untouched (λ kept rest.
     kept_then (state g.S.Store c.args.conn.now) (state g.S.Store c.prepare_all.new.conn) (state g.S.Store c.ensure_index.new.conn)
-    c.ensure_index.ensures.honest (c.prepare_all.ensures.same rest) kept)
+    c.ensure_index.ensures.was_clean (c.prepare_all.ensures.same rest) kept)
 
 pub returns-in-Err-clause-refused : goal.returns-in-Err-clause-refused
 returns-in-Err-clause-refused g c clean rest club others second =
@@ -79,7 +79,7 @@ returns-in-Ok-clause-fault g c clean =
     let old = c.args.conn.now in
     let mid = c.prepare_all.new.conn in
     let new = c.ensure_index.new.conn in
-    let earlier : HasCleanDisk (state g.S.Store mid) = c.ensure_index.ensures.honest clean in
+    let earlier : HasCleanDisk (state g.S.Store mid) = c.ensure_index.ensures.was_clean clean in
     let first = after_one g.S.Store old mid earlier c.prepare_all.ensures.same c.prepare_all.ensures.survives in
     fault_if (IsOpeningFault g.S.Store mid new) (IsOpeningFault g.S.Store old new) c.ensure_index.result (c.ensure_index.ensures.fault clean)
     (λ fault it. opened_after g.S.Store old mid new fault first it)

@@ -1,17 +1,17 @@
 use Rattle.std.proofs.Common.{inl, inr, refl, arith}
 use Rattle.sqlite.specs.State.{HasCleanDisk}
 use Rattle.sqlite.specs.Held.{state}
-use Rattle.club_transactions.specs.Fault.{FailsToRun}
+use Rattle.club_tables.specs.Fault.{FailsToRun}
 use Rattle.club_tables.specs.Opening.{IsOpeningBatch, IsOpeningFault, index_batch}
-use Rattle.club_tables.proofs.IndexLemmas.{named_stands}
+use Rattle.club_tables.proofs.IndexLemmas.{named_represents}
 use Rattle.club_tables.proofs.ReadLemmas.{at_once, fault_if}
-use Rattle.club_tables.proofs.StandLemmas.{on_ok, on_err, keeps_second}
+use Rattle.club_tables.proofs.RepresentsLemmas.{on_ok, on_err, keeps_second}
 use Rattle.club_tables.proofs.SurviveLemmas.{after_one, commits_after}
 use Rattle.club_tables.proofs.open.ensure_index.Goals as goal
 
 pub returns-in-Ok-clause-indexed : goal.returns-in-Ok-clause-indexed
 returns-in-Ok-clause-indexed g c clean =
-    named_stands g.S.Store c.args.conn.now c.prepare.new.conn c.prepare.ensures.kept c.prepare.ensures.survives (c.in-Ok.ensures.understood clean)
+    named_represents g.S.Store c.args.conn.now c.prepare.new.conn c.prepare.ensures.kept c.prepare.ensures.survives (c.in-Ok.ensures.understood clean)
 
 pub returns-in-Err-Memory-clause-fault : goal.returns-in-Err-Memory-clause-fault
 returns-in-Err-Memory-clause-fault g c clean =
@@ -34,7 +34,7 @@ pub returns-in-Err-Storage-clause-ensured : goal.returns-in-Err-Storage-clause-e
 returns-in-Err-Storage-clause-ensured g c clean =
     on_ok c.add_index.result (c.add_index.ensures.ran clean) (λ ran. inr (
       c.prepare.new.conn,
-      c.add_index.ensures.honest clean,
+      c.add_index.ensures.was_clean clean,
       c.prepare.ensures.kept,
       ran,
     ))
@@ -56,7 +56,7 @@ returns-in-Err-Storage-clause-fault g c clean =
     let old = c.args.conn.now in
     let mid = c.prepare.new.conn in
     let new = c.add_index.new.conn in
-    let earlier : HasCleanDisk (state g.S.Store mid) = c.add_index.ensures.honest clean in
+    let earlier : HasCleanDisk (state g.S.Store mid) = c.add_index.ensures.was_clean clean in
     fault_if (FailsToRun g.S.Store index_batch mid new) (IsOpeningFault g.S.Store old new) c.add_index.result (c.add_index.ensures.fault clean)
     (λ fault failed. record {
       from = mid;

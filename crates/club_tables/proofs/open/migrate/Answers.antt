@@ -3,12 +3,12 @@ use Rattle.sqlite.specs.Effect.{Database}
 use Rattle.sqlite.specs.State.{HasCleanDisk}
 use Rattle.sqlite.specs.Held.{state}
 use Rattle.club_tables.specs.declared.texts.TheConstants.{OLDER_ROOT}
-use Rattle.club_transactions.specs.Fault.{FailsToPrepare, FailsToRun}
+use Rattle.club_tables.specs.Fault.{FailsToPrepare, FailsToRun}
 use Rattle.club_tables.specs.Opening.{IsOpeningBatch, IsOpeningFault, first_texts, migration}
-use Rattle.club_transactions.specs.Transaction.{IsUnderstood}
+use Rattle.club_tables.specs.Transaction.{IsUnderstood}
 use Rattle.club_tables.proofs.PrepareLemmas.{kept_then, one_more}
 use Rattle.club_tables.proofs.ReadLemmas.{fault_if}
-use Rattle.club_tables.proofs.StandLemmas.{on_ok, on_err, keeps_first}
+use Rattle.club_tables.proofs.RepresentsLemmas.{on_ok, on_err, keeps_first}
 use Rattle.club_tables.proofs.SurviveLemmas.{after_one, commits_after, commits_nothing}
 use Rattle.club_tables.proofs.open.migrate.Goals as goal
 
@@ -22,7 +22,7 @@ returns-in-Ok-clause-migrated g c clean =
 pub returns-in-Ok-clause-ran : goal.returns-in-Ok-clause-ran
 returns-in-Ok-clause-ran g c clean =
     let mid = c.prepare_all.new.conn in
-    let earlier : HasCleanDisk (state g.S.Store mid) = c.add_old_roots.ensures.honest clean in
+    let earlier : HasCleanDisk (state g.S.Store mid) = c.add_old_roots.ensures.was_clean clean in
     on_ok c.add_old_roots.result (c.add_old_roots.ensures.ran clean) (λ ran rest.
     let is_open = ran.opened (omega arith) in
     let kept = c.prepare_all.ensures.same rest earlier is_open in
@@ -40,7 +40,7 @@ pub returns-in-Ok-clause-untouched : goal.returns-in-Ok-clause-untouched
 returns-in-Ok-clause-untouched g c =
     on_err c.add_old_roots.result c.add_old_roots.ensures.untouched (λ kept rest.
     kept_then (state g.S.Store c.args.conn.now) (state g.S.Store c.prepare_all.new.conn) (state g.S.Store c.add_old_roots.new.conn)
-    c.add_old_roots.ensures.honest (c.prepare_all.ensures.same rest) kept)
+    c.add_old_roots.ensures.was_clean (c.prepare_all.ensures.same rest) kept)
 
 pub returns-in-Err-clause-refused : goal.returns-in-Err-clause-refused
 returns-in-Err-clause-refused g c clean rest club others first =
@@ -59,7 +59,7 @@ returns-in-Ok-clause-fault g c clean =
     let old = c.args.conn.now in
     let mid = c.prepare_all.new.conn in
     let new = c.add_old_roots.new.conn in
-    let earlier : HasCleanDisk (state g.S.Store mid) = c.add_old_roots.ensures.honest clean in
+    let earlier : HasCleanDisk (state g.S.Store mid) = c.add_old_roots.ensures.was_clean clean in
     fault_if (FailsToRun g.S.Store migration mid new) (IsOpeningFault g.S.Store old new) c.add_old_roots.result (c.add_old_roots.ensures.fault clean)
     (λ fault failed. record {
       from = mid;

@@ -1,16 +1,16 @@
 use Rattle.std.proofs.Common.{arith}
 use Rattle.sqlite.specs.State.{HasCleanDisk}
 use Rattle.sqlite.specs.Held.{state}
-use Rattle.club_tables.proofs.StandLemmas.{survives_same, survives_none}
-use Rattle.club_tables.proofs.PrepareLemmas.{kept_at_rest, kept_then, one_at, none_understood, one_understood, all_understood}
-use Rattle.club_transactions.specs.Fault.{FailsToPrepare}
+use Rattle.club_tables.proofs.RepresentsLemmas.{survives_same, survives_none}
+use Rattle.club_tables.proofs.PrepareLemmas.{kept_when_idle, kept_then, one_at, none_understood, one_understood, all_understood}
+use Rattle.club_tables.specs.Fault.{FailsToPrepare}
 use Rattle.club_tables.proofs.open.prepare_all.Goals as goal
 
 pub loop-text-init : goal.loop-text-init
 loop-text-init g c = record {
   idle = c.requires;
   survives = survives_same (state g.S.Store c.args.conn.now);
-  kept = λ rest. kept_at_rest (state g.S.Store c.args.conn.now) rest;
+  kept = λ rest. kept_when_idle (state g.S.Store c.args.conn.now) rest;
   known = λ rest clean is_open. none_understood (state g.S.Store c.args.conn.now).committed c.args.texts.now;
 }
 
@@ -56,7 +56,7 @@ returns-in-Err-clause-fault g c clean =
     let earlier : HasCleanDisk (state g.S.Store was) = omega (arith, c.prepare.ensures.survives.clean) in
     record {
       from = was;
-      after = record { same = c.loop-text.invariant.kept; clean = earlier; counted = c.loop-text.invariant.survives.counts };
+      after = record { same = c.loop-text.invariant.kept; clean = earlier; fault_count = c.loop-text.invariant.survives.counts };
       failed = one_at (λ text. FailsToPrepare g.S.Store text was now _) c.args.texts.now c.loop-text.text-index _ c.loop-text-test.true
           (c.in-Err.ensures.fault clean);
     }

@@ -10,11 +10,11 @@ use Rattle.club_tables.specs.declared.texts.TheConstants.{DAY}
 use Rattle.club_tables.specs.Answers.{OfDay, FailsAtReading}
 use Rattle.club_tables.specs.Columns.{whole}
 use Rattle.club_tables.specs.Sheet.{AreBookings}
-use Rattle.club_transactions.specs.Transaction.{Asked}
+use Rattle.club_tables.specs.Transaction.{Asked}
 use Rattle.club_tables.proofs.BookingRows.{day_of_rows, within_limits}
-use Rattle.club_tables.proofs.DayLemmas.{day_told}
+use Rattle.club_tables.proofs.DayLemmas.{day_returned}
 use Rattle.club_tables.proofs.ReadLemmas.{read_by}
-use Rattle.club_tables.proofs.StandLemmas.{told_if}
+use Rattle.club_tables.proofs.RepresentsLemmas.{if_ok_map}
 use Rattle.club_tables.proofs.reads.day.Goals as goal
 
 -- rows that were given and not read
@@ -24,7 +24,7 @@ unread_day : {S A : Type 0} (g : Ghosts S) (day : _) (old new : Held S) (rows : 
 unread_day g day old new rows (Ok x) asked storage = tt
 unread_day g day old new rows (Err Memory) asked storage = inr (refl, rows, asked)
 unread_day g day old new rows (Err Storage) asked storage =
-    inl (inr (record { rows = rows; asked = asked; unread = λ can. storage refl can.0 can.1; told = refl }))
+    inl (inr (record { rows = rows; asked = asked; unread = λ can. storage refl can.0 can.1; returned = refl }))
 
 pub returns-in-Err-clause-failed : goal.returns-in-Err-clause-failed
 returns-in-Err-clause-failed g c clean =
@@ -33,13 +33,13 @@ returns-in-Err-clause-failed g c clean =
 pub returns-in-Err-clause-reads : goal.returns-in-Err-clause-reads
 returns-in-Err-clause-reads g c =
     read_by g.S.Store (OfDay c.args.day) (λ rows (bookings : Vec Booking Global). AreBookings rows bookings.items) c.args.conn.now c.ask.new.conn _ _
-    c.ask.ensures.kept c.ask.ensures.survives (λ clean. tt) (returns-in-Err-clause-failed g c) (λ clean club others stands rows asked bookings are.
-    day_of_rows club c.args.day rows bookings.items (day_told g.S.Store c.args.conn.now c.args.day rows clean asked club others stands) are)
+    c.ask.ensures.kept c.ask.ensures.survives (λ clean. tt) (returns-in-Err-clause-failed g c) (λ clean club others represents rows asked bookings are.
+    day_of_rows club c.args.day rows bookings.items (day_returned g.S.Store c.args.conn.now c.args.day rows clean asked club others represents) are)
 
-pub returns-clause-told : goal.returns-clause-told
-returns-clause-told g c clean =
+pub returns-clause-returned : goal.returns-clause-returned
+returns-clause-returned g c clean =
     let asked = rw (c.params-to_sql.ensures, c.from.ensures, c.number.ensures.value) at (c.in-Ok.ensures.asked clean) in
-    told_if _ _ c.bookings_in.result (rw c.deref.ensures.value at c.bookings_in.ensures.are) (λ bookings are. (c.in-Ok.rows.items, asked, are))
+    if_ok_map _ _ c.bookings_in.result (rw c.deref.ensures.value at c.bookings_in.ensures.are) (λ bookings are. (c.in-Ok.rows.items, asked, are))
 
 pub returns-clause-failed : goal.returns-clause-failed
 returns-clause-failed g c clean =
@@ -50,10 +50,10 @@ returns-clause-failed g c clean =
 pub returns-clause-reads : goal.returns-clause-reads
 returns-clause-reads g c =
     read_by g.S.Store (OfDay c.args.day) (λ rows (bookings : Vec Booking Global). AreBookings rows bookings.items) c.args.conn.now c.ask.new.conn
-    c.bookings_in.result _ c.ask.ensures.kept c.ask.ensures.survives (returns-clause-told g c) (returns-clause-failed g c)
-    (λ clean club others stands rows asked bookings are.
-    day_of_rows club c.args.day rows bookings.items (day_told g.S.Store c.args.conn.now c.args.day rows clean asked club others stands) are)
+    c.bookings_in.result _ c.ask.ensures.kept c.ask.ensures.survives (returns-clause-returned g c) (returns-clause-failed g c)
+    (λ clean club others represents rows asked bookings are.
+    day_of_rows club c.args.day rows bookings.items (day_returned g.S.Store c.args.conn.now c.args.day rows clean asked club others represents) are)
 
 pub returns-clause-limits : goal.returns-clause-limits
 returns-clause-limits g c =
-    told_if _ _ c.bookings_in.result c.bookings_in.ensures.are (λ rows are. within_limits c.deref.result.now rows.items are)
+    if_ok_map _ _ c.bookings_in.result c.bookings_in.ensures.are (λ rows are. within_limits c.deref.result.now rows.items are)

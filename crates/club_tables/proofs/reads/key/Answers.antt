@@ -1,8 +1,8 @@
 use Rattle.club_tables.specs.Answers.{OfKey, IsFirst, IsKeyIn}
 use Rattle.club_rows.specs.Rows.{IsKey}
 use Rattle.club_core.specs.Club.{key_named}
-use Rattle.club_tables.proofs.FirstLemmas.{key_first, said_if}
-use Rattle.club_tables.proofs.KeyLemmas.{key_told}
+use Rattle.club_tables.proofs.FirstLemmas.{key_first, yielded_if}
+use Rattle.club_tables.proofs.KeyLemmas.{key_returned}
 use Rattle.club_tables.proofs.ReadLemmas.{read_answer}
 use Rattle.club_tables.proofs.reads.key.Goals as goal
 
@@ -13,8 +13,8 @@ pub returns-clause-reads : goal.returns-clause-reads
 returns-clause-reads g c =
     let name = c.args.name.now in
     read_answer g.S.Store (OfKey name) (IsFirst IsKeyIn) c.args.conn.now c.one.new.conn c.one.result _ c.one.ensures.kept c.one.ensures.survives
-    (returns-clause-gives g c) (λ rows can. can) (λ clean club others stands rows asked found first.
-    key_first (key_named name club) rows found (key_told g.S.Store c.args.conn.now name rows clean asked club others stands) first)
+    (returns-clause-gives g c) (λ rows can. can) (λ clean club others represents rows asked found first.
+    key_first (key_named name club) rows found (key_returned g.S.Store c.args.conn.now name rows clean asked club others represents) first)
 
 pub returns-clause-limits : goal.returns-clause-limits
-returns-clause-limits g c = said_if IsKeyIn IsKey c.one.result c.one.ensures.said (λ row it said. said.0)
+returns-clause-limits g c = yielded_if IsKeyIn IsKey c.one.result c.one.ensures.yielded (λ row it yielded. yielded.0)

@@ -1,6 +1,6 @@
 use Rattle.std.proofs.Common.{rules, inl, ◌∙◌}
 use Rattle.club_tables.specs.Answers.{OfOpen, IsCount}
-use Rattle.club_tables.proofs.MemberLemmas.{open_told}
+use Rattle.club_tables.proofs.MemberLemmas.{open_returned}
 use Rattle.club_tables.proofs.ReadLemmas.{read_answer}
 use Rattle.club_tables.proofs.reads.open_count.Goals as goal
 
@@ -16,13 +16,13 @@ returns-in-Err-clause-gives g c =
       c.number-2.ensures.value,
       c.day.ensures.value,
     ) at c.in-Err.ensures.fault in
-    record { told = λ clean. tt; failed = λ clean. inl (failed clean) }
+    record { returned = λ clean. tt; failed = λ clean. inl (failed clean) }
 
 pub returns-in-Err-clause-reads : goal.returns-in-Err-clause-reads
 returns-in-Err-clause-reads g c =
     read_answer g.S.Store (OfOpen c.args.member.now c.args.moment) IsCount c.args.conn.now c.ask.new.conn _ _ c.ask.ensures.kept c.ask.ensures.survives
-    (returns-in-Err-clause-gives g c) (λ rows can. can) (λ clean club others stands rows asked count is.
-    is ∙ open_told g.S.Store c.args.conn.now c.args.member.now c.args.moment rows clean asked club others stands)
+    (returns-in-Err-clause-gives g c) (λ rows can. can) (λ clean club others represents rows asked count is.
+    is ∙ open_returned g.S.Store c.args.conn.now c.args.member.now c.args.moment rows clean asked club others represents)
 
 pub returns-clause-gives : goal.returns-clause-gives
 returns-clause-gives g c =
@@ -36,10 +36,10 @@ returns-clause-gives g c =
       c.number-2.ensures.value,
       c.day.ensures.value,
     ) at c.in-Ok.ensures.asked in
-    record { told = λ clean. (c.in-Ok.rows.items, asked clean, search rules); failed = λ clean. tt }
+    record { returned = λ clean. (c.in-Ok.rows.items, asked clean, search rules); failed = λ clean. tt }
 
 pub returns-clause-reads : goal.returns-clause-reads
 returns-clause-reads g c =
     read_answer g.S.Store (OfOpen c.args.member.now c.args.moment) IsCount c.args.conn.now c.ask.new.conn _ _ c.ask.ensures.kept c.ask.ensures.survives
-    (returns-clause-gives g c) (λ rows can. can) (λ clean club others stands rows asked count is.
-    is ∙ open_told g.S.Store c.args.conn.now c.args.member.now c.args.moment rows clean asked club others stands)
+    (returns-clause-gives g c) (λ rows can. can) (λ clean club others represents rows asked count is.
+    is ∙ open_returned g.S.Store c.args.conn.now c.args.member.now c.args.moment rows clean asked club others represents)

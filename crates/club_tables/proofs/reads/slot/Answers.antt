@@ -1,8 +1,8 @@
 use Rattle.std.proofs.Common.{inl, inr, refl}
 use Rattle.club_tables.specs.Answers.{OfSlot, IsUse}
-use Rattle.club_tables.proofs.BookingLemmas.{slot_told}
+use Rattle.club_tables.proofs.BookingLemmas.{slot_returned}
 use Rattle.club_tables.proofs.ReadLemmas.{read_answer}
-use Rattle.club_tables.proofs.SlotTold.{use_is, use_read}
+use Rattle.club_tables.proofs.SlotUseLemmas.{use_is, use_read}
 use Rattle.club_tables.proofs.reads.slot.Goals as goal
 
 pub returns-in-Err-clause-gives : goal.returns-in-Err-clause-gives
@@ -17,13 +17,13 @@ returns-in-Err-clause-gives g c =
       c.from-2.ensures,
       c.number-2.ensures.value,
     ) at c.in-Err.ensures.fault in
-    record { told = λ clean. tt; failed = λ clean. inl (failed clean) }
+    record { returned = λ clean. tt; failed = λ clean. inl (failed clean) }
 
 pub returns-in-Err-clause-reads : goal.returns-in-Err-clause-reads
 returns-in-Err-clause-reads g c =
     read_answer g.S.Store (OfSlot c.args.slot.now) IsUse c.args.conn.now c.ask.new.conn _ _ c.ask.ensures.kept c.ask.ensures.survives
-    (returns-in-Err-clause-gives g c) (λ rows can. can) (λ clean club others stands rows asked found is.
-    use_is club c.args.slot.now rows found (slot_told g.S.Store c.args.conn.now c.args.slot.now rows clean asked club others stands) is)
+    (returns-in-Err-clause-gives g c) (λ rows can. can) (λ clean club others represents rows asked found is.
+    use_is club c.args.slot.now rows found (slot_returned g.S.Store c.args.conn.now c.args.slot.now rows clean asked club others represents) is)
 
 pub returns-in-Some-clause-gives : goal.returns-in-Some-clause-gives
 returns-in-Some-clause-gives g c =
@@ -40,14 +40,14 @@ returns-in-Some-clause-gives g c =
     let rows = c.in-Ok.rows.items in
     let read = use_read rows c.slot_use_of.result (rw c.deref.ensures.value at c.slot_use_of.ensures.none)
     (rw c.deref.ensures.value at c.slot_use_of.ensures.one) (rw c.deref.ensures.value at c.slot_use_of.ensures.more) in
-    let said = rw c.in-Some.is at read in
-    record { told = λ clean. (rows, asked clean, said); failed = λ clean. tt }
+    let yielded = rw c.in-Some.is at read in
+    record { returned = λ clean. (rows, asked clean, yielded); failed = λ clean. tt }
 
 pub returns-in-Some-clause-reads : goal.returns-in-Some-clause-reads
 returns-in-Some-clause-reads g c =
     read_answer g.S.Store (OfSlot c.args.slot.now) IsUse c.args.conn.now c.ask.new.conn _ _ c.ask.ensures.kept c.ask.ensures.survives
-    (returns-in-Some-clause-gives g c) (λ rows can. can) (λ clean club others stands rows asked found is.
-    use_is club c.args.slot.now rows found (slot_told g.S.Store c.args.conn.now c.args.slot.now rows clean asked club others stands) is)
+    (returns-in-Some-clause-gives g c) (λ rows can. can) (λ clean club others represents rows asked found is.
+    use_is club c.args.slot.now rows found (slot_returned g.S.Store c.args.conn.now c.args.slot.now rows clean asked club others represents) is)
 
 pub returns-clause-gives : goal.returns-clause-gives
 returns-clause-gives g c =
@@ -66,12 +66,12 @@ returns-clause-gives g c =
     (rw c.deref.ensures.value at c.slot_use_of.ensures.one) (rw c.deref.ensures.value at c.slot_use_of.ensures.more) in
     let none = rw c.in-None.is at read in
     record {
-      told = λ clean. tt;
-      failed = λ clean. inr (record { rows = rows; asked = asked clean; unread = λ can. none can.0 can.1; told = refl });
+      returned = λ clean. tt;
+      failed = λ clean. inr (record { rows = rows; asked = asked clean; unread = λ can. none can.0 can.1; returned = refl });
     }
 
 pub returns-clause-reads : goal.returns-clause-reads
 returns-clause-reads g c =
     read_answer g.S.Store (OfSlot c.args.slot.now) IsUse c.args.conn.now c.ask.new.conn _ _ c.ask.ensures.kept c.ask.ensures.survives
-    (returns-clause-gives g c) (λ rows can. can) (λ clean club others stands rows asked found is.
-    use_is club c.args.slot.now rows found (slot_told g.S.Store c.args.conn.now c.args.slot.now rows clean asked club others stands) is)
+    (returns-clause-gives g c) (λ rows can. can) (λ clean club others represents rows asked found is.
+    use_is club c.args.slot.now rows found (slot_returned g.S.Store c.args.conn.now c.args.slot.now rows clean asked club others represents) is)

@@ -8,50 +8,52 @@ use Rattle.club_core.specs.declared.store.StoreFault.{StoreFault}
 use Rattle.club_core.specs.declared.store.StoreFault.TheVariants.{Storage}
 use Rattle.club_tables.specs.Answers.{OfCosts, AreCosts, FailsToRead}
 use Rattle.club_tables.specs.Columns.{cost_in, IsCostRow}
-use Rattle.club_transactions.specs.Transaction.{Words, Asked}
-use Rattle.club_tables.proofs.BookingLemmas.{costs_told}
+use Rattle.club_tables.specs.Transaction.{BoundStatement, Asked}
+use Rattle.club_tables.proofs.BookingLemmas.{costs_returned}
 use Rattle.club_tables.proofs.ReadLemmas.{read_answer}
 use Rattle.club_tables.proofs.SumLemmas.{costs_are}
 use Rattle.club_tables.proofs.reads.spent.Goals as goal
 
-costs_given : {S E : Type 0} (g : Ghosts S) (words : Words) (old : Held S) (rows : List Row) (r : Result ℕ E) → Asked g words.0 words.1 old rows
+costs_given : {S E : Type 0} (g : Ghosts S) (statement : BoundStatement) (old : Held S) (rows : List Row) (r : Result ℕ E)
+    → Asked g statement.0 statement.1 old rows
     → IfOk r (λ n. n ≡ sum_by cost_in rows) → IfOk r (λ _. All IsCostRow rows) → IfOk r (λ n. n < 2 ^ 64)
-    → IfOk r (λ n. (rs : List Row) × Asked g words.0 words.1 old rs × AreCosts rs n)
-costs_given g words old rows (Ok n) asked told limits range = (rows, asked, (limits, told, range))
-costs_given g words old rows (Err e) asked told limits range = tt
+    → IfOk r (λ n. (rs : List Row) × Asked g statement.0 statement.1 old rs × AreCosts rs n)
+costs_given g statement old rows (Ok n) asked returned limits range = (rows, asked, (limits, returned, range))
+costs_given g statement old rows (Err e) asked returned limits range = tt
 
-costs_refused : {S : Type 0} (g : Ghosts S) (words : Words) (old new : Held S) (rows : List Row) (r : Result ℕ StoreFault) → Asked g words.0 words.1 old rows
+costs_refused : {S : Type 0} (g : Ghosts S) (statement : BoundStatement) (old new : Held S) (rows : List Row) (r : Result ℕ StoreFault)
+    → Asked g statement.0 statement.1 old rows
     → IfErr r (λ fault. (fault ≡ Storage) × ((n : ℕ) → ¬ (AreCosts rows n)))
-    → IfErr r (FailsToRead g words (λ rs. (n : ℕ) × AreCosts rs n) old new)
-costs_refused g words old new rows (Ok n) asked storage = tt
-costs_refused g words old new rows (Err e) asked storage =
-    inr (record { rows = rows; asked = asked; unread = λ read. storage.1 read.0 read.1; told = storage.0 })
+    → IfErr r (FailsToRead g statement (λ rs. (n : ℕ) × AreCosts rs n) old new)
+costs_refused g statement old new rows (Ok n) asked storage = tt
+costs_refused g statement old new rows (Err e) asked storage =
+    inr (record { rows = rows; asked = asked; unread = λ read. storage.1 read.0 read.1; returned = storage.0 })
 
 pub returns-in-Err-clause-gives : goal.returns-in-Err-clause-gives
 returns-in-Err-clause-gives g c =
     let failed = rw (c.params-to_sql.ensures, c.as_str.ensures.value) at c.in-Err.ensures.fault in
-    record { told = λ clean. tt; failed = λ clean. inl (failed clean) }
+    record { returned = λ clean. tt; failed = λ clean. inl (failed clean) }
 
 pub returns-in-Err-clause-reads : goal.returns-in-Err-clause-reads
 returns-in-Err-clause-reads g c =
     read_answer g.S.Store (OfCosts c.args.key.now) AreCosts c.args.conn.now c.ask.new.conn _ _ c.ask.ensures.kept c.ask.ensures.survives
-    (returns-in-Err-clause-gives g c) (λ rows can. can) (λ clean club others stands rows asked cost are.
-    are.1 ∙ costs_are _ rows (costs_told g.S.Store c.args.conn.now c.args.key.now rows clean asked club others stands))
+    (returns-in-Err-clause-gives g c) (λ rows can. can) (λ clean club others represents rows asked cost are.
+    are.1 ∙ costs_are _ rows (costs_returned g.S.Store c.args.conn.now c.args.key.now rows clean asked club others represents))
 
 pub returns-clause-gives : goal.returns-clause-gives
 returns-clause-gives g c =
     let asked = rw (c.params-to_sql.ensures, c.as_str.ensures.value) at c.in-Ok.ensures.asked in
     let rows = c.in-Ok.rows.items in
-    let told = rw c.deref.ensures.value at c.costs.ensures.told in
+    let returned = rw c.deref.ensures.value at c.costs.ensures.returned in
     let limits = rw c.deref.ensures.value at c.costs.ensures.limits in
     let storage = rw c.deref.ensures.value at c.costs.ensures.storage in
     record {
-      told = λ clean. costs_given g.S.Store _ c.args.conn.now rows c.costs.result (asked clean) told limits c.costs.ensures.range;
+      returned = λ clean. costs_given g.S.Store _ c.args.conn.now rows c.costs.result (asked clean) returned limits c.costs.ensures.range;
       failed = λ clean. costs_refused g.S.Store _ c.args.conn.now c.ask.new.conn rows c.costs.result (asked clean) storage;
     }
 
 pub returns-clause-reads : goal.returns-clause-reads
 returns-clause-reads g c =
     read_answer g.S.Store (OfCosts c.args.key.now) AreCosts c.args.conn.now c.ask.new.conn c.costs.result _ c.ask.ensures.kept c.ask.ensures.survives
-    (returns-clause-gives g c) (λ rows can. can) (λ clean club others stands rows asked cost are.
-    are.1 ∙ costs_are _ rows (costs_told g.S.Store c.args.conn.now c.args.key.now rows clean asked club others stands))
+    (returns-clause-gives g c) (λ rows can. can) (λ clean club others represents rows asked cost are.
+    are.1 ∙ costs_are _ rows (costs_returned g.S.Store c.args.conn.now c.args.key.now rows clean asked club others represents))

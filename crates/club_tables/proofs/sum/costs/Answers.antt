@@ -12,7 +12,7 @@ loop-row-preserved c =
     let low = c.loop-row-test.true in
     let cost : IsCostIn row c.in-Some.cost = c.in-Some.ensures in
     record {
-      told = omega (
+      returned = omega (
         arith,
         sum_by_more cost_in c.args.rows.now c.loop-row.row-index row low,
         ap cost_in c.row-item.is,
@@ -39,5 +39,5 @@ pub returns-in_default-checked_add-clause-storage : goal.returns-in_default-chec
 returns-in_default-checked_add-clause-storage c = (
   refl,
   λ n. too_much c.args.rows.now c.loop-row.row-index c.row-item.result c.loop-row-test.true c.row-item.is n c.loop-row.sum c.in-Some.cost c.in-Some.ensures
-      c.loop-row.invariant.told (omega (arith, c.in_default-checked_add.ensures, c.from.ensures)),
+      c.loop-row.invariant.returned (omega (arith, c.in_default-checked_add.ensures, c.from.ensures)),
 )

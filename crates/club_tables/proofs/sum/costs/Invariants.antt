@@ -5,7 +5,7 @@ use Rattle.club_tables.proofs.sum.costs.Given as goal
 
 abbrev pub invariant-loop-row : goal.invariant-loop-row
 invariant-loop-row l = record {
-  told : l.sum ≡ sum_by cost_in (take l.row-index l.rows);
+  returned : l.sum ≡ sum_by cost_in (take l.row-index l.rows);
   fits : l.sum < 2 ^ 64;
   limits : All IsCostRow (take l.row-index l.rows);
 }

@@ -1,6 +1,6 @@
 use Rattle.std.proofs.Common.{refl, arith}
 use Rattle.club_core.specs.declared.change.Change.TheVariants.{MarkClosed}
-use Rattle.club_tables.specs.Words.{closing}
+use Rattle.club_tables.specs.ChangeStatements.{closing}
 use Rattle.club_tables.proofs.MadeLemmas.{close_made}
 use Rattle.club_tables.proofs.WriteLemmas.{commits_of, makes}
 use Rattle.club_tables.proofs.writes.close_slot.Goals as goal

@@ -1,7 +1,7 @@
 use Rattle.std.proofs.Common.{inl, refl, arith}
 use Rattle.club_core.specs.declared.change.Change.TheVariants.{MarkCancelled}
-use Rattle.club_tables.specs.Told.{HasNoneToCancel}
-use Rattle.club_tables.specs.Words.{marking}
+use Rattle.club_tables.specs.ReadsAndChanges.{HasNoneToCancel}
+use Rattle.club_tables.specs.ChangeStatements.{marking}
 use Rattle.club_tables.proofs.MadeLemmas.{nothing_made}
 use Rattle.club_tables.proofs.WriteLemmas.{commits_of, makes}
 use Rattle.club_tables.proofs.writes.mark_cancelled.Goals as goal

@@ -1,7 +1,7 @@
 use Rattle.std.proofs.Common.{◌≡◌, [], ◌∷◌, ◌++◌, arith, refl}
 use Rattle.desk_server.specs.Served as spec
 use Rattle.desk_server.specs.declared.log.Fate.TheVariants.{Unanswered}
-use Rattle.desk_server.proofs.ServedLemmas.{answered, counts_more, length_more}
+use Rattle.desk_server.proofs.ServedLemmas.{desk_steps, counts_more, length_more}
 use Rattle.desk_server.proofs.serve.serve_logged.Goals as goal
 
 pub loop-served-init : goal.loop-served-init
@@ -40,14 +40,14 @@ returns-clause-served g c =
     let inv = c.loop-served.invariant in
     (inv.fates, omega (arith, inv.so_many), inv.served, (rw inv.so_many inv.waited, inv.noted))
 
-pub returns-in-Err-clause-answered : goal.returns-in-Err-clause-answered
-returns-in-Err-clause-answered g c =
+pub returns-in-Err-clause-desk_steps : goal.returns-in-Err-clause-desk_steps
+returns-in-Err-clause-desk_steps g c =
     let inv = c.loop-served.invariant in
     let stop = c.in-Err.ensures.served in
-    (c.loop-served.served, omega arith, rw (stop.2, stop.3, ← inv.so_many) (answered _ _ _ _ _ _ _ _ _ _ _ inv.served))
+    (c.loop-served.served, omega arith, rw (stop.2, stop.3, ← inv.so_many) (desk_steps _ _ _ _ _ _ _ _ _ _ _ inv.served))
 
-pub returns-clause-answered : goal.returns-clause-answered
-returns-clause-answered g c =
+pub returns-clause-desk_steps : goal.returns-clause-desk_steps
+returns-clause-desk_steps g c =
     let inv = c.loop-served.invariant in
     let last : c.args.count ≡ c.loop-served.served = omega arith in
-    rw (last, ← inv.so_many) (answered _ _ _ _ _ _ _ _ _ _ _ inv.served)
+    rw (last, ← inv.so_many) (desk_steps _ _ _ _ _ _ _ _ _ _ _ inv.served)

@@ -6,7 +6,7 @@ returns-clause-served g c = (
   Exchanged c.in-Some-now.moment c.of-line.result c.exchange-outcome.result,
   (c.begin.new.self, c.begin.ensures, c.note-2.ensures),
   (
-    c.in-Some.ensures.counted,
+    c.in-Some.ensures.failure_count,
     c.in-Some-now.ensures,
     (
       c.request.result.now,

@@ -1,19 +1,19 @@
 use Rattle.std.proofs.Common.{Ok, Err, arith, rules, take}
 use Rattle.pass_forms.specs.declared.fault.FormFault.TheVariants.{Malformed}
-use Rattle.pass_forms.specs.Envelope.{unwrapped}
+use Rattle.pass_forms.specs.Envelope.{unwrapping}
 use Rattle.pass_forms.proofs.EnvelopeLaws.{answers_as}
 use Rattle.pass_forms.proofs.envelope.unwrap_text.Goals as goal
 
 pub returns-in_default-clause-reading : goal.returns-in_default-clause-reading
-unfolding unwrapped
+unfolding unwrapping
 returns-in_default-clause-reading c = answers_as c.args.text.now (Err Malformed) (λ i. let byte = c.type_inv.text i in omega arith) (search rules)
 
 pub returns-in_default-form_of-clause-reading : goal.returns-in_default-form_of-clause-reading
-unfolding unwrapped
+unfolding unwrapping
 returns-in_default-form_of-clause-reading c = answers_as c.args.text.now (Err Malformed) (λ i. let byte = c.type_inv.text i in omega arith) (search rules)
 
 pub returns-clause-reading : goal.returns-clause-reading
-unfolding unwrapped
+unfolding unwrapping
 returns-clause-reading c =
-    answers_as c.args.text.now (Ok (c.in-Some-form_of.form, take c.in-Some.len c.decode.new.room)) (λ i. let byte = c.type_inv.text i in omega arith)
+    answers_as c.args.text.now (Ok (c.in-Some-form_of.form, take c.in-Some.len c.decode.new.buffer)) (λ i. let byte = c.type_inv.text i in omega arith)
     (search rules)

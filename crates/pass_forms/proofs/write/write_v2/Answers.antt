@@ -14,7 +14,7 @@ returns-clause-err c = IfErr-weaker c.write_in.result _ _ (λ fault refused. is_
 pub returns-clause-read_back : goal.returns-clause-read_back
 returns-clause-read_back c =
     IfOk-weaker c.write_in.result _ _
-    (λ text written. reads_back v2_form c.args.pass.now _ written.room.are_bytes (is_written v2_form c.args.pass.now _ written)) c.write_in.ensures.ok
+    (λ text written. reads_back v2_form c.args.pass.now _ written.buffer.are_bytes (is_written v2_form c.args.pass.now _ written)) c.write_in.ensures.ok
 
 pub returns-clause-computed : goal.returns-clause-computed
 unfolding writing_v2

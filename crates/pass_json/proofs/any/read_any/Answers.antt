@@ -3,8 +3,8 @@ use Rattle.pass_json.specs.AnyForm.{IsAnyReading, reading}
 use Rattle.pass_json.proofs.SameReading.{unless_memory}
 use Rattle.pass_json.proofs.any.read_any.Goals as goal
 
-pub returns-clause-spelled : goal.returns-clause-spelled
-returns-clause-spelled c =
+pub returns-clause-spelling : goal.returns-clause-spelling
+returns-clause-spelling c =
     let text = c.args.text.now in
-    unless_memory (λ answer. reading text ≡ answer) (IsAnyReading text) c.unwrapped.result
-    (λ answer e. (c.reads_any_form_exactly.ensures text answer (λ i. omega (arith, c.type_inv.text i))).1 e) c.unwrapped.ensures.answer
+    unless_memory (λ answer. reading text ≡ answer) (IsAnyReading text) c.unwrapping.result
+    (λ answer e. (c.reads_any_form_exactly.ensures text answer (λ i. omega (arith, c.type_inv.text i))).1 e) c.unwrapping.ensures.answer

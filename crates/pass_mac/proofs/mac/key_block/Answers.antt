@@ -1,4 +1,4 @@
--- A key that fits a block stands for itself.
+-- A key that fits a block is used as it is.
 use Rattle.std.proofs.Common.{◌≡◌, length, false, ltb, arith, refl}
 use Rattle.std.proofs.lemmas.Bool.{le-ltb}
 use Rattle.std.proofs.lemmas.List.{drop-replicate}

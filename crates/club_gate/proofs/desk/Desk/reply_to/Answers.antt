@@ -1,29 +1,29 @@
 use Rattle.std.proofs.Common.{inl, inr}
 use Rattle.std.proofs.lemmas.List.Elements.{All-head}
 use Rattle.club_core.specs.Club.{IsSound}
-use Rattle.club_gate.specs.Said.{words_said}
+use Rattle.club_gate.specs.DecodedPass.{decoded_words}
 use Rattle.club_gate.proofs.Stepping.{ask_done, ask_failed, ask_fits}
 use Rattle.club_gate.proofs.desk.Desk.reply_to.Goals as goal
 
 pub returns-in_err-settle-clause-steps : goal.returns-in_err-settle-clause-steps
-returns-in_err-settle-clause-steps g c = λ honest club others stands.
-    let before = c.settle.ensures.honest honest in
-    let words = words_said c.args.words.now.pass.now c.args.words.now.request in
+returns-in_err-settle-clause-steps g c = λ was_clean club others represents.
+    let before = c.settle.ensures.was_clean was_clean in
+    let words = decoded_words c.args.words.now.pass.now c.args.words.now.request in
     let verdict = c.in_ok-verdict.verdict in
-    let decided = c.in_ok-verdict.ensures.told before club others stands in
-    let sound = All-head IsSound club others (g.met.S.ClubStore.sound c.args.self.now club others stands) in
+    let decided = c.in_ok-verdict.ensures.returned before club others represents in
+    let sound = All-head IsSound club others (g.met.S.ClubStore.sound c.args.self.now club others represents) in
     let fits = ask_fits c.steps_keep_sound.ensures club words c.args.moment verdict sound c.within.ensures decided in
-    inr (ask_failed g.S.ClubStore.stands c.settle.new.self club others words c.args.moment verdict c.from_residual-in_err-settle.result
+    inr (ask_failed g.S.ClubStore.represents c.settle.new.self club others words c.args.moment verdict c.from_residual-in_err-settle.result
     c.from_residual-in_err-settle.ensures.0 decided
-    (c.in_err-settle.ensures.settled honest club others (c.verdict.ensures.kept before club others stands) fits))
+    (c.in_err-settle.ensures.settled was_clean club others (c.verdict.ensures.kept before club others represents) fits))
 
 pub returns-clause-steps : goal.returns-clause-steps
-returns-clause-steps g c = λ honest club others stands.
-    let before = c.settle.ensures.honest honest in
-    let words = words_said c.args.words.now.pass.now c.args.words.now.request in
+returns-clause-steps g c = λ was_clean club others represents.
+    let before = c.settle.ensures.was_clean was_clean in
+    let words = decoded_words c.args.words.now.pass.now c.args.words.now.request in
     let verdict = c.in_ok-verdict.verdict in
-    let decided = c.in_ok-verdict.ensures.told before club others stands in
-    let sound = All-head IsSound club others (g.met.S.ClubStore.sound c.args.self.now club others stands) in
+    let decided = c.in_ok-verdict.ensures.returned before club others represents in
+    let sound = All-head IsSound club others (g.met.S.ClubStore.sound c.args.self.now club others represents) in
     let fits = ask_fits c.steps_keep_sound.ensures club words c.args.moment verdict sound c.within.ensures decided in
-    inl (ask_done g.S.ClubStore.stands c.settle.new.self club others c.never_unavailable.ensures words c.args.moment verdict decided
-    (c.in_ok-settle.ensures.settled honest club others (c.verdict.ensures.kept before club others stands) fits))
+    inl (ask_done g.S.ClubStore.represents c.settle.new.self club others c.never_unavailable.ensures words c.args.moment verdict decided
+    (c.in_ok-settle.ensures.settled was_clean club others (c.verdict.ensures.kept before club others represents) fits))

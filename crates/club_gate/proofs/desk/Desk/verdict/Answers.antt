@@ -1,15 +1,16 @@
 use Rattle.std.proofs.Common.{sym}
 use Rattle.pass_json.specs.AnyForm.{reading_in_form}
-use Rattle.club_gate.proofs.Verifying.{told_of_text, read_wrapped, fault_in, other_form}
+use Rattle.club_gate.proofs.Verifying.{verdict_by_text, read_wrapped, fault_in, other_form}
 use Rattle.club_gate.proofs.desk.Desk.verdict.Goals as goal
 
-pub returns-in-Ok-clause-told : goal.returns-in-Ok-clause-told
-returns-in-Ok-clause-told g c = λ honest club others stands.
+pub returns-in-Ok-clause-returned : goal.returns-in-Ok-clause-returned
+returns-in-Ok-clause-returned g c = λ was_clean club others represents.
     let text = c.args.words.now.pass.now in
     let form = c.in-Ok.unwrapped.form in
     let bytes = c.bytes-bytes.result.now in
     let read = read_wrapped c.reads_what_is_wrapped.ensures text form _ bytes c.bytes-bytes.ensures (sym c.in-Ok.ensures.value) c.in-Ok.ensures.short in
-    told_of_text club c.args.words.now.request c.args.moment text form bytes c.verdict_on.result read (c.verdict_on.ensures.told honest club others stands)
+    verdict_by_text club c.args.words.now.request c.args.moment text form bytes c.verdict_on.result read
+    (c.verdict_on.ensures.returned was_clean club others represents)
 
 pub returns-in-Ok-clause-untouched : goal.returns-in-Ok-clause-untouched
 returns-in-Ok-clause-untouched g c = λ fault e.

@@ -2,17 +2,17 @@ use Rattle.club_http.proofs.desk.DeskResponder.ask.Goals as goal
 
 pub returns : goal.returns
 returns g c =
-    let told = c.ask.ensures in
+    let returned = c.ask.ensures in
     record {
-      honest = told.honest;
-      steps = told.steps;
-      lawful = λ honest club others stands. record {
-        served = told.served honest club others stands;
-        depends = told.depends honest club others stands;
-        blind = told.blind honest club others stands;
-        forms = told.forms honest club others stands;
-        less = told.less honest club others stands;
+      was_clean = returned.was_clean;
+      steps = returned.steps;
+      lawful = λ was_clean club others represents. record {
+        served = returned.served was_clean club others represents;
+        depends = returned.depends was_clean club others represents;
+        blind = returned.blind was_clean club others represents;
+        forms = returned.forms was_clean club others represents;
+        less = returned.less was_clean club others represents;
       };
-      untouched = told.untouched;
-      in_place = told.in_place;
+      untouched = returned.untouched;
+      in_place = returned.in_place;
     }

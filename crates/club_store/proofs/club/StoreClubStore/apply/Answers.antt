@@ -2,6 +2,6 @@ use Rattle.club_store.proofs.SoundLemmas.{any_change, sound_changes}
 use Rattle.club_store.proofs.club.StoreClubStore.apply.Goals as goal
 
 pub returns-clause-changed : goal.returns-clause-changed
-returns-clause-changed g c = λ honest.
+returns-clause-changed g c = λ was_clean.
     sound_changes g.S.Store c.args.change.now c.args.self.now c.apply.new.self c.apply.result
-    (any_change g.S.Store c.args.change.now c.args.self.now c.apply.new.self c.apply.result (c.apply.ensures.makes.changed honest))
+    (any_change g.S.Store c.args.change.now c.args.self.now c.apply.new.self c.apply.result (c.apply.ensures.makes.changed was_clean))

@@ -5,16 +5,16 @@ use Rattle.sqlite.specs.Recovery.{Image}
 use Rattle.club_core.specs.Club.{Club, empty_club}
 use Rattle.club_tables.specs.Tables.{IsLeftOf}
 use Rattle.club_store.proofs.CrashLemmas.{new_is_blank, the_one}
-use Rattle.club_transactions.specs.Transaction.{fault_by}
+use Rattle.club_tables.specs.Transaction.{fault_by}
 use Rattle.club_store.specs.Opening.{FailsFrom, LeavesFrom}
-use Rattle.club_store.proofs.FileLemmas.{seen, leaves_same}
+use Rattle.club_store.proofs.FileLemmas.{seen_bytes, leaves_same}
 use Rattle.club_store.proofs.HeldLemmas.{by_left, first_two}
 use Rattle.club_store.proofs.store.Store+FileStore+FileFrom+Q.open_file.Goals as goal
 
 pub returns-in-Ok-adopt-clause-opened : goal.returns-in-Ok-adopt-clause-opened
 returns-in-Ok-adopt-clause-opened g c clean =
     let was = file_state c.in-Ok.connection in
-    let early : HasCleanDisk was = c.in-Ok-adopt.ensures.honest clean in
+    let early : HasCleanDisk was = c.in-Ok-adopt.ensures.was_clean clean in
     let opened = c.in-Ok.ensures.opened early in
     let found = c.in-Ok.ensures.found early in
     let again = λ (clubs : List Club) (left : IsLeftOf was.committed.trees clubs).
@@ -25,7 +25,7 @@ returns-in-Ok-adopt-clause-opened g c clean =
       found = found;
       accepted = c.in-Ok-adopt.ensures.accepted clean;
       survives = c.in-Ok-adopt.ensures.survives;
-      stands = c.in-Ok-adopt.ensures.opened clean;
+      represents = c.in-Ok-adopt.ensures.opened clean;
       again = λ clubs held. again clubs (subst (λ trees. IsLeftOf trees clubs) (sym (found.holds held.0 held.1)) held.2);
       fresh = λ none. the_one _ empty_club (again (empty_club ∷ []) (inl (was.committed, refl, new_is_blank _ was none found (opened.1 opened.0.is_open).1)));
     }
@@ -45,10 +45,10 @@ returns-in-Err-clause-fault g c = by_left (λ left. FailsFrom (image g.Q.Start.l
       unopened = λ none. first_two (c.in-Err.ensures.unopened none) (other none);
       cause = weaker _ _ c.in-Err.left c.in-Err.ensures.cause (λ left it. (
         it.0,
-        ap₂ image (ap₂ (seen g.Q.Start.log g.Q.Start.db) it.1.0 it.1.1) (ap₂ (seen g.Q.Start.log g.Q.Start.db) it.2.0 it.2.1),
+        ap₂ image (ap₂ (seen_bytes g.Q.Start.log g.Q.Start.db) it.1.0 it.1.1) (ap₂ (seen_bytes g.Q.Start.log g.Q.Start.db) it.2.0 it.2.1),
         λ clean. (it.3 clean).0,
       ));
-      told = c.fault_of.ensures;
+      returned = c.fault_of.ensures;
     })
 
 pub returns-in-Err-clause-refused : goal.returns-in-Err-clause-refused
@@ -56,7 +56,7 @@ returns-in-Err-clause-refused g c = by_left (LeavesFrom (image g.Q.Start.log g.Q
     (λ is. tt)
     (λ other. weaker _ _ c.in-Err.left c.in-Err.ensures.cause (λ left it. record {
       files = it.0;
-      held = ap₂ image (ap₂ (seen g.Q.Start.log g.Q.Start.db) it.1.0 it.1.1) (ap₂ (seen g.Q.Start.log g.Q.Start.db) it.2.0 it.2.1);
+      held = ap₂ image (ap₂ (seen_bytes g.Q.Start.log g.Q.Start.db) it.1.0 it.1.1) (ap₂ (seen_bytes g.Q.Start.log g.Q.Start.db) it.2.0 it.2.1);
       settled = λ left may. ap₂ image
           (leaves_same g.Q.Start.is_mixing g.Q.Start.log g.Q.Start.db _ _ _ _ it.1.0 it.1.1 left.log may.0)
           (leaves_same g.Q.Start.is_mixing g.Q.Start.log g.Q.Start.db _ _ _ _ it.2.0 it.2.1 left.db may.1);

@@ -2,26 +2,26 @@ use Rattle.std.proofs.Common.{◌≡◌, Bool, true, false, not, [], ◌∷◌, 
 use Rattle.sqlite.specs.Effect.{Database}
 use Rattle.sqlite.specs.Held.{state}
 use Rattle.club_core.specs.Club.{empty_club}
-use Rattle.club_tables.specs.Tables.{HoldsClub}
-use Rattle.club_store.proofs.CrashLemmas.{one_found, one_stands, the_one}
+use Rattle.club_tables.specs.Tables.{HoldsClubAnyVersion}
+use Rattle.club_store.proofs.CrashLemmas.{one_found, represents_one, the_one}
 use Rattle.club_store.proofs.ReadingLemmas.{opens_nothing}
 use Rattle.club_store.proofs.store.Store.adopt.Goals as goal
 
 pub returns-in-Ok-clause-again : goal.returns-in-Ok-clause-again
 returns-in-Ok-clause-again g c clean clubs on =
     let was = c.args.connection in
-    one_stands (state g.S.Store was) on.opened on.live (λ is_open trees may.
+    represents_one (state g.S.Store was) on.opened on.live (λ is_open trees may.
     g.met.S.Store.settled was.store trees is_open may) _ (c.in-Ok.ensures.opened clean) clubs on.left
 
 pub returns-in-Ok-clause-empty : goal.returns-in-Ok-clause-empty
 returns-in-Ok-clause-empty g c clean empty =
     let was = c.args.connection in
-    let blank : HoldsClub (state g.S.Store was).committed empty_club = inr (inr (
+    let blank : HoldsClubAnyVersion (state g.S.Store was).committed empty_club = inr (inr (
       ap (λ (d : Database). d.schema) (sym empty.0.clean) ∙ empty.2,
       refl,
       (empty.1 empty.0.is_open).1,
     )) in
-    the_one _ empty_club (one_stands (state g.S.Store was) empty.0 empty.1 (λ is_open trees may.
+    the_one _ empty_club (represents_one (state g.S.Store was) empty.0 empty.1 (λ is_open trees may.
     g.met.S.Store.settled was.store trees is_open may) _ (c.in-Ok.ensures.opened clean)
     (empty_club ∷ []) (inl ((state g.S.Store was).committed, refl, blank)))
 
@@ -51,7 +51,7 @@ returns-in-Err-clause-refused g c =
     let was = c.args.connection in
     let left = c.in-Err.ensures in
     record {
-      clean = left.honest;
+      clean = left.was_clean;
       kept = left.refused;
       mode = still_idle _ _ _ c.is_autocommit.ensures.value c.if-not-is_autocommit.false left.idle;
       untouched = λ idle. left.untouched;

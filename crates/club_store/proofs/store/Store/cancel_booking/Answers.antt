@@ -3,7 +3,7 @@ use Rattle.std.specs.Prelude.{Option, IfSome}
 use Rattle.club_rows.specs.declared.booking.Booking.{Booking}
 use Rattle.club_core.specs.declared.change.Change.TheVariants.{MarkCancelled}
 use Rattle.club_core.specs.Sums.{booking_under}
-use Rattle.club_tables.specs.Told.{ChangesClubWhere, HasNoneToCancel, IsToCancel}
+use Rattle.club_tables.specs.ReadsAndChanges.{ChangesClubWhere, HasNoneToCancel, IsToCancel}
 use Rattle.club_store.proofs.ReadingLemmas.{change_after, refuse_unread}
 use Rattle.club_store.proofs.store.Store.cancel_booking.Goals.{in_default-via-in-Some+else-not-booking, in_default-via-in_default}
 use Rattle.club_store.proofs.store.Store.cancel_booking.Goals as goal
@@ -23,8 +23,8 @@ returns-in-Some g c =
     c.give_back.ensures.makes in
     record {
       makes = change_after g.S.Store c.args.self.now mid _ _ c.in-Ok.ensures.reads new c.give_back.result (λ _.
-          Unit {0}) (IsToCancel booking) (MarkCancelled key number refund) given (λ club before told.
-          (subst₂ (λ k n. booking_under k n club.bookings ≡ Some booking) (sym named.0) (sym named.1) (sym told ∙ c.in-Some.is), c.if-not-booking.true));
+          Unit {0}) (IsToCancel booking) (MarkCancelled key number refund) given (λ club before returned.
+          (subst₂ (λ k n. booking_under k n club.bookings ≡ Some booking) (sym named.0) (sym named.1) (sym returned ∙ c.in-Some.is), c.if-not-booking.true));
     }
 
 pub returns-in_default : goal.returns-in_default
@@ -35,9 +35,9 @@ returns-in_default g c =
     record {
       makes = change_after g.S.Store c.args.self.now c.booking.new.self _ _ c.in-Ok.ensures.reads c.mark_cancelled.new.self c.mark_cancelled.result (λ _.
           Unit {0}) (HasNoneToCancel key number) (MarkCancelled key number c.args.refund) c.mark_cancelled.ensures.makes
-          (λ club before told. elim c.in_default.branch [
+          (λ club before returned. elim c.in_default.branch [
             | in_default-via-in-Some+else-not-booking w ↦ subst (λ (o : Option Booking).
-                IfSome o IsDone) told (subst (λ (o : Option Booking). IfSome o IsDone) (sym w.in-Some.is) w.if-not-booking.false)
+                IfSome o IsDone) returned (subst (λ (o : Option Booking). IfSome o IsDone) (sym w.in-Some.is) w.if-not-booking.false)
             | in_default-via-in_default w ↦ search rules
           ]);
     }

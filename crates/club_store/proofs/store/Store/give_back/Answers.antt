@@ -4,8 +4,8 @@ use Rattle.club_core.specs.declared.change.Change.TheVariants.{MarkCancelled}
 use Rattle.club_core.specs.declared.store.StoreFault.{StoreFault}
 use Rattle.club_core.specs.Club.{key_named}
 use Rattle.club_tables.specs.Stored.{fresh}
-use Rattle.club_tables.specs.Told.{IsOwnedBy, IsToCancel, ReadsClub}
-use Rattle.club_store.proofs.ReadingLemmas.{change_after, refuse_told, refuse_unread}
+use Rattle.club_tables.specs.ReadsAndChanges.{IsOwnedBy, IsToCancel, ReadsClub}
+use Rattle.club_store.proofs.ReadingLemmas.{change_after, refuse_found, refuse_unread}
 use Rattle.club_store.proofs.ViewLemmas.{of_fresh, unnamed}
 use Rattle.club_store.proofs.store.Store.give_back.Goals as goal
 
@@ -18,8 +18,8 @@ returns-in-Some g c =
       makes = change_after g.S.Store c.args.self.now c.self.inside.connection found _ reads c.cancel_booking.new.conn c.cancel_booking.result
           (IsToCancel c.args.booking.now) (λ club. IsToCancel c.args.booking.now club
           × IsOwnedBy c.in-Some.key.member c.args.booking.now.key club) (MarkCancelled c.args.booking.now.key c.args.booking.now.number c.args.refund)
-          c.cancel_booking.ensures.makes (λ club before told.
-          let of = of_fresh (key_named c.args.booking.now.key club) c.in-Some.key (sym c.in-Some.is ∙ told) in
+          c.cancel_booking.ensures.makes (λ club before returned.
+          let of = of_fresh (key_named c.args.booking.now.key club) c.in-Some.key (sym c.in-Some.is ∙ returned) in
           (before, (of.0, of.1, ap (λ (k : Key). k.member) (sym of.2))));
     }
 
@@ -35,6 +35,6 @@ pub returns-in-None : goal.returns-in-None
 returns-in-None g c = record {
   makes =
       let change = (MarkCancelled c.args.booking.now.key c.args.booking.now.number c.args.refund) in
-      refuse_told g.S.Store c.args.self.now c.key_row.new.self _ _ c.in-Ok.ensures.reads (IsToCancel c.args.booking.now) change
-      (λ club it told. unnamed (key_named c.args.booking.now.key club) (sym c.in-None.is ∙ told));
+      refuse_found g.S.Store c.args.self.now c.key_row.new.self _ _ c.in-Ok.ensures.reads (IsToCancel c.args.booking.now) change
+      (λ club it returned. unnamed (key_named c.args.booking.now.key club) (sym c.in-None.is ∙ returned));
 }

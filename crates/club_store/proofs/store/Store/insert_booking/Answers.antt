@@ -4,8 +4,8 @@ use Rattle.club_core.specs.declared.change.Change.TheVariants.{InsertBooking}
 use Rattle.club_core.specs.declared.store.StoreFault.{StoreFault}
 use Rattle.club_core.specs.Club.{key_named}
 use Rattle.club_tables.specs.Stored.{fresh}
-use Rattle.club_tables.specs.Told.{IsOwnedBy, ReadsClub}
-use Rattle.club_store.proofs.ReadingLemmas.{change_after, refuse_told, refuse_unread}
+use Rattle.club_tables.specs.ReadsAndChanges.{IsOwnedBy, ReadsClub}
+use Rattle.club_store.proofs.ReadingLemmas.{change_after, refuse_found, refuse_unread}
 use Rattle.club_store.proofs.ViewLemmas.{of_fresh, unnamed}
 use Rattle.club_store.proofs.store.Store.insert_booking.Goals as goal
 
@@ -17,8 +17,8 @@ returns-in-Some g c =
     record {
       makes = change_after g.S.Store c.args.self.now c.self.inside.connection found _ reads c.insert_booking.new.conn c.insert_booking.result (λ _.
           Unit {0}) (IsOwnedBy c.in-Some.key.member c.args.booking.now.key) (InsertBooking c.args.booking.now) c.insert_booking.ensures.makes
-          (λ club before told.
-          let of = of_fresh (key_named c.args.booking.now.key club) c.in-Some.key (sym c.in-Some.is ∙ told) in
+          (λ club before returned.
+          let of = of_fresh (key_named c.args.booking.now.key club) c.in-Some.key (sym c.in-Some.is ∙ returned) in
           (of.0, of.1, ap (λ (k : Key). k.member) (sym of.2)));
     }
 
@@ -31,6 +31,6 @@ pub returns-in-None : goal.returns-in-None
 returns-in-None g c = record {
   makes =
       let change = (InsertBooking c.args.booking.now) in
-      refuse_told g.S.Store c.args.self.now c.key_row.new.self _ _ c.in-Ok.ensures.reads (λ _. Unit {0}) change
-      (λ club it told. unnamed (key_named c.args.booking.now.key club) (sym c.in-None.is ∙ told));
+      refuse_found g.S.Store c.args.self.now c.key_row.new.self _ _ c.in-Ok.ensures.reads (λ _. Unit {0}) change
+      (λ club it returned. unnamed (key_named c.args.booking.now.key club) (sym c.in-None.is ∙ returned));
 }

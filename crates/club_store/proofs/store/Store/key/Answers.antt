@@ -9,9 +9,9 @@ use Rattle.club_store.proofs.store.Store.key.Goals as goal
 pub returns-clause-reads : goal.returns-clause-reads
 returns-clause-reads g c =
     read_then g.S.Store c.args.self.now c.key_row.new.self c.older_root.new.self _ _ _ _ _ _ c.in_ok-key.ensures.reads c.in_ok-older.ensures.reads
-    (λ club row told.
+    (λ club row returned.
     let of = of_fresh (key_named c.args.name.now club) c.in-Some.key (sym c.in-Some.is ∙ row) in
-    let older = told ∙ ap (λ (o : Option Key). option_and_then (λ (k : Key). k.older) o) of.1 in
+    let older = returned ∙ ap (λ (o : Option Key). option_and_then (λ (k : Key). k.older) o) of.1 in
     ap Some (with_older of.0 c.in-Some.key c.in_ok-older.older of.2 older) ∙ sym of.1) (λ P h. tt)
 
 pub returns-in_err-older-clause-reads : goal.returns-in_err-older-clause-reads

@@ -4,8 +4,8 @@ use Rattle.club_core.specs.declared.change.Change.TheVariants.{ReplaceRoot}
 use Rattle.club_core.specs.declared.store.StoreFault.{StoreFault}
 use Rattle.club_core.specs.Club.{key_named}
 use Rattle.club_tables.specs.Stored.{fresh}
-use Rattle.club_tables.specs.Told.{HasRoot, ReadsClub}
-use Rattle.club_store.proofs.ReadingLemmas.{change_after, refuse_told, refuse_unread}
+use Rattle.club_tables.specs.ReadsAndChanges.{HasRoot, ReadsClub}
+use Rattle.club_store.proofs.ReadingLemmas.{change_after, refuse_found, refuse_unread}
 use Rattle.club_store.proofs.ViewLemmas.{of_fresh, unnamed}
 use Rattle.club_store.proofs.store.Store.replace_root.Goals as goal
 
@@ -17,8 +17,8 @@ returns-in-Some g c =
     record {
       makes = change_after g.S.Store c.args.self.now c.self.inside.connection found _ reads c.replace_root.new.conn c.replace_root.result (λ _.
           Unit {0}) (HasRoot c.args.key.now c.in-Some.row.root) (ReplaceRoot c.args.key.now c.args.root.now c.args.until) c.replace_root.ensures.makes
-          (λ club before told.
-          let of = of_fresh (key_named c.args.key.now club) c.in-Some.row (sym c.in-Some.is ∙ told) in
+          (λ club before returned.
+          let of = of_fresh (key_named c.args.key.now club) c.in-Some.row (sym c.in-Some.is ∙ returned) in
           (of.0, of.1, ap (λ (k : Key). k.root) (sym of.2)));
     }
 
@@ -31,6 +31,6 @@ pub returns-in-None : goal.returns-in-None
 returns-in-None g c = record {
   makes =
       let change = (ReplaceRoot c.args.key.now c.args.root.now c.args.until) in
-      refuse_told g.S.Store c.args.self.now c.key_row.new.self _ _ c.in-Ok.ensures.reads (λ _. Unit {0}) change
-      (λ club it told. unnamed (key_named c.args.key.now club) (sym c.in-None.is ∙ told));
+      refuse_found g.S.Store c.args.self.now c.key_row.new.self _ _ c.in-Ok.ensures.reads (λ _. Unit {0}) change
+      (λ club it returned. unnamed (key_named c.args.key.now club) (sym c.in-None.is ∙ returned));
 }

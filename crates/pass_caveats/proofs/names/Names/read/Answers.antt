@@ -1,6 +1,6 @@
 use Rattle.std.proofs.Common.{◌≡◌, true, sym, arith}
 use Rattle.pass_caveats.specs.Names.{AreNames}
-use Rattle.pass_caveats.specs.Parts.{parts_of}
+use Rattle.pass_caveats.specs.Parts.{comma_parts}
 use Rattle.pass_caveats.proofs.PartLemmas.{joined-parts_of, some_part, names_are_parts}
 use Rattle.pass_caveats.proofs.names.Names.read.Goals as goal
 use Rattle.pass_caveats.proofs.names.Names.read.Goals.{else-are_all_names-via-then-are_all_names+else-count_of_parts-le-MAX_NAMES}
@@ -26,7 +26,7 @@ returns-then-count_of_parts-le-MAX_NAMES c = (
 
 pub returns-else-are_all_names : goal.returns-else-are_all_names
 returns-else-are_all_names c = λ names h.
-    let are : AreNames (parts_of c.args.text.now) = names_are_parts c.args.text.now names h in
+    let are : AreNames (comma_parts c.args.text.now) = names_are_parts c.args.text.now names h in
     elim c.else-are_all_names.branch [
       | else-are_all_names-via-then-are_all_names+else-count_of_parts-le-MAX_NAMES w ↦ absurd (omega (arith, are.few))
       | else-are_all_names-via-else-are_all_names w ↦ let t : c.are_all_names.result ≡ true = c.are_all_names.ensures.1 are.named in cc

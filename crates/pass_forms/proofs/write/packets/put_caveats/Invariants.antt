@@ -6,5 +6,5 @@ use Rattle.pass_forms.proofs.write.packets.put_caveats.Given as goal
 
 abbrev pub invariant-loop-caveat : goal.invariant-loop-caveat
 invariant-loop-caveat l =
-    l.room ++ left_from caveat_packets (map (λ caveat. caveat.items) l.caveats) l.caveat-index
-    ≡ l.initial.room ++ left_from caveat_packets (map (λ caveat. caveat.items) l.caveats) 0
+    l.buffer ++ left_from caveat_packets (map (λ caveat. caveat.items) l.caveats) l.caveat-index
+    ≡ l.initial.buffer ++ left_from caveat_packets (map (λ caveat. caveat.items) l.caveats) 0

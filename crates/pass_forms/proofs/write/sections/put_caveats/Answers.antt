@@ -14,7 +14,7 @@ returns-in_err-put_identifier c =
     let full = c.in_err-put_identifier.ensures in
     rw (p.1, p.2) (
       full.0,
-      one_full caveat_section _ c.loop-caveat.caveat-index item.items c.loop-caveat.room _ within (caveat_at c.args.caveats.now _ item c.caveat-item.is)
+      one_full caveat_section _ c.loop-caveat.caveat-index item.items c.loop-caveat.buffer _ within (caveat_at c.args.caveats.now _ item c.caveat-item.is)
           c.loop-caveat.invariant (rw (← c.deref.ensures.value) full.1),
     )
 
@@ -23,5 +23,5 @@ loop-caveat-preserved c =
     let item = c.caveat-item.result in
     let within : c.loop-caveat.caveat-index < length (map (λ caveat. caveat.items) c.args.caveats.now) =
     omega (arith, length-map c.args.caveats.now (λ caveat. caveat.items)) in
-    one_put caveat_section _ c.loop-caveat.caveat-index item.items c.loop-caveat.room _ _ within (caveat_at c.args.caveats.now _ item c.caveat-item.is)
+    one_put caveat_section _ c.loop-caveat.caveat-index item.items c.loop-caveat.buffer _ _ within (caveat_at c.args.caveats.now _ item c.caveat-item.is)
     c.loop-caveat.invariant (rw (← c.deref.ensures.value) c.in_ok-put_identifier.ensures)

@@ -2,7 +2,7 @@ use Rattle.std.proofs.Common.{List, ℕ, [], ◌∷◌, ◌++◌, append_assoc, 
 use Rattle.std.specs.List.{flat_map}
 use Rattle.pass_forms.specs.Pass.{widened_caveat}
 use Rattle.pass_forms.specs.V2.{caveat_section, end_of_section, field, identifier_type, location_type, optional_field, signature_type}
-use Rattle.pass_forms.specs.Writing.{told_location, v2_bytes}
+use Rattle.pass_forms.specs.Writing.{nonempty_location, v2_bytes}
 use Rattle.pass_forms.proofs.PutTogether.{puts_others}
 use Rattle.pass_forms.proofs.write.sections.SectionsPutLayout.put_pass.Goals as goal
 
@@ -11,7 +11,7 @@ unfolding v2_bytes
 returns-clause-bytes c =
     let pass = c.args.pass.now in
     let ends : List ℕ = end_of_section in
-    let location : List ℕ = optional_field location_type (told_location pass.location) in
+    let location : List ℕ = optional_field location_type (nonempty_location pass.location) in
     let identifier : List ℕ = field identifier_type pass.identifier in
     let caveats : List ℕ = flat_map caveat_section (map widened_caveat pass.caveats) in
     let signature : List ℕ = field signature_type pass.signature in

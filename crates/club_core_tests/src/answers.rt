@@ -1,0 +1,153 @@
+//! The answers to requests under passes, by their keys' views.
+
+use crate::exchange::{Asked, BOOK_7, CANCEL_7, Expected, Shown};
+use crate::expect::expect_of_row;
+use crate::fixture::{AFTER_7, AT_18, AT_19, BOOKING_7, Booked, FIRST, FRESH, NOON, SECOND, Seen};
+use crate::values::moment;
+use club_core::{FormFault, Refusal, Verdict, Words};
+use club_values::Moment;
+use std::alloc::Global;
+use std::process::Abort;
+use std::test::*;
+
+/// The pass, its key's view (`None` if the club has no such key), the request, the moment, and the
+/// expected answer.
+struct Row(Shown, Option<Seen>, Asked, &'static str, Expected);
+
+/// The answer to words by their key's view.
+fn verdict(rt: &impl Abort, words: &Words, seen: &Option<Seen>, at: Moment) -> Verdict {
+    match seen {
+        Some(seen) => words.answer(Some(&seen.view(rt)), at),
+        None => words.answer(None, at),
+    }
+}
+
+fn check_row(rt: &(impl Abort + Alloc<A = Global>), number: usize, row: &Row) {
+    let Row(shown, seen, asked, at, outcome) = row;
+    let words = shown.words(rt, asked);
+    expect_of_row(rt, number, &words.key(), &shown.key(rt));
+    let verdict = verdict(rt, &words, seen, moment(rt, at));
+    expect_of_row(rt, number, &verdict, &outcome.verdict(rt));
+}
+
+/// Ends the test unless each row gets its expected answer.
+fn check_rows(rt: &(impl Abort + Alloc<A = Global>), rows: &[Row]) {
+    for (number, row) in rows.iter().enumerate() {
+        check_row(rt, number, row);
+    }
+}
+
+const SPENDS_600: Shown = Shown::Pass(FIRST, &["spend <= 600"]);
+
+const BOOK_8_AT_19: Asked = Asked::Book(AT_19, 8, 0);
+
+const BOOKING_8: Booked = Booked {
+    number: 8,
+    place: AT_19,
+    guests: 0,
+    charge: 200,
+    left: 3,
+    ..BOOKING_7
+};
+
+/// After booking 7, the view of the hour after it.
+const ELSEWHERE: Seen = Seen {
+    taken: 0,
+    booking: None,
+    ..AFTER_7
+};
+
+const BOOKS_7: Expected = Expected::Books(BOOKING_7);
+
+const BOOKS_8: Expected = Expected::Books(BOOKING_8);
+
+const CANCELS_7: Expected = Expected::Cancels(7, 600);
+
+const DENIED_1: Expected = Expected::Refused(Refusal::CaveatDenies(1));
+
+static SPENDS: [Row; 4] = [
+    Row(SPENDS_600, Some(FRESH), BOOK_7, NOON, BOOKS_7),
+    Row(SPENDS_600, Some(ELSEWHERE), BOOK_8_AT_19, NOON, DENIED_1),
+    Row(SPENDS_600, Some(AFTER_7), CANCEL_7, NOON, CANCELS_7),
+    Row(SPENDS_600, Some(FRESH), BOOK_8_AT_19, NOON, BOOKS_8),
+];
+
+#[test]
+fn a_limit_of_what_is_spent(rt: HostRuntime) {
+    check_rows(&rt, &SPENDS);
+}
+
+const AT_COURT: Shown = Shown::Pass(FIRST, &["facility = court-1"]);
+
+/// Signed under another root.
+const CHANGED: Shown = Shown::Pass(SECOND, &["facility = court-1"]);
+
+const REVOKED: Seen = Seen {
+    revoked: true,
+    ..FRESH
+};
+
+const NOT_VERIFIED: Expected = Expected::Refused(Refusal::NotVerified);
+
+const KEY_REVOKED: Expected = Expected::Refused(Refusal::KeyRevoked);
+
+/// An unknown key, a wrong signature and an identifier that names no key get the same refusal,
+/// before a revoked key and before any caveat. Only a pass that the key signed gets `KeyRevoked`,
+/// before its caveats.
+static VERIFIES: [Row; 5] = [
+    Row(AT_COURT, None, Asked::Account, NOON, NOT_VERIFIED),
+    Row(Shown::Unnamed, None, Asked::Account, NOON, NOT_VERIFIED),
+    Row(CHANGED, Some(FRESH), Asked::Account, NOON, NOT_VERIFIED),
+    Row(CHANGED, Some(REVOKED), Asked::Account, NOON, NOT_VERIFIED),
+    Row(AT_COURT, Some(REVOKED), Asked::Account, NOON, KEY_REVOKED),
+];
+
+#[test]
+fn verifies(rt: HostRuntime) {
+    check_rows(&rt, &VERIFIES);
+}
+
+const ODD: Shown = Shown::Pass(FIRST, &["guests <= 0", "shoe = red"]);
+
+const BOOK_7_ALONE: Asked = Asked::Book(AT_18, 7, 0);
+
+const NOT_UNDERSTOOD_2: Expected = Expected::Refused(Refusal::CaveatNotUnderstood(2));
+
+static CAVEATS: [Row; 3] = [
+    Row(AT_COURT, Some(FRESH), Asked::Account, NOON, DENIED_1),
+    Row(ODD, Some(FRESH), BOOK_7, NOON, DENIED_1),
+    Row(ODD, Some(FRESH), BOOK_7_ALONE, NOON, NOT_UNDERSTOOD_2),
+];
+
+#[test]
+fn caveats_by_their_positions(rt: HostRuntime) {
+    check_rows(&rt, &CAVEATS);
+}
+
+const TOO_LONG: Shown = Shown::NoPass(FormFault::TooLong);
+
+const MALFORMED: Shown = Shown::NoPass(FormFault::Malformed);
+
+const THIRD_PARTY: Shown = Shown::NoPass(FormFault::ThirdParty);
+
+const TOO_MANY: Shown = Shown::NoPass(FormFault::TooMany);
+
+const PASS_TOO_LONG: Expected = Expected::Refused(Refusal::PassTooLong);
+
+const PASS_MALFORMED: Expected = Expected::Refused(Refusal::PassMalformed);
+
+const THIRD_PARTY_CAVEAT: Expected = Expected::Refused(Refusal::ThirdPartyCaveat);
+
+const TOO_MANY_CAVEATS: Expected = Expected::Refused(Refusal::TooManyCaveats);
+
+static NO_PASSES: [Row; 4] = [
+    Row(TOO_LONG, None, Asked::Account, NOON, PASS_TOO_LONG),
+    Row(MALFORMED, None, Asked::Account, NOON, PASS_MALFORMED),
+    Row(THIRD_PARTY, None, Asked::Account, NOON, THIRD_PARTY_CAVEAT),
+    Row(TOO_MANY, None, Asked::Account, NOON, TOO_MANY_CAVEATS),
+];
+
+#[test]
+fn what_is_no_pass(rt: HostRuntime) {
+    check_rows(&rt, &NO_PASSES);
+}

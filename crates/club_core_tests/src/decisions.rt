@@ -1,0 +1,269 @@
+//! Decisions of requests by their keys' views.
+
+use crate::exchange::{Asked, BOOK_7, CANCEL_7, Expected, Shown};
+use crate::expect::expect_of_row;
+use crate::fixture::{
+    AFTER_7, AT_18, AT_19, BEFORE_START, BOOKING_7, Booked, DAY_AHEAD, FIRST, FRESH, LATER, NOON,
+    START, Seen, Site, key,
+};
+use crate::values::{Place, moment};
+use club_core::{
+    Refusal, Request, Verdict, View, answer, decide, decide_account, decide_book, decide_cancel,
+    decide_view,
+};
+use club_values::{Action, Kind, Moment, Slot};
+use pass_caveats::Ask;
+use std::alloc::Global;
+use std::process::Abort;
+use std::test::*;
+
+/// The view of `amy-1`, a request under its pass without caveats, the moment, and the expected
+/// answer.
+pub(crate) struct Row(pub Seen, pub Asked, pub &'static str, pub Expected);
+
+/// The decision of a request by the call for its kind.
+fn decided(view: &View, request: &Request, moment: Moment) -> Verdict {
+    match request {
+        Request::View { slot } => decide_view(view, slot),
+        Request::Book {
+            slot,
+            number,
+            guests,
+        } => decide_book(view, slot, *number, *guests, moment),
+        Request::Cancel { slot, .. } => decide_cancel(view, slot, moment),
+        Request::Account => decide_account(view),
+    }
+}
+
+/// Ends the test unless each call gives this decision.
+fn is_decided(
+    rt: &impl Abort,
+    number: usize,
+    view: &View,
+    request: &Request,
+    moment: Moment,
+    want: &Verdict,
+) {
+    expect_of_row(rt, number, &decided(view, request, moment), want);
+    expect_of_row(rt, number, &decide(view, request, moment), want);
+    let verdict = answer(Some(view), true, None, request, moment);
+    expect_of_row(rt, number, &verdict, want);
+}
+
+/// Ends the test unless the request gets this answer under a pass.
+fn is_answered(rt: &(impl Abort + Alloc<A = Global>), number: usize, row: &Row, view: &View) {
+    let Row(_, asked, at, outcome) = row;
+    let words = Shown::Pass(FIRST, &[]).words(rt, asked);
+    let verdict = words.answer(Some(view), moment(rt, at));
+    expect_of_row(rt, number, &verdict, &outcome.verdict(rt));
+}
+
+/// Ends the test unless each row gets its expected answer.
+pub(crate) fn check_rows(rt: &(impl Abort + Alloc<A = Global>), rows: &[Row]) {
+    for (number, row) in rows.iter().enumerate() {
+        let Row(seen, asked, at, outcome) = row;
+        let view = seen.view(rt);
+        let want = outcome.verdict(rt);
+        is_decided(rt, number, &view, &asked.request(rt), moment(rt, at), &want);
+        is_answered(rt, number, row, &view);
+    }
+}
+
+const ROOM: Place = Place("room-1", 18);
+
+const CANCEL_ROOM: Asked = Asked::Cancel(ROOM, 8);
+
+/// Booking 8 of `room-1` for 601 points, and the view of it.
+const ROOM_BOOKED: Booked = Booked {
+    number: 8,
+    place: ROOM,
+    guests: 0,
+    charge: 601,
+    left: 0,
+    ..BOOKING_7
+};
+
+const ROOM_TAKEN: Seen = Seen {
+    spent: 601,
+    balance: 9_399,
+    open_count: 1,
+    facility: Some(Site {
+        name: "room-1",
+        kind: Kind::Room,
+        places: 1,
+        price: 601,
+    }),
+    taken: 1,
+    booking: Some(ROOM_BOOKED),
+    ..FRESH
+};
+
+const NOWHERE: Seen = Seen {
+    facility: None,
+    ..FRESH
+};
+
+/// A booking 7 for 601 points, and one that was cancelled.
+const ODD_CHARGE: Seen = Seen {
+    booking: Some(Booked {
+        charge: 601,
+        ..BOOKING_7
+    }),
+    ..NOWHERE
+};
+
+const HALF_BACK: Seen = Seen {
+    booking: Some(Booked {
+        cancelled: true,
+        refund: 300,
+        ..BOOKING_7
+    }),
+    ..NOWHERE
+};
+
+const NO_SUCH_BOOKING: Expected = Expected::Refused(Refusal::NoSuchBooking);
+
+const NO_SUCH_FACILITY: Expected = Expected::Refused(Refusal::NoSuchFacility);
+
+const NUMBER_USED: Expected = Expected::Refused(Refusal::NumberUsed);
+
+const SLOT_HAS_BEGUN: Expected = Expected::Refused(Refusal::SlotHasBegun);
+
+/// The whole charge a day before the start, half of it a minute later, nothing from the start on.
+static CANCELLATIONS: [Row; 12] = [
+    Row(
+        ROOM_TAKEN,
+        CANCEL_ROOM,
+        DAY_AHEAD,
+        Expected::Cancels(8, 601),
+    ),
+    Row(ROOM_TAKEN, CANCEL_ROOM, LATER, Expected::Cancels(8, 300)),
+    Row(ROOM_TAKEN, CANCEL_ROOM, START, SLOT_HAS_BEGUN),
+    Row(FRESH, Asked::Cancel(ROOM, 9), NOON, NO_SUCH_BOOKING),
+    Row(FRESH, CANCEL_7, NOON, NO_SUCH_BOOKING),
+    Row(NOWHERE, CANCEL_7, NOON, NO_SUCH_FACILITY),
+    Row(ODD_CHARGE, CANCEL_7, DAY_AHEAD, Expected::Cancels(7, 601)),
+    Row(ODD_CHARGE, CANCEL_7, LATER, Expected::Cancels(7, 300)),
+    Row(
+        ODD_CHARGE,
+        CANCEL_7,
+        BEFORE_START,
+        Expected::Cancels(7, 300),
+    ),
+    Row(ODD_CHARGE, CANCEL_7, START, SLOT_HAS_BEGUN),
+    Row(ODD_CHARGE, Asked::Cancel(AT_19, 7), START, NUMBER_USED),
+    Row(
+        HALF_BACK,
+        CANCEL_7,
+        START,
+        Expected::RepeatsCancelled(7, 300),
+    ),
+];
+
+#[test]
+fn cancellations(rt: HostRuntime) {
+    check_rows(&rt, &CANCELLATIONS);
+}
+
+const NO_COURT: Seen = Seen {
+    facility: None,
+    booking: None,
+    ..AFTER_7
+};
+
+const NO_BOOKING: Seen = Seen {
+    booking: None,
+    ..AFTER_7
+};
+
+const ACCOUNT_AFTER: Expected = Expected::Account(9_400, 1, 600);
+
+static SHOWN: [Row; 5] = [
+    Row(AFTER_7, Asked::View(AT_18), NOON, Expected::Taken(3)),
+    Row(NO_BOOKING, Asked::View(AT_18), START, Expected::Taken(3)),
+    Row(NO_COURT, Asked::View(AT_18), START, NO_SUCH_FACILITY),
+    Row(AFTER_7, Asked::Account, NOON, ACCOUNT_AFTER),
+    Row(NO_BOOKING, Asked::Account, START, ACCOUNT_AFTER),
+];
+
+#[test]
+fn showing(rt: HostRuntime) {
+    check_rows(&rt, &SHOWN);
+}
+
+/// The view of `amy-1`, the request, and the request as caveats see it at noon: its action, its
+/// slot and the slot's kind, its guests and its points.
+struct AskRow(Seen, Asked, Action, Option<Place>, Option<Kind>, u8, u64);
+
+const RECORDED: Seen = Seen {
+    booking: Some(BOOKING_7),
+    ..FRESH
+};
+
+const A_COURT: Option<Kind> = Some(Kind::Court);
+
+static ASKS: [AskRow; 3] = [
+    AskRow(FRESH, BOOK_7, Action::Book, Some(AT_18), A_COURT, 2, 600),
+    AskRow(RECORDED, BOOK_7, Action::Book, Some(AT_18), A_COURT, 2, 0),
+    AskRow(NOWHERE, Asked::Account, Action::Account, None, None, 0, 0),
+];
+
+fn slot(rt: &impl Abort, place: &Option<Place>) -> Option<Slot> {
+    match place {
+        Some(place) => Some(place.slot(rt)),
+        None => None,
+    }
+}
+
+fn asks_so(rt: &impl Abort, number: usize, row: &AskRow) {
+    let AskRow(seen, asked, action, place, kind, guests, owed) = row;
+    let moment = moment(rt, NOON);
+    let want = Ask {
+        action: *action,
+        slot: slot(rt, place),
+        kind: *kind,
+        guests: *guests,
+        moment,
+        owed: *owed,
+        spent: 0,
+    };
+    let ask = seen.view(rt).ask(&asked.request(rt), moment);
+    expect_of_row(rt, number, &ask, &want);
+}
+
+#[test]
+fn asks(rt: HostRuntime) {
+    for (number, row) in ASKS.iter().enumerate() {
+        asks_so(&rt, number, row);
+    }
+}
+
+/// The view with the key alone; the member's name comes from the key's row.
+const BARE: Seen = Seen {
+    quota: 0,
+    balance: 0,
+    facility: None,
+    ..FRESH
+};
+
+#[test]
+fn a_bare_view(rt: HostRuntime) {
+    let mut want = BARE.view(&rt);
+    want.member.credited = 0;
+    expect_of_row(&rt, 0, &View::of_key(&key(&rt, false)), &want);
+}
+
+/// A view, and whether a booking would be a new one at a known facility.
+static ANEW: [(Seen, bool); 4] = [
+    (FRESH, true),
+    (NO_COURT, false),
+    (RECORDED, false),
+    (BARE, false),
+];
+
+#[test]
+fn new_bookings(rt: HostRuntime) {
+    for (number, (seen, is_new)) in ANEW.iter().enumerate() {
+        expect_of_row(&rt, number, &seen.view(&rt).books_anew(), is_new);
+    }
+}

@@ -1,0 +1,27 @@
+//! Tests of a club's rows, and of the answers to requests and orders by their views.
+#![tactic(auto)]
+
+#[cfg(test)]
+mod answers;
+#[cfg(test)]
+mod bookings;
+#[cfg(test)]
+mod decisions;
+#[cfg(test)]
+mod exchange;
+#[cfg(test)]
+mod expect;
+#[cfg(test)]
+mod fixture;
+#[cfg(test)]
+mod office;
+#[cfg(test)]
+mod orders;
+#[cfg(test)]
+mod outcome;
+#[cfg(test)]
+mod rotation;
+#[cfg(test)]
+mod rows;
+#[cfg(test)]
+mod values;

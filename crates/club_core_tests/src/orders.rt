@@ -1,0 +1,170 @@
+//! Orders of the office, each with its refusals in the order of testing.
+
+use crate::expect::expect_of_row;
+use crate::fixture::{AT_18, COURT, FIRST, SECOND};
+use crate::office::{EVERYTHING, KeySeen, Known, Made, NOTHING, Order};
+use crate::values::{Place, name, root};
+use club_core::{OfficeAnswer, OfficeFault, decide_order};
+use std::process::Abort;
+use std::test::*;
+
+/// The view of an order, the order, and its expected result.
+struct Row(Known, Order, Made);
+
+/// Ends the test unless each order gives its expected result.
+fn are_decided(rt: &impl Abort, rows: &[Row]) {
+    for (number, row) in rows.iter().enumerate() {
+        let Row(known, order, made) = row;
+        let decided = decide_order(&known.view(rt), &order.command(rt));
+        expect_of_row(rt, number, &decided, &made.change(rt));
+    }
+}
+
+const EXISTS: Made = Made::Refused(OfficeFault::Exists);
+
+const UNKNOWN: Made = Made::Refused(OfficeFault::Unknown);
+
+const OUT_OF_RANGE: Made = Made::Refused(OfficeFault::OutOfRange);
+
+const IN_USE: Made = Made::Refused(OfficeFault::SlotInUse);
+
+static MEMBERS: [Row; 3] = [
+    Row(EVERYTHING, Order::AddMember(100), OUT_OF_RANGE),
+    Row(EVERYTHING, Order::AddMember(99), EXISTS),
+    Row(NOTHING, Order::AddMember(99), Made::Member(99)),
+];
+
+static CREDITS: [Row; 5] = [
+    Row(NOTHING, Order::Credit(0), OUT_OF_RANGE),
+    Row(NOTHING, Order::Credit(1_000_001), OUT_OF_RANGE),
+    Row(NOTHING, Order::Credit(1), UNKNOWN),
+    Row(EVERYTHING, Order::Credit(1_000_000), OUT_OF_RANGE),
+    Row(EVERYTHING, Order::Credit(999_999), Made::Credit(999_999)),
+];
+
+#[test]
+fn members_and_credits(rt: HostRuntime) {
+    are_decided(&rt, &MEMBERS);
+    are_decided(&rt, &CREDITS);
+}
+
+const ODD_PRICE: Order = Order::AddFacility(4, 10_000, 8, 22);
+
+const COURT_1: Made = Made::Facility(4, 200, 8, 22);
+
+const LARGEST: Made = Made::Facility(50, 9_999, 0, 24);
+
+static FACILITIES: [Row; 8] = [
+    Row(EVERYTHING, Order::AddFacility(0, 200, 8, 22), OUT_OF_RANGE),
+    Row(EVERYTHING, Order::AddFacility(51, 200, 8, 22), OUT_OF_RANGE),
+    Row(EVERYTHING, ODD_PRICE, OUT_OF_RANGE),
+    Row(EVERYTHING, Order::AddFacility(4, 200, 8, 8), OUT_OF_RANGE),
+    Row(EVERYTHING, Order::AddFacility(4, 200, 8, 25), OUT_OF_RANGE),
+    Row(EVERYTHING, Order::AddFacility(4, 200, 8, 22), EXISTS),
+    Row(NOTHING, Order::AddFacility(4, 200, 8, 22), COURT_1),
+    Row(NOTHING, Order::AddFacility(50, 9_999, 0, 24), LARGEST),
+];
+
+#[test]
+fn facilities(rt: HostRuntime) {
+    are_decided(&rt, &FACILITIES);
+}
+
+const NO_MEMBER: Known = Known {
+    amy: false,
+    ..EVERYTHING
+};
+
+const NO_KEY: Known = Known {
+    key: KeySeen::Unknown,
+    ..EVERYTHING
+};
+
+const REVOKED: Known = Known {
+    key: KeySeen::Revoked,
+    ..EVERYTHING
+};
+
+static KEYS: [Row; 6] = [
+    Row(EVERYTHING, Order::AddKey, EXISTS),
+    Row(NO_MEMBER, Order::AddKey, UNKNOWN),
+    Row(NO_KEY, Order::AddKey, Made::Key),
+    Row(NOTHING, Order::RevokeKey, UNKNOWN),
+    Row(EVERYTHING, Order::RevokeKey, Made::Revoked),
+    Row(REVOKED, Order::RevokeKey, Made::Revoked),
+];
+
+#[test]
+fn keys_and_revocations(rt: HostRuntime) {
+    are_decided(&rt, &KEYS);
+}
+
+static ROTATIONS: [Row; 4] = [
+    Row(NOTHING, Order::RotateKey(SECOND), UNKNOWN),
+    Row(EVERYTHING, Order::RotateKey(FIRST), EXISTS),
+    Row(EVERYTHING, Order::RotateKey(SECOND), Made::Rotated(SECOND)),
+    Row(REVOKED, Order::RotateKey(SECOND), Made::Rotated(SECOND)),
+];
+
+#[test]
+fn rotations(rt: HostRuntime) {
+    are_decided(&rt, &ROTATIONS);
+}
+
+const AT_22: Place = Place("court-1", 22);
+
+const NOWHERE: Known = Known {
+    taken: 3,
+    closed: true,
+    ..NOTHING
+};
+
+const CLOSED_AND_BOOKED: Known = Known {
+    facility: Some(COURT),
+    ..NOWHERE
+};
+
+const BOOKED: Known = Known {
+    closed: false,
+    ..CLOSED_AND_BOOKED
+};
+
+const FREE: Known = Known { taken: 0, ..BOOKED };
+
+static CLOSINGS: [Row; 5] = [
+    Row(NOWHERE, Order::CloseSlot(AT_22), UNKNOWN),
+    Row(CLOSED_AND_BOOKED, Order::CloseSlot(AT_22), OUT_OF_RANGE),
+    Row(CLOSED_AND_BOOKED, Order::CloseSlot(AT_18), EXISTS),
+    Row(BOOKED, Order::CloseSlot(AT_18), IN_USE),
+    Row(FREE, Order::CloseSlot(AT_18), Made::Closed(AT_18)),
+];
+
+#[test]
+fn closed_slots(rt: HostRuntime) {
+    are_decided(&rt, &CLOSINGS);
+}
+
+/// The answer to an order that was carried out; for a new key or a new root, with that root.
+static DONE: [(Order, Option<&[u8]>); 3] = [
+    (Order::RevokeKey, None),
+    (Order::AddKey, Some(FIRST)),
+    (Order::RotateKey(SECOND), Some(SECOND)),
+];
+
+fn answer(rt: &impl Abort, bytes: &Option<&[u8]>) -> OfficeAnswer {
+    match bytes {
+        Some(bytes) => OfficeAnswer::NewKey {
+            name: name(rt, "amy-1"),
+            root: root(rt, bytes),
+        },
+        None => OfficeAnswer::Done,
+    }
+}
+
+#[test]
+fn answers_done_orders(rt: HostRuntime) {
+    for (row, (order, bytes)) in DONE.iter().enumerate() {
+        let outcome = OfficeAnswer::done(&order.command(&rt));
+        expect_of_row(&rt, row, &outcome, &answer(&rt, bytes));
+    }
+}

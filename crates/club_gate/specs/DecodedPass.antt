@@ -1,0 +1,50 @@
+-- A text, decoded for the rules of the club (ours). The decoded pass doesn't depend on the form in which it was written.
+use Rattle.std.specs.Prelude.{◌≢◌, ℕ, List, map, Result, Ok, Err}
+use Rattle.base64.specs.GeneralPurpose.{IsBytes}
+use Rattle.pass_caveats.specs.CaveatOf.{caveat_of}
+use Rattle.pass_forms.specs.declared.fault.FormFault.{FormFault as Fault}
+use Rattle.pass_forms.specs.declared.fault.FormFault.TheVariants as faults
+use Rattle.pass_forms.specs.declared.form.Form.{Form}
+use Rattle.pass_forms.specs.Pass.{Plain, is_signed}
+use Rattle.pass_json.specs.AnyForm.{reading}
+use Rattle.club_core.specs.declared.form_fault.FormFault.{FormFault}
+use Rattle.club_core.specs.declared.form_fault.FormFault.TheVariants.{TooLong, Malformed, ThirdParty, TooMany}
+use Rattle.club_core.specs.declared.request.Request.{Request}
+use Rattle.club_core.specs.Pass.{Pass, Words}
+use Rattle.club_gate.specs.Identifier.{key_name_in}
+
+-- a pass as the rules see it: the key that it names, its caveats as they are understood, and the roots under which it is signed
+abbrev pub machine_pass : Plain → Pass
+machine_pass pass = record {
+  key = key_name_in pass.identifier;
+  caveats = map caveat_of pass.caveats;
+  is_signed = λ root. is_signed root pass;
+}
+
+-- the fault of a text; no text reads as `Memory`, as `ReadsNoLackOfMemory` says
+abbrev pub fault_of : Fault → FormFault
+fault_of faults.TooLong = TooLong
+fault_of faults.Malformed = Malformed
+fault_of faults.ThirdParty = ThirdParty
+fault_of faults.TooMany = TooMany
+fault_of faults.Memory = Malformed
+
+-- a parsed pass as the rules see it, or the fault of the text
+abbrev pub decoded_or_fault : Result Plain Fault → Result Pass FormFault
+decoded_or_fault (Ok pass) = Ok (machine_pass pass)
+decoded_or_fault (Err fault) = Err (fault_of fault)
+
+abbrev pub without_form : Result (Form × Plain) Fault → Result Plain Fault
+without_form (Ok read) = Ok read.1
+without_form (Err fault) = Err fault
+
+-- the pass that a text spells, or the fault of the text
+abbrev pub decoded_pass : List ℕ → Result Pass FormFault
+decoded_pass text = decoded_or_fault (without_form (reading text))
+
+-- the words of a request with this text
+abbrev pub decoded_words : List ℕ → Request → Words
+decoded_words text request = record { pass = decoded_pass text; request = request }
+
+abbrev pub ReadsNoLackOfMemory : Type 0
+ReadsNoLackOfMemory = (text : List ℕ) → IsBytes text → reading text ≢ Err faults.Memory

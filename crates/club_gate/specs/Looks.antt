@@ -1,0 +1,115 @@
+-- What a look at an account or at a slot shows (ours): a line for each value, its name before it.
+use Rattle.std.specs.Prelude.{◌≡◌, ◌⊎◌, ℕ, Bool, true, false, List, [], ◌∷◌, ◌++◌, codes, Option, Some, None, option_map}
+use Rattle.std.specs.Fmt.{decimal}
+use Rattle.club_values.specs.Day.{day_text}
+use Rattle.club_values.specs.Digits.{two_digits}
+use Rattle.club_values.specs.Kind.{kind_text}
+use Rattle.club_values.specs.Moment.{moment_text}
+use Rattle.club_values.specs.declared.kind.Kind.{Kind}
+use Rattle.club_values.specs.declared.slot.Slot.{Slot}
+use Rattle.club_rows.specs.declared.key.Key.{Key}
+use Rattle.club_rows.specs.declared.key.OlderRoot.{OlderRoot}
+use Rattle.club_core.specs.declared.change.Change.{Change}
+use Rattle.club_core.specs.declared.reply.Reply.{Reply}
+use Rattle.club_core.specs.declared.reply.Reply.TheVariants.{AccountShown, Refused, SlotShown}
+use Rattle.club_core.specs.declared.request.Request.TheVariants as asked
+use Rattle.club_core.specs.declared.store.StoreFault.{StoreFault}
+use Rattle.club_core.specs.declared.view.View.{View}
+use Rattle.club_core.specs.Basis.{view_in}
+use Rattle.club_core.specs.Club.{Club}
+use Rattle.club_core.specs.Store.{IsRead}
+use Rattle.club_core.specs.Verdict.{account_verdict, view_verdict}
+use Rattle.club_gate.specs.Reading.{first_view, with_slot}
+use Rattle.club_gate.specs.Response.{fault_of_store}
+use Rattle.club_gate.specs.declared.fault.Fault.{Fault}
+use Rattle.club_gate.specs.declared.fault.Fault.TheVariants.{Unknown, Memory, Storage}
+
+-- each name with its value, in a line
+abbrev pub lines : List (List ℕ × List ℕ) → List ℕ
+lines [] = []
+lines ((name, value) ∷ values) = name ++ 32 ∷ value ++ 10 ∷ lines values
+
+abbrev pub yes_or_no : Bool → List ℕ
+yes_or_no true = codes "yes"
+yes_or_no false = codes "no"
+
+-- which slot it is
+abbrev pub values_of_slot : Slot → List (List ℕ × List ℕ)
+values_of_slot slot =
+    (codes "facility", slot.facility) ∷ (codes "day", day_text slot.day) ∷ (codes "hour", two_digits slot.hour) ∷ []
+
+-- the facility's values, and what is taken of the slot
+abbrev pub values_of_state : Kind → ℕ → ℕ → ℕ → Bool → List (List ℕ × List ℕ)
+values_of_state kind price places taken closed =
+    (codes "kind", kind_text kind)
+    ∷ (codes "price", decimal price)
+    ∷ (codes "places", decimal places)
+    ∷ (codes "taken", decimal taken)
+    ∷ (codes "closed", yes_or_no closed)
+    ∷ []
+
+-- the values of a reply that shows an account or a slot; any other has none
+abbrev pub named_values : Reply → List (List ℕ × List ℕ)
+named_values (AccountShown member balance quota open_count spent) =
+    (codes "member", member)
+    ∷ (codes "balance", decimal balance)
+    ∷ (codes "quota", decimal quota)
+    ∷ (codes "open", decimal open_count)
+    ∷ (codes "spent", decimal spent)
+    ∷ []
+named_values (SlotShown slot kind price places taken closed) = values_of_slot slot ++ values_of_state kind price places taken closed
+named_values reply = []
+
+-- until when an older root is on record, if one is; the root itself is left out
+abbrev pub older_text : Option OlderRoot → List ℕ
+older_text None = codes "none"
+older_text (Some older) = codes "until " ++ moment_text older.until
+
+-- the values of a key's row, without its roots
+abbrev pub values_of_key : Key → List (List ℕ × List ℕ)
+values_of_key key = (codes "revoked", yes_or_no key.revoked) ∷ (codes "older root", older_text key.older) ∷ []
+
+-- what a key's view shows of its account: the values of the reply to a request for the account, and those of the key's row
+abbrev pub account_look_text : View → List ℕ
+account_look_text view = lines (named_values (account_verdict view).reply ++ values_of_key view.key)
+
+-- what a look at the account of the key of this name shows at a moment; nothing where the club has no such key
+abbrev pub account_look : Club → List ℕ → ℕ → Option (List ℕ)
+account_look club key moment = option_map account_look_text (view_in club key asked.Account moment)
+
+-- what a key sees of a slot
+abbrev pub slot_view : Club → Slot → Key → View
+slot_view club slot key = with_slot club slot (first_view club key (asked.View slot))
+
+abbrev pub unless_refused : Reply → Option Reply
+unless_refused (Refused refusal) = None
+unless_refused reply = Some reply
+
+-- the reply to a view of a slot by a key; none where the facility is unknown
+abbrev pub slot_reply : Club → Slot → Key → Option Reply
+slot_reply club slot key = unless_refused (view_verdict (slot_view club slot key) slot).reply
+
+-- what a look at a slot shows, by whichever key
+abbrev pub slot_look : Club → Slot → Key → Option (List ℕ)
+slot_look club slot key = option_map (λ reply. lines (named_values reply)) (slot_reply club slot key)
+
+-- why a look gives no text: there is nothing of the name; or memory or storage was refused
+abbrev pub IsUnshown : Option (List ℕ) → Fault → Type 0
+IsUnshown look Unknown = look ≡ None
+IsUnshown look Memory = Unit {0}
+IsUnshown look Storage = Unit {0}
+IsUnshown look fault = ⊥
+
+-- the faults of a look
+abbrev pub IsLookFault : Fault → Type 0
+IsLookFault Unknown = Unit {0}
+IsLookFault Memory = Unit {0}
+IsLookFault Storage = Unit {0}
+IsLookFault fault = ⊥
+
+-- A look's fault is that with which the store failed at a reading; or all was read, and there is nothing of the name, or there was no
+-- memory for the text.
+abbrev pub FailsLook : {S : Type 0} → (Option Change → S → StoreFault → S → Type 0) → S → S → Fault → Type 0
+FailsLook Fails old new fault =
+    ((refusal : StoreFault) × Fails None old refusal new × (fault ≡ fault_of_store refusal))
+    ⊎ (((fault ≡ Unknown) ⊎ (fault ≡ Memory)) × IsRead Fails old new)

@@ -1,0 +1,89 @@
+-- The desk's responses, and how the machine's replies become responses (ours).
+use Rattle.std.specs.Prelude.{ℕ, Bool, true, false, List, ◌++◌, codes, Result, Ok, Err}
+use Rattle.club_core.specs.declared.command.OfficeFault.{OfficeFault}
+use Rattle.club_core.specs.declared.command.OfficeFault.TheVariants as refusals
+use Rattle.club_core.specs.declared.event.OfficeAnswer.{OfficeAnswer}
+use Rattle.club_core.specs.declared.event.OfficeAnswer.TheVariants as answers
+use Rattle.club_core.specs.declared.store.StoreFault.{StoreFault}
+use Rattle.club_core.specs.declared.store.StoreFault.TheVariants as store
+use Rattle.club_core.specs.declared.refusal.Refusal.TheVariants.{Unavailable}
+use Rattle.club_core.specs.declared.reply.Reply.{Reply}
+use Rattle.club_core.specs.declared.reply.Reply.TheVariants as member_replies
+use Rattle.club_core.specs.Faults.{office_fault_text, store_fault_text}
+use Rattle.club_core.specs.Run.{Event as MachineEvent}
+use Rattle.club_core.specs.Run as machine
+use Rattle.club_laws.specs.Failed.{Presentation, ToMember, ToOffice}
+use Rattle.club_laws.specs.Failed as laws
+use Rattle.club_gate.specs.declared.event.Event.{Event}
+use Rattle.club_gate.specs.declared.event.Event.TheVariants as events
+use Rattle.club_gate.specs.declared.event.EventReply.{EventReply}
+use Rattle.club_gate.specs.declared.event.EventReply.TheVariants.{Replied, Answered}
+use Rattle.club_gate.specs.declared.event.OfficeReply.{OfficeReply}
+use Rattle.club_gate.specs.declared.event.OfficeReply.TheVariants as replies
+use Rattle.club_gate.specs.declared.fault.Fault.{Fault}
+use Rattle.club_gate.specs.declared.fault.Fault.TheVariants.{Exists, Unknown, OutOfRange, SlotInUse, Memory, Storage}
+use Rattle.club_gate.specs.Minted.{minted_signature}
+use Rattle.club_gate.specs.DecodedPass.{decoded_words}
+
+abbrev pub fault_of_office : OfficeFault → Fault
+fault_of_office refusals.Exists = Exists
+fault_of_office refusals.Unknown = Unknown
+fault_of_office refusals.OutOfRange = OutOfRange
+fault_of_office refusals.SlotInUse = SlotInUse
+
+abbrev pub fault_of_store : StoreFault → Fault
+fault_of_store store.Memory = Memory
+fault_of_store store.Storage = Storage
+
+abbrev pub desk_fault_text : Fault → List ℕ
+desk_fault_text Exists = office_fault_text refusals.Exists
+desk_fault_text Unknown = office_fault_text refusals.Unknown
+desk_fault_text OutOfRange = office_fault_text refusals.OutOfRange
+desk_fault_text SlotInUse = office_fault_text refusals.SlotInUse
+desk_fault_text Memory = store_fault_text store.Memory
+desk_fault_text Storage = store_fault_text store.Storage
+
+-- the text for debugging; it has no byte of a signature
+abbrev pub debug_text : OfficeReply → List ℕ
+debug_text replies.Done = codes "Done"
+debug_text (replies.Key signature) = codes "Key(..)"
+debug_text (replies.Refused fault) = codes "Refused(" ++ desk_fault_text fault ++ codes ")"
+
+-- memory or storage was refused
+abbrev pub unavailable : Reply
+unavailable = member_replies.Refused Unavailable
+
+-- the reply to the office for an answer of the machine: for a new key or root, the signature that follows from it
+abbrev pub office_reply_of : OfficeAnswer → OfficeReply
+office_reply_of answers.Done = replies.Done
+office_reply_of (answers.NewKey name root) = replies.Key (minted_signature name root)
+office_reply_of (answers.NotDone fault) = replies.Refused (fault_of_office fault)
+
+-- whether the reply says that memory or storage was refused
+abbrev pub is_failure : OfficeReply → Bool
+is_failure (replies.Refused Memory) = true
+is_failure (replies.Refused Storage) = true
+is_failure reply = false
+
+abbrev pub desk_presentation : Presentation OfficeReply
+desk_presentation = record { shown = office_reply_of; is_fault = is_failure }
+
+-- the response to an event
+abbrev pub response_of : EventReply → laws.Response OfficeReply
+response_of (Replied reply) = ToMember reply
+response_of (Answered reply) = ToOffice reply
+
+-- an event at the desk, as the machine sees it
+abbrev pub machine_event : Event → MachineEvent
+machine_event (events.Asked words moment) = machine.Asked (decoded_words words.pass.now words.request) moment
+machine_event (events.Ordered command) = machine.Ordered command
+
+-- the reply to a member, if the store may have failed
+abbrev pub reply_or_unavailable : Result Reply StoreFault → Reply
+reply_or_unavailable (Ok reply) = reply
+reply_or_unavailable (Err fault) = unavailable
+
+-- the reply to the office, if the store may have failed
+abbrev pub answer_or_fault : Result OfficeAnswer StoreFault → OfficeReply
+answer_or_fault (Ok answer) = office_reply_of answer
+answer_or_fault (Err fault) = replies.Refused (fault_of_store fault)

@@ -1,0 +1,202 @@
+//! What the desk shows of a key's account and of a slot to whoever keeps its file.
+
+ghost use Rattle.std.specs.Prelude.{◌≡◌, ◌++◌, List, IfErr, IfOk, MatchResult, OnOk, Some};
+ghost use Rattle.std.specs.String.{string_bytes};
+ghost use Rattle.club_rows.specs.declared.key.Key.{Key as KeyRow};
+ghost use Rattle.club_core.specs.declared.request.Request.TheVariants as asked;
+ghost use Rattle.club_core.specs.Basis.{view_in};
+ghost use Rattle.club_core.specs.Club.{Club};
+ghost use Rattle.club_core.specs.Store.{KeepsClub, ReadsOrFails, Returns};
+ghost use Rattle.club_gate.specs.Looks as spec;
+
+use crate::desk::Desk;
+use crate::fault::Fault;
+use club_core::laws::own_bookings_suffice;
+use club_core::{ClubStore, Reply, SlotUse, StoreFault, View, decide_account};
+use club_rows::Key;
+use club_values::{Kind, Moment, Name, Slot};
+use std::alloc::{AllocError, Global};
+
+impl<S: ClubStore> Desk<S> {
+    /// What a key is shown of its account at a moment, and whether it is revoked and until when it
+    /// has an older root: a line a value. No root is shown. The rows stay as they are.
+    ///
+    /// # Errors
+    ///
+    /// `Unknown` where no key has the name; `Memory` or `Storage`, where these were refused.
+    pub fn show_account(&mut self, key: &Name, moment: Moment) -> Result<String, Fault>
+        ensures was_clean { S.disk_is_clean self.new → S.disk_is_clean self.old }
+        ensures kept { S.disk_is_clean self.new → KeepsClub S.represents self.old self.new }
+        ensures shown { S.disk_is_clean self.new → (club : Club) (others : List Club)
+            → S.represents self.old club others
+            → MatchResult result
+            (λ text. spec.account_look club key.now moment ≡ Some (string_bytes text))
+            (spec.IsUnshown (spec.account_look club key.now moment)) }
+        ensures faults { IfErr result spec.IsLookFault }
+        ensures failed { S.disk_is_clean self.new → IfErr result
+            (spec.FailsLook S.fails self.old self.new) }
+    {
+        let view = match self.account_view(key, moment) {
+            Ok(Some(view)) => view,
+            Ok(None) => return Err(Fault::Unknown),
+            Err(fault) => return Err(Fault::from(fault)),
+        };
+        match account_text(self.alloc, &view) {
+            Ok(text) => Ok(text),
+            Err(_) => Err(Fault::Memory),
+        }
+    }
+
+    /// What every key is shown of a slot: a line a value. The rows stay as they are.
+    ///
+    /// # Errors
+    ///
+    /// `Unknown` where there is no such facility; `Memory` or `Storage`, where these were refused.
+    pub fn show_slot(&mut self, slot: &Slot) -> Result<String, Fault>
+        ensures was_clean { S.disk_is_clean self.new → S.disk_is_clean self.old }
+        ensures kept { S.disk_is_clean self.new → KeepsClub S.represents self.old self.new }
+        ensures shown { S.disk_is_clean self.new → (club : Club) (others : List Club) (key : KeyRow)
+            → S.represents self.old club others
+            → MatchResult result
+            (λ text. spec.slot_look club slot.now key ≡ Some (string_bytes text))
+            (spec.IsUnshown (spec.slot_look club slot.now key)) }
+        ensures faults { IfErr result spec.IsLookFault }
+        ensures failed { S.disk_is_clean self.new → IfErr result
+            (spec.FailsLook S.fails self.old self.new) }
+    {
+        let reply = match self.slot_reply(slot) {
+            Ok(Some(reply)) => reply,
+            Ok(None) => return Err(Fault::Unknown),
+            Err(fault) => return Err(Fault::from(fault)),
+        };
+        match reply_text(self.alloc, &reply) {
+            Ok(text) => Ok(text),
+            Err(_) => Err(Fault::Memory),
+        }
+    }
+
+    // What a key sees of its account; `None` where there is no key of the name.
+    fn account_view(&mut self, key: &Name, moment: Moment) -> Result<Option<View>, StoreFault>
+        ensures was_clean { S.disk_is_clean self.new → S.disk_is_clean self.old }
+        ensures kept { S.disk_is_clean self.new → KeepsClub S.represents self.old self.new }
+        ensures found { S.disk_is_clean self.new → Returns S.represents self.old result
+            (λ club view. view ≡ view_in club key.now asked.Account moment) }
+        ensures failed { S.disk_is_clean self.new → ReadsOrFails S.fails self.old self.new result }
+    {
+        own_bookings_suffice();
+        let Some(key) = self.store.key(key)? else {
+            return Ok(None);
+        };
+        self.with_sums(View::of_key(&key), moment)
+    }
+
+    // The reply to a view of a slot, whoever asks; `None` where the facility is unknown.
+    fn slot_reply(&mut self, slot: &Slot) -> Result<Option<Reply>, StoreFault>
+        ensures was_clean { S.disk_is_clean self.new → S.disk_is_clean self.old }
+        ensures kept { S.disk_is_clean self.new → KeepsClub S.represents self.old self.new }
+        ensures found { S.disk_is_clean self.new → (key : KeyRow)
+            → Returns S.represents self.old result
+            (λ club reply. reply ≡ spec.slot_reply club slot.now key) }
+        ensures failed { S.disk_is_clean self.new → ReadsOrFails S.fails self.old self.new result }
+    {
+        let Some(facility) = self.store.facility(&slot.facility)? else {
+            return Ok(None);
+        };
+        let SlotUse { taken, closed } = self.store.slot(slot)?;
+        Ok(Some(Reply::SlotShown {
+            slot: *slot,
+            kind: facility.kind,
+            price: facility.price,
+            places: facility.places,
+            taken: u64::from(taken),
+            closed,
+        }))
+    }
+}
+
+// The lines of an account, and of the key that asks for it.
+fn account_text(alloc: Global, view: &View) -> Result<String, AllocError>
+    ensures { IfOk result (λ text. string_bytes text ≡ spec.account_look_text view.now) }
+{
+    let mut text = reply_text(alloc, &decide_account(view).reply)?;
+    push_key(&mut text, &view.key)?;
+    Ok(text)
+}
+
+// The lines of a reply that shows an account or a slot; any other has none.
+fn reply_text(alloc: Global, reply: &Reply) -> Result<String, AllocError>
+    ensures { IfOk result (λ text. string_bytes text ≡ spec.lines (spec.named_values reply.now)) }
+{
+    match reply {
+        Reply::AccountShown {
+            member,
+            balance,
+            quota,
+            open_count,
+            spent,
+        } => format!(in alloc;
+            "member {member}\nbalance {balance}\nquota {quota}\nopen {open_count}\nspent {spent}\n"
+        ),
+        Reply::SlotShown {
+            slot,
+            kind,
+            price,
+            places,
+            taken,
+            closed,
+        } => {
+            let mut text = slot_name(alloc, slot)?;
+            push_state(&mut text, *kind, *price, *places, *taken, *closed)?;
+            Ok(text)
+        }
+        _ => Ok(String::new(alloc)),
+    }
+}
+
+// The lines that name a slot.
+fn slot_name(alloc: Global, slot: &Slot) -> Result<String, AllocError>
+    ensures { IfOk result
+        (λ text. string_bytes text ≡ spec.lines (spec.values_of_slot slot.now)) }
+{
+    format!(in alloc;
+        "facility {}\nday {}\nhour {}\n",
+        slot.facility, slot.day, slot.hour
+    )
+}
+
+// The lines of a facility, and of what is taken of a slot.
+fn push_state(
+    text: &mut String,
+    kind: Kind,
+    price: u16,
+    places: u8,
+    taken: u64,
+    closed: bool,
+) -> Result<(), AllocError>
+    ensures { OnOk result (string_bytes text.new ≡ string_bytes text.old
+        ++ spec.lines (spec.values_of_state kind price places taken closed)) }
+{
+    let closed = yes_or_no(closed);
+    writeln!(
+        text,
+        "kind {kind}\nprice {price}\nplaces {places}\ntaken {taken}\nclosed {closed}"
+    )
+}
+
+// The lines of a key's row, without its roots.
+fn push_key(text: &mut String, key: &Key) -> Result<(), AllocError>
+    ensures { OnOk result
+        (string_bytes text.new ≡ string_bytes text.old ++ spec.lines (spec.values_of_key key.now)) }
+{
+    let revoked = yes_or_no(key.revoked);
+    match &key.older {
+        None => writeln!(text, "revoked {revoked}\nolder root none"),
+        Some(older) => writeln!(text, "revoked {revoked}\nolder root until {}", older.until),
+    }
+}
+
+fn yes_or_no(holds: bool) -> &'static str
+    ensures { result.now ≡ spec.yes_or_no holds }
+{
+    if holds { "yes" } else { "no" }
+}

@@ -1,0 +1,147 @@
+//! Lists of events that the desk runs at once: amy books, sees her account and cancels.
+
+use crate::counter::{MemoryDesk, empty_desk};
+use crate::happens::{Happens, events, expect_replies};
+use crate::known;
+use crate::known::{BOB_SIGNED, BOB_SIGNED_AGAIN, BOBS, CY_SIGNED, CYS, SIGNED};
+use crate::messages::{
+    ACCOUNT, ACCOUNT_AFTER, Asked, BOOK_7, BOOKED_7, CANCEL_7, CANCELLED_7, COURT, Expected,
+    PlainSlot,
+};
+use crate::office::Order;
+use crate::values::{FRIDAY, push};
+use club_gate::OfficeReply;
+use club_values::Kind;
+use std::alloc::Global;
+use std::process::Abort;
+
+const DONE: OfficeReply = OfficeReply::Done;
+
+/// The fixture.
+static FIXTURE: [Happens; 8] = [
+    Happens::Ordered(Order::AddMember(b"amy", 5), DONE),
+    Happens::Ordered(Order::Credit(b"amy", 10_000), DONE),
+    Happens::Ordered(Order::AddKey(b"amy-1", b"amy", known::ROOT), SIGNED),
+    Happens::Ordered(Order::AddMember(b"bob", 5), DONE),
+    Happens::Ordered(Order::Credit(b"bob", 10_000), DONE),
+    Happens::Ordered(Order::AddKey(b"bob-1", b"bob", known::ROOT), BOB_SIGNED),
+    Happens::Ordered(Order::AddFacility(b"court-1", Kind::Court, 4, 200, 8), DONE),
+    Happens::Ordered(Order::AddFacility(b"room-1", Kind::Room, 1, 601, 8), DONE),
+];
+
+/// Amy's list.
+#[derive(Clone, Copy)]
+struct List {
+    books: Happens,
+    asks: Happens,
+    cancels: Happens,
+}
+
+/// In each form of her pass.
+static LISTS: [List; 3] = [
+    List {
+        books: Happens::Asked(known::V1, BOOK_7, BOOKED_7),
+        asks: Happens::Asked(known::V1, ACCOUNT, ACCOUNT_AFTER),
+        cancels: Happens::Asked(known::V1, CANCEL_7, CANCELLED_7),
+    },
+    List {
+        books: Happens::Asked(known::V2, BOOK_7, BOOKED_7),
+        asks: Happens::Asked(known::V2, ACCOUNT, ACCOUNT_AFTER),
+        cancels: Happens::Asked(known::V2, CANCEL_7, CANCELLED_7),
+    },
+    List {
+        books: Happens::Asked(known::JSON, BOOK_7, BOOKED_7),
+        asks: Happens::Asked(known::JSON, ACCOUNT, ACCOUNT_AFTER),
+        cancels: Happens::Asked(known::JSON, CANCEL_7, CANCELLED_7),
+    },
+];
+
+/// Runs rows at once, and compares their replies.
+pub(crate) fn run(rt: &(impl Abort + Alloc<A = Global>), desk: &mut MemoryDesk, rows: &[Happens]) {
+    let events = events(rt, rows);
+    let replies = desk.run(events.as_slice()).expect(rt, "replies");
+    expect_replies(rt, replies.as_slice(), rows);
+}
+
+/// Runs rows at once from the fixture on.
+fn run_from_the_fixture(rt: &(impl Abort + Alloc<A = Global>), rows: &[Happens]) {
+    let mut desk = empty_desk(rt);
+    run(rt, &mut desk, &FIXTURE);
+    run(rt, &mut desk, rows);
+}
+
+fn append(rt: &impl Abort, rows: &mut Vec<Happens>, more: &[Happens]) {
+    for row in more {
+        push(rt, rows, *row);
+    }
+}
+
+static BEFORE_CY: [Happens; 4] = [
+    Happens::Ordered(Order::AddMember(b"cy", 20), DONE),
+    Happens::Ordered(Order::Credit(b"cy", 20_000), DONE),
+    Happens::Ordered(Order::AddKey(b"cy-1", b"cy", known::ROOT), CY_SIGNED),
+    Happens::Ordered(
+        Order::AddKey(b"bob-2", b"bob", known::ROOT),
+        BOB_SIGNED_AGAIN,
+    ),
+];
+
+static BEHIND_CY: [Happens; 2] = [
+    Happens::Ordered(Order::Credit(b"bob", 500), DONE),
+    Happens::Ordered(Order::RevokeKey(b"bob-1"), DONE),
+];
+
+/// Cy's booking of `court-1` for two persons, on a later day than amy's.
+fn cys(day: u16, hour: u8, number: u32) -> Happens {
+    let slot = PlainSlot {
+        facility: b"court-1",
+        day,
+        hour,
+    };
+    let booked = Expected::Booked(b"cy-1", number, 400, 2);
+    Happens::Asked(CYS, Asked::Book(slot, number, 1), booked)
+}
+
+/// Ten bookings of cy's on a day, from this number on.
+fn ten_of_cys(rt: &impl Abort, rows: &mut Vec<Happens>, day: u16, first: u8) {
+    for index in 0..10u8 {
+        let number = u32::from(first) + u32::from(index);
+        push(rt, rows, cys(day, 8 + index, number));
+    }
+}
+
+/// Amy's list among twenty bookings of cy's, credits, and a new key and a revoked one of bob's.
+fn among_others(rt: &(impl Abort + Alloc<A = Global>), list: &List) -> Vec<Happens> {
+    let mut rows = Vec::new(rt.alloc());
+    append(rt, &mut rows, &BEFORE_CY);
+    ten_of_cys(rt, &mut rows, FRIDAY + 1, 1);
+    append(rt, &mut rows, &[list.books]);
+    ten_of_cys(rt, &mut rows, FRIDAY + 2, 11);
+    append(rt, &mut rows, &[list.asks]);
+    append(rt, &mut rows, &BEHIND_CY);
+    append(rt, &mut rows, &[list.cancels]);
+    rows
+}
+
+const BOOK_2: Asked = Asked::Book(COURT, 2, 0);
+
+const BOOKED_2: Expected = Expected::Booked(b"bob-1", 2, 200, 3);
+
+/// Amy's booking if bob has a place of the slot.
+const BOOKED_LAST: Expected = Expected::Booked(b"amy-1", 7, 600, 0);
+
+static BESIDE_BOB: [Happens; 4] = [
+    Happens::Asked(BOBS, BOOK_2, BOOKED_2),
+    Happens::Asked(known::V2, BOOK_7, BOOKED_LAST),
+    Happens::Asked(known::V2, ACCOUNT, ACCOUNT_AFTER),
+    Happens::Asked(known::V2, CANCEL_7, CANCELLED_7),
+];
+
+/// With ample memory a run of amy's list answers, alone and among others, and doesn't fail.
+pub(crate) fn answers(rt: &(impl Abort + Alloc<A = Global>)) {
+    for list in &LISTS {
+        run_from_the_fixture(rt, &[list.books, list.asks, list.cancels]);
+        run_from_the_fixture(rt, &among_others(rt, list));
+    }
+    run_from_the_fixture(rt, &BESIDE_BOB);
+}

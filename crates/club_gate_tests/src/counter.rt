@@ -1,0 +1,109 @@
+//! A desk over tables in memory, and the steps of a worked row.
+
+use crate::expect::{expect_at, expect_eq};
+use crate::messages::{Asked, Expected};
+use crate::office::{FIXTURE, Order};
+use crate::passes::{FORMS, Shown};
+use crate::values::at;
+use club_core::{ClubStore, Reply};
+use club_gate::{Desk, OfficeReply, Words};
+use club_store::Store;
+use pass_forms::Form;
+use sqlite::MemStore;
+use std::alloc::Global;
+use std::process::Abort;
+
+pub(crate) type MemoryDesk = Desk<Store<MemStore>>;
+
+/// A desk, and the form in which its passes are written.
+#[derive(Drop)]
+pub(crate) struct Counter {
+    pub desk: MemoryDesk,
+    pub form: Form,
+}
+
+/// A step of a worked row.
+#[derive(Clone, Copy)]
+pub(crate) enum Step {
+    /// A request at a moment under a pass, and its reply.
+    Asks(u32, Shown, Asked, Expected),
+    /// An order of the office that succeeds.
+    Orders(Order),
+    /// An order of the office, and its answer.
+    IsAnswered(Order, OfficeReply),
+}
+
+/// A desk over the tables of an empty club.
+pub(crate) fn empty_desk(rt: &(impl Abort + Alloc<A = Global>)) -> MemoryDesk {
+    let store = Store::open_in_memory(rt.alloc()).expect(rt, "empty tables");
+    Desk::new(rt.alloc(), store)
+}
+
+/// Gives an order that has to succeed.
+pub(crate) fn carry_out(rt: &impl Abort, desk: &mut MemoryDesk, order: &Order) {
+    let answer = desk.office(&order.command(rt));
+    expect_eq(rt, &matches!(answer, OfficeReply::Refused(_)), &false);
+}
+
+/// The fixture.
+pub(crate) fn opened(rt: &(impl Abort + Alloc<A = Global>), form: Form) -> Counter {
+    let mut desk = empty_desk(rt);
+    for order in &FIXTURE {
+        carry_out(rt, &mut desk, order);
+    }
+    Counter { desk, form }
+}
+
+/// The reply at a moment to a request whose pass is these bytes.
+pub(crate) fn reply<S: ClubStore>(
+    rt: &impl Abort,
+    desk: &mut Desk<S>,
+    moment: u32,
+    pass: &[u8],
+    asked: &Asked,
+) -> Reply {
+    let request = asked.request(rt);
+    desk.ask(at(rt, moment), &Words { pass, request })
+}
+
+impl Counter {
+    /// The reply at a moment under a pass.
+    fn reply(
+        &mut self,
+        rt: &(impl Abort + Alloc<A = Global>),
+        moment: u32,
+        shown: &Shown,
+        asked: &Asked,
+    ) -> Reply {
+        let text = shown.text(rt, self.form);
+        reply(rt, &mut self.desk, moment, text.as_bytes(), asked)
+    }
+
+    fn play(&mut self, rt: &(impl Abort + Alloc<A = Global>), row: usize, step: &Step) {
+        match step {
+            Step::Asks(moment, shown, asked, expected) => {
+                let reply = self.reply(rt, *moment, shown, asked);
+                expect_at(rt, row, &reply, &expected.reply(rt));
+            }
+            Step::Orders(order) => carry_out(rt, &mut self.desk, order),
+            Step::IsAnswered(order, answer) => {
+                expect_at(rt, row, &self.desk.office(&order.command(rt)), answer);
+            }
+        }
+    }
+
+    /// Ends the test unless the desk gives the replies of these steps.
+    pub fn plays(&mut self, rt: &(impl Abort + Alloc<A = Global>), steps: &[Step]) {
+        for (row, step) in steps.iter().enumerate() {
+            self.play(rt, row, step);
+        }
+    }
+}
+
+/// Ends the test unless a desk of the fixture gives the replies of these steps, in each form.
+pub(crate) fn plays_in_all_forms(rt: &(impl Abort + Alloc<A = Global>), steps: &[Step]) {
+    for form in &FORMS {
+        let mut counter = opened(rt, *form);
+        counter.plays(rt, steps);
+    }
+}

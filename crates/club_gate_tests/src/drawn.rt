@@ -1,0 +1,166 @@
+//! Random events from a fixed seed.
+
+ghost use Rattle.std.specs.Prelude.{◌<◌};
+
+use crate::messages::{Asked, COURT, PlainSlot, ROOM};
+use crate::office::Order;
+use crate::passes::{FORMS, Shown};
+use crate::values::{ROOT, SECOND_ROOT, START};
+use club_values::Kind;
+use pass_forms::Form;
+
+// The linear congruential generator of Knuth's MMIX, of whose 64 bits the upper 31 are used.
+const FACTOR: u64 = 6_364_136_223_846_793_005;
+
+const SUMMAND: u64 = 1_442_695_040_888_963_407;
+
+const UNUSED_BITS: u32 = 33;
+
+pub(crate) const AMY: &[u8] = b"amy";
+
+static MEMBERS: [&[u8]; 3] = [AMY, b"bob", b"cy"];
+
+static KEYS: [&[u8]; 4] = [b"amy-1", b"bob-1", b"cy-1", SPARE];
+
+// The key that no member begins with.
+const SPARE: &[u8] = b"spare";
+
+// The slots on 2026-05-01.
+pub(crate) static SLOTS: [PlainSlot; 3] = [COURT, PlainSlot { hour: 19, ..COURT }, ROOM];
+
+// The caveats of passes.
+static CAVEATS: [&[&str]; 12] = [
+    &[],
+    &[],
+    &[],
+    &["spend <= 600"],
+    &["guests <= 1"],
+    &["facility = court-1"],
+    &["kind = room"],
+    &["hours = 18-19"],
+    &["until < 2026-05-01T00:00"],
+    &["weekday = fri", "actions = view,book,account"],
+    &["guests <= 1", "spend <= 900"],
+    &["days = 2026-05-01..2026-05-02", "shoe = red"],
+];
+
+/// The roots of keys. The first is that of the keys that a club begins with.
+static ROOTS: [&[u8]; 2] = [ROOT, SECOND_ROOT];
+
+/// A request, and the pass that comes with it.
+#[derive(Clone, Copy)]
+pub(crate) struct Asking {
+    pub key: &'static [u8],
+    pub root: &'static [u8],
+    pub caveats: &'static [&'static str],
+    pub form: Form,
+    pub asked: Asked,
+    pub moment: u32,
+}
+
+impl Asking {
+    pub fn shown(&self) -> Shown {
+        Shown::Of(self.key, self.root, self.caveats)
+    }
+}
+
+/// A random event.
+#[derive(Clone, Copy)]
+pub(crate) enum Event {
+    Asked(Asking),
+    Ordered(Order),
+}
+
+/// The random numbers, from the next one on.
+#[derive(Drop)]
+pub(crate) struct Numbers {
+    state: u64,
+}
+
+impl Numbers {
+    /// The numbers of a seed.
+    pub fn new(first: u64) -> Numbers {
+        Numbers { state: first }
+    }
+
+    /// The next number, brought below a bound.
+    fn below(&mut self, bound: u32) -> u32
+        requires { 0 < bound }
+        ensures { result < bound }
+    {
+        self.state = self.state.wrapping_mul(FACTOR).wrapping_add(SUMMAND);
+        ((self.state >> UNUSED_BITS) % u64::from(bound)) as u32
+    }
+
+    fn slot(&mut self) -> PlainSlot {
+        SLOTS[self.below(3) as usize]
+    }
+
+    // Three times in four a number goes with the same slot.
+    fn slot_of(&mut self, booking: u32) -> PlainSlot {
+        if self.below(4) == 0 {
+            return self.slot();
+        }
+        SLOTS[(booking % 3) as usize]
+    }
+
+    fn asked(&mut self) -> Asked {
+        let booking = 1 + self.below(6);
+        let slot = self.slot_of(booking);
+        match self.below(10) {
+            0..=3 => Asked::Book(slot, booking, self.below(2) as u8),
+            4..=6 => Asked::Cancel(slot, booking),
+            7 | 8 => Asked::Account,
+            _ => Asked::View(slot),
+        }
+    }
+
+    // Around the start of the slots at 18, or around the first minute at which they can be booked.
+    fn moment(&mut self) -> u32 {
+        match self.below(8) {
+            0 => START - 86_500 + self.below(200),
+            _ => START - 2_000 + self.below(2_200),
+        }
+    }
+
+    // One pass in four is signed under another root than the first.
+    fn asking(&mut self) -> Asking {
+        let is_other = self.below(4) == 0;
+        Asking {
+            key: KEYS[self.below(4) as usize],
+            root: ROOTS[usize::from(is_other)],
+            caveats: CAVEATS[self.below(12) as usize],
+            form: FORMS[self.below(3) as usize],
+            asked: self.asked(),
+            moment: self.moment(),
+        }
+    }
+
+    fn rotation(&mut self, key: &'static [u8]) -> Order {
+        let root = ROOTS[self.below(2) as usize];
+        Order::RotateKey(key, root, self.moment())
+    }
+
+    fn order(&mut self) -> Order {
+        let member = MEMBERS[self.below(3) as usize];
+        let key = KEYS[self.below(4) as usize];
+        match self.below(24) {
+            0..=7 => Order::Credit(member, self.below(400)),
+            8 => Order::RevokeKey(key),
+            9 | 10 => Order::CloseSlot(self.slot()),
+            11..=14 => self.rotation(key),
+            15..=17 => Order::AddKey(SPARE, member, ROOT),
+            18 => Order::AddKey(key, member, SECOND_ROOT),
+            19..=21 => Order::AddMember(member, 90 + self.below(20)),
+            _ => Order::AddFacility(b"court-2", Kind::Court, 40 + self.below(20), 200, 8),
+        }
+    }
+
+    /// The next event: a request, or once in six an order.
+    pub fn event(&mut self) -> Event {
+        match self.below(6) {
+            0 => Event::Ordered(self.order()),
+            _ => Event::Asked(self.asking()),
+        }
+    }
+}

@@ -1,0 +1,112 @@
+//! Lists of events from an empty database, a request after one, and the files that one leaves.
+
+use crate::expect::expect_eq;
+use crate::happens::{Happens, events, expect_replies};
+use crate::known;
+use crate::known::SIGNED;
+use crate::messages::{ACCOUNT, ACCOUNT_AFTER, BOOK_7, BOOKED_7, Expected, NOT_VERIFIED};
+use crate::office::Order;
+use crate::values::{NOON, at};
+use club_core::Request;
+use club_gate::{Desk, OfficeReply, Words};
+use club_store::Store;
+use club_values::Kind;
+use desk_theorem::{reply_from_nothing, run_and_leave, run_from_nothing};
+use sqlite::{Connection, FileStore, Files, Options};
+use sqlite_disk::{Disk, Memory};
+use std::alloc::Global;
+use std::process::Abort;
+use std::test::*;
+
+/// Four orders, a booking, its repeats in the two other forms, and the account, which was charged
+/// once.
+static BOOKS: [Happens; 8] = [
+    Happens::Ordered(Order::AddMember(b"amy", 5), OfficeReply::Done),
+    Happens::Ordered(Order::Credit(b"amy", 10_000), OfficeReply::Done),
+    Happens::Ordered(
+        Order::AddFacility(b"court-1", Kind::Court, 4, 200, 8),
+        OfficeReply::Done,
+    ),
+    Happens::Ordered(Order::AddKey(b"amy-1", b"amy", known::ROOT), SIGNED),
+    Happens::Asked(known::V2, BOOK_7, BOOKED_7),
+    Happens::Asked(known::V1, BOOK_7, BOOKED_7),
+    Happens::Asked(known::JSON, BOOK_7, BOOKED_7),
+    Happens::Asked(known::V1, ACCOUNT, ACCOUNT_AFTER),
+];
+
+pub(crate) fn books_from_nothing(rt: &(impl Abort + Alloc<A = Global>)) {
+    let events = events(rt, &BOOKS);
+    let replies = run_from_nothing(rt.alloc(), events.as_slice()).expect(rt, "replies");
+    expect_replies(rt, replies.as_slice(), &BOOKS);
+}
+
+#[test]
+fn books_once_in_three_forms(rt: HostRuntime) {
+    books_from_nothing(&rt);
+}
+
+/// Ends the test unless a request for the account after these events gets this reply.
+fn expect_reply_after(rt: &(impl Abort + Alloc<A = Global>), rows: &[Happens], want: &Expected) {
+    let words = Words {
+        pass: known::V1.as_bytes(),
+        request: Request::Account,
+    };
+    let events = events(rt, rows);
+    let returned = reply_from_nothing(rt.alloc(), events.as_slice(), at(rt, NOON), &words).expect(
+        rt, "replies",
+    );
+    expect_replies(rt, returned.replies.as_slice(), rows);
+    expect_eq(rt, &returned.reply, &want.reply(rt));
+}
+
+// A request after a list, and one under an unknown key.
+pub(crate) fn answers_behind_lists(rt: &(impl Abort + Alloc<A = Global>)) {
+    expect_reply_after(rt, &BOOKS[..5], &ACCOUNT_AFTER);
+    expect_reply_after(rt, &[], &NOT_VERIFIED);
+}
+
+#[test]
+fn answers_after_a_list(rt: HostRuntime) {
+    answers_behind_lists(&rt);
+}
+
+/// A desk over the club in these files.
+fn desk_over(
+    rt: &(impl Abort + Alloc<A = Global>),
+    files: Files<Memory>,
+) -> Desk<Store<FileStore<Memory>>> {
+    let connection = connected(rt.alloc(), files).expect(rt, "a database");
+    let store = Store::adopt(rt.alloc(), connection).ok();
+    Desk::new(rt.alloc(), store.expect(rt, "tables"))
+}
+
+fn connected(alloc: Global, files: Files<Memory>) -> Option<Connection<FileStore<Memory>>> {
+    if !files.may_be_used() {
+        return None;
+    }
+    Connection::open_files(alloc, files, Options::new(7)).ok()
+}
+
+/// What is left of these files once the rows happened at a desk over them.
+fn left_by(
+    rt: &(impl Abort + Alloc<A = Global>),
+    files: Files<Memory>,
+    rows: &[Happens],
+) -> Files<Memory> {
+    let events = events(rt, rows);
+    let run = run_and_leave::<Memory, Memory>(desk_over(rt, files), events.as_slice());
+    let (replies, store) = run.expect(rt, "replies");
+    expect_replies(rt, replies.as_slice(), rows);
+    store.close()
+}
+
+// A repeat of the booking gets the same reply after the files were reopened.
+#[test]
+fn books_once_over_two_openings(rt: HostRuntime) {
+    let files = Files {
+        log: Memory::new(rt.alloc()),
+        db: Memory::new(rt.alloc()),
+    };
+    let left = left_by(&rt, files, &BOOKS[..5]);
+    left_by(&rt, left, &BOOKS[5..]);
+}

@@ -1,0 +1,193 @@
+//! What the desk shows of accounts and slots to whoever keeps its file: worked rows, and refusals.
+
+use crate::counter::{Counter, Step, opened};
+use crate::expect::expect_eq;
+use crate::messages::{BOOK_7, BOOKED_7, CANCEL_7, CANCELLED_7, COURT, PlainSlot, ROOM};
+use crate::office::Order;
+use crate::passes::AMY;
+use crate::values::{NOON, SECOND_ROOT, START, at, name};
+use club_gate::Fault;
+use pass_forms::Form;
+use std::alloc::Global;
+use std::process::Abort;
+use std::test::*;
+
+/// What is looked at.
+#[derive(Clone, Copy)]
+enum Look {
+    /// The account of a key at a moment.
+    Account(&'static [u8], u32),
+    Slot(PlainSlot),
+}
+
+impl Look {
+    fn shown(&self, rt: &impl Abort, counter: &mut Counter) -> Result<String, Fault> {
+        match *self {
+            Look::Account(key, moment) => {
+                counter.desk.show_account(&name(rt, key), at(rt, moment))
+            }
+            Look::Slot(slot) => counter.desk.show_slot(&slot.slot(rt)),
+        }
+    }
+}
+
+/// A step, and then looks with what each shows.
+struct Row {
+    step: Step,
+    looks: &'static [(Look, &'static str)],
+}
+
+const BOB: &str = "\
+member bob
+balance 10000
+quota 5
+open 0
+spent 0
+revoked no
+older root none
+";
+
+const AMY_BOOKED: &str = "\
+member amy
+balance 9400
+quota 5
+open 1
+spent 600
+revoked no
+older root none
+";
+
+// The slot has begun, so it is open no more.
+const AMY_BEGUN: &str = "\
+member amy
+balance 9400
+quota 5
+open 0
+spent 600
+revoked no
+older root none
+";
+
+const AMY_ROTATED: &str = "\
+member amy
+balance 9400
+quota 5
+open 1
+spent 600
+revoked no
+older root until 2026-05-01T17:59
+";
+
+const AMY_REVOKED: &str = "\
+member amy
+balance 10000
+quota 5
+open 0
+spent 0
+revoked yes
+older root until 2026-05-01T17:59
+";
+
+const COURT_TAKEN: &str = "\
+facility court-1
+day 2026-05-01
+hour 18
+kind court
+price 200
+places 4
+taken 3
+closed no
+";
+
+const COURT_CLOSED: &str = "\
+facility court-1
+day 2026-05-01
+hour 18
+kind court
+price 200
+places 4
+taken 0
+closed yes
+";
+
+// Out of opening: it is shown too.
+const ROOM_AT_NINE: &str = "\
+facility room-1
+day 2026-05-01
+hour 23
+kind room
+price 601
+places 1
+taken 0
+closed no
+";
+
+static ROWS: [Row; 5] = [
+    Row {
+        step: Step::Asks(NOON, AMY, BOOK_7, BOOKED_7),
+        looks: &[
+            (Look::Account(b"amy-1", NOON), AMY_BOOKED),
+            (Look::Account(b"amy-1", START), AMY_BEGUN),
+            (Look::Account(b"bob-1", NOON), BOB),
+            (Look::Slot(COURT), COURT_TAKEN),
+        ],
+    },
+    Row {
+        step: Step::Orders(Order::RotateKey(b"amy-1", SECOND_ROOT, START - 1)),
+        looks: &[(Look::Account(b"amy-1", NOON), AMY_ROTATED)],
+    },
+    // Under the older root.
+    Row {
+        step: Step::Asks(NOON, AMY, CANCEL_7, CANCELLED_7),
+        looks: &[],
+    },
+    Row {
+        step: Step::Orders(Order::RevokeKey(b"amy-1")),
+        looks: &[(Look::Account(b"amy-1", NOON), AMY_REVOKED)],
+    },
+    Row {
+        step: Step::Orders(Order::CloseSlot(COURT)),
+        looks: &[
+            (Look::Slot(COURT), COURT_CLOSED),
+            (Look::Slot(PlainSlot { hour: 23, ..ROOM }), ROOM_AT_NINE),
+        ],
+    },
+];
+
+fn shows(rt: &impl Abort, counter: &mut Counter, look: &Look, want: &str) {
+    let shown = look.shown(rt, counter).expect(rt, "a look");
+    expect_eq(rt, &shown.as_str(), &want);
+}
+
+pub(crate) fn expect_looks(rt: &(impl Abort + Alloc<A = Global>)) {
+    let mut counter = opened(rt, Form::V2);
+    for row in &ROWS {
+        counter.plays(rt, &[row.step]);
+        for (look, want) in row.looks {
+            shows(rt, &mut counter, look, want);
+        }
+    }
+}
+
+#[test]
+fn shows_accounts_and_slots(rt: HostRuntime) {
+    expect_looks(&rt);
+}
+
+static UNKNOWN: [Look; 3] = [
+    Look::Account(b"amy", NOON),
+    Look::Account(b"zed-1", NOON),
+    Look::Slot(PlainSlot {
+        facility: b"court-2",
+        ..COURT
+    }),
+];
+
+#[test]
+fn shows_nothing_unknown(rt: HostRuntime) {
+    let mut counter = opened(&rt, Form::V2);
+    for look in &UNKNOWN {
+        let refused = look.shown(&rt, &mut counter).err();
+        expect_eq(&rt, &refused, &Some(Fault::Unknown));
+    }
+}

@@ -1,0 +1,297 @@
+//! The desk reads of its store what an answer needs, and no more.
+
+use crate::counter::{carry_out, opened, reply};
+use crate::expect::{expect_at, expect_eq};
+use crate::messages::{
+    ACCOUNT, ACCOUNT_BEFORE, Asked, BOOK_7, BOOKED_7, CANCEL_7, CANCELLED_7, COURT, DENIED_1,
+    Expected, NOT_VERIFIED, PlainSlot,
+};
+use crate::office::Order;
+use crate::passes::{AMY, BOB, FORMS, Shown};
+use crate::values::{FRIDAY, NOON, ROOT, SECOND_ROOT};
+use club_core::{Change, ClubStore, MemberAccount, Refusal, SlotUse, StoreFault};
+use club_gate::Desk;
+use club_rows::{Booking, BookingNumber, Facility, Key, Member};
+use club_store::Store;
+use club_values::{Day, Moment, Name, Slot};
+use pass_forms::Form;
+use sqlite::MemStore;
+use std::alloc::Global;
+use std::process::Abort;
+use std::test::*;
+
+/// How often each thing was asked of a store: a key's row, a record under a number, a facility, the
+/// state of a slot, a member's account, its open bookings, what a key has spent; and how often
+/// anything else, as a change.
+#[derive(Clone, Copy, Debug, PartialEq, Eq)]
+struct Calls {
+    keys: u32,
+    records: u32,
+    facilities: u32,
+    slots: u32,
+    accounts: u32,
+    open_counts: u32,
+    spent: u32,
+    others: u32,
+}
+
+const NONE: Calls = Calls {
+    keys: 0,
+    records: 0,
+    facilities: 0,
+    slots: 0,
+    accounts: 0,
+    open_counts: 0,
+    spent: 0,
+    others: 0,
+};
+
+const KEY: Calls = Calls { keys: 1, ..NONE };
+
+const KEY_AND_FACILITY: Calls = Calls {
+    facilities: 1,
+    ..KEY
+};
+
+const SLOT: Calls = Calls {
+    slots: 1,
+    ..KEY_AND_FACILITY
+};
+
+const RECORD: Calls = Calls {
+    records: 1,
+    ..KEY_AND_FACILITY
+};
+
+const CANCELLATION: Calls = Calls {
+    others: 1,
+    ..RECORD
+};
+
+const BOOKING: Calls = Calls {
+    slots: 1,
+    accounts: 1,
+    open_counts: 1,
+    others: 1,
+    ..RECORD
+};
+
+const LIMITED_BOOKING: Calls = Calls {
+    spent: 1,
+    ..BOOKING
+};
+
+const OVER_THE_LIMIT: Calls = Calls { spent: 1, ..RECORD };
+
+const SUMS: Calls = Calls {
+    accounts: 1,
+    open_counts: 1,
+    spent: 1,
+    ..KEY
+};
+
+/// Tables in memory that count the calls. Their contracts promise nothing.
+#[derive(Drop)]
+struct Counting {
+    store: Store<MemStore>,
+    calls: Calls,
+}
+
+fn count(calls: &mut u32) {
+    *calls = calls.saturating_add(1);
+}
+
+impl ClubStore for Counting {
+    ghost represents = { λ store club others. ⊥ };
+
+    ghost disk_is_clean = { λ store. ⊥ };
+
+    ghost fails = { λ wish old fault new. ⊥ };
+
+    ghost sound = { λ store club others represents. absurd represents };
+
+    ghost widens = { λ store club other others represents sound. represents };
+
+    fn key(&mut self, name: &Name) -> Result<Option<Key>, StoreFault> {
+        count(&mut self.calls.keys);
+        self.store.key(name)
+    }
+
+    fn member(&mut self, name: &Name) -> Result<Option<Member>, StoreFault> {
+        count(&mut self.calls.others);
+        self.store.member(name)
+    }
+
+    fn facility(&mut self, name: &Name) -> Result<Option<Facility>, StoreFault> {
+        count(&mut self.calls.facilities);
+        self.store.facility(name)
+    }
+
+    fn slot(&mut self, slot: &Slot) -> Result<SlotUse, StoreFault> {
+        count(&mut self.calls.slots);
+        self.store.slot(slot)
+    }
+
+    fn booking(
+        &mut self,
+        key: &Name,
+        number: BookingNumber,
+    ) -> Result<Option<Booking>, StoreFault> {
+        count(&mut self.calls.records);
+        self.store.booking(key, number)
+    }
+
+    fn account(&mut self, member: &Name) -> Result<Option<MemberAccount>, StoreFault> {
+        count(&mut self.calls.accounts);
+        self.store.account(member)
+    }
+
+    fn open_count(&mut self, member: &Name, moment: Moment) -> Result<u64, StoreFault> {
+        count(&mut self.calls.open_counts);
+        self.store.open_count(member, moment)
+    }
+
+    fn spent(&mut self, key: &Name) -> Result<u64, StoreFault> {
+        count(&mut self.calls.spent);
+        self.store.spent(key)
+    }
+
+    fn day(&mut self, day: Day) -> Result<Vec<Booking>, StoreFault> {
+        count(&mut self.calls.others);
+        self.store.day(day)
+    }
+
+    fn apply(&mut self, change: &Change) -> Result<(), StoreFault> {
+        count(&mut self.calls.others);
+        self.store.apply(change)
+    }
+}
+
+/// The fixture, in which bob's key is revoked, after number 7 was booked or before.
+fn counted_fixture(rt: &(impl Abort + Alloc<A = Global>), is_booked: bool) -> Counting {
+    let mut desk = opened(rt, Form::V2).desk;
+    carry_out(rt, &mut desk, &Order::RevokeKey(b"bob-1"));
+    if is_booked {
+        let text = AMY.text(rt, Form::V2);
+        let returned = reply(rt, &mut desk, NOON, text.as_bytes(), &BOOK_7);
+        expect_eq(rt, &returned, &BOOKED_7.reply(rt));
+    }
+    Counting {
+        store: desk.into_store(),
+        calls: NONE,
+    }
+}
+
+/// A pass, a request under it, the reply, and the calls of the store.
+type Row = (Shown, Asked, Expected, Calls);
+
+const BOOKS_AT_18: Shown = Shown::Of(b"amy-1", ROOT, &["hours = 18-19"]);
+
+/// A pass that allows no booking, whatever its key has spent.
+const VIEWS: Shown = Shown::Of(b"amy-1", ROOT, &["actions = view"]);
+
+const VIEWS_THEN_SPENDS: Shown = Shown::Of(b"amy-1", ROOT, &["actions = view", "spend <= 700"]);
+
+const SPENDS_700: Shown = Shown::Of(b"amy-1", ROOT, &["spend <= 700"]);
+
+/// A facility that the club lacks.
+const NOWHERE: PlainSlot = PlainSlot {
+    facility: b"court-9",
+    day: FRIDAY,
+    hour: 18,
+};
+
+// Before a signature is compared, and for a revoked key, the key's row is read and nothing else.
+static REFUSED: [Row; 5] = [
+    // The identifier is no key's.
+    (Shown::Unnamed, BOOK_7, NOT_VERIFIED, NONE),
+    (Shown::Of(b"nobody", ROOT, &[]), BOOK_7, NOT_VERIFIED, KEY),
+    (Shown::Changed, BOOK_7, NOT_VERIFIED, KEY),
+    (
+        Shown::Of(b"amy-1", SECOND_ROOT, &["hours = 18-20"]),
+        BOOK_7,
+        NOT_VERIFIED,
+        KEY,
+    ),
+    (BOB, BOOK_7, Expected::Refused(Refusal::KeyRevoked), KEY),
+];
+
+// Number 7 isn't booked.
+static FIRST: [Row; 10] = [
+    (AMY, Asked::View(COURT), Expected::Shown(0, false), SLOT),
+    (AMY, ACCOUNT, ACCOUNT_BEFORE, SUMS),
+    (AMY, BOOK_7, BOOKED_7, BOOKING),
+    (BOOKS_AT_18, BOOK_7, BOOKED_7, BOOKING),
+    (SPENDS_700, BOOK_7, BOOKED_7, LIMITED_BOOKING),
+    // A request that a caveat refuses reads no sum.
+    (VIEWS, BOOK_7, DENIED_1, RECORD),
+    (VIEWS_THEN_SPENDS, BOOK_7, DENIED_1, RECORD),
+    (VIEWS, ACCOUNT, DENIED_1, KEY),
+    (
+        AMY,
+        CANCEL_7,
+        Expected::Refused(Refusal::NoSuchBooking),
+        RECORD,
+    ),
+    (
+        AMY,
+        Asked::Book(NOWHERE, 7, 2),
+        Expected::Refused(Refusal::NoSuchFacility),
+        RECORD,
+    ),
+];
+
+// Number 7 is booked, for 600 points.
+static AGAIN: [Row; 6] = [
+    (AMY, BOOK_7, BOOKED_7, RECORD),
+    // A repeat costs nothing, so a spend limit doesn't matter.
+    (SPENDS_700, BOOK_7, BOOKED_7, RECORD),
+    (AMY, CANCEL_7, CANCELLED_7, CANCELLATION),
+    (SPENDS_700, CANCEL_7, CANCELLED_7, CANCELLATION),
+    (AMY, ACCOUNT, Expected::Account(9_400, 1, 600), SUMS),
+    // Number 8 would come to 800 points.
+    (
+        SPENDS_700,
+        Asked::Book(COURT, 8, 0),
+        DENIED_1,
+        OVER_THE_LIMIT,
+    ),
+];
+
+fn reads(
+    rt: &(impl Abort + Alloc<A = Global>),
+    form: Form,
+    is_booked: bool,
+    place: usize,
+    row: &Row,
+) {
+    let (shown, asked, expected, calls) = row;
+    let mut desk = Desk::new(rt.alloc(), counted_fixture(rt, is_booked));
+    let text = shown.text(rt, form);
+    let answered = reply(rt, &mut desk, NOON, text.as_bytes(), asked);
+    expect_at(rt, place, &answered, &expected.reply(rt));
+    expect_at(rt, place, &desk.into_store().calls, calls);
+}
+
+fn reads_each(rt: &(impl Abort + Alloc<A = Global>), is_booked: bool, rows: &[Row]) {
+    for form in &FORMS {
+        for (place, row) in rows.iter().enumerate() {
+            reads(rt, *form, is_booked, place, row);
+        }
+    }
+}
+
+#[test]
+fn a_refused_pass_reads_its_key_alone(rt: HostRuntime) {
+    reads_each(&rt, false, &REFUSED);
+}
+
+#[test]
+fn an_answer_reads_what_it_needs(rt: HostRuntime) {
+    reads_each(&rt, false, &FIRST);
+}
+
+#[test]
+fn a_repeat_and_a_cancellation_read_no_sum(rt: HostRuntime) {
+    reads_each(&rt, true, &AGAIN);
+}

@@ -1,0 +1,131 @@
+//! The desk's replies if its store fails, or isn't called.
+
+use crate::counter::{opened, reply};
+use crate::expect::{expect_at, expect_eq};
+use crate::messages::{ACCOUNT, BOOK_7, COURT};
+use crate::passes::AMY;
+use crate::refusing::Refusing;
+use crate::values::{NOON, ROOT, add_key, name, root};
+use club_core::{ClubStore, Refusal, Reply, StoreFault};
+use club_gate::{Desk, Fault, OfficeReply, key_signature};
+use club_values::Day;
+use pass_forms::{Form, MAX_TEXT};
+use std::alloc::Global;
+use std::process::Abort;
+use std::test::*;
+
+// The signature of the longest name under a root of 64 bytes 7, by an independent program.
+const LONGEST: [u8; 32] = *b"\
+    \x23\x1d\xfe\xcc\x5b\xb5\xa6\xe6\x60\xe0\xa1\xbb\xd3\xab\x92\x0e\
+    \xb2\x38\x15\xb7\x1d\x5d\x84\xd4\xb8\x8c\x1c\xaa\x2c\x5b\x47\xce";
+
+/// The fixture, whose store fails from this call on.
+fn refusing(
+    rt: &(impl Abort + Alloc<A = Global>),
+    first: u32,
+    fault: StoreFault,
+) -> Desk<Refusing> {
+    let store = Refusing {
+        store: opened(rt, Form::V2).desk.into_store(),
+        calls: 0,
+        first,
+        fault,
+    };
+    Desk::new(rt.alloc(), store)
+}
+
+/// A booking is unavailable.
+fn expect_unavailable(rt: &(impl Abort + Alloc<A = Global>), desk: &mut Desk<Refusing>) {
+    let text = AMY.text(rt, Form::V2);
+    let returned = reply(rt, desk, NOON, text.as_bytes(), &BOOK_7);
+    expect_eq(rt, &returned, &Reply::Refused(Refusal::Unavailable));
+}
+
+/// A new key and the day sheet fail.
+fn expect_failures(rt: &impl Abort, desk: &mut Desk<Refusing>, expected: Fault) {
+    let answer = desk.office(&add_key(rt, b"amy-2", b"amy", ROOT));
+    expect_eq(rt, &answer, &OfficeReply::Refused(expected));
+    let day = Day::read(b"2026-05-01").expect(rt, "a day");
+    expect_eq(rt, &desk.sheet(day).is_err(), &true);
+}
+
+/// `court-1` has no persons at 18, and there is no key `amy-2`.
+fn expect_untouched<S: ClubStore>(rt: &impl Abort, store: &mut S) {
+    let held = store.slot(&COURT.slot(rt)).expect(rt, "a slot");
+    expect_eq(rt, &held.taken, &0);
+    let key = store.key(&name(rt, b"amy-2")).expect(rt, "no fault");
+    expect_eq(rt, &key.is_none(), &true);
+}
+
+/// If the store fails from this call on, every request and order fails and nothing is changed.
+fn expect_refusals(
+    rt: &(impl Abort + Alloc<A = Global>),
+    first: u32,
+    fault: StoreFault,
+    expected: Fault,
+) {
+    let mut desk = refusing(rt, first, fault);
+    expect_unavailable(rt, &mut desk);
+    expect_failures(rt, &mut desk, expected);
+    let mut store = desk.into_store().into_inner();
+    expect_untouched(rt, &mut store);
+}
+
+#[test]
+fn reports_refused_memory(rt: HostRuntime) {
+    expect_refusals(&rt, 1, StoreFault::Memory, Fault::Memory);
+}
+
+// A booking's first six calls read: the key, the record, the facility, the slot, the account, the
+// open bookings. The seventh writes.
+#[test]
+fn reports_refused_storage(rt: HostRuntime) {
+    for first in 2..=7 {
+        expect_refusals(&rt, first, StoreFault::Storage, Fault::Storage);
+    }
+}
+
+// One byte too many.
+static LONG: [u8; MAX_TEXT + 1] = [b'A'; MAX_TEXT + 1];
+
+fn expect_refused(rt: &impl Abort, desk: &mut Desk<Refusing>, pass: &[u8], refusal: Refusal) {
+    let returned = reply(rt, desk, NOON, pass, &ACCOUNT);
+    expect_eq(rt, &returned, &Reply::Refused(refusal));
+}
+
+// A text that is no pass is refused before the store is called.
+#[test]
+fn reports_a_fault_of_form_first(rt: HostRuntime) {
+    let mut desk = refusing(&rt, 1, StoreFault::Storage);
+    expect_refused(&rt, &mut desk, b"AgEJ", Refusal::PassMalformed);
+    expect_refused(&rt, &mut desk, &LONG, Refusal::PassTooLong);
+    expect_eq(&rt, &desk.into_store().calls, &0);
+}
+
+#[test]
+fn signs_for_the_longest_name(rt: HostRuntime) {
+    let name = name(&rt, b"abcdefghijklmnopqrstuvwx");
+    let root = root(&rt, &[7; 64]);
+    expect_eq(&rt, &key_signature(&name, &root), &LONGEST);
+}
+
+static FAULTS: [(Fault, &str); 6] = [
+    (Fault::Exists, "exists"),
+    (Fault::Unknown, "unknown"),
+    (Fault::OutOfRange, "out of range"),
+    (Fault::SlotInUse, "slot in use"),
+    (Fault::Memory, "out of memory"),
+    (Fault::Storage, "storage failed"),
+];
+
+fn prints(rt: &(impl Abort + Alloc<A = Global>), row: usize, fault: Fault, want: &str) {
+    let printed = format!(in rt.alloc(); "{fault}").expect(rt, "memory");
+    expect_at(rt, row, &printed.as_str(), &want);
+}
+
+#[test]
+fn prints_faults(rt: HostRuntime) {
+    for (row, (fault, text)) in FAULTS.iter().enumerate() {
+        prints(&rt, row, *fault, text);
+    }
+}

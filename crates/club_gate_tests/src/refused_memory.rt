@@ -1,0 +1,217 @@
+//! Orders of the office and the known booking if an allocation is refused.
+//! `tests/refused_memory_tests.sh` refuses each in turn, and none after it: a call that is out of
+//! memory changes nothing, and a second call is answered.
+
+use crate::counter::{MemoryDesk, reply};
+use crate::expect::expect_eq;
+use crate::known;
+use crate::known::SIGNED;
+use crate::messages::{
+    ACCOUNT, ACCOUNT_AFTER, ACCOUNT_BEFORE, Asked, BOOK_7, BOOKED_7, COURT, Expected, PlainSlot,
+};
+use crate::office::Order;
+use crate::values::{NOON, SECOND_ROOT, START, at};
+use club_core::{Refusal, Reply, StoreFault};
+use club_gate::{Desk, Event, EventReply, Fault, OfficeReply, Words};
+use club_store::Store;
+use club_values::Kind;
+use sqlite::MemStore;
+use std::alloc::Global;
+use std::process::Abort;
+use std::test::*;
+
+fn new_store(rt: &(impl Abort + Alloc<A = Global>)) -> Store<MemStore> {
+    match Store::open_in_memory(rt.alloc()) {
+        Err(StoreFault::Memory) => Store::open_in_memory(rt.alloc()).expect(rt, "a store"),
+        store => store.expect(rt, "a store"),
+    }
+}
+
+const UNAVAILABLE: Reply = Reply::Refused(Refusal::Unavailable);
+
+/// The reply at noon; by a second call if the first is out of memory.
+fn replied(rt: &impl Abort, desk: &mut MemoryDesk, pass: &str, asked: &Asked) -> Reply {
+    let first = reply(rt, desk, NOON, pass.as_bytes(), asked);
+    if first != UNAVAILABLE {
+        return first;
+    }
+    reply(rt, desk, NOON, pass.as_bytes(), asked)
+}
+
+/// `court-1` on 2026-05-01 at 19.
+const AT_19: PlainSlot = PlainSlot { hour: 19, ..COURT };
+
+/// What amy's key sees of the club: her account, and two slots.
+fn seen(rt: &impl Abort, desk: &mut MemoryDesk) -> [Reply; 3] {
+    [
+        replied(rt, desk, known::V2, &ACCOUNT),
+        replied(rt, desk, known::V2, &Asked::View(COURT)),
+        replied(rt, desk, known::V2, &Asked::View(AT_19)),
+    ]
+}
+
+/// Ends the test unless the office gets this answer. If the first call is out of memory, the club
+/// must be unchanged, and a second call must get it.
+fn is_answered(rt: &impl Abort, desk: &mut MemoryDesk, order: &Order, answer: &OfficeReply) {
+    let before = seen(rt, desk);
+    let first = desk.office(&order.command(rt));
+    if first != OfficeReply::Refused(Fault::Memory) {
+        expect_eq(rt, &first, answer);
+        return;
+    }
+    expect_eq(rt, &seen(rt, desk), &before);
+    expect_eq(rt, &desk.office(&order.command(rt)), answer);
+}
+
+fn are_answered(rt: &impl Abort, desk: &mut MemoryDesk, orders: &[(Order, OfficeReply)]) {
+    for (order, answer) in orders {
+        is_answered(rt, desk, order, answer);
+    }
+}
+
+const DONE: OfficeReply = OfficeReply::Done;
+
+/// Amy with quota 5, 10,000 points and her key; and the court.
+static FIXTURE: [(Order, OfficeReply); 4] = [
+    (Order::AddMember(b"amy", 5), DONE),
+    (Order::Credit(b"amy", 10_000), DONE),
+    (Order::AddKey(b"amy-1", b"amy", known::ROOT), SIGNED),
+    (Order::AddFacility(b"court-1", Kind::Court, 4, 200, 8), DONE),
+];
+
+/// The desk of the fixture.
+fn desk(rt: &(impl Abort + Alloc<A = Global>)) -> MemoryDesk {
+    let mut desk = Desk::new(rt.alloc(), new_store(rt));
+    are_answered(rt, &mut desk, &FIXTURE);
+    desk
+}
+
+// The signature of `amy-1` under its second root, by an independent program.
+const SIGNED_ANEW: OfficeReply = OfficeReply::Key {
+    signature: *b"\xa6\x1f\x5d\x76\xf6\x9e\x75\x1b\xb3\x58\x6b\x12\xf7\x90\x1e\xeb\
+        \x6c\xb4\xe2\x0a\xb2\x44\x30\xf5\xce\xb9\xc0\x48\x88\x17\x46\xc6",
+};
+
+/// The older root is good for long, so amy's pass still shows what the key sees.
+static ORDERS: [(Order, OfficeReply); 3] = [
+    (Order::CloseSlot(AT_19), DONE),
+    (Order::RotateKey(b"amy-1", SECOND_ROOT, START), SIGNED_ANEW),
+    (Order::RevokeKey(b"amy-1"), DONE),
+];
+
+/// The orders were carried out.
+static REVOKED: [(Order, OfficeReply); 2] = [
+    (
+        Order::AddMember(b"amy", 5),
+        OfficeReply::Refused(Fault::Exists),
+    ),
+    (Order::CloseSlot(AT_19), OfficeReply::Refused(Fault::Exists)),
+];
+
+#[test]
+fn orders(rt: HostRuntime) {
+    let mut desk = desk(&rt);
+    let account = replied(&rt, &mut desk, known::V2, &ACCOUNT);
+    expect_eq(&rt, &account, &ACCOUNT_BEFORE.reply(&rt));
+    are_answered(&rt, &mut desk, &ORDERS);
+    are_answered(&rt, &mut desk, &REVOKED);
+    let account = replied(&rt, &mut desk, known::V2, &ACCOUNT);
+    expect_eq(&rt, &account, &Reply::Refused(Refusal::KeyRevoked));
+}
+
+fn expect_replied(
+    rt: &impl Abort,
+    desk: &mut MemoryDesk,
+    pass: &str,
+    asked: &Asked,
+    want: &Expected,
+) {
+    expect_eq(rt, &replied(rt, desk, pass, asked), &want.reply(rt));
+}
+
+/// The booking is on record: its reply, and that of the account.
+fn is_booked(rt: &impl Abort, desk: &mut MemoryDesk, pass: &str) {
+    expect_replied(rt, desk, pass, &BOOK_7, &BOOKED_7);
+    expect_replied(rt, desk, pass, &ACCOUNT, &ACCOUNT_AFTER);
+}
+
+/// The first reply to the booking is the booking's, which is then on record. Or it is unavailable:
+/// then nothing changed, and a second request is served.
+fn is_booked_or_unavailable(rt: &impl Abort, desk: &mut MemoryDesk, pass: &str, first: &Reply) {
+    if *first == UNAVAILABLE {
+        expect_replied(rt, desk, pass, &ACCOUNT, &ACCOUNT_BEFORE);
+        expect_replied(
+            rt,
+            desk,
+            pass,
+            &Asked::View(COURT),
+            &Expected::Shown(0, false),
+        );
+    } else {
+        expect_eq(rt, first, &BOOKED_7.reply(rt));
+    }
+    is_booked(rt, desk, pass);
+}
+
+fn ask(rt: &(impl Abort + Alloc<A = Global>), pass: &str) {
+    let mut desk = desk(rt);
+    let first = reply(rt, &mut desk, NOON, pass.as_bytes(), &BOOK_7);
+    is_booked_or_unavailable(rt, &mut desk, pass, &first);
+}
+
+#[test]
+fn ask_in_v1(rt: HostRuntime) {
+    ask(&rt, known::V1);
+}
+
+#[test]
+fn ask_in_v2(rt: HostRuntime) {
+    ask(&rt, known::V2);
+}
+
+#[test]
+fn ask_in_json(rt: HostRuntime) {
+    ask(&rt, known::JSON);
+}
+
+/// The one reply of these.
+fn only(replies: &[EventReply]) -> Option<Reply> {
+    match replies {
+        [EventReply::Replied(reply)] => Some(*reply),
+        _ => None,
+    }
+}
+
+/// The reply to a list of only the booking; unavailable too if the list is out of memory.
+fn reply_of_a_run(rt: &impl Abort, desk: &mut MemoryDesk, pass: &str) -> Reply {
+    let words = Words {
+        pass: pass.as_bytes(),
+        request: BOOK_7.request(rt),
+    };
+    let moment = at(rt, NOON);
+    match desk.run(&[Event::Asked { words, moment }]) {
+        Ok(replies) => only(&replies).expect(rt, "one reply"),
+        Err(_) => UNAVAILABLE,
+    }
+}
+
+fn run(rt: &(impl Abort + Alloc<A = Global>), pass: &str) {
+    let mut desk = desk(rt);
+    let first = reply_of_a_run(rt, &mut desk, pass);
+    is_booked_or_unavailable(rt, &mut desk, pass, &first);
+}
+
+#[test]
+fn run_in_v1(rt: HostRuntime) {
+    run(&rt, known::V1);
+}
+
+#[test]
+fn run_in_v2(rt: HostRuntime) {
+    run(&rt, known::V2);
+}
+
+#[test]
+fn run_in_json(rt: HostRuntime) {
+    run(&rt, known::JSON);
+}

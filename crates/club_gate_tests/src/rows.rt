@@ -1,0 +1,280 @@
+//! The worked rows of the desk, each in every form of a pass.
+
+use crate::counter::{Counter, Step, opened, plays_in_all_forms};
+use crate::expect::expect_eq;
+use crate::messages::{
+    ACCOUNT, ACCOUNT_AFTER, ACCOUNT_BEFORE, Asked, BOOK_7, BOOK_ROOM, BOOKED_7, CANCEL_7,
+    CANCEL_ROOM, CANCELLED_7, COURT, Expected, HALF_BACK, NOT_VERIFIED, PlainSlot, ROOM,
+    ROOM_BOOKED,
+};
+use crate::office::Order;
+use crate::passes::{AMY, BOB, CY, FORMS, Shown};
+use crate::values::{FRIDAY, NOON, ROOT, START};
+use club_core::Refusal;
+use club_gate::{Fault, OfficeReply};
+use club_values::Day;
+use pass_forms::Form;
+use std::alloc::Global;
+use std::process::Abort;
+use std::test::*;
+
+const VIEW: Asked = Asked::View(COURT);
+
+const BOOK_7_FOR_TWO: Asked = Asked::Book(COURT, 7, 1);
+
+const NUMBER_USED: Expected = Expected::Refused(Refusal::NumberUsed);
+
+/// A repeat gets the same reply, also when the slot has begun and after the cancellation.
+pub(crate) static REPEATS: [Step; 8] = [
+    Step::Asks(NOON, AMY, BOOK_7, BOOKED_7),
+    Step::Asks(START + 30, AMY, BOOK_7, BOOKED_7),
+    Step::Asks(NOON, AMY, BOOK_7_FOR_TWO, NUMBER_USED),
+    Step::Asks(NOON, AMY, ACCOUNT, ACCOUNT_AFTER),
+    Step::Asks(NOON, AMY, CANCEL_7, CANCELLED_7),
+    Step::Asks(START + 30, AMY, BOOK_7, BOOKED_7),
+    Step::Asks(NOON, AMY, ACCOUNT, ACCOUNT_BEFORE),
+    Step::Asks(NOON, BOB, VIEW, Expected::Shown(0, false)),
+];
+
+#[test]
+fn repeats_a_booking(rt: HostRuntime) {
+    plays_in_all_forms(&rt, &REPEATS);
+}
+
+const CANCEL_OTHER: Asked = Asked::Cancel(ROOM, 9);
+
+const NO_SUCH_BOOKING: Expected = Expected::Refused(Refusal::NoSuchBooking);
+
+const ALL_BACK: Expected = Expected::Cancelled(b"amy-1", 8, 601);
+
+const SLOT_HAS_BEGUN: Expected = Expected::Refused(Refusal::SlotHasBegun);
+
+/// The whole charge a day before the start, half of it a minute later, nothing from the start on.
+pub(crate) static REFUNDS: [[Step; 3]; 3] = [
+    [
+        Step::Asks(NOON, AMY, BOOK_ROOM, ROOM_BOOKED),
+        Step::Asks(NOON, AMY, CANCEL_OTHER, NO_SUCH_BOOKING),
+        Step::Asks(START - 1440, AMY, CANCEL_ROOM, ALL_BACK),
+    ],
+    [
+        Step::Asks(NOON, AMY, BOOK_ROOM, ROOM_BOOKED),
+        Step::Asks(NOON, AMY, CANCEL_OTHER, NO_SUCH_BOOKING),
+        Step::Asks(START - 1439, AMY, CANCEL_ROOM, HALF_BACK),
+    ],
+    [
+        Step::Asks(NOON, AMY, BOOK_ROOM, ROOM_BOOKED),
+        Step::Asks(NOON, AMY, CANCEL_OTHER, NO_SUCH_BOOKING),
+        Step::Asks(START, AMY, CANCEL_ROOM, SLOT_HAS_BEGUN),
+    ],
+];
+
+#[test]
+fn refunds(rt: HostRuntime) {
+    for steps in &REFUNDS {
+        plays_in_all_forms(&rt, steps);
+    }
+}
+
+const STRANGER: Shown = Shown::Of(b"zed-1", ROOT, &[]);
+
+const KEY_REVOKED: Expected = Expected::Refused(Refusal::KeyRevoked);
+
+pub(crate) static VERIFIES: [Step; 6] = [
+    Step::Asks(NOON, STRANGER, ACCOUNT, NOT_VERIFIED),
+    Step::Asks(NOON, Shown::Changed, ACCOUNT, NOT_VERIFIED),
+    Step::Asks(NOON, Shown::Unnamed, ACCOUNT, NOT_VERIFIED),
+    Step::Orders(Order::RevokeKey(b"amy-1")),
+    Step::Asks(NOON, AMY, ACCOUNT, KEY_REVOKED),
+    Step::Asks(NOON, Shown::Changed, ACCOUNT, NOT_VERIFIED),
+];
+
+#[test]
+fn verifies(rt: HostRuntime) {
+    plays_in_all_forms(&rt, &VERIFIES);
+}
+
+const BOOK_2: Asked = Asked::Book(COURT, 2, 0);
+
+const BOOKED_2: Expected = Expected::Booked(b"bob-1", 2, 200, 3);
+
+const FILLED_BY_7: Expected = Expected::Booked(b"amy-1", 7, 600, 0);
+
+/// Amy's replies, whatever others do in other slots.
+pub(crate) static ALONE: [Step; 3] = [
+    Step::Asks(NOON, AMY, BOOK_7, BOOKED_7),
+    Step::Asks(NOON, AMY, ACCOUNT, ACCOUNT_AFTER),
+    Step::Asks(NOON, AMY, CANCEL_7, CANCELLED_7),
+];
+
+/// A place of bob's in her slot changes the places that are left, and nothing else.
+pub(crate) static BESIDE_BOB: [Step; 4] = [
+    Step::Asks(NOON, BOB, BOOK_2, BOOKED_2),
+    Step::Asks(NOON, AMY, BOOK_7, FILLED_BY_7),
+    Step::Asks(NOON, AMY, ACCOUNT, ACCOUNT_AFTER),
+    Step::Asks(NOON, AMY, CANCEL_7, CANCELLED_7),
+];
+
+static BEFORE_CY: [Step; 4] = [
+    Step::Orders(Order::AddMember(b"cy", 20)),
+    Step::Orders(Order::Credit(b"cy", 20_000)),
+    Step::Orders(Order::AddKey(b"cy-1", b"cy", ROOT)),
+    Step::Orders(Order::AddKey(b"bob-2", b"bob", ROOT)),
+];
+
+static BEHIND_CY: [Step; 2] = [
+    Step::Orders(Order::Credit(b"bob", 500)),
+    Step::Orders(Order::RevokeKey(b"bob-1")),
+];
+
+/// Cy books `court-1` on a day at an hour, with a guest or none, under a number.
+fn cy_books(
+    rt: &(impl Abort + Alloc<A = Global>),
+    counter: &mut Counter,
+    (day, hour): (u16, u8),
+    number: u32,
+    has_guest: bool,
+) {
+    let facility = b"court-1";
+    let slot = PlainSlot {
+        facility,
+        day,
+        hour,
+    };
+    let (guests, charge, left) = if has_guest { (1, 400, 2) } else { (0, 200, 3) };
+    let booking = Asked::Book(slot, number, guests);
+    let expected = Expected::Booked(b"cy-1", number, charge, left);
+    counter.plays(rt, &[Step::Asks(NOON, CY, booking, expected)]);
+}
+
+/// Twenty bookings of others in other slots, credits, and a new key and a revoked one of bob's.
+fn others_are_busy(rt: &(impl Abort + Alloc<A = Global>), counter: &mut Counter) {
+    counter.plays(rt, &BEFORE_CY);
+    for index in 0..10u8 {
+        let number = u32::from(index) + 1;
+        cy_books(rt, counter, (FRIDAY + 1, 8 + index), number, index % 2 == 0);
+        cy_books(rt, counter, (FRIDAY + 2, 8 + index), number + 10, false);
+    }
+    counter.plays(rt, &BEHIND_CY);
+}
+
+#[test]
+fn answers_amy_the_same_whatever_others_do(rt: HostRuntime) {
+    plays_in_all_forms(&rt, &ALONE);
+    plays_in_all_forms(&rt, &BESIDE_BOB);
+    for form in &FORMS {
+        let mut counter = opened(&rt, *form);
+        others_are_busy(&rt, &mut counter);
+        counter.plays(&rt, &ALONE);
+    }
+}
+
+const BOOK_7_AT_21: Asked = Asked::Book(PlainSlot { hour: 21, ..COURT }, 7, 2);
+
+const BOOK_7_AT_22: Asked = Asked::Book(PlainSlot { hour: 22, ..COURT }, 7, 2);
+
+const NOT_BOOKABLE: Expected = Expected::Refused(Refusal::NotBookable);
+
+/// No more than 86,400 minutes ahead, before the start, and in the hours of opening.
+pub(crate) static WINDOW: [Step; 6] = [
+    Step::Asks(START - 86_400, AMY, BOOK_7, BOOKED_7),
+    Step::Asks(START - 86_401, AMY, BOOK_7, NOT_BOOKABLE),
+    Step::Asks(START - 1, AMY, BOOK_7, BOOKED_7),
+    Step::Asks(START, AMY, BOOK_7, NOT_BOOKABLE),
+    Step::Asks(NOON, AMY, BOOK_7_AT_21, BOOKED_7),
+    Step::Asks(NOON, AMY, BOOK_7_AT_22, NOT_BOOKABLE),
+];
+
+#[test]
+fn books_within_the_window(rt: HostRuntime) {
+    for step in &WINDOW {
+        plays_in_all_forms(&rt, &[*step]);
+    }
+}
+
+const DI: Shown = Shown::Of(b"di-1", ROOT, &[]);
+
+const BOOK_1: Asked = Asked::Book(COURT, 1, 0);
+
+const BOOK_2_FOR_TWO: Asked = Asked::Book(COURT, 2, 1);
+
+const NO_PLACES: Expected = Expected::Refused(Refusal::NoPlaces);
+
+const BALANCE_TOO_LOW: Expected = Expected::Refused(Refusal::BalanceTooLow);
+
+const QUOTA_REACHED: Expected = Expected::Refused(Refusal::QuotaReached);
+
+pub(crate) static LIMITS: [Step; 9] = [
+    Step::Orders(Order::AddMember(b"cy", 1)),
+    Step::Orders(Order::Credit(b"cy", 100)),
+    Step::Orders(Order::AddKey(b"cy-1", b"cy", ROOT)),
+    Step::Orders(Order::AddMember(b"di", 0)),
+    Step::Orders(Order::AddKey(b"di-1", b"di", ROOT)),
+    Step::Asks(NOON, AMY, BOOK_7, BOOKED_7),
+    Step::Asks(NOON, BOB, BOOK_2_FOR_TWO, NO_PLACES),
+    Step::Asks(NOON, CY, BOOK_1, BALANCE_TOO_LOW),
+    Step::Asks(NOON, DI, BOOK_1, QUOTA_REACHED),
+];
+
+#[test]
+fn minds_places_points_and_quota(rt: HostRuntime) {
+    plays_in_all_forms(&rt, &LIMITS);
+}
+
+const CLOSE: Order = Order::CloseSlot(COURT);
+
+const BOOK_8: Asked = Asked::Book(COURT, 8, 0);
+
+const SLOT_CLOSED: Expected = Expected::Refused(Refusal::SlotClosed);
+
+pub(crate) static CLOSES: [Step; 7] = [
+    Step::Asks(NOON, AMY, BOOK_7, BOOKED_7),
+    Step::IsAnswered(CLOSE, OfficeReply::Refused(Fault::SlotInUse)),
+    Step::Asks(NOON, AMY, VIEW, Expected::Shown(3, false)),
+    Step::Asks(NOON, AMY, CANCEL_7, CANCELLED_7),
+    Step::IsAnswered(CLOSE, OfficeReply::Done),
+    Step::IsAnswered(CLOSE, OfficeReply::Refused(Fault::Exists)),
+    Step::Asks(NOON, AMY, BOOK_8, SLOT_CLOSED),
+];
+
+#[test]
+fn closes_a_slot(rt: HostRuntime) {
+    plays_in_all_forms(&rt, &CLOSES);
+}
+
+const FILLED_BY_2: Expected = Expected::Booked(b"bob-1", 2, 200, 0);
+
+static FILLED: [Step; 2] = [
+    Step::Asks(NOON, AMY, BOOK_7, BOOKED_7),
+    Step::Asks(NOON, BOB, BOOK_2, FILLED_BY_2),
+];
+
+const FULL_SHEET: &str = "\
+Day sheet 2026-05-01
+court-1                  18:00 amy-1                            7  3    600
+court-1                  18:00 bob-1                            2  1    200
+Total bookings 2, persons 4, charge 800
+";
+
+static SHEETS: [(u16, &str); 2] = [
+    (FRIDAY, FULL_SHEET),
+    (FRIDAY + 1, "Day sheet 2026-05-02\nNo bookings.\n"),
+];
+
+fn expect_sheet(rt: &impl Abort, counter: &mut Counter, day: u16, want: &str) {
+    let day = Day::from_number(day).expect(rt, "a day");
+    let sheet = counter.desk.sheet(day).expect(rt, "a sheet");
+    expect_eq(rt, &sheet.as_str(), &want);
+}
+
+pub(crate) fn expect_sheets(rt: &(impl Abort + Alloc<A = Global>)) {
+    let mut counter = opened(rt, Form::V2);
+    counter.plays(rt, &FILLED);
+    for (day, want) in &SHEETS {
+        expect_sheet(rt, &mut counter, *day, want);
+    }
+}
+
+#[test]
+fn prints_the_sheet_of_a_day(rt: HostRuntime) {
+    expect_sheets(&rt);
+}

@@ -1,0 +1,175 @@
+//! Texts of passes, and texts that are no pass.
+
+use crate::counter::{Counter, Step, empty_desk, opened, reply};
+use crate::expect::{expect_at, expect_eq};
+use crate::known;
+use crate::known::SIGNED;
+use crate::messages::{ACCOUNT, Expected};
+use crate::office::Order;
+use crate::passes::text_of;
+use crate::values::{NOON, name};
+use club_core::{Refusal, Reply};
+use club_gate::minted;
+use pass_forms::Form;
+use std::alloc::Global;
+use std::process::Abort;
+use std::test::*;
+
+static ADDS_A_KEY: [Step; 2] = [
+    Step::Orders(Order::AddMember(b"amy", 5)),
+    Step::IsAnswered(Order::AddKey(b"amy-1", b"amy", known::ROOT), SIGNED),
+];
+
+/// The pass of the key in V2 is this text.
+pub(crate) fn expect_text(rt: &(impl Abort + Alloc<A = Global>)) {
+    let name = name(rt, b"amy-1");
+    let pass = minted(rt.alloc(), &name, known::SIGNATURE).expect(rt, "memory");
+    let text = text_of(rt, Form::V2, &pass);
+    expect_eq(rt, &text.as_str(), &known::V2);
+    expect_eq(rt, &text.len(), &79);
+}
+
+/// Ends the test unless a request with this text gets this reply.
+fn expect_reply(rt: &impl Abort, counter: &mut Counter, row: usize, text: &str, want: &Reply) {
+    let returned = reply(rt, &mut counter.desk, NOON, text.as_bytes(), &ACCOUNT);
+    expect_at(rt, row, &returned, want);
+}
+
+// The office's pass of a new key has 79 characters in V2, and is served.
+#[test]
+fn mints_the_pass_of_a_key(rt: HostRuntime) {
+    let mut counter = Counter {
+        desk: empty_desk(&rt),
+        form: Form::V2,
+    };
+    counter.plays(&rt, &ADDS_A_KEY);
+    expect_text(&rt);
+    expect_reply(
+        &rt,
+        &mut counter,
+        0,
+        known::V2,
+        &Expected::Account(0, 0, 0).reply(&rt),
+    );
+}
+
+/// The pieces of the texts of a form, in base64: location `club-desk` and identifier `key:amy-1`,
+/// an empty caveat, a third party's, and a signature of zero bytes.
+#[derive(Clone, Copy)]
+struct Pieces {
+    head: &'static str,
+    caveat: &'static str,
+    third_party: &'static str,
+    end: &'static str,
+}
+
+// By an independent program: V1 and V2.
+static FORMS: [Pieces; 2] = [
+    Pieces {
+        head: "MDAxN2xvY2F0aW9uIGNsdWItZGVzawowMDE5aWRlbnRpZmllciBrZXk6YW15LTEK",
+        caveat: "MDAwOWNpZCAK",
+        third_party: "MDAwY2NpZCB4eHgKMDAwOXZpZCAK",
+        end: "MDAyZnNpZ25hdHVyZSAAAAAAAAAAAAAAAAAAAAAAAAAAAAAAAAAAAAAAAAAAAAo",
+    },
+    Pieces {
+        head: "AgEJY2x1Yi1kZXNrAglrZXk6YW15LTEA",
+        caveat: "AgAA",
+        third_party: "AgF4BAAA",
+        end: "AAYgAAAAAAAAAAAAAAAAAAAAAAAAAAAAAAAAAAAAAAAAAAA",
+    },
+];
+
+// The rest of a pass of `amy-1` in JSON, with a signature of zero bytes.
+const JSON_END: &str =
+    ",\"i\":\"key:amy-1\",\"s64\":\"AAAAAAAAAAAAAAAAAAAAAAAAAAAAAAAAAAAAAAAAAAA\"}";
+
+// One byte more, after the end.
+const ONE_MORE: &str = "A";
+
+// Enough caveats for a text of more than 8,192 characters.
+const FAR_TOO_MANY: u32 = 2_049;
+
+/// How many caveats, third party's caveats and bytes behind the end a text has, and its refusal.
+///
+/// 64 caveats are read, and then the signature is wrong. What is too long comes first, then what
+/// is spelled wrongly, then a third party's caveat, then too many of them.
+static FAULTS: [(u32, u32, u32, Refusal); 5] = [
+    (64, 0, 0, Refusal::NotVerified),
+    (65, 0, 0, Refusal::TooManyCaveats),
+    (64, 1, 0, Refusal::ThirdPartyCaveat),
+    (64, 1, 1, Refusal::PassMalformed),
+    (FAR_TOO_MANY, 1, 1, Refusal::PassTooLong),
+];
+
+/// The beginnings of texts in JSON. A caveat of a third party, and the same beside a name that no
+/// caveat has.
+static HEADS: [(&str, Refusal); 4] = [
+    (
+        "{\"c\":[{\"i\":\"x\",\"v64\":\"\"}]",
+        Refusal::ThirdPartyCaveat,
+    ),
+    (
+        "{\"c\":[{\"i\":\"x\",\"v64\":\"\"}],\"x\":1",
+        Refusal::PassMalformed,
+    ),
+    ("{\"v\":1", Refusal::PassMalformed),
+    ("{\"v\":2", Refusal::NotVerified),
+];
+
+fn add(rt: &impl Abort, text: &mut String, piece: &str, count: u32) {
+    for _ in 0..count {
+        text.push_str(piece).expect(rt, "memory");
+    }
+}
+
+/// The text of these pieces with so many caveats, third party's caveats and bytes behind the end.
+fn spelled(
+    rt: &(impl Abort + Alloc<A = Global>),
+    pieces: &Pieces,
+    (caveats, third_parties, more): (u32, u32, u32),
+) -> String {
+    let mut text = String::new(rt.alloc());
+    add(rt, &mut text, pieces.head, 1);
+    add(rt, &mut text, pieces.caveat, caveats);
+    add(rt, &mut text, pieces.third_party, third_parties);
+    add(rt, &mut text, pieces.end, 1);
+    add(rt, &mut text, ONE_MORE, more);
+    text
+}
+
+fn expect_faults(rt: &(impl Abort + Alloc<A = Global>), counter: &mut Counter, pieces: &Pieces) {
+    for (row, (caveats, third_parties, more, refusal)) in FAULTS.iter().enumerate() {
+        let text = spelled(rt, pieces, (*caveats, *third_parties, *more));
+        expect_reply(rt, counter, row, text.as_str(), &Reply::Refused(*refusal));
+    }
+}
+
+#[test]
+fn refuses_faulty_texts(rt: HostRuntime) {
+    let mut counter = opened(&rt, Form::V2);
+    for pieces in &FORMS {
+        expect_faults(&rt, &mut counter, pieces);
+    }
+}
+
+fn json(rt: &(impl Abort + Alloc<A = Global>), head: &str) -> String {
+    let mut text = String::new(rt.alloc());
+    add(rt, &mut text, head, 1);
+    add(rt, &mut text, JSON_END, 1);
+    text
+}
+
+#[test]
+fn refuses_faulty_json(rt: HostRuntime) {
+    let mut counter = opened(&rt, Form::Json);
+    for (row, (head, refusal)) in HEADS.iter().enumerate() {
+        let text = json(&rt, head);
+        expect_reply(
+            &rt,
+            &mut counter,
+            row,
+            text.as_str(),
+            &Reply::Refused(*refusal),
+        );
+    }
+}

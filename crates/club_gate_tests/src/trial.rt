@@ -1,0 +1,295 @@
+//! A desk beside the reference machine, and beside the solo machine, which holds only amy's part.
+
+use crate::counter::{MemoryDesk, empty_desk, reply};
+use crate::drawn::{AMY, Asking, Event, SLOTS};
+use crate::expect::expect_eq;
+use crate::messages::{Asked, PlainSlot};
+use crate::office::Order;
+use crate::reference_machine::{part_reply, reference_replies, reference_reply, shown};
+use crate::sent::{sent, texts_of};
+use crate::values::{ROOT, START, at, name, push};
+use club_core::{ClubStore, OfficeAnswer, Reply, SlotUse};
+use club_gate::{Desk, EventReply, Fault};
+use club_reference::Club;
+use club_values::Kind;
+use pass_forms::Form;
+use std::alloc::Global;
+use std::process::Abort;
+
+// Keys of the three members, which no event names. Their accounts show the totals.
+const AUDIT_AMY: &[u8] = b"audit-amy";
+
+const AUDIT_BOB: &[u8] = b"audit-bob";
+
+const AUDIT_CY: &[u8] = b"audit-cy";
+
+static AUDITORS: [&[u8]; 3] = [AUDIT_AMY, AUDIT_BOB, AUDIT_CY];
+
+// No member, so that others hold all of a slot.
+const NOBODY: &[u8] = b"nobody";
+
+/// Three members with a key each, and their auditors' keys; `court-1` and `room-1`.
+static BEGINNING: [Order; 14] = [
+    Order::AddMember(AMY, 2),
+    Order::Credit(AMY, 1_500),
+    Order::AddKey(b"amy-1", AMY, ROOT),
+    Order::AddKey(AUDIT_AMY, AMY, ROOT),
+    Order::AddMember(b"bob", 3),
+    Order::Credit(b"bob", 1_500),
+    Order::AddKey(b"bob-1", b"bob", ROOT),
+    Order::AddKey(AUDIT_BOB, b"bob", ROOT),
+    Order::AddMember(b"cy", 4),
+    Order::Credit(b"cy", 1_500),
+    Order::AddKey(b"cy-1", b"cy", ROOT),
+    Order::AddKey(AUDIT_CY, b"cy", ROOT),
+    Order::AddFacility(b"court-1", Kind::Court, 8, 200, 8),
+    Order::AddFacility(b"room-1", Kind::Room, 1, 601, 8),
+];
+
+/// The desk, the reference machine, the solo machine of amy, and the names of her keys.
+#[derive(Drop)]
+pub(crate) struct Trial {
+    desk: MemoryDesk,
+    reference: Club,
+    part: Club,
+    own_keys: Vec<&'static [u8]>,
+}
+
+fn is_done(answer: &OfficeAnswer) -> bool {
+    !matches!(*answer, OfficeAnswer::NotDone(_))
+}
+
+/// What others than a member hold of the requested slot.
+fn held_by_others(rt: &impl Abort, reference: &Club, member: &[u8], asked: &Asked) -> SlotUse {
+    reference.outside(&name(rt, member), asked.request(rt).slot())
+}
+
+/// Ends the test unless the stored use of a slot is the sum over the reference machine's bookings.
+fn expect_held<S: ClubStore>(rt: &impl Abort, store: &mut S, reference: &Club, slot: PlainSlot) {
+    let held = store.slot(&slot.slot(rt)).expect(rt, "a slot");
+    let want = held_by_others(rt, reference, NOBODY, &Asked::View(slot));
+    expect_eq(rt, &held, &want);
+}
+
+/// The lines of a reply as the pages show them. An auditor's key is neither revoked nor rotated.
+fn lines_of(rt: &(impl Abort + Alloc<A = Global>), reply: &Reply) -> Option<String> {
+    let text = match reply {
+        Reply::AccountShown {
+            member,
+            balance,
+            quota,
+            open_count,
+            spent,
+        } => format!(in rt.alloc();
+            "member {member}\nbalance {balance}\nquota {quota}\nopen {open_count}\nspent {spent}\n\
+            revoked no\nolder root none\n"
+        ),
+        Reply::SlotShown {
+            slot,
+            kind,
+            price,
+            places,
+            taken,
+            closed,
+        } => format!(in rt.alloc();
+            "facility {}\nday {}\nhour {}\nkind {kind}\nprice {price}\nplaces {places}\n\
+            taken {taken}\nclosed {}\n",
+            slot.facility,
+            slot.day,
+            slot.hour,
+            if *closed { "yes" } else { "no" }
+        ),
+        _ => return None,
+    };
+    Some(text.expect(rt, "memory"))
+}
+
+/// A look shows what a reply says; nothing where that refuses.
+fn expect_shown(
+    rt: &(impl Abort + Alloc<A = Global>),
+    shown: &Result<String, Fault>,
+    reply: &Reply,
+) {
+    match (shown, lines_of(rt, reply)) {
+        (Ok(shown), Some(want)) => expect_eq(rt, &shown.as_str(), &want.as_str()),
+        (Err(Fault::Unknown), None) => (),
+        _ => panic!(rt; "a look"),
+    }
+}
+
+/// The asking for a member's account by a key that nothing else is asked for by.
+fn audit(key: &'static [u8]) -> Asking {
+    Asking {
+        key,
+        root: ROOT,
+        caveats: &[],
+        form: Form::V2,
+        asked: Asked::Account,
+        moment: START - 1_000,
+    }
+}
+
+impl Trial {
+    fn empty(rt: &(impl Abort + Alloc<A = Global>)) -> Trial {
+        Trial {
+            desk: empty_desk(rt),
+            reference: Club::new(rt.alloc()),
+            part: Club::new(rt.alloc()),
+            own_keys: Vec::new(rt.alloc()),
+        }
+    }
+
+    /// The club that each list begins with.
+    pub fn begin(rt: &(impl Abort + Alloc<A = Global>)) -> Trial {
+        let mut trial = Trial::empty(rt);
+        for order in &BEGINNING {
+            trial.order(rt, order);
+        }
+        trial
+    }
+
+    /// Compares the stored use of each slot with the sum over the reference machine's bookings, and
+    /// goes on with the same club, a desk with an empty cache, and amy's part copied anew.
+    pub fn audited(self, rt: &(impl Abort + Alloc<A = Global>)) -> Trial {
+        let Trial {
+            desk,
+            reference,
+            part: _,
+            own_keys,
+        } = self;
+        let mut store = desk.into_store();
+        for slot in &SLOTS {
+            expect_held(rt, &mut store, &reference, *slot);
+        }
+        let part = reference.part(&name(rt, AMY)).expect(rt, "memory");
+        Trial {
+            desk: Desk::new(rt.alloc(), store),
+            reference,
+            part,
+            own_keys,
+        }
+    }
+
+    fn is_own_key(&self, key: &[u8]) -> bool {
+        for own in &self.own_keys {
+            if *own == key {
+                return true;
+            }
+        }
+        false
+    }
+
+    /// Whether a successful order is amy's own.
+    fn is_own(&self, order: &Order) -> bool {
+        match *order {
+            Order::AddMember(member, _) | Order::Credit(member, _) | Order::AddKey(_, member, _) =>
+                member == AMY,
+            Order::AddFacility(..) => true,
+            Order::RevokeKey(key) | Order::RotateKey(key, _, _) => self.is_own_key(key),
+            Order::CloseSlot(_) => false,
+        }
+    }
+
+    /// Gives amy's part an order of her own: its answer is the reference machine's.
+    fn order_part(&mut self, rt: &impl Abort, order: &Order, answer: &OfficeAnswer) {
+        let own = self.part.office(&order.command(rt)).expect(rt, "memory");
+        expect_eq(rt, &own, answer);
+        if let Order::AddKey(key, _, _) = *order {
+            push(rt, &mut self.own_keys, key);
+        }
+    }
+
+    /// Gives an order to the desk and the reference machine, and to amy's part if it is her own.
+    fn order(&mut self, rt: &impl Abort, order: &Order) {
+        let command = order.command(rt);
+        let answer = self.reference.office(&command).expect(rt, "memory");
+        expect_eq(rt, &self.desk.office(&command), &shown(&answer));
+        if is_done(&answer) && self.is_own(order) {
+            self.order_part(rt, order, &answer);
+        }
+    }
+
+    /// The desk's reply to a request.
+    fn reply(&mut self, rt: &(impl Abort + Alloc<A = Global>), asking: &Asking) -> Reply {
+        let text = asking.shown().text(rt, asking.form);
+        reply(
+            rt,
+            &mut self.desk,
+            asking.moment,
+            text.as_bytes(),
+            &asking.asked,
+        )
+    }
+
+    /// Asks the desk and the reference machine, and amy's part if the key is hers.
+    fn ask(&mut self, rt: &(impl Abort + Alloc<A = Global>), asking: &Asking) {
+        let reply = self.reply(rt, asking);
+        let others = held_by_others(rt, &self.reference, AMY, &asking.asked);
+        expect_eq(
+            rt,
+            &reply,
+            &reference_reply(rt, &mut self.reference, asking),
+        );
+        if self.is_own_key(asking.key) {
+            expect_eq(rt, &reply, &part_reply(rt, &mut self.part, asking, others));
+        }
+    }
+
+    /// Gives an event to the desk and to the machines.
+    pub fn play(&mut self, rt: &(impl Abort + Alloc<A = Global>), event: &Event) {
+        match event {
+            Event::Asked(asking) => self.ask(rt, asking),
+            Event::Ordered(order) => self.order(rt, order),
+        }
+    }
+
+    /// Compares the members' accounts.
+    pub fn audit(&mut self, rt: &(impl Abort + Alloc<A = Global>)) {
+        for key in &AUDITORS {
+            self.ask(rt, &audit(key));
+        }
+    }
+
+    /// Compares what the desk shows of the auditors' accounts and of the slots with the plain
+    /// machine's replies to the auditors.
+    pub fn look(&mut self, rt: &(impl Abort + Alloc<A = Global>)) {
+        for key in &AUDITORS {
+            let asking = audit(key);
+            let want = reference_reply(rt, &mut self.reference, &asking);
+            let moment = at(rt, asking.moment);
+            let shown = self.desk.show_account(&name(rt, key), moment);
+            expect_shown(rt, &shown, &want);
+        }
+        for slot in &SLOTS {
+            let asked = Asked::View(*slot);
+            let want = reference_reply(
+                rt,
+                &mut self.reference,
+                &Asking {
+                    asked,
+                    ..audit(AUDIT_AMY)
+                },
+            );
+            let shown = self.desk.show_slot(&slot.slot(rt));
+            expect_shown(rt, &shown, &want);
+        }
+    }
+
+    /// What the desk tells events that are run at once.
+    fn desk_replies(
+        &mut self,
+        rt: &(impl Abort + Alloc<A = Global>),
+        events: &[Event],
+    ) -> Vec<EventReply> {
+        let texts = texts_of(rt, events);
+        let sent = sent(rt, events, texts.as_slice());
+        self.desk.run(sent.as_slice()).expect(rt, "memory")
+    }
+
+    /// Runs events at once, and compares the responses with the reference machine's.
+    pub fn run(&mut self, rt: &(impl Abort + Alloc<A = Global>), events: &[Event]) {
+        let returned = self.desk_replies(rt, events);
+        let want = reference_replies(rt, &mut self.reference, events);
+        expect_eq(rt, &returned.as_slice(), &want.as_slice());
+    }
+}

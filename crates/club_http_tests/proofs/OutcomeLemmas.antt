@@ -1,0 +1,18 @@
+-- What the outcome of an exchange states about the desk.
+use Rattle.std.proofs.Common.{◌≡◌, ℕ, List, Ok, Err}
+use Rattle.std.specs.Prelude.{Option, Result}
+use Rattle.club_core.specs.declared.reply.Reply.{Reply}
+use Rattle.club_http.specs.Exchange.{Exchanges, Replies}
+use Rattle.club_http.specs.Replied.{AnswerRelation}
+use Rattle.club_http.specs.declared.fault.AnswerFault.{AnswerFault}
+use Rattle.club_http.specs.declared.fault.AnswerFault.TheVariants.{Read, Write}
+use Rattle.desk_server.specs.Served.{IsExchanged}
+
+-- the part of an exchange's contract that is about the desk
+pub exchanged : {Desk : Type 0} (Answers : AnswerRelation Desk) (before after : Option (List ℕ)) (bytes : List ℕ) (old new : Desk) (Cut Silent : Type 0)
+    (Writes : List ℕ → Type 0) (outcome : Result Reply AnswerFault)
+    → Exchanges (λ reply. Replies Answers before after bytes old reply new) (Cut × (new ≡ old) × Silent) Writes outcome
+    → IsExchanged Answers bytes old outcome new
+exchanged Answers before after bytes old new Cut Silent Writes (Ok reply) (decides, written) = (decides.replied, tt)
+exchanged Answers before after bytes old new Cut Silent Writes (Err Read) (cut, same, silent) = same
+exchanged Answers before after bytes old new Cut Silent Writes (Err (Write n)) (reply, decides, fewer, written) = (reply, decides.replied, fewer, tt)

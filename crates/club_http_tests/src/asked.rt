@@ -1,0 +1,124 @@
+//! What a request asks for.
+
+ghost use Rattle.http_request.specs.Front.{Covers};
+
+use crate::rows::{expect_row, slot_at};
+use club_core::{Refusal, Request};
+use club_rows::{BookingNumber, Guests};
+use http_request::{HeadScan, Routes, words_by_scan, words_of};
+use std::process::Abort;
+
+/// What a request asks for, of `court-1` on 2026-05-01 at 18 where it is of a slot, or why it is
+/// refused.
+pub(crate) enum Want {
+    View,
+    /// Booking 7 with so many guests.
+    Book(u8),
+    /// The booking of this number.
+    Cancel(u32),
+    Account,
+    Refused(Refusal),
+}
+
+pub(crate) const BAD_REQUEST: Want = Want::Refused(Refusal::BadRequest);
+
+pub(crate) const NO_SUCH_PATH: Want = Want::Refused(Refusal::NoSuchPath);
+
+pub(crate) const NO_PASS: Want = Want::Refused(Refusal::NoPass);
+
+/// A field that carries a pass.
+pub(crate) const PASS: &str = "Authorization: Bearer x\r\n";
+
+fn number(rt: &impl Abort, number: u32) -> BookingNumber {
+    BookingNumber::new(number).expect(rt, "a number")
+}
+
+pub(crate) fn book(rt: &impl Abort, guests: u8) -> Request {
+    Request::Book {
+        slot: slot_at(rt, 18),
+        number: number(rt, 7),
+        guests: Guests::new(guests).expect(rt, "guests"),
+    }
+}
+
+fn cancel(rt: &impl Abort, booking: u32) -> Request {
+    Request::Cancel {
+        slot: slot_at(rt, 18),
+        number: number(rt, booking),
+    }
+}
+
+fn view(rt: &impl Abort) -> Request {
+    Request::View {
+        slot: slot_at(rt, 18),
+    }
+}
+
+fn wanted(rt: &impl Abort, want: &Want) -> Result<Request, Refusal> {
+    match want {
+        Want::View => Ok(view(rt)),
+        Want::Book(guests) => Ok(book(rt, *guests)),
+        Want::Cancel(booking) => Ok(cancel(rt, *booking)),
+        Want::Account => Ok(Request::Account),
+        Want::Refused(refusal) => Err(*refusal),
+    }
+}
+
+pub(crate) fn asked(rt: &(impl Abort + AllocGlobal), bytes: &[u8]) -> Result<Request, Refusal> {
+    let routes = Routes::new(rt.alloc()).expect(rt, "memory");
+    match words_of(&routes, bytes) {
+        Ok(words) => Ok(words.request),
+        Err(refusal) => Err(refusal),
+    }
+}
+
+/// A scan of the bytes in two pieces, of which the first has so many or all.
+fn scan_of(bytes: &[u8], first: usize) -> HeadScan
+    ensures { Covers result bytes.now }
+{
+    let first = first.min(bytes.len());
+    let mut scan = HeadScan::new();
+    scan.go_on(&bytes[..first], 0);
+    scan.go_on(bytes, first);
+    scan
+}
+
+/// Whether the bytes begin with a whole request, by a scan in two pieces.
+pub(crate) fn is_whole(bytes: &[u8], first: usize) -> bool {
+    scan_of(bytes, first).is_whole(bytes)
+}
+
+/// What a request asks for, by a scan in two pieces.
+pub(crate) fn asked_in_two(
+    rt: &(impl Abort + AllocGlobal),
+    bytes: &[u8],
+    first: usize,
+) -> Result<Request, Refusal> {
+    let routes = Routes::new(rt.alloc()).expect(rt, "memory");
+    match words_by_scan(&routes, bytes, &scan_of(bytes, first)) {
+        Ok(words) => Ok(words.request),
+        Err(refusal) => Err(refusal),
+    }
+}
+
+/// The request asks for this.
+pub(crate) fn asks(rt: &(impl Abort + AllocGlobal), text: &str, want: &Want) {
+    expect_row(rt, &asked(rt, text.as_bytes()), &wanted(rt, want), &text);
+}
+
+/// Whole requests, and what each asks for.
+pub(crate) fn ask(rt: &(impl Abort + AllocGlobal), rows: &[(&'static str, Want)]) {
+    for (text, want) in rows {
+        asks(rt, text, want);
+    }
+}
+
+/// The request carries this pass.
+pub(crate) fn carries(rt: &(impl Abort + AllocGlobal), text: &str, pass: &str) {
+    let routes = Routes::new(rt.alloc()).expect(rt, "memory");
+    let carried = match words_of(&routes, text.as_bytes()) {
+        Ok(words) => Some(words.pass),
+        Err(_) => None,
+    };
+    expect_row(rt, &carried, &Some(pass.as_bytes()), &text);
+}

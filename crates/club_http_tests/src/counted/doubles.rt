@@ -1,0 +1,154 @@
+//! A reader, a writer and a responder over memory.
+
+ghost use Rattle.std.specs.Prelude.{◌≤◌};
+
+use club_core::{Reply, Request};
+use club_http::{Inlet, Outlet, Responder, Words};
+use club_values::Moment;
+
+/// Gives a few bytes a call; at its end it gives none, or fails.
+#[derive(Drop)]
+pub struct Pieces<'a> {
+    pub left: &'a [u8],
+    /// The most bytes of a call, less one.
+    behind_first: usize,
+    fails: bool,
+    pub calls: u64,
+    pub failures: u64,
+}
+
+impl<'a> Pieces<'a> {
+    pub fn new(bytes: &'a [u8], step: usize, fails: bool) -> Pieces<'a> {
+        Pieces {
+            left: bytes,
+            behind_first: step.saturating_sub(1),
+            fails,
+            calls: 0,
+            failures: 0,
+        }
+    }
+}
+
+impl Inlet for Pieces<'_> {
+    ghost use Rattle.std.specs.Prelude.{◌≡◌, Some};
+    ghost use Rattle.club_http.specs.Ends.{one_more};
+
+    ghost to_come = { λ reader. Some reader.left.now };
+
+    ghost failures = { λ reader. reader.failures };
+
+    // each call is counted
+    ghost fills = { λ old _ _ new. new.calls ≡ one_more old.calls };
+
+    fn fill(&mut self, room: &mut [u8]) -> Option<usize> {
+        self.calls = self.calls.saturating_add(1);
+        if self.left.is_empty() && self.fails {
+            self.failures = self.failures.saturating_add(1);
+            return None;
+        }
+        let step = self.behind_first.saturating_add(1);
+        let n = step.min(room.len()).min(self.left.len());
+        let (front, rest) = self.left.split_at(n);
+        room[..n].copy_from_slice(front);
+        self.left = rest;
+        Some(n)
+    }
+}
+
+/// The most bytes that a writer takes.
+pub const ROOM: usize = 512;
+
+/// Takes a few bytes a call; after so many it fails, or takes none.
+#[derive(Drop)]
+pub struct Narrow {
+    bytes: [u8; ROOM],
+    len: usize,
+    step: usize,
+    limit: usize,
+    stalls: bool,
+    pub calls: u64,
+    pub failures: u64,
+    ghost within: { len ≤ 512 },
+}
+
+impl Narrow {
+    fn with(step: usize, limit: usize, stalls: bool) -> Narrow {
+        Narrow {
+            bytes: [0; ROOM],
+            len: 0,
+            step,
+            limit,
+            stalls,
+            calls: 0,
+            failures: 0,
+        }
+    }
+
+    pub fn new(step: usize) -> Narrow {
+        Narrow::with(step, ROOM, false)
+    }
+
+    pub fn failing(limit: usize) -> Narrow {
+        Narrow::with(ROOM, limit, false)
+    }
+
+    pub fn stalled() -> Narrow {
+        Narrow::with(ROOM, 0, true)
+    }
+
+    pub fn written(&self) -> &[u8] {
+        &self.bytes[..self.len]
+    }
+}
+
+impl Outlet for Narrow {
+    ghost use Rattle.std.specs.Prelude.{Some, take};
+
+    ghost taken = { λ writer. Some (take writer.len writer.bytes) };
+
+    ghost failures = { λ writer. writer.failures };
+
+    fn put(&mut self, bytes: &[u8]) -> Option<usize> {
+        self.calls = self.calls.saturating_add(1);
+        let room = self.limit.min(ROOM).saturating_sub(self.len);
+        let n = self.step.min(room).min(bytes.len());
+        if n == 0 && !bytes.is_empty() {
+            self.failures = self.failures.saturating_add(1);
+            return if self.stalls { Some(0) } else { None };
+        }
+        self.bytes[self.len..self.len + n].copy_from_slice(&bytes[..n]);
+        self.len += n;
+        Some(n)
+    }
+}
+
+/// Gives one reply to all requests, and counts them.
+#[derive(Drop)]
+pub struct Counting {
+    reply: Reply,
+    pub asked: u64,
+    pub last: Option<Request>,
+}
+
+impl Counting {
+    pub fn new(reply: Reply) -> Counting {
+        Counting {
+            reply,
+            asked: 0,
+            last: None,
+        }
+    }
+}
+
+impl Responder for Counting {
+    ghost use Rattle.std.specs.Prelude.{◌≡◌, Some};
+
+    ghost answers = { λ _ _ request old reply new.
+        (reply ≡ old.reply) × (new.last ≡ Some request) };
+
+    fn ask(&mut self, _moment: Moment, words: &Words<'_>) -> Reply {
+        self.asked = self.asked.saturating_add(1);
+        self.last = Some(words.request);
+        self.reply
+    }
+}

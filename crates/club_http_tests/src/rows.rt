@@ -1,0 +1,52 @@
+//! What the rows of the tests are made of, and what a row expects.
+
+use club_values::{Day, Hour, Moment, Name, Slot};
+use std::fmt::Debug;
+use std::process::Abort;
+
+/// Ends the test of this row unless the values are equal.
+pub(crate) fn expect_row<T: PartialEq + Debug>(
+    rt: &impl Abort,
+    returned: &T,
+    want: &T,
+    row: &impl Debug,
+) {
+    assert_eq!(rt; returned, want, "{row:?}");
+}
+
+/// Some text, so many times.
+pub(crate) type Piece = (usize, &'static str);
+
+fn append(rt: &impl Abort, text: &mut String, piece: &Piece) {
+    for _ in 0..piece.0 {
+        text.push_str(piece.1).expect(rt, "memory");
+    }
+}
+
+/// The pieces, one behind the other.
+pub(crate) fn joined(rt: &(impl Abort + AllocGlobal), pieces: &[Piece]) -> String {
+    let mut text = String::new(rt.alloc());
+    for piece in pieces {
+        append(rt, &mut text, piece);
+    }
+    text
+}
+
+pub(crate) fn name(rt: &impl Abort, text: &[u8]) -> Name {
+    Name::read(text).expect(rt, "a name")
+}
+
+pub(crate) const NOON: &str = "2026-04-20T12:00";
+
+pub(crate) fn moment(rt: &impl Abort, text: &str) -> Moment {
+    Moment::read(text.as_bytes()).expect(rt, "a moment")
+}
+
+/// `court-1` on 2026-05-01.
+pub(crate) fn slot_at(rt: &impl Abort, hour: u8) -> Slot {
+    Slot {
+        facility: name(rt, b"court-1"),
+        day: Day::read(b"2026-05-01").expect(rt, "a day"),
+        hour: Hour::from_number(hour).expect(rt, "an hour"),
+    }
+}

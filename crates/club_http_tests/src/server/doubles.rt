@@ -1,0 +1,375 @@
+//! Connections, moments, clocks and a responder over memory.
+
+ghost use Rattle.std.specs.Prelude.{◌≤◌, length};
+
+use club_core::{Refusal, Reply};
+use club_http::{AnswerFault, Face, ReadInlet, Responder, WriteOutlet, answer};
+use club_values::Moment;
+use desk_server::{Connection, Connections, IdleHook, Moments, TimedRead, TimedWrite};
+use http_request::Words;
+use std::cell::Cell;
+use std::io::{self, ErrorKind, Read, Write};
+use std::time::{Clock, Duration};
+
+/// What comes of waiting for a connection.
+#[derive(Clone, Copy, Drop)]
+pub enum Wire<'a> {
+    /// None: `accept` failed.
+    Absent,
+    /// One whose reader fails.
+    Broken,
+    /// One that sends these bytes, and then ends.
+    Whole(&'a [u8]),
+    /// One that sends these bytes, and whose writer fails.
+    Deaf(&'a [u8]),
+}
+
+/// Gives what is left of what a connection sends, or fails.
+#[derive(Drop)]
+struct Sent<'a>(Option<&'a [u8]>);
+
+impl Read for Sent<'_> {
+    fn read(&mut self, room: &mut [u8]) -> io::Result<usize> {
+        match &mut self.0 {
+            Some(left) => left.read(room),
+            None => Err(io::Error::from(ErrorKind::ConnectionReset)),
+        }
+    }
+}
+
+/// Takes what is written, or fails at each write.
+#[derive(Drop)]
+pub struct Taken {
+    pub fails: bool,
+}
+
+impl Write for Taken {
+    fn write(&mut self, bytes: &[u8]) -> io::Result<usize> {
+        if self.fails {
+            return Err(io::Error::from(ErrorKind::BrokenPipe));
+        }
+        Ok(bytes.len())
+    }
+
+    fn flush(&mut self) -> io::Result<()> {
+        Ok(())
+    }
+}
+
+impl Wire<'_> {
+    fn reader(&self) -> Sent<'_> {
+        match self {
+            Wire::Whole(bytes) | Wire::Deaf(bytes) => Sent(Some(bytes)),
+            _ => Sent(None),
+        }
+    }
+
+    fn writer(&self) -> Taken {
+        let fails = matches!(self, Wire::Deaf(_));
+        Taken { fails }
+    }
+}
+
+impl Connection for Wire<'_> {
+    ghost ends = { λ _ _. Unit {0} };
+
+    fn exchange<D: Responder>(
+        &mut self,
+        face: &mut Face,
+        desk: &mut D,
+        moment: Moment,
+    ) -> Result<Reply, AnswerFault> {
+        let mut reader = ReadInlet::new(self.reader());
+        let mut writer = WriteOutlet::new(self.writer());
+        answer(face, desk, moment, &mut reader, &mut writer)
+    }
+}
+
+/// Connections in turn.
+#[derive(Drop)]
+pub struct Script<'a> {
+    wires: &'a [Wire<'a>],
+    pub waited: u64,
+    failures: u64,
+}
+
+impl<'a> Script<'a> {
+    pub fn new(wires: &'a [Wire<'a>]) -> Script<'a> {
+        Script {
+            wires,
+            waited: 0,
+            failures: 0,
+        }
+    }
+}
+
+impl<'a> Connections for Script<'a> {
+    type Connection = Wire<'a>;
+
+    ghost waited = { λ script. script.waited };
+
+    ghost failures = { λ script. script.failures };
+
+    fn accept(&mut self) -> Option<Wire<'a>> {
+        let place = self.waited as usize;
+        self.waited = self.waited.saturating_add(1);
+        match self.wires.get(place) {
+            None | Some(Wire::Absent) => {
+                self.failures = self.failures.saturating_add(1);
+                None
+            }
+            Some(wire) => Some(*wire),
+        }
+    }
+}
+
+/// Gives a moment so many times, and then none.
+#[derive(Drop)]
+pub struct Countdown {
+    moment: Moment,
+    left: u32,
+}
+
+impl Countdown {
+    pub fn new(moment: Moment, left: u32) -> Countdown {
+        Countdown { moment, left }
+    }
+}
+
+impl Moments for Countdown {
+    ghost gives = { λ _ _ _. Unit {0} };
+
+    fn now(&mut self) -> Option<Moment> {
+        if self.left == 0 {
+            return None;
+        }
+        self.left -= 1;
+        Some(self.moment)
+    }
+}
+
+/// Shows one time, counted from the beginning of 1970, or can't be read.
+#[derive(Drop)]
+pub struct Stopped(pub Option<Duration>);
+
+impl Clock for Stopped {
+    fn monotonic(&self) -> io::Result<Duration> {
+        self.since_1970()
+    }
+
+    fn since_1970(&self) -> io::Result<Duration> {
+        self.0.ok_or(io::Error::from(ErrorKind::Unsupported))
+    }
+}
+
+/// Shows so many microseconds more each time.
+#[derive(Drop)]
+pub struct Ticking {
+    shown: Cell<u64>,
+    step: u64,
+}
+
+impl Ticking {
+    /// Shows these microseconds, and one step more, at first.
+    pub fn new(from: u64, step: u64) -> Ticking {
+        Ticking {
+            shown: Cell::new(from),
+            step,
+        }
+    }
+
+    fn tick(&self) -> Duration {
+        let now = self.shown.get().saturating_add(self.step);
+        self.shown.set(now);
+        Duration::from_micros(now)
+    }
+}
+
+impl Clock for Ticking {
+    fn monotonic(&self) -> io::Result<Duration> {
+        Ok(self.tick())
+    }
+
+    fn since_1970(&self) -> io::Result<Duration> {
+        Ok(self.tick())
+    }
+}
+
+/// A clock that advances by milliseconds while the server waits for a client, and while it sleeps.
+/// It can be read so many times. It counts how often clients were waited for.
+#[derive(Drop)]
+pub struct Running {
+    shown: Cell<u64>,
+    readable: Cell<u64>,
+    reads: Cell<u64>,
+    writes: Cell<u64>,
+}
+
+impl Running {
+    pub fn new(readable: u64) -> Running {
+        Running {
+            shown: Cell::new(0),
+            readable: Cell::new(readable),
+            reads: Cell::new(0),
+            writes: Cell::new(0),
+        }
+    }
+
+    /// The milliseconds that have passed.
+    pub fn passed(&self) -> u64 {
+        self.shown.get()
+    }
+
+    /// How often a client was read.
+    pub fn reads(&self) -> u64 {
+        self.reads.get()
+    }
+
+    /// How often a client was written to.
+    pub fn writes(&self) -> u64 {
+        self.writes.get()
+    }
+
+    // Waits so long, or until the limit, and returns whether that was long enough.
+    fn waits(&self, pause: u64, limit: Duration) -> bool {
+        let most = u64::try_from(limit.as_millis()).unwrap_or(u64::MAX);
+        let shown = self.passed().saturating_add(pause.min(most));
+        self.shown.set(shown);
+        pause <= most
+    }
+}
+
+impl Clock for Running {
+    fn monotonic(&self) -> io::Result<Duration> {
+        let readable = self.readable.get();
+        self.readable.set(readable.saturating_sub(1));
+        if readable == 0 {
+            return Err(io::Error::from(ErrorKind::Unsupported));
+        }
+        Ok(Duration::from_millis(self.passed()))
+    }
+
+    fn since_1970(&self) -> io::Result<Duration> {
+        self.monotonic()
+    }
+
+    fn sleep(&self, duration: Duration) {
+        let _ = self.waits(u64::MAX, duration);
+    }
+}
+
+/// A client that sends its bytes, and takes those of its reply, one after the other, each after a
+/// pause; its first may be there already. It ends after the last.
+#[derive(Drop)]
+pub struct Slow<'a> {
+    clock: &'a Running,
+    pause: u64,
+    bytes: &'a [u8],
+    pub ready: bool,
+}
+
+impl<'a> Slow<'a> {
+    /// A client with these bytes, and so many milliseconds before each.
+    pub fn new(clock: &'a Running, pause: u64, bytes: &'a [u8]) -> Slow<'a> {
+        Slow {
+            clock,
+            pause,
+            bytes,
+            ready: false,
+        }
+    }
+
+    // Sends its next byte, if there is one.
+    fn send(&mut self, room: &mut [u8]) -> usize
+        ensures { result ≤ length room.new }
+    {
+        match (self.bytes.split_first(), room.first_mut()) {
+            (Some((byte, rest)), Some(place)) => {
+                *place = *byte;
+                self.bytes = rest;
+                1
+            }
+            _ => 0,
+        }
+    }
+}
+
+impl TimedRead for Slow<'_> {
+    ghost use Rattle.std.specs.Prelude.{None};
+
+    ghost to_come = { λ _. None };
+
+    ghost reads = { λ _ _ _ _. Unit {0} };
+
+    fn read_within(&mut self, limit: Duration, room: &mut [u8]) -> Option<usize> {
+        self.clock.reads.set(self.clock.reads().saturating_add(1));
+        if self.bytes.is_empty() || self.clock.waits(self.pause, limit) {
+            Some(self.send(room))
+        } else {
+            None
+        }
+    }
+
+    fn read_ready(&mut self, room: &mut [u8]) -> Option<usize> {
+        if self.ready {
+            Some(self.send(room))
+        } else {
+            None
+        }
+    }
+}
+
+impl TimedWrite for Slow<'_> {
+    ghost use Rattle.std.specs.Prelude.{None};
+
+    ghost taken = { λ _. None };
+
+    ghost writes = { λ _ _ _ _. Unit {0} };
+
+    fn write_within(&mut self, limit: Duration, bytes: &[u8]) -> Option<usize> {
+        self.clock.writes.set(self.clock.writes().saturating_add(1));
+        if self.clock.waits(self.pause, limit) {
+            Some(bytes.len().min(1))
+        } else {
+            None
+        }
+    }
+}
+
+/// Answers all requests as out of memory, and counts those at its moment, and the calls of its
+/// hook.
+#[derive(Drop)]
+pub struct Noting {
+    moment: Moment,
+    pub asked: u64,
+    pub idled: u64,
+}
+
+impl Noting {
+    pub fn new(moment: Moment) -> Noting {
+        Noting {
+            moment,
+            asked: 0,
+            idled: 0,
+        }
+    }
+}
+
+impl Responder for Noting {
+    ghost answers = { λ _ _ _ _ _ _. Unit {0} };
+
+    fn ask(&mut self, moment: Moment, _words: &Words<'_>) -> Reply {
+        if moment == self.moment {
+            self.asked = self.asked.saturating_add(1);
+        }
+        Reply::Refused(Refusal::Unavailable)
+    }
+}
+
+impl IdleHook for Noting {
+    ghost idles = { λ _ _. Unit {0} };
+
+    fn on_idle(&mut self) {
+        self.idled = self.idled.saturating_add(1);
+    }
+}

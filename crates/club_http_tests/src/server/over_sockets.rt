@@ -1,0 +1,124 @@
+//! Servers and exchanges over sockets. No contract states which bytes a socket gives or takes, so
+//! only these tests refuse a listener that accepts nobody, and an exchange that reads nothing from
+//! its socket or writes nothing to it.
+
+use super::doubles::Noting;
+use super::{REPLY, REQUEST, noon, serves};
+use crate::expect::{expect_bytes, expect_eq};
+use crate::rows::{NOON, moment};
+use crate::sockets::{client_of, connected, expect_reply, listening};
+use club_http::Face;
+use desk_server::{Connection, Connections, Listening};
+use std::alloc::Global;
+use std::net::{Net, TcpListener, TcpStream};
+use std::process::Abort;
+use std::time::{Clock, Duration};
+
+/// The patience with a client of these tests.
+fn patience() -> Duration {
+    Duration::from_secs(10)
+}
+
+/// The next two connections of the listener are served, and one request is asked.
+fn serves_two(rt: &(impl Abort + Alloc<A = Global> + Clock), listener: &TcpListener) {
+    let mut connections = Listening::new(listener, rt, patience());
+    let served = serves(rt, &mut connections, 2, &mut noon(rt));
+    expect_eq(rt, &served, &(Ok(()), 1));
+}
+
+// Bound, connected, written, served and read, one after the other. The first client is gone by
+// then.
+#[test]
+fn serves_over_a_socket(rt: HostRuntime) {
+    let listener = listening(&rt);
+    drop(connected(&rt, &listener));
+    let mut client = client_of(&rt, &listener, REQUEST);
+    serves_two(&rt, &listener);
+    expect_reply(&rt, &mut client, REPLY);
+}
+
+#[test]
+fn accepts_a_client(rt: HostRuntime) {
+    let listener = listening(&rt);
+    let _client = connected(&rt, &listener);
+    let accepted = Listening::new(&listener, &rt, patience()).accept();
+    expect_eq(&rt, &accepted.is_some(), &true);
+}
+
+const BAD_REQUEST: &[u8] =
+    b"HTTP/1.1 400 Bad Request\r\nContent-Type: application/json\r\nContent-Length: 32\r\n\
+    Connection: close\r\n\r\n{\"fault\":1,\"text\":\"bad request\"}";
+
+/// A request, how many requests the desk is asked, and the reply.
+static EXCHANGES: [(&[u8], u64, &[u8]); 2] = [(REQUEST, 1, REPLY), (b"x\r\n\r\n", 0, BAD_REQUEST)];
+
+/// How many requests the desk is asked in an exchange of the listener's next connection.
+fn exchanged(rt: &(impl Abort + Clock), listener: &TcpListener, face: &mut Face) -> u64 {
+    let accepted = Listening::new(listener, rt, patience()).accept();
+    let mut connection = accepted.expect(rt, "a connection");
+    let noon = moment(rt, NOON);
+    let mut desk = Noting::new(noon);
+    let _ = connection.exchange(face, &mut desk, noon);
+    desk.asked
+}
+
+/// The next connection of the listener has its exchange, and the face keeps its request.
+fn exchanges(
+    rt: &(impl Abort + Alloc<A = Global> + Clock),
+    listener: &TcpListener,
+    request: &[u8],
+    asked: u64,
+) {
+    let mut face = Face::new(rt.alloc()).expect(rt, "a face");
+    expect_eq(rt, &exchanged(rt, listener, &mut face), &asked);
+    expect_bytes(rt, face.request(), request, "a request over a socket");
+}
+
+#[test]
+fn exchanges_over_a_socket(rt: HostRuntime) {
+    for (request, asked, reply) in &EXCHANGES {
+        let listener = listening(&rt);
+        let mut client = client_of(&rt, &listener, request);
+        exchanges(&rt, &listener, request, *asked);
+        expect_reply(&rt, &mut client, reply);
+    }
+}
+
+/// How many bytes a client sends behind its request.
+static BEHIND: [u16; 3] = [1, 1_000, 60_000];
+
+/// A client that sends so many bytes behind its request reads its whole reply, and then the end.
+fn replies_before(
+    rt: &(impl Abort + Alloc<A = Global> + Clock + Net<Listener = TcpListener, Stream = TcpStream>),
+    behind: u16,
+) {
+    let listener = listening(rt);
+    let mut sent = Vec::new(rt.alloc());
+    sent.extend_from_slice(REQUEST).expect(rt, "memory");
+    sent.resize(REQUEST.len() + usize::from(behind), b'x')
+        .expect(rt, "memory");
+    let mut client = client_of(rt, &listener, &sent);
+    let mut face = Face::new(rt.alloc()).expect(rt, "a face");
+    expect_eq(rt, &exchanged(rt, &listener, &mut face), &1);
+    expect_reply(rt, &mut client, REPLY);
+}
+
+// A socket that is closed with bytes unread resets the connection. So the client would read an
+// error here, behind its reply or in place of it.
+#[test]
+fn replies_before_bytes_behind_a_request(rt: HostRuntime) {
+    for behind in &BEHIND {
+        replies_before(&rt, *behind);
+    }
+}
+
+// By the machine's clock: a client that sends nothing, and one that sends no whole request.
+#[test]
+fn cuts_a_silent_client_off(rt: HostRuntime) {
+    let listener = listening(&rt);
+    let _silent = connected(&rt, &listener);
+    let _slow = client_of(&rt, &listener, b"GET /acc");
+    let mut connections = Listening::new(&listener, &rt, Duration::from_millis(50));
+    let served = serves(&rt, &mut connections, 2, &mut noon(&rt));
+    expect_eq(&rt, &served, &(Ok(()), 0));
+}

@@ -1,0 +1,44 @@
+//! Clients over sockets.
+
+use crate::expect::expect_bytes;
+use std::alloc::Global;
+use std::io::{Read, Write};
+use std::net::{Net, TcpListener, TcpStream};
+use std::process::Abort;
+
+pub(crate) fn listening(
+    rt: &(impl Abort + Net<Listener = TcpListener, Stream = TcpStream>),
+) -> TcpListener {
+    TcpListener::bind(rt, "127.0.0.1:0").expect(rt, "a listener")
+}
+
+/// A client that is connected.
+pub(crate) fn connected(
+    rt: &(impl Abort + Net<Listener = TcpListener, Stream = TcpStream>),
+    listener: &TcpListener,
+) -> TcpStream {
+    let address = listener.local_addr().expect(rt, "an address");
+    TcpStream::connect(rt, address).expect(rt, "a client")
+}
+
+/// A client that has sent these bytes.
+pub(crate) fn client_of(
+    rt: &(impl Abort + Net<Listener = TcpListener, Stream = TcpStream>),
+    listener: &TcpListener,
+    bytes: &[u8],
+) -> TcpStream {
+    let mut client = connected(rt, listener);
+    client.write_all(bytes).expect(rt, "a request that is sent");
+    client
+}
+
+/// Ends the test unless the client gets this, and then the connection ends.
+pub(crate) fn expect_reply(
+    rt: &(impl Abort + Alloc<A = Global>),
+    client: &mut TcpStream,
+    want: &[u8],
+) {
+    let mut returned = Vec::new(rt.alloc());
+    client.read_to_end(&mut returned).expect(rt, "a reply");
+    expect_bytes(rt, &returned, want, "a request over a socket");
+}

@@ -1,0 +1,5 @@
+use Rattle.club_laws.proofs.FailureLemmas.{again_with_failures}
+use Rattle.club_laws.proofs.runs_with_failures.repeats_after_one_more.Goals as goal
+
+pub returns : goal.returns
+returns g c = again_with_failures

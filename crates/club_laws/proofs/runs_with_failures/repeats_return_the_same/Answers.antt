@@ -1,0 +1,5 @@
+use Rattle.club_laws.proofs.FailureLemmas.{repeat_with_failures}
+use Rattle.club_laws.proofs.runs_with_failures.repeats_return_the_same.Goals as goal
+
+pub returns : goal.returns
+returns g c = repeat_with_failures

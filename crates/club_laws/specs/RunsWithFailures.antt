@@ -1,0 +1,110 @@
+-- The laws over runs in which some events failed, as statements about the responses (ours). Failed events are left out.
+use Rattle.std.specs.Prelude.{◌≡◌, ℕ, IsFalse, List, ◌∷◌, ◌++◌, length, map, All, Some}
+use Rattle.club_values.specs.declared.slot.Slot.{Slot}
+use Rattle.club_rows.specs.declared.member.Member.{Member}
+use Rattle.club_core.specs.declared.reply.Reply.{Reply}
+use Rattle.club_core.specs.Basis.{key_of}
+use Rattle.club_core.specs.Club.{Club, empty_club, member_named, IsSound}
+use Rattle.club_core.specs.Pass.{Words}
+use Rattle.club_core.specs.declared.event.EventReply.TheVariants.{Replied}
+use Rattle.club_core.specs.Run.{Event, Asked, step, replies_of, club_after}
+use Rattle.club_core.specs.Solo.{own_events, part_of, solo_replies}
+use Rattle.club_laws.specs.Conservation.{IsConserved, HasPlaces}
+use Rattle.club_core.specs.Events.{IsEvent}
+use Rattle.club_laws.specs.Failed.{Response, ToMember, Presentation, has_failed, IsRun, answered_events, answers}
+use Rattle.club_core.specs.Acceptance.{IsAcceptedIn}
+use Rattle.club_laws.specs.Repeats.{IsBookedOrCancelled}
+use Rattle.club_laws.specs.SoloLaw.{replies_to}
+
+-- the club at the end is sound
+abbrev pub SoundWithFailures : Type 0 → Type 0
+SoundWithFailures O =
+    (presentation : Presentation O) (club last : Club) (events : List Event) (replies : List (Response O))
+    → IsSound club
+    → All IsEvent events
+    → IsRun presentation club events replies last
+    → IsSound last
+
+-- points are conserved
+abbrev pub ConservesWithFailures : Type 0 → Type 0
+ConservesWithFailures O =
+    (presentation : Presentation O) (last : Club) (events : List Event) (replies : List (Response O)) (name : List ℕ) (member : Member)
+    → All IsEvent events
+    → IsRun presentation empty_club events replies last
+    → member_named name last ≡ Some member
+    → let answered = answered_events presentation events replies in
+    IsConserved last answered (replies_of empty_club answered) member
+
+-- no slot is overbooked
+abbrev pub PlacesWithFailures : Type 0 → Type 0
+PlacesWithFailures O =
+    (presentation : Presentation O) (last : Club) (events : List Event) (replies : List (Response O)) (slot : Slot)
+    → All IsEvent events
+    → IsRun presentation empty_club events replies last
+    → HasPlaces slot last
+
+-- the history has the same booking or cancellation, under a pass of the same key, and this reply served it
+pub record WasReturned {O : Type 0} (history : List Event) (replies : List (Response O)) (words : Words) (reply : Reply) : Type 0 where
+  pub front : List Event
+  pub before : List (Response O)
+  pub first : Words
+  pub moment : ℕ
+  pub rest : List Event
+  pub since : List (Response O)
+  pub place : history ≡ front ++ Asked first moment ∷ rest
+  pub returned : replies ≡ before ++ ToMember reply ∷ since
+  pub beside : length before ≡ length front
+  pub served : IsBookedOrCancelled reply
+  pub same_key : key_of words.pass ≡ key_of first.pass
+  pub same_request : words.request ≡ first.request
+
+-- a later repeat gets the same response, unless it fails; without it, all other responses and the club at the end are the same
+abbrev pub RepeatsWithFailures : Type 0 → Type 0
+RepeatsWithFailures O =
+    (presentation : Presentation O) (club last : Club) (history rest : List Event) (before since : List (Response O))
+    (words : Words) (moment : ℕ) (returned : Response O) (reply : Reply)
+    → length before ≡ length history
+    → IsRun presentation club (history ++ Asked words moment ∷ rest) (before ++ returned ∷ since) last
+    → WasReturned history before words reply
+    → IsAcceptedIn (club_after club (answered_events presentation history before)) words moment
+    → (IsFalse (has_failed presentation (Asked words moment) returned) → returned ≡ ToMember reply)
+    × IsRun presentation club (history ++ rest) (before ++ since) last
+
+-- in this club an accepted repeat of each served request gets the same reply, and changes nothing
+abbrev pub RepeatsServedReplies : {O : Type 0} → Club → List Event → List (Response O) → Type 0
+RepeatsServedReplies club events replies =
+    (words : Words) (moment : ℕ) (reply : Reply)
+    → WasReturned events replies words reply
+    → IsAcceptedIn club words moment
+    → step club (Asked words moment) ≡ record { reply = Replied reply; club = club }
+
+-- this holds in the club at the end of the run, and after any one further event: such as one that failed, but whose change is
+-- found after a crash
+abbrev pub RepeatsAfterOneMore : Type 0 → Type 0
+RepeatsAfterOneMore O =
+    (presentation : Presentation O) (club last : Club) (events : List Event) (replies : List (Response O))
+    → IsRun presentation club events replies last
+    → RepeatsServedReplies last events replies × ((event : Event) → RepeatsServedReplies (step last event).club events replies)
+
+-- the replies to a member's requests follow from the member's part and own events alone
+abbrev pub SoloLawWithFailures : Type 0 → Type 0
+SoloLawWithFailures O =
+    (presentation : Presentation O) (name : List ℕ) (club last : Club) (events : List Event) (replies : List (Response O))
+    → IsSound club
+    → IsRun presentation club events replies last
+    → let answered = answered_events presentation events replies in
+    replies_to name club answered (answers presentation events replies)
+    ≡ map ToMember (solo_replies (part_of name club) (own_events name club answered))
+
+-- so they are the same in two clubs in which the member has one part, and over two lists with the same events of the member's own
+abbrev pub SoloLawOfTwoWithFailures : Type 0 → Type 0
+SoloLawOfTwoWithFailures O =
+    (presentation : Presentation O) (name : List ℕ) (a b last end : Club) (events others : List Event) (replies returned : List (Response O))
+    → IsSound a
+    → IsSound b
+    → IsRun presentation a events replies last
+    → IsRun presentation b others returned end
+    → part_of name a ≡ part_of name b
+    → own_events name a (answered_events presentation events replies) ≡ own_events name b (answered_events presentation others returned)
+    → replies_to name a (answered_events presentation events replies) (answers presentation events replies)
+    ≡ replies_to name b (answered_events presentation others returned) (answers presentation others returned)

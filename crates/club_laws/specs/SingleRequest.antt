@@ -1,0 +1,70 @@
+-- Laws of a single request: what its reply depends on, and when it is served (ours).
+use Rattle.std.specs.Prelude.{◌≡◌, ℕ, List, ◌++◌, Option, Some, None, Result, Ok, Err}
+use Rattle.pass_caveats.specs.declared.caveat.Caveat.{Caveat}
+use Rattle.club_rows.specs.declared.key.Key.{Key}
+use Rattle.club_core.specs.declared.form_fault.FormFault.{FormFault}
+use Rattle.club_core.specs.declared.refusal.Refusal.{Refusal}
+use Rattle.club_core.specs.declared.refusal.Refusal.TheVariants.{NotVerified}
+use Rattle.club_core.specs.declared.request.Request.{Request}
+use Rattle.club_core.specs.Acceptance.{IsServed, IsEntitled}
+use Rattle.club_core.specs.Answer.{form_refusal, verdict_in}
+use Rattle.club_core.specs.Basis.{basis_of}
+use Rattle.club_core.specs.Club.{Club, key_named}
+use Rattle.club_core.specs.Pass.{Pass, Words, IsSignedUnder}
+use Rattle.club_core.specs.Run.{Asked, step}
+use Rattle.club_core.specs.Verdict.{refusal_verdict}
+
+-- if two clubs have the same basis for the same words, they give the same verdict at the same moment
+abbrev pub DependsOnTheBasisAlone : Type 0
+DependsOnTheBasisAlone =
+    (words : Words) (moment : ℕ) (a b : Club) → basis_of a words ≡ basis_of b words → verdict_in a words moment ≡ verdict_in b words moment
+
+-- the refusal without a basis: the fault of the text, or that the pass isn't verified
+abbrev pub blind_refusal : Result Pass FormFault → Refusal
+blind_refusal (Err fault) = form_refusal fault
+blind_refusal (Ok pass) = NotVerified
+
+-- without a basis the verdict is this refusal, whatever else the club holds
+abbrev pub RefusesWithoutABasis : Type 0
+RefusesWithoutABasis =
+    (words : Words) (moment : ℕ) (club : Club) → basis_of club words ≡ None → verdict_in club words moment ≡ refusal_verdict (blind_refusal words.pass)
+
+-- a pass that names a key of the club, but isn't signed under a root of its row that is good at the moment, is refused as not verified
+abbrev pub RefusesTheUnsigned : Type 0
+RefusesTheUnsigned =
+    (words : Words) (moment : ℕ) (club : Club) (pass : Pass) (key : Key)
+    → words.pass ≡ Ok pass
+    → pass.key ≡ Some key.name
+    → key_named key.name club ≡ Some key
+    → ¬ IsSignedUnder pass key moment
+    → verdict_in club words moment ≡ refusal_verdict NotVerified
+
+-- a request is served only if the pass entitles to it, a repeat too
+abbrev pub ServesOnlyTheEntitled : Type 0
+ServesOnlyTheEntitled =
+    (words : Words) (moment : ℕ) (club : Club) → IsServed (verdict_in club words moment).reply → IsEntitled club words moment
+
+-- words with this pass
+abbrev pub words_with : Pass → Request → Words
+words_with pass request = record { pass = Ok pass; request = request }
+
+-- of two passes of one key, the wide one signed under a root of the key's row that is good at the moment, and the narrow one with
+-- more caveats: what is served under the narrow one is served under the wide one, with the same reply and the same change
+abbrev pub MoreCaveatsNeverOpenMore : Type 0
+MoreCaveatsNeverOpenMore =
+    (wide narrow : Pass) (more : List (Option Caveat)) (key : Key) (request : Request) (moment : ℕ) (club : Club)
+    → wide.key ≡ Some key.name
+    → narrow.key ≡ Some key.name
+    → narrow.caveats ≡ wide.caveats ++ more
+    → key_named key.name club ≡ Some key
+    → IsSignedUnder wide key moment
+    → IsServed (verdict_in club (words_with narrow request) moment).reply
+    → verdict_in club (words_with wide request) moment ≡ verdict_in club (words_with narrow request) moment
+
+-- words with the same pass and the same request get the same reply and leave the same club, in whatever form their texts were
+abbrev pub AnswersFormsAlike : Type 0
+AnswersFormsAlike =
+    (club : Club) (a b : Words) (moment : ℕ)
+    → a.pass ≡ b.pass
+    → a.request ≡ b.request
+    → step club (Asked a moment) ≡ step club (Asked b moment)

@@ -1,0 +1,49 @@
+//! The laws over runs in which some events failed, as statements about the responses. `O` is the
+//! type of a desk's answers to the office.
+
+ghost use Rattle.club_laws.specs.RunsWithFailures.{
+  ConservesWithFailures,
+  PlacesWithFailures,
+  SoloLawWithFailures,
+  SoloLawOfTwoWithFailures,
+  SoundWithFailures,
+  RepeatsAfterOneMore,
+  RepeatsWithFailures,
+};
+
+/// A run from a sound club ends in a sound club.
+pub fn keeps_sound<O>()
+    ensures { SoundWithFailures O }
+{}
+
+/// Points are neither made nor lost.
+pub fn conserves_points<O>()
+    ensures { ConservesWithFailures O }
+{}
+
+/// A slot has a place for each person who booked it.
+pub fn never_overbooks<O>()
+    ensures { PlacesWithFailures O }
+{}
+
+/// A repeat of a served booking or cancellation gets the first response, and may be left out.
+pub fn repeats_return_the_same<O>()
+    ensures { RepeatsWithFailures O }
+{}
+
+/// A repeat of a served request gets the same reply in the club at the end of the run, and in each
+/// club that one more event would leave.
+pub fn repeats_after_one_more<O>()
+    ensures { RepeatsAfterOneMore O }
+{}
+
+/// The replies to a member's requests follow from the member's part and own events alone.
+pub fn solo_law<O>()
+    ensures { SoloLawWithFailures O }
+{}
+
+/// If two clubs hold the same part of a member, and two lists the same events of its own, the
+/// member gets the same replies.
+pub fn solo_law_of_two<O>()
+    ensures { SoloLawOfTwoWithFailures O }
+{}

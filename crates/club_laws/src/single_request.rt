@@ -1,0 +1,62 @@
+//! Laws of a single request: what its reply depends on, and when it is served.
+
+ghost use Rattle.club_laws.specs.SingleRequest.{
+  AnswersFormsAlike,
+  DependsOnTheBasisAlone,
+  MoreCaveatsNeverOpenMore,
+  RefusesTheUnsigned,
+  RefusesWithoutABasis,
+  ServesOnlyTheEntitled,
+};
+ghost use Rattle.club_laws.specs.Revoked.{ServesNoRevokedKey};
+
+use club_core::laws::tests_the_signature;
+use pass_caveats::laws::tests_the_set;
+
+/// If two clubs have the same basis for a request, they give the same reply at the same moment.
+pub fn depends_on_the_basis_alone()
+    ensures { DependsOnTheBasisAlone }
+{}
+
+/// Without a basis the reply is one fixed refusal, whatever else the club holds.
+pub fn refuses_without_a_basis()
+    ensures { RefusesWithoutABasis }
+{}
+
+/// A pass that isn't signed under a root of its key that is good at the moment gets the reply of a
+/// pass that names no key.
+pub fn refuses_the_unsigned()
+    ensures { RefusesTheUnsigned }
+{
+    tests_the_signature();
+}
+
+/// A request is served only if the pass names a key of the club that isn't revoked, is signed
+/// under a root of its row that is good at the moment, and each caveat allows the request.
+pub fn serves_only_the_entitled()
+    ensures { ServesOnlyTheEntitled }
+{
+    tests_the_set();
+    tests_the_signature();
+}
+
+/// Once a key was revoked, no request under it is served, in any run.
+pub fn serves_no_revoked_key()
+    ensures { ServesNoRevokedKey }
+{
+    tests_the_set();
+    tests_the_signature();
+}
+
+/// If a request is served under a pass with added caveats, the pass without them gets the same
+/// reply.
+pub fn more_caveats_never_open_more()
+    ensures { MoreCaveatsNeverOpenMore }
+{
+    tests_the_signature();
+}
+
+/// The form of a pass's text changes neither the reply nor the club.
+pub fn answers_forms_alike()
+    ensures { AnswersFormsAlike }
+{}

@@ -1,7 +1,0 @@
-use Rattle.std.proofs.Common.{◌≡◌}
-use Rattle.club_core.specs.After as after
-use Rattle.club_plain.proofs.EditLemmas.{edited}
-use Rattle.club_plain.proofs.edits.revoke.Given as goal
-
-abbrev pub invariant-loop-key : goal.invariant-loop-key
-invariant-loop-key l = l.keys ≡ edited (after.revoked l.name) l.key-index l.initial.keys

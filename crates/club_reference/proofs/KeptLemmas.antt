@@ -1,0 +1,260 @@
+-- Each step keeps a club's numbers within their widths.
+use Rattle.std.proofs.Common.{◌≡◌, ℕ, ◌+◌, ◌≤◌, Bool, true, false, cond, List, [], ◌∷◌, refl, arith, sym, ap, subst}
+use Rattle.std.specs.Prelude.{Option, Some, None, Result, Ok, Err, sum_by, option_map, option_and_then, nat_lt, nat_le, ◌&&◌, ◌==◌, not}
+use Rattle.std.specs.Str.{bytes_eq}
+use Rattle.std.proofs.lemmas.Bool.{ltb-false}
+use Rattle.club_values.specs.declared.slot.Slot.{Slot}
+use Rattle.club_values.specs.Slot.{start_of}
+use Rattle.pass_caveats.specs.declared.fault.CaveatFault.{CaveatFault}
+use Rattle.pass_caveats.specs.declared.fault.CaveatFault.TheVariants.{NotUnderstood, Denied}
+use Rattle.pass_caveats.specs.CaveatOf.{first_fault_of}
+use Rattle.club_rows.specs.declared.member.Member.{Member}
+use Rattle.club_rows.specs.declared.facility.Facility.{Facility}
+use Rattle.club_rows.specs.declared.key.Key.{Key}
+use Rattle.club_rows.specs.declared.booking.Booking.{Booking}
+use Rattle.club_core.specs.declared.view.View.{View}
+use Rattle.club_core.specs.declared.reply.Reply.{Reply}
+use Rattle.club_core.specs.declared.reply.Reply.TheVariants.{Cancelled, Refused}
+use Rattle.club_core.specs.declared.verdict.Verdict.{Verdict}
+use Rattle.club_core.specs.declared.change.Change.{Change}
+use Rattle.club_core.specs.declared.change.Change.TheVariants.{InsertBooking, MarkCancelled}
+use Rattle.club_core.specs.declared.refusal.Refusal.TheVariants as refusals
+use Rattle.club_core.specs.declared.request.Request.{Request}
+use Rattle.club_core.specs.declared.request.Request.TheVariants as asked
+use Rattle.club_core.specs.Lines.{line_if, first_of}
+use Rattle.club_rows.specs.Booking.{same_slot, refund_at}
+use Rattle.club_rows.specs.Facility.{charge_of, is_bookable}
+use Rattle.club_core.specs.declared.form_fault.FormFault.{FormFault}
+use Rattle.club_core.specs.Pass.{Pass, Words, is_signed_under}
+use Rattle.club_core.specs.Club.{Club, member_named, facility_named, key_named, is_key_of, bookings_of}
+use Rattle.club_core.specs.Sums.{taken_in, cost_of, is_under, spent_under, balance_of}
+use Rattle.club_core.specs.Verdict.{reply_only, refusal_verdict, booked_now, booked_before, cancelled_now, cancelled_before, new_booking, new_verdict}
+use Rattle.club_core.specs.Verdict.{repeat_booking_verdict}
+use Rattle.club_core.specs.Verdict.{cancel_recorded_verdict, shown_at, unknown_verdict, recorded_or, verdict_of}
+use Rattle.club_core.specs.Basis.{SlotState, Basis, state_of, view_of, basis_under, basis_of, key_of}
+use Rattle.club_core.specs.Request.{request_slot}
+use Rattle.club_core.specs.declared.slot_use.SlotUse.{SlotUse}
+use Rattle.club_core.specs.Solo.{with_others, solo_verdict}
+use Rattle.club_core.specs.Answer.{answer_to, answer_by_basis, ask_of, after_caveats}
+use Rattle.club_core.specs.After.{after}
+use Rattle.club_reference.specs.Widths.{FitsWidths}
+use Rattle.club_reference.proofs.SumLemmas.{total, total_is, total_le}
+use Rattle.club_reference.proofs.NameLemmas.{bytes_eq_refl, bytes_eq_true, found_passes, found_holds, found_kept}
+use Rattle.club_reference.proofs.WidthLemmas.{fits_insert_booking, fits_mark_cancelled}
+
+-- the change of a verdict keeps the numbers within their widths
+pub record Keeps (club : Club) (verdict : Verdict) : Type 0 where
+  pub kept : (change : Change) → verdict.change ≡ Some change → FitsWidths (after change club)
+
+keeps_reply_only : (club : Club) (reply : Reply) → Keeps club (reply_only reply)
+keeps_reply_only club reply = record { kept = λ change e. cc }
+
+keep : (club : Club) (fits : Bool) (x y : Verdict) → Keeps club x → (fits ≡ false → Keeps club y) → Keeps club (cond fits x y)
+keep club true x y h k = h
+keep club false x y h k = k refl
+
+keeps_change : (club : Club) (reply : Reply) (change : Change) → FitsWidths (after change club) → Keeps club (record { reply = reply; change = Some change })
+keeps_change club reply change h = record { kept = λ other e. let same : change ≡ other = cc in subst (λ (c : Change). FitsWidths (after c club)) same h }
+
+-- a key has spent no more than its member
+part_le : (a b : Bool) (n : ℕ) → (a ≡ true → b ≡ true) → cond a n 0 ≤ cond b n 0
+part_le true b n h = rw (h refl) (omega arith)
+part_le false b n h = omega arith
+
+spent_le : (club : Club) (name : List ℕ) (key : Key) (member : Member) → key_named name club ≡ Some key → member_named key.member club ≡ Some member
+    → spent_under key.name club.bookings ≤ sum_by cost_of (bookings_of member.name club)
+spent_le club name key member found owner =
+    let same : member.name ≡ key.member = bytes_eq_true member.name key.member
+    (found_passes (λ (m : Member). bytes_eq m.name key.member) club.members member owner) in
+    let held : is_key_of member.name club key.name ≡ true =
+    found_kept (λ (k : Key). bytes_eq k.name name) (λ (k : Key). bytes_eq k.member member.name) (λ (k : Key).
+    bytes_eq k.name key.name) club.keys key found (rw same (bytes_eq_refl key.member)) (bytes_eq_refl key.name) in
+    let le : total cost_of (is_under key.name) club.bookings ≤ total cost_of (λ (b : Booking). is_key_of member.name club b.key) club.bookings =
+    total_le cost_of (is_under key.name) (λ (b : Booking). is_key_of member.name club b.key) club.bookings (λ b.
+    part_le (is_under key.name b) (is_key_of member.name club b.key) (cost_of b) (λ e.
+    subst (λ k. is_key_of member.name club k ≡ true) (sym (bytes_eq_true b.key key.name e)) held)) in
+    rw (total_is cost_of (is_under key.name) club.bookings, total_is cost_of (λ (b : Booking). is_key_of member.name club b.key) club.bookings) le
+
+-- a booking that has place and points
+fits_booked : (club : Club) (name : List ℕ) (key : Key) (member : Member) (facility : Facility) (booking : Booking) → FitsWidths club
+    → key_named name club ≡ Some key → member_named key.member club ≡ Some member → facility_named booking.slot.facility club ≡ Some facility
+    → booking.key ≡ key.name → booking.refund ≡ 0 → taken_in booking.slot club.bookings + booking.guests + 1 ≤ facility.places
+    → booking.charge ≤ balance_of member (bookings_of member.name club) → FitsWidths (after (InsertBooking booking) club)
+fits_booked club name key member facility booking h found owner place under none room points =
+    let places : facility.places ≤ 50 = found_holds (λ (f : Facility). f.places ≤ 50) (λ (f : Facility).
+    bytes_eq f.name booking.slot.facility) club.facilities facility h.places place in
+    let top : member.credited ≤ 999_999_999 = found_holds (λ (m : Member). m.credited ≤ 999_999_999) (λ (m : Member).
+    bytes_eq m.name key.member) club.members member h.credited owner in
+    let le : spent_under booking.key club.bookings ≤ sum_by cost_of (bookings_of member.name club) = rw under (spent_le club name key member found owner) in
+    let most : spent_under booking.key club.bookings ≤ 999_999_999 = h.spent booking.key in
+    fits_insert_booking club booking h (omega arith) (omega arith) (λ _. none)
+
+-- a new booking
+keeps_new : (club : Club) (name : List ℕ) (key : Key) (member : Member) (view : View) (slot : Slot) (number guests moment : ℕ) (facility : Option Facility)
+    → FitsWidths club → key_named name club ≡ Some key → member_named key.member club ≡ Some member → facility_named slot.facility club ≡ facility
+    → view.key ≡ key → taken_in slot club.bookings ≤ view.taken → view.balance ≡ balance_of member (bookings_of member.name club)
+    → Keeps club (new_verdict view slot number guests moment facility)
+keeps_new club name key member view slot number guests moment None h found owner place same taken balance = keeps_reply_only club _
+keeps_new club name key member view slot number guests moment (Some facility) h found owner place same taken balance =
+    let booking = new_booking view slot number guests facility in
+    keep club (not (is_bookable facility slot moment)) (refusal_verdict refusals.NotBookable) _ (keeps_reply_only club _) (λ bookable.
+    keep club view.closed (refusal_verdict refusals.SlotClosed) _ (keeps_reply_only club _) (λ open_slot.
+    keep club (nat_lt facility.places (view.taken + guests + 1)) (refusal_verdict refusals.NoPlaces) _ (keeps_reply_only club _) (λ has_room.
+    keep club (nat_le view.member.quota view.open_count) (refusal_verdict refusals.QuotaReached) _ (keeps_reply_only club _) (λ quota.
+    keep club (nat_lt view.balance (charge_of facility guests)) (refusal_verdict refusals.BalanceTooLow) (booked_now booking) (keeps_reply_only club _)
+    (λ has_points.
+    let full : view.taken + guests + 1 ≤ facility.places = ltb-false facility.places (view.taken + guests + 1) has_room in
+    let room : taken_in slot club.bookings + guests + 1 ≤ facility.places = omega arith in
+    let points : charge_of facility guests ≤ balance_of member (bookings_of member.name club) =
+    rw (← balance) (ltb-false view.balance (charge_of facility guests) has_points) in
+    let under : booking.key ≡ key.name = ap (λ (k : Key). k.name) same in
+    keeps_change club _ (InsertBooking booking) (fits_booked club name key member facility booking h found owner place under refl room points))))))
+
+keeps_repeat : (club : Club) (booking : Booking) (slot : Slot) (guests : ℕ) → Keeps club (repeat_booking_verdict booking slot guests)
+keeps_repeat club booking slot guests =
+    keep club (same_slot booking.slot slot && booking.guests == guests) (booked_before booking) (refusal_verdict refusals.NumberUsed) (keeps_reply_only club _)
+    (λ e.
+    keeps_reply_only club _)
+
+-- a cancellation
+keeps_cancel : (club : Club) (booking : Booking) (slot : Slot) (moment : ℕ) → FitsWidths club → Keeps club (cancel_recorded_verdict booking slot moment)
+keeps_cancel club booking slot moment h =
+    let refund = refund_at booking moment in
+    let begun = line_if (nat_le (start_of booking.slot) moment) (refusal_verdict refusals.SlotHasBegun) in
+    let again = line_if booking.cancelled (cancelled_before booking) in
+    keep club (not (same_slot booking.slot slot)) (refusal_verdict refusals.NumberUsed) (first_of (again ∷ begun ∷ []) (cancelled_now booking refund))
+    (keeps_reply_only club (Refused refusals.NumberUsed)) (λ e.
+    keep club booking.cancelled (cancelled_before booking) (first_of (begun ∷ []) (cancelled_now booking refund))
+    (keeps_reply_only club (Cancelled booking.key booking.number booking.refund)) (λ f.
+    keep club (nat_le (start_of booking.slot) moment) (refusal_verdict refusals.SlotHasBegun) (cancelled_now booking refund)
+    (keeps_reply_only club (Refused refusals.SlotHasBegun)) (λ g.
+    keeps_change club (Cancelled booking.key booking.number refund) (MarkCancelled booking.key booking.number refund)
+    (fits_mark_cancelled club booking.key booking.number refund h))))
+
+keeps_unknown : (club : Club) (facility : Option Facility) → Keeps club (unknown_verdict facility)
+keeps_unknown club None = keeps_reply_only club _
+keeps_unknown club (Some facility) = keeps_reply_only club _
+
+keeps_shown : (club : Club) (view : View) (slot : Slot) (facility : Option Facility) → Keeps club (shown_at view slot facility)
+keeps_shown club view slot None = keeps_reply_only club _
+keeps_shown club view slot (Some facility) = keeps_reply_only club _
+
+keeps_recorded : (club : Club) (booking : Option Booking) (f : Booking → Verdict) (other : Verdict) → ((b : Booking) → Keeps club (f b)) → Keeps club other
+    → Keeps club (recorded_or booking f other)
+keeps_recorded club None f other h k = k
+keeps_recorded club (Some booking) f other h k = h booking
+
+-- the decision under a key, where the state of the slot has its facility and all that booked it
+abbrev basis_with : Club → Key → Member → SlotState → Basis
+basis_with club key member state = record { key = key; member = member; bookings = bookings_of member.name club; state = state }
+
+abbrev IsState : Club → Request → SlotState → Type 0
+IsState club request state =
+    (slot : Slot) → request_slot request ≡ Some slot → (facility_named slot.facility club ≡ state.facility) × (taken_in slot club.bookings ≤ state.held.taken)
+
+keeps_decision : (club : Club) (name : List ℕ) (key : Key) (member : Member) (state : SlotState) (request : Request) (moment : ℕ) → FitsWidths club
+    → key_named name club ≡ Some key → member_named key.member club ≡ Some member → IsState club request state
+    → Keeps club (verdict_of (view_of (basis_with club key member state) request moment) request moment)
+keeps_decision club name key member state (asked.View slot) moment h found owner at =
+    let view = view_of (basis_with club key member state) (asked.View slot) moment in
+    keeps_shown club view slot view.facility
+keeps_decision club name key member state (asked.Book slot number guests) moment h found owner at =
+    let view = view_of (basis_with club key member state) (asked.Book slot number guests) moment in
+    keeps_recorded club view.booking (λ b. repeat_booking_verdict b slot guests) (new_verdict view slot number guests moment view.facility) (λ b.
+    keeps_repeat club b slot guests)
+    (keeps_new club name key member view slot number guests moment view.facility h found owner (at slot refl).0 refl (at slot refl).1 refl)
+keeps_decision club name key member state (asked.Cancel slot number) moment h found owner at =
+    let view = view_of (basis_with club key member state) (asked.Cancel slot number) moment in
+    keeps_recorded club view.booking (λ b. cancel_recorded_verdict b slot moment) (unknown_verdict view.facility) (λ b.
+    keeps_cancel club b slot moment h) (keeps_unknown club view.facility)
+keeps_decision club name key member state asked.Account moment h found owner at = keeps_reply_only club _
+
+keeps_after_caveats : (club : Club) (fault : Option CaveatFault) (verdict : Verdict) → Keeps club verdict → Keeps club (after_caveats fault verdict)
+keeps_after_caveats club None verdict h = h
+keeps_after_caveats club (Some (NotUnderstood n)) verdict h = keeps_reply_only club _
+keeps_after_caveats club (Some (Denied n)) verdict h = keeps_reply_only club _
+
+-- the answer by the view of a basis
+abbrev answer_text : Result Pass FormFault → Request → ℕ → Option Basis → Verdict
+answer_text text request moment basis = answer_to text request moment (option_map (λ (b : Basis). view_of b request moment) basis)
+
+abbrev answer_by : Pass → Request → ℕ → Option Basis → Verdict
+answer_by pass request moment basis = answer_text (Ok pass) request moment basis
+
+keeps_accepted : (club : Club) (name : List ℕ) (pass : Pass) (request : Request) (moment : ℕ) (key : Key) (member : Member) (state : SlotState)
+    → FitsWidths club → key_named name club ≡ Some key → member_named key.member club ≡ Some member → IsState club request state
+    → Keeps club (answer_by pass request moment (Some (basis_with club key member state)))
+keeps_accepted club name pass request moment key member state h found owner at =
+    let view = view_of (basis_with club key member state) request moment in
+    keep club (not (is_signed_under pass key moment)) (refusal_verdict refusals.NotVerified) _ (keeps_reply_only club _) (λ signed.
+    keep club key.revoked (refusal_verdict refusals.KeyRevoked) _ (keeps_reply_only club _) (λ valid.
+    keeps_after_caveats club (first_fault_of pass.caveats (ask_of view request moment)) (verdict_of view request moment)
+    (keeps_decision club name key member state request moment h found owner at)))
+
+is_state : (club : Club) (request : Request) → IsState club request (state_of club (request_slot request))
+is_state club request = λ slot e.
+    let taken : taken_in slot club.bookings ≡ (state_of club (request_slot request)).held.taken = sym (ap (λ s. (state_of club s).held.taken) e) in
+    (sym (ap (λ s. (state_of club s).facility) e), omega arith)
+
+-- the answer by the basis, and by the basis with what others hold
+keeps_member : (club : Club) (name : List ℕ) (pass : Pass) (request : Request) (moment : ℕ) (key : Key) (member : Option Member) → FitsWidths club
+    → key_named name club ≡ Some key → member_named key.member club ≡ member
+    → Keeps club (answer_by pass request moment (option_map (λ (m : Member). basis_with club key m (state_of club (request_slot request))) member))
+keeps_member club name pass request moment key None h found owner = keeps_reply_only club _
+keeps_member club name pass request moment key (Some member) h found owner =
+    keeps_accepted club name pass request moment key member (state_of club (request_slot request)) h found owner (is_state club request)
+
+keeps_member_alone : (club : Club) (others : SlotUse) (name : List ℕ) (pass : Pass) (request : Request) (moment : ℕ) (key : Key) (member : Option Member)
+    → FitsWidths club → key_named name club ≡ Some key → member_named key.member club ≡ member
+    → Keeps club (answer_by pass request moment (option_map (with_others others)
+    (option_map (λ (m : Member). basis_with club key m (state_of club (request_slot request))) member)))
+keeps_member_alone club others name pass request moment key None h found owner = keeps_reply_only club _
+keeps_member_alone club others name pass request moment key (Some member) h found owner =
+    let state = state_of club (request_slot request) in
+    let seen : SlotState = record { facility = state.facility; held = record { taken = state.held.taken + others.taken; closed = others.closed } } in
+    keeps_accepted club name pass request moment key member seen h found owner (λ slot e.
+    let at = is_state club request slot e in
+    let more : taken_in slot club.bookings ≤ state.held.taken = at.1 in
+    (at.0, omega arith))
+
+abbrev key_in : Club → Option (List ℕ) → Option Key
+key_in club name = option_and_then (λ (n : List ℕ). key_named n club) name
+
+keeps_key : (club : Club) (name : List ℕ) (pass : Pass) (request : Request) (moment : ℕ) (key : Option Key) → FitsWidths club → key_named name club ≡ key
+    → Keeps club (answer_by pass request moment (option_and_then (basis_under club request) key))
+keeps_key club name pass request moment None h found = keeps_reply_only club _
+keeps_key club name pass request moment (Some key) h found = keeps_member club name pass request moment key (member_named key.member club) h found refl
+
+keeps_name : (club : Club) (name : Option (List ℕ)) (pass : Pass) (request : Request) (moment : ℕ) → FitsWidths club
+    → Keeps club (answer_by pass request moment (option_and_then (basis_under club request) (key_in club name)))
+keeps_name club None pass request moment h = keeps_reply_only club _
+keeps_name club (Some name) pass request moment h = keeps_key club name pass request moment (key_named name club) h refl
+
+keeps_text : (club : Club) (text : Result Pass FormFault) (request : Request) (moment : ℕ) → FitsWidths club
+    → Keeps club (answer_text text request moment (option_and_then (basis_under club request) (key_in club (key_of text))))
+keeps_text club (Err fault) request moment h = keeps_reply_only club _
+keeps_text club (Ok pass) request moment h = keeps_name club pass.key pass request moment h
+
+-- the answer to a request
+pub keeps_answer : (club : Club) (words : Words) (moment : ℕ) → FitsWidths club → Keeps club (answer_by_basis words moment (basis_of club words))
+keeps_answer club words moment h = keeps_text club words.pass words.request moment h
+
+keeps_key_alone : (club : Club) (others : SlotUse) (name : List ℕ) (pass : Pass) (request : Request) (moment : ℕ) (key : Option Key) → FitsWidths club
+    → key_named name club ≡ key → Keeps club (answer_by pass request moment (option_map (with_others others) (option_and_then (basis_under club request) key)))
+keeps_key_alone club others name pass request moment None h found = keeps_reply_only club _
+keeps_key_alone club others name pass request moment (Some key) h found =
+    keeps_member_alone club others name pass request moment key (member_named key.member club) h found refl
+
+keeps_name_alone : (club : Club) (others : SlotUse) (name : Option (List ℕ)) (pass : Pass) (request : Request) (moment : ℕ) → FitsWidths club
+    → Keeps club (answer_by pass request moment (option_map (with_others others) (option_and_then (basis_under club request) (key_in club name))))
+keeps_name_alone club others None pass request moment h = keeps_reply_only club _
+keeps_name_alone club others (Some name) pass request moment h = keeps_key_alone club others name pass request moment (key_named name club) h refl
+
+keeps_text_alone : (club : Club) (others : SlotUse) (text : Result Pass FormFault) (request : Request) (moment : ℕ) → FitsWidths club
+    → Keeps club (answer_text text request moment (option_map (with_others others) (option_and_then (basis_under club request) (key_in club (key_of text)))))
+keeps_text_alone club others (Err fault) request moment h = keeps_reply_only club _
+keeps_text_alone club others (Ok pass) request moment h = keeps_name_alone club others pass.key pass request moment h
+
+-- the answer to a request in a club that holds only one member's part
+pub keeps_solo : (club : Club) (words : Words) (moment : ℕ) (others : SlotUse) → FitsWidths club → Keeps club (solo_verdict club words moment others)
+keeps_solo club words moment others h = keeps_text_alone club others words.pass words.request moment h

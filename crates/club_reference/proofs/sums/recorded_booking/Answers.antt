@@ -1,0 +1,17 @@
+use Rattle.std.proofs.Common.{◌∙◌, ◌==◌, ◌&&◌, rules, tests}
+use Rattle.std.specs.Str.{bytes_eq}
+use Rattle.std.proofs.lemmas.Iterator.{YieldsList-from_slice}
+use Rattle.std.proofs.lemmas.Iterator.Consumers.{YieldsList-from_filter}
+use Rattle.std.proofs.lemmas.Iterator.Search.{find_from_yields_List}
+use Rattle.club_rows.specs.declared.booking.Booking.{Booking}
+use Rattle.club_reference.specs.Held.{is_held}
+use Rattle.club_reference.proofs.sums.recorded_booking.Goals as goal
+
+pub returns : goal.returns
+returns c =
+    c.copied.ensures
+    ∙ find_from_yields_List (λ (booking : Booking). bytes_eq booking.key c.args.name.now
+    && booking.number == c.args.number) _ _ c.find.result c.find.ensures.ran
+    (YieldsList-from_filter _ (λ (booking : Booking). is_held c.args.keys.now c.args.member.now booking.key) (YieldsList-from_slice c.args.bookings.now cc)
+    c.filter.ensures.closure (λ x b q k. search (rules, tests)))
+    (λ x b q k. search (rules, tests))

@@ -1,0 +1,31 @@
+-- Which changes need memory (ours): those that add a row.
+use Rattle.std.specs.Prelude.{ℕ, ◌+◌, ◌<◌, Bool, true, false, length}
+use Rattle.club_core.specs.declared.change.Change.{Change}
+use Rattle.club_core.specs.declared.change.Change.TheVariants.{InsertMember, AddCredit, InsertFacility, InsertKey, MarkRevoked, ReplaceRoot, MarkClosed}
+use Rattle.club_core.specs.declared.change.Change.TheVariants.{InsertBooking, MarkCancelled}
+use Rattle.club_core.specs.Club.{Club}
+use Rattle.club_core.specs.Run.{Event, step}
+
+abbrev pub is_growth : Change → Bool
+is_growth (InsertMember member) = true
+is_growth (AddCredit member points) = false
+is_growth (InsertFacility facility) = true
+is_growth (InsertKey key) = true
+is_growth (MarkRevoked key) = false
+is_growth (ReplaceRoot key root until) = false
+is_growth (MarkClosed slot) = true
+is_growth (InsertBooking booking) = true
+is_growth (MarkCancelled key number refund) = false
+
+-- how many rows a club has
+abbrev pub row_count : Club → ℕ
+row_count club =
+    length club.members + length club.facilities + length club.keys + length club.bookings + length club.closed
+
+-- the new club has more rows
+abbrev pub Grows : Club → Club → Type 0
+Grows old new = row_count old < row_count new
+
+-- the event adds a row
+abbrev pub AddsRow : Club → Event → Type 0
+AddsRow club event = Grows club (step club event).club

@@ -1,0 +1,39 @@
+//! Changes of the club's rows.
+
+ghost use Rattle.std.specs.Prelude.{◌≡◌, OnOk, OnErr, IsTrue};
+
+use crate::club::Club;
+use crate::edits::{cancel, credit, revoke, rotate};
+use club_core::Change;
+use std::alloc::AllocError;
+
+impl Club {
+    ghost use Rattle.club_core.specs.After.{after};
+    ghost use Rattle.club_reference.specs.Widths.{FitsWidths};
+    ghost use Rattle.club_reference.specs.Growth.{is_growth};
+
+    /// Makes a change. Only a new row needs memory; if it is refused, the club is unchanged.
+    pub(crate) fn apply(&mut self, change: Change) -> Result<(), AllocError>
+        requires { FitsWidths (after change self.old) }
+        ensures ok { OnOk result (self.new ≡ after change self.old) }
+        ensures err { OnErr result (self.new ≡ self.old) }
+        ensures growth { OnErr result (IsTrue (is_growth change)) }
+    {
+        match change {
+            Change::InsertMember(member) => self.members.push(member)?,
+            Change::AddCredit { member, points } => credit(&mut self.members, &member, points),
+            Change::InsertFacility(facility) => self.facilities.push(facility)?,
+            Change::InsertKey(key) => self.keys.push(key)?,
+            Change::MarkRevoked { key } => revoke(&mut self.keys, &key),
+            Change::ReplaceRoot { key, root, until } => rotate(&mut self.keys, &key, &root, until),
+            Change::MarkClosed(slot) => self.closed.push(slot)?,
+            Change::InsertBooking(booking) => self.bookings.push(booking)?,
+            Change::MarkCancelled {
+                key,
+                number,
+                refund,
+            } => cancel(&mut self.bookings, &key, number, refund),
+        }
+        Ok(())
+    }
+}

@@ -1,0 +1,94 @@
+//! Changes of rows that are there: each changes all rows that match.
+
+ghost use Rattle.std.specs.Prelude.{◌≡◌, ◌≤◌, map, All};
+ghost use Rattle.club_rows.specs.declared.member.Member.{Member as MemberRow};
+ghost use Rattle.club_rows.specs.Limits.{credited_limit};
+ghost use Rattle.club_core.specs.After as after;
+
+use club_rows::{Booking, BookingNumber, Key, Member, OlderRoot, Root};
+use club_values::{Moment, Name};
+
+fn credit_row(member: &Member, name: &Name, points: u32) -> Member
+    requires { (after.credited_member name.now points member.now).credited ≤ credited_limit }
+    ensures { result ≡ after.credited_member name.now points member.now }
+{
+    let mut member = *member;
+    if member.name == *name {
+        member.credited += points;
+    }
+    member
+}
+
+/// Adds points to the member of the name.
+pub(crate) fn credit(members: &mut [Member], name: &Name, points: u32)
+    requires { All (λ (member : MemberRow). member.credited ≤ credited_limit)
+        (map (after.credited_member name.now points) members.old) }
+    ensures { members.new ≡ map (after.credited_member name.now points) members.old }
+{
+    for member in members.iter_mut() {
+        *member = credit_row(member, name, points);
+    }
+}
+
+fn revoke_row(key: &Key, name: &Name) -> Key
+    ensures { result ≡ after.revoked_key name.now key.now }
+{
+    let mut key = *key;
+    key.revoked = key.revoked || key.name == *name;
+    key
+}
+
+/// Marks the key of the name revoked.
+pub(crate) fn revoke(keys: &mut [Key], name: &Name)
+    ensures { keys.new ≡ map (after.revoked_key name.now) keys.old }
+{
+    for key in keys.iter_mut() {
+        *key = revoke_row(key, name);
+    }
+}
+
+fn rotate_row(key: &Key, name: &Name, root: &Root, until: Moment) -> Key
+    ensures { result ≡ after.rotated_key name.now root.now until key.now }
+{
+    let mut key = *key;
+    if key.name == *name {
+        let replaced = OlderRoot {
+            root: key.root,
+            until,
+        };
+        key.older = Some(replaced);
+        key.root = *root;
+    }
+    key
+}
+
+/// Gives the key of the name a new root. The root that it had becomes its older root, good until
+/// the moment.
+pub(crate) fn rotate(keys: &mut [Key], name: &Name, root: &Root, until: Moment)
+    ensures { keys.new ≡ map (after.rotated_key name.now root.now until) keys.old }
+{
+    for key in keys.iter_mut() {
+        *key = rotate_row(key, name, root, until);
+    }
+}
+
+fn cancel_row(booking: &Booking, key: &Name, number: BookingNumber, refund: u32) -> Booking
+    ensures { result ≡ after.cancelled_booking key.now number refund booking.now }
+{
+    let mut booking = *booking;
+    if booking.key == *key && booking.number == number && !booking.cancelled {
+        booking.cancelled = true;
+        booking.refund = refund;
+    }
+    booking
+}
+
+/// Marks the booking under the key and number cancelled, with its refund. A booking that is already
+/// cancelled is unchanged.
+pub(crate) fn cancel(bookings: &mut [Booking], key: &Name, number: BookingNumber, refund: u32)
+    ensures { bookings.new ≡ map (after.cancelled_booking key.now number refund) bookings.old }
+{
+    for booking in bookings.iter_mut() {
+        *booking = cancel_row(booking, key, number, refund);
+    }
+}

@@ -1,0 +1,15 @@
+//! The reference machine: a club with its rows in lists, each step as the rules define it. It is
+//! slow and stores no sums; tests compare faster machines with it.
+#![tactic(auto)]
+
+mod apply;
+mod club;
+mod edits;
+mod lists;
+mod rows;
+mod solo;
+mod step;
+mod sums;
+mod views;
+
+pub use club::Club;

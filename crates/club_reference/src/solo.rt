@@ -1,0 +1,164 @@
+//! The solo machine: it holds only one member's part of the club, and sees of others only what they
+//! hold of the slot of each request.
+
+ghost use Rattle.std.specs.Prelude.{◌≡◌, ◌≤◌, ◌<◌, ◌^◌, IfOk, IfSome, OnOk, OnErr, filter, option_map};
+ghost use Rattle.std.specs.Str.{bytes_eq};
+ghost use Rattle.club_rows.specs.declared.member.Member.{Member as MemberRow};
+ghost use Rattle.club_rows.specs.declared.key.Key.{Key as KeyRow};
+ghost use Rattle.club_core.specs.Sums as sums;
+ghost use Rattle.club_reference.specs.Growth.{Grows};
+ghost use Rattle.club_reference.specs.Held.{held_under, others_under};
+ghost use Rattle.club_reference.specs.Solo.{with_outside};
+ghost use Rattle.club_core.specs.Words.{words_model};
+
+use crate::club::{Club, copy_rows};
+use crate::sums::{is_held, persons};
+use club_core::{Reply, SlotUse, Verdict, View, Words};
+use club_rows::{Booking, Key, Member};
+use club_values::{Moment, Name, Slot};
+use std::alloc::{AllocError, Global};
+
+fn members_of(alloc: Global, members: &[Member], name: &Name) -> Result<Vec<Member>, AllocError>
+    ensures { IfOk result (λ rows. rows.items
+        ≡ filter (λ (member : MemberRow). bytes_eq member.name name.now) members.now) }
+{
+    members
+        .iter()
+        .filter(|member| member.name == *name)
+        .copied()
+        .collect(alloc)
+}
+
+fn keys_of(alloc: Global, keys: &[Key], member: &Name) -> Result<Vec<Key>, AllocError>
+    ensures { IfOk result (λ rows. rows.items
+        ≡ filter (λ (key : KeyRow). bytes_eq key.member member.now) keys.now) }
+{
+    keys.iter()
+        .filter(|key| key.member == *member)
+        .copied()
+        .collect(alloc)
+}
+
+fn bookings_of(
+    alloc: Global,
+    keys: &[Key],
+    bookings: &[Booking],
+    member: &Name,
+) -> Result<Vec<Booking>, AllocError>
+    ensures { IfOk result (λ rows. rows.items ≡ held_under keys.now member.now bookings.now) }
+{
+    bookings
+        .iter()
+        .filter(|booking| is_held(keys, member, &booking.key))
+        .copied()
+        .collect(alloc)
+}
+
+/// The persons whom others booked into the slot.
+fn taken_by_others(keys: &[Key], bookings: &[Booking], member: &Name, slot: &Slot) -> u32
+    requires { sums.taken_in slot.now (others_under keys.now member.now bookings.now) < 2 ^ 32 }
+    ensures { result ≡ sums.taken_in slot.now (others_under keys.now member.now bookings.now) }
+{
+    bookings
+        .iter()
+        .filter(|booking| !is_held(keys, member, &booking.key))
+        .filter(|booking| !booking.cancelled && booking.slot == *slot)
+        .map(|booking| persons(booking))
+        .sum()
+}
+
+/// A view with what others hold of its slot.
+fn with_outside(view: Option<View>, others: SlotUse) -> Option<View>
+    requires { IfSome view (λ v. v.taken ≤ 50) }
+    ensures { result ≡ option_map (with_outside others) view }
+{
+    let mut view = view?;
+    view.taken += u64::from(others.taken);
+    view.closed = others.closed;
+    Some(view)
+}
+
+impl Club {
+    ghost use Rattle.club_reference.specs.Widths.{FitsWidths};
+    ghost use Rattle.club_core.specs.Run.{after_change};
+    ghost use Rattle.club_core.specs.Solo as solo;
+
+    /// The rows of a member, and the facilities.
+    pub fn part(&self, member: &Name) -> Result<Club, AllocError>
+        ensures { IfOk result (λ part. part ≡ solo.part_of member.now self.now) }
+    {
+        let alloc = *self.members.allocator();
+        let members = members_of(alloc, &self.members, member)?;
+        let facilities = copy_rows(&self.facilities)?;
+        let keys = keys_of(alloc, &self.keys, member)?;
+        let bookings = bookings_of(alloc, &self.keys, &self.bookings, member)?;
+        Ok(Club {
+            members,
+            facilities,
+            keys,
+            bookings,
+            closed: Vec::new(alloc),
+        })
+    }
+
+    /// What others than the member hold of the requested slot; nothing if there is no slot.
+    pub fn outside(&self, member: &Name, slot: Option<Slot>) -> SlotUse
+        ensures { result ≡ solo.outside member.now self.now slot }
+    {
+        match slot {
+            None => SlotUse {
+                taken: 0,
+                closed: false,
+            },
+            Some(slot) => {
+                let taken = taken_by_others(&self.keys, &self.bookings, member, &slot);
+                SlotUse {
+                    taken,
+                    closed: self.is_closed(&slot),
+                }
+            }
+        }
+    }
+
+    /// The answer to a request on a member's part, with what others hold of its slot.
+    fn answer_alone(&self, words: &Words, moment: Moment, others: SlotUse) -> Verdict
+        ensures value { result ≡ solo.solo_verdict self.now (words_model words.now) moment others }
+        ensures fits { FitsWidths self.now }
+    {
+        let _members = &self.members;
+        let view = with_outside(self.view_for(words, moment), others);
+        words.answer(view.as_ref(), moment)
+    }
+
+    /// Answers a request on a member's part, with what others hold of its slot, and makes the
+    /// request's change. Only a new booking needs memory; if it is refused, the part is unchanged.
+    ///
+    /// # Errors
+    ///
+    /// Memory was refused.
+    pub fn ask_alone(
+        &mut self,
+        words: &Words,
+        moment: Moment,
+        others: SlotUse,
+    ) -> Result<Reply, AllocError>
+        ensures reply { IfOk result (λ reply. reply
+            ≡ (solo.solo_verdict self.old (words_model words.now) moment others).reply) }
+        ensures part { OnOk result (self.new
+            ≡ after_change (solo.solo_verdict self.old (words_model words.now) moment
+            others).change self.old) }
+        ensures err { OnErr result (self.new ≡ self.old) }
+        ensures growth { OnErr result (Grows self.old
+            (after_change (solo.solo_verdict self.old (words_model words.now) moment
+            others).change self.old)) }
+    {
+        let Verdict { reply, change } = self.answer_alone(words, moment, others);
+        match change {
+            None => Ok(reply),
+            Some(change) => {
+                self.apply(change)?;
+                Ok(reply)
+            }
+        }
+    }
+}

@@ -1,0 +1,108 @@
+//! Sums over bookings, each computed anew from all of them.
+
+ghost use Rattle.std.specs.Prelude.{◌≡◌, ◌-◌, ◌<◌, ◌^◌, fold};
+ghost use Rattle.club_rows.specs.Booking.{persons_of};
+ghost use Rattle.club_core.specs.Sums as sums;
+ghost use Rattle.club_reference.specs.Held.{is_held, held_under};
+
+use club_rows::{Booking, BookingNumber, Key, Member};
+use club_values::{Moment, Name, Slot};
+
+/// What a booking has cost.
+fn cost(booking: &Booking) -> u32
+    ensures { result ≡ sums.cost_of booking.now }
+{
+    booking.charge.saturating_sub(booking.refund)
+}
+
+/// The guests of a booking and its member.
+pub(crate) fn persons(booking: &Booking) -> u32
+    ensures { result ≡ persons_of booking.now }
+{
+    u32::from(booking.guests.persons())
+}
+
+/// Whether a key of this name is the member's.
+pub(crate) fn is_held(keys: &[Key], member: &Name, name: &Name) -> bool
+    ensures { result ≡ is_held keys.now member.now name.now }
+{
+    keys.iter()
+        .filter(|key| key.member == *member)
+        .any(|key| key.name == *name)
+}
+
+/// The persons who booked the slot.
+pub(crate) fn persons_in(bookings: &[Booking], slot: &Slot) -> u32
+    requires { sums.taken_in slot.now bookings.now < 2 ^ 32 }
+    ensures { result ≡ sums.taken_in slot.now bookings.now }
+{
+    bookings
+        .iter()
+        .filter(|booking| !booking.cancelled && booking.slot == *slot)
+        .map(|booking| persons(booking))
+        .sum()
+}
+
+/// What the key has spent over the member's bookings.
+pub(crate) fn spent(keys: &[Key], bookings: &[Booking], member: &Name, name: &Name) -> u64
+    requires { sums.spent_under name.now (held_under keys.now member.now bookings.now) < 2 ^ 64 }
+    ensures { result ≡ sums.spent_under name.now (held_under keys.now member.now bookings.now) }
+{
+    bookings
+        .iter()
+        .filter(|booking| is_held(keys, member, &booking.key))
+        .filter(|booking| booking.key == *name)
+        .map(|booking| u64::from(cost(booking)))
+        .sum()
+}
+
+fn left_of(keys: &[Key], bookings: &[Booking], member: &Member) -> u32
+    ensures { result
+        ≡ fold (λ left booking. left - sums.cost_of booking) member.now.credited
+        (held_under keys.now member.now.name bookings.now) }
+{
+    bookings
+        .iter()
+        .filter(|booking| is_held(keys, &member.name, &booking.key))
+        .fold(
+            member.credited,
+            |left, booking| left.saturating_sub(cost(booking)),
+        )
+}
+
+/// What is left of the points credited to the member.
+pub(crate) fn balance(keys: &[Key], bookings: &[Booking], member: &Member) -> u32
+    ensures { result ≡ sums.balance_of member.now
+        (held_under keys.now member.now.name bookings.now) }
+{
+    left_of(keys, bookings, member)
+}
+
+/// The member's bookings that are still to come.
+pub(crate) fn open_count(keys: &[Key], bookings: &[Booking], member: &Name, moment: Moment) -> u64
+    ensures { result ≡ sums.count_to_come moment (held_under keys.now member.now bookings.now) }
+{
+    bookings
+        .iter()
+        .filter(|booking| is_held(keys, member, &booking.key))
+        .filter(|booking| !booking.cancelled && moment.number() < booking.slot.start())
+        .count() as u64
+}
+
+/// The member's booking under the key and number.
+pub(crate) fn recorded_booking(
+    keys: &[Key],
+    bookings: &[Booking],
+    member: &Name,
+    name: &Name,
+    number: BookingNumber,
+) -> Option<Booking>
+    ensures { result ≡ sums.booking_under name.now number
+        (held_under keys.now member.now bookings.now) }
+{
+    bookings
+        .iter()
+        .filter(|booking| is_held(keys, member, &booking.key))
+        .find(|booking| booking.key == *name && booking.number == number)
+        .copied()
+}

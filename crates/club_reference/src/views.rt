@@ -1,0 +1,118 @@
+//! The views of requests and orders: the rows and sums that decide them.
+
+ghost use Rattle.std.specs.Prelude.{◌≡◌, ◌≤◌, IfSome, option_map};
+ghost use Rattle.club_core.specs.Office.{rows_seen};
+
+use crate::club::Club;
+use crate::sums::{balance, open_count, persons_in, recorded_booking, spent};
+use club_core::{Command, OrderView, Request, SlotUse, View, Words};
+use club_rows::{Facility, Key, Member};
+use club_values::{Moment, Slot};
+
+fn rows_seen(member: Option<Member>, key: Option<Key>, facility: Option<Facility>) -> OrderView
+    ensures { result ≡ rows_seen member key facility }
+{
+    OrderView {
+        member,
+        key,
+        facility,
+        slot: SlotUse {
+            taken: 0,
+            closed: false,
+        },
+    }
+}
+
+impl Club {
+    ghost use Rattle.club_core.specs.Basis.{Basis, basis_under, slot_use_by, view_for, view_of};
+    ghost use Rattle.club_core.specs.Office.{order_view};
+    ghost use Rattle.club_core.specs.Words.{words_model};
+
+    /// The use of a slot: its persons, and whether it is closed; none without a slot.
+    fn slot_use(&self, slot: Option<Slot>) -> SlotUse
+        ensures value { result ≡ slot_use_by self.now.bookings self.now slot }
+        ensures few { result.taken ≤ 50 }
+    {
+        match slot {
+            None => SlotUse {
+                taken: 0,
+                closed: false,
+            },
+            Some(slot) => SlotUse {
+                taken: persons_in(&self.bookings, &slot),
+                closed: self.is_closed(&slot),
+            },
+        }
+    }
+
+    /// The view of a request under a key; `None` if the key's member is unknown.
+    fn view_of(&self, key: &Key, request: &Request, moment: Moment) -> Option<View>
+        ensures few { IfSome result (λ view. view.taken ≤ 50) }
+        ensures value { result
+            ≡ option_map (λ (basis : Basis). view_of basis request.now moment)
+            (basis_under self.now request.now key.now) }
+    {
+        let member = self.member_named(&key.member)?;
+        let (keys, bookings) = (&self.keys, &self.bookings);
+        let facility = match request.slot() {
+            Some(slot) => self.facility_named(&slot.facility),
+            None => None,
+        };
+        let SlotUse { taken, closed } = self.slot_use(request.slot());
+        let booking = match request.number() {
+            Some(number) => recorded_booking(keys, bookings, &member.name, &key.name, number),
+            None => None,
+        };
+        Some(View {
+            key: *key,
+            spent: spent(keys, bookings, &member.name, &key.name),
+            member,
+            balance: balance(keys, bookings, &member),
+            open_count: open_count(keys, bookings, &member.name, moment),
+            facility,
+            taken: u64::from(taken),
+            closed,
+            booking,
+        })
+    }
+
+    /// The view of a request under the key that its pass names; `None` if the key is unknown.
+    pub(crate) fn view_for(&self, words: &Words, moment: Moment) -> Option<View>
+        ensures value { result ≡ view_for self.now (words_model words.now) moment }
+        ensures few { IfSome result (λ view. view.taken ≤ 50) }
+    {
+        let name = words.key()?;
+        match self.key_named(&name) {
+            Some(key) => self.view_of(&key, &words.request, moment),
+            None => None,
+        }
+    }
+
+    /// The view of an order: the rows that it names, and the use of its slot.
+    pub(crate) fn order_view(&self, command: &Command) -> OrderView
+        ensures { result ≡ order_view self.now command.now }
+    {
+        match command {
+            Command::AddMember { name, .. } | Command::Credit { member: name, .. } => rows_seen(
+                self.member_named(name),
+                None,
+                None,
+            ),
+            Command::AddFacility { name, .. } => rows_seen(None, None, self.facility_named(name)),
+            Command::AddKey { name, member, .. } => rows_seen(
+                self.member_named(member),
+                self.key_named(name),
+                None,
+            ),
+            Command::RevokeKey { name } | Command::RotateKey { name, .. } => {
+                rows_seen(None, self.key_named(name), None)
+            }
+            Command::CloseSlot(slot) => OrderView {
+                member: None,
+                key: None,
+                facility: self.facility_named(&slot.facility),
+                slot: self.slot_use(Some(*slot)),
+            },
+        }
+    }
+}

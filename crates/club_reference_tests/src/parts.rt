@@ -1,0 +1,145 @@
+//! A copy of a club, and a member's part of it.
+
+use crate::expect::{expect_eq, expect_reply};
+use crate::messages::{
+    ACCOUNT_AFTER, ACCOUNT_BEFORE, AMY, AMY_CHANGED, Asked, BOB, BOOK_7, BOOKED_7, CANCEL_7,
+    CANCELLED_7, COURT, Expected, FIRST, NOON, NOT_VERIFIED, SECOND, Step,
+};
+use crate::orders::{Answer, Order};
+use crate::play::{opened, plays};
+use crate::values::name;
+use club_core::{Event, EventReply, SlotUse};
+use club_reference::Club;
+use club_values::Slot;
+use std::alloc::Global;
+use std::process::Abort;
+use std::test::*;
+
+fn amys_part(rt: &impl Abort, club: &Club) -> Club {
+    club.part(&name(rt, "amy")).expect(rt, "memory")
+}
+
+/// Ends the test unless others than amy hold this of the slot.
+fn others_hold(rt: &impl Abort, club: &Club, slot: Option<Slot>, others: SlotUse) {
+    expect_eq(rt, &club.outside(&name(rt, "amy"), slot), &others);
+}
+
+/// The reply to an event on a part, with what others hold of its slot.
+fn reply_alone(rt: &impl Abort, part: &mut Club, event: &Event, others: SlotUse) -> EventReply {
+    match event {
+        Event::Asked { words, moment } => {
+            let reply = part.ask_alone(words, *moment, others);
+            EventReply::Replied(reply.expect(rt, "memory"))
+        }
+        Event::Ordered(command) => EventReply::Answered(part.office(command).expect(rt, "memory")),
+    }
+}
+
+/// Ends the test unless a part gives the replies of these steps, if others hold this of each slot.
+fn plays_alone(
+    rt: &(impl Abort + Alloc<A = Global>),
+    part: &mut Club,
+    others: SlotUse,
+    steps: &[Step],
+) {
+    for (number, step) in steps.iter().enumerate() {
+        let returned = reply_alone(rt, part, &step.event(rt), others);
+        expect_reply(rt, (number, step.at()), &returned, &step.reply(rt));
+    }
+}
+
+const NOTHING: SlotUse = SlotUse {
+    taken: 0,
+    closed: false,
+};
+
+const ONE_PLACE: SlotUse = SlotUse {
+    taken: 1,
+    closed: false,
+};
+
+const BOOK_2: Asked = Asked::Book(COURT, 2, 0);
+
+static BOB_BOOKS: [Step; 1] = [Step::Asks(NOON, BOB, BOOK_2, Expected::Booked("bob-1", 2, 200, 3))];
+
+const FILLED_BY_7: Expected = Expected::Booked("amy-1", 7, 600, 0);
+
+/// Amy's replies if another member holds a place of the slot.
+static BESIDE_BOB: [Step; 3] = [
+    Step::Asks(NOON, AMY, BOOK_7, FILLED_BY_7),
+    Step::Asks(NOON, AMY, Asked::Account, ACCOUNT_AFTER),
+    Step::Asks(NOON, AMY, CANCEL_7, CANCELLED_7),
+];
+
+#[test]
+fn a_part_sees_what_others_hold(rt: HostRuntime) {
+    let mut club = opened(&rt);
+    plays(&rt, &mut club, &BOB_BOOKS);
+    others_hold(&rt, &club, Some(COURT.slot(&rt)), ONE_PLACE);
+    plays_alone(&rt, &mut amys_part(&rt, &club), ONE_PLACE, &BESIDE_BOB);
+}
+
+static NOT_YET: [Step; 1] = [Step::Asks(NOON, AMY, Asked::Account, ACCOUNT_BEFORE)];
+
+static BOB_IS_UNKNOWN: [Step; 1] = [Step::Asks(NOON, BOB, Asked::Account, NOT_VERIFIED)];
+
+#[test]
+fn a_part_has_no_rows_of_others(rt: HostRuntime) {
+    let mut club = opened(&rt);
+    plays(&rt, &mut club, &BOB_BOOKS);
+    others_hold(&rt, &club, None, NOTHING);
+    let mut part = amys_part(&rt, &club);
+    plays_alone(&rt, &mut part, NOTHING, &NOT_YET);
+    plays(&rt, &mut part, &BOB_IS_UNKNOWN);
+}
+
+const NEW_CY: Answer = Answer::NewKey("cy-1", FIRST);
+
+const RENEWED_CY: Answer = Answer::NewKey("cy-1", SECOND);
+
+/// Another member, whose key gets another root at once.
+static CY_ROTATES: [Step; 3] = [
+    Step::Orders(Order::AddMember("cy", 5), Answer::Done),
+    Step::Orders(Order::AddKey("cy-1", "cy"), NEW_CY),
+    Step::Orders(
+        Order::RotateKey("cy-1", SECOND, "2000-01-01T00:00"),
+        RENEWED_CY,
+    ),
+];
+
+static AFTER_ROTATION: [Step; 4] = [
+    Step::Asks(NOON, AMY, BOOK_7, BOOKED_7),
+    Step::Asks(NOON, AMY, Asked::Account, ACCOUNT_AFTER),
+    Step::Asks(NOON, AMY_CHANGED, Asked::Account, NOT_VERIFIED),
+    Step::Asks(NOON, AMY, BOOK_7, BOOKED_7),
+];
+
+/// A rotation of another member's key doesn't change amy's replies: they are those of her part, in
+/// which there is no such rotation.
+#[test]
+fn rotates_the_key_of_another(rt: HostRuntime) {
+    let mut club = opened(&rt);
+    let mut part = amys_part(&rt, &club);
+    plays(&rt, &mut club, &CY_ROTATES);
+    others_hold(&rt, &club, None, NOTHING);
+    plays(&rt, &mut club, &AFTER_ROTATION);
+    plays_alone(&rt, &mut part, NOTHING, &AFTER_ROTATION);
+}
+
+static AMY_BOOKS: [Step; 1] = [Step::Asks(NOON, AMY, BOOK_7, BOOKED_7)];
+
+static AMY_CANCELS: [Step; 2] = [
+    Step::Asks(NOON, AMY, CANCEL_7, CANCELLED_7),
+    Step::Asks(NOON, AMY, Asked::Account, ACCOUNT_BEFORE),
+];
+
+static STILL_BOOKED: [Step; 1] = [Step::Asks(NOON, AMY, Asked::Account, ACCOUNT_AFTER)];
+
+#[test]
+fn a_duplicate_is_independent(rt: HostRuntime) {
+    let mut club = opened(&rt);
+    plays(&rt, &mut club, &AMY_BOOKS);
+    let mut other = club.duplicate().expect(&rt, "memory");
+    plays(&rt, &mut other, &AMY_CANCELS);
+    plays(&rt, &mut club, &STILL_BOOKED);
+}

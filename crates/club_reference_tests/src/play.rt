@@ -1,0 +1,97 @@
+//! Steps, played on the reference machine by each of its calls.
+
+use crate::expect::{expect_eq, expect_reply};
+use crate::messages::{FIRST, Step};
+use crate::orders::{Answer, Order};
+use club_core::{Event, EventReply};
+use club_reference::Club;
+use club_values::Kind;
+use std::alloc::Global;
+use std::process::Abort;
+
+/// Members `amy` and `bob`, each with quota 5, 10,000 points and a key; `court-1` with 4 places for
+/// 200 points and `room-1` with 1 place for 601, both from 8 to 22.
+static FIXTURE: [Step; 8] = [
+    Step::Orders(Order::AddMember("amy", 5), Answer::Done),
+    Step::Orders(Order::Credit("amy", 10_000), Answer::Done),
+    Step::Orders(
+        Order::AddKey("amy-1", "amy"),
+        Answer::NewKey("amy-1", FIRST),
+    ),
+    Step::Orders(Order::AddMember("bob", 5), Answer::Done),
+    Step::Orders(Order::Credit("bob", 10_000), Answer::Done),
+    Step::Orders(
+        Order::AddKey("bob-1", "bob"),
+        Answer::NewKey("bob-1", FIRST),
+    ),
+    Step::Orders(
+        Order::AddFacility("court-1", Kind::Court, 4, 200),
+        Answer::Done,
+    ),
+    Step::Orders(
+        Order::AddFacility("room-1", Kind::Room, 1, 601),
+        Answer::Done,
+    ),
+];
+
+/// The reply to an event by `ask` or `office`.
+fn reply_by_kind(rt: &impl Abort, club: &mut Club, event: &Event) -> EventReply {
+    match event {
+        Event::Asked { words, moment } => {
+            EventReply::Replied(club.ask(words, *moment).expect(rt, "memory"))
+        }
+        Event::Ordered(command) => EventReply::Answered(club.office(command).expect(rt, "memory")),
+    }
+}
+
+/// Ends the test unless the club gives the replies of these steps, each put as a request or order.
+pub(crate) fn plays(rt: &(impl Abort + Alloc<A = Global>), club: &mut Club, steps: &[Step]) {
+    for (number, step) in steps.iter().enumerate() {
+        let returned = reply_by_kind(rt, club, &step.event(rt));
+        expect_reply(rt, (number, step.at()), &returned, &step.reply(rt));
+    }
+}
+
+/// Ends the test unless the club gives the replies of these steps, each put as an event.
+fn plays_events(rt: &(impl Abort + Alloc<A = Global>), club: &mut Club, steps: &[Step]) {
+    for (number, step) in steps.iter().enumerate() {
+        let returned = club.step(&step.event(rt)).expect(rt, "memory");
+        expect_reply(rt, (number, step.at()), &returned, &step.reply(rt));
+    }
+}
+
+fn events(rt: &(impl Abort + Alloc<A = Global>), steps: &[Step]) -> Vec<Event> {
+    let mut events = Vec::new(rt.alloc());
+    for step in steps {
+        events.push(step.event(rt)).expect(rt, "memory");
+    }
+    events
+}
+
+fn replies(rt: &(impl Abort + Alloc<A = Global>), steps: &[Step]) -> Vec<EventReply> {
+    let mut replies = Vec::new(rt.alloc());
+    for step in steps {
+        replies.push(step.reply(rt)).expect(rt, "memory");
+    }
+    replies
+}
+
+/// Ends the test unless one run gives the replies of these steps.
+fn plays_at_once(rt: &(impl Abort + Alloc<A = Global>), club: &mut Club, steps: &[Step]) {
+    let returned = club.run(&events(rt, steps)).expect(rt, "memory");
+    expect_eq(rt, &returned.as_slice(), &replies(rt, steps).as_slice());
+}
+
+/// The club of the fixture.
+pub(crate) fn opened(rt: &(impl Abort + Alloc<A = Global>)) -> Club {
+    let mut club = Club::new(rt.alloc());
+    plays(rt, &mut club, &FIXTURE);
+    club
+}
+
+/// Ends the test unless a club of the fixture gives the replies of these steps, by each call.
+pub(crate) fn plays_by_each_call(rt: &(impl Abort + Alloc<A = Global>), steps: &[Step]) {
+    plays(rt, &mut opened(rt), steps);
+    plays_events(rt, &mut opened(rt), steps);
+    plays_at_once(rt, &mut opened(rt), steps);
+}

@@ -1,0 +1,277 @@
+//! Steps of a test over a store: what is written to it, and what it shows then.
+
+use crate::expect::expect_eq;
+use crate::rows::{
+    AMY_1, At, Booked, COURT, COURT_7, COURT_AT_18, Kept, Place, ROOM, ROOM_8, amy, booking_of,
+    day, facility, key, moment, name, number, slot,
+};
+use crate::write::{Write, change};
+use club_core::{Change, ClubStore, MemberAccount, Request, SlotUse, StoreFault, View, sheet_text};
+use club_store::Store;
+use sqlite::{Alter, MemStore};
+use std::alloc::Global;
+use std::process::Abort;
+
+#[derive(Clone, Copy)]
+pub(crate) enum Step {
+    /// Makes a change.
+    Applies(Write),
+    /// Makes a change by the call of its own name.
+    Calls(Write),
+    /// Refuses a change by the call of its own name.
+    Refuses(Write),
+    Shows(Shown),
+}
+
+/// What a store shows.
+#[derive(Clone, Copy)]
+pub(crate) enum Shown {
+    /// Amy with so many points credited; `None` where she is unknown.
+    Member(Option<u32>),
+    Key(Kept),
+    Facility(Place),
+    /// So many persons in a slot, which is closed or isn't.
+    Slot(At, u32, bool),
+    /// What `amy-1` sees of a request where all of `BOOKS` was done: so many persons in its slot,
+    /// and the booking of its number.
+    View(Asked, u64, Option<Booked>),
+    /// The sheet of a day.
+    Sheet(&'static str, &'static str),
+}
+
+/// A request of `amy-1`.
+#[derive(Clone, Copy)]
+pub(crate) enum Asked {
+    Account,
+    /// To see a slot.
+    View(At),
+    /// To cancel a booking of the court at 18.
+    Cancel(u32),
+}
+
+/// Amy without points, her key, the court and the room.
+static ROWS: [Step; 4] = [
+    Step::Applies(Write::Member(0)),
+    Step::Applies(Write::Facility(COURT)),
+    Step::Applies(Write::Facility(ROOM)),
+    Step::Applies(Write::Key(AMY_1)),
+];
+
+/// Her points, and two bookings, of which the room's is cancelled.
+static BOOKS: [Step; 4] = [
+    Step::Applies(Write::Credit(10_000)),
+    Step::Applies(Write::Book(COURT_7)),
+    Step::Applies(Write::Book(ROOM_8)),
+    Step::Applies(Write::Cancel(8, 300)),
+];
+
+fn shows_member<C: ClubStore>(rt: &impl Abort, store: &mut C, credited: Option<u32>) {
+    let want = match credited {
+        Some(credited) => Some(amy(rt, credited)),
+        None => None,
+    };
+    expect_eq(rt, &store.member(&name(rt, "amy")), &Ok(want));
+}
+
+pub(crate) fn shows_key<C: ClubStore>(rt: &impl Abort, store: &mut C, kept: &Kept) {
+    let want = key(rt, kept);
+    expect_eq(rt, &store.key(&want.name), &Ok(Some(want)));
+}
+
+fn shows_facility<C: ClubStore>(rt: &impl Abort, store: &mut C, place: &Place) {
+    let want = facility(rt, place);
+    expect_eq(rt, &store.facility(&want.name), &Ok(Some(want)));
+}
+
+fn shows_slot<C: ClubStore>(rt: &impl Abort, store: &mut C, at: &At, want: SlotUse) {
+    expect_eq(rt, &store.slot(&slot(rt, at)), &Ok(want));
+}
+
+fn request(rt: &impl Abort, asked: &Asked) -> Request {
+    match asked {
+        Asked::Account => Request::Account,
+        Asked::View(at) => Request::View { slot: slot(rt, at) },
+        Asked::Cancel(booking) => Request::Cancel {
+            slot: slot(rt, &COURT_AT_18),
+            number: number(rt, *booking),
+        },
+    }
+}
+
+/// The day before the slots.
+const DAY_BEFORE: &str = "2026-04-30T17:00";
+
+/// What `amy-1` sees of a request on the day before the slots.
+fn view<S: Alter>(rt: &impl Abort, store: &mut Store<S>, asked: &Asked) -> View {
+    let request = request(rt, asked);
+    let at = moment(rt, DAY_BEFORE);
+    let found = store.view(&name(rt, "amy-1"), &request, at);
+    found.expect(rt, "an answer").expect(rt, "a view")
+}
+
+/// Of 10,000 points 600 are spent on the court, and of 601 for the room 300 came back.
+fn shows_view<S: Alter>(rt: &impl Abort, store: &mut Store<S>, shown: &Shown) {
+    let Shown::View(asked, taken, booked) = shown else {
+        return;
+    };
+    let view = view(rt, store, asked);
+    let account = (view.spent, view.balance, view.open_count);
+    expect_eq(rt, &account, &(901, 9_099, 1));
+    expect_eq(rt, &(view.taken, view.closed), &(*taken, false));
+    expect_eq(rt, &view.booking, &booking_of(rt, booked));
+}
+
+/// The same sums, each by a reading of its own.
+fn shows_sums<C: ClubStore>(rt: &impl Abort, store: &mut C) {
+    expect_eq(rt, &store.spent(&name(rt, "amy-1")), &Ok(901));
+    let at = moment(rt, DAY_BEFORE);
+    expect_eq(rt, &store.open_count(&name(rt, "amy"), at), &Ok(1));
+    let account = MemberAccount {
+        member: amy(rt, 10_000),
+        balance: 9_099,
+    };
+    expect_eq(rt, &store.account(&name(rt, "amy")), &Ok(Some(account)));
+}
+
+/// And the booking, where a number is asked for.
+fn shows_booking<C: ClubStore>(
+    rt: &impl Abort,
+    store: &mut C,
+    asked: &Asked,
+    booked: &Option<Booked>,
+) {
+    if let Some(number) = request(rt, asked).number() {
+        let want = Ok(booking_of(rt, booked));
+        expect_eq(rt, &store.booking(&name(rt, "amy-1"), number), &want);
+    }
+}
+
+fn shows_sheet<C: ClubStore>(
+    rt: &(impl Abort + Alloc<A = Global>),
+    store: &mut C,
+    date: &str,
+    want: &str,
+) {
+    let day = day(rt, date);
+    let rows = store.day(day).expect(rt, "a day's bookings");
+    let text = sheet_text(rt.alloc(), day, &rows).expect(rt, "memory");
+    expect_eq(rt, &text.as_str(), &want);
+}
+
+fn shows<C: ClubStore>(rt: &(impl Abort + Alloc<A = Global>), store: &mut C, shown: &Shown) {
+    match shown {
+        Shown::Member(credited) => shows_member(rt, store, *credited),
+        Shown::Key(kept) => shows_key(rt, store, kept),
+        Shown::Facility(place) => shows_facility(rt, store, place),
+        Shown::Slot(at, taken, closed) => {
+            let want = SlotUse {
+                taken: *taken,
+                closed: *closed,
+            };
+            shows_slot(rt, store, at, want);
+        }
+        Shown::View(asked, _, booked) => {
+            shows_sums(rt, store);
+            shows_booking(rt, store, asked, booked);
+        }
+        Shown::Sheet(date, text) => shows_sheet(rt, store, date, text),
+    }
+}
+
+/// Makes a change of any store.
+fn applies<C: ClubStore>(rt: &impl Abort, store: &mut C, write: &Write) {
+    expect_eq(rt, &store.apply(&change(rt, write)), &Ok(()));
+}
+
+/// Makes a change by the call of its own name, where it has one.
+fn make<S: Alter>(store: &mut Store<S>, change: &Change) -> Result<(), StoreFault> {
+    match change {
+        Change::InsertMember(member) => store.insert_member(member),
+        Change::AddCredit { member, points } => store.add_credit(member, *points),
+        Change::InsertFacility(facility) => store.insert_facility(facility),
+        Change::InsertKey(key) => store.insert_key(key),
+        Change::MarkRevoked { key } => store.revoke_key(key),
+        Change::ReplaceRoot { key, root, until } => store.replace_root(key, root, *until),
+        Change::MarkClosed(slot) => store.close_slot(slot),
+        Change::InsertBooking(_) | Change::MarkCancelled { .. } => store.apply(change),
+    }
+}
+
+fn calls<S: Alter>(
+    rt: &impl Abort,
+    store: &mut Store<S>,
+    write: &Write,
+    want: Result<(), StoreFault>,
+) {
+    expect_eq(rt, &make(store, &change(rt, write)), &want);
+}
+
+/// Goes by a step that is of any store.
+fn plays_any<C: ClubStore>(rt: &(impl Abort + Alloc<A = Global>), store: &mut C, step: &Step) {
+    match step {
+        Step::Applies(write) => applies(rt, store, write),
+        Step::Shows(shown) => shows(rt, store, shown),
+        Step::Calls(_) | Step::Refuses(_) => {}
+    }
+}
+
+fn play<S: Alter>(rt: &(impl Abort + Alloc<A = Global>), store: &mut Store<S>, step: &Step) {
+    match step {
+        Step::Applies(_) => plays_any(rt, store, step),
+        Step::Shows(shown) => {
+            plays_any(rt, store, step);
+            shows_view(rt, store, shown);
+        }
+        Step::Calls(write) => calls(rt, store, write, Ok(())),
+        Step::Refuses(write) => calls(rt, store, write, Err(StoreFault::Storage)),
+    }
+}
+
+/// Plays the steps, and ends the test at the first that fails.
+pub(crate) fn plays<S: Alter>(
+    rt: &(impl Abort + Alloc<A = Global>),
+    store: &mut Store<S>,
+    steps: &[Step],
+) {
+    for step in steps {
+        play(rt, store, step);
+    }
+}
+
+/// The store of an empty club.
+pub(crate) fn empty(rt: &(impl Abort + Alloc<A = Global>)) -> Store<MemStore> {
+    Store::open_in_memory(rt.alloc()).expect(rt, "a store")
+}
+
+/// That of a club with amy, her key and the facilities.
+pub(crate) fn with_rows(rt: &(impl Abort + Alloc<A = Global>)) -> Store<MemStore> {
+    let mut store = empty(rt);
+    plays(rt, &mut store, &ROWS);
+    store
+}
+
+/// That of the same club with her points and bookings.
+pub(crate) fn with_bookings(rt: &(impl Abort + Alloc<A = Global>)) -> Store<MemStore> {
+    let mut store = with_rows(rt);
+    plays(rt, &mut store, &BOOKS);
+    store
+}
+
+/// The store over the same connection, opened again.
+fn reopened(rt: &(impl Abort + Alloc<A = Global>), store: Store<MemStore>) -> Store<MemStore> {
+    Store::adopt(rt.alloc(), store.into_connection())
+        .ok()
+        .expect(rt, "opened again")
+}
+
+/// Goes by the first steps, and by the others once the store is opened again.
+pub(crate) fn plays_again(
+    rt: &(impl Abort + Alloc<A = Global>),
+    mut store: Store<MemStore>,
+    steps: &[Step],
+    then: &[Step],
+) {
+    plays(rt, &mut store, steps);
+    let mut again = reopened(rt, store);
+    plays(rt, &mut again, then);
+}

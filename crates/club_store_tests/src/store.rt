@@ -1,0 +1,200 @@
+//! Tests of a store: what is written to it, and what it shows then.
+
+use crate::rows::{
+    AMY_1, At, Booked, COURT_7, COURT_AT_18, DAY, REVOKED, ROOM, ROOM_8, ROOM_AT_18,
+};
+use crate::steps::{Asked, Shown, Step, empty, plays, plays_again, with_bookings, with_rows};
+use crate::write::Write;
+use std::test::*;
+
+static UNKNOWN: [Step; 1] = [Step::Shows(Shown::Member(None))];
+
+static WRITTEN: [Step; 3] = [
+    Step::Shows(Shown::Member(Some(0))),
+    Step::Shows(Shown::Key(AMY_1)),
+    Step::Shows(Shown::Facility(ROOM)),
+];
+
+#[test]
+fn reads_what_was_written(rt: HostRuntime) {
+    plays(&rt, &mut empty(&rt), &UNKNOWN);
+    plays(&rt, &mut with_rows(&rt), &WRITTEN);
+}
+
+#[test]
+fn keeps_tables_that_hold_a_club(rt: HostRuntime) {
+    plays_again(&rt, with_rows(&rt), &WRITTEN, &WRITTEN);
+}
+
+static CHANGES: [Step; 4] = [
+    Step::Applies(Write::Credit(10_000)),
+    Step::Shows(Shown::Member(Some(10_000))),
+    Step::Applies(Write::Revoke),
+    Step::Shows(Shown::Key(REVOKED)),
+];
+
+#[test]
+fn changes_rows(rt: HostRuntime) {
+    plays(&rt, &mut with_rows(&rt), &CHANGES);
+}
+
+static PERSONS: [Step; 7] = [
+    Step::Applies(Write::Book(COURT_7)),
+    Step::Applies(Write::Book(ROOM_8)),
+    Step::Shows(Shown::Slot(COURT_AT_18, 3, false)),
+    Step::Shows(Shown::Slot(ROOM_AT_18, 1, false)),
+    Step::Applies(Write::Cancel(8, 300)),
+    Step::Shows(Shown::Slot(COURT_AT_18, 3, false)),
+    Step::Shows(Shown::Slot(ROOM_AT_18, 0, false)),
+];
+
+#[test]
+fn counts_the_persons_of_a_slot(rt: HostRuntime) {
+    plays(&rt, &mut with_rows(&rt), &PERSONS);
+}
+
+static CLOSES: [Step; 3] = [
+    Step::Applies(Write::Close(At("court-1", DAY, 9))),
+    Step::Shows(Shown::Slot(At("court-1", DAY, 9), 0, true)),
+    Step::Shows(Shown::Slot(At("court-1", DAY, 10), 0, false)),
+];
+
+#[test]
+fn closes_a_slot(rt: HostRuntime) {
+    plays(&rt, &mut with_rows(&rt), &CLOSES);
+}
+
+const COURT_10: Booked = Booked {
+    number: 10,
+    at: COURT_AT_18,
+    guests: 0,
+    charge: 200,
+    left: 0,
+    refund: None,
+};
+
+const COURT_3_AT_9: Booked = Booked {
+    number: 3,
+    at: At("court-1", DAY, 9),
+    guests: 0,
+    charge: 200,
+    left: 3,
+    refund: None,
+};
+
+const COURT_4_A_DAY_LATER: Booked = Booked {
+    number: 4,
+    at: At("court-1", "2026-05-02", 18),
+    guests: 1,
+    charge: 400,
+    left: 2,
+    refund: None,
+};
+
+const FULL_SHEET: &str = "\
+Day sheet 2026-05-01
+court-1                  18:00 amy-1                            7  3    600
+court-1                  18:00 amy-1                           10  1    200
+room-1                   18:00 amy-1                            8  1    601
+Total bookings 3, persons 5, charge 1401
+";
+
+const EMPTY_SHEET: &str = "Day sheet 2026-05-03\nNo bookings.\n";
+
+/// Three bookings of a day in another order than the sheet's, one that is cancelled, and one of the
+/// next day.
+static DAYS: [Step; 9] = [
+    Step::Applies(Write::Credit(10_000)),
+    Step::Applies(Write::Book(ROOM_8)),
+    Step::Applies(Write::Book(COURT_10)),
+    Step::Applies(Write::Book(COURT_3_AT_9)),
+    Step::Applies(Write::Book(COURT_4_A_DAY_LATER)),
+    Step::Applies(Write::Book(COURT_7)),
+    Step::Applies(Write::Cancel(3, 200)),
+    Step::Shows(Shown::Sheet(DAY, FULL_SHEET)),
+    Step::Shows(Shown::Sheet("2026-05-03", EMPTY_SHEET)),
+];
+
+#[test]
+fn returns_a_day_in_order(rt: HostRuntime) {
+    plays(&rt, &mut with_rows(&rt), &DAYS);
+}
+
+/// An account, two slots, a booking that is there and one that isn't.
+static VIEWS: [Step; 5] = [
+    Step::Shows(Shown::View(Asked::Account, 0, None)),
+    Step::Shows(Shown::View(Asked::View(COURT_AT_18), 3, None)),
+    Step::Shows(Shown::View(Asked::View(ROOM_AT_18), 0, None)),
+    Step::Shows(Shown::View(Asked::Cancel(7), 3, Some(COURT_7))),
+    Step::Shows(Shown::View(Asked::Cancel(9), 3, None)),
+];
+
+#[test]
+fn shows_what_a_key_sees(rt: HostRuntime) {
+    plays(&rt, &mut with_bookings(&rt), &VIEWS);
+}
+
+/// The writes of the office by the calls of their own names.
+static OFFICE: [Step; 7] = [
+    Step::Calls(Write::Member(0)),
+    Step::Shows(Shown::Member(Some(0))),
+    Step::Calls(Write::Credit(9_000)),
+    Step::Calls(Write::Credit(99)),
+    Step::Shows(Shown::Member(Some(9_099))),
+    Step::Calls(Write::Facility(ROOM)),
+    Step::Shows(Shown::Facility(ROOM)),
+];
+
+#[test]
+fn makes_the_writes_of_the_office(rt: HostRuntime) {
+    plays(&rt, &mut empty(&rt), &OFFICE);
+}
+
+static KEYS_AND_SLOTS: [Step; 9] = [
+    Step::Calls(Write::Member(0)),
+    Step::Calls(Write::Facility(ROOM)),
+    Step::Calls(Write::Key(AMY_1)),
+    Step::Shows(Shown::Key(AMY_1)),
+    Step::Calls(Write::Revoke),
+    Step::Shows(Shown::Key(REVOKED)),
+    Step::Calls(Write::Close(At("room-1", DAY, 9))),
+    Step::Shows(Shown::Slot(At("room-1", DAY, 9), 0, true)),
+    Step::Shows(Shown::Slot(At("room-1", DAY, 10), 0, false)),
+];
+
+#[test]
+fn makes_the_writes_of_keys_and_slots(rt: HostRuntime) {
+    plays(&rt, &mut empty(&rt), &KEYS_AND_SLOTS);
+}
+
+/// With ample memory each call answers, and doesn't end for want of it.
+#[test]
+fn answers_with_ample_memory(rt: HostRuntime) {
+    plays(&rt, &mut empty(&rt), &OFFICE);
+    plays(&rt, &mut empty(&rt), &KEYS_AND_SLOTS);
+    plays(&rt, &mut with_rows(&rt), &DAYS);
+    plays_again(&rt, with_bookings(&rt), &VIEWS, &VIEWS);
+}
+
+static TWICE: [Step; 3] = [
+    Step::Calls(Write::Member(0)),
+    Step::Refuses(Write::Member(0)),
+    Step::Shows(Shown::Member(Some(0))),
+];
+
+#[test]
+fn refuses_what_the_tables_have(rt: HostRuntime) {
+    plays(&rt, &mut empty(&rt), &TWICE);
+}
+
+/// By what each store of a club has.
+static CREDITS: [Step; 3] = [
+    Step::Calls(Write::Member(0)),
+    Step::Applies(Write::Credit(5)),
+    Step::Shows(Shown::Member(Some(5))),
+];
+
+#[test]
+fn is_the_store_of_a_club(rt: HostRuntime) {
+    plays(&rt, &mut empty(&rt), &CREDITS);
+}

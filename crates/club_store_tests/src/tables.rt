@@ -1,0 +1,222 @@
+//! Tables in memory, and the steps of a test over them: what is written, and what reads return.
+
+ghost use Rattle.std.specs.Prelude.{◌≡◌, false};
+
+use crate::expect::expect_eq;
+use crate::rows::{
+    AMY_1, At, Booked, COURT, COURT_7, Kept, Older, Place, amy, booking, booking_of, day,
+    facility_of, key, key_of, moment, name, number, older_root, older_root_of, root, slot,
+};
+use crate::write::{Write, change};
+use club_core::{Change, SlotUse, StoreFault};
+use club_tables::{Rotation, open_tables, reads, writes};
+use club_values::Name;
+use sqlite::{Connection, MemStore};
+use std::alloc::Global;
+use std::process::Abort;
+
+/// The tables of a club. The calls are those of `club_tables`, over a connection that is in no
+/// transaction between them.
+#[derive(Drop)]
+pub(crate) struct Tables {
+    conn: Connection<MemStore>,
+    ghost idle: { conn.in_transaction ≡ false },
+}
+
+#[derive(Clone, Copy)]
+pub(crate) enum Step {
+    /// Finds the tables that are there.
+    Opens,
+    Writes(Write),
+    /// Gives amy's key a new root beside an older one.
+    Rotates(&'static str, Older),
+    /// Adds a key that has an older root, which is refused.
+    Refuses(Kept),
+    /// Cancels a booking of amy's with a refund.
+    Cancels(Booked, u32),
+    Expects(Expected),
+}
+
+/// What a read of the tables is expected to return.
+#[derive(Clone, Copy)]
+pub(crate) enum Expected {
+    /// Of a name the member's points, and what the bookings cost.
+    Member(&'static str, Option<(u32, u32)>),
+    Facility(&'static str, Option<Place>),
+    Key(&'static str, Option<Kept>),
+    OlderRoot(&'static str, Option<Older>),
+    /// So many persons in a slot, which is closed or isn't.
+    Slot(At, u32, bool),
+    /// The booking of `amy-1` with a number.
+    Booking(u32, Option<Booked>),
+    /// The only booking of a day; `None` where there is none.
+    Day(&'static str, Option<Booked>),
+    /// What a key has spent.
+    Spent(&'static str, u64),
+    /// How many bookings of a member are still to come at a moment.
+    Open(&'static str, &'static str, u64),
+}
+
+/// The tables with amy's points in two credits, her key, the court and her booking of it.
+static FILLS: [Step; 5] = [
+    Step::Writes(Write::Member(9_000)),
+    Step::Writes(Write::Credit(1_000)),
+    Step::Writes(Write::Key(AMY_1)),
+    Step::Writes(Write::Facility(COURT)),
+    Step::Writes(Write::Book(COURT_7)),
+];
+
+impl Tables {
+    /// Those of an empty club.
+    pub fn empty(rt: &(impl Abort + Alloc<A = Global>)) -> Tables {
+        let mut conn = Connection::open_in_memory(rt.alloc()).expect(rt, "memory");
+        expect_eq(rt, &open_tables(&mut conn), &Ok(()));
+        Tables { conn }
+    }
+
+    pub fn filled(rt: &(impl Abort + Alloc<A = Global>)) -> Tables {
+        let mut tables = Tables::empty(rt);
+        tables.plays_all(rt, &FILLS);
+        tables
+    }
+
+    /// Plays the steps, and ends the test at the first that fails.
+    pub fn plays_all(&mut self, rt: &(impl Abort + Alloc<A = Global>), steps: &[Step]) {
+        for step in steps {
+            self.play(rt, step);
+        }
+    }
+
+    fn play(&mut self, rt: &(impl Abort + Alloc<A = Global>), step: &Step) {
+        match step {
+            Step::Opens => expect_eq(rt, &open_tables(&mut self.conn), &Ok(())),
+            Step::Writes(write) => self.makes(rt, &change(rt, write)),
+            Step::Rotates(to, older) => self.rotates(rt, to, older),
+            Step::Refuses(kept) => self.refuses(rt, kept),
+            Step::Cancels(booked, refund) => self.cancels(rt, booked, *refund),
+            Step::Expects(expected) => self.expects(rt, expected),
+        }
+    }
+
+    fn makes(&mut self, rt: &impl Abort, change: &Change) {
+        expect_eq(rt, &self.made(change, &name(rt, "amy")), &Ok(()));
+    }
+
+    /// Makes a change of a member. A new root takes the older one too, so it isn't made here.
+    fn made(&mut self, change: &Change, amy: &Name) -> Result<(), StoreFault> {
+        let conn = &mut self.conn;
+        match change {
+            Change::InsertMember(member) => writes::insert_member(conn, member),
+            Change::AddCredit { member, points } => writes::add_credit(conn, member, *points),
+            Change::InsertFacility(facility) => writes::insert_facility(conn, facility),
+            Change::InsertKey(key) => writes::insert_key(conn, key),
+            Change::MarkRevoked { key } => writes::revoke_key(conn, key),
+            Change::ReplaceRoot { .. } => Err(StoreFault::Storage),
+            Change::MarkClosed(slot) => writes::close_slot(conn, slot),
+            Change::InsertBooking(booking) => writes::insert_booking(conn, booking, amy),
+            Change::MarkCancelled {
+                key,
+                number,
+                refund,
+            } => writes::mark_cancelled(conn, key, *number, *refund),
+        }
+    }
+
+    fn rotates(&mut self, rt: &impl Abort, to: &str, older: &Older) {
+        let rotation = Rotation {
+            key: name(rt, "amy-1"),
+            root: root(rt, to),
+            older: older_root(rt, older),
+        };
+        expect_eq(
+            rt,
+            &writes::replace_root(&mut self.conn, &rotation),
+            &Ok(()),
+        );
+    }
+
+    fn refuses(&mut self, rt: &impl Abort, kept: &Kept) {
+        let refused = writes::insert_key(&mut self.conn, &key(rt, kept));
+        expect_eq(rt, &refused, &Err(StoreFault::Storage));
+    }
+
+    fn cancels(&mut self, rt: &impl Abort, booked: &Booked, refund: u32) {
+        let booking = booking(rt, booked);
+        let amy = name(rt, "amy");
+        let cancelled = writes::cancel_booking(&mut self.conn, &booking, &amy, refund);
+        expect_eq(rt, &cancelled, &Ok(()));
+    }
+
+    fn expects(&mut self, rt: &(impl Abort + Alloc<A = Global>), expected: &Expected) {
+        match expected {
+            Expected::Member(member, points) => self.expects_member(rt, member, points),
+            Expected::Facility(facility, place) => self.expects_facility(rt, facility, place),
+            Expected::Key(key, kept) => self.expects_key(rt, key, kept),
+            Expected::OlderRoot(key, older) => self.expects_older_root(rt, key, older),
+            Expected::Slot(at, taken, closed) => self.expects_slot(rt, at, *taken, *closed),
+            Expected::Booking(number, booked) => self.expects_booking(rt, *number, booked),
+            Expected::Day(date, booked) => self.expects_day(rt, date, booked),
+            Expected::Spent(key, points) => self.expects_spent(rt, key, *points),
+            Expected::Open(member, at, count) => self.expects_open(rt, member, at, *count),
+        }
+    }
+
+    fn expects_member(&mut self, rt: &impl Abort, member: &str, points: &Option<(u32, u32)>) {
+        let found = reads::member(&mut self.conn, &name(rt, member)).expect(rt, "an answer");
+        match (found, points) {
+            (Some(row), Some(points)) => {
+                expect_eq(rt, &row.member, &amy(rt, points.0));
+                expect_eq(rt, &row.used, &points.1);
+            }
+            (found, points) => expect_eq(rt, &found.is_some(), &points.is_some()),
+        }
+    }
+
+    fn expects_facility(&mut self, rt: &impl Abort, facility: &str, place: &Option<Place>) {
+        let found = reads::facility(&mut self.conn, &name(rt, facility));
+        expect_eq(rt, &found, &Ok(facility_of(rt, place)));
+    }
+
+    fn expects_key(&mut self, rt: &impl Abort, key: &str, kept: &Option<Kept>) {
+        let found = reads::key(&mut self.conn, &name(rt, key));
+        expect_eq(rt, &found, &Ok(key_of(rt, kept)));
+    }
+
+    fn expects_older_root(&mut self, rt: &impl Abort, key: &str, older: &Option<Older>) {
+        let found = reads::older_root(&mut self.conn, &name(rt, key));
+        expect_eq(rt, &found, &Ok(older_root_of(rt, older)));
+    }
+
+    fn expects_slot(&mut self, rt: &impl Abort, at: &At, taken: u32, closed: bool) {
+        let found = reads::slot(&mut self.conn, &slot(rt, at));
+        expect_eq(rt, &found, &Ok(SlotUse { taken, closed }));
+    }
+
+    fn expects_booking(&mut self, rt: &impl Abort, booking: u32, booked: &Option<Booked>) {
+        let amy_1 = name(rt, "amy-1");
+        let found = reads::booking(&mut self.conn, &amy_1, number(rt, booking));
+        expect_eq(rt, &found, &Ok(booking_of(rt, booked)));
+    }
+
+    fn expects_day(
+        &mut self,
+        rt: &(impl Abort + Alloc<A = Global>),
+        date: &str,
+        booked: &Option<Booked>,
+    ) {
+        let found = reads::day(&mut self.conn, rt.alloc(), day(rt, date));
+        let rows = found.expect(rt, "an answer");
+        expect_eq(rt, &rows.len(), &usize::from(booked.is_some()));
+        expect_eq(rt, &rows.first().copied(), &booking_of(rt, booked));
+    }
+
+    fn expects_spent(&mut self, rt: &impl Abort, key: &str, points: u64) {
+        let found = reads::spent(&mut self.conn, &name(rt, key));
+        expect_eq(rt, &found, &Ok(points));
+    }
+
+    fn expects_open(&mut self, rt: &impl Abort, member: &str, at: &str, count: u64) {
+        let found = reads::open_count(&mut self.conn, &name(rt, member), moment(rt, at));
+        expect_eq(rt, &found, &Ok(count));
+    }
+}

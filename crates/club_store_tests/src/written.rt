@@ -1,0 +1,104 @@
+//! Tests of the changes: the rows that each leaves.
+
+use crate::rows::{AMY_1, At, Booked, COURT_7, COURT_AT_18, DAY, FIRST, Kept, Older, SECOND};
+use crate::tables::{Expected, Step, Tables};
+use crate::write::Write;
+use std::test::*;
+
+/// The court's booking, cancelled for half its price.
+const CANCELLED_7: Booked = Booked {
+    number: 7,
+    at: COURT_AT_18,
+    guests: 2,
+    charge: 600,
+    left: 1,
+    refund: Some(300),
+};
+
+/// The refund goes back to the member and the key, and the places to the slot.
+static CANCELS: [Step; 7] = [
+    Step::Cancels(COURT_7, 300),
+    Step::Expects(Expected::Booking(7, Some(CANCELLED_7))),
+    Step::Expects(Expected::Spent("amy-1", 300)),
+    Step::Expects(Expected::Member("amy", Some((10_000, 300)))),
+    Step::Expects(Expected::Slot(COURT_AT_18, 0, false)),
+    Step::Expects(Expected::Open("amy", "2026-04-20T12:00", 0)),
+    Step::Expects(Expected::Day(DAY, None)),
+];
+
+#[test]
+fn a_cancellation(rt: HostRuntime) {
+    Tables::filled(&rt).plays_all(&rt, &CANCELS);
+}
+
+static CANCELS_NONE: [Step; 4] = [
+    Step::Writes(Write::Cancel(8, 300)),
+    Step::Expects(Expected::Booking(7, Some(COURT_7))),
+    Step::Expects(Expected::Booking(8, None)),
+    Step::Expects(Expected::Spent("amy-1", 600)),
+];
+
+#[test]
+fn a_cancellation_of_none(rt: HostRuntime) {
+    Tables::filled(&rt).plays_all(&rt, &CANCELS_NONE);
+}
+
+/// A slot whose places are taken, and one that was never booked.
+static CLOSES: [Step; 4] = [
+    Step::Writes(Write::Close(COURT_AT_18)),
+    Step::Expects(Expected::Slot(COURT_AT_18, 3, true)),
+    Step::Writes(Write::Close(At("court-1", DAY, 19))),
+    Step::Expects(Expected::Slot(At("court-1", DAY, 19), 0, true)),
+];
+
+#[test]
+fn closed_slots(rt: HostRuntime) {
+    Tables::filled(&rt).plays_all(&rt, &CLOSES);
+}
+
+const OLDER: Older = Older(FIRST, "2026-04-25T00:00");
+
+const ROTATED: Kept = Kept {
+    name: "amy-1",
+    root: SECOND,
+    older: None,
+    revoked: false,
+};
+
+const ROTATED_AND_REVOKED: Kept = Kept {
+    name: "amy-1",
+    root: SECOND,
+    older: None,
+    revoked: true,
+};
+
+/// An older root has a row in a table of its own.
+static ROTATES: [Step; 5] = [
+    Step::Rotates(SECOND, OLDER),
+    Step::Expects(Expected::OlderRoot("amy-1", Some(OLDER))),
+    Step::Expects(Expected::Key("amy-1", Some(ROTATED))),
+    Step::Writes(Write::Revoke),
+    Step::Expects(Expected::Key("amy-1", Some(ROTATED_AND_REVOKED))),
+];
+
+#[test]
+fn a_rotation_and_a_revoked_key(rt: HostRuntime) {
+    Tables::filled(&rt).plays_all(&rt, &ROTATES);
+}
+
+/// A new key has no older root.
+static REFUSES: [Step; 3] = [
+    Step::Refuses(Kept {
+        name: "amy-2",
+        root: FIRST,
+        older: Some(OLDER),
+        revoked: false,
+    }),
+    Step::Expects(Expected::Key("amy-2", None)),
+    Step::Expects(Expected::OlderRoot("amy-2", None)),
+];
+
+#[test]
+fn a_new_key_with_an_older_root(rt: HostRuntime) {
+    Tables::filled(&rt).plays_all(&rt, &REFUSES);
+}

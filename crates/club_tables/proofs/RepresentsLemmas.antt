@@ -1,0 +1,122 @@
+-- A call that changes nothing leaves the club that is represented.
+use Rattle.std.proofs.Common.{◌≡◌, ℕ, ◌+◌, ◌≤◌, List, [], ◌∷◌, IsTrue, Option, Some, None, Result, Ok, Err, IfOk, OnOk, OnErr, true, inl, inr, refl, sym, subst}
+use Rattle.std.proofs.Common.{ap, ◌∙◌, arith}
+use Rattle.sqlite.specs.Order.{Row}
+use Rattle.sqlite.specs.Schema.{Schema}
+use Rattle.sqlite.specs.Store.{Ghosts}
+use Rattle.sqlite.specs.Effect.{Database, Reads}
+use Rattle.sqlite.specs.Command.{Command}
+use Rattle.sqlite.specs.Listing.{understood, reads_listing}
+use Rattle.sqlite_schema.specs.declared.command.Returning.{Returning}
+use Rattle.sqlite_resolve.specs.declared.compiled.Compiled.{Compiled}
+use Rattle.sqlite.specs.State.{State, HasCleanDisk, Survives, Shown, ShowsRows}
+use Rattle.sqlite.specs.Held.{Held, state}
+use Rattle.sqlite.proofs.StateLemmas.{survives_then}
+use Rattle.sqlite.proofs.Callers.{IsPlain, command_of, reads_as}
+use Rattle.club_core.specs.Club.{Club}
+use Rattle.club_core.specs.Store.{KeepsClub}
+use Rattle.club_tables.specs.Schema.{club_schema}
+use Rattle.club_tables.specs.Columns.{key_values, booking_values}
+use Rattle.club_tables.specs.Tables.{HoldsClub, HoldsClubVersion1, HoldsClubVersion2, Holds, HoldsClubAnyVersion, RepresentsBy, Represents, keys_tree}
+use Rattle.club_tables.specs.Tables.{bookings_tree}
+use Rattle.club_tables.specs.ReadsAndChanges.{represents_in, version_1_in, version_2_in, found_in}
+use Rattle.club_tables.specs.Transaction.{Asked, IsKept, transaction_start}
+
+-- the state represents the same club, by whichever predicate a database holds it
+pub represents_on : (IsHeld : Database → Club → Type 0) (old new : State) → IsKept old new → Survives old new (λ _. ⊥) → (club : Club) (others : List Club)
+    → RepresentsBy IsHeld old club others → RepresentsBy IsHeld new club others
+represents_on IsHeld old new kept quiet club others rests =
+    let earlier = λ (clean : HasCleanDisk new). let e : HasCleanDisk old = omega (arith, quiet.clean) in e in
+    record {
+      held = λ clean is_open. let k = kept clean is_open in subst (λ db. IsHeld db club) (sym k.2) (rests.held (earlier clean) k.0);
+      settled = λ clean is_open. let k = kept clean is_open in k.1 ∙ sym k.2;
+      left = λ clean trees may. elim (quiet.crash clean trees may) [ inl was ↦ rests.left (earlier clean) trees was | inr none ↦ absurd none ];
+    }
+
+pub keeps_club : {S : Type 0} (g : Ghosts S) (old new : Held S) → IsKept (state g old) (state g new) → Survives (state g old) (state g new) (λ _. ⊥)
+    → KeepsClub (represents_in g) old new
+keeps_club g old new kept quiet club others represents = represents_on HoldsClub (state g old) (state g new) kept quiet club others represents
+
+shown_open : (sql : List ℕ) (old new : State) (c : Compiled) (full : Row) (rows : List Row) (returning : Option Returning)
+    → ShowsRows old new sql c full rows returning → IsTrue old.is_open
+shown_open sql old new c full rows None h = h.3.0.was_open
+shown_open sql old new c full rows (Some what) h = h.1.shown.was_open
+
+-- what was asked was asked of a connection that was open
+pub asked_open : {S : Type 0} (g : Ghosts S) (sql : List ℕ) (params : Row) (old : Held S) (rows : List Row) → Asked g sql params old rows
+    → IsTrue (state g old).is_open
+unfolding Shown
+asked_open g sql params old rows asked = shown_open sql (state g (transaction_start old))
+    (state g asked.mid) asked.shown.0 _ rows asked.shown.0.returning asked.shown.2
+
+-- the tables at the time of a query
+pub asked_tables : {S : Type 0} (g : Ghosts S) (sql : List ℕ) (params : Row) (old : Held S) (rows : List Row) → Asked g sql params old rows
+    → HasCleanDisk (state g old) → (club : Club) (others : List Club) → Represents (state g old) club others → HoldsClub (state g old).now club
+asked_tables g sql params old rows asked clean club others represents =
+    let is_open = asked_open g sql params old rows asked in
+    subst (λ (db : Database). HoldsClub db club) (sym (represents.settled clean is_open)) (represents.held clean is_open)
+
+-- and what they answered
+pub asked_reads : {S : Type 0} (g : Ghosts S) (sql : List ℕ) (params : Row) (old : Held S) (rows : List Row) → Asked g sql params old rows
+    → (state g old).now.schema ≡ club_schema
+    → (command : Command) → command_of (understood club_schema sql) ≡ command → IsPlain (understood club_schema sql)
+    → reads_listing club_schema sql ≡ Rattle.std.proofs.Common.false → Reads command (state g old).now params rows
+asked_reads g sql params old rows asked schema command is plain unlisted =
+    reads_as sql params (state g (transaction_start old)) (state g asked.mid) club_schema schema command is plain unlisted rows asked.shown
+
+-- the same over other tables
+pub reads_over : {S : Type 0} (g : Ghosts S) (sql : List ℕ) (params : Row) (old : Held S) (rows : List Row) → Asked g sql params old rows
+    → (schema : Schema) → (state g old).now.schema ≡ schema
+    → (command : Command) → command_of (understood schema sql) ≡ command → IsPlain (understood schema sql)
+    → reads_listing schema sql ≡ Rattle.std.proofs.Common.false → Reads command (state g old).now params rows
+reads_over g sql params old rows asked schema is_over command is plain unlisted =
+    reads_as sql params (state g (transaction_start old)) (state g asked.mid) schema is_over command is plain unlisted rows asked.shown
+
+pub if_ok_map : {A E : Type 0} (P Q : A → Type 0) (r : Result A E) → IfOk r P → ((x : A) → P x → Q x) → IfOk r Q
+if_ok_map P Q (Ok x) p f = f x p
+if_ok_map P Q (Err e) p f = tt
+
+pub on_ok : {A E : Type 0} {P Q : Type 0} (r : Result A E) → OnOk r P → (P → Q) → OnOk r Q
+on_ok (Ok x) p f = f p
+on_ok (Err e) p f = tt
+
+pub on_err : {A E : Type 0} {P Q : Type 0} (r : Result A E) → OnErr r P → (P → Q) → OnErr r Q
+on_err (Ok x) p f = tt
+on_err (Err e) p f = f p
+
+pub any_err : {A E : Type 0} {P : Type 0} (r : Result A E) → P → OnErr r P
+any_err (Ok x) p = tt
+any_err (Err e) p = p
+
+pub keeps_found : {S : Type 0} (g : Ghosts S) (old new : Held S) → IsKept (state g old) (state g new) → Survives (state g old) (state g new) (λ _. ⊥)
+    → KeepsClub (found_in g) old new
+keeps_found g old new kept quiet club others found = represents_on HoldsClubAnyVersion (state g old) (state g new) kept quiet club others found
+
+pub keeps_first : {S : Type 0} (g : Ghosts S) (old new : Held S) → IsKept (state g old) (state g new) → Survives (state g old) (state g new) (λ _. ⊥)
+    → KeepsClub (version_1_in g) old new
+keeps_first g old new kept quiet club others first = represents_on HoldsClubVersion1 (state g old) (state g new) kept quiet club others first
+
+pub keeps_second : {S : Type 0} (g : Ghosts S) (old new : Held S) → IsKept (state g old) (state g new)
+    → Survives (state g old) (state g new) (λ _. ⊥) → KeepsClub (version_2_in g) old new
+keeps_second g old new kept quiet club others second = represents_on HoldsClubVersion2 (state g old) (state g new) kept quiet club others second
+
+pub survives_same : (s : State) → Survives s s (λ _. ⊥)
+survives_same s = record {
+  clean = omega arith;
+  shield = λ h. h;
+  counts = omega arith;
+  limit = refl;
+  closes = λ _ is_open. inl is_open;
+  crash =
+      λ _ db may. inl may;
+}
+
+pub survives_none : (a b c : State) → Survives a b (λ _. ⊥) → Survives b c (λ _. ⊥) → Survives a c (λ _. ⊥)
+survives_none a b c p q = survives_then a b c (λ _. ⊥) (λ _. ⊥) (λ _. ⊥) (λ _ db none. none) (λ _ db none. none) p q
+
+-- the tables hold the club's own keys and bookings
+pub keys_held : (db : Database) (club : Club) → (tables : HoldsClub db club) → Holds key_values (db.trees keys_tree) club.keys
+keys_held db club tables = subst (Holds key_values (db.trees keys_tree)) tables.stored.keys tables.holds_rows.keys
+
+pub bookings_held : (db : Database) (club : Club) → (tables : HoldsClub db club) → Holds booking_values (db.trees bookings_tree) club.bookings
+bookings_held db club tables = subst (Holds booking_values (db.trees bookings_tree)) tables.stored.bookings tables.holds_rows.bookings

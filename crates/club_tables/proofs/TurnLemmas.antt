@@ -1,0 +1,51 @@
+-- Statements that are run in turn.
+use Rattle.std.proofs.Common.{◌≡◌, ℕ, ◌+◌, ◌<◌, ◌≤◌, List, [], ◌∷◌, ◌++◌, length, map, take, get_or, zero, suc, Ok, Err}
+use Rattle.std.proofs.Common.{inl, inr, refl, sym, subst, add-one, arith}
+use Rattle.std.proofs.Math.Seq.{take-suc, take_all}
+use Rattle.std.proofs.lemmas.List.{map-append}
+use Rattle.sqlite.specs.Store.{Ghosts}
+use Rattle.sqlite.specs.State.{Executes, ExecutesInside}
+use Rattle.sqlite.specs.Steps.{FailsToCommit}
+use Rattle.sqlite.specs.Held.{Held, state}
+use Rattle.sqlite.specs.declared.error.Error.{Error}
+use Rattle.club_tables.specs.declared.transaction.Statement.{Statement}
+use Rattle.club_tables.specs.Transaction.{BoundStatement, bound_statement, RanInTurn}
+use Rattle.club_tables.specs.Fault.{FailsInTurn}
+
+module _ {S : Type 0} (g : Ghosts S) where
+  -- one statement more
+  pub turn_more : (all : List BoundStatement) (statement : BoundStatement) (a b c : Held S) (count : ℕ) → RanInTurn g all a b
+      → Executes statement.0 statement.1 (state g b) (state g c) (Ok count) → RanInTurn g (all ++ statement ∷ []) a c
+  turn_more [] statement a b c count before one = (c, count, subst (λ h. Executes statement.0 statement.1 (state g h) (state g c) (Ok count)) before one, refl)
+  turn_more (first ∷ all) statement a b c count before one = (before.0, before.1, before.2, turn_more all statement before.0 b c count before.3 one)
+
+  pub turn_at : (statements : List Statement) (at : ℕ) (d : Statement) (a b c : Held S) (count : ℕ) → at < length statements
+      → RanInTurn g (map bound_statement (take at statements)) a b
+      → Executes (bound_statement (get_or statements at d)).0 (bound_statement (get_or statements at d)).1 (state g b) (state g c) (Ok count)
+      → RanInTurn g (map bound_statement (take (at + 1) statements)) a c
+  turn_at statements at d a b c count within before one =
+      let front = map bound_statement (take at statements) in
+      let more : map bound_statement (take (at + 1) statements) ≡ front ++ bound_statement (get_or statements at d) ∷ [] =
+      rw (add-one, take-suc statements at d within, map-append bound_statement (take at statements) (get_or statements at d ∷ [])) in
+      subst (λ all. RanInTurn g all a c) (sym more) (turn_more front (bound_statement (get_or statements at d)) a b c count before one)
+
+  pub turn_all : (statements : List Statement) (at : ℕ) (a b : Held S) → length statements ≤ at → RanInTurn g (map bound_statement (take at statements)) a b
+      → RanInTurn g (map bound_statement statements) a b
+  turn_all statements at a b past before = subst (λ all. RanInTurn g (map bound_statement all) a b) (take_all at statements past) before
+
+  -- after those before it, a statement is refused
+  pub fails_at : (statements : List Statement) (at : ℕ) (d : Statement) (a b c : Held S) (error : Error) → at < length statements
+      → RanInTurn g (map bound_statement (take at statements)) a b
+      → ExecutesInside 0 (bound_statement (get_or statements at d)).0 (bound_statement (get_or statements at d)).1 (state g b) (state g c) (Err error)
+      → FailsInTurn g (map bound_statement statements) a c error
+  fails_at [] at d a b c error within before one = absurd (omega arith)
+  fails_at (s ∷ statements) zero d a b c error within before one =
+      inl (subst (λ h. ExecutesInside 0 (bound_statement s).0 (bound_statement s).1 (state g h) (state g c) (Err error)) before one)
+  fails_at (s ∷ statements) (suc at) d a b c error within before one =
+      inr (before.0, before.1, before.2, fails_at statements at d before.0 b c error (omega arith) before.3 one)
+
+  -- after all of them, their commit is
+  pub fails_last : (all : List BoundStatement) (a b c : Held S) (error : Error) → RanInTurn g all a b → FailsToCommit (state g b) (state g c) error
+      → FailsInTurn g all a c error
+  fails_last [] a b c error before last = subst (λ h. FailsToCommit (state g h) (state g c) error) before last
+  fails_last (statement ∷ all) a b c error before last = inr (before.0, before.1, before.2, fails_last all before.0 b c error before.3 last)

@@ -1,0 +1,79 @@
+-- The statements that make each change, with the values of their parameters (ours).
+use Rattle.std.specs.Prelude.{◌≡◌, ◌⊎◌, ℕ, pos, neg_ℤ, List, [], ◌∷◌, ◌++◌}
+use Rattle.sqlite_value.specs.declared.value.Value.TheVariants.{Int, Text, Blob}
+use Rattle.sqlite_value.specs.Order.{Row}
+use Rattle.club_values.specs.declared.slot.Slot.{Slot}
+use Rattle.club_rows.specs.declared.member.Member.{Member}
+use Rattle.club_rows.specs.declared.facility.Facility.{Facility}
+use Rattle.club_rows.specs.declared.key.Key.{Key}
+use Rattle.club_rows.specs.declared.key.OlderRoot.{OlderRoot}
+use Rattle.club_rows.specs.declared.booking.Booking.{Booking}
+use Rattle.club_rows.specs.Booking.{persons_of}
+use Rattle.club_core.specs.declared.change.Change.{Change}
+use Rattle.club_core.specs.declared.change.Change.TheVariants.{InsertMember, AddCredit, InsertFacility, InsertKey, MarkRevoked, ReplaceRoot, MarkClosed}
+use Rattle.club_core.specs.declared.change.Change.TheVariants.{InsertBooking, MarkCancelled}
+use Rattle.club_core.specs.Sums.{cost_of}
+use Rattle.club_tables.specs.declared.texts.TheConstants.{ADD_MEMBER, ADD_CREDIT, ADD_FACILITY, ADD_KEY, REVOKE_KEY, PUT_OLDER_ROOT, SET_ROOT, CLOSE_SLOT}
+use Rattle.club_tables.specs.declared.texts.TheConstants.{ADD_BOOKING, CANCEL_BOOKING, ADD_USED, ADD_TAKEN}
+use Rattle.club_tables.specs.Columns.{whole, facility_values, key_values, older_root_values, booking_values, name_values}
+use Rattle.club_tables.specs.Stored.{persons_taken}
+use Rattle.club_tables.specs.Transaction.{BoundStatement}
+
+-- a member, whose bookings have cost nothing
+abbrev pub adding_member : Member → List BoundStatement
+adding_member member = (ADD_MEMBER.now, Text member.name ∷ whole member.credited ∷ whole member.quota ∷ []) ∷ []
+
+abbrev pub adding_credit : List ℕ → ℕ → List BoundStatement
+adding_credit member points = (ADD_CREDIT.now, Text member ∷ whole points ∷ []) ∷ []
+
+abbrev pub adding_facility : Facility → List BoundStatement
+adding_facility facility = (ADD_FACILITY.now, facility_values facility) ∷ []
+
+abbrev pub adding_key : Key → List BoundStatement
+adding_key key = (ADD_KEY.now, key_values key) ∷ []
+
+abbrev pub revoking : List ℕ → List BoundStatement
+revoking key = (REVOKE_KEY.now, Text key ∷ []) ∷ []
+
+abbrev pub closing : Slot → List BoundStatement
+closing slot = (CLOSE_SLOT.now, name_values slot) ∷ []
+
+-- the older root is stored, and the key's root set
+abbrev pub rotating : Row → Row → List BoundStatement
+rotating put set = (PUT_OLDER_ROOT.now, put) ∷ (SET_ROOT.now, set) ∷ []
+
+abbrev pub replacing_root : List ℕ → List ℕ → OlderRoot → List BoundStatement
+replacing_root key root older = rotating (Text key ∷ older_root_values older) (Text key ∷ Blob root ∷ [])
+
+-- a statement on a booking, and the additions to the totals of its member and its slot
+abbrev pub with_totals : List ℕ → Row → Row → Row → List BoundStatement
+with_totals text booking used taken = (text, booking) ∷ (ADD_USED.now, used) ∷ (ADD_TAKEN.now, taken) ∷ []
+
+-- a booking under a key of the member
+abbrev pub adding_booking : Booking → List ℕ → List BoundStatement
+adding_booking booking member =
+    with_totals ADD_BOOKING.now (booking_values booking) (Text member ∷ Int (pos (cost_of booking)) ∷ [])
+    (name_values booking.slot ++ Int (pos (persons_taken booking)) ∷ [])
+
+abbrev pub marking : List ℕ → ℕ → ℕ → List BoundStatement
+marking key number refund = (CANCEL_BOOKING.now, Text key ∷ whole number ∷ whole refund ∷ []) ∷ []
+
+-- a booking of the member is marked, and subtracted from the totals
+abbrev pub cancelling : Booking → List ℕ → ℕ → List BoundStatement
+cancelling booking member refund =
+    with_totals CANCEL_BOOKING.now (Text booking.key ∷ whole booking.number ∷ whole refund ∷ []) (Text member ∷ Int (neg_ℤ (pos refund)) ∷ [])
+    (name_values booking.slot ++ Int (neg_ℤ (pos (persons_of booking))) ∷ [])
+
+-- the statements of a change, with a member, a root or a booking that is read before it
+abbrev pub AreStatementsOf : Change → List BoundStatement → Type 0
+AreStatementsOf (InsertMember member) statements = statements ≡ adding_member member
+AreStatementsOf (AddCredit member points) statements = statements ≡ adding_credit member points
+AreStatementsOf (InsertFacility facility) statements = statements ≡ adding_facility facility
+AreStatementsOf (InsertKey key) statements = statements ≡ adding_key key
+AreStatementsOf (MarkRevoked key) statements = statements ≡ revoking key
+AreStatementsOf (ReplaceRoot key root until) statements = (older : OlderRoot) × (older.until ≡ until) × (statements ≡ replacing_root key root older)
+AreStatementsOf (MarkClosed slot) statements = statements ≡ closing slot
+AreStatementsOf (InsertBooking booking) statements = (member : List ℕ) × (statements ≡ adding_booking booking member)
+AreStatementsOf (MarkCancelled key number refund) statements =
+    (statements ≡ marking key number refund)
+    ⊎ ((booking : Booking) × (member : List ℕ) × (booking.key ≡ key) × (booking.number ≡ number) × (statements ≡ cancelling booking member refund))

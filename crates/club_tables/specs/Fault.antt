@@ -1,0 +1,49 @@
+-- How a call fails: with the fault to which the database's error maps (ours).
+use Rattle.std.specs.Prelude.{◌≡◌, ◌⊎◌, ℕ, ◌≤◌, List, [], ◌∷◌, Result, Ok, Err, IfErr, IsTrue, OnOk, OnErr}
+use Rattle.sqlite.specs.Store.{Ghosts}
+use Rattle.sqlite.specs.Effect.{Database}
+use Rattle.sqlite.specs.State.{HasCleanDisk, Survives, FailsToQuery, IsNotRun, Executes, ExecutesInside}
+use Rattle.sqlite.specs.Steps.{FailsToCommit}
+use Rattle.sqlite.specs.Held.{Held, state}
+use Rattle.sqlite.specs.declared.error.Error.{Error}
+use Rattle.club_core.specs.declared.store.StoreFault.{StoreFault}
+use Rattle.club_tables.specs.Transaction.{BoundStatement, Ran, IsKept, transaction_start, fault_by}
+
+-- the database refused a query with an error that maps to the fault; the count of the disk's failures doesn't shrink
+pub record FailsToAsk {S : Type 0} (g : Ghosts S) (statement : BoundStatement) (old new : Held S) (fault : StoreFault) : Type 0 where
+  pub mid : Held S
+  pub error : Error
+  pub failed : FailsToQuery statement.0 statement.1 (state g (transaction_start old)) (state g mid) error
+  pub fault_count : (state g mid).faults ≤ (state g new).faults
+  pub returned : fault ≡ fault_by error
+
+-- the same for a text that was to be prepared
+pub record FailsToPrepare {S : Type 0} (g : Ghosts S) (sql : List ℕ) (old new : Held S) (fault : StoreFault) : Type 0 where
+  pub mid : Held S
+  pub error : Error
+  pub failed : IsNotRun (state g (transaction_start old)) (state g mid) sql [] error
+  pub fault_count : (state g mid).faults ≤ (state g new).faults
+  pub returned : fault ≡ fault_by error
+
+-- the statements ran in order, within a transaction, up to one that was refused; or all ran, and the commit was refused
+abbrev pub FailsInTurn : {S : Type 0} → Ghosts S → List BoundStatement → Held S → Held S → Error → Type 0
+FailsInTurn g [] old new error = FailsToCommit (state g old) (state g new) error
+FailsInTurn {S} g (statement ∷ more) old new error =
+    ExecutesInside 0 statement.0 statement.1 (state g old) (state g new) (Err error)
+    ⊎ ((mid : Held S) × (count : ℕ) × Executes statement.0 statement.1 (state g old) (state g mid) (Ok count) × FailsInTurn g more mid new error)
+
+-- the same for statements in a transaction of their own
+pub record FailsToRun {S : Type 0} (g : Ghosts S) (all : List BoundStatement) (old new : Held S) (fault : StoreFault) : Type 0 where
+  pub mid : Held S
+  pub error : Error
+  pub failed : FailsInTurn g all (transaction_start old) mid error
+  pub fault_count : (state g mid).faults ≤ (state g new).faults
+  pub returned : fault ≡ fault_by error
+
+-- Statements in a transaction of their own: all ran and were committed, or the committed state is unchanged. After a crash their effects may be there.
+pub record Commits {S : Type 0} (g : Ghosts S) (all : List BoundStatement) (old new : Held S) (result : Result (Unit {0}) StoreFault) : Type 0 where
+  pub ran : HasCleanDisk (state g new) → OnOk result (IsTrue (state g new).is_open × Ran g all old (state g new).committed
+      × ((state g new).now ≡ (state g new).committed))
+  pub kept : OnErr result (IsKept (state g old) (state g new))
+  pub survives : Survives (state g old) (state g new) (λ trees. (db : Database) × Ran g all old db × (trees ≡ db.trees))
+  pub fault : HasCleanDisk (state g new) → IfErr result (FailsToRun g all old new)

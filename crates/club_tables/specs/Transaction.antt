@@ -1,0 +1,78 @@
+-- What statements return or write in a transaction of their own.
+use Rattle.std.specs.Prelude.{◌≡◌, ℕ, ◌<◌, true, List, [], ◌∷◌, length, Ok, IsTrue, is_ok}
+use Rattle.sqlite.specs.Store.{Ghosts}
+use Rattle.sqlite.specs.Order.{Row}
+use Rattle.sqlite.specs.Effect.{Database}
+use Rattle.sqlite.specs.Schema.{Schema}
+use Rattle.sqlite.specs.Listing.{understood}
+use Rattle.sqlite.specs.Tree.{Trees}
+use Rattle.sqlite.specs.State.{State, HasCleanDisk, Executes, Shown}
+use Rattle.sqlite.specs.Held.{Held, state}
+use Rattle.sqlite.specs.declared.error.Error.{Error}
+use Rattle.sqlite.specs.declared.error.Error.TheVariants.{SqliteFailure}
+use Rattle.sqlite.specs.declared.error.ErrorCode.TheVariants.{OutOfMemory}
+use Rattle.sqlite.specs.Values.{bound}
+use Rattle.club_core.specs.declared.store.StoreFault.{StoreFault}
+use Rattle.club_core.specs.declared.store.StoreFault.TheVariants.{Memory, Storage}
+use Rattle.club_tables.specs.declared.transaction.Statement.{Statement}
+
+-- out of memory maps to Memory, each other error to Storage
+abbrev pub fault_by : Error → StoreFault
+fault_by (SqliteFailure OutOfMemory) = Memory
+fault_by _ = Storage
+
+-- a connection at the start of a transaction
+abbrev pub transaction_start : {S : Type 0} → Held S → Held S
+transaction_start held = record held { in_transaction = true }
+
+-- the query ran with these parameters, and returned these rows
+pub record Asked {S : Type 0} (g : Ghosts S) (sql : List ℕ) (params : Row) (old : Held S) (rows : List Row) : Type 0 where
+  pub mid : Held S
+  pub shown : Shown sql params (state g (transaction_start old)) (state g mid) rows
+
+-- the text is a statement over this schema
+abbrev pub IsUnderstood : Schema → List ℕ → Type 0
+IsUnderstood schema sql = IsTrue (is_ok (understood schema sql))
+
+-- nothing was committed, and no write is pending
+abbrev pub IsKept : State → State → Type 0
+IsKept old new = HasCleanDisk new → IsTrue new.is_open → IsTrue old.is_open × (new.now ≡ old.committed) × (new.committed ≡ old.committed)
+
+-- no write is pending
+abbrev pub IsIdle : State → Type 0
+IsIdle state = IsTrue state.is_open → state.now ≡ state.committed
+
+-- a connection that was idle is unchanged
+abbrev pub IsUntouched : State → State → Type 0
+IsUntouched old new = IsIdle old → IsKept old new
+
+-- a statement's text, and the values of its parameters
+abbrev pub BoundStatement : Type 0
+BoundStatement = List ℕ × Row
+
+abbrev pub bound_statement : Statement → BoundStatement
+bound_statement statement = (statement.text.now, bound statement.params.now)
+
+-- these statements ran in order, within a transaction
+abbrev pub RanInTurn : {S : Type 0} → Ghosts S → List BoundStatement → Held S → Held S → Type 0
+RanInTurn g [] old new = new ≡ old
+RanInTurn {S} g (statement ∷ more) old new =
+    (mid : Held S) × (count : ℕ) × Executes statement.0 statement.1 (state g old) (state g mid) (Ok count) × RanInTurn g more mid new
+
+-- these statements ran in order, in a transaction of their own, and left this database
+pub record Ran {S : Type 0} (g : Ghosts S) (all : List BoundStatement) (old : Held S) (db : Database) : Type 0 where
+  pub last : Held S
+  pub opened : 0 < length all → IsTrue (state g old).is_open
+  pub turns : RanInTurn g all (transaction_start old) last
+  pub is : db ≡ (state g last).now
+
+-- these trees may be there after a crash: statements of this kind left them, over a connection in the same state as this one
+pub record MayCommit {S : Type 0} (g : Ghosts S) (AreStatements : List BoundStatement → Type 0) (old : Held S) (trees : Trees) : Type 0 where
+  pub from : Held S
+  pub same : IsUntouched (state g old) (state g from)
+  pub clean : HasCleanDisk (state g from)
+  pub statements : List BoundStatement
+  pub are : AreStatements statements
+  pub db : Database
+  pub ran : Ran g statements from db
+  pub left : trees ≡ db.trees

@@ -1,0 +1,126 @@
+//! Runs a query, prepares a statement, and runs statements that write.
+
+ghost use Rattle.std.specs.Prelude.{◌≡◌, false, map, IfOk, IfErr, OnOk, OnErr, IsTrue};
+ghost use Rattle.sqlite.specs.Values.{bound};
+ghost use Rattle.sqlite.specs.State.{HasCleanDisk, Survives};
+ghost use Rattle.sqlite.specs.Held.{state};
+ghost use Rattle.club_tables.specs.Transaction.{
+  Asked,
+  Ran,
+  IsKept,
+  IsUnderstood,
+  fault_by,
+  bound_statement,
+};
+ghost use Rattle.club_tables.specs.Fault.{FailsToAsk, FailsToPrepare, FailsToRun};
+
+use club_core::StoreFault;
+use sqlite::types::ValueRef;
+use sqlite::{Alter, Connection, Error, ErrorCode, Row};
+
+/// Maps an error of the database to a fault: `Memory` if it ran out of memory, else `Storage`.
+pub fn fault_of(error: Error) -> StoreFault
+    ensures { result ≡ fault_by error }
+{
+    match error {
+        Error::SqliteFailure(ErrorCode::OutOfMemory) => StoreFault::Memory,
+        _ => StoreFault::Storage,
+    }
+}
+
+/// Runs a query and returns its rows. Nothing is changed.
+///
+/// # Errors
+///
+/// The database refused the query; `fault_of` maps its error.
+pub fn ask<S: Alter>(
+    conn: &mut Connection<S>,
+    sql: &str,
+    params: &[ValueRef<'_>],
+) -> Result<Vec<Row>, StoreFault>
+    requires { conn.old.in_transaction ≡ false }
+    ensures idle { conn.new.in_transaction ≡ false }
+    ensures asked { IfOk result (λ rows. HasCleanDisk (state S.Store conn.new) →
+        Asked S.Store sql.now (bound params.now) conn.old rows.items) }
+    ensures fault { HasCleanDisk (state S.Store conn.new) → IfErr result
+        (FailsToAsk S.Store (sql.now, bound params.now) conn.old conn.new) }
+    ensures kept { IsKept (state S.Store conn.old) (state S.Store conn.new) }
+    ensures survives { Survives (state S.Store conn.old) (state S.Store conn.new) (λ _. ⊥) }
+{
+    let mut tx = conn.transaction();
+    let rows = match tx.query_all(sql, params) {
+        Ok(rows) => rows,
+        Err(error) => return Err(fault_of(error)),
+    };
+    tx.rollback();
+    Ok(rows)
+}
+
+/// Prepares a text as a statement over the current schema. Nothing is changed.
+///
+/// # Errors
+///
+/// The text isn't a statement, or the database refused it; `fault_of` maps the error.
+pub fn prepare<S: Alter>(conn: &mut Connection<S>, sql: &str) -> Result<(), StoreFault>
+    requires { conn.old.in_transaction ≡ false }
+    ensures idle { conn.new.in_transaction ≡ false }
+    ensures understood { HasCleanDisk (state S.Store conn.new) → OnOk result
+        (IsUnderstood (state S.Store conn.old).now.schema sql.now) }
+    ensures fault { HasCleanDisk (state S.Store conn.new) → IfErr result
+        (FailsToPrepare S.Store sql.now conn.old conn.new) }
+    ensures kept { IsKept (state S.Store conn.old) (state S.Store conn.new) }
+    ensures survives { Survives (state S.Store conn.old) (state S.Store conn.new) (λ _. ⊥) }
+{
+    let mut tx = conn.transaction();
+    match tx.prepare(sql) {
+        Ok(_) => {}
+        Err(error) => return Err(fault_of(error)),
+    }
+    tx.rollback();
+    Ok(())
+}
+
+/// A statement that writes, with the values of its parameters.
+#[derive(Clone, Copy)]
+pub struct Statement<'a> {
+    /// Its SQL.
+    pub text: &'a str,
+    /// The values of its parameters, in their order.
+    pub params: &'a [ValueRef<'a>],
+}
+
+/// Runs statements in order, in one transaction, and commits them.
+///
+/// # Errors
+///
+/// The database refused one of them, or the commit; `fault_of` maps the error. The committed state
+/// is unchanged. After a crash the statements' effects may still be there, all of them.
+pub fn run<S: Alter>(
+    conn: &mut Connection<S>,
+    statements: &[Statement<'_>],
+) -> Result<(), StoreFault>
+    requires { conn.old.in_transaction ≡ false }
+    ensures idle { conn.new.in_transaction ≡ false }
+    ensures ran { HasCleanDisk (state S.Store conn.new) → OnOk result
+        (IsTrue (state S.Store conn.new).is_open × Ran S.Store
+        (map bound_statement statements.now) conn.old (state S.Store conn.new).committed ×
+        ((state S.Store conn.new).now ≡ (state S.Store conn.new).committed)) }
+    ensures fault { HasCleanDisk (state S.Store conn.new) → IfErr result
+        (FailsToRun S.Store (map bound_statement statements.now) conn.old conn.new) }
+    ensures kept { OnErr result (IsKept (state S.Store conn.old) (state S.Store conn.new)) }
+    ensures survives { Survives (state S.Store conn.old) (state S.Store conn.new)
+        (λ trees. (db : _) × Ran S.Store (map bound_statement statements.now) conn.old db ×
+        (trees ≡ db.trees)) }
+{
+    let mut tx = conn.transaction();
+    for statement in statements {
+        match tx.execute(statement.text, statement.params) {
+            Ok(_) => {}
+            Err(error) => return Err(fault_of(error)),
+        }
+    }
+    match tx.commit() {
+        Ok(()) => Ok(()),
+        Err(error) => Err(fault_of(error)),
+    }
+}

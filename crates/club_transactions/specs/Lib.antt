@@ -1,2 +1,0 @@
-pub mod Transaction
-pub mod Fault

@@ -1,6 +1,0 @@
-use Rattle.club_words.proofs.ScanLemmas.{still_front}
-use Rattle.club_words.proofs.scan.HeadScan.go_on.Goals as goal
-
-pub returns-in-Refused : goal.returns-in-Refused
-returns-in-Refused c =
-    still_front c.args.bytes.now c.args.searched c.args.self.now.fields c.args.self.now.front c.in-Refused.is c.requires.before

@@ -1,0 +1,41 @@
+-- Tasks that await a root.
+use Rattle.std.proofs.Common.{◌≡◌, ◌∙◌, ℕ, List, Option, true, false, inl, inr, refl, ap}
+use Rattle.clubdesk_commands.specs.JobModel.{JobModel}
+use Rattle.clubdesk_commands.specs.Input.{IsWholeInput, awaits_root, with_root}
+use Rattle.clubdesk_commands.specs.Run.{IsOffice}
+use Rattle.clubdesk_commands.specs.declared.task.Service.{Service}
+use Rattle.clubdesk_commands.specs.declared.task.Task.{Task}
+use Rattle.clubdesk_commands.specs.declared.task.Task.TheVariants.{Order, AddKey, AddKeyByInput, RotateKey, RotateKeyByInput}
+use Rattle.clubdesk_commands.specs.declared.task.Task.TheVariants.{Sheet, Serve, Pause, ShowAccount, ShowSlot}
+
+-- with its root a task awaits none
+rooted : (task : Task) (root : List ℕ) → awaits_root task ≡ true → awaits_root (with_root task root) ≡ false
+rooted (AddKeyByInput name member form) root awaits = refl
+rooted (RotateKeyByInput name until form) root awaits = refl
+rooted (Order order) root awaits = refl
+rooted (AddKey name member old form) root awaits = refl
+rooted (RotateKey name old until form) root awaits = refl
+rooted (Sheet day) root awaits = refl
+rooted (Serve service) root awaits = refl
+rooted (Pause seconds) root awaits = refl
+rooted (ShowAccount key clock) root awaits = refl
+rooted (ShowSlot slot) root awaits = refl
+
+pub whole_awaits_none : (job whole : JobModel) (left left' : Option (List ℕ)) → IsWholeInput job left left' whole → awaits_root whole.task ≡ false
+whole_awaits_none job whole left left' (inl (none, same)) = ap (λ (it : JobModel). awaits_root it.task) same ∙ none
+whole_awaits_none job whole left left' (inr (awaits, root, took, same)) =
+    ap (λ (it : JobModel). awaits_root it.task) same ∙ rooted job.task root awaits
+
+-- what is neither a server's task nor a pause, nor awaits a root, is the office's
+pub office_else : (task : Task) → awaits_root task ≡ false → ((service : Service) → task ≡ Serve service → ⊥)
+    → ((seconds : ℕ) → task ≡ Pause seconds → ⊥) → IsOffice task
+office_else (AddKeyByInput name member form) none serves pauses = let bad : true ≡ false = none in cc
+office_else (RotateKeyByInput name until form) none serves pauses = let bad : true ≡ false = none in cc
+office_else (Order order) none serves pauses = tt
+office_else (AddKey name member root form) none serves pauses = tt
+office_else (RotateKey name root until form) none serves pauses = tt
+office_else (Sheet day) none serves pauses = tt
+office_else (Serve service) none serves pauses = absurd (serves service refl)
+office_else (Pause seconds) none serves pauses = absurd (pauses seconds refl)
+office_else (ShowAccount key clock) none serves pauses = tt
+office_else (ShowSlot slot) none serves pauses = tt

@@ -1,0 +1,12 @@
+pub mod AppLemmas
+pub mod ValueLemmas
+pub mod WordsLemmas
+pub mod NamedLemmas
+pub mod WordLaws
+pub mod LookLaws
+pub mod RunLemmas
+pub mod InputLemmas
+pub mod RootTexts
+pub mod ServerLemmas
+pub mod SeenLemmas
+pub mod AtNeedLemmas

@@ -1,0 +1,184 @@
+-- How a run ends, and when it writes nothing.
+use Rattle.std.proofs.Common.{◌≡◌, ◌⊎◌, List, [], ◌∷◌, false, Some, None, Result, Ok, Err, inl, inr, refl, ℕ, Bool, arith, codes}
+use Rattle.std.proofs.lemmas.Bool.Decides.{nat_tests}
+use Rattle.std.specs.Prelude.{IsSome, IfErr}
+use Rattle.clap.specs.Words.{IsAmong, Kinds, Text}
+use Rattle.clap.specs.Walk.{is_empty}
+use Rattle.clap.specs.declared.error.kind.ErrorKind.{ErrorKind}
+use Rattle.clap.specs.declared.error.kind.ErrorKind.TheVariants as kind
+use Rattle.club_core.specs.Club.{Club}
+use Rattle.club_core.specs.declared.store.StoreFault.{StoreFault}
+use Rattle.club_core.specs.declared.store.StoreFault.TheVariants as store
+use Rattle.club_gate.specs.declared.event.OfficeReply.{OfficeReply}
+use Rattle.club_gate.specs.declared.event.OfficeReply.TheVariants as replies
+use Rattle.club_gate.specs.declared.fault.Fault.{Fault as DeskFault}
+use Rattle.club_gate.specs.declared.fault.Fault.TheVariants as desk
+use Rattle.desk_server.specs.declared.log.Fate.{Fate}
+use Rattle.clubdesk_commands.specs.Application.{refusals}
+use Rattle.clubdesk_commands.specs.JobModel.{JobModel}
+use Rattle.clubdesk_commands.specs.Looks as looks
+use Rattle.clubdesk_commands.specs.Office as office
+use Rattle.clubdesk_commands.specs.Office.{PrintsReply, PrintsSheet, fault_of_desk}
+use Rattle.clubdesk_commands.specs.Output.{Output, WritesText}
+use Rattle.clubdesk_commands.specs.AtNeed.{Closing, Opening}
+use Rattle.clubdesk_commands.specs.Fault.{fault_of_opening}
+use Rattle.clubdesk_commands.specs.Run.{Announces, AnswersWords, Does, EndsFor, IsOfTask, IsSilent, Performs, job_of}
+use Rattle.clubdesk_commands.specs.Run as spec
+use Rattle.clubdesk_commands.specs.Words.{AsksText, IsFaultOf, ReadsWords, asked, job_of_words}
+use Rattle.clubdesk_commands.specs.declared.fault.Fault.{Fault}
+use Rattle.clubdesk_commands.specs.declared.fault.Fault.TheVariants.{Refused, Words, BadValue, Memory, Storage, ClockOutOfRange, InputOutput}
+use Rattle.clubdesk_commands.specs.declared.task.Service.{Service}
+use Rattle.clubdesk_commands.specs.declared.task.Task.{Task}
+use Rattle.clubdesk_commands.specs.declared.task.Task.TheVariants.{Order, AddKey, AddKeyByInput, RotateKey, RotateKeyByInput}
+use Rattle.clubdesk_commands.specs.declared.task.Task.TheVariants.{Sheet, Serve, Pause, ShowAccount, ShowSlot}
+use Rattle.clubdesk_commands.specs.declared.words.Asked.{Asked}
+use Rattle.clubdesk_commands.specs.declared.words.Asked.TheVariants.{Perform, ShowText}
+
+-- ---- what the words ask for
+
+some_asked : (words : List Text) (command : JobModel) → refusals words ≡ [] → job_of_words words ≡ Ok command → asked words ≡ Some command
+some_asked words command clear is = rw (clear, is) refl
+
+-- words that give a fault ask for nothing
+among_some : (k : ErrorKind) (kinds : Kinds) → IsAmong k kinds → is_empty kinds ≡ false
+among_some k [] among = absurd among
+among_some k (x ∷ kinds) among = grind (arith, nat_tests)
+
+none_asked : (words : List Text) (k : ErrorKind) → IsAmong k (refusals words) → asked words ≡ None
+none_asked words k among = rw (among_some k (refusals words) among) refl
+
+no_text_asked : (words : List Text) → AsksText words → asked words ≡ None
+no_text_asked words (inl help) = none_asked words kind.DisplayHelp help
+no_text_asked words (inr version) = none_asked words kind.DisplayVersion version
+
+pub task_asked : (words : List Text) (of_words : Asked) → ReadsWords words (Ok of_words) → asked words ≡ job_of of_words
+task_asked words (ShowText text) reads = no_text_asked words reads
+task_asked words (Perform job) reads = some_asked words job reads.0 reads.1
+
+-- words that were parsed as a job ask for that job
+pub same_job : (of_words : Asked) (job asked_for : JobModel) → of_words ≡ Perform job → job_of of_words ≡ Some asked_for → job ≡ asked_for
+same_job of_words job asked_for is requested = let found : job_of (Perform job) ≡ Some asked_for = rw is at requested in cc
+
+-- and so do words with a fault, memory aside
+pub nothing_asked : (words : List Text) (fault : Fault) → IsFaultOf words fault → (fault ≡ Memory) ⊎ (asked words ≡ None)
+nothing_asked words (Words error) (inl among) = inr (none_asked words _ among.0)
+nothing_asked words (Words error) (inr (clear, (refusal, is, of_kind))) = inr (rw (clear, is) refl)
+nothing_asked words BadValue bad = inr (rw (bad.0, bad.1) refl)
+nothing_asked words Memory bad = inl refl
+nothing_asked words (Refused fault) bad = absurd bad
+nothing_asked words Storage bad = absurd bad
+nothing_asked words ClockOutOfRange bad = absurd bad
+nothing_asked words InputOutput bad = absurd bad
+
+some_is : (words : List Text) (command : JobModel) → asked words ≡ Some command → IsSome (asked words)
+some_is words command is = rw is refl
+
+pub run_words : (words : List Text) (of_words : Asked) (result : Result Unit Fault) → ReadsWords words (Ok of_words) → EndsFor of_words result
+    → AnswersWords words result
+run_words words (ShowText text) (Ok done) reads ends = inr reads
+run_words words (ShowText text) (Err fault) reads ends = rw ends (inr reads)
+run_words words (Perform job) (Ok done) reads ends = inl (some_is words job (some_asked words job reads.0 reads.1))
+run_words words (Perform job) (Err (Refused fault)) reads ends = some_is words job (some_asked words job reads.0 reads.1)
+run_words words (Perform job) (Err (Words error)) reads ends = absurd ends
+run_words words (Perform job) (Err BadValue) reads ends = inr (rw (some_asked words job reads.0 reads.1) ends)
+run_words words (Perform job) (Err Memory) reads ends = tt
+run_words words (Perform job) (Err Storage) reads ends = some_is words job (some_asked words job reads.0 reads.1)
+run_words words (Perform job) (Err ClockOutOfRange) reads ends = some_is words job (some_asked words job reads.0 reads.1)
+run_words words (Perform job) (Err InputOutput) reads ends = inl (some_is words job (some_asked words job reads.0 reads.1))
+
+-- ---- the faults of a task
+
+-- a result that is no fault of the words; if it is silent, nothing was written
+pub record EndsWell (Silent : Type 0) (result : Result Unit Fault) : Type 0 where
+  pub of_task : IfErr result IsOfTask
+  pub silent : IfErr result (λ fault. IsSilent fault → Silent)
+
+of_desk : (Silent : Type 0) (fault : DeskFault) (result : Result Unit Fault) → result ≡ Err (fault_of_desk fault) → Silent → EndsWell Silent result
+of_desk Silent desk.Exists result is silent = rw is (record { of_task = tt; silent = λ s. silent })
+of_desk Silent desk.Unknown result is silent = rw is (record { of_task = tt; silent = λ s. silent })
+of_desk Silent desk.OutOfRange result is silent = rw is (record { of_task = tt; silent = λ s. silent })
+of_desk Silent desk.SlotInUse result is silent = rw is (record { of_task = tt; silent = λ s. silent })
+of_desk Silent desk.Memory result is silent = rw is (record { of_task = tt; silent = λ s. silent })
+of_desk Silent desk.Storage result is silent = rw is (record { of_task = tt; silent = λ s. silent })
+
+text_ends : (written : Output) (text : List ℕ) (result : Result Unit Fault) → WritesText text written result → EndsWell written.no_change result
+text_ends written text (Ok done) h = record { of_task = tt; silent = tt }
+text_ends written text (Err InputOutput) h = record { of_task = tt; silent = λ s. absurd s }
+text_ends written text (Err (Refused fault)) h = absurd h
+text_ends written text (Err (Words error)) h = absurd h
+text_ends written text (Err BadValue) h = absurd h
+text_ends written text (Err Memory) h = absurd h
+text_ends written text (Err Storage) h = absurd h
+text_ends written text (Err ClockOutOfRange) h = absurd h
+
+module _ (written : Output) (result : Result Unit Fault) where
+  of_text : (text : List ℕ) → WritesText text written result → EndsWell written.no_change result
+  of_text text h = text_ends written text result h
+
+  of_order : (text : List ℕ) (reply : OfficeReply) → PrintsReply text written result reply → EndsWell written.no_change result
+  of_order text (replies.Refused fault) h = of_desk written.no_change fault result h.0 h.1
+  of_order text replies.Done h = of_text text h
+  of_order text (replies.Key signature) h = of_text text h
+
+  of_sheet : (read : Result (List ℕ) DeskFault) → PrintsSheet written result read → EndsWell written.no_change result
+  of_sheet (Ok text) h = of_text text h
+  of_sheet (Err fault) h = of_desk written.no_change fault result h.0 h.1
+
+of_server : (port : ℕ) (written : Output) (result : Result Unit Fault) → Announces port written result → EndsWell written.no_change result
+of_server port written (Ok done) h = record { of_task = tt; silent = tt }
+of_server port written (Err InputOutput) h = record { of_task = tt; silent = λ s. absurd s }
+of_server port written (Err ClockOutOfRange) h = record { of_task = tt; silent = λ s. absurd s }
+of_server port written (Err Memory) h = record { of_task = tt; silent = λ s. h }
+of_server port written (Err (Refused fault)) h = absurd h
+of_server port written (Err (Words error)) h = absurd h
+of_server port written (Err BadValue) h = absurd h
+of_server port written (Err Storage) h = absurd h
+
+module _ {S : Type 0} (Clean : S → Type 0) (Represents : S → Club → List Club → Type 0) (old new : S) (written : Output) (result : Result Unit Fault) where
+  ends_well : (task : Task) → Does Clean Represents task written result old new → EndsWell written.no_change result
+  ends_well (Order given) h = of_order written result _ h.reply h.returned
+  ends_well (AddKey name member root form) (office.out_of_memory memory untouched) = rw memory (record { of_task = tt; silent = λ s. untouched.1 })
+  ends_well (AddKey name member root form) (office.order_given line made h) = of_order written result line h.reply h.returned
+  ends_well (RotateKey name root until form) (office.out_of_memory memory untouched) = rw memory (record { of_task = tt; silent = λ s. untouched.1 })
+  ends_well (RotateKey name root until form) (office.order_given line made h) = of_order written result line h.reply h.returned
+  ends_well (Sheet day) h = of_sheet written result h.1.read h.1.returned
+  ends_well (Serve service) h = absurd h
+  ends_well (Pause seconds) h = absurd h
+  ends_well (AddKeyByInput name member form) h = absurd h
+  ends_well (RotateKeyByInput name until form) h = absurd h
+  ends_well (ShowAccount key clock) (looks.at_moment moment shows h) = of_sheet written result h.shown h.returned
+  ends_well (ShowAccount key clock) (looks.at_none shows h) = rw h.out_of_range (record { of_task = tt; silent = λ s. h.silent })
+  ends_well (ShowSlot slot) h = of_sheet written result h.shown h.returned
+
+of_opening : (Silent : Type 0) (fault : StoreFault) (result : Result Unit Fault) → result ≡ Err (fault_of_opening fault) → Silent
+    → EndsWell Silent result
+of_opening Silent store.Memory result is silent = rw is (record { of_task = tt; silent = λ s. silent })
+of_opening Silent store.Storage result is silent = rw is (record { of_task = tt; silent = λ s. silent })
+
+module _ {D S : Type 0} (Opens : Opening D S) (Closes : Closing D S) (FindsWish : D → List ℕ → Bool → Type 0) (Clean : S → Type 0)
+    (Represents : S → Club → List Club → Type 0) (job : JobModel) (old new : D) (written : Output) (Noted : List Fate → Type 0) (result : Result Unit Fault)
+  where
+    -- however a task ends
+    pub performs_well : Performs Opens Closes FindsWish Clean Represents job old new written Noted result → EndsWell written.no_change result
+    performs_well (spec.out_of_memory memory same silent nothing) = rw memory (record { of_task = tt; silent = λ s. silent })
+    performs_well (spec.not_opened fault opens is silent nothing) = of_opening written.no_change fault result is silent
+    performs_well (spec.task_done store left between opens does closes nothing) = ends_well Clean Represents store left written result job.task does
+    performs_well (spec.served service store between is opens serves) = of_server service.port written result serves.announces
+    performs_well (spec.pause_done seconds store between is opens closes wrote nothing) = of_text written result (codes "done\n") wrote
+    performs_well (spec.pause_failed seconds is storage same silent nothing) = rw storage (record { of_task = tt; silent = λ s. silent })
+
+    -- what isn't a server's task notes nothing, whatever a log would note
+    pub notes_nothing : ((service : Service) → job.task ≡ Serve service → ⊥) → Noted []
+        → Performs Opens Closes FindsWish Clean Represents job old new written (λ fates. fates ≡ []) result
+        → Performs Opens Closes FindsWish Clean Represents job old new written Noted result
+    notes_nothing none noted (spec.out_of_memory memory same silent nothing) = spec.out_of_memory memory same silent noted
+    notes_nothing none noted (spec.not_opened fault opens is silent nothing) = spec.not_opened fault opens is silent noted
+    notes_nothing none noted (spec.task_done store left between opens does closes nothing) = spec.task_done store left between opens does closes noted
+    notes_nothing none noted (spec.served service store between is opens serves) = absurd (none service is)
+    notes_nothing none noted (spec.pause_done seconds store between is opens closes wrote nothing) =
+        spec.pause_done seconds store between is opens closes wrote noted
+    notes_nothing none noted (spec.pause_failed seconds is storage same silent nothing) = spec.pause_failed seconds is storage same silent noted
+
+-- a pause is no server's task
+pub pause_serves_nobody : (seconds : ℕ) (service : Service) → Pause seconds ≡ Serve service → ⊥
+pause_serves_nobody seconds service is = cc

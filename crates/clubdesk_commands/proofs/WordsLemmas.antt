@@ -1,0 +1,107 @@
+-- Lemmas on what the words ask for.
+use Rattle.std.proofs.Common.{◌≡◌, ◌∙◌, List, [], Option, Some, None, option_map, Result, Err, true, codes, inl, inr, refl, sym, ap, subst}
+use Rattle.clap.specs.Words.{App, HasKind, HasMatchesOf, IsAmong, Row, Text, fault_of, is_simple, is_simple_and_free, kind_of, subcommand_rows_of}
+use Rattle.clap.proofs.OnLiterals.{clap_on_literals}
+use Rattle.clap.specs.declared.error.Error.{Error}
+use Rattle.clap.specs.declared.error.kind.ErrorKind.{ErrorKind}
+use Rattle.clap.specs.declared.error.kind.ErrorKind.TheVariants as kind
+use Rattle.clap.specs.declared.parser.matches.ArgMatches.{ArgMatches}
+use Rattle.clubdesk_commands.specs.Application.{application, refusals, subcommand}
+use Rattle.clubdesk_commands.specs.Words.{AnswersAsked, AnswersForm, IsFaultOf, ArgumentRefusal, bad_form, bad_value}
+use Rattle.clubdesk_commands.specs.Words.{job_of_match, job_of_words, over_file, task_named, with_form_value, word_in}
+use Rattle.clubdesk_commands.specs.declared.task.Task.{Task}
+use Rattle.pass_forms.specs.declared.form.Form.{Form}
+use Rattle.clubdesk_commands.specs.declared.fault.Fault.{Fault}
+use Rattle.clubdesk_commands.specs.declared.fault.Fault.TheVariants.{Refused, Words, BadValue, Memory, Storage, ClockOutOfRange, InputOutput}
+use Rattle.clubdesk_commands.specs.JobModel.{JobModel}
+
+-- clap gives the matches of the application as a function of the words
+pub application_is_simple : is_simple application ≡ true
+unfolding clap_on_literals application
+application_is_simple = refl
+
+-- and the kinds of its faults
+pub application_is_free : is_simple_and_free application ≡ true
+unfolding clap_on_literals application
+application_is_free = refl
+
+-- what clap found of the words is what the definitions say
+pub subcommand_found : (a : App) (words : List Text) (m : ArgMatches) → a ≡ application → HasMatchesOf a words m
+    → subcommand_rows_of m ≡ subcommand words
+unfolding subcommand
+subcommand_found a words m same found = (subst (λ b. HasMatchesOf b words m) same found application_is_simple).1
+
+-- and so is the command
+pub command_found : (words : List Text) (found : Option (Text × List Row)) (command : Result JobModel ArgumentRefusal)
+    → found ≡ subcommand words → command ≡ job_of_match found → job_of_words words ≡ command
+unfolding job_of_words
+command_found words found command same is = ap job_of_match (sym same) ∙ sym is
+
+-- a parse comes to an end only where the words give no fault
+pub nothing_refused : (a : App) (words : List Text) → a ≡ application
+    → (is_simple_and_free a ≡ true → fault_of a words ≡ []) → refusals words ≡ []
+unfolding refusals
+nothing_refused a words same clear =
+    subst (λ b. is_simple_and_free b ≡ true → fault_of b words ≡ []) same clear application_is_free
+
+-- and its error has a kind among those that the words give, but for out of memory
+pub refused_by : (a : App) (words : List Text) (e : Error) (k : ErrorKind) → a ≡ application
+    → (is_simple_and_free a ≡ true → HasKind (fault_of a words) e) → k ≡ kind_of e → (k ≡ kind.OutOfMemory → ⊥)
+    → IsAmong (kind_of e) (refusals words)
+unfolding refusals
+refused_by a words e k same has is other =
+    elim (subst (λ b. is_simple_and_free b ≡ true → HasKind (fault_of b words) e) same has application_is_free) [
+      | inl memory ↦ absurd (other (is ∙ memory))
+      | inr among ↦ among
+    ]
+
+-- a fault of the command that was found is one of the words
+pub faulted : (words : List Text) (found : Option (Text × List Row)) (fault : Fault) → refusals words ≡ [] → found ≡ subcommand words
+    → AnswersAsked (job_of_match found) (Err fault) → IsFaultOf words fault
+faulted words found (Words error) clear same (refusal, is, of_kind) = inr (clear, (refusal, command_found words found _ same (sym is), of_kind))
+faulted words found BadValue clear same h = (clear, command_found words found _ same (sym h))
+faulted words found Memory clear same h = tt
+faulted words found (Refused fault) clear same h = absurd h
+faulted words found Storage clear same h = absurd h
+faulted words found ClockOutOfRange clear same h = absurd h
+faulted words found InputOutput clear same h = absurd h
+
+-- what is refused is refused alike by what keeps refusals
+pub refused_through : {A B : Type 0} (f : Result A ArgumentRefusal → Result B ArgumentRefusal) → ((refusal : ArgumentRefusal) → f (Err refusal) ≡ Err refusal)
+    → (expected : Result A ArgumentRefusal) (fault : Fault) → AnswersAsked {A = A} expected (Err fault) → AnswersAsked {A = B} (f expected) (Err fault)
+refused_through f keeps expected (Words error) (refusal, is, of_kind) = (refusal, ap f is ∙ keeps refusal, of_kind)
+refused_through f keeps expected BadValue is = ap f is ∙ keeps bad_value
+refused_through f keeps expected Memory h = tt
+refused_through f keeps expected (Refused fault) h = absurd h
+refused_through f keeps expected Storage h = absurd h
+refused_through f keeps expected ClockOutOfRange h = absurd h
+refused_through f keeps expected InputOutput h = absurd h
+
+-- and so is a form that is none
+pub form_refused : (rows : List Row) (of : Form → List Row → Option Task) (expected : Option Form) (fault : Fault) → AnswersForm expected (Err fault)
+    → AnswersAsked {A = Task} (with_form_value rows of expected) (Err fault)
+form_refused rows of expected (Words error) (none, of_kind) = (bad_form, ap (with_form_value rows of) none, ap Some (sym of_kind))
+form_refused rows of expected Memory h = tt
+form_refused rows of expected BadValue h = absurd h
+form_refused rows of expected (Refused fault) h = absurd h
+form_refused rows of expected Storage h = absurd h
+form_refused rows of expected ClockOutOfRange h = absurd h
+form_refused rows of expected InputOutput h = absurd h
+
+-- of the command that clap found, the fault is that of its task
+pub task_refused : (found : Option (Text × List Row)) (name : Text) (rows : List Row) (fault : Fault) → found ≡ Some (name, rows)
+    → AnswersAsked {A = Task} (task_named name rows) (Err fault) → AnswersAsked {A = JobModel} (job_of_match found) (Err fault)
+task_refused found name rows fault is h =
+    let P : Option (Text × List Row) → Type 0 = λ it. AnswersAsked {A = JobModel} (job_of_match it) (Err fault) in
+    subst P (sym is) (refused_through (over_file (word_in (codes "FILE") rows)) (λ refusal. refl) (task_named name rows) fault h)
+
+-- the name and the rows of what was found
+pub found_is : {X : Type 0} (name_of : X → Text) (rows_of : X → List Row) (found : Option X) (name : Text) (rows : List Row)
+    → Some name ≡ option_map name_of found
+    → Some rows ≡ option_map (λ (p : Text × List Row). p.1) (option_map {U = Text × List Row} (λ x. (name_of x, rows_of x)) found)
+    → option_map {U = Text × List Row} (λ x. (name_of x, rows_of x)) found ≡ Some (name, rows)
+found_is name_of rows_of None name rows named has = cc
+found_is name_of rows_of (Some found) name rows named has =
+    let same : name ≡ name_of found = cc in
+    let alike : rows ≡ rows_of found = cc in
+    rw (same, alike) refl

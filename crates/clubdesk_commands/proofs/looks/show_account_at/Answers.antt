@@ -1,0 +1,19 @@
+use Rattle.std.proofs.Common.{Ok, Err, ap, refl}
+use Rattle.std.specs.String.{string_bytes}
+use Rattle.clubdesk_commands.proofs.looks.show_account_at.Goals as goal
+
+pub returns-in-Ok : goal.returns-in-Ok
+returns-in-Ok g c = record {
+  kept = c.in-Ok.ensures.kept;
+  shown = Ok (string_bytes c.in-Ok.text);
+  is = c.in-Ok.ensures.shown;
+  returned = rw c.as_str.ensures.value at c.written.ensures;
+}
+
+pub returns-in-Err : goal.returns-in-Err
+returns-in-Err g c = record {
+  kept = c.in-Err.ensures.kept;
+  shown = Err c.in-Err.fault;
+  is = c.in-Err.ensures.shown;
+  returned = (ap Err c.from.ensures, refl);
+}

@@ -1,0 +1,13 @@
+pub mod Application
+pub mod Values
+pub mod JobModel
+pub mod Fault
+pub mod Output
+pub mod Words
+pub mod Laws
+pub mod Office
+pub mod Looks
+pub mod AtNeed
+pub mod DeskAtNeed
+pub mod Input
+pub mod Run

@@ -1,0 +1,22 @@
+-- What was written (ours).
+use Rattle.std.specs.Prelude.{◌≡◌, ℕ, List, Option, Result, Ok, Err}
+use Rattle.std.specs.Io.KnownBytes.{Appends}
+use Rattle.passtool_commands.specs.Output.{AppendsFront}
+use Rattle.clubdesk_commands.specs.declared.fault.Fault.{Fault}
+use Rattle.clubdesk_commands.specs.declared.fault.Fault.TheVariants.{InputOutput}
+
+-- a writer before and after: the bytes that it holds, if they are known, and the statement that it is unchanged
+pub record Output : Type 1 where
+  pub before : Option (List ℕ)
+  pub after : Option (List ℕ)
+  pub no_change : Type 0
+
+-- the output of a writer whose trait knows its bytes
+abbrev pub output : {W : Type 0} → (W → Option (List ℕ)) → W → W → Output
+output contents old new = record { before = contents old; after = contents new; no_change = new ≡ old }
+
+-- the whole text was written, or, if the writer failed, a prefix of it
+abbrev pub WritesText : List ℕ → Output → Result Unit Fault → Type 0
+WritesText text written (Ok done) = Appends written.before written.after text
+WritesText text written (Err InputOutput) = AppendsFront written.before written.after text
+WritesText text written (Err fault) = ⊥

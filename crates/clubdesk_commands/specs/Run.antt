@@ -1,0 +1,222 @@
+-- What a run of the program does (ours).
+use Rattle.std.specs.Prelude.{◌≡◌, ◌⊎◌, ℕ, ◌≤◌, List, [], ◌∷◌, ◌++◌, length, Option, Some, None, Result, Ok, Err, IsSome, IfErr}
+use Rattle.std.specs.Prelude.{Bool, true, false, codes, decimal}
+use Rattle.std.specs.Io.KnownBytes.{Appends}
+use Rattle.clap.specs.Words.{Text}
+use Rattle.club_core.specs.declared.command.Command.TheVariants as order
+use Rattle.club_core.specs.declared.store.StoreFault.{StoreFault}
+use Rattle.club_core.specs.Club.{Club}
+use Rattle.club_core.specs.Store.{KeepsClub}
+use Rattle.club_http.specs.Desk.{AnswersBy}
+use Rattle.club_http.specs.Replied.{AnswerRelation}
+use Rattle.desk_server.specs.Served.{AreServed, Ends, Idles, IsStopped, GivesMoment}
+use Rattle.desk_server.specs.declared.log.Fate.{Fate}
+use Rattle.passtool_commands.specs.Output.{AppendsFront}
+use Rattle.clubdesk_commands.specs.AtNeed.{Access, AnswersAtNeed, Closing, GivesWay, LetsGo, Opening, access}
+use Rattle.clubdesk_commands.specs.JobModel.{JobModel}
+use Rattle.clubdesk_commands.specs.Office.{IsOrdered, IsPassOrdered, IsSheetPrinted, PrintsReply, PrintsSheet, pass_text}
+use Rattle.clubdesk_commands.specs.Input.{IsWholeInput, TakesRoot, asks_root, awaits_root}
+use Rattle.clubdesk_commands.specs.Looks.{IsMomentOf, Looks, LooksByClock, ShowsAccount, ShowsSlot, StopsLook}
+use Rattle.clubdesk_commands.specs.Fault.{fault_of_opening}
+use Rattle.clubdesk_commands.specs.Output.{Output, WritesText}
+use Rattle.clubdesk_commands.specs.Words.{AsksText, IsFaultOf, asked}
+use Rattle.clubdesk_commands.specs.declared.clock.Clock.{Clock}
+use Rattle.clubdesk_commands.specs.declared.fault.Fault.{Fault}
+use Rattle.clubdesk_commands.specs.declared.fault.Fault.TheVariants.{Refused, Words, BadValue, Memory, Storage, ClockOutOfRange, InputOutput}
+use Rattle.clubdesk_commands.specs.declared.task.Service.{Service}
+use Rattle.clubdesk_commands.specs.declared.task.Task.{Task}
+use Rattle.clubdesk_commands.specs.declared.task.Task.TheVariants.{Order, AddKey, AddKeyByInput, RotateKey, RotateKeyByInput}
+use Rattle.clubdesk_commands.specs.declared.task.Task.TheVariants.{Sheet, Serve, Pause, ShowAccount, ShowSlot}
+use Rattle.clubdesk_commands.specs.declared.words.Asked.{Asked}
+use Rattle.clubdesk_commands.specs.declared.words.Asked.TheVariants.{Perform, ShowText}
+
+-- ---- the server
+
+-- the moments of a server's clock
+abbrev pub ClockShows : Clock → Option ℕ → Type 0
+ClockShows clock shown = IsMomentOf clock shown
+
+-- the same as a source of moments whose state doesn't change
+abbrev pub showing : Clock → GivesMoment (Unit {0})
+showing clock old shown new = ClockShows clock shown
+
+-- an exchange over a socket may have any outcome: no contract states which bytes a socket gives or takes
+abbrev pub over_socket : Ends (Unit {0})
+over_socket socket outcome = Unit {0}
+
+-- All connections were served, each accepted one at a moment that the clock gave; or the clock gave none at one of them. `Besides` holds
+-- for their fates.
+abbrev pub ServesAll : {Clock Desk : Type 0} → GivesMoment Clock → (ℕ → AnswerRelation Desk) → Idles Desk → ℕ → Clock → Desk → Clock → Desk
+    → (List Fate → Type 0)
+    → Result Unit Fault → Type 0
+ServesAll Gives Answers Idled count clock old clock' new Besides (Ok done) =
+    (fates : List Fate) × (failures : ℕ) × (length fates ≡ count) × AreServed Gives Answers Idled over_socket clock old 0 fates clock' new failures
+    × Besides fates
+ServesAll Gives Answers Idled count clock old clock' new Besides (Err ClockOutOfRange) =
+    (failures : ℕ) × IsStopped Gives Answers Idled over_socket count clock old 0 clock' new failures Besides
+ServesAll Gives Answers Idled count clock old clock' new Besides (Err fault) = ⊥
+
+-- connections were noted, if a log is asked for
+abbrev pub IfLogged : Service → (List Fate → Type 0) → List Fate → Type 0
+IfLogged service Noted fates = service.log ≡ true → Noted fates
+
+-- How a server ends: as above, by its clock, with its log; or it couldn't listen or write its address, and served and noted nothing.
+abbrev pub RunsServer : {Desk : Type 0} → (ℕ → AnswerRelation Desk) → Idles Desk → Service → Desk → Desk → (List Fate → Type 0) → Result Unit Fault → Type 0
+RunsServer Answers Idled service old new Noted (Err Memory) = (new ≡ old) × Noted []
+RunsServer Answers Idled service old new Noted (Err InputOutput) = (new ≡ old) × Noted []
+RunsServer Answers Idled service old new Noted result =
+    ServesAll (showing service.clock) Answers Idled service.count tt old tt new (IfLogged service Noted) result
+
+-- the line of a server that listens at a port of the loopback address
+abbrev pub listening_line : ℕ → List ℕ
+listening_line port = codes "listening on 127.0.0.1:" ++ decimal port ++ 10 ∷ []
+
+-- the port of a server: the port that was asked for, or any port for 0
+abbrev pub IsPortFor : ℕ → ℕ → Type 0
+IsPortFor asked port = (port ≤ 65_535) × ((asked ≡ 0) ⊎ (port ≡ asked))
+
+-- the line was written; or, if the writer failed, a prefix of it; or, out of memory, nothing
+abbrev pub WritesLine : ℕ → Output → Result Unit Fault → Type 0
+WritesLine port written (Err Memory) = written.no_change
+WritesLine port written result = WritesText (listening_line port) written result
+
+-- a server that listens wrote its address, and nothing else
+abbrev pub IsAnnounced : ℕ → Output → Type 0
+IsAnnounced asked written = (port : ℕ) × IsPortFor asked port × Appends written.before written.after (listening_line port)
+
+-- a server that doesn't listen wrote nothing, or, if the writer failed, a prefix of the line
+abbrev pub StopsBefore : ℕ → Output → Fault → Type 0
+StopsBefore asked written InputOutput =
+    written.no_change ⊎ ((port : ℕ) × IsPortFor asked port × AppendsFront written.before written.after (listening_line port))
+StopsBefore asked written Memory = written.no_change
+StopsBefore asked written fault = ⊥
+
+-- what a server writes at its start
+abbrev pub Announces : ℕ → Output → Result Unit Fault → Type 0
+Announces asked written (Ok done) = IsAnnounced asked written
+Announces asked written (Err ClockOutOfRange) = IsAnnounced asked written
+Announces asked written (Err fault) = StopsBefore asked written fault
+
+-- ---- a task
+
+-- What a task of the office writes, how it ends, and how it changes a store, by the store's trait.
+abbrev pub Does : {S : Type 0} → (S → Type 0) → (S → Club → List Club → Type 0) → Task → Output → Result Unit Fault → S → S → Type 0
+Does Clean Represents (Order given) written result old new = IsOrdered Represents (Clean new) old new given (PrintsReply (codes "done\n") written result)
+Does Clean Represents (AddKey name member root form) written result old new =
+    IsPassOrdered Represents (Clean new) old new (order.AddKey name member root) (pass_text name root form) written result
+Does Clean Represents (RotateKey name root until form) written result old new =
+    IsPassOrdered Represents (Clean new) old new (order.RotateKey name root until) (pass_text name root form) written result
+Does Clean Represents (Sheet day) written result old new =
+    (Clean new → KeepsClub Represents old new) × IsSheetPrinted Represents (Clean new) old day (PrintsSheet written result)
+Does Clean Represents (Serve service) written result old new = ⊥
+Does Clean Represents (Pause seconds) written result old new = ⊥
+Does Clean Represents (AddKeyByInput name member form) written result old new = ⊥
+Does Clean Represents (RotateKeyByInput name until form) written result old new = ⊥
+Does Clean Represents (ShowAccount key clock) written result old new =
+    LooksByClock clock (StopsLook old new written result)
+    (λ moment. Looks Clean Represents old new (ShowsAccount key moment) (PrintsSheet written result))
+Does Clean Represents (ShowSlot slot) written result old new = Looks Clean Represents old new (ShowsSlot slot) (PrintsSheet written result)
+
+-- a task of the office
+abbrev pub IsOffice : Task → Type 0
+IsOffice (Serve service) = ⊥
+IsOffice (Pause seconds) = ⊥
+IsOffice (AddKeyByInput name member form) = ⊥
+IsOffice (RotateKeyByInput name until form) = ⊥
+IsOffice task = Unit {0}
+
+-- ---- a run
+
+module _ {Databases Store : Type 0} (Opens : Opening Databases Store) (Closes : Closing Databases Store) (FindsWish : Databases → List ℕ → Bool → Type 0)
+    (Clean : Store → Type 0) (Represents : Store → Club → List Club → Type 0) where
+  -- A server over the file of this name, which begins with an open store of it. Each exchange is the desk's, over that store or one that was
+  -- opened again. Between two exchanges the server closes the store if another program wishes for the file. Its log notes the connections.
+  -- At the end no store is open.
+  pub record ServesFile (file : List ℕ) (service : Service) (databases : Databases) (store : Store) (new : Databases) (written : Output)
+      (Noted : List Fate → Type 0) (result : Result Unit Fault) : Type 0 where
+    pub last : Access Databases Store
+    pub serves : RunsServer (AnswersAtNeed Opens (AnswersBy Clean Represents) file) (GivesWay Closes FindsWish file) service
+        (access databases (Some store)) last Noted result
+    pub announces : Announces service.port written result
+    pub ends : LetsGo Closes last (access new None)
+
+  -- A run with a task. It opened the database of the task's name; then it did the office's task and closed the database, or served over it,
+  -- or closed it for a pause and wrote `done`. Or the database couldn't be opened, or servers couldn't be kept away for a pause, or memory
+  -- ran out before. Only a server's log notes anything.
+  pub data Performs (job : JobModel) (old new : Databases) (written : Output) (Noted : List Fate → Type 0) (result : Result Unit Fault) : Type 0 where
+    out_of_memory : result ≡ Err Memory → new ≡ old → written.no_change → Noted [] → Performs job old new written Noted result
+    not_opened : (fault : StoreFault) → Opens old job.file (Err fault) new → result ≡ Err (fault_of_opening fault) → written.no_change → Noted []
+        → Performs job old new written Noted result
+    task_done : (store left : Store) (between : Databases) → Opens old job.file (Ok store) between
+        → Does Clean Represents job.task written result store left → Closes between left new → Noted [] → Performs job old new written Noted result
+    served : (service : Service) (store : Store) (between : Databases) → job.task ≡ Serve service → Opens old job.file (Ok store) between
+        → ServesFile job.file service between store new written Noted result → Performs job old new written Noted result
+    pause_done : (seconds : ℕ) (store : Store) (between : Databases) → job.task ≡ Pause seconds → Opens old job.file (Ok store) between
+        → Closes between store new → WritesText (codes "done\n") written result → Noted [] → Performs job old new written Noted result
+    pause_failed : (seconds : ℕ) → job.task ≡ Pause seconds → result ≡ Err Storage → new ≡ old → written.no_change → Noted []
+        → Performs job old new written Noted result
+
+  -- The same of a task that may await a root of the input: it was read before the database was opened; or it is no root, or couldn't be
+  -- read, and nothing was done; or memory was refused before.
+  pub data PerformsWhole (job : JobModel) (left left' : Option (List ℕ)) (old new : Databases) (written : Output) (Noted : List Fate → Type 0)
+      (result : Result Unit Fault) : Type 0 where
+    whole : (read : JobModel) → IsWholeInput job left left' read → Performs read old new written Noted result
+        → PerformsWhole job left left' old new written Noted result
+    rootless : (fault : Fault) → awaits_root job.task ≡ true → TakesRoot left left' (Err fault) → result ≡ Err fault → new ≡ old
+        → written.no_change → Noted [] → PerformsWhole job left left' old new written Noted result
+    unread : result ≡ Err Memory → new ≡ old → written.no_change → Noted [] → PerformsWhole job left left' old new written Noted result
+
+  -- the same where a task is asked for
+  abbrev pub PerformsAsked : Option JobModel → Option (List ℕ) → Option (List ℕ) → Databases → Databases → Output → (List Fate → Type 0)
+      → Result Unit Fault → Type 0
+  PerformsAsked asked_for left left' old new written Noted result =
+      (job : JobModel) → asked_for ≡ Some job → PerformsWhole job left left' old new written Noted result
+
+-- the results that a run on these words may have
+abbrev pub AnswersWords : List Text → Result Unit Fault → Type 0
+AnswersWords words (Ok done) = IsSome (asked words) ⊎ AsksText words
+AnswersWords words (Err (Words error)) = IsFaultOf words (Words error)
+AnswersWords words (Err BadValue) = IsFaultOf words BadValue ⊎ (asks_root (asked words) ≡ true)
+AnswersWords words (Err Memory) = Unit {0}
+AnswersWords words (Err InputOutput) = IsSome (asked words) ⊎ AsksText words
+AnswersWords words (Err (Refused fault)) = IsSome (asked words)
+AnswersWords words (Err Storage) = IsSome (asked words)
+AnswersWords words (Err ClockOutOfRange) = IsSome (asked words)
+
+-- a fault after which nothing was written
+abbrev pub IsSilent : Fault → Type 0
+IsSilent ClockOutOfRange = ⊥
+IsSilent InputOutput = ⊥
+IsSilent fault = Unit {0}
+
+-- a task that writes a log
+abbrev pub logs : Task → Bool
+logs (Serve service) = service.log
+logs task = false
+
+-- the task that is asked for writes a log
+abbrev pub asks_log : Option JobModel → Bool
+asks_log None = false
+asks_log (Some command) = logs command.task
+
+-- a fault that isn't one of the words
+abbrev pub IsOfTask : Fault → Type 0
+IsOfTask (Words error) = ⊥
+IsOfTask BadValue = ⊥
+IsOfTask fault = Unit {0}
+
+-- a fault that may come of a task: a bad value only of a root that it awaits
+abbrev pub IsFaultFor : JobModel → Fault → Type 0
+IsFaultFor job (Words error) = ⊥
+IsFaultFor job BadValue = awaits_root job.task ≡ true
+IsFaultFor job fault = Unit {0}
+
+-- the task that is asked for, if any
+abbrev pub job_of : Asked → Option JobModel
+job_of (ShowText text) = None
+job_of (Perform job) = Some job
+
+-- the faults that are possible for this request: a text fails only by its writer, and a task never by its words
+abbrev pub EndsFor : Asked → Result Unit Fault → Type 0
+EndsFor (ShowText text) result = IfErr result (λ fault. fault ≡ InputOutput)
+EndsFor (Perform job) result = IfErr result (IsFaultFor job)

@@ -1,0 +1,46 @@
+-- The values that words spell, beside those of the club's own texts (ours).
+use Rattle.std.specs.Prelude.{ℕ, ◌&&◌, Bool, List, length, nat_lt, nat_le, if◌then◌else◌, Option, Some, None, Result, Ok, Err}
+use Rattle.std.specs.Char.{is_ascii_digit}
+use Rattle.std.specs.List.{list_all}
+use Rattle.std.specs.Str.Parse.{digits_value}
+use Rattle.hex.specs.Hex.{decode_of}
+use Rattle.hex.specs.declared.error.FromHexError.{FromHexError}
+
+abbrev pub are_digits : List ℕ → Bool
+are_digits text = list_all is_ascii_digit text
+
+-- 1 to 9 decimal digits
+unfoldable pub parse_number : List ℕ → Option ℕ
+parse_number text =
+    if nat_lt 0 (length text) && nat_le (length text) 9 && are_digits text then Some (digits_value 10 text) else None
+
+abbrev pub where_between : ℕ → ℕ → Option ℕ → Option ℕ
+where_between least most None = None
+where_between least most (Some number) = if nat_le least number && nat_le number most then Some number else None
+
+-- a port of TCP, 0 for any that is free
+abbrev pub port_of : List ℕ → Option ℕ
+port_of text = where_between 0 65_535 (parse_number text)
+
+-- a number of connections, 1 to 1,000,000
+abbrev pub count_of : List ℕ → Option ℕ
+count_of text = where_between 1 1_000_000 (parse_number text)
+
+-- the seconds of a pause, 1 to 600
+abbrev pub pause_seconds : List ℕ → Option ℕ
+pause_seconds text = where_between 1 600 (parse_number text)
+
+-- a limit of time, 1 to 3,600 seconds
+abbrev pub patience_of : List ℕ → Option ℕ
+patience_of text = where_between 1 3_600 (parse_number text)
+
+abbrev pub has_key_root_length : List ℕ → Option (List ℕ)
+has_key_root_length bytes = if nat_le 16 (length bytes) && nat_le (length bytes) 64 then Some bytes else None
+
+abbrev pub key_root_among : Result (List ℕ) FromHexError → Option (List ℕ)
+key_root_among (Ok bytes) = has_key_root_length bytes
+key_root_among (Err e) = None
+
+-- the root of 16 to 64 bytes that the text spells in hexadecimal, in either case of letters
+unfoldable pub key_root_of : List ℕ → Option (List ℕ)
+key_root_of text = key_root_among (decode_of text)

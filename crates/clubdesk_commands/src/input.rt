@@ -1,0 +1,87 @@
+//! A key's root from the input.
+
+ghost use Rattle.std.specs.Prelude.{◌≡◌, false};
+ghost use Rattle.std.specs.Io.BufRead.{strip_last};
+ghost use Rattle.clubdesk_commands.specs.Input as spec;
+
+use crate::fault::Fault;
+use crate::task::{Job, Task};
+use crate::values::root_of;
+use club_rows::Root;
+use passtool_commands::fill;
+use std::io::Read;
+
+/// More bytes than the longest root in hexadecimal and its line feed.
+const MOST_READ: usize = 130;
+
+/// Reads the root of a task that awaits one, in hexadecimal, of which one line feed at the end is
+/// no part. For any other task nothing is read.
+///
+/// # Errors
+///
+/// `BadValue` where what was read is no root; `InputOutput` where the reader failed.
+pub(crate) fn with_root<'a, R: Read>(reader: &mut R, job: Job<'a>) -> Result<Job<'a>, Fault>
+    ensures read { spec.ReadsRoot job.entry (R.remaining reader.old) (R.remaining reader.new)
+        result }
+    ensures unread { spec.awaits_root job.entry.task ≡ false → reader.new ≡ reader.old }
+{
+    let Job { file, task } = job;
+    match task {
+        Task::AddKeyByInput { name, member, form } => match root_from(reader) {
+            Ok(root) => {
+                let task = Task::AddKey {
+                    name,
+                    member,
+                    root,
+                    form,
+                };
+                Ok(Job { file, task })
+            }
+            Err(fault) => Err(fault),
+        },
+        Task::RotateKeyByInput { name, until, form } => match root_from(reader) {
+            Ok(root) => {
+                let task = Task::RotateKey {
+                    name,
+                    root,
+                    until,
+                    form,
+                };
+                Ok(Job { file, task })
+            }
+            Err(fault) => Err(fault),
+        },
+        task => Ok(Job { file, task }),
+    }
+}
+
+// The root that the reader holds.
+fn root_from<R: Read>(reader: &mut R) -> Result<Root, Fault>
+    ensures { spec.TakesRoot (R.remaining reader.old) (R.remaining reader.new) result }
+{
+    let mut room = [0; MOST_READ];
+    match fill(reader, &mut room) {
+        Ok(count) => root_in(&room[..count]).ok_or(Fault::BadValue),
+        Err(_) => Err(Fault::InputOutput),
+    }
+}
+
+// The root that bytes spell.
+fn root_in(bytes: &[u8]) -> Option<Root>
+    ensures { result ≡ spec.root_in_input bytes.now }
+{
+    match str::from_utf8(without_line_feed(bytes)) {
+        Ok(text) => root_of(text),
+        Err(_) => None,
+    }
+}
+
+// The bytes without one line feed at their end.
+fn without_line_feed(bytes: &[u8]) -> &[u8]
+    ensures { result.now ≡ strip_last 10 bytes.now }
+{
+    match bytes {
+        [front @ .., b'\n'] => front,
+        _ => bytes,
+    }
+}

@@ -1,0 +1,135 @@
+//! The words and options of a command, out of what `clap` found.
+
+ghost use Rattle.std.specs.Prelude.{◌≡◌, IfOk, codes, option_map};
+ghost use Rattle.clap.specs.Words.{first_of, found_of, rows_of};
+ghost use Rattle.clubdesk_commands.specs.Words.{
+  AnswersForm,
+  AnswersRoot,
+  IsWordsFault,
+  form_in,
+  is_set,
+  moment_word_in,
+  name_value,
+  number_value,
+  root_word_for,
+  rotation_word_in,
+};
+
+use crate::application::make_application;
+use crate::fault::Fault;
+use crate::values::parse_number;
+use clap::ArgMatches;
+use clap::error::ErrorKind;
+use club_values::Name;
+use pass_forms::Form;
+use passtool_commands::{form_error, form_named, value_of};
+use std::alloc::Global;
+
+/// The value of a word, parsed as a name.
+pub fn name_of(words: &ArgMatches<'_>, id: &str) -> Option<Name>
+    ensures { result ≡ name_value id.now (rows_of (found_of words.now)) }
+{
+    Name::read(value_of(words, id).as_bytes())
+}
+
+/// The value of a word, parsed as a number.
+pub fn number_at(words: &ArgMatches<'_>, id: &str) -> Option<u32>
+    ensures { result ≡ number_value id.now (rows_of (found_of words.now)) }
+{
+    parse_number(value_of(words, id))
+}
+
+/// The value of an option, if it is given.
+pub fn given<'a>(words: &ArgMatches<'a>, id: &str) -> Option<&'a str>
+    ensures { option_map (λ text. text.now) result
+        ≡ first_of id.now (rows_of (found_of words.now)) }
+{
+    words.get_str(id)
+}
+
+/// The word of a new root of a key; `None` where the moment is the last word.
+pub fn rotation_word<'a>(words: &ArgMatches<'a>) -> Option<&'a str>
+    ensures { option_map (λ text. text.now) result
+        ≡ rotation_word_in (rows_of (found_of words.now)) }
+{
+    match given(words, "MOMENT") {
+        Some(_) => given(words, "ROOT"),
+        None => None,
+    }
+}
+
+/// The last word, which is the moment.
+pub fn moment_word<'a>(words: &ArgMatches<'a>) -> &'a str
+    ensures { result.now ≡ moment_word_in (rows_of (found_of words.now)) }
+{
+    match given(words, "MOMENT") {
+        Some(moment) => moment,
+        None => value_of(words, "ROOT"),
+    }
+}
+
+/// The word of a root; `None` where it is read from the input, by `--root-stdin`.
+///
+/// # Errors
+///
+/// `Words` where there is neither the word nor the flag, or both; `Memory`.
+pub fn root_word<'a>(
+    alloc: Global,
+    words: &ArgMatches<'_>,
+    word: Option<&'a str>,
+) -> Result<Option<&'a str>, Fault>
+    ensures { AnswersRoot (root_word_for (option_map (λ text. text.now) word.entry)
+        (is_set (codes "root-stdin") (rows_of (found_of words.now)))) result }
+{
+    match (word, is_set(words, "root-stdin")) {
+        (Some(_), true) => Err(words_fault(
+            alloc,
+            ErrorKind::ArgumentConflict,
+            "the argument '<ROOT>' cannot be used with '--root-stdin'",
+        )),
+        (None, false) => Err(words_fault(
+            alloc,
+            ErrorKind::MissingRequiredArgument,
+            "one of these is required: <ROOT>, --root-stdin",
+        )),
+        (word, _) => Ok(word),
+    }
+}
+
+// A fault of the words that clap doesn't find itself.
+fn words_fault(alloc: Global, kind: ErrorKind, message: &str) -> Fault
+    ensures { IsWordsFault kind result }
+{
+    let Ok(mut application) = make_application(alloc) else {
+        return Fault::Memory;
+    };
+    match application.error(kind, message) {
+        Ok(error) => Fault::Words(error),
+        Err(_) => Fault::Memory,
+    }
+}
+
+/// Whether a flag is there: clap gives it the text `true`.
+pub fn is_set(words: &ArgMatches<'_>, id: &str) -> bool
+    ensures { result ≡ is_set id.now (rows_of (found_of words.now)) }
+{
+    value_of(words, id) == "true"
+}
+
+/// The form that `--form` names.
+///
+/// # Errors
+///
+/// `Words` where it names none of the three, and `Memory`.
+pub fn form_of(alloc: Global, words: &ArgMatches<'_>) -> Result<Form, Fault>
+    ensures { AnswersForm (form_in (rows_of (found_of words.now))) result }
+{
+    let name = value_of(words, "form");
+    match form_named(name) {
+        Some(form) => Ok(form),
+        None => {
+            let application = make_application(alloc)?;
+            Err(Fault::Words(form_error(alloc, application, name)?))
+        }
+    }
+}

@@ -1,0 +1,238 @@
+//! A run of the program, over words, a reader and writers.
+
+ghost use Rattle.std.specs.Prelude.{◌≡◌, None, IfErr, false, [], map};
+ghost use Rattle.desk_server.specs.Served.{AreNoted};
+ghost use Rattle.clubdesk_commands.specs.Input.{asks_root, awaits_root};
+ghost use Rattle.clubdesk_commands.specs.Output.{output};
+ghost use Rattle.clubdesk_commands.specs.Run as spec;
+ghost use Rattle.clubdesk_commands.specs.Words.{asked};
+
+use crate::databases::Databases;
+use crate::fault::Fault;
+use crate::input::with_root;
+use crate::looks::{show_account, show_slot};
+use crate::office::{give_order, order_pass, show_sheet};
+use crate::task::{Job, Task};
+use crate::turns::{pause, serve_file};
+use crate::words::{Asked, command_of};
+use club_core::{ClubStore, Command};
+use club_gate::Desk;
+use desk_server::Log;
+use std::alloc::Global;
+use std::convert::AsStr;
+use std::io::{Read, Write};
+use std::time::Clock;
+
+/// Runs the program on its words, of which the first is its name.
+///
+/// The words are checked before a database is opened; it is opened once, and closed at the end.
+/// Only a server opens it more than once: it closes it where another program wishes for it, and
+/// opens it again where a request needs it. Only a root is read, which `--root-stdin` asks for: in
+/// hexadecimal, one line feed at its end taken off, behind the words and before the database is
+/// opened. Help and the version are written as `clap` makes them. Only `serve` with `--log` notes
+/// each connection in the log.
+///
+/// # Errors
+///
+/// Of the words: `Words` and `BadValue`, the latter also of a root that was read. `Refused` as the
+/// office rules; `Storage`, also where the database can't be opened; `Memory`; after these nothing
+/// was written. `ClockOutOfRange` and `InputOutput` may come after a beginning of the output; where
+/// the input can't be read, nothing was written.
+pub fn run<D: Databases, S: AsStr, R: Read, W: Write, G: Log>(
+    rt: &HostRuntime,
+    databases: &mut D,
+    words: &[S],
+    reader: &mut R,
+    writer: &mut W,
+    log: &mut G,
+) -> Result<(), Fault>
+    // The fault of the words, or what they ask for.
+    ensures words { spec.AnswersWords (map S.text words.now) result }
+    // Where they ask for a task, it was done at the database of the name that they give.
+    ensures command { spec.PerformsAsked D.opens D.closes D.finds_wish D.Store.disk_is_clean
+        D.Store.represents (asked (map S.text words.now))
+        (R.remaining reader.old) (R.remaining reader.new) databases.old databases.new
+        (output W.contents writer.old writer.new)
+        (λ fates. AreNoted G.begins G.notes log.old fates log.new) result }
+    // Where they ask for none, no database was opened.
+    ensures not_opened { asked (map S.text words.now) ≡ None → databases.new ≡ databases.old }
+    ensures silent { IfErr result (λ fault. spec.IsSilent fault → writer.new ≡ writer.old) }
+    ensures unlogged { spec.asks_log (asked (map S.text words.now)) ≡ false
+        → log.new ≡ log.old }
+    // Only a root that `--root-stdin` asks for is read.
+    ensures unread { asks_root (asked (map S.text words.now)) ≡ false
+        → reader.new ≡ reader.old }
+{
+    run_with_clock(rt, rt, databases, words, reader, writer, log)
+}
+
+/// Runs the program as `run`, with another clock of the machine: that by which a server without
+/// `--at` has its moments, and its connections their limits of time.
+///
+/// # Errors
+///
+/// As `run`.
+pub fn run_with_clock<C: Clock, D: Databases, S: AsStr, R: Read, W: Write, G: Log>(
+    rt: &HostRuntime,
+    machine: &C,
+    databases: &mut D,
+    words: &[S],
+    reader: &mut R,
+    writer: &mut W,
+    log: &mut G,
+) -> Result<(), Fault>
+    // The fault of the words, or what they ask for.
+    ensures words { spec.AnswersWords (map S.text words.now) result }
+    // Where they ask for a task, it was done at the database of the name that they give.
+    ensures command { spec.PerformsAsked D.opens D.closes D.finds_wish D.Store.disk_is_clean
+        D.Store.represents (asked (map S.text words.now))
+        (R.remaining reader.old) (R.remaining reader.new) databases.old databases.new
+        (output W.contents writer.old writer.new)
+        (λ fates. AreNoted G.begins G.notes log.old fates log.new) result }
+    // Where they ask for none, no database was opened.
+    ensures not_opened { asked (map S.text words.now) ≡ None → databases.new ≡ databases.old }
+    ensures silent { IfErr result (λ fault. spec.IsSilent fault → writer.new ≡ writer.old) }
+    ensures unlogged { spec.asks_log (asked (map S.text words.now)) ≡ false
+        → log.new ≡ log.old }
+    // Only a root that `--root-stdin` asks for is read.
+    ensures unread { asks_root (asked (map S.text words.now)) ≡ false
+        → reader.new ≡ reader.old }
+{
+    match command_of(rt.alloc(), words) {
+        Ok(asked) => answer(rt, machine, databases, asked, reader, writer, log),
+        Err(fault) => Err(fault),
+    }
+}
+
+// Shows a text, or does what is asked for.
+fn answer<C: Clock, D: Databases, R: Read, W: Write, G: Log>(
+    rt: &HostRuntime,
+    machine: &C,
+    databases: &mut D,
+    asked: Asked<'_>,
+    reader: &mut R,
+    writer: &mut W,
+    log: &mut G,
+) -> Result<(), Fault>
+    ensures ends { spec.EndsFor asked.entry result }
+    ensures command { spec.PerformsAsked D.opens D.closes D.finds_wish D.Store.disk_is_clean
+        D.Store.represents (spec.job_of asked.entry)
+        (R.remaining reader.old) (R.remaining reader.new) databases.old databases.new
+        (output W.contents writer.old writer.new)
+        (λ fates. AreNoted G.begins G.notes log.old fates log.new) result }
+    ensures not_opened { spec.job_of asked.entry ≡ None → databases.new ≡ databases.old }
+    ensures silent { IfErr result (λ fault. spec.IsSilent fault → writer.new ≡ writer.old) }
+    ensures unlogged { spec.asks_log (spec.job_of asked.entry) ≡ false → log.new ≡ log.old }
+    ensures unread { asks_root (spec.job_of asked.entry) ≡ false → reader.new ≡ reader.old }
+{
+    match asked {
+        Asked::ShowText(text) => show(&text, writer),
+        Asked::Perform(job) => match with_root(reader, job) {
+            Ok(job) => perform(rt, machine, databases, job, writer, log),
+            Err(fault) => Err(fault),
+        },
+    }
+}
+
+// Does a task at the database.
+fn perform<C: Clock, D: Databases, W: Write, G: Log>(
+    rt: &HostRuntime,
+    machine: &C,
+    databases: &mut D,
+    job: Job<'_>,
+    writer: &mut W,
+    log: &mut G,
+) -> Result<(), Fault>
+    requires { awaits_root job.task ≡ false }
+    ensures done { spec.Performs D.opens D.closes D.finds_wish D.Store.disk_is_clean
+        D.Store.represents
+        job.entry databases.old databases.new
+        (output W.contents writer.old writer.new)
+        (λ fates. AreNoted G.begins G.notes log.old fates log.new) result }
+    ensures of_task { IfErr result spec.IsOfTask }
+    ensures silent { IfErr result (λ fault. spec.IsSilent fault → writer.new ≡ writer.old) }
+    ensures unlogged { spec.logs job.entry.task ≡ false → log.new ≡ log.old }
+{
+    let Job { file, task } = job;
+    match task {
+        Task::Serve(service) => serve_file(rt, machine, databases, file, service, writer, log),
+        Task::Pause(seconds) => pause(databases, file, seconds, writer),
+        task => work(rt.alloc(), machine, databases, file, task, writer),
+    }
+}
+
+// Opens the database, does a task of the office at it, and closes it.
+fn work<C: Clock, D: Databases, W: Write>(
+    alloc: Global,
+    machine: &C,
+    databases: &mut D,
+    file: &str,
+    task: Task<'_>,
+    writer: &mut W,
+) -> Result<(), Fault>
+    requires { spec.IsOffice task }
+    ensures { spec.Performs D.opens D.closes D.finds_wish D.Store.disk_is_clean D.Store.represents
+        (record { file = file.now; task = task.entry }) databases.old databases.new
+        (output W.contents writer.old writer.new) (λ fates. fates ≡ []) result }
+{
+    match databases.open(file) {
+        Ok(store) => {
+            let mut desk = Desk::new(alloc, store);
+            let outcome = carry_out(alloc, machine, &mut desk, task, writer);
+            databases.close(desk.into_store());
+            outcome
+        }
+        Err(fault) => Err(Fault::from(fault)),
+    }
+}
+
+// Does a task of the office at a desk.
+fn carry_out<C: Clock, S: ClubStore, W: Write>(
+    alloc: Global,
+    machine: &C,
+    desk: &mut Desk<S>,
+    task: Task<'_>,
+    writer: &mut W,
+) -> Result<(), Fault>
+    requires { spec.IsOffice task }
+    ensures { spec.Does S.disk_is_clean S.represents task.entry
+        (output W.contents writer.old writer.new) result desk.old desk.new }
+{
+    match task {
+        Task::Order(order) => give_order(desk, &order, writer),
+        Task::AddKey {
+            name,
+            member,
+            root,
+            form,
+        } => {
+            let order = Command::AddKey { name, member, root };
+            order_pass(alloc, desk, &name, &root, form, &order, writer)
+        }
+        Task::RotateKey {
+            name,
+            root,
+            until,
+            form,
+        } => {
+            let order = Command::RotateKey { name, root, until };
+            order_pass(alloc, desk, &name, &root, form, &order, writer)
+        }
+        Task::Sheet(day) => show_sheet(desk, day, writer),
+        Task::ShowAccount { key, clock } => show_account(machine, desk, &key, clock, writer),
+        Task::ShowSlot(slot) => show_slot(desk, &slot, writer),
+        Task::Serve(_)
+        | Task::Pause(_)
+        | Task::AddKeyByInput { .. }
+        | Task::RotateKeyByInput { .. } => unreachable!(),
+    }
+}
+
+// Writes help or the version, whose bytes no clause states.
+fn show<W: Write>(text: &clap::Error, writer: &mut W) -> Result<(), Fault>
+    ensures { IfErr result (λ fault. fault ≡ Fault.InputOutput) }
+{
+    write!(writer, "{text}")?;
+    writer.flush()?;
+    Ok(())
+}

@@ -1,0 +1,113 @@
+//! Tasks at a file that other programs open too.
+
+ghost use Rattle.std.specs.Prelude.{◌≡◌, false, []};
+ghost use Rattle.club_http.specs.Desk.{AnswersBy};
+ghost use Rattle.desk_server.specs.Served.{AreNoted};
+ghost use Rattle.clubdesk_commands.specs.AtNeed.{AnswersAtNeed, GivesWay, access};
+ghost use Rattle.clubdesk_commands.specs.Output.{output};
+ghost use Rattle.clubdesk_commands.specs.Run as spec;
+ghost use Rattle.clubdesk_commands.specs.declared.task.Task.TheVariants.{Pause, Serve};
+
+use crate::at_need::{DeskAtNeed, close_open};
+use crate::databases::Databases;
+use crate::fault::Fault;
+use crate::office::{DONE, written};
+use crate::server::serve;
+use crate::task::Service;
+use club_gate::Desk;
+use desk_server::Log;
+use std::io::Write;
+use std::time::Clock;
+
+/// Serves over the database of a name. Opens it before it writes, and closes it at the end.
+///
+/// # Errors
+///
+/// As `serve`; and `Storage` and `Memory` if the database can't be opened: then nothing was
+/// written.
+pub fn serve_file<C: Clock, D: Databases, W: Write, G: Log>(
+    rt: &HostRuntime,
+    machine: &C,
+    databases: &mut D,
+    file: &str,
+    service: Service<'_>,
+    writer: &mut W,
+    log: &mut G,
+) -> Result<(), Fault>
+    ensures done { spec.Performs D.opens D.closes D.finds_wish D.Store.disk_is_clean
+        D.Store.represents
+        (record { file = file.now; task = Serve service.entry }) databases.old databases.new
+        (output W.contents writer.old writer.new)
+        (λ fates. AreNoted G.begins G.notes log.old fates log.new) result }
+    ensures unlogged { service.entry.log ≡ false → log.new ≡ log.old }
+{
+    match databases.open(file) {
+        Ok(store) => {
+            let mut place = Some(Desk::new(rt.alloc(), store));
+            let mut desk = DeskAtNeed::new(rt.alloc(), databases, file, &mut place);
+            let outcome = serve_at_need(rt, machine, &mut desk, service, writer, log);
+            close_open(databases, place);
+            outcome
+        }
+        Err(fault) => Err(Fault::from(fault)),
+    }
+}
+
+// Serves over a desk whose database is opened where it is needed.
+fn serve_at_need<C: Clock, D: Databases, W: Write, G: Log>(
+    rt: &HostRuntime,
+    machine: &C,
+    desk: &mut DeskAtNeed<'_, D>,
+    service: Service<'_>,
+    writer: &mut W,
+    log: &mut G,
+) -> Result<(), Fault>
+    ensures same_databases { desk.new.databases.ghost_name ≡ desk.old.databases.ghost_name }
+    ensures same_place { desk.new.place.ghost_name ≡ desk.old.place.ghost_name }
+    ensures served { spec.RunsServer
+        (AnswersAtNeed D.opens
+        (AnswersBy D.Store.disk_is_clean D.Store.represents) desk.old.file.now)
+        (GivesWay D.closes D.finds_wish desk.old.file.now) service.entry
+        (access desk.old.databases.now desk.old.place.now)
+        (access desk.new.databases.now desk.new.place.now)
+        (λ fates. AreNoted G.begins G.notes log.old fates log.new) result }
+    ensures announced { spec.Announces service.entry.port
+        (output W.contents writer.old writer.new) result }
+    ensures unlogged { service.entry.log ≡ false → log.new ≡ log.old }
+{
+    serve(rt, machine, desk, service, writer, log)
+}
+
+/// Opens the database of a name, as the office does, and closes it at once; so a server has closed
+/// it too. Writes `done`, and keeps servers away from the database for so many seconds.
+///
+/// # Errors
+///
+/// `Storage` where servers can't be kept away or the database can't be opened, and `Memory`: then
+/// nothing
+/// was written. `InputOutput` where the writer failed.
+pub fn pause<D: Databases, W: Write>(
+    databases: &mut D,
+    file: &str,
+    seconds: u32,
+    writer: &mut W,
+) -> Result<(), Fault>
+    ensures { spec.Performs D.opens D.closes D.finds_wish D.Store.disk_is_clean D.Store.represents
+        (record { file = file.now; task = Pause seconds }) databases.old databases.new
+        (output W.contents writer.old writer.new) (λ fates. fates ≡ []) result }
+{
+    let Some(_pause) = databases.pause(file) else {
+        return Err(Fault::Storage);
+    };
+    match databases.open(file) {
+        Ok(store) => {
+            databases.close(store);
+            let outcome = written(writer, DONE);
+            if outcome.is_ok() {
+                databases.wait(seconds);
+            }
+            outcome
+        }
+        Err(fault) => Err(Fault::from(fault)),
+    }
+}

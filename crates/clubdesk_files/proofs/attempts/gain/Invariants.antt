@@ -1,0 +1,6 @@
+-- All attempts so far failed.
+use Rattle.clubdesk_files.specs.Attempts.{AreInVain}
+use Rattle.clubdesk_files.proofs.attempts.gain.Given as goal
+
+abbrev pub invariant-loop-tried : goal.invariant-loop-tried
+invariant-loop-tried g l = AreInVain g.A.Attempts.gains l.initial.attempts l.tried l.attempts

@@ -1,9 +1,0 @@
-pub mod AppLemmas
-pub mod ValueLemmas
-pub mod WordsLemmas
-pub mod NamedLemmas
-pub mod WordLaws
-pub mod RunLemmas
-pub mod ServerLemmas
-pub mod SeenLemmas
-pub mod AtNeedLemmas

@@ -1,6 +1,0 @@
-use Rattle.std.specs.String.{string_bytes}
-use Rattle.desk_commands.specs.Office as spec
-use Rattle.desk_commands.proofs.office.order_pass.Goals as goal
-
-pub returns-in-Some : goal.returns-in-Some
-returns-in-Some g c = spec.ordered (string_bytes c.in-Some.text) c.in-Some.ensures (rw c.as_str.ensures.value at c.carry_out.ensures)

@@ -1,7 +1,0 @@
-use Rattle.desk_commands.proofs.program.carry_out.Goals as goal
-
-pub returns-in-AddKey : goal.returns-in-AddKey
-returns-in-AddKey g c = rw c.in-AddKey.is c.order_pass.ensures
-
-pub returns-in-RotateKey : goal.returns-in-RotateKey
-returns-in-RotateKey g c = rw c.in-RotateKey.is c.order_pass-in-RotateKey.ensures

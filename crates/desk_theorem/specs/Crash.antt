@@ -1,0 +1,45 @@
+-- What a reopened store holds after a crash (ours).
+use Rattle.std.specs.Prelude.{◌≡◌, ◌⊎◌, List, [], Contains}
+use Rattle.sqlite_disk.specs.declared.Disk as disk
+use Rattle.sqlite.specs.declared.FileStore.{FileStore}
+use Rattle.sqlite.specs.FileStore as file
+use Rattle.sqlite.specs.Files.{over_files}
+use Rattle.sqlite.specs.Held.{Held}
+use Rattle.sqlite.specs.Recovery.{Image}
+use Rattle.sqlite.specs.State.{State}
+use Rattle.sqlite.specs.View.{IsClean}
+use Rattle.club_core.specs.Club.{Club}
+use Rattle.club_core.specs.Run as machine
+use Rattle.club_laws.specs.RunsWithFailures.{RepeatsServedReplies}
+use Rattle.club_store.specs.Opening.{OpensFrom}
+use Rattle.club_store.specs.Tables.{Represents}
+use Rattle.club_store.specs.ReadsAndChanges.{sound_in}
+use Rattle.club_gate.specs.Runs.{MayBeLeft, DeskResponse, club_left}
+
+-- The state represents exactly one of these clubs, and no crash leaves another. An accepted repeat gets the same reply.
+pub record RecoversOne (state : State) (clubs : List Club) (events : List machine.Event) (returned : List DeskResponse) : Type 0 where
+  pub club : Club
+  pub among : Contains clubs club
+  pub represents : Represents state club []
+  pub again : RepeatsServedReplies club events returned
+
+-- a crash may leave this image of a store's file and log
+abbrev pub CrashMayLeave : {D : Type 0} {d : disk.Ghosts D} → FileStore D d → Image → Type 0
+CrashMayLeave store left = IsClean (file.view store) × (file.state store).may_leave left
+
+-- the club that the answered events leave; a repeat of a served request gets the same reply in it, and changes nothing
+abbrev pub IsLast : Club → List machine.Event → List DeskResponse → Club → Type 0
+IsLast club events returned now = (now ≡ club_left club events returned) × RepeatsServedReplies now events returned
+
+-- After a run and a crash, a reopened store holds exactly one club, and no further crash leaves another: the club that the answered
+-- events leave, or another possible crash state of the run.
+pub record RecoversAfterRun {E : Type 0} {e : disk.Ghosts E} (opened : Held (FileStore E e)) (club : Club) (others : List Club) (events : List machine.Event)
+    (returned : List DeskResponse) : Type 0 where
+  pub now : Club
+  pub is : IsLast club events returned now ⊎ MayBeLeft club others events returned now
+  pub represents : sound_in over_files opened now []
+
+-- Every store that is opened on what a crash may leave of this one's file and log, after a run from this club.
+abbrev pub OpensAgain : {D E : Type 0} {d : disk.Ghosts D} → disk.Ghosts E → FileStore D d → Club → List Club → List machine.Event → List DeskResponse → Type 0
+OpensAgain {E = E} e store club others events returned =
+    (left : Image) (opened : Held (FileStore E e)) → CrashMayLeave store left → OpensFrom left opened → ∥ RecoversAfterRun opened club others events returned ∥₁

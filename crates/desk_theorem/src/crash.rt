@@ -1,0 +1,73 @@
+//! What a crash leaves of a desk over a file.
+
+ghost use Rattle.std.specs.Prelude.{List, All, IfOk};
+ghost use Rattle.sqlite.specs.FileStore as file;
+ghost use Rattle.sqlite.specs.Files.{file_state, over_files};
+ghost use Rattle.sqlite.specs.Recovery.{Image};
+ghost use Rattle.sqlite.specs.View.{IsClean};
+ghost use Rattle.club_core.specs.Club.{Club};
+ghost use Rattle.club_core.specs.Run as machine;
+ghost use Rattle.club_laws.specs.RunsWithFailures.{RepeatsServedReplies};
+ghost use Rattle.club_store.specs.Crash.{CrashLeaves};
+ghost use Rattle.club_store.specs.Opening.{OpensFrom};
+ghost use Rattle.club_store.specs.ReadsAndChanges.{sound_in};
+ghost use Rattle.club_gate.specs.Runs.{IsAnsweredRun, DeskResponse, machine_events, responses_of};
+ghost use Rattle.desk_theorem.specs.Crash.{OpensAgain, RecoversOne};
+
+use club_core::StoreFault;
+use club_gate::{Desk, Event, EventReply};
+use club_store::Store;
+use club_store::laws::{files_hold_one_of, one_club_recovered};
+use sqlite::{FileFrom, FileStore, Start};
+use sqlite_disk::Disk;
+
+/// The crash law. Reopening the files after a crash recovers exactly one of the clubs that the old
+/// store could recover to. If each of these repeats the replies to served requests, so does the
+/// recovered one, and every later crash leaves it.
+pub fn served_survives_a_crash<D: Disk, Q: Start>(
+    before: &FileStore<D>,
+    after: &Store<FileStore<FileFrom<Q>>>,
+)
+    ensures { (clubs : List Club) (events : List machine.Event) (returned : List DeskResponse)
+        (left : Image)
+        → All (λ club. RepeatsServedReplies club events returned) clubs
+        → CrashLeaves before.now clubs left
+        → OpensFrom left after.now
+        → ∥ RecoversOne (file_state after.now) clubs events returned ∥₁ }
+{
+    one_club_recovered(before, after);
+}
+
+/// Runs a list of events at a desk over a file, and returns the responses and the store. The
+/// machine may stop in the run or after it: a crash in a call is a disk that fails from there on.
+/// A store that is opened on the files then, over a disk `E`, has the change of every answered
+/// event.
+///
+/// # Errors
+///
+/// There was no memory for the replies. No event was answered.
+pub fn run_and_leave<D: Disk + Drop, E: Disk>(
+    mut desk: Desk<Store<FileStore<D>>>,
+    events: &[Event],
+) -> Result<(Vec<EventReply>, FileStore<D>), StoreFault>
+    // The replies are the machine's, failed events left out.
+    ensures answered { IfOk result (λ left. IsClean (file.view left.1)
+        → (club : Club) (others : List Club)
+        → sound_in over_files desk club others
+        → IsAnsweredRun club (machine_events events.now) (responses_of left.0.items)) }
+    // After any crash, a reopened store holds the club of the answered events, or that after one
+    // event that failed. A repeat of a served request gets the same reply there.
+    ensures again { IfOk result (λ left. (club : Club) (others : List Club)
+        → sound_in over_files desk club others
+        → OpensAgain E.Disk left.1 club others (machine_events events.now)
+        (responses_of left.0.items)) }
+{
+    match desk.run(events) {
+        Ok(replies) => {
+            let store = desk.into_store().into_store();
+            files_hold_one_of(&store);
+            Ok((replies, store))
+        }
+        Err(_) => Err(StoreFault::Memory),
+    }
+}

@@ -1,0 +1,9 @@
+//! The law of the desk and its tables together: the responses to any list of orders and requests
+//! from an empty database, the reply to a request after it, and what a crash leaves.
+#![tactic(auto)]
+
+mod crash;
+mod from_nothing;
+
+pub use crash::{run_and_leave, served_survives_a_crash};
+pub use from_nothing::{RunAndReply, reply_from_nothing, run_from_nothing};

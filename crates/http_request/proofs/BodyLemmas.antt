@@ -1,0 +1,45 @@
+-- The parts of a body.
+use Rattle.std.proofs.Common.{◌≡◌, ℕ, ◌≤◌, ◌&&◌, Bool, true, false, cond, List, [], ◌∷◌, Option, Some, None, Result, inl, inr, ◌↔◌, refl, ap}
+use Rattle.std.specs.Prelude.{MatchResult, IsSome, IfSome}
+use Rattle.std.specs.Option.{ok_or, option_and_then}
+use Rattle.std.specs.List.{list_all}
+use Rattle.std.specs.Map.{keys_of}
+use Rattle.std.specs.Str.{bytes_eq, IsUtf8, is_utf8}
+use Rattle.std.specs.String.{string_bytes}
+use Rattle.std.specs.declared.alloc.Global.{Global}
+use Rattle.std.specs.declared.string.String.{String}
+use Rattle.std.proofs.lemmas.Str.{IsUtf8-from_is_utf8}
+use Rattle.serde_json.specs.Data.{Data}
+use Rattle.serde_json.specs.View.{members_view}
+use Rattle.serde_json.specs.declared.value.Value.{Value}
+use Rattle.club_rows.specs.Limits.{IsGuests}
+use Rattle.club_core.specs.declared.refusal.Refusal.{Refusal}
+use Rattle.club_core.specs.declared.refusal.Refusal.TheVariants.{BadRequest}
+use Rattle.http_request.specs.Body.{only_named}
+use Rattle.http_request.specs.Refused.{Refuses}
+
+-- the names of a map's entries are those of the object's members
+pub all_named : (name : List ℕ) (entries : List (String Global × Value))
+    → list_all (λ key. bytes_eq (string_bytes key) name) (keys_of entries) ≡ only_named name (members_view entries)
+all_named name [] = refl
+all_named name (entry ∷ entries) = ap (λ (b : Bool). bytes_eq (string_bytes entry.0) name && b) (all_named name entries)
+
+-- as many guests as a booking may have
+pub as_many : (r : Option ℕ) (n : ℕ) → n ≤ 49 → (IsSome r ↔ IsGuests n) → IfSome r (λ guests. guests ≡ n) → r ≡ Some n
+as_many None n h some same = let none : Option ℕ = None in let is : IsSome none = some.1 h in cc
+as_many (Some guests) n h some same = ap (λ (m : ℕ). Some m) same
+
+-- either no text in UTF-8 or no JSON
+pub no_value : (bytes : List ℕ) (test : Bool) (found : Option Data) → is_utf8 bytes ≡ test → (IsUtf8 bytes → found ≡ None) → cond test found None ≡ None
+no_value bytes true found e none = none (IsUtf8-from_is_utf8 bytes e)
+no_value bytes false found e none = refl
+
+pub refused_before : {A B : Type 0} (Needs : Type 0) (found : Option A) (f : A → Option B) (refusal : Refusal) → Refuses Needs found refusal
+    → Refuses Needs (option_and_then f found) refusal
+refused_before Needs found f refusal (inl memory) = inl memory
+refused_before Needs found f refusal (inr bad) = inr (bad.0, rw bad.1 refl)
+
+pub found_or_bad : (Needs : Type 0) (whole found : Option ℕ) (r : Result ℕ Refusal) → whole ≡ found → r ≡ ok_or found BadRequest
+    → MatchResult r (λ guests. whole ≡ Some guests) (Refuses Needs whole)
+found_or_bad Needs whole None r e is = rw is (inr (refl, e))
+found_or_bad Needs whole (Some guests) r e is = rw is e

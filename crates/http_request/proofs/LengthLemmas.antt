@@ -1,0 +1,62 @@
+-- No body has more than 256 bytes.
+use Rattle.std.proofs.Common.{◌≡◌, ℕ, ◌-◌, ◌<◌, ◌≤◌, ◌&&◌, ◌||◌, refl, Bool, true, false, cond, eqb, leb, ltb, List, [], ◌∷◌, length, Option, Some, None}
+use Rattle.std.proofs.Common.{arith, rules, tests, codes, take}
+use Rattle.std.proofs.lemmas.List.{length-take-le}
+use Rattle.std.specs.Char.{is_ascii_digit}
+use Rattle.std.specs.List.{list_all}
+use Rattle.std.specs.Str.{bytes_eq}
+use Rattle.std.specs.Str.Parse.{digits_value}
+use Rattle.httparse.specs.declared.spans.HeaderSpan.{HeaderSpan}
+use Rattle.http_request.specs.declared.front.Head.{Head}
+use Rattle.http_request.specs.Fields.{values_of}
+use Rattle.http_request.specs.Length.{length_in, declared_length, where_allowed, unless_coded, asked_length}
+use Rattle.http_request.specs.Frame.{header_fields}
+use Rattle.http_request.specs.Front.{IsHeadAt}
+
+some_of : (test : Bool) (a n : ℕ) → cond test (Some a) None ≡ Some n → (test ≡ true) × (a ≡ n)
+some_of true a n e = (refl, cc)
+some_of false a n e = absurd cc
+
+both_true : (a b : Bool) → (a && b) ≡ true → b ≡ true
+both_true true b e = e
+both_true false b e = absurd cc
+
+few_digits : (value : List ℕ) (n : ℕ) → length_in value ≡ Some n → n ≤ 256
+few_digits value n e =
+    let is = some_of (ltb 0 (length value) && leb (length value) 4 && list_all is_ascii_digit value
+    && leb (digits_value 10 value) 256) (digits_value 10 value) n e in
+    let small : leb (digits_value 10 value) 256 ≡ true = both_true (ltb 0 (length value) && leb (length value) 4
+    && list_all is_ascii_digit value) (leb (digits_value 10 value) 256) is.0 in
+    let le : digits_value 10 value ≤ 256 = search (rules, tests) in
+    omega (arith, is.1)
+
+few_declared : (values : List (List ℕ)) (n : ℕ) → declared_length values ≡ Some n → n ≤ 256
+few_declared [] n e = let zero : 0 ≡ n = cc in omega arith
+few_declared (value ∷ []) n e = few_digits value n e
+few_declared (value ∷ other ∷ more) n e = absurd cc
+
+few_allowed : (method : List ℕ) (found_len : Option ℕ) (n : ℕ) → ((m : ℕ) → found_len ≡ Some m → m ≤ 256) → where_allowed method found_len ≡ Some n → n ≤ 256
+few_allowed method None n few e = absurd cc
+few_allowed method (Some m) n few e =
+    let is = some_of (eqb m 0 || bytes_eq method (codes "PUT")) m n e in
+    omega (arith, is.1, few m refl)
+
+few_asked : (codings : List (List ℕ)) (found_len : Option ℕ) (n : ℕ) → ((m : ℕ) → found_len ≡ Some m → m ≤ 256) → unless_coded codings found_len ≡ Some n
+    → n ≤ 256
+few_asked [] found_len n few e = few n e
+few_asked (coding ∷ more) found_len n few e = absurd cc
+
+pub asked_few : (method : List ℕ) (fields : List (List ℕ × List ℕ)) (n : ℕ) → asked_length method fields ≡ Some n → n ≤ 256
+asked_few method fields n e =
+    few_asked (values_of (codes "transfer-encoding") fields) (where_allowed method (declared_length (values_of (codes "content-length") fields))) n
+    (λ m h. few_allowed method (declared_length (values_of (codes "content-length") fields)) m (few_declared (values_of (codes "content-length") fields)) h) e
+
+-- if a body is cut off, there are fewer than 16,640 bytes
+pub room_for : (bytes : List ℕ) (fields : List HeaderSpan) (found : Head) → IsHeadAt bytes fields found → length bytes - found.len < found.body_len
+    → length bytes < 16640
+room_for bytes fields found at short =
+    let few = asked_few at.head.method (header_fields at.head) found.body_len at.asks.requests in
+    let len : length (take found.len bytes) ≡ found.len = length-take-le found.len bytes at.inside in
+    let small = at.cut.short in
+    let inside = at.inside in
+    omega arith

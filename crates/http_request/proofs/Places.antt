@@ -1,0 +1,16 @@
+-- Paths with more parts than a place has.
+use Rattle.std.proofs.Common.{◌≡◌, List, ◌∷◌, ℕ, Bor, Option, Some, None, true, refl}
+use Rattle.std.specs.Option.{is_some}
+use Rattle.club_values.specs.declared.slot.Slot.{Slot}
+use Rattle.http_request.specs.Parts.{following_parts}
+use Rattle.http_request.specs.Path.{at_slot, account_at}
+use Rattle.http_request.proofs.Segments.{first_part}
+
+pub past_number : (slot : Slot) (word number : List ℕ) (rest : Option (Bor (List ℕ))) → is_some rest ≡ true
+    → at_slot slot (word ∷ number ∷ following_parts rest) ≡ None
+past_number slot word number None e = cc
+past_number slot word number (Some path) e = let first = first_part path.now in rw first.2 refl
+
+pub past_account : (word : List ℕ) (rest : Option (Bor (List ℕ))) → is_some rest ≡ true → account_at word (following_parts rest) ≡ None
+past_account word None e = cc
+past_account word (Some path) e = let first = first_part path.now in rw first.2 refl

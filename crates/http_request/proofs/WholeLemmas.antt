@@ -1,0 +1,128 @@
+-- When a request is whole, and what follows it.
+use Rattle.std.proofs.Common.{◌≡◌, ℕ, ◌-◌, ◌<◌, ◌≤◌, ◌↔◌, inl, inr, false, List, ◌++◌, length, take, drop, nat_eq, refl, sym, ap, ◌∙◌, arith}
+use Rattle.std.proofs.Common.{append_assoc, length-append}
+use Rattle.std.specs.List.{ends_with}
+use Rattle.std.proofs.Math.Seq.{take-append_seam}
+use Rattle.std.proofs.lemmas.Bool.{cases_lt}
+use Rattle.std.proofs.lemmas.List.{take-append-le, take-append-drop, length-drop}
+use Rattle.httparse.specs.declared.spans.HeaderSpan.{HeaderSpan}
+use Rattle.httparse.specs.Grammar.{RequestHead}
+use Rattle.http_request.specs.declared.front.Head.{Head}
+use Rattle.http_request.specs.Head.{empty_line, IsPiece}
+use Rattle.http_request.specs.Frame.{AsksForBody, IsFramed, IsRefusedHead, HasNoPiece, IsWhole, has_frame, endless, refused}
+use Rattle.http_request.specs.Front.{IsHeadAt}
+use Rattle.http_request.specs.Words as words
+use Rattle.http_request.specs.Words.{DecodedRequest, IsRequestReading, HoldsBody}
+use Rattle.http_request.specs.Laws.{OneReading, WholeKeepsItsReading, BodyStays}
+use Rattle.http_request.proofs.FrameLemmas.{one_piece, no_frame, refused_frame, same_asked, whole_frame}
+
+no_piece : (bytes piece rest : List ℕ) → IsPiece piece → bytes ≡ piece ++ rest → ¬ (HasNoPiece bytes)
+no_piece bytes piece rest cut parts none =
+    let within : length piece ≤ length bytes = rw parts (simp length-append (omega arith)) in
+    let front : take (length piece) bytes ≡ piece = rw parts (take-append_seam piece rest) in
+    let no : ends_with nat_eq piece empty_line ≡ false = rw front at (none (length piece) within cut.short) in
+    let yes = cut.ends in
+    cc
+
+-- if no head has ended within the limit, the bytes hold no whole request
+pub open_head : (bytes : List ℕ) → HasNoPiece bytes → length bytes < 16384 → ¬ (IsWhole bytes)
+open_head bytes none short (has_frame head body is) = no_frame bytes none head body is
+open_head bytes none short (endless empty long) = omega arith
+open_head bytes none short (refused is) = no_piece bytes is.piece is.rest is.cut is.parts none
+
+-- if no head has ended, bytes hold a whole request if and only if none can end any more
+pub headless_whole : (bytes : List ℕ) → HasNoPiece bytes → (16384 ≤ length bytes) ↔ IsWhole bytes
+headless_whole bytes none = (
+  λ long. endless none long,
+  λ whole. elim (cases_lt (length bytes) 16384) [ inl short ↦ absurd (open_head bytes none short whole) | inr long ↦ long ],
+)
+
+-- nor if the body is cut off
+pub open_body : (bytes piece rest : List ℕ) (head : RequestHead) (n : ℕ) → IsPiece piece → bytes ≡ piece ++ rest → AsksForBody piece head n → length rest < n
+    → ¬ (IsWhole bytes)
+open_body bytes piece rest head n cut parts asks short (has_frame other body is) =
+    let same = one_piece is.piece piece (body ++ is.after) rest (sym is.parts ∙ parts) is.cut cut in
+    let same_length = same_asked piece head other n (length body) asks (rw same.0 at is.asks) in
+    let long : length body ≤ length rest = rw (← same.1) (simp length-append (omega arith)) in
+    omega (arith, same_length.1)
+open_body bytes piece rest head n cut parts asks short (endless none long) = no_piece bytes piece rest cut parts none
+open_body bytes piece rest head n cut parts asks short (refused is) =
+    let same = one_piece piece is.piece rest is.rest (sym parts ∙ is.parts) cut is.cut in
+    is.refused head n (rw same.0 at asks)
+
+-- bytes that begin with a head hold a whole request if and only if its body is there
+pub body_there : (bytes : List ℕ) (fields : List HeaderSpan) (found : Head) → IsHeadAt bytes fields found
+    → (found.body_len ≤ length bytes - found.len) ↔ IsWhole bytes
+body_there bytes fields found at =
+    let rest = length-drop found.len bytes in
+    let parts = sym (take-append-drop found.len bytes) in (
+      λ there. has_frame at.head _ (whole_frame bytes fields found at (omega arith)),
+      λ whole. elim (cases_lt (length (drop found.len bytes)) found.body_len) [
+        | inl short ↦ absurd (open_body bytes (take found.len bytes) (drop found.len bytes) at.head found.body_len at.cut parts at.asks short whole)
+        | inr long ↦ omega arith
+      ],
+    )
+
+same_body : (a b r s : List ℕ) → length a ≡ length b → a ++ r ≡ b ++ s → a ≡ b
+same_body a b r s len same = sym (take-append_seam a r) ∙ ap (take (length a)) same ∙ ap (λ (n : ℕ). take n (b ++ s)) len ∙ take-append_seam b s
+
+one_frame : (bytes : List ℕ) (head other : RequestHead) (body again : List ℕ) → IsFramed bytes head body → IsFramed bytes other again → (head ≡ other)
+    × (body ≡ again)
+one_frame bytes head other body again is and =
+    let same = one_piece is.piece and.piece (body ++ is.after) (again ++ and.after) (sym is.parts ∙ and.parts) is.cut and.cut in
+    let same_length = same_asked and.piece head other (length body) (length again) (rw same.0 at is.asks) and.asks in
+    (sym same_length.0, same_body body again is.after and.after same_length.1 same.1)
+
+pub one : OneReading
+one bytes a b (words.has_frame head body is decoded) (words.has_frame other again and returned) =
+    let same = one_frame bytes head other body again is and in
+    decoded ∙ rw (same.0, same.1) refl ∙ sym returned
+one bytes a b (words.has_frame head body is decoded) (words.lacks_frame none returned) = absurd (none head body is)
+one bytes a b (words.lacks_frame none returned) (words.has_frame head body is decoded) = absurd (none head body is)
+one bytes a b (words.lacks_frame none returned) (words.lacks_frame again decoded) = returned ∙ sym decoded
+
+frame_more : (bytes more : List ℕ) (head : RequestHead) (body : List ℕ) → IsFramed bytes head body → IsFramed (bytes ++ more) head body
+frame_more bytes more head body is = record {
+  piece = is.piece;
+  after = is.after ++ more;
+  cut = is.cut;
+  parts = ap (λ (l : List ℕ). l ++ more) is.parts ∙ simp append_assoc;
+  asks = is.asks;
+}
+
+endless_more : (bytes more : List ℕ) → HasNoPiece bytes → 16384 ≤ length bytes → HasNoPiece (bytes ++ more)
+endless_more bytes more none long = λ n within short.
+    let le : n ≤ length bytes = omega arith in
+    rw take-append-le (none n le short)
+
+pub refused_more : (bytes more : List ℕ) → IsRefusedHead bytes → IsRefusedHead (bytes ++ more)
+refused_more bytes more is = record {
+  piece = is.piece;
+  rest = is.rest ++ more;
+  cut = is.cut;
+  parts = ap (λ (l : List ℕ). l ++ more) is.parts ∙ append_assoc is.piece is.rest more;
+  refused = is.refused;
+}
+
+-- a head stays in its place if more bytes follow
+pub head_more : (bytes more : List ℕ) (fields : List HeaderSpan) (found : Head) → IsHeadAt bytes fields found → IsHeadAt (bytes ++ more) fields found
+head_more bytes more fields found at =
+    let same : take found.len (bytes ++ more) ≡ take found.len bytes = take-append-le found.len bytes more at.inside in
+    record {
+      head = at.head;
+      inside = rw (length-append bytes more) (omega (arith, at.inside));
+      cut = rw same at.cut;
+      asks = rw same at.asks;
+      within = rw same at.within;
+      spans = rw same at.spans;
+    }
+
+pub keeps : WholeKeepsItsReading
+keeps bytes more answer whole (words.has_frame head body is decoded) = words.has_frame head body (frame_more bytes more head body is) decoded
+keeps bytes more answer (has_frame head body is) (words.lacks_frame none returned) = absurd (none head body is)
+keeps bytes more answer (endless empty long) (words.lacks_frame none returned) = words.lacks_frame
+    (no_frame (bytes ++ more) (endless_more bytes more empty long)) returned
+keeps bytes more answer (refused is) (words.lacks_frame none returned) = words.lacks_frame (refused_frame (bytes ++ more) (refused_more bytes more is)) returned
+
+pub stays : BodyStays
+stays bytes more (head, body, is, needs) = (head, body, frame_more bytes more head body is, needs)

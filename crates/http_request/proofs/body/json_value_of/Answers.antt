@@ -1,0 +1,21 @@
+use Rattle.std.proofs.Common.{refl, inr}
+use Rattle.std.specs.Str.{is_utf8}
+use Rattle.std.proofs.lemmas.Str.{is_utf8-from_IsUtf8}
+use Rattle.serde_json.specs.Read.{read}
+use Rattle.http_request.specs.Body.{json_value_of}
+use Rattle.http_request.proofs.BodyLemmas.{no_value}
+use Rattle.http_request.proofs.body.json_value_of.Goals as goal
+
+pub returns-in-Ok-clause-ok : goal.returns-in-Ok-clause-ok
+unfolding json_value_of
+returns-in-Ok-clause-ok c = rw (is_utf8-from_IsUtf8 c.args.bytes.now c.in-Ok.ensures.ok.0) c.in-Ok.ensures.ok.1
+
+pub returns-else-is_memory-clause-err : goal.returns-else-is_memory-clause-err
+unfolding json_value_of
+returns-else-is_memory-clause-err c =
+    inr (
+      refl,
+      no_value c.args.bytes.now (is_utf8 c.args.bytes.now) (read c.args.bytes.now) refl
+          (c.in-Err.ensures.err (λ memory. let h = c.is_memory.ensures.1 memory in
+          let k = rw c.if-is_memory.false at h in cc)),
+    )

@@ -1,0 +1,5 @@
+use Rattle.http_request.proofs.WholeLemmas.{one}
+use Rattle.http_request.proofs.laws.one_reading.Goals as goal
+
+pub returns : goal.returns
+returns c = one

@@ -1,0 +1,35 @@
+-- The body of a request.
+use Rattle.std.specs.Prelude.{ℕ, ◌&&◌, Bool, true, false, List, codes, nat_le, if◌then◌else◌, Option, Some, None, option_and_then, option_map, unwrap_or}
+use Rattle.std.specs.Str.{bytes_eq, is_utf8}
+use Rattle.serde_json.specs.Data.{Data, Members, no_members, member}
+use Rattle.serde_json.specs.Find.{get, as_number, as_object, as_u64}
+use Rattle.serde_json.specs.Read.{read}
+
+-- every name of the object is this one
+abbrev pub only_named : List ℕ → Members → Bool
+only_named name no_members = true
+only_named name (member key value members) = bytes_eq key name && only_named name members
+
+abbrev pub has_only_name : List ℕ → Data → Bool
+has_only_name name value = unwrap_or (option_map (only_named name) (as_object value)) false
+
+-- a whole number that isn't negative
+abbrev pub whole_number : Option Data → Option ℕ
+whole_number value = option_and_then as_u64 (option_and_then as_number value)
+
+-- at most 49 guests (ours)
+abbrev pub few_guests : Option ℕ → Option ℕ
+few_guests None = None
+few_guests (Some n) = if nat_le n 49 then Some n else None
+
+-- an object with the one name `guests`, and a whole number of 0 to 49
+unfoldable pub guests_of_value : Data → Option ℕ
+guests_of_value value = if has_only_name (codes "guests") value then few_guests (whole_number (get (codes "guests") value)) else None
+
+-- the value of bytes, as serde_json reads them (RFC 8259)
+unfoldable pub json_value_of : List ℕ → Option Data
+json_value_of bytes = if is_utf8 bytes then read bytes else None
+
+-- the number of guests in a body
+unfoldable pub guests_in : List ℕ → Option ℕ
+guests_in body = option_and_then guests_of_value (json_value_of body)

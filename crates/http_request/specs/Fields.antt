@@ -1,0 +1,27 @@
+-- The fields of a head, by their names.
+use Rattle.std.specs.Prelude.{◌≡◌, ℕ, Bool, List, [], ◌∷◌, map, if◌then◌else◌}
+use Rattle.std.specs.Char.{to_ascii_lowercase}
+use Rattle.std.specs.Str.{bytes_eq}
+use Rattle.httparse.specs.declared.spans.HeaderSpan.{HeaderSpan}
+use Rattle.httparse.specs.Spans.{header_bytes}
+use Rattle.http_request.specs.declared.fields.Values.{Values}
+use Rattle.http_request.specs.declared.fields.Values.TheVariants.{None, One, More}
+
+-- two names are the same, in any case (RFC 9110, section 5.1)
+abbrev pub same_word : List ℕ → List ℕ → Bool
+same_word a b = bytes_eq (map to_ascii_lowercase a) (map to_ascii_lowercase b)
+
+-- the values of the fields with a name, in their order; a field is a name and a value
+abbrev pub values_of : List ℕ → List (List ℕ × List ℕ) → List (List ℕ)
+values_of name [] = []
+values_of name (field ∷ fields) = if same_word field.0 name then field.1 ∷ values_of name fields else values_of name fields
+
+-- the same, for fields that are spans of a head
+abbrev pub values_in_head : List ℕ → List ℕ → List HeaderSpan → List (List ℕ)
+values_in_head head name fields = values_of name (map (header_bytes head) fields)
+
+-- none, one, or more
+abbrev pub ClassifiesValues : List (List ℕ) → Values → Type 0
+ClassifiesValues values None = values ≡ []
+ClassifiesValues values (One value) = values ≡ value.now ∷ []
+ClassifiesValues values More = (first : List ℕ) × (second : List ℕ) × (others : List (List ℕ)) × (values ≡ first ∷ second ∷ others)

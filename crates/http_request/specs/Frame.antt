@@ -1,0 +1,42 @@
+-- A request as its head and its body (RFC 9112, section 6), and when it is whole.
+use Rattle.std.specs.Prelude.{◌≡◌, ℕ, ◌≤◌, false, List, ◌++◌, length, take, map, nat_eq, Some}
+use Rattle.std.specs.List.{ends_with}
+use Rattle.httparse.specs.Grammar.{RequestHead}
+use Rattle.httparse.specs.Spans.{name_and_value}
+use Rattle.http_request.specs.Head.{empty_line, IsPiece, IsHeadOf}
+use Rattle.http_request.specs.Length.{asked_length}
+
+-- the names and the values of a head's fields
+abbrev pub header_fields : RequestHead → List (List ℕ × List ℕ)
+header_fields head = map name_and_value head.fields
+
+-- the piece is a head whose body has this length
+pub record AsksForBody (piece : List ℕ) (head : RequestHead) (body_len : ℕ) : Type 0 where
+  pub is : IsHeadOf piece head
+  pub requests : asked_length head.method (header_fields head) ≡ Some body_len
+
+-- the bytes begin with a head and its body
+pub record IsFramed (bytes : List ℕ) (head : RequestHead) (body : List ℕ) : Type 0 where
+  pub piece : List ℕ
+  pub after : List ℕ
+  pub cut : IsPiece piece
+  pub parts : bytes ≡ piece ++ (body ++ after)
+  pub asks : AsksForBody piece head (length body)
+
+-- no beginning of the bytes is a head's piece
+abbrev pub HasNoPiece : List ℕ → Type 0
+HasNoPiece bytes = (n : ℕ) → n ≤ length bytes → n ≤ 16384 → ends_with nat_eq (take n bytes) empty_line ≡ false
+
+-- the bytes begin with a piece that isn't a head, or whose body isn't allowed
+pub record IsRefusedHead (bytes : List ℕ) : Type 0 where
+  pub piece : List ℕ
+  pub rest : List ℕ
+  pub cut : IsPiece piece
+  pub parts : bytes ≡ piece ++ rest
+  pub refused : (head : RequestHead) (body_len : ℕ) → ¬ (AsksForBody piece head body_len)
+
+-- the bytes begin with a whole request: its head and its body, or a head that is refused whatever follows
+pub data IsWhole (bytes : List ℕ) : Type 0 where
+  has_frame : (head : RequestHead) (body : List ℕ) → IsFramed bytes head body → IsWhole bytes
+  endless : HasNoPiece bytes → 16384 ≤ length bytes → IsWhole bytes
+  refused : IsRefusedHead bytes → IsWhole bytes

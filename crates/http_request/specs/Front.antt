@@ -1,0 +1,30 @@
+-- The head that bytes begin with, if they do.
+use Rattle.std.specs.Prelude.{◌≤◌, ℕ, List, length, take}
+use Rattle.httparse.specs.declared.spans.HeaderSpan.{HeaderSpan}
+use Rattle.httparse.specs.Grammar.{RequestHead}
+use Rattle.httparse.specs.Spans.{IsRequestWithin, IsRequestAt}
+use Rattle.http_request.specs.declared.front.Head.{Head}
+use Rattle.http_request.specs.declared.front.Front.{Front}
+use Rattle.http_request.specs.declared.front.Front.TheVariants.{NoPiece, Refused, Asking}
+use Rattle.http_request.specs.declared.scan.HeadScan.{HeadScan}
+use Rattle.http_request.specs.Head.{IsPiece}
+use Rattle.http_request.specs.Frame.{AsksForBody, HasNoPiece, IsRefusedHead}
+
+-- the bytes begin with this head; its spans and the fields say where its parts are
+pub record IsHeadAt (bytes : List ℕ) (fields : List HeaderSpan) (found : Head) : Type 0 where
+  pub head : RequestHead
+  pub inside : found.len ≤ length bytes
+  pub cut : IsPiece (take found.len bytes)
+  pub asks : AsksForBody (take found.len bytes) head found.body_len
+  pub within : IsRequestWithin (take found.len bytes) fields found.spans
+  pub spans : IsRequestAt (take found.len bytes) fields found.spans head
+
+-- the bytes begin with this: no head yet, a head that is refused, or a head with the length of its body
+abbrev pub IsFrontOf : List ℕ → List HeaderSpan → Front → Type 0
+IsFrontOf bytes fields NoPiece = HasNoPiece bytes
+IsFrontOf bytes fields Refused = IsRefusedHead bytes
+IsFrontOf bytes fields (Asking found) = IsHeadAt bytes fields found
+
+-- the scan holds what the bytes begin with
+abbrev pub Covers : HeadScan → List ℕ → Type 0
+Covers scan bytes = IsFrontOf bytes scan.fields scan.front

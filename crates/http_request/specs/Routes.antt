@@ -1,0 +1,11 @@
+-- The routes of the desk's paths; matchit refuses a target that has none.
+use Rattle.std.specs.Prelude.{◌≡◌, ℕ, List, Some, IsSome}
+use Rattle.matchit.specs.Rows.{RowsOf}
+use Rattle.matchit.specs.Seek.{first}
+use Rattle.http_request.specs.declared.path.Place.{Place}
+use Rattle.http_request.specs.Path.{place_of}
+
+-- every place of the desk has a route
+abbrev pub KnowsPlaces : {K : Type 0} → RowsOf K → Type 0
+KnowsPlaces rows =
+    (target : List ℕ) (place : Place) → place_of target ≡ Some place → IsSome (first rows target)

@@ -1,0 +1,70 @@
+-- The decoding of a request.
+use Rattle.std.specs.Prelude.{◌≡◌, ◌⊎◌, ℕ, ◌<◌, List, length, if◌then◌else◌, codes, Option, Some, Result, Ok, Err}
+use Rattle.std.specs.Option.{ok_or}
+use Rattle.std.specs.Str.{bytes_eq}
+use Rattle.httparse.specs.Grammar.{RequestHead}
+use Rattle.club_core.specs.declared.refusal.Methods.TheVariants.{Get, PutAndDelete}
+use Rattle.club_core.specs.declared.refusal.Refusal.{Refusal}
+use Rattle.club_core.specs.declared.refusal.Refusal.TheVariants.{BadRequest, NoSuchPath, MethodNotAllowed, NoPass, Unavailable}
+use Rattle.club_core.specs.declared.request.Request.{Request}
+use Rattle.club_core.specs.declared.request.Request.TheVariants as requests
+use Rattle.http_request.specs.declared.path.Place.{Place}
+use Rattle.http_request.specs.declared.path.Place.TheVariants.{SlotPlace, BookingPlace, AccountPlace}
+use Rattle.club_core.specs.declared.sent_words.SentWords.{SentWords as Words}
+use Rattle.http_request.specs.Body.{guests_in}
+use Rattle.http_request.specs.Path.{place_of}
+use Rattle.http_request.specs.Pass.{pass_text_of}
+use Rattle.http_request.specs.Frame.{header_fields, IsFramed}
+
+infixl 10 ◌>>=◌
+abbrev pub ◌>>=◌ : {A B : Type 0} → Result A Refusal → (A → Result B Refusal) → Result B Refusal
+Ok a >>= f = f a
+Err e >>= f = Err e
+
+-- a decoded request: the text of its pass, and what it asks for
+pub record DecodedRequest : Type 0 where
+  pub pass : List ℕ
+  pub request : Request
+
+-- the guests that a request brings: the number in the body of a PUT, 0 for another method
+abbrev pub guests_by_method : List ℕ → List ℕ → Option ℕ
+guests_by_method method body = if bytes_eq method (codes "PUT") then guests_in body else Some 0
+
+-- what a method asks for at a place; methods are compared by their bytes
+abbrev pub request_at : Place → List ℕ → ℕ → Result Request Refusal
+request_at (SlotPlace slot) method guests =
+    if bytes_eq method (codes "GET") then Ok (requests.View slot) else Err (MethodNotAllowed Get)
+request_at (BookingPlace slot number) method guests =
+    if bytes_eq method (codes "PUT") then Ok (requests.Book slot number guests)
+    else (if bytes_eq method (codes "DELETE") then Ok (requests.Cancel slot number) else Err (MethodNotAllowed PutAndDelete))
+request_at AccountPlace method guests =
+    if bytes_eq method (codes "GET") then Ok requests.Account else Err (MethodNotAllowed Get)
+
+-- a request, decoded from its method, its target, its fields and its body; or the first refusal that fits
+unfoldable pub decoded_request : List ℕ → List ℕ → List (List ℕ × List ℕ) → List ℕ → Result DecodedRequest Refusal
+decoded_request method target fields body = do
+  guests ← ok_or (guests_by_method method body) BadRequest
+  place ← ok_or (place_of target) NoSuchPath
+  request ← request_at place method guests
+  pass ← ok_or (pass_text_of fields) NoPass
+  Ok (record { pass = pass; request = request })
+
+abbrev pub decoded_by_head : RequestHead → List ℕ → Result DecodedRequest Refusal
+decoded_by_head head body = decoded_request head.method head.target (header_fields head) body
+
+-- bytes decode by the head and the body that they begin with; if there are none, as `BadRequest`
+pub data IsRequestReading (bytes : List ℕ) (answer : Result DecodedRequest Refusal) : Type 0 where
+  has_frame : (head : RequestHead) (body : List ℕ) → IsFramed bytes head body → answer ≡ decoded_by_head head body → IsRequestReading bytes answer
+  lacks_frame : ((head : RequestHead) (body : List ℕ) → ¬ (IsFramed bytes head body)) → answer ≡ Err BadRequest → IsRequestReading bytes answer
+
+-- only the body of a PUT needs memory
+abbrev pub NeedsMemory : List ℕ → List ℕ → Type 0
+NeedsMemory method body = (method ≡ codes "PUT") × (0 < length body)
+
+abbrev pub HoldsBody : List ℕ → Type 0
+HoldsBody bytes = (head : RequestHead) × (body : List ℕ) × IsFramed bytes head body × NeedsMemory head.method body
+
+-- this holds of the answer; or the answer is `Unavailable`, because memory was needed and there was none
+abbrev pub OrUnavailable : Type 0 → (Result DecodedRequest Refusal → Type 0) → Result Words Refusal → Type 0
+OrUnavailable Needs Answers (Ok words) = Answers (Ok (record { pass = words.pass.now; request = words.request }))
+OrUnavailable Needs Answers (Err refusal) = ((refusal ≡ Unavailable) × Needs) ⊎ Answers (Err refusal)

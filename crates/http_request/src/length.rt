@@ -1,0 +1,46 @@
+//! How many bytes a body has.
+
+ghost use Rattle.std.specs.Prelude.{◌≡◌, length, map, All};
+ghost use Rattle.httparse.specs.Spans.{IsHeaderWithin, header_bytes};
+ghost use Rattle.http_request.specs.Length as spec;
+
+use crate::digits::{are_digits, parse_number};
+use crate::fields::{Values, values_of};
+use httparse::spans::HeaderSpan;
+
+/// The most bytes of a body.
+pub const MAX_BODY_LEN: usize = 256;
+
+/// The most digits of a body's length.
+const MAX_DIGITS: usize = 4;
+
+/// Parses a length: 1 to 4 digits, at most `MAX_BODY_LEN`.
+fn length_in(value: &[u8]) -> Option<usize>
+    ensures { result ≡ spec.length_in value.now }
+{
+    if value.is_empty() || value.len() > MAX_DIGITS || !are_digits(value) {
+        return None;
+    }
+    let len = parse_number(value) as usize;
+    if len <= MAX_BODY_LEN { Some(len) } else { None }
+}
+
+/// How many bytes the body of a head has; `None` if the head is refused.
+pub(crate) fn asked_length(head: &[u8], fields: &[HeaderSpan], method: &[u8]) -> Option<usize>
+    requires { All (IsHeaderWithin (length head.now)) fields.now }
+    ensures { result ≡ spec.asked_length method.now (map (header_bytes head.now) fields.now) }
+{
+    let Values::None = values_of(head, fields, b"transfer-encoding") else {
+        return None;
+    };
+    let len = match values_of(head, fields, b"content-length") {
+        Values::None => 0,
+        Values::One(value) => length_in(value)?,
+        Values::More => return None,
+    };
+    if len == 0 || matches!(method, b"PUT") {
+        Some(len)
+    } else {
+        None
+    }
+}

@@ -1,0 +1,22 @@
+//! Decodes requests to the desk from the bytes of HTTP/1.1.
+#![tactic(auto)]
+
+mod body;
+mod digits;
+mod fields;
+mod front;
+mod head;
+pub mod laws;
+mod length;
+mod pass;
+mod path;
+mod requests;
+mod routes;
+mod scan;
+
+/// A request as it was sent: the text of its pass, and what it asks for.
+pub use club_core::SentWords as Words;
+pub use head::{MAX_FIELDS, MAX_HEAD_LEN};
+pub use length::MAX_BODY_LEN;
+pub use routes::{Routes, words_by_scan, words_of};
+pub use scan::{HeadScan, MAX_REQUEST_LEN};

@@ -1,0 +1,38 @@
+//! The pass of a request.
+
+ghost use Rattle.std.specs.Prelude.{◌≡◌, length, map, All, option_map};
+ghost use Rattle.httparse.specs.Spans.{IsHeaderWithin, header_bytes};
+ghost use Rattle.http_request.specs.Pass as spec;
+
+use crate::fields::{Values, values_of};
+use httparse::spans::HeaderSpan;
+
+/// `Bearer` and one space.
+const SCHEME_LEN: usize = 7;
+
+/// The text of the pass in a field's value, after `Bearer` and one space.
+fn bearer_text(value: &[u8]) -> Option<&[u8]>
+    ensures { option_map (λ text. text.now) result ≡ spec.bearer_text value.now }
+{
+    if value.len() < SCHEME_LEN {
+        return None;
+    }
+    let (scheme, text) = value.split_at(SCHEME_LEN);
+    if scheme.eq_ignore_ascii_case(b"bearer ") {
+        Some(text)
+    } else {
+        None
+    }
+}
+
+/// The text of the pass, if exactly one field `Authorization` holds one.
+pub(crate) fn pass_text_of<'a>(head: &'a [u8], fields: &[HeaderSpan]) -> Option<&'a [u8]>
+    requires { All (IsHeaderWithin (length head.now)) fields.now }
+    ensures { option_map (λ text. text.now) result
+        ≡ spec.pass_text_of (map (header_bytes head.now) fields.now) }
+{
+    match values_of(head, fields, b"authorization") {
+        Values::One(value) => bearer_text(value),
+        _ => None,
+    }
+}

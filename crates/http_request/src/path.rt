@@ -1,0 +1,116 @@
+//! The paths of the desk.
+
+ghost use Rattle.std.specs.Prelude.{◌≡◌, ◌∷◌, [], MatchOption};
+ghost use Rattle.http_request.specs.Parts.{segments, number_of_text, slot_of_parts, BeginsWith, following_parts};
+ghost use Rattle.http_request.specs.Path as spec;
+
+use crate::digits::{are_digits, parse_number};
+use club_rows::BookingNumber;
+use club_values::{Day, Hour, Name, Slot};
+
+/// The most digits of a booking's number.
+const MAX_NUMBER_DIGITS: usize = 9;
+
+/// What a path names.
+#[derive(Clone, Copy, Debug, PartialEq, Eq)]
+pub(crate) enum Place {
+    SlotPlace(Slot),
+    BookingPlace(Slot, BookingNumber),
+    AccountPlace,
+}
+
+/// The first part of a path, and what follows the slash after it.
+fn next_part(path: &[u8]) -> (&[u8], Option<&[u8]>)
+    ensures { BeginsWith path.now result.0.now result.1 }
+{
+    for (i, byte) in path.iter().enumerate() {
+        if *byte == b'/' {
+            return (&path[..i], Some(&path[i + 1..]));
+        }
+    }
+    (path, None)
+}
+
+/// Parses a booking number: decimal digits without leading zeros.
+#[tactic(auto, unfolding(crate::specs::Parts::number_of_text))]
+fn read_number(text: &[u8]) -> Option<BookingNumber>
+    ensures { result ≡ number_of_text text.now }
+{
+    if text.is_empty() || text.len() > MAX_NUMBER_DIGITS || !are_digits(text) || text[0] == b'0' {
+        return None;
+    }
+    BookingNumber::new(parse_number(text))
+}
+
+#[tactic(auto, unfolding(crate::specs::Parts::slot_of_parts))]
+fn read_slot(facility: &[u8], day: &[u8], hour: &[u8]) -> Option<Slot>
+    ensures { result ≡ slot_of_parts facility.now day.now hour.now }
+{
+    let facility = Name::read(facility)?;
+    let day = Day::read(day)?;
+    let hour = Hour::read(hour)?;
+    Some(Slot {
+        facility,
+        day,
+        hour,
+    })
+}
+
+/// The place at a slot or at one of its bookings, by the rest of the path.
+fn at_slot(slot: Slot, rest: Option<&[u8]>) -> Option<Place>
+    ensures { result ≡ spec.at_slot slot (following_parts rest.entry) }
+{
+    let Some(rest) = rest else {
+        return Some(Place::SlotPlace(slot));
+    };
+    let (word, rest) = next_part(rest);
+    let (number, end) = next_part(rest?);
+    if end.is_some() {
+        return None;
+    }
+    if word != b"bookings".as_slice() {
+        return None;
+    }
+    let number = read_number(number)?;
+    Some(Place::BookingPlace(slot, number))
+}
+
+fn under_slots(path: &[u8]) -> Option<Place>
+    ensures { result ≡ spec.under_slots (segments path.now) }
+{
+    let (facility, Some(rest)) = next_part(path) else {
+        return None;
+    };
+    let (day, Some(rest)) = next_part(rest) else {
+        return None;
+    };
+    let (hour, rest) = next_part(rest);
+    let slot = read_slot(facility, day, hour)?;
+    at_slot(slot, rest)
+}
+
+fn under_root(path: &[u8]) -> Option<Place>
+    ensures { result ≡ spec.under_root (segments path.now) }
+{
+    let (word, rest) = next_part(path);
+    if word == b"slots".as_slice() {
+        return under_slots(rest?);
+    }
+    if rest.is_some() {
+        return None;
+    }
+    if word != b"account".as_slice() {
+        return None;
+    }
+    Some(Place::AccountPlace)
+}
+
+/// The place that a request's target names.
+pub(crate) fn place_of(target: &[u8]) -> Option<Place>
+    ensures { result ≡ spec.place_of target.now }
+{
+    match target {
+        [b'/', path @ ..] => under_root(path),
+        _ => None,
+    }
+}

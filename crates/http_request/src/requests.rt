@@ -1,0 +1,43 @@
+//! What a method asks for at a place.
+
+ghost use Rattle.std.specs.Prelude.{◌≡◌, Ok};
+ghost use Rattle.http_request.specs.Words as spec;
+
+use crate::path::Place;
+use club_core::{Methods, Refusal, Request};
+use club_rows::Guests;
+
+/// What a method asks for at a place.
+pub(crate) fn request_at(place: Place, method: &[u8], guests: Guests) -> Result<Request, Refusal>
+    ensures { result ≡ spec.request_at place method.now guests }
+{
+    match place {
+        Place::SlotPlace(slot) => {
+            if method == b"GET".as_slice() {
+                Ok(Request::View { slot })
+            } else {
+                Err(Refusal::MethodNotAllowed(Methods::Get))
+            }
+        }
+        Place::BookingPlace(slot, number) => {
+            if method == b"PUT".as_slice() {
+                Ok(Request::Book {
+                    slot,
+                    number,
+                    guests,
+                })
+            } else if method == b"DELETE".as_slice() {
+                Ok(Request::Cancel { slot, number })
+            } else {
+                Err(Refusal::MethodNotAllowed(Methods::PutAndDelete))
+            }
+        }
+        Place::AccountPlace => {
+            if method == b"GET".as_slice() {
+                Ok(Request::Account)
+            } else {
+                Err(Refusal::MethodNotAllowed(Methods::Get))
+            }
+        }
+    }
+}

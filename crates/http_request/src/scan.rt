@@ -1,0 +1,62 @@
+//! The scan for the head of a request while its bytes arrive.
+
+ghost use Rattle.std.specs.Prelude.{◌<◌, ◌≤◌, ◌↔◌, [], length, take, IsTrue};
+ghost use Rattle.std.specs.Bool.{OnFalse};
+ghost use Rattle.http_request.specs.Frame.{IsWhole};
+ghost use Rattle.http_request.specs.Front.{Covers};
+
+use crate::front::{Front, front_of};
+use crate::head::{MAX_FIELDS, MAX_HEAD_LEN};
+use httparse::spans::{EMPTY_HEADER_SPAN, HeaderSpan};
+
+/// The most bytes of a request.
+pub const MAX_REQUEST_LEN: usize = 16_640;
+
+/// A scan for the head of a request. It holds what the bytes begin with that it covers. The head is
+/// parsed once, when its end has arrived, and kept here.
+#[derive(Drop)]
+pub struct HeadScan {
+    pub(crate) front: Front,
+    /// Where the fields of the head are.
+    pub(crate) fields: [HeaderSpan; MAX_FIELDS],
+}
+
+impl HeadScan {
+    /// Makes a scan that covers no byte.
+    pub fn new() -> HeadScan
+        ensures { Covers result [] }
+    {
+        HeadScan {
+            front: Front::NoPiece,
+            fields: [EMPTY_HEADER_SPAN; MAX_FIELDS],
+        }
+    }
+
+    /// Extends the scan from the first `searched` bytes, which it already covers, to all of them.
+    /// Until a head has ended, it searches the new bytes for the end, and parses the head when it
+    /// finds one. After that it looks at no byte.
+    pub fn go_on(&mut self, bytes: &[u8], searched: usize)
+        requires inside { searched ≤ length bytes.now }
+        requires before { Covers self.old (take searched bytes.now) }
+        ensures { Covers self.new bytes.now }
+    {
+        match self.front {
+            Front::NoPiece => self.front = front_of(bytes, searched, &mut self.fields),
+            Front::Refused | Front::Asking(_) => {}
+        }
+    }
+
+    /// Whether the bytes that the scan covers begin with a whole request. If they don't, there are
+    /// fewer than `MAX_REQUEST_LEN` of them.
+    pub fn is_whole(&self, bytes: &[u8]) -> bool
+        requires { Covers self.now bytes.now }
+        ensures whole { IsTrue result ↔ IsWhole bytes.now }
+        ensures room { OnFalse result (length bytes.now < 16640) }
+    {
+        match self.front {
+            Front::NoPiece => bytes.len() >= MAX_HEAD_LEN,
+            Front::Refused => true,
+            Front::Asking(head) => bytes.len() - head.len >= head.body_len,
+        }
+    }
+}

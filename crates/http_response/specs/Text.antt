@@ -1,0 +1,54 @@
+-- The text of a reply: an HTTP/1.1 response (RFC 9112).
+use Rattle.std.specs.Prelude.{ℕ, ◌==◌, List, [], ◌++◌, length, codes, if◌then◌else◌}
+use Rattle.std.specs.Fmt.{decimal}
+use Rattle.http.specs.StatusCode.{code_digits}
+use Rattle.club_core.specs.declared.refusal.Methods.TheVariants.{Get, PutAndDelete}
+use Rattle.club_core.specs.declared.refusal.Refusal.TheVariants.{MethodNotAllowed}
+use Rattle.club_core.specs.declared.reply.Reply.{Reply}
+use Rattle.club_core.specs.declared.reply.Reply.TheVariants.{Refused}
+use Rattle.club_core.specs.Refusal.{details_of}
+use Rattle.http_response.specs.Body.{body_text}
+
+-- the phrases of the statuses (RFC 9110, section 15)
+abbrev pub phrase_of : ℕ → List ℕ
+phrase_of status =
+    if status == 200 then codes "OK" else (
+    if status == 400 then codes "Bad Request" else (
+    if status == 401 then codes "Unauthorized" else (
+    if status == 402 then codes "Payment Required" else (
+    if status == 403 then codes "Forbidden" else (
+    if status == 404 then codes "Not Found" else (
+    if status == 405 then codes "Method Not Allowed" else (
+    if status == 409 then codes "Conflict" else codes "Service Unavailable")))))))
+
+abbrev pub status_of : Reply → ℕ
+status_of (Refused refusal) = (details_of refusal).status
+status_of served = 200
+
+abbrev pub status_line : Reply → List ℕ
+status_line reply = codes "HTTP/1.1 " ++ code_digits (status_of reply) ++ codes " " ++ phrase_of (status_of reply) ++ codes "\r\n"
+
+-- on 401 (RFC 9110, section 11.6.1; RFC 6750, section 3)
+abbrev pub challenge_field : Reply → List ℕ
+challenge_field reply = if status_of reply == 401 then codes "WWW-Authenticate: Bearer\r\n" else []
+
+-- on 405, the methods of the path (RFC 9110, section 10.2.1)
+abbrev pub allow_field : Reply → List ℕ
+allow_field (Refused (MethodNotAllowed Get)) = codes "Allow: GET\r\n"
+allow_field (Refused (MethodNotAllowed PutAndDelete)) = codes "Allow: PUT, DELETE\r\n"
+allow_field reply = []
+
+-- the head of a reply whose body has `body_len` bytes
+unfoldable pub head_text : Reply → ℕ → List ℕ
+head_text reply body_len =
+    status_line reply
+    ++ codes "Content-Type: application/json\r\nContent-Length: "
+    ++ decimal body_len
+    ++ codes "\r\n"
+    ++ challenge_field reply
+    ++ allow_field reply
+    ++ codes "Connection: close\r\n\r\n"
+
+-- the text of a reply
+unfoldable pub reply_text : Reply → List ℕ
+reply_text reply = head_text reply (length (body_text reply)) ++ body_text reply

@@ -1,0 +1,10 @@
+//! The replies of the desk as bytes: an HTTP/1.1 response with a JSON object as its body. Nothing
+//! here allocates.
+#![tactic(auto)]
+
+mod body;
+mod head;
+mod line;
+mod reply;
+
+pub use reply::{MAX_REPLY_LEN, reply_bytes};

@@ -1,0 +1,33 @@
+//! The text of a reply: its head and its body.
+
+ghost use Rattle.std.specs.Prelude.{◌≡◌, ◌≤◌, ◌++◌, length, drop};
+ghost use Rattle.http_response.specs.Text.{reply_text};
+
+use crate::body::body_of;
+use crate::head::head_of;
+use club_core::Reply;
+
+/// The most bytes of a reply.
+pub const MAX_REPLY_LEN: usize = 512;
+
+/// Writes the text of a reply to the front of the buffer `room`, and returns its length in bytes.
+/// The rest of the buffer is unchanged. Every reply fits.
+///
+/// The text is an HTTP/1.1 response (RFC 9112) with the content type, the content length, on 401
+/// the challenge `Bearer` (RFC 6750), on 405 the methods of the path, and `Connection: close`; its
+/// body is a JSON object.
+#[tactic(auto, unfolding(crate::specs::Text::reply_text, crate::specs::Text::head_text))]
+pub fn reply_bytes(reply: &Reply, room: &mut [u8; MAX_REPLY_LEN]) -> usize
+    ensures len { result ≡ length (reply_text reply.now) }
+    ensures room { room.new ≡ reply_text reply.now ++ drop result room.old }
+    ensures fits { result ≤ MAX_REPLY_LEN }
+{
+    let body = body_of(reply);
+    let body = body.as_bytes();
+    let head = head_of(reply, body.len());
+    let head = head.as_bytes();
+    let len = head.len() + body.len();
+    room[..head.len()].copy_from_slice(head);
+    room[head.len()..len].copy_from_slice(body);
+    len
+}

@@ -1,0 +1,107 @@
+//! Tests of which keys are cached.
+
+use super::*;
+use std::fmt::Debug;
+use std::process::Abort;
+
+// Two roots and the keys that libmacaroons' derivation gives for them, by an independent program.
+const ROOT: &[u8; 16] = b"\x00\x11\x22\x33\x44\x55\x66\x77\x88\x99\xaa\xbb\xcc\xdd\xee\xff";
+
+const DERIVED: &[u8; 32] =
+    b"\x4a\x02\x89\xd7\x9c\x6e\x7f\x08\xc9\x86\xed\xd7\x2b\x0a\xc8\xec\x88\xab\x21\xea\x68\x08\xbc\x0d\xf0\x2a\x07\x2a\xca\xff\x06\x7a";
+
+const OTHER_ROOT: &[u8; 16] = b"\xff\xee\xdd\xcc\xbb\xaa\x99\x88\x77\x66\x55\x44\x33\x22\x11\x00";
+
+const OTHER_DERIVED: &[u8; 32] =
+    b"\xd3\xdb\x74\x81\x30\xe1\xd9\xf4\x47\x2b\x10\xa4\xf4\x23\xa7\x9b\x06\x9b\x44\x9f\x3d\xb1\xef\x92\x1a\x3e\x59\xb2\x10\x27\x00\x97";
+
+fn expect_eq<T: PartialEq + Debug>(rt: &impl Abort, returned: &T, want: &T) {
+    assert_eq!(rt; returned, want);
+}
+
+fn name(rt: &impl Abort, text: &[u8]) -> Name {
+    Name::read(text).expect(rt, "a name")
+}
+
+fn root(rt: &impl Abort, bytes: &[u8; 16]) -> Root {
+    Root::new(bytes).expect(rt, "a root")
+}
+
+fn expect_kept(
+    rt: &impl Abort,
+    keys: &mut KeptKeys,
+    name: &Name,
+    root: &Root,
+    want: Option<[u8; 32]>,
+) {
+    expect_eq(rt, &keys.kept(name, root), &want);
+}
+
+fn expect_derived(rt: &impl Abort, keys: &mut KeptKeys, name: &Name, root: &Root, want: &[u8; 32]) {
+    expect_eq(rt, &keys.derived(name, root), want);
+}
+
+// The key isn't cached with this root; it is computed, and cached then.
+fn is_derived_anew(
+    rt: &impl Abort,
+    keys: &mut KeptKeys,
+    name: &Name,
+    root: &Root,
+    want: &[u8; 32],
+) {
+    expect_kept(rt, keys, name, root, None);
+    expect_derived(rt, keys, name, root, want);
+    expect_kept(rt, keys, name, root, Some(*want));
+}
+
+// A root and its derived key, then another root's, then the first again.
+static IN_TURN: [(&[u8; 16], &[u8; 32]); 3] = [
+    (ROOT, DERIVED),
+    (OTHER_ROOT, OTHER_DERIVED),
+    (ROOT, DERIVED),
+];
+
+fn are_derived_anew(
+    rt: &(impl Abort + AllocGlobal),
+    rows: &[(&'static [u8; 16], &'static [u8; 32])],
+) {
+    let name = name(rt, b"amy-1");
+    let mut keys = KeptKeys::new(rt.alloc());
+    for (bytes, want) in rows {
+        is_derived_anew(rt, &mut keys, &name, &root(rt, bytes), want);
+    }
+}
+
+// A key that was cached with one root isn't used for another, and the last one stays cached.
+#[test]
+fn keeps_a_key_beside_its_root(rt: HostRuntime) {
+    are_derived_anew(&rt, &IN_TURN);
+}
+
+// Derives keys for the names `00`, `01` and so on.
+fn derive_many(rt: &impl Abort, keys: &mut KeptKeys, root: &Root, count: u8) {
+    for number in 0..count {
+        let name = name(rt, &[b'0' + number / 10 % 10, b'0' + number % 10]);
+        expect_derived(rt, keys, &name, root, DERIVED);
+    }
+}
+
+// Of 65 keys the one that was used longest ago is evicted, and is computed again.
+#[test]
+fn keeps_the_last_of_many_keys(rt: HostRuntime) {
+    let root = root(&rt, ROOT);
+    let mut keys = KeptKeys::new(rt.alloc());
+    derive_many(&rt, &mut keys, &root, 65);
+    expect_kept(&rt, &mut keys, &name(&rt, b"01"), &root, Some(*DERIVED));
+    is_derived_anew(&rt, &mut keys, &name(&rt, b"00"), &root, DERIVED);
+}
+
+// Without memory for the cache each key is computed.
+#[test]
+fn derives_without_a_cache(rt: HostRuntime) {
+    let (name, root) = (name(&rt, b"amy-1"), root(&rt, ROOT));
+    let mut keys = KeptKeys { cache: None };
+    expect_derived(&rt, &mut keys, &name, &root, DERIVED);
+    expect_kept(&rt, &mut keys, &name, &root, None);
+    expect_derived(&rt, &mut keys, &name, &root, DERIVED);
+}

@@ -1,0 +1,258 @@
+//! Names, kinds, actions, days, hours, moments and slots.
+
+use crate::calls::{
+    day_numbered, hour_numbered, is_name, moment_at, moment_numbered, read_action, read_day,
+    read_hour, read_kind, read_moment, read_name,
+};
+use crate::rows::{expect_eq, moment, slot};
+use club_values::ascii::text_of;
+use club_values::digits::{read_two, two_digits};
+use club_values::{Day, Moment, Weekday};
+use std::process::Abort;
+
+/// Whether a text is a name, and that name has the text.
+fn is_name_again(text: &str) -> bool {
+    match read_name(text.as_bytes()) {
+        Some(name) => name.as_str() == text && name.as_bytes() == text.as_bytes(),
+        None => false,
+    }
+}
+
+static NAMES: [(&str, bool); 9] = [
+    ("a", true),
+    ("court-1", true),
+    ("0-", true),
+    ("abcdefghijklmnopqrstuvwx", true),
+    ("abcdefghijklmnopqrstuvwxy", false),
+    ("", false),
+    ("-a", false),
+    ("Court", false),
+    ("a b", false),
+];
+
+fn are_names(rt: &impl Abort, rows: &[(&'static str, bool)]) {
+    for (text, want) in rows {
+        expect_eq(rt, &is_name(text.as_bytes()), want, text);
+        expect_eq(rt, &is_name_again(text), want, text);
+    }
+}
+
+#[test]
+fn names(rt: HostRuntime) {
+    are_names(&rt, &NAMES);
+}
+
+/// The day has this text and this number, and its number and its date give the day again.
+fn is_day(rt: &impl Abort, day: Day, text: &str, number: u16) {
+    expect_eq(rt, &day.number(), &number, &text);
+    expect_eq(rt, &day.text().as_slice(), &text.as_bytes(), &text);
+    expect_eq(rt, &day_numbered(number), &Some(day), &text);
+    expect_eq(rt, &Day::from_date(day.date()), &Some(day), &text);
+}
+
+static DAYS: [(&str, Option<u16>); 14] = [
+    ("2000-01-01", Some(10957)),
+    ("2000-02-29", Some(11016)),
+    ("2000-03-01", Some(11017)),
+    ("2024-02-29", Some(19782)),
+    ("2026-05-01", Some(20574)),
+    ("2026-12-31", Some(20818)),
+    ("2099-12-31", Some(47481)),
+    ("1999-12-31", None),
+    ("2100-01-01", None),
+    ("2026-02-29", None),
+    ("2026-04-31", None),
+    ("2026-5-01", None),
+    ("2026/05/01", None),
+    ("2026-05-011", None),
+];
+
+fn are_days(rt: &impl Abort, rows: &[(&'static str, Option<u16>)]) {
+    for (text, want) in rows {
+        let day = read_day(text.as_bytes());
+        match *want {
+            Some(number) => is_day(rt, day.expect(rt, "a day"), text, number),
+            None => expect_eq(rt, &day, &None, text),
+        }
+    }
+}
+
+static NO_DAYS: [u16; 2] = [10_956, 47_482];
+
+fn are_no_days(rt: &impl Abort, numbers: &[u16]) {
+    for number in numbers {
+        expect_eq(rt, &day_numbered(*number), &None, number);
+    }
+}
+
+#[test]
+fn days(rt: HostRuntime) {
+    are_days(&rt, &DAYS);
+    are_no_days(&rt, &NO_DAYS);
+    let last = day_numbered(47_481).expect(&rt, "a day");
+    expect_eq(&rt, &last.year_month_day(), &(2099, 12, 31), &"last");
+}
+
+static WEEKDAYS: [(u16, Weekday); 4] = [
+    (20_574, Weekday::Friday),
+    (20_575, Weekday::Saturday),
+    (20_576, Weekday::Sunday),
+    (20_577, Weekday::Monday),
+];
+
+fn are_weekdays(rt: &impl Abort, rows: &[(u16, Weekday)]) {
+    for (number, want) in rows {
+        let day = day_numbered(*number).expect(rt, "a day");
+        expect_eq(rt, &day.weekday(), want, number);
+    }
+}
+
+#[test]
+fn weekdays(rt: HostRuntime) {
+    are_weekdays(&rt, &WEEKDAYS);
+}
+
+/// The moment has this text and this number; its number gives the moment again, and so do its day
+/// and minute.
+fn is_moment(rt: &impl Abort, moment: Moment, text: &str, number: u32) {
+    expect_eq(rt, &moment.number(), &number, &text);
+    expect_eq(rt, &moment.text().as_slice(), &text.as_bytes(), &text);
+    expect_eq(rt, &moment_numbered(number), &Some(moment), &text);
+    let again = moment_at(moment.day(), moment.minute_of_day());
+    expect_eq(rt, &again, &Some(moment), &text);
+}
+
+static MOMENTS: [(&str, Option<u32>); 9] = [
+    ("2000-01-01T00:00", Some(15_778_080)),
+    ("2026-05-01T18:00", Some(29_627_640)),
+    ("2099-12-31T23:59", Some(68_374_079)),
+    ("2026-05-01T24:00", None),
+    ("2026-05-01T23:60", None),
+    ("2026-05-01 18:00", None),
+    ("2026-05-01T18:0", None),
+    ("2026-05-01", None),
+    ("2026-", None),
+];
+
+fn are_moments(rt: &impl Abort, rows: &[(&'static str, Option<u32>)]) {
+    for (text, want) in rows {
+        let moment = read_moment(text.as_bytes());
+        match *want {
+            Some(number) => is_moment(rt, moment.expect(rt, "a moment"), text, number),
+            None => expect_eq(rt, &moment, &None, text),
+        }
+    }
+}
+
+static NO_MOMENTS: [u32; 2] = [15_778_079, 68_374_080];
+
+fn are_no_moments(rt: &impl Abort, numbers: &[u32]) {
+    for number in numbers {
+        expect_eq(rt, &moment_numbered(*number), &None, number);
+    }
+}
+
+#[test]
+fn moments(rt: HostRuntime) {
+    are_moments(&rt, &MOMENTS);
+    are_no_moments(&rt, &NO_MOMENTS);
+    let day = day_numbered(20_574).expect(&rt, "a day");
+    expect_eq(&rt, &moment_at(day, 1440), &None, &"minute 1440");
+}
+
+#[test]
+fn start_of_a_slot(rt: HostRuntime) {
+    expect_eq(&rt, &slot(&rt).start(), &29_627_640, &"2026-05-01T18:00");
+}
+
+static KINDS: [&str; 3] = ["court", "boat", "room"];
+
+fn are_kinds(rt: &(impl Abort + AllocGlobal), texts: &[&'static str]) {
+    for text in texts {
+        let kind = read_kind(text.as_bytes()).expect(rt, "a kind");
+        let printed = format!(in rt.alloc(); "{kind}").expect(rt, "memory");
+        expect_eq(rt, &(printed.as_str() == *text), &true, text);
+    }
+}
+
+static ACTIONS: [&str; 4] = ["view", "book", "cancel", "account"];
+
+fn are_actions(rt: &(impl Abort + AllocGlobal), texts: &[&'static str]) {
+    for text in texts {
+        let action = read_action(text.as_bytes()).expect(rt, "an action");
+        let printed = format!(in rt.alloc(); "{action}").expect(rt, "memory");
+        expect_eq(rt, &(printed.as_str() == *text), &true, text);
+    }
+}
+
+#[test]
+fn kinds_and_actions(rt: HostRuntime) {
+    are_kinds(&rt, &KINDS);
+    are_actions(&rt, &ACTIONS);
+    expect_eq(&rt, &read_kind(b"Court"), &None, &"Court");
+    expect_eq(&rt, &read_action(b"books"), &None, &"books");
+}
+
+fn hour_number(text: &str) -> Option<u8> {
+    Some(read_hour(text.as_bytes())?.number())
+}
+
+static HOURS: [(&str, Option<u8>); 5] = [
+    ("00", Some(0)),
+    ("23", Some(23)),
+    ("24", None),
+    ("8", None),
+    ("0a", None),
+];
+
+fn are_hours(rt: &impl Abort, rows: &[(&'static str, Option<u8>)]) {
+    for (text, want) in rows {
+        expect_eq(rt, &hour_number(text), want, text);
+    }
+}
+
+#[test]
+fn hours(rt: HostRuntime) {
+    are_hours(&rt, &HOURS);
+    expect_eq(&rt, &hour_numbered(24), &None, &"24");
+}
+
+fn print_slot(rt: &(impl Abort + AllocGlobal), want: &str) {
+    let slot = slot(rt);
+    let text = format!(in rt.alloc(); "{} {} {}", slot.facility, slot.day, slot.hour).expect(
+        rt, "memory",
+    );
+    expect_eq(rt, &text.as_str(), &want, &"a slot");
+}
+
+fn print_moment(rt: &(impl Abort + AllocGlobal), want: &str) {
+    let moment = moment(rt, want.as_bytes());
+    let text = format!(in rt.alloc(); "{moment}").expect(rt, "memory");
+    expect_eq(rt, &text.as_str(), &want, &"a moment");
+}
+
+#[test]
+fn printed(rt: HostRuntime) {
+    print_slot(&rt, "court-1 2026-05-01 18");
+    print_moment(&rt, "2026-05-01T18:05");
+}
+
+static TWO_DIGITS: [([u8; 2], Option<u8>); 4] = [
+    ([b'0', b'7'], Some(7)),
+    ([b'9', b'9'], Some(99)),
+    ([b' ', b'7'], None),
+    ([b'7', b':'], None),
+];
+
+fn read_digits(rt: &impl Abort, rows: &[([u8; 2], Option<u8>)]) {
+    for (text, want) in rows {
+        expect_eq(rt, &read_two(text[0], text[1]), want, text);
+    }
+}
+
+#[test]
+fn digits_of_a_fixed_width(rt: HostRuntime) {
+    read_digits(&rt, &TWO_DIGITS);
+    expect_eq(&rt, &two_digits(7), b"07", &7);
+    expect_eq(&rt, &text_of(b"07"), &"07", &"ASCII");
+}

@@ -1,5 +1,0 @@
-use Rattle.pass_commands.proofs.NarrowLaws as laws
-use Rattle.pass_commands.proofs.laws.narrow_takes_its_caveats.Goals as goal
-
-pub returns : goal.returns
-returns c = laws.narrow_takes_its_caveats

@@ -1,5 +1,0 @@
-use Rattle.pass_commands.proofs.WordLaws as laws
-use Rattle.pass_commands.proofs.laws.verify_takes_its_root.Goals as goal
-
-pub returns : goal.returns
-returns c = laws.verify_takes_its_root

@@ -1,5 +1,0 @@
-use Rattle.pass_commands.proofs.NamedLemmas as laws
-use Rattle.pass_commands.proofs.laws.words_name_a_command.Goals as goal
-
-pub returns : goal.returns
-returns c = laws.words_name_a_command

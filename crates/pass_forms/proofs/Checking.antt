@@ -1,0 +1,125 @@
+-- From one wide pass at most for each text to the one reading of it.
+use Rattle.std.proofs.Common.{◌≡◌, ℕ, ◌<◌, ◌≤◌, Bool, true, false, cond, ltb, ◌||◌, List, [], ◌∷◌, length, map, Option, Some, None, Result, Ok, Err, refl, sym}
+use Rattle.std.proofs.Common.{ap, subst, ◌∙◌, arith, ◌⊎◌, inl, inr}
+use Rattle.std.specs.Prelude.{is_some}
+use Rattle.std.specs.List.{list_any}
+use Rattle.std.proofs.lemmas.List.{length-map}
+use Rattle.std.proofs.lemmas.Bool.{ltb-true, ltb-false, le-ltb, lt-ltb}
+use Rattle.pass_forms.specs.declared.fault.FormFault.{FormFault}
+use Rattle.pass_forms.specs.declared.fault.FormFault.TheVariants.{TooLong, Malformed, ThirdParty, TooMany, Memory}
+use Rattle.pass_forms.specs.Pass.{Plain, WideCaveat, WidePass, is_third_party, has_third_party, widened_caveat, as_wide_pass, first_party_caveat, first_party}
+use Rattle.pass_forms.proofs.Digits.{some_is}
+use Rattle.pass_forms.specs.Reading.{max_text_len, max_caveats, IsReadAs, checked_if_any, reading_of}
+
+-- ---- a wide pass with no third party's caveat is a pass
+
+is_first_party : (identifier : List ℕ) (verifier_id location : Option (List ℕ)) → (is_some verifier_id || is_some location) ≡ false → ◌≡◌ {A = WideCaveat}
+    (widened_caveat identifier) (record { identifier = identifier; verifier_id = verifier_id; location = location })
+is_first_party identifier None None e = refl
+is_first_party identifier None (Some location) e = absurd cc
+is_first_party identifier (Some verifier_id) location e = absurd cc
+
+neither : (a b : Bool) → (a || b) ≡ false → (a ≡ false) × (b ≡ false)
+neither true b e = absurd cc
+neither false b e = (refl, e)
+
+all_first_party : (caveats : List WideCaveat) → list_any is_third_party caveats ≡ false → map widened_caveat (map first_party_caveat caveats) ≡ caveats
+all_first_party [] e = refl
+all_first_party (caveat ∷ caveats) e =
+    let both = neither (is_third_party caveat) (list_any is_third_party caveats) e in
+    let one : widened_caveat (first_party_caveat caveat) ≡ caveat = is_first_party caveat.identifier caveat.verifier_id caveat.location both.0 in
+    ap (λ (c : WideCaveat). c ∷ map widened_caveat (map first_party_caveat caveats)) one ∙ ap (λ (cs : List WideCaveat). caveat ∷ cs)
+    (all_first_party caveats both.1)
+
+widened-first_party : (wide : WidePass) → has_third_party wide ≡ false → as_wide_pass (first_party wide) ≡ wide
+widened-first_party wide e =
+    ap (λ (caveats : List WideCaveat).
+    let w : WidePass =
+    record { location = wide.location; identifier = wide.identifier; caveats = caveats; signature = wide.signature } in w) (all_first_party wide.caveats e)
+
+first_party_caveats : (caveats : List (List ℕ)) → map first_party_caveat (map widened_caveat caveats) ≡ caveats
+first_party_caveats [] = refl
+first_party_caveats (caveat ∷ caveats) = ap (λ (cs : List (List ℕ)). caveat ∷ cs) (first_party_caveats caveats)
+
+first_party-widened : (pass : Plain) → first_party (as_wide_pass pass) ≡ pass
+first_party-widened pass =
+    ap (λ (caveats : List (List ℕ)).
+    let p : Plain =
+    record { location = pass.location; identifier = pass.identifier; caveats = caveats; signature = pass.signature } in p)
+    (first_party_caveats pass.caveats)
+
+no_third_party : (caveats : List (List ℕ)) → list_any is_third_party (map widened_caveat caveats) ≡ false
+no_third_party [] = refl
+no_third_party (caveat ∷ caveats) = no_third_party caveats
+
+-- ---- the computing answer is the relation's
+
+-- What is computed is exactly what is spelled.
+pub record Computes (Spelled : WidePass → Type 0) (computed : Option WidePass) : Type 0 where
+  pub takes : (wide : WidePass) → computed ≡ Some wide → Spelled wide
+  pub again : (wide : WidePass) → Spelled wide → computed ≡ Some wide
+
+-- Nothing else is spelled.
+pub one_spelled : (Spelled : WidePass → Type 0) (computed : Option WidePass) (one other : WidePass) → Computes Spelled computed → Spelled one → Spelled other →
+    one ≡ other
+one_spelled Spelled computed one other exact h k = some_is one other (sym (exact.again one h) ∙ exact.again other k)
+
+checked_by : (len : ℕ) (Spelled : WidePass → Type 0) (wide : WidePass) (third many : Bool) → has_third_party wide ≡ third →
+    ltb max_caveats (length wide.caveats) ≡ many → len ≤ max_text_len → Spelled wide →
+    IsReadAs len Spelled (cond third (Err ThirdParty) (cond many (Err TooMany) (Ok (first_party wide))))
+checked_by len Spelled wide true many et em within spelling = (within, wide, spelling, et)
+checked_by len Spelled wide false true et em within spelling = (within, wide, spelling, et, ltb-true _ _ em)
+checked_by len Spelled wide false false et em within spelling =
+    (within, subst Spelled (sym (widened-first_party wide et)) spelling, omega (arith, ltb-false _ _ em, length-map wide.caveats first_party_caveat))
+
+pub checked_if_any_is : (len : ℕ) (Spelled : WidePass → Type 0) (computed : Option WidePass) → Computes Spelled computed → len ≤ max_text_len →
+    IsReadAs len Spelled (checked_if_any computed)
+checked_if_any_is len Spelled None exact within = (within, λ wide spelling. let e = exact.again wide spelling in absurd cc)
+checked_if_any_is len Spelled (Some wide) exact within =
+    checked_by len Spelled wide (has_third_party wide) (ltb max_caveats (length wide.caveats)) refl refl within (exact.takes wide refl)
+
+reading_by : (len : ℕ) (Spelled : WidePass → Type 0) (computed : Option WidePass) (long : Bool) → ltb max_text_len len ≡ long → Computes Spelled computed →
+    IsReadAs len Spelled (cond long (Err TooLong) (checked_if_any computed))
+reading_by len Spelled computed true e exact = ltb-true _ _ e
+reading_by len Spelled computed false e exact = checked_if_any_is len Spelled computed exact (ltb-false _ _ e)
+
+pub reading_is : (len : ℕ) (Spelled : WidePass → Type 0) (computed : Option WidePass) → Computes Spelled computed →
+    IsReadAs len Spelled (reading_of len computed)
+reading_is len Spelled computed exact = reading_by len Spelled computed (ltb max_text_len len) refl exact
+
+nothing_computed : (computed : Option WidePass) → ((wide : WidePass) → computed ≡ Some wide → ⊥) → computed ≡ None
+nothing_computed None none = refl
+nothing_computed (Some wide) none = absurd (none wide refl)
+
+pub checked_determined : (len : ℕ) (Spelled : WidePass → Type 0) (computed : Option WidePass) (answer : Result Plain FormFault) → Computes Spelled computed →
+    len ≤ max_text_len → IsReadAs len Spelled answer → checked_if_any computed ≡ answer
+checked_determined len Spelled computed (Err TooLong) exact within h = absurd (omega arith)
+checked_determined len Spelled computed (Err Malformed) exact within h =
+    let none : computed ≡ None = nothing_computed computed (λ wide e. h.1 wide (exact.takes wide e)) in
+    rw none refl
+checked_determined len Spelled computed (Err ThirdParty) exact within h = rw (exact.again h.1 h.2, h.3) refl
+checked_determined len Spelled computed (Err TooMany) exact within h = rw (exact.again h.1 h.2, h.3, lt-ltb _ _ h.4) refl
+checked_determined len Spelled computed (Ok pass) exact within h =
+    let few : ltb max_caveats (length (map widened_caveat pass.caveats)) ≡ false = le-ltb _ _ (omega (arith, h.2, length-map pass.caveats widened_caveat)) in
+    rw (exact.again (as_wide_pass pass) h.1, no_third_party pass.caveats, few) (ap (λ (p : Plain). Ok p) (first_party-widened pass))
+checked_determined len Spelled computed (Err Memory) exact within h = absurd h
+
+-- Where an answer isn't too long, the text is within the limit.
+within_limit : (len : ℕ) (Spelled : WidePass → Type 0) (answer : Result Plain FormFault) → IsReadAs len Spelled answer →
+    (answer ≡ Err TooLong) ⊎ (len ≤ max_text_len)
+within_limit len Spelled (Err TooLong) h = inl refl
+within_limit len Spelled (Err Malformed) h = inr h.0
+within_limit len Spelled (Err ThirdParty) h = inr h.0
+within_limit len Spelled (Err TooMany) h = inr h.0
+within_limit len Spelled (Ok pass) h = inr h.0
+within_limit len Spelled (Err Memory) h = absurd h
+
+pub reading_determined : (len : ℕ) (Spelled : WidePass → Type 0) (computed : Option WidePass) (answer : Result Plain FormFault) → Computes Spelled computed →
+    IsReadAs len Spelled answer → reading_of len computed ≡ answer
+reading_determined len Spelled computed answer exact h =
+    elim (within_limit len Spelled answer h) [
+      | inl long ↦
+          let too_long : max_text_len < len = subst (IsReadAs len Spelled) long h in
+          rw (lt-ltb _ _ too_long) (sym long)
+      | inr within ↦ rw (le-ltb _ _ within) (checked_determined len Spelled computed answer exact within h)
+    ]

@@ -1,0 +1,58 @@
+//! The buffer that a writer fills. It is on the stack, so that only the text itself is allocated.
+
+use crate::{FormFault, MAX_BYTES};
+use std::marker::Model;
+
+/// The bytes written so far. Contracts see them as a list of at most 6,144 bytes.
+#[derive(Drop)]
+pub struct Buffer {
+    bytes: [u8; MAX_BYTES],
+    len: usize,
+}
+
+impl Model for Buffer {
+    ghost use Rattle.std.specs.Prelude.{ℕ, ◌≤◌, List, take};
+    ghost use Rattle.pass_forms.specs.Putting.{buffer_len};
+
+    ghost Value = { List ℕ };
+
+    ghost view = { λ buffer. take buffer.len buffer.bytes };
+
+    ghost invariant = { λ buffer. buffer.len ≤ buffer_len };
+}
+
+impl Buffer {
+    ghost use Rattle.std.specs.Prelude.{◌≡◌, ◌≤◌, [], length};
+    ghost use Rattle.pass_forms.specs.Putting.{Puts, buffer_len};
+
+    /// An empty buffer.
+    pub fn new() -> Buffer
+        ensures { result ≡ [] }
+    {
+        Buffer {
+            bytes: [0; MAX_BYTES],
+            len: 0,
+        }
+    }
+
+    /// Appends bytes, or returns `TooLong` if they don't fit.
+    pub fn put(&mut self, bytes: &[u8]) -> Result<(), FormFault>
+        ensures { Puts bytes.now self.old self.new result }
+    {
+        if bytes.len() > MAX_BYTES - self.len {
+            return Err(FormFault::TooLong);
+        }
+        let end = self.len + bytes.len();
+        self.bytes[self.len..end].copy_from_slice(bytes);
+        self.len = end;
+        Ok(())
+    }
+
+    /// All bytes written so far.
+    pub fn as_slice(&self) -> &[u8]
+        ensures bytes { result.now ≡ self.now }
+        ensures fits { length self.now ≤ buffer_len }
+    {
+        &self.bytes[..self.len]
+    }
+}

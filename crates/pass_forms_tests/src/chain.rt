@@ -1,0 +1,79 @@
+//! HMAC, key derivation and the signature chain.
+
+use crate::calls::{hmac, narrowed, same, signed_by_key, signed_under};
+use crate::rows::expect_eq;
+use std::process::Abort;
+
+// A key, a text and their HMAC.
+type Mac = (&'static [u8], &'static [u8], &'static [u8; 32]);
+
+// The cases 1, 2, 3 and 6 of RFC 4231, section 4.
+static CASES: [Mac; 4] = [
+    (
+        &[0x0b; 20],
+        b"Hi There",
+        b"\xb0\x34\x4c\x61\xd8\xdb\x38\x53\x5c\xa8\xaf\xce\xaf\x0b\xf1\x2b\x88\x1d\xc2\x00\xc9\x83\x3d\xa7\x26\xe9\x37\x6c\x2e\x32\xcf\xf7",
+    ),
+    (
+        b"Jefe",
+        b"what do ya want for nothing?",
+        b"\x5b\xdc\xc1\x46\xbf\x60\x75\x4e\x6a\x04\x24\x26\x08\x95\x75\xc7\x5a\x00\x3f\x08\x9d\x27\x39\x83\x9d\xec\x58\xb9\x64\xec\x38\x43",
+    ),
+    (
+        &[0xaa; 20],
+        &[0xdd; 50],
+        b"\x77\x3e\xa9\x1e\x36\x80\x0e\x46\x85\x4d\xb8\xeb\xd0\x91\x81\xa7\x29\x59\x09\x8b\x3e\xf8\xc1\x22\xd9\x63\x55\x14\xce\xd5\x65\xfe",
+    ),
+    (
+        &[0xaa; 131],
+        b"Test Using Larger Than Block-Size Key - Hash Key First",
+        b"\x60\xe4\x31\x59\x1e\xe0\xb6\x7f\x0d\x8a\x26\xaa\xcb\xf5\xb7\x7f\x8e\x0b\xc6\x21\x37\x28\xc5\x14\x05\x46\x04\x0f\x0e\xe3\x7f\x54",
+    ),
+];
+
+fn are_macs(rt: &impl Abort, rows: &[Mac]) {
+    for (key, text, mac) in rows {
+        expect_eq(rt, &hmac(key, text), *mac, text);
+    }
+}
+
+#[test]
+fn hmac_of_the_rfc(rt: HostRuntime) {
+    are_macs(&rt, &CASES);
+}
+
+// The root, identifier and caveat of libmacaroons' README, with the signatures that libmacaroons
+// gives.
+const ROOT: &[u8] = b"this is our super secret key; only we should know it";
+
+const IDENTIFIER: &[u8] = b"we used our secret key";
+
+const CAVEAT: &[u8] = b"test = caveat";
+
+const SIGNED: &[u8; 32] =
+    b"\xe3\xd9\xe0\x29\x08\x52\x6c\x4c\x00\x39\xae\x15\x11\x41\x15\xd9\x7f\xdd\x68\xbf\x2b\xa3\x79\xb3\x42\xaa\xf0\xf6\x17\xd0\x55\x2f";
+
+const NARROWED: &[u8; 32] =
+    b"\x19\x7b\xac\x7a\x04\x4a\xf3\x33\x32\x86\x5b\x92\x66\xe2\x6d\x49\x3b\xdd\x66\x8a\x66\x0e\x44\xd8\x8c\xe1\xa9\x98\xc2\x3d\xbd\x67";
+
+#[test]
+fn chain_of_a_known_root(rt: HostRuntime) {
+    let outcome = signed_under(ROOT, IDENTIFIER, CAVEAT);
+    expect_eq(&rt, &outcome, &(*SIGNED, *NARROWED), &"under a root");
+}
+
+fn expect_same(rt: &impl Abort, a: &[u8; 32], b: &[u8; 32], alike: bool) {
+    expect_eq(rt, &same(a, b), &alike, &(a, b));
+}
+
+#[test]
+fn chain_resumes_from_a_signature_or_a_key(rt: HostRuntime) {
+    expect_same(&rt, &narrowed(*SIGNED, CAVEAT), NARROWED, true);
+    expect_same(&rt, &signed_by_key(ROOT, IDENTIFIER), SIGNED, true);
+}
+
+// The derivation matters: under the root itself the signature is another.
+#[test]
+fn raw_root_is_no_key(rt: HostRuntime) {
+    expect_same(&rt, &hmac(ROOT, IDENTIFIER), SIGNED, false);
+}

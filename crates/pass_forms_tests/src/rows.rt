@@ -1,0 +1,56 @@
+//! What the rows of the tests are made of, and what a row expects.
+
+use pass_forms::Pass;
+use std::fmt::Debug;
+use std::process::Abort;
+
+/// Ends the test of this row unless the values are equal.
+pub(crate) fn expect_eq<T: PartialEq + Debug>(
+    rt: &impl Abort,
+    outcome: &T,
+    want: &T,
+    row: &impl Debug,
+) {
+    assert_eq!(rt; outcome, want, "{row:?}");
+}
+
+/// Some bytes, so many times.
+pub(crate) type Piece = (usize, &'static [u8]);
+
+fn append(rt: &impl Abort, bytes: &mut Vec<u8>, piece: &Piece) {
+    for _ in 0..piece.0 {
+        bytes.extend_from_slice(piece.1).expect(rt, "memory");
+    }
+}
+
+/// The pieces, one behind the other.
+pub(crate) fn joined(rt: &(impl Abort + AllocGlobal), pieces: &[Piece]) -> Vec<u8> {
+    let mut bytes = Vec::new(rt.alloc());
+    for piece in pieces {
+        append(rt, &mut bytes, piece);
+    }
+    bytes
+}
+
+/// What a pass says.
+#[derive(Debug)]
+pub(crate) struct Fields<'a> {
+    pub(crate) location: &'a [u8],
+    pub(crate) identifier: &'a [u8],
+    pub(crate) caveats: &'a [&'a [u8]],
+    pub(crate) signature: &'a [u8; 32],
+}
+
+fn expect_caveats(rt: &impl Abort, pass: &Pass, want: &Fields<'_>) {
+    expect_eq(rt, &pass.caveats().len(), &want.caveats.len(), want);
+    for (caveat, wanted) in pass.caveats().iter().zip(want.caveats.iter()) {
+        expect_eq(rt, &caveat.as_slice(), wanted, want);
+    }
+}
+
+pub(crate) fn expect_pass(rt: &impl Abort, pass: &Pass, want: &Fields<'_>) {
+    expect_eq(rt, &pass.location(), &want.location, want);
+    expect_eq(rt, &pass.identifier(), &want.identifier, want);
+    expect_eq(rt, &pass.signature(), &want.signature, want);
+    expect_caveats(rt, pass, want);
+}

@@ -1,0 +1,175 @@
+//! Passes that are read from V2.
+
+use crate::read::{Read, are_read, are_refused, is_refused_cut_short};
+use crate::rows::{Fields, Piece};
+use pass_forms::{Form, FormFault};
+
+// A header with a location and without, and what follows the caveats.
+const HEADER: Piece = (1, b"\x02\x01\x13http://example.org/\x02\x05keyid\x00");
+
+const KEYID: Piece = (1, b"\x02\x02\x05keyid\x00");
+
+const AFTER: Piece = (
+    1,
+    b"\x00\x06\x20\x7c\xde\xe7\x92\x51\x1c\x5b\xc6\xf5\x28\x48\x58\x05\xdf\xe9\xb2\x4e\x78\x5e\x28\xe2\xa9\x93\x01\xf9\xd7\x11\xc6\x09\xe3\x8e\xf7",
+);
+
+const SIGNATURE: &[u8; 32] =
+    b"\x7c\xde\xe7\x92\x51\x1c\x5b\xc6\xf5\x28\x48\x58\x05\xdf\xe9\xb2\x4e\x78\x5e\x28\xe2\xa9\x93\x01\xf9\xd7\x11\xc6\x09\xe3\x8e\xf7";
+
+static KNOWN: [Piece; 2] = [HEADER, AFTER];
+
+const GUESTS: &[u8] = b"guests <= 1";
+
+static READ: [Read; 8] = [
+    Read {
+        pieces: &[HEADER, AFTER],
+        fields: Fields {
+            location: b"http://example.org/",
+            identifier: b"keyid",
+            caveats: &[],
+            signature: SIGNATURE,
+        },
+    },
+    // The caveats are between the identifier and the signature.
+    Read {
+        pieces: &[KEYID, (1, b"\x02\x01x\x00\x02\x00\x00"), AFTER],
+        fields: Fields {
+            location: b"",
+            identifier: b"keyid",
+            caveats: &[b"x", b""],
+            signature: SIGNATURE,
+        },
+    },
+    // The header's location may be empty, which is the same as left out.
+    Read {
+        pieces: &[(1, b"\x02\x01\x00\x02\x05keyid\x00"), AFTER],
+        fields: Fields {
+            location: b"",
+            identifier: b"keyid",
+            caveats: &[],
+            signature: SIGNATURE,
+        },
+    },
+    Read {
+        pieces: &[KEYID, AFTER],
+        fields: Fields {
+            location: b"",
+            identifier: b"keyid",
+            caveats: &[],
+            signature: SIGNATURE,
+        },
+    },
+    // A length of 127 takes one byte, of 128 and 200 two.
+    Read {
+        pieces: &[(1, b"\x02\x02\x7f"), (127, b"x"), (1, b"\x00"), AFTER],
+        fields: Fields {
+            location: b"",
+            identifier: &[b'x'; 127],
+            caveats: &[],
+            signature: SIGNATURE,
+        },
+    },
+    Read {
+        pieces: &[(1, b"\x02\x02\x80\x01"), (128, b"x"), (1, b"\x00"), AFTER],
+        fields: Fields {
+            location: b"",
+            identifier: &[b'x'; 128],
+            caveats: &[],
+            signature: SIGNATURE,
+        },
+    },
+    Read {
+        pieces: &[(1, b"\x02\x02\xc8\x01"), (200, b"x"), (1, b"\x00"), AFTER],
+        fields: Fields {
+            location: b"",
+            identifier: &[b'x'; 200],
+            caveats: &[],
+            signature: SIGNATURE,
+        },
+    },
+    // The most caveats.
+    Read {
+        pieces: &[KEYID, (64, b"\x02\x0bguests <= 1\x00"), AFTER],
+        fields: Fields {
+            location: b"",
+            identifier: b"keyid",
+            caveats: &[GUESTS; 64],
+            signature: SIGNATURE,
+        },
+    },
+];
+
+#[test]
+fn reads_passes(rt: HostRuntime) {
+    are_read(&rt, Form::V2, &READ);
+}
+
+#[test]
+fn refuses_the_known_pass_cut_short(rt: HostRuntime) {
+    is_refused_cut_short(&rt, Form::V2, &KNOWN, 65);
+}
+
+static REFUSED: [(&[Piece], FormFault); 13] = [
+    // Grown by a byte.
+    (&[HEADER, AFTER, (1, b"\x00")], FormFault::Malformed),
+    // A length that isn't in its shortest spelling, one without an end, one of a byte too many.
+    (
+        &[(1, b"\x02\x02\x85\x00keyid\x00"), AFTER],
+        FormFault::Malformed,
+    ),
+    (
+        &[
+            (1, b"\x02\x02\xff\xff\xff\xff\xff\xff\xff\xff\xff\xff"),
+            AFTER,
+        ],
+        FormFault::Malformed,
+    ),
+    (&[(1, b"\x02\x02\x06keyid"), AFTER], FormFault::Malformed),
+    // Odd sections of caveats.
+    (
+        &[KEYID, (1, b"\x02\x01x\x04\x00\x00"), AFTER],
+        FormFault::ThirdParty,
+    ),
+    (
+        &[KEYID, (1, b"\x01\x00\x02\x01x\x00"), AFTER],
+        FormFault::ThirdParty,
+    ),
+    (
+        &[KEYID, (1, b"\x02\x01x\x05\x00\x00"), AFTER],
+        FormFault::Malformed,
+    ),
+    (
+        &[KEYID, (1, b"\x02\x01x\x04\x00\x04\x00\x00"), AFTER],
+        FormFault::Malformed,
+    ),
+    (
+        &[KEYID, (1, b"\x04\x00\x02\x01x\x00"), AFTER],
+        FormFault::Malformed,
+    ),
+    // A long one.
+    (&[(8193, b"\x02")], FormFault::TooLong),
+    // Too many caveats, alone, before a byte too many and with a third party's.
+    (
+        &[KEYID, (65, b"\x02\x0bguests <= 1\x00"), AFTER],
+        FormFault::TooMany,
+    ),
+    (
+        &[KEYID, (65, b"\x02\x0bguests <= 1\x00"), AFTER, (1, b"\x00")],
+        FormFault::Malformed,
+    ),
+    (
+        &[
+            KEYID,
+            (65, b"\x02\x0bguests <= 1\x00"),
+            (1, b"\x02\x01x\x04\x01y\x00"),
+            AFTER,
+        ],
+        FormFault::ThirdParty,
+    ),
+];
+
+#[test]
+fn shows_each_fault(rt: HostRuntime) {
+    are_refused(&rt, Form::V2, &REFUSED);
+}

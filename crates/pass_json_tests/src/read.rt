@@ -1,0 +1,271 @@
+//! Passes that are read from JSON, whole and field by field.
+
+use crate::any::EXAMPLE_JSON;
+use crate::calls::{again, fields_of, is_signed, next, read_json};
+use crate::rows::{
+    Fields, KEYID_FIELDS, KNOWN_FIELDS, Piece, SIGNATURE, expect_eq, expect_pass, joined,
+};
+use pass_forms::{Field, FormFault, Pass};
+use pass_json::JsonFields;
+use std::process::Abort;
+
+// The pass of libmacaroons' README.
+const KNOWN: &str =
+    "{\"c\":[{\"i\":\"test = caveat\"}],\"i\":\"we used our secret key\",\"l\":\"http://mybank/\",\"s64\":\"GXusegRK8zMyhluSZuJtSTvdZopmDkTYjOGpmMI9vWc\",\"v\":2}";
+
+const IN_OTHER_ORDER: &str =
+    "{\"v\":2,\"l\":\"http://mybank/\",\"i\":\"we used our secret key\",\"c\":[{\"i\":\"test = caveat\"}],\"s64\":\"GXusegRK8zMyhluSZuJtSTvdZopmDkTYjOGpmMI9vWc\"}";
+
+// A text of 65 bytes, and the same without its first.
+const SHORT: &str = "{\"i\":\"keyid\",\"s64\":\"fN7nklEcW8b1KEhYBd_psk54XijiqZMB-dcRxgnjjvc\"}";
+
+pub(crate) const OPEN_SHORT: &str =
+    "\"i\":\"keyid\",\"s64\":\"fN7nklEcW8b1KEhYBd_psk54XijiqZMB-dcRxgnjjvc\"}";
+
+// A text in pieces, and what its pass says.
+struct Read {
+    pieces: &'static [Piece],
+    fields: Fields<'static>,
+}
+
+fn expect_next<'a>(rt: &impl Abort, fields: &mut JsonFields<'a>, want: Option<Field<'a>>) {
+    expect_eq(rt, &next(fields), &want, &"the next field");
+}
+
+// The signature, and then none, however often one is asked for.
+fn ends<'a>(rt: &impl Abort, fields: &mut JsonFields<'a>, want: &Fields<'a>) {
+    expect_next(rt, fields, Some(Field::Signature(*want.signature)));
+    expect_next(rt, fields, None);
+    expect_next(rt, fields, None);
+}
+
+// The fields come in their order, all caveats among them.
+fn expect_fields<'a>(rt: &impl Abort, fields: &mut JsonFields<'a>, want: &Fields<'a>) {
+    expect_next(rt, fields, Some(Field::Location(want.location)));
+    expect_next(rt, fields, Some(Field::Identifier(want.identifier)));
+    for caveat in want.caveats {
+        expect_next(rt, fields, Some(Field::Caveat(caveat)));
+    }
+    ends(rt, fields, want);
+}
+
+// The fields come twice: from a source, and from a second one that was made before the first was
+// read.
+fn expect_fields_twice<'a>(rt: &impl Abort, pass: &'a Pass, want: &Fields<'a>) {
+    let mut fields = fields_of(pass);
+    let mut others = again(&fields);
+    expect_fields(rt, &mut fields, want);
+    expect_fields(rt, &mut others, want);
+}
+
+fn is_read(rt: &(impl Abort + AllocGlobal), row: &Read) {
+    let text = joined(rt, row.pieces);
+    let pass = read_json(rt.alloc(), text.as_bytes()).expect(rt, "a pass");
+    expect_pass(rt, &pass, &row.fields);
+    expect_fields_twice(rt, &pass, &row.fields);
+}
+
+fn are_read(rt: &(impl Abort + AllocGlobal), rows: &[Read]) {
+    for row in rows {
+        is_read(rt, row);
+    }
+}
+
+pub(crate) fn is_refused(rt: &(impl Abort + AllocGlobal), text: &[u8], fault: FormFault) {
+    let refused = read_json(rt.alloc(), text).err();
+    expect_eq(rt, &refused, &Some(fault), &text);
+}
+
+// Texts in pieces, each with its fault.
+fn are_refused(rt: &(impl Abort + AllocGlobal), rows: &[(&'static [Piece], FormFault)]) {
+    for (pieces, fault) in rows {
+        is_refused(rt, joined(rt, pieces).as_bytes(), *fault);
+    }
+}
+
+static READ: [Read; 5] = [
+    Read {
+        pieces: &[(1, KNOWN)],
+        fields: KNOWN_FIELDS,
+    },
+    Read {
+        pieces: &[(1, IN_OTHER_ORDER)],
+        fields: KNOWN_FIELDS,
+    },
+    // White space is allowed around the object.
+    Read {
+        pieces: &[(1, " \t\r\n"), (1, SHORT), (1, "\n ")],
+        fields: KEYID_FIELDS,
+    },
+    // A caveat may be empty.
+    Read {
+        pieces: &[(
+            1,
+            "{\"c\":[{\"i\":\"test = caveat\"},{\"i\":\"\"}],\"i\":\"we used our secret key\",\"l\":\"http://mybank/\",\"s64\":\"GXusegRK8zMyhluSZuJtSTvdZopmDkTYjOGpmMI9vWc\",\"v\":2}",
+        )],
+        fields: Fields {
+            location: b"http://mybank/",
+            identifier: b"we used our secret key",
+            caveats: &[b"test = caveat", b""],
+            signature: b"\x19\x7b\xac\x7a\x04\x4a\xf3\x33\x32\x86\x5b\x92\x66\xe2\x6d\x49\x3b\xdd\x66\x8a\x66\x0e\x44\xd8\x8c\xe1\xa9\x98\xc2\x3d\xbd\x67",
+        },
+    },
+    // A signature that is text.
+    Read {
+        pieces: &[(
+            1,
+            "{\"v\":2,\"i\":\"keyid\",\"s\":\"0123456789abcdef0123456789abcdef\"}",
+        )],
+        fields: Fields {
+            location: b"",
+            identifier: b"keyid",
+            caveats: &[],
+            signature: b"0123456789abcdef0123456789abcdef",
+        },
+    },
+];
+
+#[test]
+fn reads_passes(rt: HostRuntime) {
+    are_read(&rt, &READ);
+}
+
+const GUESTS: &[u8] = b"guests <= 1";
+
+// What may be as long, as deep or as many as here, and no more: a text with white space behind it;
+// arrays and objects in one another, of which `serde_json` reads 127, under a name whose last value
+// counts; caveats.
+static AT_THE_LIMITS: [Read; 3] = [
+    Read {
+        pieces: &[(1, SHORT), (8127, " ")],
+        fields: KEYID_FIELDS,
+    },
+    Read {
+        pieces: &[
+            (1, "{\"i\":"),
+            (126, "["),
+            (126, "]"),
+            (1, ","),
+            (1, OPEN_SHORT),
+        ],
+        fields: KEYID_FIELDS,
+    },
+    Read {
+        pieces: &[
+            (1, "{\"c\":[{\"i\":\"guests <= 1\"}"),
+            (63, ",{\"i\":\"guests <= 1\"}"),
+            (1, "],"),
+            (1, OPEN_SHORT),
+        ],
+        fields: Fields {
+            location: b"",
+            identifier: b"keyid",
+            caveats: &[GUESTS; 64],
+            signature: SIGNATURE,
+        },
+    },
+];
+
+// In the last two another fault comes before too many caveats.
+static BEYOND_THE_LIMITS: [(&[Piece], FormFault); 5] = [
+    (&[(1, SHORT), (8128, " ")], FormFault::TooLong),
+    (
+        &[
+            (1, "{\"i\":"),
+            (127, "["),
+            (127, "]"),
+            (1, ","),
+            (1, OPEN_SHORT),
+        ],
+        FormFault::Malformed,
+    ),
+    (
+        &[
+            (1, "{\"c\":[{\"i\":\"guests <= 1\"}"),
+            (64, ",{\"i\":\"guests <= 1\"}"),
+            (1, "],"),
+            (1, OPEN_SHORT),
+        ],
+        FormFault::TooMany,
+    ),
+    (
+        &[
+            (1, "{\"c\":[{\"i\":\"guests <= 1\"}"),
+            (64, ",{\"i\":\"guests <= 1\"}"),
+            (1, ",{}],"),
+            (1, OPEN_SHORT),
+        ],
+        FormFault::Malformed,
+    ),
+    (
+        &[
+            (1, "{\"c\":[{\"i\":\"guests <= 1\"}"),
+            (64, ",{\"i\":\"guests <= 1\"}"),
+            (1, ",{\"i\":\"x\",\"v64\":\"\"}],"),
+            (1, OPEN_SHORT),
+        ],
+        FormFault::ThirdParty,
+    ),
+];
+
+#[test]
+fn reads_up_to_the_limits(rt: HostRuntime) {
+    are_read(&rt, &AT_THE_LIMITS);
+    are_refused(&rt, &BEYOND_THE_LIMITS);
+}
+
+static OTHER_TEXTS: [(&[Piece], FormFault); 8] = [
+    (&[(1, "")], FormFault::Malformed),
+    (&[(1, "[]")], FormFault::Malformed),
+    (&[(1, "{\"i\":\"keyid\"}")], FormFault::Malformed),
+    (
+        &[(
+            1,
+            "{\"s64\":\"fN7nklEcW8b1KEhYBd_psk54XijiqZMB-dcRxgnjjvc\"}",
+        )],
+        FormFault::Malformed,
+    ),
+    (
+        &[(
+            1,
+            "{\"i\":\"keyid\",\"s64\":\"fN7nklEcW8b1KEhYBd_psk54XijiqZMB-dcRxgnjjg\"}",
+        )],
+        FormFault::Malformed,
+    ),
+    (&[(8193, "[")], FormFault::TooLong),
+    (&[(8192, "[")], FormFault::Malformed),
+    // A byte order mark.
+    (&[(1, "\u{feff}"), (1, SHORT)], FormFault::Malformed),
+];
+
+#[test]
+fn refuses_other_texts(rt: HostRuntime) {
+    are_refused(&rt, &OTHER_TEXTS);
+}
+
+fn is_refused_cut_short(rt: &(impl Abort + AllocGlobal), text: &str) {
+    for len in 0..text.len() {
+        is_refused(rt, &text.as_bytes()[..len], FormFault::Malformed);
+    }
+}
+
+#[test]
+fn refuses_the_known_texts_cut_short(rt: HostRuntime) {
+    is_refused_cut_short(&rt, KNOWN);
+    is_refused_cut_short(&rt, EXAMPLE_JSON);
+}
+
+static SIGNED: [&str; 2] = [KNOWN, IN_OTHER_ORDER];
+
+fn are_signed(rt: &(impl Abort + AllocGlobal), texts: &[&str], root: &[u8]) {
+    for text in texts {
+        let pass = read_json(rt.alloc(), text.as_bytes()).expect(rt, "a pass");
+        expect_eq(rt, &is_signed(&pass, root), &true, text);
+    }
+}
+
+#[test]
+fn known_pass_is_signed_under_its_root(rt: HostRuntime) {
+    let root = b"this is our super secret key; only we should know it";
+    are_signed(&rt, &SIGNED, root);
+}

@@ -1,0 +1,72 @@
+-- Lemmas on caveats that are added in turn.
+use Rattle.std.proofs.Common.{◌≡◌, ◌∙◌, ℕ, ◌+◌, ◌<◌, ◌≤◌, List, [], ◌∷◌, length, map, drop, Result, Ok, Err, IsOk, inl, inr, ap, sym, refl, append_assoc}
+use Rattle.std.proofs.Common.{add-one, drop-cons, arith}
+use Rattle.std.proofs.lemmas.Bool.{cases_lt, le-ltb, lt-ltb}
+use Rattle.std.proofs.lemmas.List.{append-nil, length-append, length-map}
+use Rattle.std.proofs.Math.Seq.{drop-length}
+use Rattle.std.specs.Borrow.{Bor}
+use Rattle.std.specs.List.{slice_index_or}
+use Rattle.pass_forms.specs.Pass.{Plain}
+use Rattle.pass_forms.specs.Reading.{UnlessMemory, max_caveats}
+use Rattle.pass_forms.specs.Writing.{IsNarrowingFault, with_caveat}
+use Rattle.pass_forms.specs.declared.fault.FormFault.{FormFault}
+use Rattle.pass_forms.specs.declared.fault.FormFault.TheVariants.{TooLong, Malformed, ThirdParty, TooMany, Memory}
+use Rattle.passtool_commands.specs.Answer.{narrowing, with_caveats}
+
+-- the first of some caveats, and then the others
+first_added : (caveat : List ℕ) (caveats : List (List ℕ)) (pass : Plain) → with_caveats caveats (with_caveat caveat pass) ≡ with_caveats (caveat ∷ caveats) pass
+first_added caveat caveats pass = ap (λ (all : List (List ℕ)). record (with_caveats (caveat ∷ caveats) pass) { caveats = all })
+    (append_assoc pass.caveats (caveat ∷ []) caveats)
+
+-- the rest of a list from an index begins with the element at that index
+pub left_from : {A : Type 0} (xs : List A) (i : ℕ) (d : A) → i < length xs → drop i xs ≡ slice_index_or xs i d ∷ drop (i + 1) xs
+left_from xs i d within = rw (add-one i) (drop-cons xs i d within)
+
+abbrev pub texts : List (Bor (List ℕ)) → List (List ℕ)
+texts = map (λ text. text.now)
+
+-- the caveats that are left make the same of a pass once the first of them was added
+pub one_added : (xs : List (Bor (List ℕ))) (i : ℕ) (d : Bor (List ℕ)) (caveat : List ℕ) (pass now : Plain) → i < length xs
+    → caveat ≡ (slice_index_or xs i d).now → now ≡ with_caveat caveat pass
+    → with_caveats (texts (drop (i + 1) xs)) now ≡ with_caveats (texts (drop i xs)) pass
+one_added xs i d caveat pass now within is added =
+    rw (added, is) (first_added (slice_index_or xs i d).now (texts (drop (i + 1) xs)) pass
+    ∙ ap (λ (left : List (Bor (List ℕ))). with_caveats (texts left) pass) (sym (left_from xs i d within)))
+
+-- no caveat changes nothing
+none_added : (pass : Plain) → with_caveats [] pass ≡ pass
+none_added pass = ap (λ (all : List (List ℕ)). record pass { caveats = all }) (append-nil pass.caveats)
+
+module _ (xs : List (Bor (List ℕ))) (i : ℕ) (pass now : Plain) (counted : length now.caveats ≡ length pass.caveats + i) where
+  pub all_added : (few : length now.caveats ≤ max_caveats) → length xs ≤ i → i ≤ length xs
+      → with_caveats (texts (drop i xs)) now ≡ with_caveats (texts xs) pass → narrowing (texts xs) pass ≡ Ok now
+  unfolding narrowing
+  all_added few most least same =
+      let end : i ≡ length xs = omega arith in
+      let total : length pass.caveats + length (texts xs) ≤ max_caveats = omega (arith, length-map xs (λ text. text.now)) in
+      let none : drop i xs ≡ [] = rw end (drop-length xs) in
+      let made : with_caveats (texts xs) pass ≡ now = sym same ∙ (ap (λ (left : List (Bor (List ℕ))). with_caveats (texts left) now) none ∙ none_added now) in
+      rw (le-ltb max_caveats (length pass.caveats + length (texts xs)) total) (ap Ok made)
+
+  -- where one would be the 65th
+  too_many : max_caveats ≤ length now.caveats → i < length xs → narrowing (texts xs) pass ≡ Err TooMany
+  unfolding narrowing
+  too_many full within =
+      let total : max_caveats < length pass.caveats + length (texts xs) = omega (arith, length-map xs (λ text. text.now)) in
+      rw (lt-ltb max_caveats (length pass.caveats + length (texts xs)) total) refl
+
+  pub one_refused : (fault : FormFault) → IsNarrowingFault fault → (fault ≡ TooMany → max_caveats ≤ length now.caveats) → i < length xs
+      → UnlessMemory (λ answer. narrowing (texts xs) pass ≡ answer) (Err fault)
+  one_refused TooMany h full within = too_many (full refl) within
+  one_refused Memory h full within = tt
+  one_refused TooLong h full within = absurd h
+  one_refused Malformed h full within = absurd h
+  one_refused ThirdParty h full within = absurd h
+
+-- a caveat was added, so there were fewer than 64
+pub counted_on : (r : Result Unit FormFault) (n : ℕ) → IsOk r → (max_caveats ≤ n → r ≡ Err TooMany) → n < max_caveats
+counted_on (Ok x) n ok full = elim (cases_lt n max_caveats) [ inl less ↦ less | inr least ↦ let bad : Ok x ≡ Err TooMany = full least in cc ]
+counted_on (Err e) n ok full = cc ok
+
+pub grown : (caveat : List ℕ) (pass now : Plain) → now ≡ with_caveat caveat pass → length now.caveats ≡ length pass.caveats + 1
+grown caveat pass now added = ap (λ (p : Plain). length p.caveats) added ∙ length-append pass.caveats (caveat ∷ [])

@@ -1,0 +1,87 @@
+-- The words of each command as clap reads them.
+use Rattle.std.proofs.Common.{◌≡◌, ℕ, true, false, eqb, List, [], ◌∷◌, Option, Some, None, Result, Ok, Err, unwrap_or, option_map, inl, inr, refl, ap, codes}
+use Rattle.std.proofs.Common.{arith}
+use Rattle.std.proofs.lemmas.Bool.{cases_eq}
+use Rattle.std.proofs.lemmas.Bool.Decides.{nat_tests}
+use Rattle.clap.specs.Words.{Row, Text, first_of}
+use Rattle.clap.specs.Faults.{flag_word_fault}
+use Rattle.clap.specs.Walk.{walked_from, word_met}
+use Rattle.clap.specs.Lexer.{long_of, short_of, strip_byte}
+use Rattle.clap.proofs.OnLiterals.{clap_on_literals}
+use Rattle.hex.specs.Hex.{decode_of, is_hex_digit}
+use Rattle.hex.specs.declared.error.FromHexError.{FromHexError}
+use Rattle.hex.proofs.HexLemmas.{decode_of-ok}
+use Rattle.pass_forms.specs.declared.form.Form.TheVariants.{V1, V2, Json}
+use Rattle.passtool_commands.specs.Application.{application, refusals, subcommand}
+use Rattle.passtool_commands.specs.Laws.{ConvertTakesItsForm, ShowTakesNothing, VerifyTakesItsRoot}
+use Rattle.passtool_commands.specs.Root.{root_among, root_of}
+use Rattle.passtool_commands.specs.Words.{asked_command, asked_by, command_of}
+use Rattle.passtool_commands.specs.declared.command.Command.{Command}
+use Rattle.passtool_commands.specs.declared.command.Command.TheVariants.{Verify}
+use Rattle.passtool_commands.proofs.RootLemmas.{none_by_length}
+
+-- words that clap reads ask for the command that it found
+pub asked_is : (words : List Text) (found : Option (Text × List Row)) (command : Command) → refusals words ≡ [] → subcommand words ≡ found
+    → asked_by found ≡ Ok command → asked_command words ≡ Some command
+unfolding command_of
+asked_is words found command clear same is = rw (clear, same, is) refl
+
+-- ---- show
+
+pub show_takes_nothing : ShowTakesNothing
+unfolding clap_on_literals application refusals subcommand command_of
+show_takes_nothing name = refl
+
+-- ---- convert
+
+pub convert_takes_its_form : ConvertTakesItsForm
+unfolding clap_on_literals application refusals subcommand command_of
+convert_takes_its_form name V1 = refl
+convert_takes_its_form name V2 = refl
+convert_takes_its_form name Json = refl
+
+-- ---- verify
+
+-- a word that doesn't begin with a dash is the root's
+nothing_against : (name : Text) (first : ℕ) (rest : Text) → eqb first 45 ≡ false
+    → refusals (name ∷ codes "verify" ∷ codes "--root" ∷ (first ∷ rest) ∷ []) ≡ []
+unfolding clap_on_literals application refusals
+nothing_against name first rest no_dash = simp (no_dash, strip_byte, long_of, short_of, flag_word_fault, walked_from, word_met)
+
+abbrev named_root : Text × List Row → Text × Option Text
+named_root found = (found.0, first_of (codes "root") found.1)
+
+found_root : (name : Text) (first : ℕ) (rest : Text) → eqb first 45 ≡ false
+    → option_map named_root (subcommand (name ∷ codes "verify" ∷ codes "--root" ∷ (first ∷ rest) ∷ [])) ≡ Some (codes "verify", Some (first ∷ rest))
+unfolding clap_on_literals application subcommand
+found_root name first rest no_dash = simp (no_dash, strip_byte, long_of, short_of, walked_from, word_met)
+
+-- no digit is a dash
+no_dash : (first : ℕ) → is_hex_digit first ≡ true → eqb first 45 ≡ false
+no_dash first digit = elim (cases_eq first 45) [
+  | inl same ↦ let bad : is_hex_digit 45 ≡ true = rw same at digit in cc
+  | inr other ↦ grind (arith, nat_tests)
+]
+
+digit_first : (first : ℕ) (rest root : Text) → root_of (first ∷ rest) ≡ Some root → is_hex_digit first ≡ true
+unfolding root_of
+digit_first first rest root h = go (decode_of (first ∷ rest)) refl
+  where
+    go : (r : Result (List ℕ) FromHexError) → decode_of (first ∷ rest) ≡ r → is_hex_digit first ≡ true
+    go (Ok bytes) same = (decode_of-ok (first ∷ rest) bytes same).1 0 0 (omega arith)
+    go (Err e) same = let bad : root_among (Err e) ≡ Some root = rw same at h in cc
+
+asked_for : (found : Option (Text × List Row)) (text root : Text) → option_map named_root found ≡ Some (codes "verify", Some text)
+    → root_of text ≡ Some root → asked_by found ≡ Ok (Verify root)
+asked_for None text root h is = cc
+asked_for (Some p) text root h is =
+    let pair : named_root p ≡ (codes "verify", Some text) = ap (λ (o : Option (Text × Option Text)). unwrap_or o (named_root p)) h in
+    let name : p.0 ≡ codes "verify" = ap (λ (q : Text × Option Text). q.0) pair in
+    let given : first_of (codes "root") p.1 ≡ Some text = ap (λ (q : Text × Option Text). q.1) pair in
+    rw (name, given, is) refl
+
+pub verify_takes_its_root : VerifyTakesItsRoot
+verify_takes_its_root name [] root is = let none = none_by_length [] (inl refl) in cc
+verify_takes_its_root name (first ∷ rest) root is =
+    let dash = no_dash first (digit_first first rest root is) in
+    asked_is _ _ _ (nothing_against name first rest dash) refl (asked_for _ (first ∷ rest) root (found_root name first rest dash) is)

@@ -1,0 +1,13 @@
+-- The caveats that are left make of the pass what all make of the first one.
+use Rattle.std.proofs.Common.{◌≡◌, ◌≤◌, ◌+◌, length, drop}
+use Rattle.pass_forms.specs.Reading.{max_caveats}
+use Rattle.passtool_commands.specs.Answer.{with_caveats}
+use Rattle.passtool_commands.proofs.NarrowLemmas.{texts}
+use Rattle.passtool_commands.proofs.narrow.narrowed_pass.Given as goal
+
+abbrev pub invariant-loop-caveat : goal.invariant-loop-caveat
+invariant-loop-caveat l = record {
+  left : with_caveats (texts (drop l.caveat-index l.caveats)) l.pass ≡ with_caveats (texts l.caveats) l.initial.pass;
+  counted : length l.pass.caveats ≡ length l.initial.pass.caveats + l.caveat-index;
+  few : length l.pass.caveats ≤ max_caveats;
+}

@@ -1,0 +1,10 @@
+-- What was written, with the lines of the caveats that are left, is the whole.
+use Rattle.std.proofs.Common.{◌≡◌, ◌+◌, ◌++◌, drop}
+use Rattle.std.specs.String.{string_bytes}
+use Rattle.passtool_commands.specs.Shown.{caveat_lines}
+use Rattle.passtool_commands.proofs.ShownLemmas.{items}
+use Rattle.passtool_commands.proofs.show.push_caveats.Given as goal
+
+abbrev pub invariant-loop-index : goal.invariant-loop-index
+invariant-loop-index l =
+    string_bytes l.text ++ caveat_lines (l.index + 1) (items (drop l.index l.caveats)) ≡ string_bytes l.initial.text ++ caveat_lines 1 (items l.caveats)

@@ -1,0 +1,8 @@
+-- What was written, with what is left, is the whole.
+use Rattle.std.proofs.Common.{◌≡◌, ◌++◌, drop}
+use Rattle.std.specs.String.{string_bytes}
+use Rattle.passtool_commands.specs.Shown.{escaped_text}
+use Rattle.passtool_commands.proofs.show.push_escaped.Given as goal
+
+abbrev pub invariant-loop-byte : goal.invariant-loop-byte
+invariant-loop-byte l = string_bytes l.text ++ escaped_text (drop l.byte-index l.bytes) ≡ string_bytes l.initial.text ++ escaped_text l.bytes

@@ -1,0 +1,9 @@
+-- The part of its input that a command reads (ours).
+use Rattle.std.specs.Prelude.{ℕ, ◌<◌, ◌≤◌, List, Option, length}
+use Rattle.std.specs.Io.KnownBytes.{Consumes, IsAtEnd}
+
+-- the bytes are all that the reader had left, or the first `most` of them
+pub record ReadsAtMost (most : ℕ) (old new : Option (List ℕ)) (bytes : List ℕ) : Type 0 where
+  pub consumes : Consumes old new bytes
+  pub within : length bytes ≤ most
+  pub at_end : length bytes < most → IsAtEnd new

@@ -1,0 +1,8 @@
+-- The part of a text that was written (ours).
+use Rattle.std.specs.Prelude.{ℕ, List, Option}
+use Rattle.std.specs.Io.{StartsWith}
+use Rattle.std.specs.Io.KnownBytes.{Appends}
+
+-- the known bytes grow by a beginning of the text, which may be empty or all of it
+abbrev pub AppendsFront : Option (List ℕ) → Option (List ℕ) → List ℕ → Type 0
+AppendsFront old new text = (front : List ℕ) × StartsWith text front × Appends old new front

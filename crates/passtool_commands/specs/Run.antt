@@ -1,0 +1,69 @@
+-- What a run of the program does (ours).
+use Rattle.std.specs.Prelude.{◌≡◌, ◌⊎◌, ℕ, List, [], Option, Some, None, Result, Ok, Err, IsSome, Bool, false, true}
+use Rattle.std.specs.Result.{result_map_both}
+use Rattle.std.specs.Io.{StartsWith}
+use Rattle.std.specs.Io.KnownBytes.{Appends, Keeps}
+use Rattle.clap.specs.Words.{Text}
+use Rattle.passtool_commands.specs.Answer.{ReadsBack, OutcomeText, command_answer, reads_input}
+use Rattle.passtool_commands.specs.Fault.{of_form}
+use Rattle.passtool_commands.specs.Input.{ReadsAtMost}
+use Rattle.passtool_commands.specs.Words.{AsksText, IsFaultOf, asked_command}
+use Rattle.passtool_commands.specs.declared.answer.Fault.{Fault}
+use Rattle.passtool_commands.specs.declared.answer.Fault.TheVariants.{Words, TooLong, Malformed, ThirdParty, TooMany, Memory, BadRoot, CaveatNotUnderstood}
+use Rattle.passtool_commands.specs.declared.answer.Fault.TheVariants.{InputOutput}
+use Rattle.passtool_commands.specs.declared.answer.Outcome.{Outcome}
+use Rattle.passtool_commands.specs.declared.answer.Outcome.TheVariants.{Done, NotSigned}
+use Rattle.passtool_commands.specs.declared.command.Command.{Command}
+
+-- the answer of a command to its input, or the program's fault
+abbrev pub IsAnswer : Command → List ℕ → Result OutcomeText Fault → Type 0
+IsAnswer command bytes answer = result_map_both (λ ending. ending) of_form (command_answer command bytes) ≡ answer
+
+-- a command's input: at most the first 8,194 bytes that the reader had left, or nothing
+abbrev pub ReadsInput : Bool → Option (List ℕ) → Option (List ℕ) → List ℕ → Type 0
+ReadsInput true left left' bytes = ReadsAtMost 8194 left left' bytes
+ReadsInput false left left' bytes = bytes ≡ []
+
+-- A command read its input, this is its answer to that, and these bytes were written.
+pub record Writes (command : Command) (left left' held held' : Option (List ℕ)) (ending : OutcomeText) (written : List ℕ) : Type 0 where
+  pub bytes : List ℕ
+  pub reads : ReadsInput (reads_input command) left left' bytes
+  pub answers : IsAnswer command bytes (Ok ending)
+  pub reads_back : ReadsBack command bytes ending.1
+  pub appends : Appends held held' written
+
+-- A beginning of that answer was written, or all of it.
+pub record WritesFront (command : Command) (left left' held held' : Option (List ℕ)) : Type 0 where
+  pub ending : OutcomeText
+  pub front : List ℕ
+  pub begins : StartsWith ending.1 front
+  pub writes : Writes command left left' held held' ending front
+
+-- A command reads its input and writes its answer to that and nothing else. It may run out of memory. If the reader or the
+-- writer fails, nothing was written, or a beginning of the answer to the whole input.
+abbrev pub Performs : Command → Option (List ℕ) → Option (List ℕ) → Option (List ℕ)
+    → Option (List ℕ) → Result Outcome Fault → Type 0
+Performs command left left' held held' (Ok outcome) = (text : List ℕ) × Writes command left left' held held' (outcome, text) text
+Performs command left left' held held' (Err Memory) = Unit {0}
+Performs command left left' held held' (Err InputOutput) = Keeps held held' ⊎ WritesFront command left left' held held'
+Performs command left left' held held' (Err fault) =
+    (bytes : List ℕ) × ReadsInput (reads_input command) left left' bytes × IsAnswer command bytes (Err fault)
+
+-- the arguments ask for a command that reads input
+abbrev pub asks_input : Option Command → Bool
+asks_input None = false
+asks_input (Some command) = reads_input command
+
+-- the results of a run that the arguments allow
+abbrev pub AnswersWords : List Text → Result Outcome Fault → Type 0
+AnswersWords words (Ok NotSigned) = IsSome (asked_command words)
+AnswersWords words (Ok Done) = IsSome (asked_command words) ⊎ AsksText words
+AnswersWords words (Err (Words error)) = IsFaultOf words (Words error)
+AnswersWords words (Err BadRoot) = IsFaultOf words BadRoot
+AnswersWords words (Err (CaveatNotUnderstood number)) = IsFaultOf words (CaveatNotUnderstood number)
+AnswersWords words (Err Memory) = Unit {0}
+AnswersWords words (Err InputOutput) = IsSome (asked_command words) ⊎ AsksText words
+AnswersWords words (Err TooLong) = IsSome (asked_command words)
+AnswersWords words (Err Malformed) = IsSome (asked_command words)
+AnswersWords words (Err ThirdParty) = IsSome (asked_command words)
+AnswersWords words (Err TooMany) = IsSome (asked_command words)

@@ -1,0 +1,39 @@
+-- The text that `show` writes (ours).
+use Rattle.std.specs.Prelude.{ℕ, ◌+◌, ◌==◌, ◌&&◌, nat_le, List, [], ◌∷◌, ◌++◌, codes, if◌then◌else◌}
+use Rattle.std.specs.Fmt.{decimal}
+use Rattle.std.specs.List.{flat_map}
+use Rattle.hex.specs.Hex.{encode_lower}
+use Rattle.pass_forms.specs.declared.form.Form.{Form}
+use Rattle.pass_forms.specs.Pass.{Plain}
+use Rattle.passtool_commands.specs.FormName.{form_name}
+
+-- a text with the line feed that ends it
+abbrev pub with_line_feed : List ℕ → List ℕ
+with_line_feed text = text ++ 10 ∷ []
+
+-- a backslash is doubled, other printable ASCII is unchanged, and any other byte is `\x` with two hexadecimal digits
+unfoldable pub escaped_byte : ℕ → List ℕ
+escaped_byte byte =
+    if byte == 92 then codes "\\\\"
+    else (if nat_le 32 byte && nat_le byte 126 then byte ∷ [] else codes "\\x" ++ encode_lower (byte ∷ []))
+
+abbrev pub escaped_text : List ℕ → List ℕ
+escaped_text bytes = flat_map escaped_byte bytes
+
+-- a name and a value
+abbrev pub value_line : List ℕ → List ℕ → List ℕ
+value_line name bytes = with_line_feed (name ++ 32 ∷ escaped_text bytes)
+
+-- a line for each caveat; the first has this number
+unfoldable pub caveat_lines : ℕ → List (List ℕ) → List ℕ
+caveat_lines number [] = []
+caveat_lines number (caveat ∷ caveats) =
+    value_line (codes "caveat " ++ decimal number) caveat ++ caveat_lines (number + 1) caveats
+
+unfoldable pub shown_text : Form → Plain → List ℕ
+shown_text form pass =
+    with_line_feed (codes "form " ++ form_name form)
+    ++ (value_line (codes "location") pass.location
+    ++ (value_line (codes "identifier") pass.identifier
+    ++ (caveat_lines 1 pass.caveats
+    ++ with_line_feed (codes "signature " ++ encode_lower pass.signature))))

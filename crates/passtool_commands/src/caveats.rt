@@ -1,0 +1,55 @@
+//! Caveats from the command line.
+
+ghost use Rattle.std.specs.Prelude.{◌≡◌, IfOk, is_some, map, not, position};
+ghost use Rattle.pass_caveats.specs.CaveatOf.{caveat_of};
+ghost use Rattle.passtool_commands.specs.Words as spec;
+
+use pass_caveats::read;
+use std::alloc::{AllocError, Global};
+use std::marker::Model;
+
+/// The texts of caveats, in the order given.
+#[derive(Drop)]
+pub struct Caveats<'a> {
+    texts: Vec<&'a str>,
+}
+
+impl<'a> Model for Caveats<'a> {
+    ghost use Rattle.std.specs.Prelude.{ℕ, List, map};
+
+    ghost Value = { List (List ℕ) };
+
+    ghost view = { λ caveats. map (λ text. text.now) caveats.texts.items };
+}
+
+impl<'a> Caveats<'a> {
+    /// These texts.
+    pub fn new(alloc: Global, texts: &[&'a str]) -> Result<Caveats<'a>, AllocError>
+        ensures { IfOk result (λ caveats. caveats ≡ map (λ text. text.now) texts.now) }
+    {
+        let texts = Vec::from_slice(alloc, texts)?;
+        Ok(Caveats { texts })
+    }
+
+    /// The texts, in their order.
+    pub fn as_slice(&self) -> &[&'a str]
+        ensures { map (λ text. text.now) result.now ≡ self.now }
+    {
+        self.texts.as_slice()
+    }
+
+    /// The index of the first text that isn't a caveat of the language, counted from 0.
+    pub fn first_unknown(&self) -> Option<usize>
+        ensures { result ≡ spec.first_unknown self.now }
+    {
+        place_of_unknown(self.as_slice())
+    }
+}
+
+fn place_of_unknown(texts: &[&str]) -> Option<usize>
+    ensures { result ≡ position (λ text. not (is_some (caveat_of text.now))) texts.now }
+{
+    texts
+        .iter()
+        .position(|text| read(text.as_bytes()).is_none())
+}

@@ -1,0 +1,200 @@
+//! The commands.
+
+ghost use Rattle.std.specs.Prelude.{◌≡◌, ◌≢◌, ◌≤◌, IfErr, IfOk, false, length, map, take};
+ghost use Rattle.clap.specs.Words.{found_of, rows_of, subcommand_rows_of};
+ghost use Rattle.passtool_commands.specs.Words.{AnswersAsked, checked_caveats};
+
+use crate::answer::{Answer, Fault, Outcome};
+use crate::application::make_application;
+use crate::caveats::Caveats;
+use crate::convert::convert;
+use crate::input::{MOST_READ, fill};
+use crate::mint::Mint;
+use crate::narrow::narrow;
+use crate::options::{caveats_of, form_of, root_of, value_of};
+use crate::output::write_text;
+use crate::root::Root;
+use crate::show::show;
+use crate::verify::verify;
+use clap::ArgMatches;
+use clap::error::ErrorKind;
+use pass_forms::{Form, FormFault};
+use std::alloc::Global;
+use std::convert::AsStr;
+use std::io::{self, Read, Write};
+
+/// What the arguments ask for.
+#[derive(Drop)]
+pub enum Request<'a> {
+    /// The help text or the version, which `clap` made.
+    ShowText(clap::Error),
+    Perform(Command<'a>),
+}
+
+/// A command with its options.
+#[derive(Drop)]
+pub enum Command<'a> {
+    /// Makes a new pass.
+    Mint(Mint<'a>),
+    /// Shows the fields of a pass.
+    Show,
+    /// Adds caveats to a pass.
+    Narrow(Caveats<'a>),
+    /// Writes a pass in a form.
+    Convert(Form),
+    /// Checks whether a pass is signed under the root.
+    Verify(Root),
+}
+
+impl<'a> Request<'a> {
+    ghost use Rattle.passtool_commands.specs.Words.{ReadsWords};
+
+    /// Parses the arguments. The first is the program's name.
+    pub fn from_words<S: AsStr>(alloc: Global, words: &'a [S]) -> Result<Request<'a>, Fault>
+        ensures { ReadsWords (map S.text words.entry.now) result }
+    {
+        let application = match make_application(alloc) {
+            Ok(application) => application,
+            Err(_) => return Err(Fault::Memory),
+        };
+        match application.try_get_matches_from(words) {
+            Ok(matches) => match Command::from_matches(alloc, &matches) {
+                Ok(command) => Ok(Request::Perform(command)),
+                Err(fault) => Err(fault),
+            },
+            Err(error) => match error.kind() {
+                ErrorKind::DisplayHelp => Ok(Request::ShowText(error)),
+                ErrorKind::DisplayVersion => Ok(Request::ShowText(error)),
+                ErrorKind::OutOfMemory => Err(Fault::Memory),
+                _ => Err(Fault::Words(error)),
+            },
+        }
+    }
+}
+
+impl<'a> Command<'a> {
+    ghost use Rattle.pass_forms.specs.Reading.{UnlessMemory};
+    ghost use Rattle.passtool_commands.specs.Answer as spec;
+    ghost use Rattle.passtool_commands.specs.Run.{Performs, ReadsInput};
+    ghost use Rattle.passtool_commands.specs.Words.{FindsCommand, asked_by, convert_of, mint_of, narrow_of, takes_any, verify_of};
+
+    // The command that clap found in the arguments, or the fault of its options.
+    fn from_matches(alloc: Global, matches: &ArgMatches<'a>) -> Result<Command<'a>, Fault>
+        requires { FindsCommand (subcommand_rows_of matches.now) }
+        ensures { AnswersAsked (asked_by (subcommand_rows_of matches.now)) result }
+    {
+        match matches.subcommand() {
+            Some(("mint", options)) => Command::mint_from(alloc, options),
+            Some(("show", _)) => Ok(Command::Show),
+            Some(("narrow", options)) => Command::narrow_from(alloc, options),
+            Some(("convert", options)) => Command::convert_from(alloc, options),
+            Some(("verify", options)) => Command::verify_from(options),
+            _ => unreachable!(),
+        }
+    }
+
+    fn mint_from(alloc: Global, options: &ArgMatches<'a>) -> Result<Command<'a>, Fault>
+        ensures { AnswersAsked (mint_of (rows_of (found_of options.now))) result }
+    {
+        let form = form_of(alloc, options)?;
+        let root = root_of(options)?;
+        let caveats = caveats_of(alloc, options)?;
+        let identifier = value_of(options, "id");
+        let location = value_of(options, "location");
+        Ok(Command::Mint(Mint::new(root, identifier, location, form, caveats)))
+    }
+
+    fn narrow_from(alloc: Global, options: &ArgMatches<'a>) -> Result<Command<'a>, Fault>
+        ensures { AnswersAsked (narrow_of (rows_of (found_of options.now))) result }
+    {
+        let caveats = caveats_of(alloc, options)?;
+        // Clap represents a flag by a text.
+        let checked_caveats = checked_caveats(caveats, value_of(options, "any") == "true")?;
+        Ok(Command::Narrow(checked_caveats))
+    }
+
+    fn convert_from(alloc: Global, options: &ArgMatches<'a>) -> Result<Command<'a>, Fault>
+        ensures { AnswersAsked (convert_of (rows_of (found_of options.now))) result }
+    {
+        let form = form_of(alloc, options)?;
+        Ok(Command::Convert(form))
+    }
+
+    fn verify_from(options: &ArgMatches<'a>) -> Result<Command<'a>, Fault>
+        ensures { AnswersAsked (verify_of (rows_of (found_of options.now))) result }
+    {
+        let root = root_of(options)?;
+        Ok(Command::Verify(root))
+    }
+
+    /// Whether the command reads input.
+    pub fn reads_input(&self) -> bool
+        ensures { result ≡ spec.reads_input self.now }
+    {
+        !matches!(self, Command::Mint(_))
+    }
+
+    /// Reads the input, if the command has one, and writes the command's answer.
+    pub fn perform<R: Read, W: Write>(
+        &self,
+        alloc: Global,
+        reader: &mut R,
+        writer: &mut W,
+    ) -> Result<Outcome, Fault>
+        ensures answer { Performs self.now (R.remaining reader.old) (R.remaining reader.new)
+            (W.contents writer.old) (W.contents writer.new) result }
+        ensures unread { spec.reads_input self.now ≡ false → reader.new ≡ reader.old }
+        ensures silent { IfErr result (λ fault. fault ≢ Fault.InputOutput
+            → writer.new ≡ writer.old) }
+    {
+        let mut buffer = [0; MOST_READ];
+        let count = self.read_input(reader, &mut buffer)?;
+        let answer = self.answer(alloc, &buffer[..count])?;
+        write_text(writer, answer.text())?;
+        Ok(answer.outcome())
+    }
+
+    // Reads the input, if the command has one, and returns the number of bytes read.
+    fn read_input<R: Read>(&self, reader: &mut R, buffer: &mut [u8; MOST_READ]) -> io::Result<usize>
+        ensures bytes { IfOk result (λ count. (count ≤ length buffer.new)
+            × ReadsInput (spec.reads_input self.now) (R.remaining reader.old)
+            (R.remaining reader.new) (take count buffer.new)) }
+        ensures unread { spec.reads_input self.now ≡ false → reader.new ≡ reader.old }
+    {
+        if self.reads_input() {
+            fill(reader, buffer)
+        } else {
+            Ok(0)
+        }
+    }
+
+    // The answer to the bytes that were read.
+    #[tactic(auto, unfolding(crate::specs::Answer::command_answer))]
+    fn answer(&self, alloc: Global, bytes: &[u8]) -> Result<Answer, FormFault>
+        ensures answer { UnlessMemory
+            (λ answer. spec.command_answer self.now bytes.now ≡ answer) result }
+        ensures reads_back { IfOk result (λ answer. spec.ReadsBack self.now bytes.now answer.1) }
+    {
+        match self {
+            Command::Mint(mint) => mint.answer(alloc),
+            Command::Show => show(alloc, bytes),
+            Command::Narrow(caveats) => narrow(alloc, caveats, bytes),
+            Command::Convert(form) => convert(alloc, *form, bytes),
+            Command::Verify(root) => verify(alloc, root, bytes),
+        }
+    }
+}
+
+// The caveats, if any text is accepted or all of them are understood.
+#[tactic(auto, unfolding(crate::specs::Words::checked_caveats))]
+fn checked_caveats(caveats: Caveats<'_>, any: bool) -> Result<Caveats<'_>, Fault>
+    ensures { AnswersAsked (checked_caveats any caveats.entry) result }
+{
+    if any {
+        return Ok(caveats);
+    }
+    match caveats.first_unknown() {
+        None => Ok(caveats),
+        Some(place) => Err(Fault::CaveatNotUnderstood(place + 1)),
+    }
+}

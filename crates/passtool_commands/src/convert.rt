@@ -1,0 +1,20 @@
+//! `convert`: a pass in another form.
+
+ghost use Rattle.std.specs.Prelude.{◌≡◌, IfOk};
+ghost use Rattle.pass_forms.specs.Reading.{UnlessMemory};
+ghost use Rattle.passtool_commands.specs.Answer as spec;
+
+use crate::answer::Answer;
+use crate::input::read_pass;
+use crate::output::written;
+use pass_forms::{Form, FormFault};
+use std::alloc::Global;
+
+/// The pass of the input in this form.
+pub fn convert(alloc: Global, form: Form, bytes: &[u8]) -> Result<Answer, FormFault>
+    ensures answer { UnlessMemory (λ answer. spec.converted_of form bytes.now ≡ answer) result }
+    ensures pass { IfOk result (λ answer. spec.IsConverted form bytes.now answer.1) }
+{
+    let (_, pass) = read_pass(alloc, bytes)?;
+    written(alloc, form, &pass)
+}

@@ -1,0 +1,35 @@
+//! `narrow`: a pass with more caveats.
+
+ghost use Rattle.std.specs.Prelude.{◌≡◌, ◌≤◌, IfOk, length, map};
+ghost use Rattle.pass_forms.specs.Reading.{UnlessMemory, max_caveats};
+ghost use Rattle.passtool_commands.specs.Answer as spec;
+
+use crate::answer::Answer;
+use crate::caveats::Caveats;
+use crate::input::read_pass;
+use crate::output::written;
+use pass_forms::{FormFault, Pass};
+use std::alloc::Global;
+
+/// The pass of the input with the caveats added in their order, in the form it came in.
+pub fn narrow(alloc: Global, caveats: &Caveats<'_>, bytes: &[u8]) -> Result<Answer, FormFault>
+    ensures answer { UnlessMemory
+        (λ answer. spec.narrowed_of caveats.now bytes.now ≡ answer) result }
+    ensures pass { IfOk result (λ answer. spec.IsNarrowedOutput caveats.now bytes.now answer.1) }
+{
+    let (form, pass) = read_pass(alloc, bytes)?;
+    let pass = narrowed_pass(alloc, pass, caveats.as_slice())?;
+    written(alloc, form, &pass)
+}
+
+/// A pass with caveats added one by one. A pass that was read or minted has at most 64.
+pub fn narrowed_pass(alloc: Global, mut pass: Pass, caveats: &[&str]) -> Result<Pass, FormFault>
+    requires { length pass.caveats ≤ max_caveats }
+    ensures { UnlessMemory
+        (λ answer. spec.narrowing (map (λ caveat. caveat.now) caveats.now) pass ≡ answer) result }
+{
+    for caveat in caveats {
+        pass_forms::narrow(alloc, &mut pass, caveat.as_bytes())?;
+    }
+    Ok(pass)
+}

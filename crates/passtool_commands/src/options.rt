@@ -1,0 +1,56 @@
+//! The options of a command, from what `clap` found.
+
+ghost use Rattle.std.specs.Prelude.{◌≡◌, IfOk};
+ghost use Rattle.clap.specs.Words.{found_of, rows_of};
+ghost use Rattle.passtool_commands.specs.Words.{AnswersAsked, caveats_in, form_or_refusal, root_in, value_in};
+
+use crate::answer::Fault;
+use crate::application::make_application;
+use crate::caveats::Caveats;
+use crate::errors::form_error;
+use crate::form_names::form_named;
+use crate::root::Root;
+use clap::ArgMatches;
+use pass_forms::Form;
+use std::alloc::{AllocError, Global};
+
+/// The value of an option; empty if it was left out.
+pub fn value_of<'a>(options: &ArgMatches<'a>, id: &str) -> &'a str
+    ensures { result.now ≡ value_in id.now (rows_of (found_of options.now)) }
+{
+    options.get_str(id).unwrap_or("")
+}
+
+/// The root that `--root` spells.
+pub fn root_of(options: &ArgMatches<'_>) -> Result<Root, Fault>
+    ensures { AnswersAsked (root_in (rows_of (found_of options.now))) result }
+{
+    match Root::from_hex(value_of(options, "root")) {
+        Some(root) => Ok(root),
+        None => Err(Fault::BadRoot),
+    }
+}
+
+/// The form that `--form` names.
+pub fn form_of(alloc: Global, options: &ArgMatches<'_>) -> Result<Form, Fault>
+    ensures { AnswersAsked (form_or_refusal (rows_of (found_of options.now))) result }
+{
+    let name = value_of(options, "form");
+    match form_named(name) {
+        Some(form) => Ok(form),
+        None => {
+            let application = make_application(alloc)?;
+            Err(Fault::Words(form_error(alloc, application, name)?))
+        }
+    }
+}
+
+/// The caveats among the arguments.
+pub fn caveats_of<'a>(alloc: Global, options: &ArgMatches<'a>) -> Result<Caveats<'a>, AllocError>
+    ensures { IfOk result (λ caveats. caveats ≡ caveats_in (rows_of (found_of options.now))) }
+{
+    match options.get_strs("caveat") {
+        Some(texts) => Caveats::new(alloc, texts),
+        None => Caveats::new(alloc, &[]),
+    }
+}

@@ -1,0 +1,62 @@
+//! A run of the program, on arguments, a reader and a writer.
+
+ghost use Rattle.std.specs.Prelude.{◌≡◌, ◌≢◌, IfErr, MatchResult, Some, false, map};
+ghost use Rattle.passtool_commands.specs.Run.{AnswersWords, Performs, asks_input};
+ghost use Rattle.passtool_commands.specs.Words.{asked_command};
+ghost use Rattle.passtool_commands.specs.declared.command.Command.{Command as CommandOf};
+
+use crate::answer::{Fault, Outcome};
+use crate::command::{Command, Request};
+use std::alloc::Global;
+use std::convert::AsStr;
+use std::io::{Read, Write};
+
+/// Runs the program on its arguments. The first is its name.
+///
+/// The arguments are checked before the input is read: by `clap`, then the form, the root and the
+/// caveats. The input is read to its end, but at most 8,194 bytes of it; `mint` reads none. The
+/// answer is complete before it is written. Help and the version are written as `clap` makes them.
+///
+/// # Errors
+///
+/// Of the arguments: `Words` if `clap` refuses them or the form is unknown, `BadRoot`, and
+/// `CaveatNotUnderstood` with the number of the caveat among those given. Of the pass: `TooLong`,
+/// `Malformed`, `ThirdParty` and `TooMany`. `Memory` only if an allocation fails. After these
+/// nothing was written. `InputOutput` if the reader or the writer failed: nothing was written, or a
+/// beginning of the answer to the whole input, or of help or the version.
+pub fn run<S: AsStr, R: Read, W: Write>(
+    alloc: Global,
+    words: &[S],
+    reader: &mut R,
+    writer: &mut W,
+) -> Result<Outcome, Fault>
+    // The fault of the arguments, or what they ask for.
+    ensures words { AnswersWords (map S.text words.now) result }
+    // If they ask for a command, it read its input and wrote its answer to that. If the reader or
+    // the writer failed, it wrote nothing or a beginning of the answer.
+    ensures command { (command : CommandOf) → asked_command (map S.text words.now) ≡ Some command
+        → Performs command (R.remaining reader.old) (R.remaining reader.new)
+        (W.contents writer.old) (W.contents writer.new) result }
+    // If they ask for no command, or for one without input, nothing was read.
+    ensures unread { asks_input (asked_command (map S.text words.now)) ≡ false
+        → reader.new ≡ reader.old }
+    // After any other fault nothing was written.
+    ensures silent { IfErr result (λ fault. fault ≢ Fault.InputOutput
+        → writer.new ≡ writer.old) }
+{
+    match Request::from_words(alloc, words) {
+        Ok(Request::ShowText(text)) => show(&text, writer),
+        Ok(Request::Perform(command)) => command.perform(alloc, reader, writer),
+        Err(fault) => Err(fault),
+    }
+}
+
+// Writes help or the version, whose bytes no clause states.
+fn show<W: Write>(text: &clap::Error, writer: &mut W) -> Result<Outcome, Fault>
+    ensures { MatchResult result (λ outcome. outcome ≡ Outcome.Done)
+        (λ fault. fault ≡ Fault.InputOutput) }
+{
+    write!(writer, "{text}")?;
+    writer.flush()?;
+    Ok(Outcome::Done)
+}
