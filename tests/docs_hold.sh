@@ -3,12 +3,13 @@
 # - Each ```console block is run, the blocks of a page one after the other in a folder of its own, with bin/ on the path: a line
 #   that begins with `$ ` is a command, the lines behind it are what it prints, on standard output or standard error. Empty lines
 #   and spaces at the end of a line don't count, and another port may stand for 8080.
-# - Each ```rust, ```antt and ```text block stands in a file of crates/, but for how far it is indented.
+# - Each ```rust, ```antt and ```text block is in a file of crates/, but for how far it is indented.
 # - Each link leads to a page, and to a heading of it. Each page of docs/ is in docs/INDEX.md.
-# - Each contract that docs/PROMISES.md names stands: the function in the section's crate, and its clause; each definition. So do
+# - Each contract that docs/PROMISES.md names is there: the function in the section's crate, and its clause; each definition. So are
 #   the clauses of README's law.
 # - Each file that a page names is there, and each name `crate::..::name` or `Type::name` is defined.
-# - docs/MAP.md has each crate with what it stands on, as crates.txt does; LAYERS and TRUST name each.
+# - docs/LAYERS.md has the layers and crates of crates.txt in their order, each with what it stands on; TRUST names each crate.
+# - docs/TOUR.md gives each answer as a path of three to six steps, each a file with a name that it defines.
 # - The logic that README.md and docs/TRUST.md name by its sum is this toolchain's, and bin/demo prints what tests/demo_tells.sh wants.
 # Programs are proved and built by bin/proved where they have to be. Installs Debian's curl, sqlite3 and openssl where they are
 # missing. Not part of the gate.
@@ -82,12 +83,12 @@ run_commands() {
     # Bodies of replies end without a line feed, which a terminal shows as a prompt behind them.
     printf 'silent\nshow-error\nnoproxy = "*"\nwrite-out = "\\n"\n' >"$work/.curlrc"
     for program in passtool clubdesk; do
-        # It is built first, so that what its building tells isn't taken for what it prints.
+        # It is built first, so that what its build prints isn't taken for what it prints.
         ! grep -q "$program" "$work/lines" || "bin/$program" --help >/dev/null || exit 2
     done
     (cd "$work/room" && PATH=$root/bin:$PATH CURL_HOME=$work OUT=$work/out timeout 120 sh "$work/script") >"$work/out" 2>&1 </dev/null
-    squeezed <"$work/out" >"$work/told"
-    diff "$work/lines" "$work/told" >"$work/diff" || {
+    squeezed <"$work/out" >"$work/printed"
+    diff "$work/lines" "$work/printed" >"$work/diff" || {
         echo "$1: the page (<) and what its commands print (>) differ" >>"$faults"
         head -n 40 "$work/diff" >>"$faults"
     }
@@ -104,7 +105,7 @@ find_quotes() {
                 FNR == 1 { if (index(text, quote)) exit; text = "" }
                 { sub(/^ */, ""); text = text $0 "\n" }
                 END { if (!index(text, quote)) exit 1 }' "$quote" $(cat "$work/files") || {
-                echo "$1: these lines stand in no file of crates/:" >>"$faults"
+                echo "$1: these lines are in no file of crates/:" >>"$faults"
                 cat "$quote" >>"$faults"
                 echo >>"$faults"
             }
@@ -145,6 +146,7 @@ index_names() {
                 if (line ~ /^(struct|enum|trait|type|mod) /) {
                     split(line, words, /[^A-Za-z0-9_]+/); print at, "item", words[2]
                 }
+                if (line ~ /^(static|abbrev) /) { split(line, words, /[^A-Za-z0-9_]+/); print at, "item", words[2] }
                 if ($0 ~ /^ *(pub )?const [A-Z]/) { split(line, words, /[^A-Za-z0-9_]+/); print at, "item", words[1] }
                 if (line ~ /^impl/) print at, "impl", $0
                 if (line ~ /^ensures [a-z_0-9]+ /) { split(line, words, " "); print at, "clause", name, words[2] }
@@ -252,11 +254,17 @@ hold_laws() {
         }' "$work/index" - >>"$faults"
 }
 
-# docs/MAP.md has a row for each crate of crates.txt, with what it stands on.
-hold_map() {
+# The table of docs/LAYERS.md is crates.txt: its layers (`# NAME: WHAT`) and its crates, in that order, each with what it stands on.
+hold_layers() {
+    sed -nE -e 's/^([a-z][a-z_0-9]*)[ :].*/crate \1/p' -e 's/^# ([^:]*):.*/layer \1/p' crates.txt >"$work/order"
+    sed -nE -e 's/^\| \*\*([^*]*)\*\* \|.*/layer \1/p' -e 's/^\| `([a-z_0-9]+)` \|.*/crate \1/p' docs/LAYERS.md |
+        diff "$work/order" - | sed -n 's/^\([<>]\)/docs\/LAYERS.md: another order than that of crates.txt (<): \1/p' >>"$faults"
     awk '
-        function lacks(what) { print "docs/MAP.md: " what }
-        FILENAME == ARGV[1] { crate = $1; sub(/:$/, "", crate); crates[crate]; for (i = 2; i <= NF; i++) uses[crate, $i]; next }
+        function lacks(what) { print "docs/LAYERS.md: " what }
+        FILENAME == ARGV[1] {
+            if (/^#/) next
+            crate = $1; sub(/:$/, "", crate); crates[crate]; for (i = 2; i <= NF; i++) uses[crate, $i]; next
+        }
         /^\| `/ {
             split($0, cells, "|")
             crate = cells[2]
@@ -267,7 +275,7 @@ hold_map() {
             sub(/`club_core` and below/, "`club_core` `club_rows` `club_values` `pass_caveats`", cells[4])
             count = split(cells[4], piece, "`")
             for (p = 2; p <= count; p += 2) {
-                said[crate, piece[p]]
+                named[crate, piece[p]]
                 if (!((crate, piece[p]) in uses)) lacks(crate " does not stand on " piece[p])
             }
         }
@@ -275,19 +283,41 @@ hold_map() {
             for (crate in crates) if (!(crate in rows)) lacks("no row of " crate)
             for (pair in uses) {
                 split(pair, part, SUBSEP)
-                if (part[1] in rows && !(pair in said) && !(part[1] in engines && part[2] ~ /^sqlite_/)) lacks(part[1] " stands on " part[2])
+                if (part[1] in rows && !(pair in named) && !(part[1] in engines && part[2] ~ /^sqlite_/)) lacks(part[1] " stands on " part[2])
             }
-        }' crates.txt docs/MAP.md >>"$faults"
+        }' crates.txt docs/LAYERS.md >>"$faults"
+}
+
+# docs/TOUR.md: under each heading that asks, three to six steps, each `PATH`: `NAME`, .., where that file defines NAME, or has it as
+# a word where it is no file of code.
+hold_tour() {
+    awk '
+        function lacks(what) { print "docs/TOUR.md: " what }
+        function close_question() { if (question != "" && (steps < 3 || steps > 6)) lacks(steps " steps: " question) }
+        FILENAME == ARGV[1] { files[$2]; defined[$2, $NF]; next }
+        /^## / { close_question(); question = substr($0, 4); steps = 0; questions++; next }
+        /^[0-9]+\. / {
+            steps++
+            count = split($0, piece, "`")
+            if (count < 5 || piece[1] !~ /^[0-9]+\. $/ || piece[3] != ": ") { lacks("no path and name: " $0); next }
+            path = piece[2]; name = piece[4]; sub(/.*::/, "", name)
+            if (path in files) { if (!((path, name) in defined)) lacks(path " defines no " piece[4]); next }
+            found = 0
+            while ((getline line <path) > 0) if (index(line, piece[4])) found = 1
+            close(path)
+            if (!found) lacks(path " has no " piece[4])
+        }
+        END { close_question(); if (questions != 12) lacks(questions " questions") }' "$work/index" docs/TOUR.md >>"$faults"
 }
 
 # name_crates PAGE: the page names each crate of crates.txt.
 name_crates() {
-    sed 's/:.*//' crates.txt | while read -r crate; do
+    sed -nE 's/^([a-z][a-z_0-9]*)[ :].*/\1/p' crates.txt | while read -r crate; do
         grep -qF "\`$crate\`" "$1" || echo "$1: does not name $crate"
     done >>"$faults"
 }
 
-# Words of code that the glossary gives stand in some file.
+# Words of code that the glossary gives are in some file.
 hold_glossary() {
     grep -E '^\|' docs/GLOSSARY.md | grep -oE '`[^` ]+`' | tr -d '`' | sort -u >"$work/words"
     tr ' ' '\n' <"$work/files" | xargs cat | grep -oE '[A-Za-z_0-9]+' | sort -u >"$work/known"
@@ -310,8 +340,9 @@ for page; do
         docs/PROMISES.md) hold_promises ;;
         docs/GLOSSARY.md) hold_glossary ;;
         README.md) hold_laws ;;
-        docs/MAP.md) hold_map ;;
-        docs/LAYERS.md | docs/TRUST.md) name_crates "$page" ;;
+        docs/LAYERS.md) hold_layers ;;
+        docs/TRUST.md) name_crates "$page" ;;
+        docs/TOUR.md) hold_tour ;;
         docs/INDEX.md)
             for other in docs/*.md; do
                 [ "$other" = "$page" ] || grep -qF "($(basename "$other"))" "$page" || echo "$page: doesn't name $other" >>"$faults"

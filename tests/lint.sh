@@ -1,8 +1,8 @@
 #!/bin/sh
 # Slips that a machine sees and the gate lets pass. Prints each, with its place; the status is 1 where there is one.
-# - one name that two specs modules of one crate define;
+# - one name that two specs modules define, of one crate or of two, but for those of one meaning that `twins` has;
 # - lines that are too long: code, comments and clauses past 100 columns, imports, specs and proofs past 160;
-# - a number in a public docstring that says no unit (a guess: it wants a word behind the number, or a unit's word in the text);
+# - a number in a public docstring without a unit (a guess: it looks for a word behind the number, or a unit's word in the text);
 # - files that nothing uses: modules of specs and proofs that no file imports, files of code that no `mod` names, scripts that no
 #   page names, and edits of must-fail/ and more-edits/ whose old text doesn't stand once in its file.
 # Not part of the gate.
@@ -18,16 +18,37 @@ trap 'rm -f "$found"' EXIT
 LC_ALL=C.UTF-8
 export LC_ALL
 
-# Names at the top level of a specs module: what stands before its colon, or behind `record` and `data`. Left out are the
-# bind of `do`, which each kind of result has, and the words in which the readings of V1 and V2 tell the same of two layouts.
+# Names that two specs modules define with the same meaning, each with the reason. `NAME ..: REASON`
+twins() {
+    cat <<'TWINS'
+◌>>=◌: the bind of `do`, which each kind of result has
+header_at caveat_at optional_at signature_at wide_at: the readings of V1 and V2 say the same of two layouts
+inside_of-bytes_of: the same lemma of a name's bytes and of a root's
+application top as_program subcommand refusals IsMade option_named: both programs hand such a tree of commands to clap
+ArgumentRefusal IsCommandName FindsCommand: which commands clap may find, and why arguments ask for none, in both programs
+ReadsWords AnswersAsked AnswersWords AsksText IsNoText IsFaultOf: what both programs make of their arguments
+IsNotText fault_line fault_status: the faults of both programs, their lines and statuses
+TWINS
+}
+
+# Names at the top level of a specs module: what stands before its colon, or behind `record` and `data`. They are looked for in the
+# whole repository; printed are those that a module of the given crates defines.
 twice_defined() {
-    for file in "crates/$1"/specs/*.antt; do
-        [ -e "$file" ] || continue
-        sed -nE -e 's/^(pub )?(record|data) ([^ ]+).*/\3/p' -e 's/^((abbrev|unfoldable) )?(pub )?([^ ]+) :( .*)?$/\4/p' "$file" |
+    for file in crates/*/specs/*.antt; do
+        sed -nE -e 's/^(pub )?(record|data) ([^ ]+).*/\3/p' -e 's/^((abbrev|unfoldable|opaque) )?(pub )?([^ ]+) :( .*)?$/\4/p' "$file" |
             sort -u | sed "s|\$| ${file#crates/}|"
-    done | sort | grep -vE '^(◌>>=◌|(header|caveat|optional|signature|wide)_at) ' | awk '
-        { files[$1] = files[$1] " " $2; count[$1]++ }
-        END { for (name in count) if (count[name] > 1) print "defined twice: " name " in" files[name] }'
+    done | sort | { twins; echo; cat; } | awk -v crates=" $* " '
+        !defining && $0 == "" { defining = 1; next }
+        !defining { names = $0; sub(/: .*/, "", names); count = split(names, name, " "); for (i = 1; i <= count; i++) twin[name[i]]; next }
+        {
+            crate = $2; sub(/\/.*/, "", crate)
+            if (index(crates, " " crate " ")) asked[$1]
+            files[$1] = files[$1] " " $2; modules[$1]++
+        }
+        END {
+            for (it in modules) if (modules[it] > 1 && !(it in twin) && it in asked) print "defined twice: " it " in" files[it]
+            for (it in twin) if (modules[it] < 2) print "no twin any more: " it
+        }' | sort
 }
 
 # A line of code and a comment are at most 100 columns long, an import or a line of specs/ or proofs/ 160. A line for each file. What
@@ -97,21 +118,21 @@ stale_edits() {
     for edit in "crates/$1"/must-fail/*.edit "crates/$1"/more-edits/*.edit; do
         [ -e "$edit" ] || continue
         awk -v crate="crates/$1/" -v edit="$edit" '
-            function tell(what) { print "edit doesn'\''t apply: " edit ": " what }
+            function report(what) { print "edit doesn'\''t apply: " edit ": " what }
             function load(name,    line) {
                 if (name in texts) return
                 texts[name] = ""
                 while ((getline line <(crate name)) > 0) texts[name] = texts[name] line "\n"
                 close(crate name)
-                if (texts[name] == "") tell("no file " name)
+                if (texts[name] == "") report("no file " name)
             }
             /^file: / { name = substr($0, 7); load(name) }
             /^old: / { old = substr($0, 6) }
             /^new: / {
                 at = index(texts[name], old)
-                if (!at) { tell("not there: " old); next }
+                if (!at) { report("not there: " old); next }
                 rest = substr(texts[name], at + length(old))
-                if (index(rest, old)) { tell("there twice: " old); next }
+                if (index(rest, old)) { report("there twice: " old); next }
                 texts[name] = substr(texts[name], 1, at - 1) substr($0, 6) rest
             }' "$edit"
     done
@@ -124,15 +145,17 @@ unnamed_scripts() {
     done
 }
 
-for crate; do
-    twice_defined "$crate"
-    too_long "$crate"
-    without_unit "$crate"
-    unused_modules "$crate" specs
-    unused_modules "$crate" proofs
-    unused_code "$crate"
-    stale_edits "$crate"
-done >"$found"
+{
+    twice_defined "$@"
+    for crate; do
+        too_long "$crate"
+        without_unit "$crate"
+        unused_modules "$crate" specs
+        unused_modules "$crate" proofs
+        unused_code "$crate"
+        stale_edits "$crate"
+    done
+} >"$found"
 [ -z "$whole" ] || unnamed_scripts >>"$found"
 cat "$found"
 echo "$(wc -l <"$found") slips"

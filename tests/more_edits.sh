@@ -3,7 +3,7 @@
 # scratch copy of the tree as it stands, by `rt must-fail`. Run it for each crate whose code or contracts change. Prints what isn't
 # refused; the status is 0 where the prover refuses every edit.
 #   tests/more_edits.sh                         every crate that has such edits
-#   tests/more_edits.sh club_core club_plain    these crates
+#   tests/more_edits.sh club_core club_reference    these crates
 set -u
 here=$(CDPATH='' cd -P -- "$(dirname -- "$0")" && pwd)
 root=$(dirname "$here")

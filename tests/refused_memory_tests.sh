@@ -5,8 +5,8 @@
 # Name tests that pass each fault on, or compare what they get with out of memory and with the right answer: one that expects
 # another fault fails where memory is refused instead.
 #   tests/refused_memory_tests.sh                                              the tests of the list below
-#   tests/refused_memory_tests.sh store_tests                                  those of one crate
-#   tests/refused_memory_tests.sh store_tests store::shows_what_a_key_sees ..  any tests of a crate
+#   tests/refused_memory_tests.sh club_store_tests                                  those of one crate
+#   tests/refused_memory_tests.sh club_store_tests store::shows_what_a_key_sees ..  any tests of a crate
 set -eu
 here=$(CDPATH='' cd -P -- "$(dirname -- "$0")" && pwd)
 root=$(dirname -- "$here")
@@ -14,33 +14,33 @@ root=$(dirname -- "$here")
 # The known passes, read and written in each form; each opening of a store; each order of the office, and the known booking through
 # `Desk::ask` and `Desk::run`; the same through `answer`; the words of a request, and an exchange that counts.
 list='
-json_tests refused_memory::known_pass
-json_tests refused_memory::known_pass_without_its_caveat
-json_tests refused_memory::example
-store_tests refused_memory::store_in_memory
-store_tests refused_memory::empty_database
-store_tests refused_memory::tables_of_version_1
-store_tests refused_memory::tables_without_the_index
-store_tests refused_memory::tables_of_version_2
-store_tests refused_memory::new_file
-store_tests refused_memory::file_of_version_1
-store_tests refused_memory::file_without_the_index
-store_tests refused_memory::file_of_version_2
-desk_tests refused_memory::orders
-desk_tests refused_memory::ask_in_v1
-desk_tests refused_memory::ask_in_v2
-desk_tests refused_memory::ask_in_json
-desk_tests refused_memory::run_in_v1
-desk_tests refused_memory::run_in_v2
-desk_tests refused_memory::run_in_json
-exchange_tests refused_memory::exchange_in_v1
-exchange_tests refused_memory::exchange_in_v2
-exchange_tests refused_memory::exchange_in_json
-exchange_tests refused_memory::run_in_v2
-exchange_tests refused_memory::run_in_json
-exchange_tests refused_memory::faults_of_bytes
-face_tests bodies::refused_memory
-face_tests counted::refused_memory
+pass_json_tests refused_memory::known_pass
+pass_json_tests refused_memory::known_pass_without_its_caveat
+pass_json_tests refused_memory::example
+club_store_tests refused_memory::store_in_memory
+club_store_tests refused_memory::empty_database
+club_store_tests refused_memory::tables_of_version_1
+club_store_tests refused_memory::tables_without_the_index
+club_store_tests refused_memory::tables_of_version_2
+club_store_tests refused_memory::new_file
+club_store_tests refused_memory::file_of_version_1
+club_store_tests refused_memory::file_without_the_index
+club_store_tests refused_memory::file_of_version_2
+club_gate_tests refused_memory::orders
+club_gate_tests refused_memory::ask_in_v1
+club_gate_tests refused_memory::ask_in_v2
+club_gate_tests refused_memory::ask_in_json
+club_gate_tests refused_memory::run_in_v1
+club_gate_tests refused_memory::run_in_v2
+club_gate_tests refused_memory::run_in_json
+clubdesk_tests refused_memory::exchange_in_v1
+clubdesk_tests refused_memory::exchange_in_v2
+clubdesk_tests refused_memory::exchange_in_json
+clubdesk_tests refused_memory::run_in_v2
+clubdesk_tests refused_memory::run_in_json
+clubdesk_tests refused_memory::faults_of_bytes
+club_http_tests bodies::refused_memory
+club_http_tests counted::refused_memory
 '
 
 fail() {
