@@ -72,7 +72,7 @@ fn ask<S: ClubStore>(desk: &mut Desk<S>, passes: &[String], wish: Wish, count: u
 }
 
 fn ask_once<S: ClubStore>(desk: &mut Desk<S>, pass: &[u8], wish: Wish, index: u16) -> Result<()> {
-    let (moment, request) = known(asked(wish, index), "a request")?;
+    let (moment, request) = known(request_at(wish, index), "a request")?;
     match desk.ask(moment, &Words { pass, request }) {
         Reply::Refused(refusal) => Err(anyhow!("a request is refused: {refusal:?}")),
         _ => Ok(()),
@@ -80,7 +80,7 @@ fn ask_once<S: ClubStore>(desk: &mut Desk<S>, pass: &[u8], wish: Wish, index: u1
 }
 
 // What is asked for with an index, and when.
-fn asked(wish: Wish, index: u16) -> Option<(Moment, Request)> {
+fn request_at(wish: Wish, index: u16) -> Option<(Moment, Request)> {
     let (slot, moment) = slot_and_moment(index)?;
     match wish {
         Wish::Booking => Some((moment, booking(slot, index)?)),

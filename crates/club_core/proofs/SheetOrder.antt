@@ -39,7 +39,7 @@ precedes_once a b =
 pub one_list : (club : Club) (day : ℕ) (rows others : List Booking) → AreRowsOf club day rows → AreRowsOf club day others → rows ≡ others
 one_list club day rows others a b =
     let there = IsPermutation-trans rows (filter (is_on day) club.bookings) others (IsPermutation-sym _ rows a.same) b.same in
-    one_order Precedes precedes_once rows others a.sorted b.sorted
+    one_order Precedes precedes_once rows others a.order b.order
     (λ z. Contains-permutation rows others z there)
     (λ z. Contains-permutation others rows z (IsPermutation-sym rows others there))
 
@@ -109,4 +109,4 @@ day_rows club sound day =
     let made =
     ordering Precedes Same precedes_transitive precedes_total (filter (is_on day) club.bookings)
     (λ i j d lt h same. named i j d lt h (same.1.1.0, same.1.1.1)) in
-    (made.0, record { same = made.1.same; sorted = made.1.sorted })
+    (made.0, record { same = made.1.same; order = made.1.sorted })

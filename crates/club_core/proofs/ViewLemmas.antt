@@ -102,7 +102,7 @@ own_key club key here b under =
 pub own_bookings : (club : Club) (key : Key) → Contains club.keys key → HasOwnBookings club key
 own_bookings club key here = record {
   spent = ap (sum_by cost_of) (filter_twice (is_under key.name) (λ b. is_key_of key.member club b.key) club.bookings (own_key club key here));
-  booked =
+  booking =
       λ number. find_twice (λ b. is_under key.name b && b.number == number) (λ b. is_key_of key.member club b.key) club.bookings
       (λ b both. own_key club key here b (and_left (is_under key.name b) (b.number == number) both));
 }

@@ -35,7 +35,7 @@ pub record IsAcceptedIn (club : Club) (words : Words) (moment : ℕ) : Type 0 wh
   pub basis : Basis
   pub read : words.pass ≡ Ok pass
   pub known : basis_of club words ≡ Some basis
-  pub accepted : IsAcceptedPass pass words.request moment (view_of basis words.request moment)
+  pub acceptance : IsAcceptedPass pass words.request moment (view_of basis words.request moment)
 
 -- the text is a pass that allows the request: it names a key of the club that isn't revoked, it is signed under a root of that key
 -- that is good at the moment, and each of its caveats allows the request
@@ -43,9 +43,9 @@ pub record IsEntitled (club : Club) (words : Words) (moment : ℕ) : Type 0 wher
   pub pass : Pass
   pub basis : Basis
   pub read : words.pass ≡ Ok pass
-  pub named : pass.key ≡ Some basis.key.name
+  pub key_name : pass.key ≡ Some basis.key.name
   pub row : key_named basis.key.name club ≡ Some basis.key
   pub known : basis_of club words ≡ Some basis
   pub not_revoked : basis.key.revoked ≡ false
   pub signed : IsSignedUnder pass basis.key moment
-  pub allowed : All (IsAllowedBy (ask_of (view_of basis words.request moment) words.request moment)) pass.caveats
+  pub permission : All (IsAllowedBy (ask_of (view_of basis words.request moment) words.request moment)) pass.caveats

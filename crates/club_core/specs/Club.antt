@@ -64,7 +64,7 @@ pub record HasUniqueNames (club : Club) : Type 0 where
 pub record HasReferences (club : Club) : Type 0 where
   pub keys : All (λ (key : Key). Contains (map (λ (m : Member). m.name) club.members) key.member) club.keys
   pub bookings : All (λ (booking : Booking). Contains (map (λ (k : Key). k.name) club.keys) booking.key) club.bookings
-  pub booked : All (λ (booking : Booking). Contains (map (λ (f : Facility). f.name) club.facilities) booking.slot.facility) club.bookings
+  pub facilities : All (λ (booking : Booking). Contains (map (λ (f : Facility). f.name) club.facilities) booking.slot.facility) club.bookings
   pub closed : All (λ (slot : Slot). Contains (map (λ (f : Facility). f.name) club.facilities) slot.facility) club.closed
 
 -- the invariant of every club

@@ -35,7 +35,7 @@ TestsTheSignature = (pass : Pass) (key : Key) (moment : ℕ) →
 -- a member's bookings hold all that its key spent and booked
 pub record HasOwnBookings (club : Club) (key : Key) : Type 0 where
   pub spent : spent_under key.name (bookings_of key.member club) ≡ spent_under key.name club.bookings
-  pub booked : (number : ℕ) → booking_under key.name number (bookings_of key.member club) ≡ booking_under key.name number club.bookings
+  pub booking : (number : ℕ) → booking_under key.name number (bookings_of key.member club) ≡ booking_under key.name number club.bookings
 
 abbrev pub OwnBookings : Type 0
 OwnBookings = (club : Club) (key : Key) → Contains club.keys key → HasOwnBookings club key

@@ -30,7 +30,7 @@ Precedes a b =
 -- the rows of the sheet: the day's bookings, in order
 pub record AreRowsOf (club : Club) (day : ℕ) (rows : List Booking) : Type 0 where
   pub same : IsPermutation (filter (is_on day) club.bookings) rows
-  pub sorted : AllPairs Precedes rows
+  pub order : AllPairs Precedes rows
 
 -- a text padded with spaces to so many places, to the left and to the right
 abbrev pub left_in : ℕ → List ℕ → List ℕ

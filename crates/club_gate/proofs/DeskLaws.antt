@@ -45,7 +45,7 @@ pub reply_or_failure : {S : Type 0} (Represents : S → Club → List Club → T
     → (reply ≡ unavailable) ⊎ (reply ≡ (verdict_in club words moment).reply)
 reply_or_failure Represents new club others words moment reply (inl a) =
     let e = a.reply in let same : reply ≡ (verdict_in club words moment).reply = cc in inr same
-reply_or_failure Represents new club others words moment reply (inr f) = inl (failed_reply reply f.failed)
+reply_or_failure Represents new club others words moment reply (inr f) = inl (failed_reply reply f.failure)
 
 -- what is served is no failure
 not_served : (reply : Reply) → reply ≡ unavailable → IsServed reply → ⊥
@@ -102,13 +102,13 @@ served_text serves reads signed_law finds understood club text request moment by
       pass = plain;
       read = (reads text (Ok found.0) bytes).1 found.1;
       key = entitled.basis.key;
-      named = ((finds plain.identifier entitled.basis.key.name).0 (ap (λ (p : Pass). p.key) found.2 ∙ entitled.named)).1;
+      key_identifier = ((finds plain.identifier entitled.basis.key.name).0 (ap (λ (p : Pass). p.key) found.2 ∙ entitled.key_name)).1;
       row = entitled.row;
       not_revoked = entitled.not_revoked;
       signed = signed_plain signed_law plain entitled.basis.key moment (subst Signed (sym found.2) entitled.signed);
       basis = entitled.basis;
       known = entitled.known;
-      allowed = allowed_texts understood ask plain.caveats (subst Allowing (sym found.2) entitled.allowed);
+      permission = allowed_texts understood ask plain.caveats (subst Allowing (sym found.2) entitled.permission);
     }
 
 -- the decoded pass of a text, by its reading
@@ -160,8 +160,8 @@ opens_no_more serves more reads signed_law finds club text wide request moment b
     let entitled = serves (words_with narrow request) moment club there in
     let e = entitled.read in
     let alike : narrow ≡ entitled.pass = cc in
-    let name = named_by finds n.other_pass.identifier entitled.basis.key.name n.key.name (ap (λ (p : Pass). p.key) alike ∙ entitled.named) (n.identifier
-    ∙ n.named) in
+    let name = named_by finds n.other_pass.identifier entitled.basis.key.name n.key.name (ap (λ (p : Pass). p.key) alike ∙ entitled.key_name) (n.identifier
+    ∙ n.key_identifier) in
     let caveats : narrow.caveats ≡ broad.caveats ++ map caveat_of n.more =
     ap (λ (cs : List (List ℕ)). map caveat_of cs) n.caveats ∙ map-append caveat_of n.pass.caveats n.more
     in

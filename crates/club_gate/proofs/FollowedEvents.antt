@@ -92,7 +92,7 @@ module _ {S : Type 0} (Represents : S → Club → List Club → Type 0) where
       let next = (step f.last event).club in
       record {
         last = next;
-        ran = ran_more club f.last next events responses event one f.ran (inl (record { answered = a.answered; reply = a.reply; steps_club = refl }));
+        ran = ran_more club f.last next events responses event one f.ran (inl (record { success = a.success; reply = a.reply; steps_club = refl }));
         left = others_after (change_of f.last event) f.left;
         represents = a.represents;
         each =
@@ -109,10 +109,10 @@ module _ {S : Type 0} (Represents : S → Club → List Club → Type 0) where
       let more = events_failed (event ∷ []) (one ∷ []) in
       let all = events_failed (events ++ event ∷ []) (responses ++ one ∷ []) in
       let Left : Club → Type 0 = IsLeftBehind club others f.last all in
-      let ran = ran_more club f.last f.last events responses event one f.ran (inr (record { failed = r.failed; kept = refl })) in
+      let ran = ran_more club f.last f.last events responses event one f.ran (inr (record { failure = r.failure; kept = refl })) in
       let each = all_with_more club others f.last refused more all f.left (failed_more events responses event one e) f.each in
       let among : Contains all event =
-      rw (failed_more events responses event one e) (Contains-append_right refused more event (among_failed event one r.failed))
+      rw (failed_more events responses event one e) (Contains-append_right refused more event (among_failed event one r.failure))
       in
       elim r.represents [
         | inl same ↦ record { last = f.last; ran = ran; left = f.left; represents = same; each = each }

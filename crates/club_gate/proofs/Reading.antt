@@ -50,7 +50,7 @@ own_member : (club : Club) (key : Key) (name : List ℕ) → key.member ≡ name
 own_member club key name same own =
     let P : List ℕ → Type 0 = λ m. (spent_under key.name (bookings_of m club) ≡ spent_under key.name club.bookings)
     × ((number : ℕ) → booking_under key.name number (bookings_of m club) ≡ booking_under key.name number club.bookings) in
-    subst P same (own.spent, own.booked)
+    subst P same (own.spent, own.booking)
 
 at_number : (key : List ℕ) (some all : List Booking) → ((number : ℕ) → booking_under key number some ≡ booking_under key number all)
     → (number : Option ℕ)

@@ -72,7 +72,7 @@ module _ {S : Type 0} (Represents : S → Club → List Club → Type 0) (new : 
   order_done command change e represents =
       let P : Result Change OfficeFault → Type 0 = λ v. Represents new (order_outcome club command v).club (others_after (change_by v) others) in
       record {
-        answered = done_is_no_failure command;
+        success = done_is_no_failure command;
         reply = ap (λ (v : Result Change OfficeFault). present_reply desk_presentation (order_outcome club command v).reply) (sym e);
         represents = subst P (sym e) represents;
       }
@@ -82,7 +82,7 @@ module _ {S : Type 0} (Represents : S → Club → List Club → Type 0) (new : 
       → IsRefusedBy Represents new club others (Ordered command) (ToOffice (answer_or_fault result))
   order_failed command change result err e represents =
       let P : Result Change OfficeFault → Type 0 = λ v. Represents new club ((order_outcome club command v).club ∷ others) in
-      record { failed = answer_fails result err; represents = inr (subst P (sym e) represents) }
+      record { failure = answer_fails result err; represents = inr (subst P (sym e) represents) }
 
   pub ask_done : NeverUnavailable → (words : Words) (moment : ℕ) (verdict : Verdict) → verdict ≡ verdict_in club words moment
       → Represents new (after_change verdict.change club) (others_after verdict.change others)
@@ -90,7 +90,7 @@ module _ {S : Type 0} (Represents : S → Club → List Club → Type 0) (new : 
   ask_done never words moment verdict e represents =
       let P : Verdict → Type 0 = λ v. Represents new (after_change v.change club) (others_after v.change others) in
       record {
-        answered = ap (λ (v : Verdict). is_unavailable v.reply) e ∙ other_reply (verdict_in club words moment).reply (never club (Asked words moment));
+        success = ap (λ (v : Verdict). is_unavailable v.reply) e ∙ other_reply (verdict_in club words moment).reply (never club (Asked words moment));
         reply = ap (λ (v : Verdict). ToMember v.reply) e;
         represents = subst P e represents;
       }
@@ -100,4 +100,4 @@ module _ {S : Type 0} (Represents : S → Club → List Club → Type 0) (new : 
       → IsRefusedBy Represents new club others (Asked words moment) (ToMember (reply_or_unavailable result))
   ask_failed words moment verdict result err e represents =
       let P : Verdict → Type 0 = λ v. Represents new club (after_change v.change club ∷ others) in
-      record { failed = ap is_unavailable (reply_fails result err); represents = inr (subst P e represents) }
+      record { failure = ap is_unavailable (reply_fails result err); represents = inr (subst P e represents) }

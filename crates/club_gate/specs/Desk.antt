@@ -36,7 +36,7 @@ others_after (Some change) others = []
 -- An event was answered: its response is the machine's reply, and the store represents the club that follows.
 pub record IsAnsweredBy {S : Type 0} (Represents : S → Club → List Club → Type 0) (new : S) (club : Club) (others : List Club)
     (event : Event) (response : Response OfficeReply) : Type 0 where
-  pub answered : IsFalse (has_failed desk_presentation event response)
+  pub success : IsFalse (has_failed desk_presentation event response)
   pub reply : response ≡ present_reply desk_presentation (step club event).reply
   pub represents : Represents new (step club event).club (others_after (change_of club event) others)
 
@@ -44,7 +44,7 @@ pub record IsAnsweredBy {S : Type 0} (Represents : S → Club → List Club → 
 -- more if the store failed to write the change.
 pub record IsRefusedBy {S : Type 0} (Represents : S → Club → List Club → Type 0) (new : S) (club : Club) (others : List Club)
     (event : Event) (response : Response OfficeReply) : Type 0 where
-  pub failed : IsTrue (has_failed desk_presentation event response)
+  pub failure : IsTrue (has_failed desk_presentation event response)
   pub represents : Represents new club others ⊎ Represents new club ((step club event).club ∷ others)
 
 -- For each club that the store may have represented: the event was answered, or it failed.

@@ -39,13 +39,13 @@ pub record EntitlesTo (club : Club) (text : List ℕ) (request : Request) (momen
   pub pass : Plain
   pub read : IsAnyReading text (Ok (form, pass))
   pub key : Key
-  pub named : pass.identifier ≡ identifier_of key.name
+  pub key_identifier : pass.identifier ≡ identifier_of key.name
   pub row : key_named key.name club ≡ Some key
   pub not_revoked : key.revoked ≡ false
   pub signed : IsSignedFor pass key moment
   pub basis : Basis
   pub known : basis_of club (decoded_words text request) ≡ Some basis
-  pub allowed : Allowed pass.caveats (ask_of (view_of basis request moment) request moment)
+  pub permission : Allowed pass.caveats (ask_of (view_of basis request moment) request moment)
 
 -- Any other club in which the words name the same rows gives the same reply.
 abbrev pub DependsOnTheBasis : Club → List ℕ → Request → ℕ → Reply → Type 0
@@ -77,7 +77,7 @@ pub record IsNarrowedText (club : Club) (wide narrow : List ℕ) (moment : ℕ) 
   pub narrow_read : IsAnyReading narrow (Ok (other_form, other_pass))
   pub identifier : other_pass.identifier ≡ pass.identifier
   pub caveats : other_pass.caveats ≡ pass.caveats ++ more
-  pub named : pass.identifier ≡ identifier_of key.name
+  pub key_identifier : pass.identifier ≡ identifier_of key.name
   pub row : key_named key.name club ≡ Some key
   pub signed : IsSignedFor pass key moment
 

@@ -4,14 +4,14 @@ use Rattle.club_core.specs.declared.reply.Reply.{Reply}
 use Rattle.http_request.specs.Frame.{IsWhole}
 use Rattle.http_request.specs.Laws.{WholeKeepsItsReading, BodyStays}
 use Rattle.club_http.specs.Received.{Receives}
-use Rattle.club_http.specs.Replied.{AnswerRelation, IsReplied, refused, answered, out_of_memory}
+use Rattle.club_http.specs.Replied.{AnswerRelation, IsReplied, parser_refusal, desk_reply, out_of_memory}
 
 replied_more : {Desk : Type 0} (Answers : AnswerRelation Desk) (bytes more : List ℕ) (old : Desk) (reply : Reply) (new : Desk)
     → WholeKeepsItsReading → BodyStays → IsWhole bytes
     → IsReplied Answers bytes old reply new → IsReplied Answers (bytes ++ more) old reply new
-replied_more Answers bytes more old reply new keeps stays whole (refused refusal reading is same) =
-    refused refusal (keeps bytes more (Err refusal) whole reading) is same
-replied_more Answers bytes more old reply new keeps stays whole (answered decoded reading is) = answered decoded
+replied_more Answers bytes more old reply new keeps stays whole (parser_refusal refusal reading is same) =
+    parser_refusal refusal (keeps bytes more (Err refusal) whole reading) is same
+replied_more Answers bytes more old reply new keeps stays whole (desk_reply decoded reading is) = desk_reply decoded
     (keeps bytes more (Ok decoded) whole reading) is
 replied_more Answers bytes more old reply new keeps stays whole (out_of_memory held is same) = out_of_memory (stays bytes more held) is same
 

@@ -18,7 +18,7 @@ pub record EndsWithNone {Reader : Type 0} (Fills : Call Reader) (old : Reader) (
   pub mid : Reader
   pub room : List ℕ
   pub gave : Gives Fills old bytes mid
-  pub wanted : ¬ (IsWhole bytes)
+  pub not_whole : ¬ (IsWhole bytes)
   pub none : Fills mid (Some 0) room new ⊎ Fills mid None room new
 
 -- at most 16,640 bytes were read; no call was made once the request was whole, nor after one that gave none

@@ -19,7 +19,7 @@ use Rattle.club_gate.specs.Served.{RefusesByFormFault, OpensNoMore}
 -- more
 pub record IsLawful (club : Club) (text : List ℕ) (request : Request) (moment : ℕ)
     (reply : Reply) : Type 0 where
-  pub served : IsServed reply → EntitlesTo club text request moment
+  pub entitles : IsServed reply → EntitlesTo club text request moment
   pub depends : DependsOnTheBasis club text request moment reply
   pub blind : IsBlind club text request reply
   pub forms : AnswersItsForms club text request moment reply
@@ -35,5 +35,5 @@ pub record AnswersBy {S : Type 0} (IsClean : S → Type 0)
   pub lawful : IsClean new → (club : Club) (others : List Club) → Represents old club others
       → IsLawful club text request moment reply
   -- a text that isn't a pass is refused without a call of the store, and without memory unless it is JSON
-  pub untouched : (fault : FormFault) → IsAnyReading text (Err fault) → new ≡ old
+  pub no_change : (fault : FormFault) → IsAnyReading text (Err fault) → new ≡ old
   pub in_place : RefusesByFormFault text reply

@@ -11,8 +11,8 @@ use Rattle.http_response.specs.Text.{reply_text}
 -- the desk replied to the bytes that were received
 pub record Replies {Desk : Type 0} (Answers : AnswerRelation Desk) (before after : Option (List ℕ))
     (bytes : List ℕ) (old : Desk) (reply : Reply) (new : Desk) : Type 0 where
-  pub received : Receives before after bytes
-  pub replied : IsReplied Answers bytes old reply new
+  pub receives : Receives before after bytes
+  pub reply_is : IsReplied Answers bytes old reply new
   -- it is also the reply to all that the reader would give until its end
   pub to_all : IfSome before (λ all. IsReplied Answers all old reply new)
 

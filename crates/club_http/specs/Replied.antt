@@ -15,10 +15,10 @@ AnswerRelation Desk = List ℕ → Request → Desk → Reply → Desk → Type 
 -- desk's reply, or `Unavailable` if parsing the body ran out of memory
 pub data IsReplied {Desk : Type 0} (Answers : AnswerRelation Desk) (bytes : List ℕ) (old : Desk)
     (reply : Reply) (new : Desk) : Type 0 where
-  refused : (refusal : Refusal) → IsRequestReading bytes (Err refusal)
+  parser_refusal : (refusal : Refusal) → IsRequestReading bytes (Err refusal)
       → reply ≡ Refused refusal → new ≡ old
       → IsReplied Answers bytes old reply new
-  answered : (decoded : DecodedRequest) → IsRequestReading bytes (Ok decoded)
+  desk_reply : (decoded : DecodedRequest) → IsRequestReading bytes (Ok decoded)
       → Answers decoded.pass decoded.request old reply new
       → IsReplied Answers bytes old reply new
   out_of_memory : HoldsBody bytes

@@ -13,6 +13,6 @@ pub exchanged : {Desk : Type 0} (Answers : AnswerRelation Desk) (before after : 
     (Writes : List ℕ → Type 0) (outcome : Result Reply AnswerFault)
     → Exchanges (λ reply. Replies Answers before after bytes old reply new) (Cut × (new ≡ old) × Silent) Writes outcome
     → IsExchanged Answers bytes old outcome new
-exchanged Answers before after bytes old new Cut Silent Writes (Ok reply) (decides, written) = (decides.replied, tt)
+exchanged Answers before after bytes old new Cut Silent Writes (Ok reply) (decides, written) = (decides.reply_is, tt)
 exchanged Answers before after bytes old new Cut Silent Writes (Err Read) (cut, same, silent) = same
-exchanged Answers before after bytes old new Cut Silent Writes (Err (Write n)) (reply, decides, fewer, written) = (reply, decides.replied, fewer, tt)
+exchanged Answers before after bytes old new Cut Silent Writes (Err (Write n)) (reply, decides, fewer, written) = (reply, decides.reply_is, fewer, tt)

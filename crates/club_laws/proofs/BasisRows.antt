@@ -16,13 +16,13 @@ basis_with club request key member =
 
 -- the key that the words name, and its member
 pub record Knows (club : Club) (words : Words) (key : Key) (member : Member) : Type 0 where
-  pub named : key_of words.pass ≡ Some key.name
+  pub key_name : key_of words.pass ≡ Some key.name
   pub known : key_named key.name club ≡ Some key
   pub owned : member_named key.member club ≡ Some member
 
 -- the rows that a basis rests on
 pub record RestsOn (club : Club) (request : Request) (name : Option (List ℕ)) (basis : Basis) : Type 0 where
-  pub named : name ≡ Some basis.key.name
+  pub key_name : name ≡ Some basis.key.name
   pub row : key_named basis.key.name club ≡ Some basis.key
   pub member : member_named basis.key.member club ≡ Some basis.member
   pub whole : basis ≡ basis_with club request basis.key basis.member
@@ -45,7 +45,7 @@ with_key club request name (Some key) basis f e =
     let same : key.name ≡ name = bytes_same key.name name (found_passes (λ (k : Key). bytes_eq k.name name) club.keys key f) in
     let at : name ≡ basis.key.name = sym same ∙ ap (λ (k : Key). k.name) parts.0 in
     record {
-      named = ap Some at;
+      key_name = ap Some at;
       row = subst (λ (n : List ℕ). key_named n club ≡ Some basis.key) at (f ∙ ap Some parts.0);
       member = subst (λ (k : Key). member_named k.member club ≡ Some basis.member) parts.0 parts.1;
       whole = parts.2;
@@ -62,4 +62,4 @@ rests_on_name club words basis e = with_name club words.request (key_of words.pa
 pub known_rows : (club : Club) (words : Words) (basis : Basis) → basis_of club words ≡ Some basis → Knows club words basis.key basis.member
 known_rows club words basis e =
     let rests = rests_on_name club words basis e in
-    record { named = rests.named; known = rests.row; owned = rests.member }
+    record { key_name = rests.key_name; known = rests.row; owned = rests.member }

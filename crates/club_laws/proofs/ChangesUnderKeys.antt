@@ -25,15 +25,15 @@ changes_under club words moment key n =
     answer_cases (λ (v : Verdict). IsUnder key v.change) club words moment (record {
       silent = λ reply h. tt;
       repeats_booking = λ row member slot number guests booking k e b. tt;
-      books = λ row member slot number guests facility k e b. same_Some row.name key (sym k.named ∙ n);
+      books = λ row member slot number guests facility k e b. same_Some row.name key (sym k.key_name ∙ n);
       cancels_recorded = λ row member slot number booking k e b. tt;
       cancels = λ row member slot number booking k e c.
           (numbered row.name number booking (found_passes (is_numbered row.name number) club.bookings booking c.found)).0
-          ∙ same_Some row.name key (sym k.named ∙ n);
+          ∙ same_Some row.name key (sym k.key_name ∙ n);
     })
 
 pub answer_changes_under : (club : Club) (words : Words) (moment : ℕ) (basis : Basis) → basis_of club words ≡ Some basis
     → IsUnder basis.key.name (answer_by_basis words moment (Some basis)).change
 answer_changes_under club words moment basis e =
     subst (λ (b : Option Basis). IsUnder basis.key.name (answer_by_basis words moment b).change) e
-    (changes_under club words moment basis.key.name (known_rows club words basis e).named)
+    (changes_under club words moment basis.key.name (known_rows club words basis e).key_name)

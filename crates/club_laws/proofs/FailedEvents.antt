@@ -38,9 +38,9 @@ module _ {O : Type 0} (presentation : Presentation O) where
       → IsLeft next last events replies → IsLeft club last (cond (has_failed presentation event returned) events (event ∷ events))
       (cond (has_failed presentation event returned) replies (returned ∷ replies))
   one_left club next last event returned events replies (inl a) h =
-      one_answered club next last event returned events replies (has_failed presentation event returned) a.answered a.reply a.steps_club h
+      one_answered club next last event returned events replies (has_failed presentation event returned) a.success a.reply a.steps_club h
   one_left club next last event returned events replies (inr f) h =
-      one_failed club next last event returned events replies (has_failed presentation event returned) f.failed f.kept h
+      one_failed club next last event returned events replies (has_failed presentation event returned) f.failure f.kept h
 
   all_left : (club last : Club) (events : List Event) (replies : List (Response O)) → IsRun presentation club events replies last
       → IsLeft club last (answered_events presentation events replies) (answers presentation events replies)
@@ -56,7 +56,7 @@ module _ {O : Type 0} (presentation : Presentation O) where
       → IsRunOfAnswered presentation club events replies last
   run_of_answered club last events replies h =
       let left = all_left club last events replies h in
-      record { returned = left.0; left = left.1 }
+      record { responses = left.0; left = left.1 }
 
   one_fewer : (event : Event) (events : List Event) (failed : Bool) → IsEvent event → All IsEvent events → All IsEvent (cond failed events (event ∷ events))
   one_fewer event events true h k = k
@@ -103,6 +103,6 @@ module _ {O : Type 0} (presentation : Presentation O) where
   run_without_failures club (event ∷ events) faultless =
       let outcome = step club event in (
         outcome.club,
-        inl (record { answered = not_failed faultless club event; reply = refl; steps_club = refl }),
+        inl (record { success = not_failed faultless club event; reply = refl; steps_club = refl }),
         run_without_failures outcome.club events faultless,
       )

@@ -72,7 +72,7 @@ module _ {O : Type 0} (presentation : Presentation O) where
       let same : ToMember reply ≡ ToMember verdict.reply = a.reply in
       let same_reply : verdict.reply ≡ reply = cc in
       ap Replied same_reply
-  served_by_machine club next words moment reply e (inr f) = absurd (both_ways (is_unavailable reply) e f.failed)
+  served_by_machine club next words moment reply e (inr f) = absurd (both_ways (is_unavailable reply) e f.failure)
 
   -- a request with a serving reply was served in the machine's run of the answered events
   served_in_machine_run : (club now : Club) (history : List Event) (before : List (Response O)) (words : Words) (reply : Reply)
@@ -81,9 +81,9 @@ module _ {O : Type 0} (presentation : Presentation O) where
   served_in_machine_run club now history before words reply run w =
       let first = Asked w.first w.moment in
       let after_first = answered_events presentation w.rest w.since in
-      let counts = not_unavailable reply w.served in
+      let counts = not_unavailable reply w.success in
       let whole : IsRun presentation club (w.front ++ first ∷ w.rest) (w.before ++ ToMember reply ∷ w.since) now =
-      subst (λ (replies : List (Response O)). IsRun presentation club (w.front ++ first ∷ w.rest) replies now) w.returned
+      subst (λ (replies : List (Response O)). IsRun presentation club (w.front ++ first ∷ w.rest) replies now) w.reply_place
       (subst (λ (events : List Event). IsRun presentation club events before now) w.place run)
       in
       let parts = cut presentation club now w.front (first ∷ w.rest) w.before (ToMember reply ∷ w.since) w.beside whole in
@@ -95,13 +95,13 @@ module _ {O : Type 0} (presentation : Presentation O) where
         rest = after_first;
         place =
             ap (λ (events : List Event). answered_events presentation events before) w.place
-            ∙ (ap (answered_events presentation (w.front ++ first ∷ w.rest)) w.returned
+            ∙ (ap (answered_events presentation (w.front ++ first ∷ w.rest)) w.reply_place
             ∙ (answered-append w.front (first ∷ w.rest) w.before (ToMember reply ∷ w.since) w.beside
             ∙ ap (λ (failed : Bool). answered_events presentation w.front w.before ++ cond failed after_first (first ∷ after_first)) counts));
-        returned =
+        reply_is =
             subst (λ (c : Club). (step c first).reply ≡ Replied reply) left
             (served_by_machine parts.now parts.second.0 w.first w.moment reply counts parts.second.1);
-        served = w.served;
+        success = w.success;
         same_key = w.same_key;
         same_request = w.same_request;
       }
@@ -112,7 +112,7 @@ module _ {O : Type 0} (presentation : Presentation O) where
   repeat_of_step club next words moment returned reply again (inl a) =
       (λ _. a.reply ∙ ap (λ (o : Outcome). present_reply presentation o.reply) again, a.steps_club ∙ ap (λ (o : Outcome). o.club) again)
   repeat_of_step club next words moment returned reply again (inr f) =
-      (λ e. absurd (both_ways (has_failed presentation (Asked words moment) returned) e f.failed), f.kept)
+      (λ e. absurd (both_ways (has_failed presentation (Asked words moment) returned) e f.failure), f.kept)
 
   pub repeat_with_failures : (club last : Club) (history rest : List Event) (before since : List (Response O)) (words : Words) (moment : ℕ)
       (returned : Response O)
@@ -144,8 +144,8 @@ module _ {O : Type 0} (presentation : Presentation O) where
     moment = w.moment;
     rest = w.rest ++ event ∷ [];
     place = ap (λ (events : List Event). events ++ event ∷ []) w.place ∙ append_assoc w.front (Asked w.first w.moment ∷ w.rest) (event ∷ []);
-    returned = w.returned;
-    served = w.served;
+    reply_is = w.reply_is;
+    success = w.success;
     same_key = w.same_key;
     same_request = w.same_request;
   }

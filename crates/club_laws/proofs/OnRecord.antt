@@ -101,7 +101,7 @@ stays_on_record club events key request reply =
 -- what was served is on record, under the key that the words name
 pub record IsRecorded (bookings : List Booking) (words : Words) (reply : Reply) : Type 0 where
   pub key : List ℕ
-  pub named : key_of words.pass ≡ Some key
+  pub key_name : key_of words.pass ≡ Some key
   pub on_record : OnRecord bookings key words.request reply
 
 served_or_silent : {A : Type 0} (reply : Reply) → IsSilent reply → IsBookedOrCancelled reply → A
@@ -115,12 +115,12 @@ module _ (club : Club) (words : Words) (moment : ℕ) where
   as_booked : (key : List ℕ) (slot : Slot) (number guests : ℕ) (bookings : List Booking) (reply : Reply) → key_of words.pass ≡ Some key
       → words.request ≡ asked.Book slot number guests → HasBooked bookings key slot number guests reply → IsRecorded bookings words reply
   as_booked key slot number guests bookings reply n e h =
-      record { key = key; named = n; on_record = subst (λ (r : Request). OnRecord bookings key r reply) (sym e) h }
+      record { key = key; key_name = n; on_record = subst (λ (r : Request). OnRecord bookings key r reply) (sym e) h }
 
   as_cancelled : (key : List ℕ) (slot : Slot) (number : ℕ) (bookings : List Booking) (reply : Reply) → key_of words.pass ≡ Some key
       → words.request ≡ asked.Cancel slot number → HasCancelled bookings key slot number reply → IsRecorded bookings words reply
   as_cancelled key slot number bookings reply n e h =
-      record { key = key; named = n; on_record = subst (λ (r : Request). OnRecord bookings key r reply) (sym e) h }
+      record { key = key; key_name = n; on_record = subst (λ (r : Request). OnRecord bookings key r reply) (sym e) h }
 
   new_on_record : (key : Key) (slot : Slot) (number guests charge left : ℕ) → (new : Booking)
       → new ≡ record { key = key.name; number = number; slot = slot; guests = guests; charge = charge; left = left; cancelled = false; refund = 0 }
@@ -155,7 +155,7 @@ module _ (club : Club) (words : Words) (moment : ℕ) where
       answer_cases (λ (v : Verdict). IsBookedOrCancelled v.reply → IsRecorded (after_change v.change club).bookings words v.reply) club words moment (record {
         silent = λ reply h k. served_or_silent reply h k;
         repeats_booking = λ key member slot number guests booking k e b s.
-            as_booked key.name slot number guests club.bookings (Booked booking.key booking.number booking.charge booking.left) k.named e (record {
+            as_booked key.name slot number guests club.bookings (Booked booking.key booking.number booking.charge booking.left) k.key_name e (record {
               booking =
                   booking;
               found = b.found;
@@ -164,10 +164,10 @@ module _ (club : Club) (words : Words) (moment : ℕ) where
             });
         books = λ key member slot number guests facility k e b s.
             let new : Booking = written club key slot number guests facility in
-            as_booked key.name slot number guests (club.bookings ++ new ∷ []) (Booked new.key new.number new.charge new.left) k.named e
+            as_booked key.name slot number guests (club.bookings ++ new ∷ []) (Booked new.key new.number new.charge new.left) k.key_name e
             (new_on_record key slot number guests new.charge new.left new refl b.new);
         cancels_recorded = λ key member slot number booking k e b s.
-            as_cancelled key.name slot number club.bookings (Cancelled booking.key booking.number booking.refund) k.named e (record {
+            as_cancelled key.name slot number club.bookings (Cancelled booking.key booking.number booking.refund) k.key_name e (record {
               booking = booking;
               found =
                   b.found;
@@ -177,6 +177,6 @@ module _ (club : Club) (words : Words) (moment : ℕ) where
             });
         cancels = λ key member slot number booking k e c s.
             as_cancelled key.name slot number (map (cancelled_booking booking.key booking.number (refund_at booking moment)) club.bookings)
-            (Cancelled booking.key booking.number (refund_at booking moment)) k.named e
+            (Cancelled booking.key booking.number (refund_at booking moment)) k.key_name e
             (now_cancelled key slot number booking (refund_at booking moment) c);
       })

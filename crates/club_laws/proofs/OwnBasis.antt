@@ -68,7 +68,7 @@ rests_in_part club request name basis rests =
     let member_in : member_named basis.key.member part ≡ Some basis.member =
     find_filtered (is_named basis.key.member) (is_named own) club.members basis.member rests.member (same_bytes_of own own refl)
     in
-    ap (λ (n : Option (List ℕ)). option_and_then (basis_under part request) (option_and_then (λ (m : List ℕ). key_named m part) n)) rests.named
+    ap (λ (n : Option (List ℕ)). option_and_then (basis_under part request) (option_and_then (λ (m : List ℕ). key_named m part) n)) rests.key_name
     ∙ (ap (λ (key : Option Key). option_and_then (basis_under part request) key) key_in
     ∙ ap (λ (member : Option Member). option_map (basis_with part request basis.key) member) member_in)
 

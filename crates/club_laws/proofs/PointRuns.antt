@@ -123,7 +123,7 @@ sound_empty = record {
   references = record {
     keys = λ k d h. absurd (omega arith);
     bookings = λ k d h. absurd (omega arith);
-    booked = λ k d h. absurd (omega arith);
+    facilities = λ k d h. absurd (omega arith);
     closed =
         λ k d h. absurd (omega arith);
   };
@@ -156,7 +156,7 @@ conserved events name member h e =
     ap (λ (bookings : List Booking). sum_by cost_of bookings) own in
     let covered : sum_by cost_of (bookings_of member.name club) ≤ member.credited =
     at_found (λ (m : Member). sum_by cost_of (bookings_of m.name club) ≤ m.credited) (λ (m : Member). bytes_eq m.name name) club.members member s.balances e in
-    record { balance_adds_up = omega arith; covered = covered }
+    record { balance_adds_up = omega arith; coverage = covered }
 
 -- who booked a slot of a sound club has a place in it
 pub has_places : (club : Club) (slot : Slot) → IsSound club → MatchOption (facility_named slot.facility club) (taken_in slot club.bookings

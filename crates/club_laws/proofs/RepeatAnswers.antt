@@ -38,7 +38,7 @@ pub seen_booking : (club : Club) (words : Words) (moment : ℕ) (basis : Basis) 
     → (view_of basis words.request moment).booking ≡ option_and_then (λ (number : ℕ). booking_under key number club.bookings) (request_number words.request)
 seen_booking club words moment basis key is named =
     let rests = rests_on_name club words basis is in
-    let same : basis.key.name ≡ key = let e : Some basis.key.name ≡ Some key = sym rests.named ∙ named in cc in
+    let same : basis.key.name ≡ key = let e : Some basis.key.name ≡ Some key = sym rests.key_name ∙ named in cc in
     same_lookups (λ (number : ℕ). booking_under basis.key.name number basis.bookings) (λ (number : ℕ). booking_under key number club.bookings)
     (λ number.
     ap (λ (b : Basis). booking_under basis.key.name number b.bookings) rests.whole
@@ -83,7 +83,7 @@ accepted_answer club words moment a =
     let seen : Option Basis → Option View = λ basis. option_map (λ (b : Basis). view_of b words.request moment) basis in
     ap (λ (pass : Result Pass FormFault). answer_to pass words.request moment (seen (basis_of club words))) a.read
     ∙ (ap (λ (basis : Option Basis). answer_to (Ok a.pass) words.request moment (seen basis)) a.known
-    ∙ accepted_under a.pass words.request moment (view_of a.basis words.request moment) a.accepted)
+    ∙ accepted_under a.pass words.request moment (view_of a.basis words.request moment) a.acceptance)
 
 step_by_record : (club : Club) (words : Words) (moment : ℕ) (reply : Reply) → IsRecorded club.bookings words reply → IsAcceptedIn club words moment
     → step club (Asked words moment) ≡ record { reply = Replied reply; club = club }
@@ -91,7 +91,7 @@ step_by_record club words moment reply r a =
     ap (verdict_outcome club)
     (accepted_answer club words moment a
     ∙ decides_by_record club.bookings r.key words.request reply (view_of a.basis words.request moment) moment r.on_record
-    (seen_booking club words moment a.basis r.key a.known r.named))
+    (seen_booking club words moment a.basis r.key a.known r.key_name))
 
 -- what was served within a history is on record after it
 pub recorded_since : (club : Club) (history : List Event) (words : Words) (reply : Reply) → WasServed club history words reply
@@ -100,15 +100,15 @@ recorded_since club history words reply w =
     let start = club_after club w.front in
     let then = (step start (Asked w.first w.moment)).club in
     let verdict = verdict_in start w.first w.moment in
-    let returned : verdict.reply ≡ reply = let e : Replied verdict.reply ≡ Replied reply = w.returned in cc in
+    let returned : verdict.reply ≡ reply = let e : Replied verdict.reply ≡ Replied reply = w.reply_is in cc in
     let first : IsRecorded then.bookings w.first verdict.reply = recorded_when_served start w.first w.moment
-    (subst IsBookedOrCancelled (sym returned) w.served) in
+    (subst IsBookedOrCancelled (sym returned) w.success) in
     let later = stays_on_record then w.rest first.key w.first.request verdict.reply first.on_record in
     let end : club_after club history ≡ club_after then w.rest = ap (club_after club) w.place
     ∙ club_after-append club w.front (Asked w.first w.moment ∷ w.rest) in
     record {
       key = first.key;
-      named = w.same_key ∙ first.named;
+      key_name = w.same_key ∙ first.key_name;
       on_record =
           subst (λ (c : Club). OnRecord c.bookings first.key words.request reply) (sym end)
           (subst (λ (r : Request). OnRecord (club_after then w.rest).bookings first.key r reply) (sym w.same_request)
@@ -126,7 +126,7 @@ left_out club history words moment reply rest w a =
     let end = club_after club history in
     let again = step_of_repeat club history words moment reply w a in
     record {
-      returned =
+      replies =
           replies_of-append club history (Asked words moment ∷ rest)
           ∙ ap (λ (outcome : Outcome). replies_of club history ++ outcome.reply ∷ replies_of outcome.club rest) again;
       others = replies_of-append club history rest;

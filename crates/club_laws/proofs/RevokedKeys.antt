@@ -69,7 +69,7 @@ revoked_since club history name was =
     let end : club_after club history ≡ club_after then was.rest =
     ap (club_after club) was.place ∙ club_after-append club was.front (Ordered (RevokeKey name) ∷ was.rest)
     in
-    subst (IsRevoked name) (sym end) (kept_by_run (IsRevoked name) (stays_revoked name) then was.rest (now_revoked start name was.returned))
+    subst (IsRevoked name) (sym end) (kept_by_run (IsRevoked name) (stays_revoked name) then was.rest (now_revoked start name was.reply_is))
 
 -- a served request has a key that isn't revoked
 pub serves_nothing : TestsTheSet → TestsTheSignature → (club : Club) (history : List Event) (name : List ℕ) (words : Words) (moment : ℕ)
@@ -77,7 +77,7 @@ pub serves_nothing : TestsTheSet → TestsTheSignature → (club : Club) (histor
 serves_nothing set signature club history name words moment was named served =
     let end = club_after club history in
     let entitled = served_entitled set signature words moment end words.pass (basis_of end words) refl refl served in
-    let same : name ≡ entitled.basis.key.name = same_Some name entitled.basis.key.name (sym named ∙ (ap key_of entitled.read ∙ entitled.named)) in
+    let same : name ≡ entitled.basis.key.name = same_Some name entitled.basis.key.name (sym named ∙ (ap key_of entitled.read ∙ entitled.key_name)) in
     let since = subst (λ (n : List ℕ). IsRevoked n end) same (revoked_since club history name was) in
     let found : since.key ≡ entitled.basis.key = same_Some since.key entitled.basis.key (sym since.row ∙ entitled.row) in
     both_ways entitled.basis.key.revoked entitled.not_revoked (ap (λ (k : Key). k.revoked) (sym found) ∙ since.revoked)

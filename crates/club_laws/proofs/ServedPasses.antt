@@ -94,12 +94,12 @@ served_entitled set signature words moment club (Ok pass) (Some basis) e f h =
       pass = pass;
       basis = basis;
       read = e;
-      named = ap key_of (sym e) ∙ rests.named;
+      key_name = ap key_of (sym e) ∙ rests.key_name;
       row = rests.row;
       known = f;
       not_revoked = accepted.not_revoked;
       signed = (signature pass basis.key moment).0 accepted.signed;
-      allowed = all_allowed set 1 pass.caveats (ask_of (view_of basis words.request moment) words.request moment) accepted.faultless;
+      permission = all_allowed set 1 pass.caveats (ask_of (view_of basis words.request moment) words.request moment) accepted.faultless;
     }
 
 -- without a basis
@@ -125,7 +125,7 @@ seen_key : (club : Club) (words : Words) (moment : ℕ) (key : Key) → key_of w
 seen_key club words moment key n row None e view is = absurd (cc)
 seen_key club words moment key n row (Some basis) e view is =
     let rests = rests_on_name club words basis e in
-    let named : key.name ≡ basis.key.name = same_Some key.name basis.key.name (sym n ∙ rests.named) in
+    let named : key.name ≡ basis.key.name = same_Some key.name basis.key.name (sym n ∙ rests.key_name) in
     let found : Some key ≡ Some basis.key = sym row ∙ (ap (λ (name : List ℕ). key_named name club) named ∙ rests.row) in
     same_Some key basis.key found ∙ ap (λ (v : View). v.key) (same_Some (view_of basis words.request moment) view is)
 

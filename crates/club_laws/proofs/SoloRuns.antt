@@ -54,7 +54,7 @@ pub solo_with_failures : {O : Type 0} (presentation : Presentation O) (name : Li
     ≡ map ToMember (solo_replies (part_of name club) (own_events name club (answered_events presentation events replies)))
 solo_with_failures {O} presentation name club last events replies keyed run =
     let answered = answered_events presentation events replies in
-    ap (λ (returned : List (Response O)). replies_to name club answered returned) (run_of_answered presentation club last events replies run).returned
+    ap (λ (returned : List (Response O)). replies_to name club answered returned) (run_of_answered presentation club last events replies run).responses
     ∙ (replies_mapped (present_reply presentation) name club answered (replies_of club answered)
     ∙ (ap (λ (returned : List EventReply). map (present_reply presentation) returned) (solo name club answered keyed)
     ∙ map-map (present_reply presentation) Replied (solo_replies (part_of name club) (own_events name club answered))))

@@ -41,11 +41,11 @@ sound_booking club booking s f =
     let names = all_pairs_push (λ (a : Booking) (b : Booking). ¬ ((a.key ≡ b.key) × (a.number ≡ b.number))) club.bookings booking s.unique.bookings f.fresh in
     let known = All-push (λ (b : Booking). Contains (map (λ (k : Key). k.name) club.keys) b.key) club.bookings booking s.references.bookings f.known in
     let located = All-push (λ (b : Booking). Contains (map (λ (g : Facility). g.name) club.facilities) b.slot.facility) club.bookings booking
-    s.references.booked f.located in
+    s.references.facilities f.located in
     record {
       rows = record { members = s.rows.members; facilities = s.rows.facilities; keys = s.rows.keys; bookings = limits; closed = s.rows.closed };
       unique = record { members = s.unique.members; facilities = s.unique.facilities; keys = s.unique.keys; bookings = names; closed = s.unique.closed };
-      references = record { keys = s.references.keys; bookings = known; booked = located; closed = s.references.closed };
+      references = record { keys = s.references.keys; bookings = known; facilities = located; closed = s.references.closed };
       balances = λ k d short.
           let member = get_or club.members k d in
           let own : Booking → Bool = λ (b : Booking). is_key_of member.name club b.key in
@@ -116,11 +116,11 @@ sound_cancellation club key number refund s f =
     let known = All-map (λ (b : Booking). Contains (map (λ (k : Key). k.name) club.keys) b.key) (cancelled_booking key number refund) club.bookings
     s.references.bookings in
     let located = All-map (λ (b : Booking). Contains (map (λ (g : Facility). g.name) club.facilities) b.slot.facility) (cancelled_booking key number refund)
-    club.bookings s.references.booked in
+    club.bookings s.references.facilities in
     record {
       rows = record { members = s.rows.members; facilities = s.rows.facilities; keys = s.rows.keys; bookings = limits; closed = s.rows.closed };
       unique = record { members = s.unique.members; facilities = s.unique.facilities; keys = s.unique.keys; bookings = names; closed = s.unique.closed };
-      references = record { keys = s.references.keys; bookings = known; booked = located; closed = s.references.closed };
+      references = record { keys = s.references.keys; bookings = known; facilities = located; closed = s.references.closed };
       balances = λ k d short. balance (get_or club.members k d) (s.balances k d short);
       places = λ k d short slot at. place (get_or club.facilities k d) slot (s.places k d short slot at);
     }

@@ -52,7 +52,7 @@ sound_member club member s f =
     record {
       rows = record { members = limits; facilities = s.rows.facilities; keys = s.rows.keys; bookings = s.rows.bookings; closed = s.rows.closed };
       unique = record { members = names; facilities = s.unique.facilities; keys = s.unique.keys; bookings = s.unique.bookings; closed = s.unique.closed };
-      references = record { keys = known; bookings = s.references.bookings; booked = s.references.booked; closed = s.references.closed };
+      references = record { keys = known; bookings = s.references.bookings; facilities = s.references.facilities; closed = s.references.closed };
       balances = All-push (λ (m : Member). sum_by cost_of (bookings_of m.name club) ≤ m.credited) club.members member s.balances
           (nothing_booked club member s.references f.fresh);
       places = s.places;
@@ -83,7 +83,7 @@ sound_credit club name points s f =
     record {
       rows = record { members = limits; facilities = s.rows.facilities; keys = s.rows.keys; bookings = s.rows.bookings; closed = s.rows.closed };
       unique = record { members = names; facilities = s.unique.facilities; keys = s.unique.keys; bookings = s.unique.bookings; closed = s.unique.closed };
-      references = record { keys = known; bookings = s.references.bookings; booked = s.references.booked; closed = s.references.closed };
+      references = record { keys = known; bookings = s.references.bookings; facilities = s.references.facilities; closed = s.references.closed };
       balances =
           All-map (λ (m : Member). sum_by cost_of (bookings_of m.name club) ≤ m.credited) (credited_member name points) club.members
           (λ k d short. credited_more (bytes_eq _ name) _ points _ (s.balances k d short));
@@ -95,7 +95,7 @@ pub nobody_in : (club : Club) (slot : Slot) → HasReferences club → All (λ (
     → taken_in slot club.bookings ≡ 0
 nobody_in club slot refs fresh =
     ap (λ (bookings : List Booking). sum_by persons_of bookings)
-    (filter_none (is_in slot) club.bookings (λ k d short. away (get_or club.bookings k d) (refs.booked k d short)))
+    (filter_none (is_in slot) club.bookings (λ k d short. away (get_or club.bookings k d) (refs.facilities k d short)))
   where
     away : (booking : Booking) → Contains (map (λ (f : Facility). f.name) club.facilities) booking.slot.facility → is_in slot booking ≡ false
     away booking there =
@@ -119,12 +119,13 @@ sound_facility club facility s f =
     let names = all_pairs_push (λ (a : Facility) (b : Facility). a.name ≢ b.name) club.facilities facility s.unique.facilities f.fresh in
     let more = club.facilities ++ facility ∷ [] in
     let still = still_there (λ (other : Facility). other.name) club.facilities facility in
-    let booked = still_all (λ (other : Facility). other.name) club.facilities more (λ (b : Booking). b.slot.facility) club.bookings still s.references.booked in
+    let booked = still_all (λ (other : Facility). other.name) club.facilities more (λ (b : Booking). b.slot.facility) club.bookings still
+    s.references.facilities in
     let closed = still_all (λ (other : Facility). other.name) club.facilities more (λ (slot : Slot). slot.facility) club.closed still s.references.closed in
     record {
       rows = record { members = s.rows.members; facilities = limits; keys = s.rows.keys; bookings = s.rows.bookings; closed = s.rows.closed };
       unique = record { members = s.unique.members; facilities = names; keys = s.unique.keys; bookings = s.unique.bookings; closed = s.unique.closed };
-      references = record { keys = s.references.keys; bookings = s.references.bookings; booked = booked; closed = closed };
+      references = record { keys = s.references.keys; bookings = s.references.bookings; facilities = booked; closed = closed };
       balances = s.balances;
       places = All-push (λ (other : Facility). (slot : Slot) → slot.facility ≡ other.name
           → taken_in slot club.bookings ≤ other.places) club.facilities facility s.places (λ slot at. new_is_empty club facility slot s.references f.fresh at);
@@ -140,7 +141,7 @@ sound_key club key s f =
       references = record {
         keys = All-push (λ (k : Key). Contains (map (λ (m : Member). m.name) club.members) k.member) club.keys key s.references.keys f.owned;
         bookings = λ k d short. still_there (λ (other : Key). other.name) club.keys key _ (s.references.bookings k d short);
-        booked = s.references.booked;
+        facilities = s.references.facilities;
         closed = s.references.closed;
       };
       balances = λ k d short. balance_kept club (record club { keys = club.keys ++ key ∷ [] }) (get_or club.members k d)
@@ -160,7 +161,7 @@ sound_edited root older is_revoked club s limits =
       references = record {
         keys = All-map (λ (k : Key). Contains (map (λ (m : Member). m.name) club.members) k.member) edit club.keys s.references.keys;
         bookings = λ k d short. rw (map-map (λ (k : Key). k.name) edit club.keys) (s.references.bookings k d short);
-        booked = s.references.booked;
+        facilities = s.references.facilities;
         closed = s.references.closed;
       };
       balances = λ k d short. balance_kept club (record club { keys = map edit club.keys }) (get_or club.members k d)
@@ -208,7 +209,7 @@ sound_closed club slot s f =
     record {
       rows = record { members = s.rows.members; facilities = s.rows.facilities; keys = s.rows.keys; bookings = s.rows.bookings; closed = limits };
       unique = record { members = s.unique.members; facilities = s.unique.facilities; keys = s.unique.keys; bookings = s.unique.bookings; closed = names };
-      references = record { keys = s.references.keys; bookings = s.references.bookings; booked = s.references.booked; closed = known };
+      references = record { keys = s.references.keys; bookings = s.references.bookings; facilities = s.references.facilities; closed = known };
       balances = s.balances;
       places = s.places;
     }

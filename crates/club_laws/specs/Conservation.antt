@@ -16,7 +16,7 @@ pub record IsConserved (club : Club) (events : List Event) (replies : List Event
   pub balance_adds_up :
       balance_of member (bookings_of member.name club) + total_under (keys_given member.name events replies) (charges_of_replies replies)
       ≡ credits_accepted member.name events replies + total_under (keys_given member.name events replies) (refunds_of_replies replies)
-  pub covered : sum_by cost_of (bookings_of member.name club) ≤ member.credited
+  pub coverage : sum_by cost_of (bookings_of member.name club) ≤ member.credited
 
 abbrev pub ConservesPoints : Type 0
 ConservesPoints =

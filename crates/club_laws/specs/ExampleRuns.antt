@@ -51,8 +51,8 @@ words_again = record {
 
 -- it is a repeat, which is accepted even when the slot has begun
 pub record IsAcceptedRepeat (words : Words) (moment : ℕ) : Type 0 where
-  pub served : WasServed opened_club booked_then_cancelled words (Booked (codes "amy-1") 7 600 1)
-  pub accepted : IsAcceptedIn (club_after opened_club booked_then_cancelled) words moment
+  pub was_served : WasServed opened_club booked_then_cancelled words (Booked (codes "amy-1") 7 600 1)
+  pub acceptance : IsAcceptedIn (club_after opened_club booked_then_cancelled) words moment
 
 abbrev pub AcceptsARepeat : Type 0
 AcceptsARepeat = IsAcceptedRepeat words_again late

@@ -37,13 +37,13 @@ has_failed presentation event returned = false
 
 -- an event was answered: its response is the machine's reply, and the club made the machine's step
 pub record IsAnsweredStep {O : Type 0} (presentation : Presentation O) (club : Club) (event : Event) (returned : Response O) (next : Club) : Type 0 where
-  pub answered : IsFalse (has_failed presentation event returned)
+  pub success : IsFalse (has_failed presentation event returned)
   pub reply : returned ≡ present_reply presentation (step club event).reply
   pub steps_club : next ≡ (step club event).club
 
 -- an event failed, and the club is unchanged
 pub record IsWithoutEffect {O : Type 0} (presentation : Presentation O) (club : Club) (event : Event) (returned : Response O) (next : Club) : Type 0 where
-  pub failed : IsTrue (has_failed presentation event returned)
+  pub failure : IsTrue (has_failed presentation event returned)
   pub kept : next ≡ club
 
 abbrev pub IsStep : {O : Type 0} → Presentation O → Club → Event → Response O → Club → Type 0
@@ -72,7 +72,7 @@ answers presentation events replies = []
 -- the machine's run of the answered events alone gives these responses, and leaves this club
 pub record IsRunOfAnswered {O : Type 0} (presentation : Presentation O) (club : Club) (events : List Event) (replies : List (Response O))
     (last : Club) : Type 0 where
-  pub returned : answers presentation events replies ≡ map (present_reply presentation) (replies_of club (answered_events presentation events replies))
+  pub responses : answers presentation events replies ≡ map (present_reply presentation) (replies_of club (answered_events presentation events replies))
   pub left : last ≡ club_after club (answered_events presentation events replies)
 
 -- failed events can be left out

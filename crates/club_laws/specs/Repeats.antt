@@ -23,8 +23,8 @@ pub record WasServed (club : Club) (history : List Event) (words : Words) (reply
   pub moment : ℕ
   pub rest : List Event
   pub place : history ≡ front ++ Asked first moment ∷ rest
-  pub returned : (step (club_after club front) (Asked first moment)).reply ≡ Replied reply
-  pub served : IsBookedOrCancelled reply
+  pub reply_is : (step (club_after club front) (Asked first moment)).reply ≡ Replied reply
+  pub success : IsBookedOrCancelled reply
   pub same_key : key_of words.pass ≡ key_of first.pass
   pub same_request : words.request ≡ first.request
 
@@ -38,7 +38,7 @@ RepeatsReturnTheSame =
 
 -- without the event, all other replies and the club at the end are the same
 pub record MayBeLeftOut (club : Club) (front : List Event) (event : Event) (rest : List Event) (reply : EventReply) : Type 0 where
-  pub returned : replies_of club (front ++ event ∷ rest) ≡ replies_of club front ++ reply ∷ replies_of (club_after club front) rest
+  pub replies : replies_of club (front ++ event ∷ rest) ≡ replies_of club front ++ reply ∷ replies_of (club_after club front) rest
   pub others : replies_of club (front ++ rest) ≡ replies_of club front ++ replies_of (club_after club front) rest
   pub kept : club_after club (front ++ event ∷ rest) ≡ club_after club (front ++ rest)
 

@@ -15,7 +15,7 @@ pub record WasRevoked (club : Club) (history : List Event) (name : List ℕ) : T
   pub front : List Event
   pub rest : List Event
   pub place : history ≡ front ++ Ordered (RevokeKey name) ∷ rest
-  pub returned : (step (club_after club front) (Ordered (RevokeKey name))).reply ≡ Answered Done
+  pub reply_is : (step (club_after club front) (Ordered (RevokeKey name))).reply ≡ Answered Done
 
 -- from then on no request under it is served, whatever the office and others do
 abbrev pub ServesNoRevokedKey : Type 0

@@ -52,9 +52,9 @@ pub record WasReturned {O : Type 0} (history : List Event) (replies : List (Resp
   pub rest : List Event
   pub since : List (Response O)
   pub place : history ≡ front ++ Asked first moment ∷ rest
-  pub returned : replies ≡ before ++ ToMember reply ∷ since
+  pub reply_place : replies ≡ before ++ ToMember reply ∷ since
   pub beside : length before ≡ length front
-  pub served : IsBookedOrCancelled reply
+  pub success : IsBookedOrCancelled reply
   pub same_key : key_of words.pass ≡ key_of first.pass
   pub same_request : words.request ≡ first.request
 

@@ -63,10 +63,10 @@ keeps_credit club name points (Some member) h found =
 
 -- keys and closed slots have no such numbers
 fits_keys : (club : Club) (keys : List Key) → FitsWidths club → FitsWidths (record club { keys = keys })
-fits_keys club keys h = record { credited = h.credited; named = h.named; places = h.places; taken = h.taken; spent = h.spent; kept = h.kept }
+fits_keys club keys h = record { credited = h.credited; unique = h.unique; places = h.places; taken = h.taken; spent = h.spent; kept = h.kept }
 
 fits_closed : (club : Club) (closed : List Slot) → FitsWidths club → FitsWidths (record club { closed = closed })
-fits_closed club closed h = record { credited = h.credited; named = h.named; places = h.places; taken = h.taken; spent = h.spent; kept = h.kept }
+fits_closed club closed h = record { credited = h.credited; unique = h.unique; places = h.places; taken = h.taken; spent = h.spent; kept = h.kept }
 
 keeps_rotation : (club : Club) (name root : List ℕ) (until : ℕ) (key : Option Key) → FitsWidths club → KeepsOk club (rotate_verdict name root until key)
 keeps_rotation club name root until None h = keeps_err club _

@@ -42,11 +42,11 @@ fits_part name club h =
     let held = λ (booking : Booking). is_key_of name club booking.key in
     record {
       credited = all_filter (λ (m : Member). m.credited ≤ 999_999_999) own club.members (λ k d lt e. h.credited k d lt);
-      named = all_filter (λ (m : Member). find (λ (row : Member). bytes_eq row.name m.name) (filter own club.members) ≡ Some m) own club.members (λ k d lt e.
+      unique = all_filter (λ (m : Member). find (λ (row : Member). bytes_eq row.name m.name) (filter own club.members) ≡ Some m) own club.members (λ k d lt e.
           let row = get_or club.members k d in
           let same : row.name ≡ name = bytes_eq_true row.name name e in
           subst (λ n. find (λ (m : Member). bytes_eq m.name n) (filter own club.members) ≡ Some row) (sym same)
-          (find-filter own club.members ∙ subst (λ n. find (λ (m : Member). bytes_eq m.name n) club.members ≡ Some row) same (h.named k d lt)));
+          (find-filter own club.members ∙ subst (λ n. find (λ (m : Member). bytes_eq m.name n) club.members ≡ Some row) same (h.unique k d lt)));
       places = h.places;
       taken = λ slot.
           let le : taken_in slot (filter held club.bookings) ≤ taken_in slot club.bookings = sum-filter_le persons_of (is_in slot) held club.bookings in
@@ -63,7 +63,7 @@ fits_part name club h =
 pub fits_same : (a b : Club) → a.members ≡ b.members → a.facilities ≡ b.facilities → a.bookings ≡ b.bookings → FitsWidths b → FitsWidths a
 fits_same a b members facilities bookings h = record {
   credited = subst (λ (ms : List Member). All (λ (m : Member). m.credited ≤ 999_999_999) ms) (sym members) h.credited;
-  named = subst (λ (ms : List Member). All (λ (m : Member). find (λ (row : Member). bytes_eq row.name m.name) ms ≡ Some m) ms) (sym members) h.named;
+  unique = subst (λ (ms : List Member). All (λ (m : Member). find (λ (row : Member). bytes_eq row.name m.name) ms ≡ Some m) ms) (sym members) h.unique;
   places = subst (λ (fs : List Facility). All (λ (f : Facility). f.places ≤ 50) fs) (sym facilities) h.places;
   taken = λ slot. subst (λ (bs : List Booking). taken_in slot bs ≤ 50) (sym bookings) (h.taken slot);
   spent = λ key. subst (λ (bs : List Booking). spent_under key bs ≤ 999_999_999) (sym bookings) (h.spent key);

@@ -41,8 +41,8 @@ pub fits_insert_member : (club : Club) (member : Member) → FitsWidths club →
     → FitsWidths (after (InsertMember member) club)
 fits_insert_member club member h few none = record {
   credited = All-push (λ (m : Member). m.credited ≤ 999_999_999) club.members member h.credited few;
-  named = All-push (IsNamed (club.members ++ member ∷ [])) club.members member (λ k d lt.
-      still_named club.members member (get_or club.members k d) (h.named k d lt)) (new_named club.members member none);
+  unique = All-push (IsNamed (club.members ++ member ∷ [])) club.members member (λ k d lt.
+      still_named club.members member (get_or club.members k d) (h.unique k d lt)) (new_named club.members member none);
   places = h.places;
   taken = h.taken;
   spent = h.spent;
@@ -67,12 +67,12 @@ fits_add_credit club name points member h found fits = record {
       let row = get_or club.members k d in
       few_credited name points row (named name row) refl (h.credited k d lt) (λ e.
       let same : find (named name) club.members ≡ Some row = subst (λ n. find (named n) club.members
-      ≡ Some row) (bytes_eq_true row.name name e) (h.named k d lt) in
+      ≡ Some row) (bytes_eq_true row.name name e) (h.unique k d lt) in
       let row_is : member ≡ row = cc in
       subst (λ (m : Member). m.credited + points ≤ 999_999_999) row_is fits));
-  named = all_map (IsNamed (map (credited_member name points) club.members)) (credited_member name points) club.members (λ k d lt.
+  unique = all_map (IsNamed (map (credited_member name points) club.members)) (credited_member name points) club.members (λ k d lt.
       let row = get_or club.members k d in
-      find-map (named row.name) (credited_member name points) club.members (λ m. refl) ∙ ap (option_map (credited_member name points)) (h.named k d lt));
+      find-map (named row.name) (credited_member name points) club.members (λ m. refl) ∙ ap (option_map (credited_member name points)) (h.unique k d lt));
   places = h.places;
   taken = h.taken;
   spent = h.spent;
@@ -82,7 +82,7 @@ fits_add_credit club name points member h found fits = record {
 pub fits_insert_facility : (club : Club) (facility : Facility) → FitsWidths club → facility.places ≤ 50 → FitsWidths (after (InsertFacility facility) club)
 fits_insert_facility club facility h few = record {
   credited = h.credited;
-  named = h.named;
+  unique = h.unique;
   places = All-push (λ (f : Facility). f.places ≤ 50) club.facilities facility h.places few;
   taken = h.taken;
   spent = h.spent;
@@ -121,7 +121,7 @@ pub fits_insert_booking : (club : Club) (booking : Booking) → FitsWidths club 
     → FitsWidths (after (InsertBooking booking) club)
 fits_insert_booking club booking h persons cost kept = record {
   credited = h.credited;
-  named = h.named;
+  unique = h.unique;
   places = h.places;
   taken = λ slot. rw (more persons_of (is_in slot) club.bookings booking)
       (few_taken slot club.bookings booking (is_in slot booking) refl (h.taken slot) persons);
@@ -163,7 +163,7 @@ fits_mark_cancelled club key number refund h =
     && (get_or club.bookings k d).number == number) (get_or club.bookings k d).cancelled e) in
     record {
       credited = h.credited;
-      named = h.named;
+      unique = h.unique;
       places = h.places;
       taken = λ slot.
           let fewer : total persons_of (is_in slot) (map edit club.bookings) ≤ total persons_of (is_in slot) club.bookings =

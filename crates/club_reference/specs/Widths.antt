@@ -11,7 +11,7 @@ use Rattle.club_core.specs.Sums.{taken_in, spent_under}
 pub record FitsWidths (club : Club) : Type 0 where
   -- points are credited up to this limit, to the one member of a name
   pub credited : All (λ (member : Member). member.credited ≤ credited_limit) club.members
-  pub named : All (λ (member : Member). member_named member.name club ≡ Some member) club.members
+  pub unique : All (λ (member : Member). member_named member.name club ≡ Some member) club.members
   -- no slot has more persons than `places_limit`
   pub places : All (λ (facility : Facility). facility.places ≤ places_limit) club.facilities
   pub taken : (slot : Slot) → taken_in slot club.bookings ≤ places_limit

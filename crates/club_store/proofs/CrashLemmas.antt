@@ -58,7 +58,7 @@ module _ (now : State) (opened : Opens now) (live : IsLive now) (settled : IsSet
   finds : (club : Club) → HoldsClubAnyVersion now.committed club → IsFound now club []
   finds club holds = record {
     held = λ _ _. holds;
-    settled = λ _ _. opened.clean;
+    idle = λ _ _. opened.clean;
     left = λ _ trees may. inl (now.committed, sym (settled opened.is_open trees may), holds);
   }
 
@@ -78,7 +78,7 @@ module _ (now : State) (opened : Opens now) (live : IsLive now) (settled : IsSet
 pub files_hold : {D : Type 0} {g : Ghosts D} (it : FileStore D g) (clubs : List Club) (left : Image) → CrashLeaves it clubs left → ∥ HoldsOneOf left clubs ∥₁
 files_hold it clubs left crash =
     let sound : AreDatabases (recovers it) = λ trees allowed. left_is_sound trees clubs (crash.one_of crash.clean trees allowed) in
-    ∥∥₁_map (opens_again it crash.numbered sound left crash.files) (λ db. let held : HoldsOneOf left clubs = (db.0, db.2, crash.one_of crash.clean db.0 db.1) in
+    ∥∥₁_map (opens_again it crash.numbers sound left crash.files) (λ db. let held : HoldsOneOf left clubs = (db.0, db.2, crash.one_of crash.clean db.0 db.1) in
     held)
 
 lists_nothing : {X Y : Type 0} (R : X → Y → Type 0) (ys : List Y) → AllZip R [] ys → ys ≡ []

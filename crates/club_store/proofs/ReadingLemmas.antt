@@ -48,7 +48,7 @@ fault_if P Q (Err e) p f = f e p
 after_reading : {S A : Type 0} (g : Ghosts S) (a b c : Held S) (first : Result A StoreFault) (IsFirst : Club → A → Type 0) → HasCleanDisk (state g b)
     → ReadsClub g a b first IsFirst → IsAfterReadings g b c → IsAfterReadings g a c
 after_reading g a b c first IsFirst clean reads after = record {
-  same = untouched_then (state g a) (state g b) (state g c) (λ _. clean) reads.untouched after.same;
+  same = untouched_then (state g a) (state g b) (state g c) (λ _. clean) reads.no_change after.same;
   clean = after.clean;
   fault_count = omega (arith, reads.survives.counts, after.fault_count);
 }
@@ -57,7 +57,7 @@ after_reading g a b c first IsFirst clean reads after = record {
 pub later_fault : {S A : Type 0} (g : Ghosts S) (a b c : Held S) (first : Result A StoreFault) (IsFirst : Club → A → Type 0) (fault : StoreFault)
     → HasCleanDisk (state g b) → ReadsClub g a b first IsFirst → IsReadFault g b c fault → IsReadFault g a c fault
 later_fault g a b c first IsFirst fault clean reads it =
-    record { from = it.from; after = after_reading g a b it.from first IsFirst clean reads it.after; reading = it.reading; failed = it.failed }
+    record { from = it.from; after = after_reading g a b it.from first IsFirst clean reads it.after; reading = it.reading; failure = it.failure }
 
 -- two readings, one after the other; a fault of the second is passed on
 pub read_then : {S A B C : Type 0} (g : Ghosts S) (a b c : Held S) (one : Result A StoreFault) (two : Result B StoreFault) (result : Result C StoreFault)
@@ -67,10 +67,10 @@ pub read_then : {S A B C : Type 0} (g : Ghosts S) (a b c : Held S) (one : Result
 read_then g a b c one two result IsOne IsTwo IsReturned first next returned passes =
     let earlier = λ (clean : HasCleanDisk (state g c)). let e : HasCleanDisk (state g b) = omega (arith, next.survives.clean) in e in
     record {
-      returned = λ clean club others represents. returned club (first.returned (earlier clean) club others represents)
-          (next.returned clean club others (first.kept (earlier clean) club others represents));
+      returns = λ clean club others represents. returned club (first.returns (earlier clean) club others represents)
+          (next.returns clean club others (first.kept (earlier clean) club others represents));
       kept = λ clean club others represents. next.kept clean club others (first.kept (earlier clean) club others represents);
-      untouched = untouched_then (state g a) (state g b) (state g c) earlier first.untouched next.untouched;
+      no_change = untouched_then (state g a) (state g b) (state g c) earlier first.no_change next.no_change;
       survives = survives_none (state g a) (state g b) (state g c) first.survives next.survives;
       fault = λ clean. passes (IsReadFault g a c) (fault_if (IsReadFault g b c) (IsReadFault g a c) two (next.fault clean) (λ fault it.
           later_fault g a b c one IsOne fault (earlier clean) first it));
@@ -108,12 +108,12 @@ module _ {S A : Type 0} (g : Ghosts S) (a b : Held S) (first : Result A StoreFau
     after = after_reading g a b run.from first IsFirst clean reads run.after;
     statements = run.statements;
     are = run.are;
-    failed = run.failed;
+    failure = run.failure;
   }))
   change_fault c IsBefore IsIt change fault clean is (inr (inr refusal)) = inr (inr (record {
-    refused = λ club others before represents. refusal.refused club others (is club before (reads.returned clean club others represents))
+    before_write = λ club others before represents. refusal.before_write club others (is club before (reads.returns clean club others represents))
         (reads.kept clean club others represents);
-    returned = refusal.returned;
+    fault_is = refusal.fault_is;
   }))
 
   -- a change after a reading
@@ -126,14 +126,14 @@ module _ {S A : Type 0} (g : Ghosts S) (a b : Held S) (first : Result A StoreFau
       let P = MayCommit g (AreStatementsOf change) a in
       record {
         was_clean = λ clean. earlier (changes.was_clean clean);
-        changed = λ clean club others before represents fits.
+        effect = λ clean club others before represents fits.
             let mid = changes.was_clean clean in
-            changes.changed clean club others (is club before (reads.returned mid club others represents)) (reads.kept mid club others represents) fits;
-        untouched = on_err result changes.untouched (λ un. untouched_then (state g a) (state g b) (state g c) changes.was_clean reads.untouched un);
+            changes.effect clean club others (is club before (reads.returns mid club others represents)) (reads.kept mid club others represents) fits;
+        no_change = on_err result changes.no_change (λ un. untouched_then (state g a) (state g b) (state g c) changes.was_clean reads.no_change un);
         survives = survives_then (state g a) (state g b) (state g c) (λ _. ⊥) (MayCommit g (AreStatementsOf change) b) P (λ _ db none. absurd none)
             (λ clean db may. let p : P db = record {
               from = may.from;
-              same = untouched_then (state g a) (state g b) (state g may.from) (λ _. changes.was_clean clean) reads.untouched may.same;
+              same = untouched_then (state g a) (state g b) (state g may.from) (λ _. changes.was_clean clean) reads.no_change may.same;
               clean = may.clean;
               statements = may.statements;
               are = may.are;
@@ -151,14 +151,14 @@ module _ {S A : Type 0} (g : Ghosts S) (a b : Held S) (first : Result A StoreFau
       → ChangesClubWhere g IsIt change a b (Err fault)
   refuse_after fault IsIt change fails = record {
     was_clean = λ clean. let e : HasCleanDisk (state g a) = omega (arith, reads.survives.clean) in e;
-    changed = λ clean club others it represents fits.
+    effect = λ clean club others it represents fits.
         let kept = reads.kept clean club others represents in
         record {
           held = kept.held;
-          settled = kept.settled;
+          idle = kept.idle;
           left = λ clean trees may. elim (kept.left clean trees may) [ inl here ↦ inl here | inr there ↦ inr (inr there) ];
         };
-    untouched = reads.untouched;
+    no_change = reads.no_change;
     survives = survives_then (state g a) (state g b) (state g b) (λ _. ⊥) (λ _. ⊥) (MayCommit g (AreStatementsOf change) a) (λ _ db none. absurd none)
         (λ _ db none.
         absurd none)
@@ -176,8 +176,8 @@ module _ {S A : Type 0} (g : Ghosts S) (a b : Held S) (first : Result A StoreFau
       → ChangesClubWhere g IsIt change a b (Err Storage)
   refuse_found IsIt change refused =
       refuse_after Storage IsIt change (λ clean. inr (inr (record {
-        refused = λ club others it represents. refused club it (reads.returned clean club others represents);
-        returned = refl;
+        before_write = λ club others it represents. refused club it (reads.returns clean club others represents);
+        fault_is = refl;
       })))
 
 -- nothing is opened

@@ -29,7 +29,7 @@ at_number : (club : Club) (key : Key) → HasOwnBookings club key → (number : 
     → option_and_then (λ (n : ℕ). booking_under key.name n (bookings_of key.member club)) number
     ≡ option_and_then (λ (n : ℕ). booking_under key.name n club.bookings) number
 at_number club key own None = refl
-at_number club key own (Some number) = own.booked number
+at_number club key own (Some number) = own.booking number
 
 -- the view over all bookings of a key is that over the bookings of its member
 pub seen_is : OwnBookings → (club : Club) (name : List ℕ) (key : Key) (member : Member) (request : Request) (moment : ℕ) → key_named name club ≡ Some key

@@ -18,7 +18,7 @@ LeavesOneOf g store clubs = IsClean (g.view store) → (trees : Trees) → g.rec
 
 -- a connection that was just opened, over a database of one of these clubs
 pub record IsOpenedOn (state : State) (clubs : List Club) : Type 0 where
-  pub opened : Opens state
+  pub opening : Opens state
   pub live : IsLive state
   pub left : IsLeftOf state.committed.trees clubs
 
@@ -39,6 +39,6 @@ HoldsOneOf image clubs = (trees : Trees) × HoldsDatabase image trees × IsLeftO
 -- a crash may leave this image of a store's file and log; the store's possible crash states are these clubs
 pub record CrashLeaves {D : Type 0} {g : disk.Ghosts D} (store : FileStore D g) (clubs : List Club) (left : Image) : Type 0 where
   pub clean : IsClean (file.view store)
-  pub numbered : IsTrue (file.view store).is_numbered
+  pub numbers : IsTrue (file.view store).is_numbered
   pub one_of : LeavesOneOf over_files store clubs
   pub files : (file.state store).may_leave left

@@ -38,7 +38,7 @@ pub record IsHandedBack {S : Type 0} (g : Ghosts S) (old new : Held S) : Type 0 
   pub clean : HasCleanDisk (state g new) → HasCleanDisk (state g old)
   pub kept : HasCleanDisk (state g new) → KeepsClub (found_in g) old new
   pub mode : new.in_transaction ≡ old.in_transaction
-  pub untouched : old.in_transaction ≡ false → IsKept (state g old) (state g new)
+  pub same_database : old.in_transaction ≡ false → IsKept (state g old) (state g new)
   pub survives : SurvivesOpening g old new
   -- a database that a crash left with one of these clubs is found to hold that club, whole
   pub again : HasCleanDisk (state g new) → (clubs : List Club) → IsOpenedOn (state g old) clubs → OneIsFound (state g new) clubs
@@ -46,9 +46,9 @@ pub record IsHandedBack {S : Type 0} (g : Ghosts S) (old new : Held S) : Type 0 
 -- the files held a database, its tables were accepted, and the store represents the club that was found in it
 pub record OpensFrom {D : Type 0} {g : disk.Ghosts D} (start : Image) (now : Held (FileStore D g)) : Type 0 where
   pub was : Held (FileStore D g)
-  pub opened : IsOpened was
+  pub opening : IsOpened was
   pub found : FindsIn start (file_state was)
-  pub accepted : IsTrue (file_state now).is_open → AcceptsTables over_files was now
+  pub acceptance : IsTrue (file_state now).is_open → AcceptsTables over_files was now
   pub survives : SurvivesOpening over_files was now
   pub represents : (club : Club) (others : List Club) → IsFound (file_state was) club others → Represents (file_state now) club others
   -- files that a crash left with one of these clubs are opened as that club, whole
@@ -63,15 +63,15 @@ IsMemoryFault fault = (fault ≡ Memory) ⊎ ((was : _) × (now : _) × IsEmpty 
 -- The fault of a file that isn't opened is that of the error. Nothing is left if there was no file, or no memory; else the file and its log are refused.
 pub record IsFileFault {D : Type 0} {g : disk.Ghosts D} (start : Image) (rest : Option (Leftover D g)) (fault : StoreFault) : Type 0 where
   pub error : Error
-  pub unopened : rest ≡ None → (error ≡ SqliteFailure CannotOpen) ⊎ (error ≡ SqliteFailure OutOfMemory)
+  pub without_files : rest ≡ None → (error ≡ SqliteFailure CannotOpen) ⊎ (error ≡ SqliteFailure OutOfMemory)
   pub cause : IfSome rest (λ left. (files : Files D) × (image_of g files ≡ start) × (IsCleanLeft left → FailsToOpenFiles files left error))
-  pub returned : fault ≡ fault_by error
+  pub fault_is : fault ≡ fault_by error
 
 -- the fault of a connection whose tables aren't accepted
 pub record IsTablesFault {D : Type 0} {g : disk.Ghosts D} (start : Image) (now : Held (FileStore D g)) (fault : StoreFault) : Type 0 where
   pub was : Held (FileStore D g)
-  pub opened : HasCleanDisk (file_state was) → IsOpened was × FindsIn start (file_state was)
-  pub failed : HasCleanDisk (file_state now) → IsOpeningFault over_files was now fault
+  pub opening : HasCleanDisk (file_state was) → IsOpened was × FindsIn start (file_state was)
+  pub failure : HasCleanDisk (file_state now) → IsOpeningFault over_files was now fault
 
 -- the fault of a file that another program has open, that isn't opened, or whose tables aren't accepted
 abbrev pub FailsFrom : {D : Type 0} {g : disk.Ghosts D} → Image → Remains D g → StoreFault → Type 0
@@ -83,13 +83,13 @@ FailsFrom start (remains.Connection now) fault = IsTablesFault start now fault
 pub record IsLeftOfFiles {D : Type 0} {g : disk.Ghosts D} (start : Image) (left : Leftover D g) : Type 0 where
   pub files : Files D
   pub held : image_of g files ≡ start
-  pub settled : (image : Image) → outcomes g files.log files.db image → image ≡ start
+  pub one_outcome : (image : Image) → outcomes g files.log files.db image → image ≡ start
   pub leaves : IsCleanLeft left → LeavesFiles files left
 
 -- the connection that is returned of a file whose tables aren't accepted: the club that the file held is found in it
 pub record IsLeftOpen {D : Type 0} {g : disk.Ghosts D} (start : Image) (now : Held (FileStore D g)) : Type 0 where
   pub was : Held (FileStore D g)
-  pub opened : HasCleanDisk (file_state was) → IsOpened was × FindsIn start (file_state was)
+  pub opening : HasCleanDisk (file_state was) → IsOpened was × FindsIn start (file_state was)
   pub back : IsHandedBack over_files was now
   pub again : HasCleanDisk (file_state now) → (clubs : List Club) → HoldsOneOf start clubs → OneIsFound (file_state now) clubs
 

@@ -14,7 +14,7 @@ left_widened trees club other others (inr there) = inr (inr there)
 represents_widened : (state : State) (club other : Club) (others : List Club) → Represents state club others → Represents state club (other ∷ others)
 represents_widened state club other others represents = record {
   held = represents.held;
-  settled = represents.settled;
+  idle = represents.idle;
   left = λ clean trees may. left_widened trees club other others (represents.left clean trees may);
 }
 

@@ -92,8 +92,8 @@ slot_returned g old slot rows clean asked club others represents =
     let same = selected slot_values _ (is_given 1 0 ∷ is_given 2 1 ∷ is_given 3 2 ∷ []) (col 1 4 ∷ col 1 5 ∷ []) p show tests (λ id row.
     refl) slots_tree (codes "closed" ∷ codes "taken" ∷ []) (state g old).now tables.rows.slots rows tables.holds_rows.slots reads in
     let low = one_passes R p tables.rows.slots (λ x y a b apart. apart (same_slots x.slot slot a ∙ sym (same_slots y.slot slot b)))
-    (apart_from_pairs R tables.rows.slots tables.stored.once) in
-    shows_by club slot (row_of slot tables.rows.slots) rows (first_returned show p tables.rows.slots rows low same) (tables.stored.slots slot)
+    (apart_from_pairs R tables.rows.slots tables.storage.once) in
+    shows_by club slot (row_of slot tables.rows.slots) rows (first_returned show p tables.rows.slots rows low same) (tables.storage.slots slot)
 
 two_tests : (a a' b b' : Bool) → a ≡ a' → b ≡ b' → (a && (b && true)) ≡ (a' && b')
 two_tests a a' b b' p q = let e = and_true b in cc

@@ -189,7 +189,7 @@ module _ (club : Club) (sound : IsSound club) (booking : Booking) (cancels : IsT
         v) (stored.slots s)
         ∙ recounted_use club s less (same_slot booking.slot s) (taken_in s next.bookings) (taken_less s);
     olders = stored.olders;
-    rotated = stored.rotated;
+    olders_once = stored.olders_once;
     once = put_once booking.slot (take_use (λ n. n - persons_of booking)) rows.slots stored.once;
   }
 
@@ -222,7 +222,7 @@ same_stored club rows stored sound key number refund none =
       bookings = ap (map (cancelled_booking key number refund)) stored.bookings ∙ same;
       slots = stored.slots;
       olders = stored.olders;
-      rotated = stored.rotated;
+      olders_once = stored.olders_once;
       once = stored.once;
     } in
     subst (λ (bookings : List Booking). IsStoredAs (record club { bookings = bookings }) (record rows {

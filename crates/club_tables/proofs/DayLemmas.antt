@@ -168,7 +168,7 @@ day_returned g old day rows clean asked club others represents =
       bookings,
       record {
         same = day_selection.same;
-        sorted = λ i j d less low. strictly (slice_index_or bookings i d) (slice_index_or bookings j d)
+        order = λ i j d less low. strictly (slice_index_or bookings i d) (slice_index_or bookings j d)
             (none_before i j d less low) (differ i j d less low);
       },
       day_selection.shown,

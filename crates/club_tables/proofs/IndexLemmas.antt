@@ -46,7 +46,7 @@ module _ {S : Type 0} (g : Ghosts S) (old : Held S) (db : Database) (ran : Ran g
       subst (λ (d : Database). HoldsRows d rows) (sym is) left
 
   indexed_tables : (club : Club) → HoldsClubUnindexed (state g old).now club → HoldsClub db club
-  indexed_tables club it = record { rows = it.rows; holds_rows = indexed_rows it.rows it.holds_rows; stored = it.stored; sound = it.sound }
+  indexed_tables club it = record { rows = it.rows; holds_rows = indexed_rows it.rows it.holds_rows; storage = it.storage; sound = it.sound }
 
   -- it doesn't run where the index is there
   indexes_no_more : (state g old).now.schema ≡ club_schema → ⊥
@@ -60,8 +60,8 @@ module _ {S : Type 0} (g : Ghosts S) (old new : Held S) where
   holds_second : (db : Database) → Ran g index_batch old db → HasCleanDisk (state g old) → (club : Club) (others : List Club)
       → RepresentsVersion2 (state g old) club others → HoldsClub db club
   holds_second db ran clean club others second =
-      let is_open = ran.opened (omega arith) in
-      let now = second.settled clean is_open in
+      let is_open = ran.was_open (omega arith) in
+      let now = second.idle clean is_open in
       elim (second.held clean is_open) [
         | inl tables ↦ absurd (indexes_no_more g old db ran (ap (λ (d : Database). d.schema) now ∙ tables.holds_rows.schema))
         | inr it ↦ indexed_tables g old db ran club (subst (λ (d : Database). HoldsClubUnindexed d club) (sym now) it)
@@ -80,7 +80,7 @@ module _ {S : Type 0} (g : Ghosts S) (old new : Held S) where
       let earlier = λ (clean : HasCleanDisk (state g new)). let e : HasCleanDisk (state g old) = omega (arith, survives.clean) in e in
       record {
         held = λ clean is_open. let k = kept clean is_open in subst (λ db. HoldsClubVersion2 db club) (sym k.2) (second.held (earlier clean) k.0);
-        settled = λ clean is_open. let k = kept clean is_open in k.1 ∙ sym k.2;
+        idle = λ clean is_open. let k = kept clean is_open in k.1 ∙ sym k.2;
         left = λ clean trees may. elim (survives.crash clean trees may) [
           | inl was ↦ second.left (earlier clean) trees was
           | inr made ↦ inl (made.0, sym made.2, inl (inl (holds_second made.0 made.1 (earlier clean) club others second)))
@@ -100,9 +100,9 @@ module _ {S : Type 0} (g : Ghosts S) (old new : Held S) where
           | inr it ↦
               let k = kept clean is_open in
               let same : (state g old).now.schema ≡ unindexed_schema =
-              ap (λ (d : Database). d.schema) (second.settled (earlier clean) k.0 ∙ sym k.2) ∙ it.holds_rows.schema in
+              ap (λ (d : Database). d.schema) (second.idle (earlier clean) k.0 ∙ sym k.2) ∙ it.holds_rows.schema in
               absurd (let none = ap (λ s. is_ok (understood s DROP_BOOKINGS_BY_KEY.now)) same ∙ drops_none in cc)
         ];
-        settled = next.settled;
+        idle = next.idle;
         left = next.left;
       }

@@ -130,8 +130,8 @@ older_returned g old name rows clean asked club others represents =
     let olders = tables.rows.olders in
     let same = selected older_values (Text name ∷ []) (is_given 1 0 ∷ []) _ p show (λ id row. and_true _ ∙ text_equal row.key name) (λ id row. refl) olders_tree
     (map codes ("root" ∷ "until" ∷ [])) (state g old).now olders rows tables.holds_rows.olders reads in
-    first_returned show p olders rows (one_named (λ (row : OlderRow). row.key) name olders tables.stored.rotated) same
-    ∙ shown_again (find p olders) ∙ ap (λ o. map older_root_values (option_to_list o)) (tables.stored.olders name)
+    first_returned show p olders rows (one_named (λ (row : OlderRow). row.key) name olders tables.storage.olders_once) same
+    ∙ shown_again (find p olders) ∙ ap (λ o. map older_root_values (option_to_list o)) (tables.storage.olders name)
 
 member_is : command_of (understood club_schema MEMBER.now) ≡ Select (record {
   lets = [];
@@ -157,7 +157,7 @@ member_returned g old name rows clean asked club others represents =
     let tables = asked_tables g MEMBER.now _ old rows asked clean club others represents in
     let reads = asked_reads g MEMBER.now _ old rows asked tables.holds_rows.schema _ member_is member_plain member_unlisted in
     let p : MemberRow → Bool = λ row. bytes_eq row.member.name name in
-    let held = subst (Holds member_values _) tables.stored.members tables.holds_rows.members in
+    let held = subst (Holds member_values _) tables.storage.members tables.holds_rows.members in
     let same = selected member_values (Text name ∷ []) (is_given 1 0 ∷ []) _ p member_values (λ id row. and_true _
     ∙ text_equal row.member.name name) (λ id row. refl) members_tree
     (map codes ("name" ∷ "credited" ∷ "quota" ∷ "used" ∷ [])) (state g old).now (map (member_row club) club.members) rows held reads in
@@ -197,7 +197,7 @@ facility_returned g old name rows clean asked club others represents =
     let same = selected facility_values (Text name ∷ []) (is_given 1 0 ∷ []) _ p facility_values (λ id facility. and_true _
     ∙ text_equal facility.name name) (λ id facility. refl) facilities_tree
     (map codes ("name" ∷ "kind" ∷ "places" ∷ "price" ∷ "opens" ∷ "shuts" ∷ [])) (state g old).now club.facilities rows
-    (subst (Holds facility_values _) tables.stored.facilities tables.holds_rows.facilities) reads in
+    (subst (Holds facility_values _) tables.storage.facilities tables.holds_rows.facilities) reads in
     first_returned facility_values p club.facilities rows
     (one_named (λ (facility : Facility). facility.name) name club.facilities tables.sound.unique.facilities)
     same

@@ -192,7 +192,7 @@ module _ {S : Type 0} (g : Ghosts S) (old : Held S) (db : Database) (club : Club
       held_by g old db _ t.mid t.left (record {
         rows = _;
         holds_rows = member_put (state g (transaction_start old)) (state g t.mid) tables.rows tables.holds_rows member t.count t.ran;
-        stored = member_stored club tables.rows tables.stored tables.sound member fits;
+        storage = member_stored club tables.rows tables.storage tables.sound member fits;
         sound = fits;
       })
 
@@ -203,7 +203,7 @@ module _ {S : Type 0} (g : Ghosts S) (old : Held S) (db : Database) (club : Club
       held_by g old db _ t.mid t.left (record {
         rows = _;
         holds_rows = facility_put (state g (transaction_start old)) (state g t.mid) tables.rows tables.holds_rows facility t.count t.ran;
-        stored = facility_stored club tables.rows tables.stored facility;
+        storage = facility_stored club tables.rows tables.storage facility;
         sound = fits;
       })
 
@@ -214,7 +214,7 @@ module _ {S : Type 0} (g : Ghosts S) (old : Held S) (db : Database) (club : Club
       held_by g old db _ t.mid t.left (record {
         rows = _;
         holds_rows = key_put (state g (transaction_start old)) (state g t.mid) tables.rows tables.holds_rows key t.count t.ran;
-        stored = key_stored club tables.rows tables.stored tables.sound key new fits;
+        storage = key_stored club tables.rows tables.storage tables.sound key new fits;
         sound = fits;
       })
 
@@ -224,12 +224,12 @@ module _ {S : Type 0} (g : Ghosts S) (old : Held S) (db : Database) (club : Club
       let t = one_turn g old db _ ran in
       let within = all_mapped IsMember (credited_member name points) club.members
       (all_of IsMember (map (credited_member name points) club.members) fits.rows.members) in
-      let sums = subst (AllByRecursion (Credits name points)) (sym tables.stored.members) (credits_of club name points club.members within) in
+      let sums = subst (AllByRecursion (Credits name points)) (sym tables.storage.members) (credits_of club name points club.members within) in
       held_by g old db _ t.mid t.left (record {
         rows = _;
         holds_rows = member_credited (state g (transaction_start old)) (state g t.mid) tables.rows tables.holds_rows
-            (named_once club tables.rows.members tables.stored.members tables.sound) name points sums t.count t.ran;
-        stored = credit_stored club tables.rows tables.stored name points;
+            (named_once club tables.rows.members tables.storage.members tables.sound) name points sums t.count t.ran;
+        storage = credit_stored club tables.rows tables.storage name points;
         sound = fits;
       })
 
@@ -237,11 +237,11 @@ module _ {S : Type 0} (g : Ghosts S) (old : Held S) (db : Database) (club : Club
       → HoldsClub db (after (MarkRevoked name) club)
   revoke_made name fits ran =
       let t = one_turn g old db _ ran in
-      let unique = subst (AllPairs (λ (a : Key) (b : Key). a.name ≢ b.name)) (sym tables.stored.keys) tables.sound.unique.keys in
+      let unique = subst (AllPairs (λ (a : Key) (b : Key). a.name ≢ b.name)) (sym tables.storage.keys) tables.sound.unique.keys in
       held_by g old db _ t.mid t.left (record {
         rows = _;
         holds_rows = key_revoked (state g (transaction_start old)) (state g t.mid) tables.rows tables.holds_rows unique name t.count t.ran;
-        stored = revoke_stored club tables.rows tables.stored name;
+        storage = revoke_stored club tables.rows tables.storage name;
         sound = fits;
       })
 
@@ -251,14 +251,14 @@ module _ {S : Type 0} (g : Ghosts S) (old : Held S) (db : Database) (club : Club
   rotate_made name root was until has fits ran =
       let t1 = ran.turns in
       let t2 = t1.3 in
-      let unique = subst (AllPairs (λ (a : Key) (b : Key). a.name ≢ b.name)) (sym tables.stored.keys) tables.sound.unique.keys in
-      let put = older_represents (state g (transaction_start old)) (state g t1.0) tables.rows tables.holds_rows tables.stored.rotated name
+      let unique = subst (AllPairs (λ (a : Key) (b : Key). a.name ≢ b.name)) (sym tables.storage.keys) tables.sound.unique.keys in
+      let put = older_represents (state g (transaction_start old)) (state g t1.0) tables.rows tables.holds_rows tables.storage.olders_once name
       (good_until until was) t1.1 t1.2 in
       let mid : Rows = record tables.rows { olders = put_older name (good_until until was) tables.rows.olders } in
       held_by g old db _ t2.0 (ran.is ∙ ap (λ h. (state g h).now) t2.3) (record {
         rows = _;
         holds_rows = root_set (state g t1.0) (state g t2.0) mid put unique name root until t2.1 t2.2;
-        stored = rotate_stored club tables.rows tables.stored name root was until has;
+        storage = rotate_stored club tables.rows tables.storage name root was until has;
         sound = fits;
       })
 
@@ -268,17 +268,17 @@ module _ {S : Type 0} (g : Ghosts S) (old : Held S) (db : Database) (club : Club
       let t = one_turn g old db _ ran in
       held_by g old db _ t.mid t.left (record {
         rows = _;
-        holds_rows = slot_closed (state g (transaction_start old)) (state g t.mid) tables.rows tables.holds_rows tables.stored.once slot t.count t.ran;
-        stored = close_stored club tables.rows tables.stored slot;
+        holds_rows = slot_closed (state g (transaction_start old)) (state g t.mid) tables.rows tables.holds_rows tables.storage.once slot t.count t.ran;
+        storage = close_stored club tables.rows tables.storage slot;
         sound = fits;
       })
 
   bookings_once : AllPairs (λ (a : Booking) (b : Booking). ¬ ((a.key ≡ b.key) × (a.number ≡ b.number))) tables.rows.bookings
-  bookings_once = subst (AllPairs (λ (a : Booking) (b : Booking). ¬ ((a.key ≡ b.key) × (a.number ≡ b.number)))) (sym tables.stored.bookings)
+  bookings_once = subst (AllPairs (λ (a : Booking) (b : Booking). ¬ ((a.key ≡ b.key) × (a.number ≡ b.number)))) (sym tables.storage.bookings)
       tables.sound.unique.bookings
 
   all_held : AllByRecursion (λ (x : SlotRow). stored_slot_use x.slot tables.rows.slots ≡ x.held) tables.rows.slots
-  all_held = held_is tables.rows.slots (apart_from_pairs (λ (a : SlotRow) (b : SlotRow). a.slot ≢ b.slot) tables.rows.slots tables.stored.once)
+  all_held = held_is tables.rows.slots (apart_from_pairs (λ (a : SlotRow) (b : SlotRow). a.slot ≢ b.slot) tables.rows.slots tables.storage.once)
 
   pub nothing_made : (key : List ℕ) (number refund : ℕ) → HasNoneToCancel key number club → FitsClub (MarkCancelled key number refund) club
       → Ran g ((CANCEL_BOOKING.now, Text key ∷ whole number ∷ whole refund ∷ []) ∷ []) old db → HoldsClub db (after (MarkCancelled key number refund) club)
@@ -288,7 +288,7 @@ module _ {S : Type 0} (g : Ghosts S) (old : Held S) (db : Database) (club : Club
         rows = _;
         holds_rows = booking_cancelled (state g (transaction_start old))
             (state g t.mid) tables.rows tables.holds_rows bookings_once key number refund t.count t.ran;
-        stored = same_stored club tables.rows tables.stored tables.sound key number refund none;
+        storage = same_stored club tables.rows tables.storage tables.sound key number refund none;
         sound = fits;
       })
 
@@ -302,9 +302,9 @@ module _ {S : Type 0} (g : Ghosts S) (old : Held S) (db : Database) (club : Club
       let left : db ≡ (state g t3.0).now = ran.is ∙ ap (λ h. (state g h).now) t3.3 in
       let row : IsBooking booking = all_last IsBooking club.bookings booking (all_of IsBooking (club.bookings ++ booking ∷ []) fits.rows.bookings) in
       let booked = all_last (λ (b : Booking). Contains (map (λ (f : Facility). f.name) club.facilities) b.slot.facility) club.bookings booking
-      (all_of _ (club.bookings ++ booking ∷ []) fits.references.booked) in
+      (all_of _ (club.bookings ++ booking ∷ []) fits.references.facilities) in
       let cost_low : cost_of booking ≤ 499_950 = omega (arith, row.charge) in
-      let uses = subst (AllByRecursion (Uses member (pos (cost_of booking)) (λ n. n + cost_of booking))) (sym tables.stored.members)
+      let uses = subst (AllByRecursion (Uses member (pos (cost_of booking)) (λ n. n + cost_of booking))) (sym tables.storage.members)
       (uses_more club member (cost_of booking) cost_low club.members (few_used club tables.sound)) in
       let few = few_taken (after (InsertBooking booking) club) fits booking.slot booked in
       let more = taken_more club booking booking.slot in
@@ -312,18 +312,18 @@ module _ {S : Type 0} (g : Ghosts S) (old : Held S) (db : Database) (club : Club
       club.bookings) ≡ taken_in booking.slot club.bookings + persons_taken booking =
       ap (λ b. if b then taken_in booking.slot club.bookings + persons_taken booking else taken_in booking.slot club.bookings) (same_itself booking.slot) in
       let sum = total (taken_in booking.slot club.bookings) (persons_taken booking) (omega (arith, few, more, here)) in
-      let takes = takes_of club tables.rows.slots tables.stored.slots booking.slot (pos (persons_taken booking)) (λ n.
+      let takes = takes_of club tables.rows.slots tables.storage.slots booking.slot (pos (persons_taken booking)) (λ n.
       n + persons_taken booking) sum tables.rows.slots all_held in
       let first = booking_put (state g (transaction_start old)) (state g t1.0) tables.rows tables.holds_rows booking t1.1 t1.2 in
-      let second = member_used (state g t1.0) (state g t2.0) _ first (named_once club tables.rows.members tables.stored.members tables.sound) member
+      let second = member_used (state g t1.0) (state g t2.0) _ first (named_once club tables.rows.members tables.storage.members tables.sound) member
       (pos (cost_of booking)) (λ n. n + cost_of booking) uses t2.1 t2.2 in
-      let third = slot_taken (state g t2.0) (state g t3.0) _ second tables.stored.once booking.slot (pos (persons_taken booking)) (λ n.
+      let third = slot_taken (state g t2.0) (state g t3.0) _ second tables.storage.once booking.slot (pos (persons_taken booking)) (λ n.
       n + persons_taken booking) takes (λ none. let e : persons_taken booking ≡ 0 + persons_taken booking = omega arith in ap pos e) t3.1 t3.2 in
       held_by g old db _ t3.0 left (record {
         rows = _;
         holds_rows = third;
-        stored =
-            booking_stored club tables.rows tables.stored tables.sound member booking owned;
+        storage =
+            booking_stored club tables.rows tables.storage tables.sound member booking owned;
         sound = fits;
       })
 
@@ -342,34 +342,34 @@ module _ {S : Type 0} (g : Ghosts S) (old : Held S) (db : Database) (club : Club
       let mine = owner_is club tables.sound booking.key member m.name owned ∙ passes in
       let all : (if is_key_of m.name club booking.key then refund else 0) ≡ refund = ap (λ b. if b then refund else 0) mine in
       omega (arith, back, all) in
-      let uses = subst (AllByRecursion (Uses member (neg_ℤ (pos refund)) (λ n. n - refund))) (sym tables.stored.members)
+      let uses = subst (AllByRecursion (Uses member (neg_ℤ (pos refund)) (λ n. n - refund))) (sym tables.storage.members)
       (uses_less club member refund club.members (few_used club tables.sound) enough) in
       let at = (there club tables.sound booking cancels refund fits).0 in
       let booked = subst (λ (b : Booking). Contains (map (λ (f : Facility). f.name) club.facilities) b.slot.facility) at.2
-      (tables.sound.references.booked at.0 booking at.1) in
+      (tables.sound.references.facilities at.0 booking at.1) in
       let few = few_taken club tables.sound booking.slot booked in
       let back = taken_back club tables.sound booking cancels refund fits booking.slot in
       let here : (if same_slot booking.slot booking.slot then persons_of booking else 0) ≡ persons_of booking =
       ap (λ b. if b then persons_of booking else 0) (same_itself booking.slot) in
       let there_are : persons_of booking ≤ taken_in booking.slot club.bookings = omega (arith, back, here) in
       let sum = minus (taken_in booking.slot club.bookings) (persons_of booking) there_are (omega (arith, few)) in
-      let takes = takes_of club tables.rows.slots tables.stored.slots booking.slot (neg_ℤ (pos (persons_of booking))) (λ n.
+      let takes = takes_of club tables.rows.slots tables.storage.slots booking.slot (neg_ℤ (pos (persons_of booking))) (λ n.
       n - persons_of booking) sum tables.rows.slots all_held in
       let fresh : list_any (λ (row : SlotRow). same_slot row.slot booking.slot) tables.rows.slots ≡ false
       → neg_ℤ (pos (persons_of booking)) ≡ pos (0 - persons_of booking) = λ none.
-      let nothing : taken_in booking.slot club.bookings ≡ 0 = ap (λ u. u.taken) (sym (tables.stored.slots booking.slot)
+      let nothing : taken_in booking.slot club.bookings ≡ 0 = ap (λ u. u.taken) (sym (tables.storage.slots booking.slot)
       ∙ no_row booking.slot tables.rows.slots none) in
       absurd (omega (arith, nothing, there_are)) in
       let first = booking_cancelled (state g (transaction_start old))
       (state g t1.0) tables.rows tables.holds_rows bookings_once booking.key booking.number refund t1.1 t1.2 in
-      let second = member_used (state g t1.0) (state g t2.0) _ first (named_once club tables.rows.members tables.stored.members tables.sound) member
+      let second = member_used (state g t1.0) (state g t2.0) _ first (named_once club tables.rows.members tables.storage.members tables.sound) member
       (neg_ℤ (pos refund)) (λ n. n - refund) uses t2.1 t2.2 in
-      let third = slot_taken (state g t2.0) (state g t3.0) _ second tables.stored.once booking.slot (neg_ℤ (pos (persons_of booking))) (λ n.
+      let third = slot_taken (state g t2.0) (state g t3.0) _ second tables.storage.once booking.slot (neg_ℤ (pos (persons_of booking))) (λ n.
       n - persons_of booking) takes fresh t3.1 t3.2 in
       held_by g old db _ t3.0 left (record {
         rows = _;
         holds_rows = third;
-        stored =
-            cancel_stored club tables.sound booking cancels refund fits tables.rows tables.stored member owned;
+        storage =
+            cancel_stored club tables.sound booking cancels refund fits tables.rows tables.storage member owned;
         sound = fits;
       })

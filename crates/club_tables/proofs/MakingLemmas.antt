@@ -60,7 +60,7 @@ empty_is_sound = record {
   references = record {
     keys = λ k d low. absurd (omega arith);
     bookings = λ k d low. absurd (omega arith);
-    booked = λ k d low. absurd (omega arith);
+    facilities = λ k d low. absurd (omega arith);
     closed =
         λ k d low. absurd (omega arith);
   };
@@ -81,7 +81,7 @@ empty_is_stored = record {
   once =
       λ i j d less low. absurd (omega arith);
   olders = λ name. refl;
-  rotated = λ i j d less low. absurd (omega arith);
+  olders_once = λ i j d less low. absurd (omega arith);
 }
 
 module _ {S : Type 0} (g : Ghosts S) (old : Held S) (db : Database) (ran : Ran g table_batch old db) where
@@ -141,7 +141,7 @@ module _ {S : Type 0} (g : Ghosts S) (old : Held S) (db : Database) (ran : Ran g
         database = c10.3;
       } in
       let held : HoldsClub
-      (state g t10.0).now empty_club = record { rows = no_rows; holds_rows = holds_rows; stored = empty_is_stored; sound = empty_is_sound } in
+      (state g t10.0).now empty_club = record { rows = no_rows; holds_rows = holds_rows; storage = empty_is_stored; sound = empty_is_sound } in
       subst (λ (d : Database). HoldsClub d empty_club) (sym is) held
 
   -- it does not run over the club's tables

@@ -85,15 +85,16 @@ module _ {S : Type 0} (g : Ghosts S) (old : Held S) (db : Database) (ran : Ran g
       subst (λ (d : Database). HoldsRows d rows) (sym is) left
 
   pub migrated_tables : (club : Club) → HoldsClubVersion1 (state g old).now club → HoldsClub db club
-  migrated_tables club first = record { rows = first.rows; holds_rows = migrated_rows first.rows first.holds_rows; stored = first.stored; sound = first.sound }
+  migrated_tables club first =
+      record { rows = first.rows; holds_rows = migrated_rows first.rows first.holds_rows; storage = first.storage; sound = first.sound }
 
 module _ {S : Type 0} (g : Ghosts S) (old new : Held S) where
   -- the migrated tables hold the same club
   holds_first : (db : Database) → Ran g migration old db → HasCleanDisk (state g old) → (club : Club) (others : List Club)
       → RepresentsVersion1 (state g old) club others → HoldsClub db club
   holds_first db ran clean club others first =
-      let is_open = ran.opened (omega arith) in
-      migrated_tables g old db ran club (subst (λ (d : Database). HoldsClubVersion1 d club) (sym (first.settled clean is_open)) (first.held clean is_open))
+      let is_open = ran.was_open (omega arith) in
+      migrated_tables g old db ran club (subst (λ (d : Database). HoldsClubVersion1 d club) (sym (first.idle clean is_open)) (first.held clean is_open))
 
   pub migrated_represents : HasCleanDisk (state g old) → IsTrue (state g new).is_open → Ran g migration old (state g new).committed
       → (state g new).now ≡ (state g new).committed → IsSettled (state g new)
@@ -108,7 +109,7 @@ module _ {S : Type 0} (g : Ghosts S) (old new : Held S) where
       let earlier = λ (clean : HasCleanDisk (state g new)). let e : HasCleanDisk (state g old) = omega (arith, survives.clean) in e in
       record {
         held = λ clean is_open. let k = kept clean is_open in subst (λ db. HoldsClubVersion1 db club) (sym k.2) (first.held (earlier clean) k.0);
-        settled = λ clean is_open. let k = kept clean is_open in k.1 ∙ sym k.2;
+        idle = λ clean is_open. let k = kept clean is_open in k.1 ∙ sym k.2;
         left = λ clean trees may. elim (survives.crash clean trees may) [
           | inl was ↦ first.left (earlier clean) trees was
           | inr made ↦ inl (made.0, sym made.2, inl (inl (holds_first made.0 made.1 (earlier clean) club others first)))

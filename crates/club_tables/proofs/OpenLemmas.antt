@@ -40,7 +40,7 @@ pub settles : (now : State) (club : Club) (others : List Club) → (HasCleanDisk
     → (HasCleanDisk now → IsTrue now.is_open) → now.now ≡ now.committed → IsSettled now → Represents now club others
 settles now club others held opens same settled = record {
   held = held;
-  settled = λ clean is_open. same;
+  idle = λ clean is_open. same;
   left = λ clean trees may. inl (now.committed, sym (settled (opens clean) trees may), inl (inl (held clean (opens clean))));
 }
 
@@ -49,8 +49,8 @@ module _ {S : Type 0} (g : Ghosts S) (old new : Held S) where
   holds_found : (db : Database) → Ran g table_batch old db → HasCleanDisk (state g old) → (club : Club) (others : List Club) → IsFound (state g old) club others
       → HoldsClub db club
   holds_found db ran clean club others found =
-      let is_open = ran.opened (omega arith) in
-      let now = found.settled clean is_open in
+      let is_open = ran.was_open (omega arith) in
+      let now = found.idle clean is_open in
       elim (found.held clean is_open) [
         | inl (inl tables) ↦ absurd (makes_no_more g old db ran (ap (λ (d : Database). d.schema) now ∙ tables.holds_rows.schema))
         | inl (inr unindexed) ↦ absurd (makes_no_unindexed g old db ran (ap (λ (d : Database). d.schema) now ∙ unindexed.holds_rows.schema))
@@ -70,7 +70,7 @@ module _ {S : Type 0} (g : Ghosts S) (old new : Held S) where
       let earlier = λ (clean : HasCleanDisk (state g new)). let e : HasCleanDisk (state g old) = omega (arith, survives.clean) in e in
       record {
         held = λ clean is_open. let k = kept clean is_open in subst (λ db. HoldsClubAnyVersion db club) (sym k.2) (found.held (earlier clean) k.0);
-        settled = λ clean is_open. let k = kept clean is_open in k.1 ∙ sym k.2;
+        idle = λ clean is_open. let k = kept clean is_open in k.1 ∙ sym k.2;
         left = λ clean trees may. elim (survives.crash clean trees may) [
           | inl was ↦ found.left (earlier clean) trees was
           | inr made ↦ inl (made.0, sym made.2, inl (inl (holds_found made.0 made.1 (earlier clean) club others found)))
@@ -118,10 +118,10 @@ pub version_returned : {S : Type 0} (g : Ghosts S) (old : Held S) (rows : List R
 unfolding Shown
 version_returned g old rows clean asked club others found =
     let is_open = asked_open g VERSION.now [] old rows asked in
-    let now = found.settled clean is_open in
+    let now = found.idle clean is_open in
     let schema = ap (λ (d : Database). d.schema) now in
     let second : HoldsClubVersion2 (state g old).committed club → RepresentsVersion2 (state g old) club others = λ held.
-    record { held = λ _ _. held; settled = found.settled; left = found.left } in
+    record { held = λ _ _. held; idle = found.idle; left = found.left } in
     elim (found.held clean is_open) [
       | inl (inl tables) ↦ inl (
         second (inl tables),
@@ -134,7 +134,7 @@ version_returned g old rows clean asked club others found =
             (subst (λ (d : Database). Holds version_values (d.trees desk_tree) (2 ∷ [])) (sym now) unindexed.holds_rows.version),
       )
       | inr (inl first) ↦ inr (
-        record { held = λ _ _. first; settled = found.settled; left = found.left },
+        record { held = λ _ _. first; idle = found.idle; left = found.left },
         version_row g old rows asked first_schema asks_first (schema ∙ first.holds_rows.schema) 1
             (subst (λ (d : Database). Holds version_values (d.trees desk_tree) (1 ∷ [])) (sym now) first.holds_rows.version),
       )
@@ -152,10 +152,10 @@ one_version rows m n is one =
     cc
 
 pub second_found : (s : State) (club : Club) (others : List Club) → RepresentsVersion2 s club others → IsFound s club others
-second_found s club others second = record { held = λ clean is_open. inl (second.held clean is_open); settled = second.settled; left = second.left }
+second_found s club others second = record { held = λ clean is_open. inl (second.held clean is_open); idle = second.idle; left = second.left }
 
 pub first_found : (s : State) (club : Club) (others : List Club) → RepresentsVersion1 s club others → IsFound s club others
-first_found s club others first = record { held = λ clean is_open. inr (inl (first.held clean is_open)); settled = first.settled; left = first.left }
+first_found s club others first = record { held = λ clean is_open. inr (inl (first.held clean is_open)); idle = first.idle; left = first.left }
 
 -- a new database in memory is found to hold the empty club
 pub empty_found : (c : Held MemStore) → IsEmpty (state over_memory c) → IsFound (state over_memory c) empty_club []
@@ -165,4 +165,4 @@ empty_found c empty =
       refl,
       (empty.1 empty.0.is_open).1,
     )) in
-    record { held = λ _ _. blank; settled = λ _ _. empty.0.clean; left = λ _ trees may. inl ((state over_memory c).committed, sym may, blank) }
+    record { held = λ _ _. blank; idle = λ _ _. empty.0.clean; left = λ _ trees may. inl ((state over_memory c).committed, sym may, blank) }

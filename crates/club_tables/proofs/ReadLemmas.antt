@@ -26,12 +26,12 @@ pub fewer_read : {S : Type 0} (g : Ghosts S) (statement : BoundStatement) (P Q :
     → ((rows : List Row) → Q rows → P rows) → FailsToRead g statement P old new fault → FailsToRead g statement Q old new fault
 fewer_read g statement P Q old new fault through (inl failed) = inl failed
 fewer_read g statement P Q old new fault through (inr it) =
-    inr (record { rows = it.rows; asked = it.asked; unread = λ q. it.unread (through it.rows q); returned = it.returned })
+    inr (record { rows = it.rows; query = it.query; unread = λ q. it.unread (through it.rows q); fault_is = it.fault_is })
 
 -- the fault of one reading
 pub one_failed : {S : Type 0} (g : Ghosts S) (reading : Reading) (old new : Held S) (fault : StoreFault) → HasCleanDisk (state g old)
     → FailsAtReading g reading old new fault → IsReadFault g old new fault
-one_failed g reading old new fault clean failed = record { from = old; after = at_once g old clean; reading = reading; failed = failed }
+one_failed g reading old new fault clean failed = record { from = old; after = at_once g old clean; reading = reading; failure = failed }
 
 -- a result that is true of the current club, by a statement that leaves the committed state unchanged
 pub read_by : {S A : Type 0} (g : Ghosts S) (reading : Reading) (IsAnswer : List Row → A → Type 0) (old new : Held S) (result : Result A StoreFault)
@@ -46,10 +46,10 @@ read_by {A} g reading IsAnswer old new result IsReturned kept quiet gives fails 
     let earlier = λ (clean : HasCleanDisk (state g new)). let e : HasCleanDisk (state g old) = omega (arith, quiet.clean) in e in
     let Given = λ (answer : A). (rows : List Row) × Asked g (reading_statement reading).0 (reading_statement reading).1 old rows × IsAnswer rows answer in
     record {
-      returned = λ clean club others represents. if_ok_map Given (IsReturned club) result (gives clean) (λ answer given.
+      returns = λ clean club others represents. if_ok_map Given (IsReturned club) result (gives clean) (λ answer given.
           returned (earlier clean) club others represents given.0 given.1 answer given.2);
       kept = λ clean. keeps_club g old new kept quiet;
-      untouched = λ rest. kept;
+      no_change = λ rest. kept;
       survives = quiet;
       fault = λ clean. fault_if (FailsAtReading g reading old new) (IsReadFault g old new) result (fails clean) (λ fault failed.
           one_failed g reading old new fault (earlier clean) failed);
@@ -64,6 +64,6 @@ pub read_answer : {S A : Type 0} (g : Ghosts S) (reading : Reading) (IsAnswer : 
     → ReadsClub g old new result IsReturned
 read_answer {A} g reading IsAnswer old new result IsReturned kept quiet answers can returned =
     let Unanswered = λ (rows : List Row). (answer : A) × IsAnswer rows answer in
-    read_by g reading IsAnswer old new result IsReturned kept quiet answers.returned (λ clean.
-    fault_if (FailsToRead g (reading_statement reading) Unanswered old new) (FailsAtReading g reading old new) result (answers.failed clean) (λ fault failed.
+    read_by g reading IsAnswer old new result IsReturned kept quiet answers.success (λ clean.
+    fault_if (FailsToRead g (reading_statement reading) Unanswered old new) (FailsAtReading g reading old new) result (answers.failure clean) (λ fault failed.
     inl (fewer_read g (reading_statement reading) Unanswered (CanRead reading) old new fault can failed))) returned

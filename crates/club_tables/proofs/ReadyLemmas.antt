@@ -23,7 +23,7 @@ module _ (old mid new : State) (earlier : HasCleanDisk mid) (clean : HasCleanDis
       let here : old.now ≡ new.committed = rest before.0 ∙ sym same in
       record {
         ready = record {
-          returned = (one.0, subst (λ db. YieldsRows VERSION.now db (one.0 ∷ [])) here (subst (YieldsRows VERSION.now old.now) one.1 answered), one.2);
+          version_row = (one.0, subst (λ db. YieldsRows VERSION.now db (one.0 ∷ [])) here (subst (YieldsRows VERSION.now old.now) one.1 answered), one.2);
           by_key = known mid_is_idle;
         };
         same = same;

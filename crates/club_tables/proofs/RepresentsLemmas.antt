@@ -29,7 +29,7 @@ represents_on IsHeld old new kept quiet club others rests =
     let earlier = λ (clean : HasCleanDisk new). let e : HasCleanDisk old = omega (arith, quiet.clean) in e in
     record {
       held = λ clean is_open. let k = kept clean is_open in subst (λ db. IsHeld db club) (sym k.2) (rests.held (earlier clean) k.0);
-      settled = λ clean is_open. let k = kept clean is_open in k.1 ∙ sym k.2;
+      idle = λ clean is_open. let k = kept clean is_open in k.1 ∙ sym k.2;
       left = λ clean trees may. elim (quiet.crash clean trees may) [ inl was ↦ rests.left (earlier clean) trees was | inr none ↦ absurd none ];
     }
 
@@ -54,7 +54,7 @@ pub asked_tables : {S : Type 0} (g : Ghosts S) (sql : List ℕ) (params : Row) (
     → HasCleanDisk (state g old) → (club : Club) (others : List Club) → Represents (state g old) club others → HoldsClub (state g old).now club
 asked_tables g sql params old rows asked clean club others represents =
     let is_open = asked_open g sql params old rows asked in
-    subst (λ (db : Database). HoldsClub db club) (sym (represents.settled clean is_open)) (represents.held clean is_open)
+    subst (λ (db : Database). HoldsClub db club) (sym (represents.idle clean is_open)) (represents.held clean is_open)
 
 -- and what they answered
 pub asked_reads : {S : Type 0} (g : Ghosts S) (sql : List ℕ) (params : Row) (old : Held S) (rows : List Row) → Asked g sql params old rows
@@ -116,7 +116,7 @@ survives_none a b c p q = survives_then a b c (λ _. ⊥) (λ _. ⊥) (λ _. ⊥
 
 -- the tables hold the club's own keys and bookings
 pub keys_held : (db : Database) (club : Club) → (tables : HoldsClub db club) → Holds key_values (db.trees keys_tree) club.keys
-keys_held db club tables = subst (Holds key_values (db.trees keys_tree)) tables.stored.keys tables.holds_rows.keys
+keys_held db club tables = subst (Holds key_values (db.trees keys_tree)) tables.storage.keys tables.holds_rows.keys
 
 pub bookings_held : (db : Database) (club : Club) → (tables : HoldsClub db club) → Holds booking_values (db.trees bookings_tree) club.bookings
-bookings_held db club tables = subst (Holds booking_values (db.trees bookings_tree)) tables.stored.bookings tables.holds_rows.bookings
+bookings_held db club tables = subst (Holds booking_values (db.trees bookings_tree)) tables.storage.bookings tables.holds_rows.bookings

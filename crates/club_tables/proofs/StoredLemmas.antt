@@ -71,7 +71,7 @@ member_stored club rows stored sound member fits =
       bookings = stored.bookings;
       slots = stored.slots;
       olders = stored.olders;
-      rotated = stored.rotated;
+      olders_once = stored.olders_once;
       once = stored.once;
     }
 
@@ -85,7 +85,7 @@ credit_stored club rows stored name points = record {
   bookings = stored.bookings;
   slots = stored.slots;
   olders = stored.olders;
-  rotated = stored.rotated;
+  olders_once = stored.olders_once;
   once = stored.once;
 }
 
@@ -98,7 +98,7 @@ facility_stored club rows stored facility = record {
   bookings = stored.bookings;
   slots = stored.slots;
   olders = stored.olders;
-  rotated = stored.rotated;
+  olders_once = stored.olders_once;
   once = stored.once;
 }
 
@@ -153,7 +153,7 @@ key_stored club rows stored sound key new fits = record {
   bookings = stored.bookings;
   slots = stored.slots;
   olders = λ name. stored.olders name ∙ sym (older_pushed name club.keys key new);
-  rotated = stored.rotated;
+  olders_once = stored.olders_once;
   once = stored.once;
 }
   where
@@ -190,7 +190,7 @@ revoke_stored club rows stored name = record {
   bookings = stored.bookings;
   slots = stored.slots;
   olders = λ n. stored.olders n ∙ sym (older_mapped (revoked_key name) (λ k. refl) (λ k. refl) n club.keys);
-  rotated = stored.rotated;
+  olders_once = stored.olders_once;
   once = stored.once;
 }
   where
@@ -262,7 +262,7 @@ rotate_stored club rows stored name root was until has = record {
       ∙ ap (λ o. let returned : Option OlderRoot = if bytes_eq name n then Some (good_until until was) else o in
       returned) (stored.olders n)
       ∙ sym (named_so name was n until (key_named n club) (found_named n) (of_name n)) ∙ sym (older_rotated name root until n club.keys);
-  rotated = olders_once name (good_until until was) rows.olders stored.rotated;
+  olders_once = olders_once name (good_until until was) rows.olders stored.olders_once;
 }
   where
     each : (owner : List ℕ) (bookings : List Booking) → AllByRecursion (λ (b : Booking).
@@ -305,7 +305,7 @@ close_stored club rows stored slot = record {
       ∙ ap (λ c. let u : SlotUse = record { taken = taken_in s club.bookings; closed = c } in
       u) (sym (list_any-append (λ other. same_slot other s) club.closed (slot ∷ [])));
   olders = stored.olders;
-  rotated = stored.rotated;
+  olders_once = stored.olders_once;
   once = put_once slot close_use rows.slots stored.once;
 }
 
@@ -379,6 +379,6 @@ booking_stored club rows stored sound member booking owned = record {
       v) (stored.slots s)
       ∙ recounted_use club s next (same_slot booking.slot s) (taken_in s (club.bookings ++ booking ∷ [])) (taken_more club booking s);
   olders = stored.olders;
-  rotated = stored.rotated;
+  olders_once = stored.olders_once;
   once = put_once booking.slot (take_use (λ n. n + persons_taken booking)) rows.slots stored.once;
 }

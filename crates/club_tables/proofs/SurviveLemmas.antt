@@ -89,4 +89,4 @@ module _ {S : Type 0} (g : Ghosts S) where
 
   -- an opening after a reading
   pub opened_after : (a b c : Held S) (fault : StoreFault) → IsAfterReadings g a b → IsOpeningFault g b c fault → IsOpeningFault g a c fault
-  opened_after a b c fault first it = record { from = it.from; after = after_then a b it.from first it.after; failed = it.failed }
+  opened_after a b c fault first it = record { from = it.from; after = after_then a b it.from first it.after; failure = it.failure }

@@ -30,7 +30,7 @@ module _ {S : Type 0} (g : Ghosts S) (all : List BoundStatement) (some : 0 < len
 
   made : (db : Database) → Ran g all old db → HoldsClub db next
   made db ran = makes db
-      (subst (λ (d : Database). HoldsClub d club) (sym (represents.settled earlier (ran.opened some))) (represents.held earlier (ran.opened some))) ran
+      (subst (λ (d : Database). HoldsClub d club) (sym (represents.idle earlier (ran.was_open some))) (represents.held earlier (ran.was_open some))) ran
 
   pub written : IsSettled (state g new) → IsTrue (state g new).is_open → Ran g all old (state g new).committed → (state g new).now ≡ (state g new).committed
       → Represents (state g new) next []
@@ -39,7 +39,7 @@ module _ {S : Type 0} (g : Ghosts S) (all : List BoundStatement) (some : 0 < len
   pub unwritten : IsKept (state g old) (state g new) → Represents (state g new) club (next ∷ others)
   unwritten kept = record {
     held = λ clean is_open. let k = kept clean is_open in subst (λ db. HoldsClub db club) (sym k.2) (represents.held earlier k.0);
-    settled = λ clean is_open. let k = kept clean is_open in k.1 ∙ sym k.2;
+    idle = λ clean is_open. let k = kept clean is_open in k.1 ∙ sym k.2;
     left = λ clean trees may. elim (survives.crash clean trees may) [
       | inl was ↦ elim (represents.left earlier trees was) [ inl here ↦ inl here | inr there ↦ inr (inr there) ]
       | inr new ↦ inr (inl (new.0, sym new.2, inl (inl (made new.0 new.1))))
@@ -74,13 +74,13 @@ makes g all some old new r commits settled IsIt change are made =
     let earlier = λ (clean : HasCleanDisk (state g new)). let e : HasCleanDisk (state g old) = omega (arith, commits.survives.clean) in e in
     record {
       was_clean = earlier;
-      changed = λ clean club others it represents fits. wrote g all some old new commits.survives clean club (after change club) others represents
+      effect = λ clean club others it represents fits. wrote g all some old new commits.survives clean club (after change club) others represents
           (λ db tables ran.
           made db club it tables fits ran) r (commits.ran clean) commits.kept settled;
-      untouched = on_err r commits.kept (λ kept rest. kept);
+      no_change = on_err r commits.kept (λ kept rest. kept);
       survives = may_commit g all (AreStatementsOf change) are old new commits.survives;
       fault = λ clean. fault_if (FailsToRun g all old new) (IsChangeFault g IsIt change old new) r (commits.fault clean) (λ fault failed.
-          inr (inl (record { from = old; after = at_once g old (earlier clean); statements = all; are = are; failed = failed })));
+          inr (inl (record { from = old; after = at_once g old (earlier clean); statements = all; are = are; failure = failed })));
     }
 
 -- a refusal before the first statement
@@ -89,12 +89,12 @@ pub unmade : {S : Type 0} (g : Ghosts S) (held : Held S) (IsIt : Club → Type 0
     → ChangesClubWhere g IsIt change held held (Err Storage)
 unmade g held IsIt change refused = record {
   was_clean = λ clean. clean;
-  changed = λ clean club others it represents fits. record {
+  effect = λ clean club others it represents fits. record {
     held = represents.held;
-    settled = represents.settled;
+    idle = represents.idle;
     left = λ clean trees may. elim (represents.left clean trees may) [ inl here ↦ inl here | inr there ↦ inr (inr there) ];
   };
-  untouched = kept_when_idle (state g held);
+  no_change = kept_when_idle (state g held);
   survives = commits_nothing g (AreStatementsOf change) held held (survives_same (state g held));
-  fault = λ clean. inr (inr (record { refused = λ club others it represents. refused club it; returned = refl }));
+  fault = λ clean. inr (inr (record { before_write = λ club others it represents. refused club it; fault_is = refl }));
 }

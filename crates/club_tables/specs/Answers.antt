@@ -81,9 +81,9 @@ IsCount rows count = count ≡ length rows
 -- the query returned rows that can't be decoded
 pub record IsUnread {S : Type 0} (g : Ghosts S) (statement : BoundStatement) (CanRead : List Row → Type 0) (old : Held S) (fault : StoreFault) : Type 0 where
   pub rows : List Row
-  pub asked : Asked g statement.0 statement.1 old rows
+  pub query : Asked g statement.0 statement.1 old rows
   pub unread : ¬ CanRead rows
-  pub returned : fault ≡ Storage
+  pub fault_is : fault ≡ Storage
 
 -- the query was refused, or returned rows that can't be decoded
 abbrev pub FailsToRead : {S : Type 0} → Ghosts S → BoundStatement → (List Row → Type 0) → Held S → Held S → StoreFault → Type 0
@@ -94,8 +94,8 @@ FailsToRead g statement CanRead old new fault = FailsToAsk g statement old new f
 pub record Answers {S A : Type 0} (g : Ghosts S) (statement : BoundStatement) (IsAnswer : List Row → A
     → Type 0) (old new : Held S) (result : Result A StoreFault) : Type 0
   where
-    pub returned : HasCleanDisk (state g new) → IfOk result (λ answer. (rows : List Row) × Asked g statement.0 statement.1 old rows × IsAnswer rows answer)
-    pub failed : HasCleanDisk (state g new) → IfErr result (FailsToRead g statement (λ rows. (answer : A) × IsAnswer rows answer) old new)
+    pub success : HasCleanDisk (state g new) → IfOk result (λ answer. (rows : List Row) × Asked g statement.0 statement.1 old rows × IsAnswer rows answer)
+    pub failure : HasCleanDisk (state g new) → IfErr result (FailsToRead g statement (λ rows. (answer : A) × IsAnswer rows answer) old new)
 
 -- a read
 pub data Reading : Type 0 where
@@ -159,4 +159,4 @@ pub record IsReadFault {S : Type 0} (g : Ghosts S) (old new : Held S) (fault : S
   pub from : Held S
   pub after : IsAfterReadings g old from
   pub reading : Reading
-  pub failed : FailsAtReading g reading from new fault
+  pub failure : FailsAtReading g reading from new fault

@@ -13,17 +13,17 @@ use Rattle.club_tables.specs.Transaction.{BoundStatement, Ran, IsKept, transacti
 pub record FailsToAsk {S : Type 0} (g : Ghosts S) (statement : BoundStatement) (old new : Held S) (fault : StoreFault) : Type 0 where
   pub mid : Held S
   pub error : Error
-  pub failed : FailsToQuery statement.0 statement.1 (state g (transaction_start old)) (state g mid) error
+  pub failure : FailsToQuery statement.0 statement.1 (state g (transaction_start old)) (state g mid) error
   pub fault_count : (state g mid).faults ≤ (state g new).faults
-  pub returned : fault ≡ fault_by error
+  pub fault_is : fault ≡ fault_by error
 
 -- the same for a text that was to be prepared
 pub record FailsToPrepare {S : Type 0} (g : Ghosts S) (sql : List ℕ) (old new : Held S) (fault : StoreFault) : Type 0 where
   pub mid : Held S
   pub error : Error
-  pub failed : IsNotRun (state g (transaction_start old)) (state g mid) sql [] error
+  pub failure : IsNotRun (state g (transaction_start old)) (state g mid) sql [] error
   pub fault_count : (state g mid).faults ≤ (state g new).faults
-  pub returned : fault ≡ fault_by error
+  pub fault_is : fault ≡ fault_by error
 
 -- the statements ran in order, within a transaction, up to one that was refused; or all ran, and the commit was refused
 abbrev pub FailsInTurn : {S : Type 0} → Ghosts S → List BoundStatement → Held S → Held S → Error → Type 0
@@ -36,9 +36,9 @@ FailsInTurn {S} g (statement ∷ more) old new error =
 pub record FailsToRun {S : Type 0} (g : Ghosts S) (all : List BoundStatement) (old new : Held S) (fault : StoreFault) : Type 0 where
   pub mid : Held S
   pub error : Error
-  pub failed : FailsInTurn g all (transaction_start old) mid error
+  pub failure : FailsInTurn g all (transaction_start old) mid error
   pub fault_count : (state g mid).faults ≤ (state g new).faults
-  pub returned : fault ≡ fault_by error
+  pub fault_is : fault ≡ fault_by error
 
 -- Statements in a transaction of their own: all ran and were committed, or the committed state is unchanged. After a crash their effects may be there.
 pub record Commits {S : Type 0} (g : Ghosts S) (all : List BoundStatement) (old new : Held S) (result : Result (Unit {0}) StoreFault) : Type 0 where

@@ -71,7 +71,7 @@ YieldsRows sql db rows = (c : Compiled) × (understood db.schema sql ≡ Ok c) �
 
 -- tables of a version: one row holds the version, and each row can be read by its key
 pub record IsReady (version : ℕ) (texts : List (List ℕ)) (db : Database) : Type 0 where
-  pub returned : (row : Row) × YieldsRows VERSION.now db (row ∷ []) × HasValues row (version_values version)
+  pub version_row : (row : Row) × YieldsRows VERSION.now db (row ∷ []) × HasValues row (version_values version)
   pub by_key : All (IsUnderstood db.schema) texts
 
 -- tables of a version were there, and are unchanged
@@ -140,7 +140,7 @@ OneOf P (text ∷ texts) = P text ⊎ OneOf P texts
 pub record FailsToPrepareOne {S : Type 0} (g : Ghosts S) (texts : List (List ℕ)) (old new : Held S) (fault : StoreFault) : Type 0 where
   pub from : Held S
   pub after : IsAfterReadings g old from
-  pub failed : OneOf (λ text. FailsToPrepare g text from new fault) texts
+  pub failure : OneOf (λ text. FailsToPrepare g text from new fault) texts
 
 -- why an opening fails: out of memory while it reads the version or looks for the index; the batch that makes the tables, migrates them or makes the
 -- index is refused; a row can't be read by its key; the version is another one
@@ -155,4 +155,4 @@ FailsToTake g old new fault =
 pub record IsOpeningFault {S : Type 0} (g : Ghosts S) (old new : Held S) (fault : StoreFault) : Type 0 where
   pub from : Held S
   pub after : IsAfterReadings g old from
-  pub failed : FailsToTake g from new fault
+  pub failure : FailsToTake g from new fault

@@ -76,9 +76,9 @@ HasNoneToCancel key number club = IfSome (booking_under key number club.bookings
 -- A read-only call. Its result is true of the current club. The club, the possible crash states and an idle connection are unchanged.
 -- If it fails, its fault is that of the error with which a statement was refused, or Storage if rows can't be decoded.
 pub record ReadsClub {S A : Type 0} (g : Ghosts S) (old new : Held S) (result : Result A StoreFault) (IsReturned : Club → A → Type 0) : Type 0 where
-  pub returned : HasCleanDisk (state g new) → Returns (represents_in g) old result IsReturned
+  pub returns : HasCleanDisk (state g new) → Returns (represents_in g) old result IsReturned
   pub kept : HasCleanDisk (state g new) → KeepsClub (represents_in g) old new
-  pub untouched : IsUntouched (state g old) (state g new)
+  pub no_change : IsUntouched (state g old) (state g new)
   pub survives : Survives (state g old) (state g new) (λ _. ⊥)
   pub fault : HasCleanDisk (state g new) → IfErr result (IsReadFault g old new)
 
@@ -100,12 +100,12 @@ pub record IsRunFault {S : Type 0} (g : Ghosts S) (AreStatements : List BoundSta
   pub after : IsAfterReadings g old from
   pub statements : List BoundStatement
   pub are : AreStatements statements
-  pub failed : FailsToRun g statements from new fault
+  pub failure : FailsToRun g statements from new fault
 
 -- the change failed before any statement wrote, for clubs that satisfy a condition
 pub record IsRefusal {S : Type 0} (g : Ghosts S) (IsIt : Club → Type 0) (change : Change) (old : Held S) (fault : StoreFault) : Type 0 where
-  pub refused : (club : Club) (others : List Club) → IsIt club → Represents (state g old) club others → IsRefusedBeforeWrite change club
-  pub returned : fault ≡ Storage
+  pub before_write : (club : Club) (others : List Club) → IsIt club → Represents (state g old) club others → IsRefusedBeforeWrite change club
+  pub fault_is : fault ≡ Storage
 
 -- a fault of a change: a read for it failed, one of its statements was refused, or the change itself was
 abbrev pub IsChangeFault : {S : Type 0} → Ghosts S → (Club → Type 0) → Change → Held S → Held S → StoreFault → Type 0
@@ -117,8 +117,8 @@ IsChangeFault g IsIt change old new fault =
 pub record ChangesClubWhere {S : Type 0} (g : Ghosts S) (IsIt : Club → Type 0) (change : Change) (old new : Held S) (result : Result (Unit {0}) StoreFault)
     : Type 0 where
   pub was_clean : HasCleanDisk (state g new) → HasCleanDisk (state g old)
-  pub changed : HasCleanDisk (state g new) → ChangesWhere IsIt (represents_in g) change old new result
-  pub untouched : OnErr result (IsUntouched (state g old) (state g new))
+  pub effect : HasCleanDisk (state g new) → ChangesWhere IsIt (represents_in g) change old new result
+  pub no_change : OnErr result (IsUntouched (state g old) (state g new))
   pub survives : Survives (state g old) (state g new) (MayCommit g (AreStatementsOf change) old)
   pub fault : HasCleanDisk (state g new) → IfErr result (IsChangeFault g IsIt change old new)
 

@@ -75,7 +75,7 @@ pub record IsStoredAs (club : Club) (rows : Rows) : Type 0 where
   pub bookings : rows.bookings ≡ club.bookings
   pub slots : (slot : Slot) → stored_slot_use slot rows.slots ≡ slot_use club slot
   pub olders : (name : List ℕ) → older_by name rows.olders ≡ older_of name club
-  pub rotated : AllPairs (λ (a : OlderRow) (b : OlderRow). a.key ≢ b.key) rows.olders
+  pub olders_once : AllPairs (λ (a : OlderRow) (b : OlderRow). a.key ≢ b.key) rows.olders
   pub once : AllPairs (λ (a : SlotRow) (b : SlotRow). a.slot ≢ b.slot) rows.slots
 
 -- the persons that a booking takes of its slot

@@ -64,14 +64,14 @@ HoldsRows = HoldsRowsWith club_schema
 pub record HoldsClub (db : Database) (club : Club) : Type 0 where
   pub rows : Rows
   pub holds_rows : HoldsRows db rows
-  pub stored : IsStoredAs club rows
+  pub storage : IsStoredAs club rows
   pub sound : IsSound club
 
 -- the same of tables of version 2 without the index of the bookings
 pub record HoldsClubUnindexed (db : Database) (club : Club) : Type 0 where
   pub rows : Rows
   pub holds_rows : HoldsRowsWith unindexed_schema db rows
-  pub stored : IsStoredAs club rows
+  pub storage : IsStoredAs club rows
   pub sound : IsSound club
 
 -- the tables of version 1 hold these rows and no others: they have none for older roots
@@ -89,7 +89,7 @@ pub record HoldsRowsVersion1 (db : Database) (rows : Rows) : Type 0 where
 pub record HoldsClubVersion1 (db : Database) (club : Club) : Type 0 where
   pub rows : Rows
   pub holds_rows : HoldsRowsVersion1 db rows
-  pub stored : IsStoredAs club rows
+  pub storage : IsStoredAs club rows
   pub sound : IsSound club
 
 -- a database without tables holds the empty club
@@ -113,7 +113,7 @@ IsLeftOf trees (club ∷ others) = ((db : Database) × (db.trees ≡ trees) × H
 -- Nothing is claimed of a closed connection, or after the disk has returned other bytes than were written.
 pub record RepresentsBy (IsHeld : Database → Club → Type 0) (state : State) (club : Club) (others : List Club) : Type 0 where
   pub held : HasCleanDisk state → IsTrue state.is_open → IsHeld state.committed club
-  pub settled : HasCleanDisk state → IsTrue state.is_open → state.now ≡ state.committed
+  pub idle : HasCleanDisk state → IsTrue state.is_open → state.now ≡ state.committed
   pub left : HasCleanDisk state → (trees : Trees) → state.may_leave trees → IsLeftOf trees (club ∷ others)
 
 -- the tables, of version 2 with the index of the bookings, represent the club

@@ -62,7 +62,7 @@ RanInTurn {S} g (statement ∷ more) old new =
 -- these statements ran in order, in a transaction of their own, and left this database
 pub record Ran {S : Type 0} (g : Ghosts S) (all : List BoundStatement) (old : Held S) (db : Database) : Type 0 where
   pub last : Held S
-  pub opened : 0 < length all → IsTrue (state g old).is_open
+  pub was_open : 0 < length all → IsTrue (state g old).is_open
   pub turns : RanInTurn g all (transaction_start old) last
   pub is : db ≡ (state g last).now
 

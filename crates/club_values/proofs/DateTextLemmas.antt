@@ -32,7 +32,7 @@ parts_from_reads text century y year month day len four seven hc hy hm hd e ec e
       short_year = omega arith;
       short_month = hm;
       short_day = hd;
-      spelled =
+      spelling =
           text_from_reads text (date_text year month day) len
           (omega arith, (omega arith, (omega arith, (omega arith, (four, (omega arith, (omega arith, (seven, (omega arith, (omega arith, tt))))))))));
     }
@@ -55,14 +55,14 @@ no_date text never d t =
       short_year = omega (arith, signed_arith);
       short_month = omega arith;
       short_day = omega arith;
-      spelled = t.spelled;
+      spelling = t.spelling;
     })
 
 -- where a text is no date's, it is no day's
 pub no_day : (text : List ℕ) → ((d : Date) → IsDateText text d → ⊥) → (n : ℕ) → SpellsDay text n → ⊥
 unfolding date_record
 no_day text never n s =
-    never (date_record s.year s.month s.day s.real.0) (record { year = s.year; same_year = refl; spelled = s.spelled })
+    never (date_record s.year s.month s.day s.real.0) (record { year = s.year; same_year = refl; spelling = s.spelling })
 
 of_civil : (y m d : ℕ) → IsCivilDate (pos y) m d → IsDate (pos y) (pos m) (pos d)
 of_civil y m d h = (h.0, (omega (arith, signed_arith), omega (arith, signed_arith)), (omega (arith, signed_arith), omega (arith, signed_arith)))
@@ -77,10 +77,10 @@ date_by_parts text y m d (Ok date) p can h =
     record {
       year = y;
       same_year = h.0;
-      spelled = rw (from_pos _ _ h.1, from_pos _ _ h.2) p.spelled;
+      spelling = rw (from_pos _ _ h.1, from_pos _ _ h.2) p.spelling;
     }
 date_by_parts text y m d (Err e) p can h = λ date t.
-    let same = parts_are_one y m d t.year date.month date.day (sym p.spelled ∙ t.spelled) in
+    let same = parts_are_one y m d t.year date.month date.day (sym p.spelling ∙ t.spelling) in
     let P : ℤ → Type 0 = λ year. IsCivilDate year date.month date.day in
     let is : IsCivilDate (pos t.year) date.month date.day = subst P t.same_year (civil date) in
     let error = can (rw (same.0, same.1, same.2) (of_civil t.year date.month date.day is)) in
@@ -94,7 +94,7 @@ reads_date text y m d yz mz dz r o p ey em ed can value e =
 
 date_is : (text : List ℕ) (d : Date) (n : ℕ) → IsDateText text d → SpellsDay text n → epoch_day d ≡ pos n
 date_is text d n t s =
-    let same = parts_are_one t.year d.month d.day s.year s.month s.day (sym t.spelled ∙ s.spelled) in
+    let same = parts_are_one t.year d.month d.day s.year s.month s.day (sym t.spelling ∙ s.spelling) in
     rw (t.same_year, same.0, same.1, same.2) s.real.1
 
 -- the day of a text is the day of its date
@@ -105,7 +105,7 @@ spells_by_date text d t (Some n) h =
       year = t.year;
       month = d.month;
       day = d.day;
-      spelled = t.spelled;
+      spelling = t.spelling;
       real = (subst P t.same_year (civil d), ap (λ (y : ℤ). days_from_civil y d.month d.day) (sym t.same_year) ∙ h.1);
       within = h.0;
     }

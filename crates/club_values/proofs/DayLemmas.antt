@@ -128,7 +128,7 @@ date_text-day_text n y m d h is =
 
 -- a text that spells a day is the day's text
 pub spells-day_text : (text : List ℕ) (n : ℕ) → SpellsDay text n → text ≡ day_text n
-spells-day_text text n s = s.spelled ∙ date_text-day_text n s.year s.month s.day s.within s.real
+spells-day_text text n s = s.spelling ∙ date_text-day_text n s.year s.month s.day s.within s.real
 
 pub day_text-spells : (n : ℕ) → IsDay n → SpellsDay (day_text n) n
 unfolding day_text
@@ -137,7 +137,7 @@ day_text-spells n h =
       year = year_of n;
       month = month_of n;
       day = day_of_month n;
-      spelled = refl;
+      spelling = refl;
       real = civil_date n h;
       within = h;
     }

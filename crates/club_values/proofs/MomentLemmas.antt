@@ -8,7 +8,7 @@ use Rattle.club_values.proofs.DayLemmas.{day_text-spells, spells-day_text, day_t
 
 -- the date is the first ten bytes, and the time what follows
 parts_of : (text : List ℕ) (n : ℕ) (s : SpellsMoment text n) → (take 10 text ≡ s.date) × (drop 10 text ≡ s.time)
-parts_of text n s = (rw (s.spelled, s.spells_day.spelled) refl, rw (s.spelled, s.spells_day.spelled) refl)
+parts_of text n s = (rw (s.spelling, s.spells_day.spelling) refl, rw (s.spelling, s.spells_day.spelling) refl)
 
 pub no_day_no_moment : (text : List ℕ) → ((n : ℕ) → SpellsDay (take 10 text) n → ⊥) → (n : ℕ) → SpellsMoment text n → ⊥
 no_day_no_moment text never n s =
@@ -28,7 +28,7 @@ spells-moment_text text n s =
     let hour : n % 1440 / 60 ≡ s.spells_time.hour = omega (arith, s.number, s.spells_time.number, s.spells_time.hour_within, s.spells_time.minute_within) in
     let minute : n % 60 ≡ s.spells_time.minute = omega (arith, s.number, s.spells_time.number, s.spells_time.hour_within, s.spells_time.minute_within) in
     let date : s.date ≡ day_text s.day = spells-day_text s.date s.day s.spells_day in
-    (rw (day, hour, minute, s.spelled, date, s.spells_time.spelled) refl, omega (arith, s.spells_day.within))
+    (rw (day, hour, minute, s.spelling, date, s.spells_time.spelling) refl, omega (arith, s.spells_day.within))
 
 pub moment_text-spells : (n : ℕ) → IsMoment n → SpellsMoment (moment_text n) n
 unfolding moment_text
@@ -38,12 +38,12 @@ moment_text-spells n h =
       time = time_text (n % 1440 / 60) (n % 60);
       day = n / 1440;
       minute = n % 1440;
-      spelled = refl;
+      spelling = refl;
       spells_day = day_text-spells (n / 1440) (omega arith, omega arith);
       spells_time = record {
         hour = n % 1440 / 60;
         minute = n % 60;
-        spelled = refl;
+        spelling = refl;
         hour_within = omega arith;
         minute_within = omega arith;
         number = omega arith;
@@ -69,4 +69,4 @@ unfolding moment_text
 joined_text date t₁ t₂ day minute n s e₁ e₂ ed em =
     let same : n % 1440 % 60 ≡ n % 60 = omega arith in
     let text : day_text (n / 1440) ≡ date = ap day_text (sym ed) ∙ sym (spells-day_text date day s) in
-    rw (e₁, e₂, em, same, text, s.spelled) refl
+    rw (e₁, e₂, em, same, text, s.spelling) refl

@@ -73,7 +73,7 @@ pub reads_hours : ReadsHours
 unfolding hour_of_text
 reads_hours text =
     found_where text (SpellsHour text) IsHour (λ t. two_at t 0) two_digits _ (λ n. Decides-ltb n 24)
-    (λ n s. (s.within, s.spelled)) (λ n is e. record { spelled = e; within = is }) (λ n is. two_again n)
+    (λ n s. (s.within, s.spelling)) (λ n is e. record { spelling = e; within = is }) (λ n is. two_again n)
 
 always : {A : Type 0} (x : A) → Decides true (Unit {0})
 always x = ((λ e. tt), (λ u. refl))

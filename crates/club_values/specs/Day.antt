@@ -27,7 +27,7 @@ pub record SpellsDay (text : List ℕ) (n : ℕ) : Type 0 where
   pub year : ℕ
   pub month : ℕ
   pub day : ℕ
-  pub spelled : text ≡ date_text year month day
+  pub spelling : text ≡ date_text year month day
   pub real : IsDateOf year month day n
   pub within : IsDay n
 
@@ -36,13 +36,13 @@ pub record AreDateParts (text : List ℕ) (year month day : ℕ) : Type 0 where
   pub short_year : year < 10000
   pub short_month : month < 100
   pub short_day : day < 100
-  pub spelled : text ≡ date_text year month day
+  pub spelling : text ≡ date_text year month day
 
 -- the text of a date whose year has four digits
 pub record IsDateText (text : List ℕ) (date : Date) : Type 0 where
   pub year : ℕ
   pub same_year : date.year ≡ pos year
-  pub spelled : text ≡ date_text year date.month date.day
+  pub spelling : text ≡ date_text year date.month date.day
 
 -- The date of a day by arithmetic. Years begin on 1 March here, so that a leap day is the last of its year; day 9556 is 1996-03-01.
 -- the years since 1 March 1996

@@ -11,5 +11,5 @@ IsHour n = n < hours_a_day
 
 -- two digits, 00 to 23
 pub record SpellsHour (text : List ℕ) (n : ℕ) : Type 0 where
-  pub spelled : text ≡ two_digits n
+  pub spelling : text ≡ two_digits n
   pub within : IsHour n

@@ -28,7 +28,7 @@ time_text hour minute = 84 ∷ two_digits hour ++ 58 ∷ two_digits minute
 pub record SpellsTime (text : List ℕ) (n : ℕ) : Type 0 where
   pub hour : ℕ
   pub minute : ℕ
-  pub spelled : text ≡ time_text hour minute
+  pub spelling : text ≡ time_text hour minute
   pub hour_within : hour < hours_a_day
   pub minute_within : minute < minutes_an_hour
   pub number : n ≡ hour * minutes_an_hour + minute
@@ -39,7 +39,7 @@ pub record SpellsMoment (text : List ℕ) (n : ℕ) : Type 0 where
   pub time : List ℕ
   pub day : ℕ
   pub minute : ℕ
-  pub spelled : text ≡ date ++ time
+  pub spelling : text ≡ date ++ time
   pub spells_day : SpellsDay date day
   pub spells_time : SpellsTime time minute
   pub number : n ≡ day * minutes_a_day + minute

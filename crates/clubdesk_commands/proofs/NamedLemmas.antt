@@ -17,7 +17,7 @@ commands =
 
 has_commands : HasCommands application commands (sub_at 12)
 unfolding application
-has_commands = record { helps = refl; needs = refl; all = refl; named = refl; bare = refl }
+has_commands = record { helps = refl; needs = refl; all = refl; help_name = refl; bare = refl }
 
 names_built : ((sub_at 0).name ≡ codes "add-member") × ((sub_at 1).name ≡ codes "credit") × ((sub_at 2).name ≡ codes "add-facility")
     × ((sub_at 3).name ≡ codes "add-key") × ((sub_at 4).name ≡ codes "revoke-key") × ((sub_at 5).name ≡ codes "rotate-key")

@@ -24,7 +24,7 @@ use Rattle.clubdesk_commands.specs.AtNeed.{Closing, Opening}
 use Rattle.clubdesk_commands.specs.Fault.{fault_of_opening}
 use Rattle.clubdesk_commands.specs.Run.{Announces, AnswersWords, Does, EndsFor, IsOfTask, IsSilent, Performs, job_of}
 use Rattle.clubdesk_commands.specs.Run as spec
-use Rattle.clubdesk_commands.specs.Words.{AsksText, IsFaultOf, ReadsWords, asked, job_of_words}
+use Rattle.clubdesk_commands.specs.Words.{AsksText, IsFaultOf, ReadsWords, asked_job, job_of_words}
 use Rattle.clubdesk_commands.specs.declared.fault.Fault.{Fault}
 use Rattle.clubdesk_commands.specs.declared.fault.Fault.TheVariants.{Refused, Words, BadValue, Memory, Storage, ClockOutOfRange, InputOutput}
 use Rattle.clubdesk_commands.specs.declared.task.Service.{Service}
@@ -36,7 +36,7 @@ use Rattle.clubdesk_commands.specs.declared.words.Asked.TheVariants.{Perform, Sh
 
 -- ---- what the words ask for
 
-some_asked : (words : List Text) (command : JobModel) → refusals words ≡ [] → job_of_words words ≡ Ok command → asked words ≡ Some command
+some_asked : (words : List Text) (command : JobModel) → refusals words ≡ [] → job_of_words words ≡ Ok command → asked_job words ≡ Some command
 some_asked words command clear is = rw (clear, is) refl
 
 -- words that give a fault ask for nothing
@@ -44,14 +44,14 @@ among_some : (k : ErrorKind) (kinds : Kinds) → IsAmong k kinds → is_empty ki
 among_some k [] among = absurd among
 among_some k (x ∷ kinds) among = grind (arith, nat_tests)
 
-none_asked : (words : List Text) (k : ErrorKind) → IsAmong k (refusals words) → asked words ≡ None
+none_asked : (words : List Text) (k : ErrorKind) → IsAmong k (refusals words) → asked_job words ≡ None
 none_asked words k among = rw (among_some k (refusals words) among) refl
 
-no_text_asked : (words : List Text) → AsksText words → asked words ≡ None
+no_text_asked : (words : List Text) → AsksText words → asked_job words ≡ None
 no_text_asked words (inl help) = none_asked words kind.DisplayHelp help
 no_text_asked words (inr version) = none_asked words kind.DisplayVersion version
 
-pub task_asked : (words : List Text) (of_words : Asked) → ReadsWords words (Ok of_words) → asked words ≡ job_of of_words
+pub task_asked : (words : List Text) (of_words : Asked) → ReadsWords words (Ok of_words) → asked_job words ≡ job_of of_words
 task_asked words (ShowText text) reads = no_text_asked words reads
 task_asked words (Perform job) reads = some_asked words job reads.0 reads.1
 
@@ -60,7 +60,7 @@ pub same_job : (of_words : Asked) (job asked_for : JobModel) → of_words ≡ Pe
 same_job of_words job asked_for is requested = let found : job_of (Perform job) ≡ Some asked_for = rw is at requested in cc
 
 -- and so do words with a fault, memory aside
-pub nothing_asked : (words : List Text) (fault : Fault) → IsFaultOf words fault → (fault ≡ Memory) ⊎ (asked words ≡ None)
+pub nothing_asked : (words : List Text) (fault : Fault) → IsFaultOf words fault → (fault ≡ Memory) ⊎ (asked_job words ≡ None)
 nothing_asked words (Words error) (inl among) = inr (none_asked words _ among.0)
 nothing_asked words (Words error) (inr (clear, (refusal, is, of_kind))) = inr (rw (clear, is) refl)
 nothing_asked words BadValue bad = inr (rw (bad.0, bad.1) refl)
@@ -70,7 +70,7 @@ nothing_asked words Storage bad = absurd bad
 nothing_asked words ClockOutOfRange bad = absurd bad
 nothing_asked words InputOutput bad = absurd bad
 
-some_is : (words : List Text) (command : JobModel) → asked words ≡ Some command → IsSome (asked words)
+some_is : (words : List Text) (command : JobModel) → asked_job words ≡ Some command → IsSome (asked_job words)
 some_is words command is = rw is refl
 
 pub run_words : (words : List Text) (of_words : Asked) (result : Result Unit Fault) → ReadsWords words (Ok of_words) → EndsFor of_words result
@@ -136,19 +136,19 @@ of_server port written (Err Storage) h = absurd h
 
 module _ {S : Type 0} (Clean : S → Type 0) (Represents : S → Club → List Club → Type 0) (old new : S) (written : Output) (result : Result Unit Fault) where
   ends_well : (task : Task) → Does Clean Represents task written result old new → EndsWell written.no_change result
-  ends_well (Order given) h = of_order written result _ h.reply h.returned
+  ends_well (Order given) h = of_order written result _ h.reply h.prints
   ends_well (AddKey name member root form) (office.out_of_memory memory untouched) = rw memory (record { of_task = tt; silent = λ s. untouched.1 })
-  ends_well (AddKey name member root form) (office.order_given line made h) = of_order written result line h.reply h.returned
+  ends_well (AddKey name member root form) (office.order_given line made h) = of_order written result line h.reply h.prints
   ends_well (RotateKey name root until form) (office.out_of_memory memory untouched) = rw memory (record { of_task = tt; silent = λ s. untouched.1 })
-  ends_well (RotateKey name root until form) (office.order_given line made h) = of_order written result line h.reply h.returned
-  ends_well (Sheet day) h = of_sheet written result h.1.read h.1.returned
+  ends_well (RotateKey name root until form) (office.order_given line made h) = of_order written result line h.reply h.prints
+  ends_well (Sheet day) h = of_sheet written result h.1.read h.1.prints
   ends_well (Serve service) h = absurd h
   ends_well (Pause seconds) h = absurd h
   ends_well (AddKeyByInput name member form) h = absurd h
   ends_well (RotateKeyByInput name until form) h = absurd h
-  ends_well (ShowAccount key clock) (looks.at_moment moment shows h) = of_sheet written result h.shown h.returned
+  ends_well (ShowAccount key clock) (looks.at_moment moment shows h) = of_sheet written result h.shown h.gives
   ends_well (ShowAccount key clock) (looks.at_none shows h) = rw h.out_of_range (record { of_task = tt; silent = λ s. h.silent })
-  ends_well (ShowSlot slot) h = of_sheet written result h.shown h.returned
+  ends_well (ShowSlot slot) h = of_sheet written result h.shown h.gives
 
 of_opening : (Silent : Type 0) (fault : StoreFault) (result : Result Unit Fault) → result ≡ Err (fault_of_opening fault) → Silent
     → EndsWell Silent result
@@ -163,7 +163,7 @@ module _ {D S : Type 0} (Opens : Opening D S) (Closes : Closing D S) (FindsWish 
     performs_well (spec.out_of_memory memory same silent nothing) = rw memory (record { of_task = tt; silent = λ s. silent })
     performs_well (spec.not_opened fault opens is silent nothing) = of_opening written.no_change fault result is silent
     performs_well (spec.task_done store left between opens does closes nothing) = ends_well Clean Represents store left written result job.task does
-    performs_well (spec.served service store between is opens serves) = of_server service.port written result serves.announces
+    performs_well (spec.server_done service store between is opens serves) = of_server service.port written result serves.announces
     performs_well (spec.pause_done seconds store between is opens closes wrote nothing) = of_text written result (codes "done\n") wrote
     performs_well (spec.pause_failed seconds is storage same silent nothing) = rw storage (record { of_task = tt; silent = λ s. silent })
 
@@ -174,7 +174,7 @@ module _ {D S : Type 0} (Opens : Opening D S) (Closes : Closing D S) (FindsWish 
     notes_nothing none noted (spec.out_of_memory memory same silent nothing) = spec.out_of_memory memory same silent noted
     notes_nothing none noted (spec.not_opened fault opens is silent nothing) = spec.not_opened fault opens is silent noted
     notes_nothing none noted (spec.task_done store left between opens does closes nothing) = spec.task_done store left between opens does closes noted
-    notes_nothing none noted (spec.served service store between is opens serves) = absurd (none service is)
+    notes_nothing none noted (spec.server_done service store between is opens serves) = absurd (none service is)
     notes_nothing none noted (spec.pause_done seconds store between is opens closes wrote nothing) =
         spec.pause_done seconds store between is opens closes wrote noted
     notes_nothing none noted (spec.pause_failed seconds is storage same silent nothing) = spec.pause_failed seconds is storage same silent noted

@@ -22,10 +22,10 @@ module _ {Desk Seen : Type 0} (Answers : ℕ → AnswerRelation Desk) (Idled : I
     (idles : (old new : Desk) → Fits old → Idled old new → Fits new × SeenIdled (see old) (see new)) where
   one_replied : (moment : ℕ) (bytes : List ℕ) (old : Desk) (reply : Reply) (new : Desk) → Fits old → IsReplied (Answers moment) bytes old reply new
       → Fits new × IsReplied (SeenAnswers moment) bytes (see old) reply (see new)
-  one_replied moment bytes old reply new fits (replied.refused refusal reading is same) =
-      (subst Fits (sym same) fits, replied.refused refusal reading is (ap see same))
-  one_replied moment bytes old reply new fits (replied.answered decoded reading answers) =
-      let step = asks moment decoded.pass decoded.request old reply new fits answers in (step.0, replied.answered decoded reading step.1)
+  one_replied moment bytes old reply new fits (replied.parser_refusal refusal reading is same) =
+      (subst Fits (sym same) fits, replied.parser_refusal refusal reading is (ap see same))
+  one_replied moment bytes old reply new fits (replied.desk_reply decoded reading answers) =
+      let step = asks moment decoded.pass decoded.request old reply new fits answers in (step.0, replied.desk_reply decoded reading step.1)
   one_replied moment bytes old reply new fits (replied.out_of_memory holds is same) =
       (subst Fits (sym same) fits, replied.out_of_memory holds is (ap see same))
 

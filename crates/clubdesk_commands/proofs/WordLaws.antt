@@ -16,11 +16,11 @@ use Rattle.clubdesk_commands.specs.Laws.{RotateKeyTakesV2, CloseSlotTakesItsSlot
 use Rattle.clubdesk_commands.specs.Laws.{PauseTakesItsSeconds, ServeTakesItsLog, ServeTakesItsPatience}
 use Rattle.clubdesk_commands.specs.Values.{parse_number, patience_of}
 use Rattle.desk_server.specs.Zone.{zone_of}
-use Rattle.clubdesk_commands.specs.Words.{asked, job_of_words, job_of_match}
+use Rattle.clubdesk_commands.specs.Words.{asked_job, job_of_words, job_of_match}
 
 -- words that clap reads ask for the command that it found
 pub asked_is : (words : List Text) (found : Option (Text × List Row)) (command : JobModel) → refusals words ≡ [] → subcommand words ≡ found
-    → job_of_match found ≡ Ok command → asked words ≡ Some command
+    → job_of_match found ≡ Ok command → asked_job words ≡ Some command
 unfolding job_of_words
 asked_is words found command clear same is = rw (clear, same, is) refl
 

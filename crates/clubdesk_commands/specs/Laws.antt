@@ -9,7 +9,7 @@ use Rattle.pass_forms.specs.declared.form.Form.TheVariants.{V2}
 use Rattle.passtool_commands.specs.FormName.{form_name}
 use Rattle.clubdesk_commands.specs.Values.{count_of, parse_number, patience_of, pause_seconds, port_of, key_root_of}
 use Rattle.desk_server.specs.Zone.{zone_of}
-use Rattle.clubdesk_commands.specs.Words.{asked}
+use Rattle.clubdesk_commands.specs.Words.{asked_job}
 use Rattle.clubdesk_commands.specs.declared.clock.Clock.TheVariants.{Fixed, InZone}
 use Rattle.clubdesk_commands.specs.declared.task.Task.{Task}
 use Rattle.clubdesk_commands.specs.declared.task.Task.TheVariants.{Order, AddKey, AddKeyByInput, RotateKey, RotateKeyByInput}
@@ -17,7 +17,7 @@ use Rattle.clubdesk_commands.specs.declared.task.Task.TheVariants.{Sheet, Serve,
 
 -- words ask for a task over a file
 abbrev pub AsksFor : List Text → Text → Task → Type 0
-AsksFor words file task = asked words ≡ Some (record { file = file; task = task })
+AsksFor words file task = asked_job words ≡ Some (record { file = file; task = task })
 
 -- `add-member FILE NAME QUOTA`, of whatever name the program has
 abbrev pub AddMemberTakesItsParts : Type 0

@@ -36,7 +36,7 @@ pub record Looks {S : Type 0} (Clean : S → Type 0) (Represents : S → Club �
   pub kept : Clean new → KeepsClub Represents old new
   pub shown : Result (List ℕ) DeskFault
   pub is : Clean new → (club : Club) (others : List Club) → Represents old club others → Shows club shown
-  pub returned : Gives shown
+  pub gives : Gives shown
 
 -- the clock showed no moment of the club's, and nothing was done
 pub record StopsLook {S : Type 0} (old new : S) (written : Output) (result : Result Unit Fault) : Type 0 where

@@ -39,7 +39,7 @@ pub record IsOrdered {S : Type 0} (Represents : S → Club → List Club → Typ
     → Type 0) : Type 0 where
   pub reply : OfficeReply
   pub steps : Clean → Steps Represents old new (machine.Ordered order) (ToOffice reply)
-  pub returned : Printed reply
+  pub prints : Printed reply
 
 -- the text of a key's pass under a root, in a form
 abbrev pub pass_text : List ℕ → List ℕ → Form → Result (List ℕ) FormFault
@@ -73,4 +73,4 @@ pub record IsSheetPrinted {S : Type 0} (Represents : S → Club → List Club �
     → Type 0) : Type 0 where
   pub read : Result (List ℕ) DeskFault
   pub is : Clean → Returns Represents old read (λ club text. IsSheet club day text)
-  pub returned : Printed read
+  pub prints : Printed read

@@ -19,7 +19,7 @@ use Rattle.clubdesk_commands.specs.Input.{IsWholeInput, TakesRoot, asks_root, aw
 use Rattle.clubdesk_commands.specs.Looks.{IsMomentOf, Looks, LooksByClock, ShowsAccount, ShowsSlot, StopsLook}
 use Rattle.clubdesk_commands.specs.Fault.{fault_of_opening}
 use Rattle.clubdesk_commands.specs.Output.{Output, WritesText}
-use Rattle.clubdesk_commands.specs.Words.{AsksText, IsFaultOf, asked}
+use Rattle.clubdesk_commands.specs.Words.{AsksText, IsFaultOf, asked_job}
 use Rattle.clubdesk_commands.specs.declared.clock.Clock.{Clock}
 use Rattle.clubdesk_commands.specs.declared.fault.Fault.{Fault}
 use Rattle.clubdesk_commands.specs.declared.fault.Fault.TheVariants.{Refused, Words, BadValue, Memory, Storage, ClockOutOfRange, InputOutput}
@@ -149,7 +149,7 @@ module _ {Databases Store : Type 0} (Opens : Opening Databases Store) (Closes : 
         → Performs job old new written Noted result
     task_done : (store left : Store) (between : Databases) → Opens old job.file (Ok store) between
         → Does Clean Represents job.task written result store left → Closes between left new → Noted [] → Performs job old new written Noted result
-    served : (service : Service) (store : Store) (between : Databases) → job.task ≡ Serve service → Opens old job.file (Ok store) between
+    server_done : (service : Service) (store : Store) (between : Databases) → job.task ≡ Serve service → Opens old job.file (Ok store) between
         → ServesFile job.file service between store new written Noted result → Performs job old new written Noted result
     pause_done : (seconds : ℕ) (store : Store) (between : Databases) → job.task ≡ Pause seconds → Opens old job.file (Ok store) between
         → Closes between store new → WritesText (codes "done\n") written result → Noted [] → Performs job old new written Noted result
@@ -174,14 +174,14 @@ module _ {Databases Store : Type 0} (Opens : Opening Databases Store) (Closes : 
 
 -- the results that a run on these words may have
 abbrev pub AnswersWords : List Text → Result Unit Fault → Type 0
-AnswersWords words (Ok done) = IsSome (asked words) ⊎ AsksText words
+AnswersWords words (Ok done) = IsSome (asked_job words) ⊎ AsksText words
 AnswersWords words (Err (Words error)) = IsFaultOf words (Words error)
-AnswersWords words (Err BadValue) = IsFaultOf words BadValue ⊎ (asks_root (asked words) ≡ true)
+AnswersWords words (Err BadValue) = IsFaultOf words BadValue ⊎ (asks_root (asked_job words) ≡ true)
 AnswersWords words (Err Memory) = Unit {0}
-AnswersWords words (Err InputOutput) = IsSome (asked words) ⊎ AsksText words
-AnswersWords words (Err (Refused fault)) = IsSome (asked words)
-AnswersWords words (Err Storage) = IsSome (asked words)
-AnswersWords words (Err ClockOutOfRange) = IsSome (asked words)
+AnswersWords words (Err InputOutput) = IsSome (asked_job words) ⊎ AsksText words
+AnswersWords words (Err (Refused fault)) = IsSome (asked_job words)
+AnswersWords words (Err Storage) = IsSome (asked_job words)
+AnswersWords words (Err ClockOutOfRange) = IsSome (asked_job words)
 
 -- a fault after which nothing was written
 abbrev pub IsSilent : Fault → Type 0

@@ -239,8 +239,8 @@ unfoldable pub job_of_words : List Text → Result JobModel ArgumentRefusal
 job_of_words words = job_of_match (subcommand words)
 
 -- the job that the words ask for, if they have no fault
-abbrev pub asked : List Text → Option JobModel
-asked words = if is_empty (refusals words) then result_ok (job_of_words words) else None
+abbrev pub asked_job : List Text → Option JobModel
+asked_job words = if is_empty (refusals words) then result_ok (job_of_words words) else None
 
 -- words that ask for a text: help, or the version
 abbrev pub AsksText : List Text → Type 0

@@ -5,7 +5,7 @@ ghost use Rattle.desk_server.specs.Served.{AreNoted};
 ghost use Rattle.clubdesk_commands.specs.Input.{asks_root, awaits_root};
 ghost use Rattle.clubdesk_commands.specs.Output.{output};
 ghost use Rattle.clubdesk_commands.specs.Run as spec;
-ghost use Rattle.clubdesk_commands.specs.Words.{asked};
+ghost use Rattle.clubdesk_commands.specs.Words.{asked_job};
 
 use crate::databases::Databases;
 use crate::fault::Fault;
@@ -50,17 +50,17 @@ pub fn run<D: Databases, S: AsStr, R: Read, W: Write, G: Log>(
     ensures words { spec.AnswersWords (map S.text words.now) result }
     // Where they ask for a task, it was done at the database of the name that they give.
     ensures command { spec.PerformsAsked D.opens D.closes D.finds_wish D.Store.disk_is_clean
-        D.Store.represents (asked (map S.text words.now))
+        D.Store.represents (asked_job (map S.text words.now))
         (R.remaining reader.old) (R.remaining reader.new) databases.old databases.new
         (output W.contents writer.old writer.new)
         (λ fates. AreNoted G.begins G.notes log.old fates log.new) result }
     // Where they ask for none, no database was opened.
-    ensures not_opened { asked (map S.text words.now) ≡ None → databases.new ≡ databases.old }
+    ensures not_opened { asked_job (map S.text words.now) ≡ None → databases.new ≡ databases.old }
     ensures silent { IfErr result (λ fault. spec.IsSilent fault → writer.new ≡ writer.old) }
-    ensures unlogged { spec.asks_log (asked (map S.text words.now)) ≡ false
+    ensures unlogged { spec.asks_log (asked_job (map S.text words.now)) ≡ false
         → log.new ≡ log.old }
     // Only a root that `--root-stdin` asks for is read.
-    ensures unread { asks_root (asked (map S.text words.now)) ≡ false
+    ensures unread { asks_root (asked_job (map S.text words.now)) ≡ false
         → reader.new ≡ reader.old }
 {
     run_with_clock(rt, rt, databases, words, reader, writer, log)
@@ -85,17 +85,17 @@ pub fn run_with_clock<C: Clock, D: Databases, S: AsStr, R: Read, W: Write, G: Lo
     ensures words { spec.AnswersWords (map S.text words.now) result }
     // Where they ask for a task, it was done at the database of the name that they give.
     ensures command { spec.PerformsAsked D.opens D.closes D.finds_wish D.Store.disk_is_clean
-        D.Store.represents (asked (map S.text words.now))
+        D.Store.represents (asked_job (map S.text words.now))
         (R.remaining reader.old) (R.remaining reader.new) databases.old databases.new
         (output W.contents writer.old writer.new)
         (λ fates. AreNoted G.begins G.notes log.old fates log.new) result }
     // Where they ask for none, no database was opened.
-    ensures not_opened { asked (map S.text words.now) ≡ None → databases.new ≡ databases.old }
+    ensures not_opened { asked_job (map S.text words.now) ≡ None → databases.new ≡ databases.old }
     ensures silent { IfErr result (λ fault. spec.IsSilent fault → writer.new ≡ writer.old) }
-    ensures unlogged { spec.asks_log (asked (map S.text words.now)) ≡ false
+    ensures unlogged { spec.asks_log (asked_job (map S.text words.now)) ≡ false
         → log.new ≡ log.old }
     // Only a root that `--root-stdin` asks for is read.
-    ensures unread { asks_root (asked (map S.text words.now)) ≡ false
+    ensures unread { asks_root (asked_job (map S.text words.now)) ≡ false
         → reader.new ≡ reader.old }
 {
     match command_of(rt.alloc(), words) {

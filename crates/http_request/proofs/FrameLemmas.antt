@@ -49,7 +49,7 @@ no_frame bytes none head body frame =
 pub refused_frame : (bytes : List ℕ) → IsRefusedHead bytes → (head : RequestHead) (body : List ℕ) → ¬ (IsFramed bytes head body)
 refused_frame bytes refused head body frame =
     let same = one_piece frame.piece refused.piece (body ++ frame.after) refused.rest (sym frame.parts ∙ refused.parts) frame.cut refused.cut in
-    refused.refused head (length body) (rw same.0 at frame.asks)
+    refused.refusal head (length body) (rw same.0 at frame.asks)
 
 -- two answers about one piece
 pub same_asked : (piece : List ℕ) (head other : RequestHead) (n m : ℕ) → AsksForBody piece head n → AsksForBody piece other m → (other ≡ head) × (n ≡ m)

@@ -9,7 +9,7 @@ use Rattle.httparse.specs.declared.spans.HeaderSpan.{HeaderSpan}
 use Rattle.httparse.specs.Grammar.{RequestHead}
 use Rattle.http_request.specs.declared.front.Head.{Head}
 use Rattle.http_request.specs.Head.{empty_line, IsPiece}
-use Rattle.http_request.specs.Frame.{AsksForBody, IsFramed, IsRefusedHead, HasNoPiece, IsWhole, has_frame, endless, refused}
+use Rattle.http_request.specs.Frame.{AsksForBody, IsFramed, IsRefusedHead, HasNoPiece, IsWhole, has_frame, endless, bad_head}
 use Rattle.http_request.specs.Front.{IsHeadAt}
 use Rattle.http_request.specs.Words as words
 use Rattle.http_request.specs.Words.{DecodedRequest, IsRequestReading, HoldsBody}
@@ -28,7 +28,7 @@ no_piece bytes piece rest cut parts none =
 pub open_head : (bytes : List ℕ) → HasNoPiece bytes → length bytes < 16384 → ¬ (IsWhole bytes)
 open_head bytes none short (has_frame head body is) = no_frame bytes none head body is
 open_head bytes none short (endless empty long) = omega arith
-open_head bytes none short (refused is) = no_piece bytes is.piece is.rest is.cut is.parts none
+open_head bytes none short (bad_head is) = no_piece bytes is.piece is.rest is.cut is.parts none
 
 -- if no head has ended, bytes hold a whole request if and only if none can end any more
 pub headless_whole : (bytes : List ℕ) → HasNoPiece bytes → (16384 ≤ length bytes) ↔ IsWhole bytes
@@ -46,9 +46,9 @@ open_body bytes piece rest head n cut parts asks short (has_frame other body is)
     let long : length body ≤ length rest = rw (← same.1) (simp length-append (omega arith)) in
     omega (arith, same_length.1)
 open_body bytes piece rest head n cut parts asks short (endless none long) = no_piece bytes piece rest cut parts none
-open_body bytes piece rest head n cut parts asks short (refused is) =
+open_body bytes piece rest head n cut parts asks short (bad_head is) =
     let same = one_piece piece is.piece rest is.rest (sym parts ∙ is.parts) cut is.cut in
-    is.refused head n (rw same.0 at asks)
+    is.refusal head n (rw same.0 at asks)
 
 -- bytes that begin with a head hold a whole request if and only if its body is there
 pub body_there : (bytes : List ℕ) (fields : List HeaderSpan) (found : Head) → IsHeadAt bytes fields found
@@ -101,7 +101,7 @@ refused_more bytes more is = record {
   rest = is.rest ++ more;
   cut = is.cut;
   parts = ap (λ (l : List ℕ). l ++ more) is.parts ∙ append_assoc is.piece is.rest more;
-  refused = is.refused;
+  refusal = is.refusal;
 }
 
 -- a head stays in its place if more bytes follow
@@ -122,7 +122,8 @@ keeps bytes more answer whole (words.has_frame head body is decoded) = words.has
 keeps bytes more answer (has_frame head body is) (words.lacks_frame none returned) = absurd (none head body is)
 keeps bytes more answer (endless empty long) (words.lacks_frame none returned) = words.lacks_frame
     (no_frame (bytes ++ more) (endless_more bytes more empty long)) returned
-keeps bytes more answer (refused is) (words.lacks_frame none returned) = words.lacks_frame (refused_frame (bytes ++ more) (refused_more bytes more is)) returned
+keeps bytes more answer (bad_head is) (words.lacks_frame none returned) =
+    words.lacks_frame (refused_frame (bytes ++ more) (refused_more bytes more is)) returned
 
 pub stays : BodyStays
 stays bytes more (head, body, is, needs) = (head, body, frame_more bytes more head body is, needs)

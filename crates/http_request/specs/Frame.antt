@@ -33,10 +33,10 @@ pub record IsRefusedHead (bytes : List ℕ) : Type 0 where
   pub rest : List ℕ
   pub cut : IsPiece piece
   pub parts : bytes ≡ piece ++ rest
-  pub refused : (head : RequestHead) (body_len : ℕ) → ¬ (AsksForBody piece head body_len)
+  pub refusal : (head : RequestHead) (body_len : ℕ) → ¬ (AsksForBody piece head body_len)
 
 -- the bytes begin with a whole request: its head and its body, or a head that is refused whatever follows
 pub data IsWhole (bytes : List ℕ) : Type 0 where
   has_frame : (head : RequestHead) (body : List ℕ) → IsFramed bytes head body → IsWhole bytes
   endless : HasNoPiece bytes → 16384 ≤ length bytes → IsWhole bytes
-  refused : IsRefusedHead bytes → IsWhole bytes
+  bad_head : IsRefusedHead bytes → IsWhole bytes

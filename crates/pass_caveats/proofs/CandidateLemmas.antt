@@ -62,4 +62,4 @@ candidate-caveat_text (Actions actions) h = ap Actions (actions_again actions h)
 pub one_caveat : (text : List ℕ) (a b : Caveat) → Understood text a → Understood text b → a ≡ b
 one_caveat text a b h k =
     sym (candidate-caveat_text a h.line.real)
-    ∙ (ap candidate (sym h.line.spelled ∙ k.line.spelled) ∙ candidate-caveat_text b k.line.real)
+    ∙ (ap candidate (sym h.line.spelling ∙ k.line.spelling) ∙ candidate-caveat_text b k.line.real)

@@ -18,7 +18,7 @@ use Rattle.pass_caveats.proofs.DecisionLemmas.{Decides-spells, Decides-permits}
 pub caveat_of-understood : (text : List ℕ) (caveat : Caveat) → Understood text caveat → caveat_of text ≡ Some caveat
 unfolding caveat_of
 caveat_of-understood text caveat h =
-    let e : candidate text ≡ caveat = ap candidate h.line.spelled ∙ candidate-caveat_text caveat h.line.real in
+    let e : candidate text ≡ caveat = ap candidate h.line.spelling ∙ candidate-caveat_text caveat h.line.real in
     rw (e, (Decides-spells text caveat).1 h) refl
 
 chosen_is : (text : List ℕ) (found caveat : Caveat) (b : Bool) → (b ≡ true → Understood text found) → cond b (Some found) None ≡ Some caveat →

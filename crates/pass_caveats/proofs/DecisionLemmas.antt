@@ -24,7 +24,7 @@ use Rattle.pass_caveats.specs.CaveatOf.{is_caveat, spells, in_slot, same_kind, i
 Decides-are_names : (names : List (List ℕ)) → Decides (is_caveat (Facility names)) (AreNames names)
 Decides-are_names names =
     let all = Decides-by_and is_name IsName (list_all is_name) Decides-is_name refl (λ _ _. refl) names in
-    Decides-like _ (λ h. record { some = h.0.0; few = h.0.1; named = h.1 }) (λ h. ((h.some, h.few), h.named))
+    Decides-like _ (λ h. record { some = h.0.0; few = h.0.1; each_is_name = h.1 }) (λ h. ((h.some, h.few), h.each_is_name))
     (Decides-and _ _ (Decides-and _ _ (Decides-ltb 0 (length names)) (Decides-leb (length names) 8)) all)
 
 nonempty_from : {A : Type 0} (xs : List A) → 0 < length xs → xs ≢ []
@@ -53,7 +53,7 @@ Decides-is_caveat (Actions actions) = Decides-some (action_texts actions)
 
 pub Decides-spells : (text : List ℕ) (caveat : Caveat) → Decides (spells text caveat) (Understood text caveat)
 Decides-spells text caveat =
-    Decides-like _ (λ h. record { line = record { real = h.0.0; spelled = h.0.1 }; short = h.1 }) (λ h. ((h.line.real, h.line.spelled), h.short))
+    Decides-like _ (λ h. record { line = record { real = h.0.0; spelling = h.0.1 }; short = h.1 }) (λ h. ((h.line.real, h.line.spelling), h.short))
     (Decides-and _ _ (Decides-and _ _ (Decides-is_caveat caveat) (bytes_eq-Decides text (caveat_text caveat))) (Decides-leb (length text) 256))
 
 Decides-in_slot : (slot : Option Slot) (p : Slot → Bool) (P : Slot → Type 0) → ((s : Slot) → Decides (p s) (P s)) → Decides (in_slot slot p) (IsSomeAnd slot P)

@@ -25,15 +25,15 @@ pub reads_until : (text rest : List ℕ) (r : Option ℕ) → text ≡ codes "un
     Reads (λ moment. SpellsCaveat text (Until moment)) r
 reads_until text rest r e h =
     reads_as (SpellsMoment rest) (λ moment. SpellsCaveat text (Until moment)) r h
-    (λ n s. let is = spells-moment_text rest n s in record { real = is.1; spelled = e ∙ ap (λ (t : List ℕ). codes "until < " ++ t) is.0 })
+    (λ n s. let is = spells-moment_text rest n s in record { real = is.1; spelling = e ∙ ap (λ (t : List ℕ). codes "until < " ++ t) is.0 })
     (λ n s. let P : List ℕ → Type 0 = λ t. SpellsMoment t n in
-    subst P (sym (ap (drop 8) (sym e ∙ s.spelled))) (moment_text-spells n s.real))
+    subst P (sym (ap (drop 8) (sym e ∙ s.spelling))) (moment_text-spells n s.real))
 
 -- a number above 49 isn't a number of guests
 pub too_many_guests : (text rest : List ℕ) (n : ℕ) → text ≡ codes "guests <= " ++ rest → SpellsNumber rest n → 49 < n → (x : ℕ) → SpellsCaveat text (Guests x)
     → ⊥
 too_many_guests text rest n e s large x h =
-    let same : n ≡ x = decimal_injective n x (omega (arith, s.within)) (omega (arith, h.real)) (sym s.spelled ∙ ap (drop 10) (sym e ∙ h.spelled)) in
+    let same : n ≡ x = decimal_injective n x (omega (arith, s.within)) (omega (arith, h.real)) (sym s.spelling ∙ ap (drop 10) (sym e ∙ h.spelling)) in
     absurd (omega (arith, h.real))
 
 -- the dates of a line: ten bytes, two dots, and what follows
@@ -45,7 +45,7 @@ pub record AreDates (rest : List ℕ) (a b : ℕ) : Type 0 where
 pub dates_of : (text rest : List ℕ) (a b : ℕ) → text ≡ codes "days = " ++ rest → SpellsCaveat text (Days a b) → AreDates rest a b
 unfolding day_text
 dates_of text rest a b e h =
-    let apart : rest ≡ day_text a ++ (codes ".." ++ day_text b) = ap (drop 7) (sym e ∙ h.spelled) in
+    let apart : rest ≡ day_text a ++ (codes ".." ++ day_text b) = ap (drop 7) (sym e ∙ h.spelling) in
     record { first = ap (take 10) apart; second = ap (drop 10) apart; long = ap (length {A = ℕ}) apart }
 
 pub no_first_day : (text rest front : List ℕ) → text ≡ codes "days = " ++ rest → front ≡ take 10 rest → ((n : ℕ) → SpellsDay front n → ⊥) → (x : ℕ × ℕ) →
@@ -79,7 +79,7 @@ spells_days text rest front back last a b e front_is back_is dots s t le =
     let both : front ++ back ≡ rest = rw (front_is, back_is) (take-append-drop 10 rest) in
     record {
       real = (s.within, t.within, le);
-      spelled = rw (e, ← both, dots, first, second) refl;
+      spelling = rw (e, ← both, dots, first, second) refl;
     }
 
 -- days in the wrong order

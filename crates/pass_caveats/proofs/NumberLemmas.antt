@@ -32,7 +32,7 @@ spells_value : (text : List ℕ) → IsNumber text → SpellsNumber text (digits
 spells_value text h =
     let small = value_below text h in
     record {
-      spelled = sym (decimal-digits_value own text h.digits h.some h.leading (omega arith));
+      spelling = sym (decimal-digits_value own text h.digits h.some h.leading (omega arith));
       within = omega arith;
     }
 
@@ -52,7 +52,7 @@ leading_zero (suc n) h e = absurd (omega (arith, first_decimal (suc n) (omega ar
 pub spells_is_number : (text : List ℕ) (n : ℕ) → SpellsNumber text n → IsNumber text
 spells_is_number text n s =
     let small : n < 2 ^ 64 = omega (arith, s.within) in
-    rw s.spelled (record {
+    rw s.spelling (record {
       some = decimal_nonempty n small;
       short = length-decimal-le 9 n (omega arith) (omega (arith, s.within)) small;
       digits = digits_decimal own n small;

@@ -49,7 +49,7 @@ parts_of-joined (x ∷ y ∷ rest) some h =
     ∙ ap (λ (parts : List (List ℕ)). x ∷ parts) (parts_of-joined (y ∷ rest) (omega arith) (All-tail HasNoComma x (y ∷ rest) h))
 
 pub names_again : (names : List (List ℕ)) → AreNames names → comma_parts (comma_list names) ≡ names
-names_again names h = parts_of-joined names h.some (no_commas names h.named)
+names_again names h = parts_of-joined names h.some (no_commas names h.each_is_name)
 
 pub joined-parts_of : (text : List ℕ) → comma_list (comma_parts text) ≡ text
 joined-parts_of text = join_with_byte-slice_split 44 text

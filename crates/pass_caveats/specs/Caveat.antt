@@ -44,7 +44,7 @@ caveat_text (Actions actions) = codes "actions = " ++ comma_list (action_texts a
 -- the text is a line
 pub record SpellsCaveat (text : List ℕ) (caveat : Caveat) : Type 0 where
   pub real : IsCaveat caveat
-  pub spelled : text ≡ caveat_text caveat
+  pub spelling : text ≡ caveat_text caveat
 
 -- the most bytes of a caveat (ours)
 abbrev pub max_caveat_len : ℕ

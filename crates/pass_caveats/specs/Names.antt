@@ -10,4 +10,4 @@ max_names = 8
 pub record AreNames (names : List (List ℕ)) : Type 0 where
   pub some : 0 < length names
   pub few : length names ≤ max_names
-  pub named : All IsName names
+  pub each_is_name : All IsName names

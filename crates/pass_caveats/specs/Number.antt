@@ -12,7 +12,7 @@ number_limit = 999_999_999
 
 -- decimal digits without leading zeros, as Rust writes a number
 pub record SpellsNumber (text : List ℕ) (n : ℕ) : Type 0 where
-  pub spelled : text ≡ decimal n
+  pub spelling : text ≡ decimal n
   pub within : n ≤ number_limit
 
 -- the same by the digits alone

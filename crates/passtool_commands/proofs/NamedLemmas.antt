@@ -197,7 +197,7 @@ built_names : (app : App) (commands : List Shape) (help : Shape) → HasCommands
     → (s : Shape) × (rows : List Row) × (entered (built app) stop ≡ Some (s.name, rows)) × IsNameAmong commands s.name
 built_names app commands help has None other met = cc
 built_names app commands help has (Some p) other met =
-    let among = ap (find (λ s. answers_to p.0 (label_of s))) has.all ∙ found_among p.0 help commands has.named has.bare other in
+    let among = ap (find (λ s. answers_to p.0 (label_of s))) has.all ∙ found_among p.0 help commands has.help_name has.bare other in
     let found = found_one (λ s. answers_to p.0 (label_of s)) commands (ap is_some (sym among) ∙ some_of (λ s. rows_at s p.1) _ met) in
     (found.0, (rows_at found.0 p.1).1, ap (option_map (λ s. rows_at s p.1)) (among ∙ found.1), name_of_one found.0 commands found.2)
 
@@ -217,7 +217,7 @@ commands = sub_at 0 ∷ sub_at 1 ∷ sub_at 2 ∷ sub_at 3 ∷ sub_at 4 ∷ []
 
 has_commands : HasCommands application commands (sub_at 5)
 unfolding application
-has_commands = record { helps = refl; needs = refl; all = refl; named = refl; bare = refl }
+has_commands = record { helps = refl; needs = refl; all = refl; help_name = refl; bare = refl }
 
 names_built : ((sub_at 0).name ≡ codes "mint") × ((sub_at 1).name ≡ codes "show") × ((sub_at 2).name ≡ codes "narrow")
     × ((sub_at 3).name ≡ codes "convert") × ((sub_at 4).name ≡ codes "verify")

@@ -22,7 +22,7 @@ pub record HasCommands (app : App) (commands : List Shape) (help : Shape) : Type
   pub helps : (built app).top.disable_help_subcommand ≡ false
   pub needs : (built app).top.subcommand_required ≡ true
   pub all : (built app).subs ≡ commands ++ help ∷ []
-  pub named : help.name ≡ codes "help"
+  pub help_name : help.name ≡ codes "help"
   pub bare : help.aliases ≡ []
 
 -- the name of one of them

@@ -55,7 +55,7 @@ returns-in-None-clause-calls g c =
             mid = c.loop-reader.reader;
             room = c.fill.new.room;
             gave = inv.gave;
-            wanted = not_so _ _ c.loop-reader-test.true c.is_whole.ensures.whole;
+            not_whole = not_so _ _ c.loop-reader-test.true c.is_whole.ensures.whole;
             none = inr c.in-None.ensures.called;
           });
     })
@@ -93,7 +93,7 @@ returns-in-Some-eq0-clause-calls g c =
             mid = c.loop-reader.reader;
             room = c.fill.new.room;
             gave = inv.gave;
-            wanted = not_so _ _ c.loop-reader-test.true c.is_whole.ensures.whole;
+            not_whole = not_so _ _ c.loop-reader-test.true c.is_whole.ensures.whole;
             none = inl (rw c.in-Some-eq0.field-0-test at c.in-Some-eq0.ensures.called);
           });
     })

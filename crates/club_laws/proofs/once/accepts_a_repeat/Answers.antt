@@ -10,7 +10,7 @@ use Rattle.club_laws.proofs.once.accepts_a_repeat.Goals as goal
 pub returns : goal.returns
 unfolding permits
 returns c = record {
-  served = record {
+  was_served = record {
     front = [];
     first = record {
       pass = Ok (record { key = Some (codes "amy-1"); caveats = []; is_signed = λ _. true });
@@ -19,12 +19,12 @@ returns c = record {
     moment = noon;
     rest = ask (asked.Cancel (slot_at 18) 7) noon ∷ [];
     place = refl;
-    returned = refl;
-    served = tt;
+    reply_is = refl;
+    success = tt;
     same_key = refl;
     same_request = refl;
   };
-  accepted = record {
+  acceptance = record {
     pass = record { key = Some (codes "amy-1"); caveats = Some (Spend 0) ∷ []; is_signed = λ _. true };
     basis = record {
       key = record { name = codes "amy-1"; member = codes "amy"; root = root; older = None; revoked = false };
@@ -37,6 +37,6 @@ returns c = record {
     };
     read = refl;
     known = refl;
-    accepted = record { signed = refl; not_revoked = refl; faultless = refl };
+    acceptance = record { signed = refl; not_revoked = refl; faultless = refl };
   };
 }

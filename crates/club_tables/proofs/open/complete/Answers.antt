@@ -35,7 +35,7 @@ ensured_after g old mid new earlier clean is_open kept known (inl it) =
       All-push (IsUnderstood (state g new).committed.schema) texts_by_key index_text rows named,
     )
 ensured_after g old mid new earlier clean is_open kept known (inr it) =
-    let opened = it.3.opened (omega arith) in
+    let opened = it.3.was_open (omega arith) in
     let after = it.2 it.1 opened in
     let before = kept earlier after.0 in
     let rows = subst (λ (db : Database). All (IsUnderstood db.schema) texts_by_key) before.2 (known after.0) in
@@ -87,4 +87,4 @@ returns-in-Ok-clause-fault g c clean =
 pub returns-in-Err-clause-fault : goal.returns-in-Err-clause-fault
 returns-in-Err-clause-fault g c clean =
     let it = c.in-Err.ensures.fault clean in
-    record { from = it.from; after = it.after; failed = inr (inr (inl it.failed)) }
+    record { from = it.from; after = it.after; failure = inr (inr (inl it.failure)) }

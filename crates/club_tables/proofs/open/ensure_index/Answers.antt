@@ -20,7 +20,7 @@ returns-in-Err-Memory-clause-fault g c clean =
     record {
       from = old;
       after = at_once g.S.Store old earlier;
-      failed = inl (refl, inr (rw c.in-Err-Memory.field-0-is at (c.in-Err-Memory.ensures.fault clean)));
+      failure = inl (refl, inr (rw c.in-Err-Memory.field-0-is at (c.in-Err-Memory.ensures.fault clean)));
     }
 
 pub returns-in-Err-Storage-clause-indexed : goal.returns-in-Err-Storage-clause-indexed
@@ -61,5 +61,5 @@ returns-in-Err-Storage-clause-fault g c clean =
     (λ fault failed. record {
       from = mid;
       after = after_one g.S.Store old mid earlier (λ rest. c.prepare.ensures.kept) c.prepare.ensures.survives;
-      failed = inr (inl (index_batch, inr (inr refl), failed));
+      failure = inr (inl (index_batch, inr (inr refl), failed));
     })

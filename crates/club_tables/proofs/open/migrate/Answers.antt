@@ -24,7 +24,7 @@ returns-in-Ok-clause-ran g c clean =
     let mid = c.prepare_all.new.conn in
     let earlier : HasCleanDisk (state g.S.Store mid) = c.add_old_roots.ensures.was_clean clean in
     on_ok c.add_old_roots.result (c.add_old_roots.ensures.ran clean) (λ ran rest.
-    let is_open = ran.opened (omega arith) in
+    let is_open = ran.was_open (omega arith) in
     let kept = c.prepare_all.ensures.same rest earlier is_open in
     let known = c.in-Ok.ensures.understood earlier is_open rest in
     (mid, kept.0, subst (λ (db : Database). All (IsUnderstood db.schema) first_texts) kept.2 known, kept.2, kept.1, ran))
@@ -64,7 +64,7 @@ returns-in-Ok-clause-fault g c clean =
     (λ fault failed. record {
       from = mid;
       after = after_one g.S.Store old mid earlier c.prepare_all.ensures.same c.prepare_all.ensures.survives;
-      failed = inr (inl (migration, inr (inl refl), failed));
+      failure = inr (inl (migration, inr (inl refl), failed));
     })
 
 pub returns-in-Err-clause-fault : goal.returns-in-Err-clause-fault
@@ -73,6 +73,6 @@ returns-in-Err-clause-fault g c clean =
     record {
       from = it.from;
       after = it.after;
-      failed = inr (inr (inl (one_more (λ text. FailsToPrepare g.S.Store text it.from c.prepare_all.new.conn c.in-Err.fault) first_texts (OLDER_ROOT.now ∷ [])
-          it.failed)));
+      failure = inr (inr (inl (one_more (λ text. FailsToPrepare g.S.Store text it.from c.prepare_all.new.conn c.in-Err.fault) first_texts (OLDER_ROOT.now ∷ [])
+          it.failure)));
     }

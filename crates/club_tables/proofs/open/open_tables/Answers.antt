@@ -32,7 +32,7 @@ upgraded g old mid new version texts statements rows earlier rest kept one answe
     record {
       from = it.0;
       found = record {
-        ready = record { returned = (one.0, returned, one.2); by_key = subst (λ (db : Database). All (IsUnderstood db.schema) texts) (sym it.3) it.2 };
+        ready = record { version_row = (one.0, returned, one.2); by_key = subst (λ (db : Database). All (IsUnderstood db.schema) texts) (sym it.3) it.2 };
         same = same;
       };
       same = it.4 ∙ before.2;
@@ -98,7 +98,7 @@ pub returns-in-Err-Storage-clause-accepted : goal.returns-in-Err-Storage-clause-
 returns-in-Err-Storage-clause-accepted g c clean =
     let earlier : HasCleanDisk (state g.S.Store c.version.new.conn) = c.make_tables.ensures.was_clean clean in
     on_ok c.make_tables.result (c.make_tables.ensures.ran clean) (λ ran is_open rest.
-    let same = (c.version.ensures.same earlier (ran.opened (omega arith))).1 in
+    let same = (c.version.ensures.same earlier (ran.was_open (omega arith))).1 in
     let no_desk_table = subst (λ (db : Database). HasNoDesk db.schema) same
     (makes_free g.S.Store c.version.new.conn (state g.S.Store c.make_tables.new.conn).committed ran) in
     inr (inr (inr (record { from = c.version.new.conn; same = same; no_desk_table = no_desk_table; ran = ran }))))
@@ -165,7 +165,7 @@ returns-in-Err-Memory-clause-fault g c clean =
     record {
       from = old;
       after = at_once g.S.Store old earlier;
-      failed = inl (refl, inl (rw c.in-Err-Memory.field-0-is at (c.in-Err-Memory.ensures.fault clean)));
+      failure = inl (refl, inl (rw c.in-Err-Memory.field-0-is at (c.in-Err-Memory.ensures.fault clean)));
     }
 
 pub returns-in-Err-Storage-clause-fault : goal.returns-in-Err-Storage-clause-fault
@@ -176,7 +176,7 @@ returns-in-Err-Storage-clause-fault g c clean =
     let earlier : HasCleanDisk (state g.S.Store mid) = c.make_tables.ensures.was_clean clean in
     let first = after_one g.S.Store old mid earlier (λ rest. c.version.ensures.same) c.version.ensures.survives in
     fault_if (FailsToRun g.S.Store table_batch mid new) (IsOpeningFault g.S.Store old new) c.make_tables.result (c.make_tables.ensures.fault clean)
-    (λ fault failed. record { from = mid; after = first; failed = inr (inl (table_batch, inl refl, failed)) })
+    (λ fault failed. record { from = mid; after = first; failure = inr (inl (table_batch, inl refl, failed)) })
 
 pub returns-then-is_version-clause-fault : goal.returns-then-is_version-clause-fault
 returns-then-is_version-clause-fault g c clean =
@@ -209,5 +209,5 @@ returns-clause-fault g c clean =
     record {
       from = old;
       after = at_once g.S.Store old earlier;
-      failed = inr (inr (inr (refl, c.in-Ok.found.items, c.in-Ok.ensures.asked clean, not_two, not_one)));
+      failure = inr (inr (inr (refl, c.in-Ok.found.items, c.in-Ok.ensures.asked clean, not_two, not_one)));
     }

@@ -57,6 +57,6 @@ returns-in-Err-clause-fault g c clean =
     record {
       from = was;
       after = record { same = c.loop-text.invariant.kept; clean = earlier; fault_count = c.loop-text.invariant.survives.counts };
-      failed = one_at (λ text. FailsToPrepare g.S.Store text was now _) c.args.texts.now c.loop-text.text-index _ c.loop-text-test.true
+      failure = one_at (λ text. FailsToPrepare g.S.Store text was now _) c.args.texts.now c.loop-text.text-index _ c.loop-text-test.true
           (c.in-Err.ensures.fault clean);
     }

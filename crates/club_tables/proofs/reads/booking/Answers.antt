@@ -24,8 +24,8 @@ pub returns-in-Err-clause-gives : goal.returns-in-Err-clause-gives
 returns-in-Err-clause-gives g c =
     let gives = rw (c.params-to_sql.ensures, c.params-to_sql-2.ensures, c.as_str.ensures.value, c.get.ensures.value) at c.in-Err.ensures.gives in
     record {
-      returned = λ clean. tt;
-      failed = λ clean. unread_named g.S.Store c.args.key.now c.args.number _ c.args.conn.now c.one.new.conn _ (gives.failed clean);
+      success = λ clean. tt;
+      failure = λ clean. unread_named g.S.Store c.args.key.now c.args.number _ c.args.conn.now c.one.new.conn _ (gives.failure clean);
     }
 
 pub returns-in-Err-clause-reads : goal.returns-in-Err-clause-reads
@@ -40,8 +40,8 @@ pub returns-in-None-clause-gives : goal.returns-in-None-clause-gives
 returns-in-None-clause-gives g c =
     let gives = rw (c.params-to_sql.ensures, c.params-to_sql-2.ensures, c.as_str.ensures.value, c.get.ensures.value) at c.in-Ok.ensures.gives in
     record {
-      returned = λ clean. let it = gives.returned clean in (it.0, it.1, none_named c.args.key.now c.args.number it.0 (rw c.in-None.is at it.2));
-      failed = λ clean. tt;
+      success = λ clean. let it = gives.success clean in (it.0, it.1, none_named c.args.key.now c.args.number it.0 (rw c.in-None.is at it.2));
+      failure = λ clean. tt;
     }
 
 pub returns-in-None-clause-reads : goal.returns-in-None-clause-reads
@@ -56,12 +56,12 @@ pub returns-then-is_named-clause-gives : goal.returns-then-is_named-clause-gives
 returns-then-is_named-clause-gives g c =
     let gives = rw (c.params-to_sql.ensures, c.params-to_sql-2.ensures, c.as_str.ensures.value, c.get.ensures.value) at c.in-Ok.ensures.gives in
     record {
-      returned = λ clean. let it = gives.returned clean in (
+      success = λ clean. let it = gives.success clean in (
         it.0,
         it.1,
         one_named c.args.key.now c.args.number it.0 c.in-Some.booking (rw c.in-Some.is at it.2) (c.is_named.ensures.0 c.if-is_named.true),
       );
-      failed = λ clean. tt;
+      failure = λ clean. tt;
     }
 
 pub returns-then-is_named-clause-reads : goal.returns-then-is_named-clause-reads
@@ -76,13 +76,13 @@ pub returns-else-is_named-clause-gives : goal.returns-else-is_named-clause-gives
 returns-else-is_named-clause-gives g c =
     let gives = rw (c.params-to_sql.ensures, c.params-to_sql-2.ensures, c.as_str.ensures.value, c.get.ensures.value) at c.in-Ok.ensures.gives in
     record {
-      returned = λ clean. tt;
-      failed = λ clean. let it = gives.returned clean in inr (record {
+      success = λ clean. tt;
+      failure = λ clean. let it = gives.success clean in inr (record {
         rows = it.0;
-        asked = it.1;
+        query = it.1;
         unread = λ can. not_named c.args.key.now c.args.number it.0 c.in-Some.booking (rw c.in-Some.is at it.2) (λ named.
             absurd (let yes = c.is_named.ensures.1 named in let no = c.if-is_named.false in cc)) can.0 can.1;
-        returned = refl;
+        fault_is = refl;
       });
     }
 

@@ -24,7 +24,7 @@ unread_day : {S A : Type 0} (g : Ghosts S) (day : _) (old new : Held S) (rows : 
 unread_day g day old new rows (Ok x) asked storage = tt
 unread_day g day old new rows (Err Memory) asked storage = inr (refl, rows, asked)
 unread_day g day old new rows (Err Storage) asked storage =
-    inl (inr (record { rows = rows; asked = asked; unread = λ can. storage refl can.0 can.1; returned = refl }))
+    inl (inr (record { rows = rows; query = asked; unread = λ can. storage refl can.0 can.1; fault_is = refl }))
 
 pub returns-in-Err-clause-failed : goal.returns-in-Err-clause-failed
 returns-in-Err-clause-failed g c clean =

@@ -16,7 +16,7 @@ returns-in-Err-clause-gives g c =
       c.number-2.ensures.value,
       c.day.ensures.value,
     ) at c.in-Err.ensures.fault in
-    record { returned = λ clean. tt; failed = λ clean. inl (failed clean) }
+    record { success = λ clean. tt; failure = λ clean. inl (failed clean) }
 
 pub returns-in-Err-clause-reads : goal.returns-in-Err-clause-reads
 returns-in-Err-clause-reads g c =
@@ -36,7 +36,7 @@ returns-clause-gives g c =
       c.number-2.ensures.value,
       c.day.ensures.value,
     ) at c.in-Ok.ensures.asked in
-    record { returned = λ clean. (c.in-Ok.rows.items, asked clean, search rules); failed = λ clean. tt }
+    record { success = λ clean. (c.in-Ok.rows.items, asked clean, search rules); failure = λ clean. tt }
 
 pub returns-clause-reads : goal.returns-clause-reads
 returns-clause-reads g c =

@@ -17,7 +17,7 @@ returns-in-Err-clause-gives g c =
       c.from-2.ensures,
       c.number-2.ensures.value,
     ) at c.in-Err.ensures.fault in
-    record { returned = λ clean. tt; failed = λ clean. inl (failed clean) }
+    record { success = λ clean. tt; failure = λ clean. inl (failed clean) }
 
 pub returns-in-Err-clause-reads : goal.returns-in-Err-clause-reads
 returns-in-Err-clause-reads g c =
@@ -41,7 +41,7 @@ returns-in-Some-clause-gives g c =
     let read = use_read rows c.slot_use_of.result (rw c.deref.ensures.value at c.slot_use_of.ensures.none)
     (rw c.deref.ensures.value at c.slot_use_of.ensures.one) (rw c.deref.ensures.value at c.slot_use_of.ensures.more) in
     let yielded = rw c.in-Some.is at read in
-    record { returned = λ clean. (rows, asked clean, yielded); failed = λ clean. tt }
+    record { success = λ clean. (rows, asked clean, yielded); failure = λ clean. tt }
 
 pub returns-in-Some-clause-reads : goal.returns-in-Some-clause-reads
 returns-in-Some-clause-reads g c =
@@ -66,8 +66,8 @@ returns-clause-gives g c =
     (rw c.deref.ensures.value at c.slot_use_of.ensures.one) (rw c.deref.ensures.value at c.slot_use_of.ensures.more) in
     let none = rw c.in-None.is at read in
     record {
-      returned = λ clean. tt;
-      failed = λ clean. inr (record { rows = rows; asked = asked clean; unread = λ can. none can.0 can.1; returned = refl });
+      success = λ clean. tt;
+      failure = λ clean. inr (record { rows = rows; query = asked clean; unread = λ can. none can.0 can.1; fault_is = refl });
     }
 
 pub returns-clause-reads : goal.returns-clause-reads

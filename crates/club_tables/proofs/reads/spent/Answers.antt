@@ -27,12 +27,12 @@ costs_refused : {S : Type 0} (g : Ghosts S) (statement : BoundStatement) (old ne
     → IfErr r (FailsToRead g statement (λ rs. (n : ℕ) × AreCosts rs n) old new)
 costs_refused g statement old new rows (Ok n) asked storage = tt
 costs_refused g statement old new rows (Err e) asked storage =
-    inr (record { rows = rows; asked = asked; unread = λ read. storage.1 read.0 read.1; returned = storage.0 })
+    inr (record { rows = rows; query = asked; unread = λ read. storage.1 read.0 read.1; fault_is = storage.0 })
 
 pub returns-in-Err-clause-gives : goal.returns-in-Err-clause-gives
 returns-in-Err-clause-gives g c =
     let failed = rw (c.params-to_sql.ensures, c.as_str.ensures.value) at c.in-Err.ensures.fault in
-    record { returned = λ clean. tt; failed = λ clean. inl (failed clean) }
+    record { success = λ clean. tt; failure = λ clean. inl (failed clean) }
 
 pub returns-in-Err-clause-reads : goal.returns-in-Err-clause-reads
 returns-in-Err-clause-reads g c =
@@ -48,8 +48,8 @@ returns-clause-gives g c =
     let limits = rw c.deref.ensures.value at c.costs.ensures.limits in
     let storage = rw c.deref.ensures.value at c.costs.ensures.storage in
     record {
-      returned = λ clean. costs_given g.S.Store _ c.args.conn.now rows c.costs.result (asked clean) returned limits c.costs.ensures.range;
-      failed = λ clean. costs_refused g.S.Store _ c.args.conn.now c.ask.new.conn rows c.costs.result (asked clean) storage;
+      success = λ clean. costs_given g.S.Store _ c.args.conn.now rows c.costs.result (asked clean) returned limits c.costs.ensures.range;
+      failure = λ clean. costs_refused g.S.Store _ c.args.conn.now c.ask.new.conn rows c.costs.result (asked clean) storage;
     }
 
 pub returns-clause-reads : goal.returns-clause-reads

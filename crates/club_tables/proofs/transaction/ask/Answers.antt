@@ -61,5 +61,5 @@ returns-in-Err-clause-fault g c clean =
       | inr ended ↦ absurd (let e = ended.3 in cc)
     ] in
     let fault : FailsToAsk g.S.Store (c.args.sql.now, bound c.args.params.now) old end c.fault_of.result =
-    record { mid = mid; error = c.in-Err.error; failed = failed; fault_count = c.drop-tx.ensures.survives.counts; returned = c.fault_of.ensures } in
+    record { mid = mid; error = c.in-Err.error; failure = failed; fault_count = c.drop-tx.ensures.survives.counts; fault_is = c.fault_of.ensures } in
     subst (λ h. FailsToAsk g.S.Store (c.args.sql.now, bound c.args.params.now) old h c.fault_of.result) same fault

@@ -29,5 +29,5 @@ returns-in-Err-clause-fault g c clean =
     let earlier : HasCleanDisk (state g.S.Store mid) = omega (arith, c.drop-tx.ensures.survives.clean) in
     let failed = rw c.transaction-tx.ensures.begun at (c.in-Err.ensures.err earlier []) in
     let fault : FailsToPrepare g.S.Store c.args.sql.now old end c.fault_of.result =
-    record { mid = mid; error = c.in-Err.error; failed = failed; fault_count = c.drop-tx.ensures.survives.counts; returned = c.fault_of.ensures } in
+    record { mid = mid; error = c.in-Err.error; failure = failed; fault_count = c.drop-tx.ensures.survives.counts; fault_is = c.fault_of.ensures } in
     subst (λ h. FailsToPrepare g.S.Store c.args.sql.now old h c.fault_of.result) same fault

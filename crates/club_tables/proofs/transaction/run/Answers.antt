@@ -45,7 +45,7 @@ returns-in-Ok-commit-clause-ran g c clean =
     let was : IsTrue (state g.S.Store old).is_open = (c.loop-statement.invariant.inside earlier).2 ends.1.was_open in
     let P = λ (h : Held g.row.S.Denot). IsTrue (state g.S.Store h).is_open × Ran g.S.Store all old (state g.S.Store h).committed
     × ((state g.S.Store h).now ≡ (state g.S.Store h).committed) in
-    subst P same (ends.1.is_open, record { last = mid; opened = λ _. was; turns = turn; is = ends.1.committed_is }, cc (ends.1.now_is, ends.1.committed_is))
+    subst P same (ends.1.is_open, record { last = mid; was_open = λ _. was; turns = turn; is = ends.1.committed_is }, cc (ends.1.now_is, ends.1.committed_is))
 
 pub returns-in-Ok-commit-clause-survives : goal.returns-in-Ok-commit-clause-survives
 returns-in-Ok-commit-clause-survives g c =
@@ -63,7 +63,7 @@ returns-in-Ok-commit-clause-survives g c =
     let was = λ (some : 0 < length all). let more : 0 < length c.args.statements.now = subst
     (λ n. 0 < n) (length-map c.args.statements.now bound_statement) some in
     (c.loop-statement.invariant.inside earlier).2 (c.loop-statement.invariant.opened earlier (omega arith)) in
-    let p : P db = ((state g.S.Store mid).now, record { last = mid; opened = was; turns = turn; is = refl }, is) in p in
+    let p : P db = ((state g.S.Store mid).now, record { last = mid; was_open = was; turns = turn; is = refl }, is) in p in
     let whole = survives_then (state g.S.Store old) (state g.S.Store mid) (state g.S.Store end) _ _ P (λ _ db none. absurd none) made
     (survives_begin g.S.Store old (state g.S.Store mid) _ c.loop-statement.invariant.survives) c.commit.ensures.survives in
     subst (λ h. Survives (state g.S.Store old) (state g.S.Store h) P) same whole
@@ -84,7 +84,7 @@ returns-in-Err-commit-clause-survives g c =
     let was = λ (some : 0 < length all). let more : 0 < length c.args.statements.now = subst
     (λ n. 0 < n) (length-map c.args.statements.now bound_statement) some in
     (c.loop-statement.invariant.inside earlier).2 (c.loop-statement.invariant.opened earlier (omega arith)) in
-    let p : P db = ((state g.S.Store mid).now, record { last = mid; opened = was; turns = turn; is = refl }, is) in p in
+    let p : P db = ((state g.S.Store mid).now, record { last = mid; was_open = was; turns = turn; is = refl }, is) in p in
     let whole = survives_then (state g.S.Store old) (state g.S.Store mid) (state g.S.Store end) _ _ P (λ _ db none. absurd none) made
     (survives_begin g.S.Store old (state g.S.Store mid) _ c.loop-statement.invariant.survives) c.commit.ensures.survives in
     subst (λ h. Survives (state g.S.Store old) (state g.S.Store h) P) same whole
@@ -104,7 +104,7 @@ returns-in-Err-clause-fault g c clean =
     fails_at g.S.Store c.args.statements.now c.loop-statement.statement-index _ (transaction_start old) was mid c.in-Err.error c.loop-statement-test.true
     (c.loop-statement.invariant.ran first) (c.in-Err.ensures.runs earlier (c.loop-statement.invariant.inside first).0) in
     let fault : FailsToRun g.S.Store all old end c.fault_of.result =
-    record { mid = mid; error = c.in-Err.error; failed = failed; fault_count = c.drop-tx.ensures.survives.counts; returned = c.fault_of.ensures } in
+    record { mid = mid; error = c.in-Err.error; failure = failed; fault_count = c.drop-tx.ensures.survives.counts; fault_is = c.fault_of.ensures } in
     subst (λ h. FailsToRun g.S.Store all old h c.fault_of.result) same fault
 
 pub returns-in-Err-commit-clause-fault : goal.returns-in-Err-commit-clause-fault
@@ -122,5 +122,5 @@ returns-in-Err-commit-clause-fault g c clean =
     let failed : FailsInTurn g.S.Store all (transaction_start old) end c.in-Err-commit.error =
     fails_last g.S.Store all (transaction_start old) was end c.in-Err-commit.error turn (c.in-Err-commit.ensures.err late) in
     let fault : FailsToRun g.S.Store all old end c.fault_of-in-Err-commit.result =
-    record { mid = end; error = c.in-Err-commit.error; failed = failed; fault_count = omega arith; returned = c.fault_of-in-Err-commit.ensures } in
+    record { mid = end; error = c.in-Err-commit.error; failure = failed; fault_count = omega arith; fault_is = c.fault_of-in-Err-commit.ensures } in
     subst (λ h. FailsToRun g.S.Store all old h c.fault_of-in-Err-commit.result) same fault

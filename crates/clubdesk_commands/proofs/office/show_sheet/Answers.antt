@@ -6,12 +6,12 @@ pub returns-in-Ok-clause-returned : goal.returns-in-Ok-clause-returned
 returns-in-Ok-clause-returned g c = record {
   read = Ok (string_bytes c.in-Ok.text);
   is = c.in-Ok.ensures.returned;
-  returned = rw c.as_str.ensures.value at c.written.ensures;
+  prints = rw c.as_str.ensures.value at c.written.ensures;
 }
 
 pub returns-in-Err-clause-returned : goal.returns-in-Err-clause-returned
 returns-in-Err-clause-returned g c = record {
   read = Err c.in-Err.fault;
   is = c.in-Err.ensures.returned;
-  returned = (ap Err c.from.ensures, refl);
+  prints = (ap Err c.from.ensures, refl);
 }

@@ -7,7 +7,7 @@ use Rattle.clubdesk_commands.proofs.turns.serve_file.Goals as goal
 pub returns-in-Ok-clause-done : goal.returns-in-Ok-clause-done
 returns-in-Ok-clause-done g c =
     let ends = c.serve_at_need-outcome in
-    spec.served c.args.service c.in-Ok.store c.open.new.self refl c.in-Ok.ensures
+    spec.server_done c.args.service c.in-Ok.store c.open.new.self refl c.in-Ok.ensures
     (serves_file _ _ _ _ _ _ _ _ _ _ _ _ _ _ _ _ _ (search rules) (search rules)
     (rw (c.new-desk.ensures.databases, c.new-desk.ensures.place, c.new-desk.ensures.file, c.new.ensures) at ends.ensures.served)
     ends.ensures.announced c.close_open.ensures)

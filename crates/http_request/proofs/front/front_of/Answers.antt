@@ -9,7 +9,7 @@ returns-in_default-read_head c = record {
   rest = drop c.in-Some.len c.args.bytes.now;
   cut = c.in-Some.ensures.1;
   parts = sym (take-append-drop c.in-Some.len c.args.bytes.now);
-  refused = λ head body_len asks. c.in_default-read_head.ensures head asks.is;
+  refusal = λ head body_len asks. c.in_default-read_head.ensures head asks.is;
 }
 
 pub returns-in_default-asked_length : goal.returns-in_default-asked_length
@@ -21,7 +21,7 @@ returns-in_default-asked_length c =
       rest = drop c.in-Some.len c.args.bytes.now;
       cut = c.in-Some.ensures.1;
       parts = sym (take-append-drop c.in-Some.len c.args.bytes.now);
-      refused =
+      refusal =
           asks_nothing piece c.of-method.result.now c.read_head.new.fields c.in-Some-read_head.spans found.0 found.1 found.2 c.of-method.ensures
           (sym c.asked_length.ensures ∙ c.in_default-asked_length.is);
     }

@@ -7,12 +7,12 @@ returns g c =
       was_clean = returned.was_clean;
       steps = returned.steps;
       lawful = λ was_clean club others represents. record {
-        served = returned.served was_clean club others represents;
+        entitles = returned.served was_clean club others represents;
         depends = returned.depends was_clean club others represents;
         blind = returned.blind was_clean club others represents;
         forms = returned.forms was_clean club others represents;
         less = returned.less was_clean club others represents;
       };
-      untouched = returned.untouched;
+      no_change = returned.untouched;
       in_place = returned.in_place;
     }

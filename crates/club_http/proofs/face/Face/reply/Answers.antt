@@ -9,7 +9,7 @@ returns-in-Ok-clause-replied g c =
     let room : c.deref.result.now ≡ c.receive.new.room = grind (arith, common_steps) in
     let replied = rw room at c.reply_to.ensures in
     rw (← c.deref.ensures.value, room) (record {
-      received = received;
-      replied = replied;
+      receives = received;
+      reply_is = replied;
       to_all = replied_to_all _ _ _ _ _ _ _ c.whole_keeps_its_reading.ensures c.body_stays.ensures received replied;
     })

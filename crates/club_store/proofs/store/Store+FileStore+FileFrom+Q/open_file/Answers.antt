@@ -18,12 +18,12 @@ returns-in-Ok-adopt-clause-opened g c clean =
     let opened = c.in-Ok.ensures.opened early in
     let found = c.in-Ok.ensures.found early in
     let again = λ (clubs : List Club) (left : IsLeftOf was.committed.trees clubs).
-    c.in-Ok-adopt.ensures.again clean clubs (record { opened = opened.0; live = opened.1; left = left }) in
+    c.in-Ok-adopt.ensures.again clean clubs (record { opening = opened.0; live = opened.1; left = left }) in
     record {
       was = c.in-Ok.connection;
-      opened = opened;
+      opening = opened;
       found = found;
-      accepted = c.in-Ok-adopt.ensures.accepted clean;
+      acceptance = c.in-Ok-adopt.ensures.accepted clean;
       survives = c.in-Ok-adopt.ensures.survives;
       represents = c.in-Ok-adopt.ensures.opened clean;
       again = λ clubs held. again clubs (subst (λ trees. IsLeftOf trees clubs) (sym (found.holds held.0 held.1)) held.2);
@@ -42,13 +42,13 @@ returns-in-Err-clause-fault g c = by_left (λ left. FailsFrom (image g.Q.Start.l
     (λ is. c.fault_of.ensures ∙ ap fault_by is)
     (λ other. record {
       error = c.in-Err.error;
-      unopened = λ none. first_two (c.in-Err.ensures.unopened none) (other none);
+      without_files = λ none. first_two (c.in-Err.ensures.unopened none) (other none);
       cause = weaker _ _ c.in-Err.left c.in-Err.ensures.cause (λ left it. (
         it.0,
         ap₂ image (ap₂ (seen_bytes g.Q.Start.log g.Q.Start.db) it.1.0 it.1.1) (ap₂ (seen_bytes g.Q.Start.log g.Q.Start.db) it.2.0 it.2.1),
         λ clean. (it.3 clean).0,
       ));
-      returned = c.fault_of.ensures;
+      fault_is = c.fault_of.ensures;
     })
 
 pub returns-in-Err-clause-refused : goal.returns-in-Err-clause-refused
@@ -57,7 +57,7 @@ returns-in-Err-clause-refused g c = by_left (LeavesFrom (image g.Q.Start.log g.Q
     (λ other. weaker _ _ c.in-Err.left c.in-Err.ensures.cause (λ left it. record {
       files = it.0;
       held = ap₂ image (ap₂ (seen_bytes g.Q.Start.log g.Q.Start.db) it.1.0 it.1.1) (ap₂ (seen_bytes g.Q.Start.log g.Q.Start.db) it.2.0 it.2.1);
-      settled = λ left may. ap₂ image
+      one_outcome = λ left may. ap₂ image
           (leaves_same g.Q.Start.is_mixing g.Q.Start.log g.Q.Start.db _ _ _ _ it.1.0 it.1.1 left.log may.0)
           (leaves_same g.Q.Start.is_mixing g.Q.Start.log g.Q.Start.db _ _ _ _ it.2.0 it.2.1 left.db may.1);
       leaves = λ clean. (it.3 clean).1;
@@ -66,8 +66,8 @@ returns-in-Err-clause-refused g c = by_left (LeavesFrom (image g.Q.Start.log g.Q
 pub returns-in-Err-adopt-clause-fault : goal.returns-in-Err-adopt-clause-fault
 returns-in-Err-adopt-clause-fault g c = record {
   was = c.in-Ok.connection;
-  opened = λ clean. (c.in-Ok.ensures.opened clean, c.in-Ok.ensures.found clean);
-  failed = c.in-Err-adopt.ensures.fault c.in-Ok.ensures.fresh.autocommit;
+  opening = λ clean. (c.in-Ok.ensures.opened clean, c.in-Ok.ensures.found clean);
+  failure = c.in-Err-adopt.ensures.fault c.in-Ok.ensures.fresh.autocommit;
 }
 
 pub returns-in-Err-adopt-clause-refused : goal.returns-in-Err-adopt-clause-refused
@@ -76,12 +76,12 @@ returns-in-Err-adopt-clause-refused g c =
     let back = c.in-Err-adopt.ensures.refused in
     record {
       was = c.in-Ok.connection;
-      opened = λ clean. (c.in-Ok.ensures.opened clean, c.in-Ok.ensures.found clean);
+      opening = λ clean. (c.in-Ok.ensures.opened clean, c.in-Ok.ensures.found clean);
       back = back;
       again = λ clean clubs held.
           let early = back.clean clean in
           let opened = c.in-Ok.ensures.opened early in
           let found = c.in-Ok.ensures.found early in
           let left : IsLeftOf was.committed.trees clubs = subst (λ trees. IsLeftOf trees clubs) (sym (found.holds held.0 held.1)) held.2 in
-          back.again clean clubs (record { opened = opened.0; live = opened.1; left = left });
+          back.again clean clubs (record { opening = opened.0; live = opened.1; left = left });
     }

@@ -10,7 +10,7 @@ use Rattle.club_store.proofs.store.Store.adopt.Goals as goal
 pub returns-in-Ok-clause-again : goal.returns-in-Ok-clause-again
 returns-in-Ok-clause-again g c clean clubs on =
     let was = c.args.connection in
-    represents_one (state g.S.Store was) on.opened on.live (λ is_open trees may.
+    represents_one (state g.S.Store was) on.opening on.live (λ is_open trees may.
     g.met.S.Store.settled was.store trees is_open may) _ (c.in-Ok.ensures.opened clean) clubs on.left
 
 pub returns-in-Ok-clause-empty : goal.returns-in-Ok-clause-empty
@@ -35,9 +35,9 @@ returns-then-not-is_autocommit-clause-refused g c =
       clean = λ clean. clean;
       kept = λ clean club others found. found;
       mode = refl;
-      untouched = λ idle. absurd cc;
+      same_database = λ idle. absurd cc;
       survives = opens_nothing g.S.Store was;
-      again = λ clean clubs on. one_found (state g.S.Store was) on.opened on.live (λ is_open trees may.
+      again = λ clean clubs on. one_found (state g.S.Store was) on.opening on.live (λ is_open trees may.
           g.met.S.Store.settled was.store trees is_open may) _ (λ club others found. found) clubs on.left;
     }
 
@@ -54,8 +54,8 @@ returns-in-Err-clause-refused g c =
       clean = left.was_clean;
       kept = left.refused;
       mode = still_idle _ _ _ c.is_autocommit.ensures.value c.if-not-is_autocommit.false left.idle;
-      untouched = λ idle. left.untouched;
+      same_database = λ idle. left.untouched;
       survives = left.survives;
-      again = λ clean clubs on. one_found (state g.S.Store was) on.opened on.live (λ is_open trees may.
+      again = λ clean clubs on. one_found (state g.S.Store was) on.opening on.live (λ is_open trees may.
           g.met.S.Store.settled was.store trees is_open may) _ (left.refused clean) clubs on.left;
     }

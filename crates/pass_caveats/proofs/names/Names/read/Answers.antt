@@ -11,7 +11,7 @@ invariant_of-result c =
     record {
       some = some_part c.args.text.now;
       few = omega arith;
-      named = c.are_all_names.ensures.0 c.if-are_all_names.true;
+      each_is_name = c.are_all_names.ensures.0 c.if-are_all_names.true;
     }
 
 pub returns-then-count_of_parts-le-MAX_NAMES : goal.returns-then-count_of_parts-le-MAX_NAMES
@@ -19,7 +19,7 @@ returns-then-count_of_parts-le-MAX_NAMES c = (
   record {
     some = some_part c.args.text.now;
     few = omega arith;
-    named = c.are_all_names.ensures.0 c.if-are_all_names.true;
+    each_is_name = c.are_all_names.ensures.0 c.if-are_all_names.true;
   },
   sym (joined-parts_of c.args.text.now),
 )
@@ -29,5 +29,5 @@ returns-else-are_all_names c = λ names h.
     let are : AreNames (comma_parts c.args.text.now) = names_are_parts c.args.text.now names h in
     elim c.else-are_all_names.branch [
       | else-are_all_names-via-then-are_all_names+else-count_of_parts-le-MAX_NAMES w ↦ absurd (omega (arith, are.few))
-      | else-are_all_names-via-else-are_all_names w ↦ let t : c.are_all_names.result ≡ true = c.are_all_names.ensures.1 are.named in cc
+      | else-are_all_names-via-else-are_all_names w ↦ let t : c.are_all_names.result ≡ true = c.are_all_names.ensures.1 are.each_is_name in cc
     ]
