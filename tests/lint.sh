@@ -34,7 +34,7 @@ TWINS
 # Names at the top level of a specs module: what stands before its colon, or behind `record` and `data`. They are looked for in the
 # whole repository; printed are those that a module of the given crates defines.
 twice_defined() {
-    for file in crates/*/specs/*.antt; do
+    for file in crates/*/specs/*.antt crates/*/specs/*/*.antt; do
         sed -nE -e 's/^(pub )?(record|data) ([^ ]+).*/\3/p' -e 's/^((abbrev|unfoldable|opaque) )?(pub )?([^ ]+) :( .*)?$/\4/p' "$file" |
             sort -u | sed "s|\$| ${file#crates/}|"
     done | sort | { twins; echo; cat; } | awk -v crates=" $* " '
@@ -88,16 +88,24 @@ without_unit() {
         }' {} \;
 }
 
-# unused_modules CRATE specs|proofs: modules that Lib.antt lists and no other file cites, and files that it does not list.
+# unused_modules CRATE specs|proofs: modules that Lib.antt lists and no other file cites, and files that it does not list; so of each
+# folder of modules, whose list is the file of its name.
 unused_modules() {
-    library=crates/$1/$2/Lib.antt
-    [ -e "$library" ] || return 0
-    for file in "crates/$1/$2"/*.antt; do
+    [ ! -e "crates/$1/$2/Lib.antt" ] || unused_in "$1" "$2" "crates/$1/$2/Lib.antt" "crates/$1/$2"
+}
+
+# unused_in CRATE PATH LIST FOLDER: the same of one folder, whose modules are imported by this path.
+unused_in() {
+    for file in "$4"/*.antt; do
         module=$(basename "$file" .antt)
         [ "$module" != Lib ] || continue
-        grep -qE "^(pub )?mod $module\$" "$library" || echo "not in Lib.antt: $file"
-        find crates -path '*/out/*' -prune -o \( -name '*.rt' -o -name '*.antt' \) ! -path "$file" -print0 |
-            xargs -0 grep -qE "($1[.]|crate::)$2(\.|::)$module([^A-Za-z0-9_]|\$)" || echo "imported nowhere: $file"
+        grep -qE "^(pub )?mod $module\$" "$3" || echo "not in $3: $file"
+        if grep -qE '^(pub )?mod ' "$file"; then
+            (unused_in "$1" "$2(\.|::)$module" "$file" "$4/$module")
+        else
+            find crates -path '*/out/*' -prune -o \( -name '*.rt' -o -name '*.antt' \) ! -path "$file" -print0 |
+                xargs -0 grep -qE "($1[.]|crate::)$2(\.|::)$module([^A-Za-z0-9_]|\$)" || echo "imported nowhere: $file"
+        fi
     done
 }
 

@@ -3,7 +3,7 @@ use Rattle.std.specs.Prelude.{◌≡◌, ◌≢◌, ℕ, All, true, false, Optio
 use Rattle.pass_caveats.specs.declared.ask.Ask.{Ask}
 use Rattle.pass_caveats.specs.declared.caveat.Caveat.{Caveat}
 use Rattle.pass_caveats.specs.Caveat.{Permits}
-use Rattle.pass_caveats.specs.CaveatOf.{first_fault_of}
+use Rattle.pass_caveats.specs.computed.CaveatOf.{first_fault_of}
 use Rattle.club_core.specs.declared.refusal.Refusal.{Refusal}
 use Rattle.club_core.specs.declared.reply.Reply.{Reply}
 use Rattle.club_core.specs.declared.reply.Reply.TheVariants.{Refused}
@@ -12,7 +12,8 @@ use Rattle.club_core.specs.declared.view.View.{View}
 use Rattle.club_core.specs.Answer.{ask_of}
 use Rattle.club_core.specs.Basis.{Basis, basis_of, view_of}
 use Rattle.club_core.specs.Club.{Club, key_named}
-use Rattle.club_core.specs.Pass.{Pass, IsSignedUnder, is_signed_under, Words}
+use Rattle.club_core.specs.Pass.{Pass, IsSignedUnder, Words}
+use Rattle.club_core.specs.computed.Pass.{is_signed_under}
 
 -- any reply but a refusal
 abbrev pub IsServed : Reply → Type 0

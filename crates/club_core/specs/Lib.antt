@@ -20,3 +20,4 @@ pub mod Sheet
 pub mod Looks
 pub mod Store
 pub mod Laws
+pub mod computed

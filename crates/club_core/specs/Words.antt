@@ -3,7 +3,7 @@ use Rattle.std.specs.Prelude.{map, Result, Ok, Err}
 use Rattle.std.specs.List.{list_any}
 use Rattle.std.specs.Str.{bytes_eq}
 use Rattle.std.specs.Vec.{vec_items}
-use Rattle.pass_caveats.specs.CaveatOf.{caveat_of}
+use Rattle.pass_caveats.specs.computed.CaveatOf.{caveat_of}
 use Rattle.club_core.specs.declared.event.Event.{Event as EventInCode}
 use Rattle.club_core.specs.declared.event.Event.TheVariants as events
 use Rattle.club_core.specs.declared.form_fault.FormFault.{FormFault}

@@ -5,13 +5,16 @@ use Rattle.std.proofs.lemmas.List.Elements.{All-nil, All-cons, All-head, All-tai
 use Rattle.base64.specs.GeneralPurpose.{IsBytes}
 use Rattle.pass_caveats.specs.declared.ask.Ask.{Ask}
 use Rattle.pass_caveats.specs.declared.caveat.Caveat.{Caveat}
-use Rattle.pass_caveats.specs.CaveatOf.{caveat_of}
+use Rattle.pass_caveats.specs.computed.CaveatOf.{caveat_of}
 use Rattle.pass_caveats.specs.Fault.{Allowed, Allows}
 use Rattle.pass_caveats.specs.Laws.{ReadsWhatIsUnderstood}
 use Rattle.pass_forms.specs.declared.fault.FormFault.{FormFault as Fault}
 use Rattle.pass_forms.specs.declared.form.Form.{Form}
-use Rattle.pass_forms.specs.Pass.{Plain, DecidesSigned}
-use Rattle.pass_json.specs.AnyForm.{IsAnyReading, ReadsAnyFormExactly, reading}
+use Rattle.pass_forms.specs.Pass.{Plain}
+use Rattle.pass_forms.specs.Laws.{DecidesSigned}
+use Rattle.pass_json.specs.AnyForm.{IsAnyReading}
+use Rattle.pass_json.specs.Laws.{ReadsAnyFormExactly}
+use Rattle.pass_json.specs.computed.AnyForm.{reading}
 use Rattle.club_rows.specs.declared.key.Key.{Key}
 use Rattle.club_core.specs.declared.form_fault.FormFault.{FormFault}
 use Rattle.club_core.specs.declared.refusal.Refusal.TheVariants.{Unavailable}

@@ -6,7 +6,7 @@ use Rattle.std.proofs.lemmas.List.{take-append-drop}
 use Rattle.std.proofs.lemmas.Slice.Eq.{bytes_eq-Decides}
 use Rattle.club_values.specs.Laws.{ReadsNames}
 use Rattle.club_values.specs.Name.{IsName}
-use Rattle.club_values.specs.TextOf.{name_of_text}
+use Rattle.club_values.specs.computed.TextOf.{name_of_text}
 use Rattle.club_gate.specs.Identifier.{key_name_in}
 use Rattle.club_gate.specs.Minted.{identifier_of}
 

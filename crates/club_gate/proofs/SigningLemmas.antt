@@ -3,10 +3,11 @@ use Rattle.std.proofs.Common.{◌≡◌, ℕ, ◌||◌, Bool, false, List, [], �
 use Rattle.std.specs.Option.{option_map_or}
 use Rattle.pass_mac.specs.Chain.{chain, derived_key}
 use Rattle.pass_mac.specs.Hmac.{hmac}
-use Rattle.pass_forms.specs.Pass.{Plain, is_signed}
+use Rattle.pass_forms.specs.Pass.{Plain}
+use Rattle.pass_forms.specs.computed.Pass.{is_signed}
 use Rattle.club_rows.specs.declared.key.Key.{Key}
 use Rattle.club_rows.specs.Key.{older_root_at}
-use Rattle.club_core.specs.Pass.{is_signed_under}
+use Rattle.club_core.specs.computed.Pass.{is_signed_under}
 use Rattle.club_gate.specs.declared.signing.Signing.{Signing}
 use Rattle.club_gate.specs.DecodedPass.{machine_pass}
 use Rattle.club_gate.specs.Signing.{initial_signing, signing_with, is_one_of}

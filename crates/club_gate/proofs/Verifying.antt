@@ -4,11 +4,12 @@ use Rattle.std.specs.Prelude.{IfOk}
 use Rattle.pass_forms.specs.declared.fault.FormFault.{FormFault}
 use Rattle.pass_forms.specs.declared.form.Form.{Form}
 use Rattle.pass_forms.specs.declared.form.Form.TheVariants.{Json}
-use Rattle.pass_forms.specs.Envelope.{unwrapping}
+use Rattle.pass_forms.specs.computed.Envelope.{unwrapping}
 use Rattle.pass_forms.specs.Pass.{Plain}
 use Rattle.pass_forms.specs.Reading.{max_text_len}
-use Rattle.pass_forms.specs.Text.{in_form}
-use Rattle.pass_json.specs.AnyForm.{ReadsWhatIsWrapped, reading, reading_in_form}
+use Rattle.pass_forms.specs.computed.Text.{in_form}
+use Rattle.pass_json.specs.Laws.{ReadsWhatIsWrapped}
+use Rattle.pass_json.specs.computed.AnyForm.{reading, reading_in_form}
 use Rattle.club_core.specs.declared.request.Request.{Request}
 use Rattle.club_core.specs.declared.store.StoreFault.{StoreFault}
 use Rattle.club_core.specs.declared.verdict.Verdict.{Verdict}

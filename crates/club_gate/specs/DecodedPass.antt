@@ -1,12 +1,13 @@
 -- A text, decoded for the rules of the club (ours). The decoded pass doesn't depend on the form in which it was written.
 use Rattle.std.specs.Prelude.{◌≢◌, ℕ, List, map, Result, Ok, Err}
 use Rattle.base64.specs.GeneralPurpose.{IsBytes}
-use Rattle.pass_caveats.specs.CaveatOf.{caveat_of}
+use Rattle.pass_caveats.specs.computed.CaveatOf.{caveat_of}
 use Rattle.pass_forms.specs.declared.fault.FormFault.{FormFault as Fault}
 use Rattle.pass_forms.specs.declared.fault.FormFault.TheVariants as faults
 use Rattle.pass_forms.specs.declared.form.Form.{Form}
-use Rattle.pass_forms.specs.Pass.{Plain, is_signed}
-use Rattle.pass_json.specs.AnyForm.{reading}
+use Rattle.pass_forms.specs.Pass.{Plain}
+use Rattle.pass_forms.specs.computed.Pass.{is_signed}
+use Rattle.pass_json.specs.computed.AnyForm.{reading}
 use Rattle.club_core.specs.declared.form_fault.FormFault.{FormFault}
 use Rattle.club_core.specs.declared.form_fault.FormFault.TheVariants.{TooLong, Malformed, ThirdParty, TooMany}
 use Rattle.club_core.specs.declared.request.Request.{Request}

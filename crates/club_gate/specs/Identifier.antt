@@ -2,7 +2,7 @@
 use Rattle.std.specs.Prelude.{◌≡◌, ◌↔◌, ℕ, List, take, drop, codes, Option, Some, None, if◌then◌else◌}
 use Rattle.std.specs.Str.{bytes_eq}
 use Rattle.club_values.specs.Name.{IsName}
-use Rattle.club_values.specs.TextOf.{name_of_text}
+use Rattle.club_values.specs.computed.TextOf.{name_of_text}
 use Rattle.club_gate.specs.Minted.{identifier_of}
 
 -- the name of the key that an identifier names; none if it names none

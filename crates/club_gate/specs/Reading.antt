@@ -1,7 +1,7 @@
 -- What the desk reads of the club to answer a signed pass (ours).
 use Rattle.std.specs.Prelude.{ℕ, true, map, Option, Some, None, option_map, option_and_then, if◌then◌else◌}
 use Rattle.pass_caveats.specs.declared.fault.CaveatFault.{CaveatFault}
-use Rattle.pass_caveats.specs.CaveatOf.{caveat_of, first_fault_of}
+use Rattle.pass_caveats.specs.computed.CaveatOf.{caveat_of, first_fault_of}
 use Rattle.pass_caveats.specs.Spending.{after_spending}
 use Rattle.pass_forms.specs.Pass.{Plain}
 use Rattle.club_values.specs.declared.slot.Slot.{Slot}

@@ -5,7 +5,7 @@ use Rattle.pass_caveats.specs.Fault.{Allowed}
 use Rattle.pass_forms.specs.declared.fault.FormFault.{FormFault}
 use Rattle.pass_forms.specs.declared.form.Form.{Form}
 use Rattle.pass_forms.specs.declared.form.Form.TheVariants.{Json}
-use Rattle.pass_forms.specs.Envelope.{unwrapping}
+use Rattle.pass_forms.specs.computed.Envelope.{unwrapping}
 use Rattle.pass_forms.specs.Pass.{Plain, IsSigned}
 use Rattle.pass_json.specs.AnyForm.{IsAnyReading}
 use Rattle.club_rows.specs.declared.key.Key.{Key}

@@ -6,7 +6,7 @@ use Rattle.pass_forms.specs.declared.fault.FormFault.TheVariants.{Memory}
 use Rattle.pass_forms.specs.declared.form.Form.{Form}
 use Rattle.pass_forms.specs.FieldSource.{PassField, caveat_field, signature_field}
 use Rattle.pass_forms.specs.Pass.{Plain}
-use Rattle.pass_json.specs.AnyForm.{reading_in_form}
+use Rattle.pass_json.specs.computed.AnyForm.{reading_in_form}
 use Rattle.club_rows.specs.declared.key.Key.{Key}
 use Rattle.club_core.specs.declared.refusal.Refusal.{Refusal}
 use Rattle.club_core.specs.declared.refusal.Refusal.TheVariants.{KeyRevoked, NotVerified}
@@ -17,7 +17,8 @@ use Rattle.club_core.specs.declared.verdict.Verdict.{Verdict}
 use Rattle.club_core.specs.Answer.{form_refusal}
 use Rattle.club_core.specs.Club.{Club, key_named}
 use Rattle.club_core.specs.Lines.{line_if, first_of}
-use Rattle.club_core.specs.Pass.{Words, is_signed_under}
+use Rattle.club_core.specs.Pass.{Words}
+use Rattle.club_core.specs.computed.Pass.{is_signed_under}
 use Rattle.club_core.specs.Verdict.{refusal_verdict}
 use Rattle.club_gate.specs.Identifier.{key_name_in}
 use Rattle.club_gate.specs.DecodedPass.{fault_of, machine_pass, decoded_or_fault}

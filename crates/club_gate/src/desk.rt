@@ -14,7 +14,8 @@ ghost use Rattle.std.specs.Prelude.{
 ghost use Rattle.std.specs.String.{string_bytes};
 ghost use Rattle.base64.specs.GeneralPurpose.{IsBytes};
 ghost use Rattle.pass_forms.specs.declared.fault.FormFault.{FormFault};
-ghost use Rattle.pass_json.specs.AnyForm.{IsAnyReading, reading};
+ghost use Rattle.pass_json.specs.AnyForm.{IsAnyReading};
+ghost use Rattle.pass_json.specs.computed.AnyForm.{reading};
 ghost use Rattle.club_core.specs.declared.reply.Reply.TheVariants.{Refused};
 ghost use Rattle.club_core.specs.Answer.{form_refusal};
 ghost use Rattle.club_core.specs.Acceptance.{IsServed};

@@ -2,7 +2,7 @@
 //! depend on.
 
 ghost use Rattle.std.specs.Prelude.{◌≡◌, ◌≤◌, length, map, option_map};
-ghost use Rattle.pass_caveats.specs.CaveatOf.{caveat_of, first_fault_of};
+ghost use Rattle.pass_caveats.specs.computed.CaveatOf.{caveat_of, first_fault_of};
 ghost use Rattle.pass_caveats.specs.Spending.{after_spending};
 ghost use Rattle.pass_forms.specs.FieldSource.{pass_fields};
 ghost use Rattle.pass_forms.specs.Pass.{Plain};

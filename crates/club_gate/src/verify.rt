@@ -19,7 +19,7 @@ ghost use Rattle.pass_forms.specs.declared.form.Form.TheVariants.{Json};
 ghost use Rattle.pass_forms.specs.FieldSource.{pass_fields};
 ghost use Rattle.pass_forms.specs.Pass.{Plain};
 ghost use Rattle.pass_forms.specs.Reading.{max_caveats};
-ghost use Rattle.pass_json.specs.AnyForm.{reading, reading_in_form};
+ghost use Rattle.pass_json.specs.computed.AnyForm.{reading, reading_in_form};
 ghost use Rattle.club_core.specs.Answer.{form_refusal, verdict_in};
 ghost use Rattle.club_core.specs.Store.{KeepsClub, Returns};
 ghost use Rattle.club_core.specs.Verdict.{refusal_verdict};

@@ -1,7 +1,7 @@
 //! Scans of the fields of a pass: one for its signature, and one for its caveats.
 
 ghost use Rattle.std.specs.Prelude.{◌≡◌, ℕ, ◌≤◌, false, fold, length, map};
-ghost use Rattle.pass_caveats.specs.CaveatOf.{caveat_of, first_fault_of};
+ghost use Rattle.pass_caveats.specs.computed.CaveatOf.{caveat_of, first_fault_of};
 ghost use Rattle.pass_caveats.specs.Spending.{after_spending};
 ghost use Rattle.pass_forms.specs.FieldSource.{pass_fields};
 ghost use Rattle.pass_forms.specs.Pass.{Plain};

@@ -8,7 +8,7 @@ use Rattle.pass_caveats.specs.declared.ask.Ask.{Ask}
 use Rattle.pass_caveats.specs.declared.caveat.Caveat.{Caveat}
 use Rattle.pass_caveats.specs.declared.fault.CaveatFault.{CaveatFault}
 use Rattle.pass_caveats.specs.declared.fault.CaveatFault.TheVariants.{NotUnderstood, Denied}
-use Rattle.pass_caveats.specs.CaveatOf.{permits, first_fault_from, first_fault_of}
+use Rattle.pass_caveats.specs.computed.CaveatOf.{permits, first_fault_from, first_fault_of}
 use Rattle.pass_caveats.specs.Laws.{TestsTheSet}
 use Rattle.club_core.specs.Laws.{TestsTheSignature}
 use Rattle.club_core.specs.declared.view.View.{View}
@@ -18,7 +18,8 @@ use Rattle.club_core.specs.declared.refusal.Refusal.TheVariants.{NotVerified, Ke
 use Rattle.club_core.specs.declared.request.Request.{Request}
 use Rattle.club_core.specs.declared.verdict.Verdict.{Verdict}
 use Rattle.club_core.specs.declared.form_fault.FormFault.{FormFault}
-use Rattle.club_core.specs.Pass.{Pass, Words, IsSignedUnder, is_signed_under}
+use Rattle.club_core.specs.Pass.{Pass, Words, IsSignedUnder}
+use Rattle.club_core.specs.computed.Pass.{is_signed_under}
 use Rattle.club_core.specs.Club.{Club, key_named}
 use Rattle.club_core.specs.Basis.{Basis, basis_of, basis_under, key_of, view_of}
 use Rattle.club_core.specs.Answer.{answer_to, ask_of, after_caveats, form_refusal, verdict_in}

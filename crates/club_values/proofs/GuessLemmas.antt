@@ -4,7 +4,7 @@ use Rattle.std.proofs.lemmas.Bool.{lt-ltb, le-ltb, ltb-true}
 use Rattle.jiff_core.proofs.MarchLemmas.{month_and_day}
 use Rattle.club_values.specs.Day.{IsDay, march_year, day_of_march_year, year_of, month_of, day_of_month, day_text}
 use Rattle.club_values.specs.Moment.{IsMoment, time_text, moment_text}
-use Rattle.club_values.specs.TextOf.{number_of_date, day_of, moment_of}
+use Rattle.club_values.specs.computed.TextOf.{number_of_date, day_of, moment_of}
 use Rattle.club_values.proofs.DayLemmas.{march_year_bounds}
 
 pub two_again : (n : ℕ) → 10 * (48 + n / 10 - 48) + (48 + n % 10 - 48) ≡ n

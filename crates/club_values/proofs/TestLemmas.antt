@@ -4,7 +4,7 @@ use Rattle.std.specs.Int.{IsInRange, is_in_range}
 use Rattle.std.specs.List.{list_all}
 use Rattle.std.proofs.lemmas.Bool.Decides.{Decides-like, Decides-and, Decides-not, Decides-ltb, Decides-eqb, Decides-by_and, leb_tells}
 use Rattle.club_values.specs.Name.{is_name_byte, IsName}
-use Rattle.club_values.specs.TextOf.{is_name}
+use Rattle.club_values.specs.computed.TextOf.{is_name}
 
 pub Decides-leb : (a b : ℕ) → Decides (nat_le a b) (a ≤ b)
 Decides-leb a b = elim (leb_tells a b) [ inl t ↦ ((λ e. t.1), (λ h. t.0)) | inr t ↦ ((λ e. absurd (cc)), (λ h. absurd (omega arith))) ]

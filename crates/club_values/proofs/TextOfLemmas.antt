@@ -16,9 +16,8 @@ use Rattle.club_values.specs.Moment.{IsMoment, SpellsMoment, moment_text}
 use Rattle.club_values.specs.Hour.{IsHour, SpellsHour}
 use Rattle.club_values.specs.Kind.{kind_text}
 use Rattle.club_values.specs.Action.{action_text}
-use Rattle.club_values.specs.TextOf.{is_name, two_at, day_of, moment_of, candidate_kind, candidate_action, where_spelled, name_of_text, day_of_text}
-use Rattle.club_values.specs.TextOf.{moment_of_text}
-use Rattle.club_values.specs.TextOf.{hour_of_text, kind_of_text, action_of_text}
+use Rattle.club_values.specs.computed.TextOf.{is_name, two_at, day_of, moment_of, candidate_kind, candidate_action, where_spelled, name_of_text, day_of_text}
+use Rattle.club_values.specs.computed.TextOf.{moment_of_text, hour_of_text, kind_of_text, action_of_text}
 use Rattle.club_values.proofs.TestLemmas.{Decides-is_name, Decides-range}
 use Rattle.club_values.proofs.GuessLemmas.{two_again, day_of-day_text, moment_of-moment_text}
 use Rattle.club_values.proofs.DayLemmas.{day_text-spells, spells-day_text}

@@ -8,7 +8,7 @@ use Rattle.club_values.specs.Action.{action_text}
 use Rattle.club_values.specs.Day.{IsDay, SpellsDay, day_text}
 use Rattle.club_values.specs.Hour.{SpellsHour}
 use Rattle.club_values.specs.Moment.{IsMoment, SpellsMoment, moment_text}
-use Rattle.club_values.specs.TextOf.{name_of_text, kind_of_text, action_of_text, day_of_text, hour_of_text, moment_of_text}
+use Rattle.club_values.specs.computed.TextOf.{name_of_text, kind_of_text, action_of_text, day_of_text, hour_of_text, moment_of_text}
 
 -- The functions `.._of_text` return exactly what the text spells, for any list of numbers.
 -- a name is returned exactly if the text is one, and the name is the text

@@ -9,5 +9,5 @@ pub mod Moment
 pub mod Kind
 pub mod Action
 pub mod Slot
-pub mod TextOf
 pub mod Laws
+pub mod computed

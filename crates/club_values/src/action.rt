@@ -3,7 +3,7 @@
 ghost use Rattle.std.specs.Prelude.{◌≡◌, Some};
 ghost use Rattle.club_values.specs.Reading.{Reads};
 ghost use Rattle.club_values.specs.Action.{action_text};
-ghost use Rattle.club_values.specs.TextOf.{action_of_text};
+ghost use Rattle.club_values.specs.computed.TextOf.{action_of_text};
 
 use std::fmt;
 

@@ -11,7 +11,7 @@ ghost use Rattle.club_values.specs.Day.{
   IsDateOf,
   day_text,
 };
-ghost use Rattle.club_values.specs.TextOf.{day_of_text};
+ghost use Rattle.club_values.specs.computed.TextOf.{day_of_text};
 ghost use Rattle.club_values.specs.Weekday.{weekday_of};
 
 use crate::ascii::text_of;

@@ -3,7 +3,7 @@
 ghost use Rattle.std.specs.Prelude.{◌≡◌, Some};
 ghost use Rattle.club_values.specs.Reading.{Reads};
 ghost use Rattle.club_values.specs.Kind.{kind_text};
-ghost use Rattle.club_values.specs.TextOf.{kind_of_text};
+ghost use Rattle.club_values.specs.computed.TextOf.{kind_of_text};
 
 use std::fmt;
 

@@ -10,7 +10,7 @@ ghost use Rattle.club_values.specs.Moment.{
   minutes_a_day,
   moment_text,
 };
-ghost use Rattle.club_values.specs.TextOf.{moment_of_text};
+ghost use Rattle.club_values.specs.computed.TextOf.{moment_of_text};
 
 use crate::ascii::text_of;
 use crate::day::{Day, FIRST_DAY, LAST_DAY};

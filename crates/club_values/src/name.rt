@@ -17,7 +17,7 @@ ghost use Rattle.std.proofs.Common.{rules};
 ghost use Rattle.club_values.specs.Name as spec;
 ghost use Rattle.club_values.specs.Name.{IsName};
 ghost use Rattle.club_values.specs.Reading.{Reads};
-ghost use Rattle.club_values.specs.TextOf.{name_of_text};
+ghost use Rattle.club_values.specs.computed.TextOf.{name_of_text};
 
 use crate::ascii::text_of;
 use std::cmp::Ordering;

@@ -1,7 +1,7 @@
 -- Laws of the definitions: what each command's words ask for. After `--` words are never options, whatever they begin with.
 use Rattle.std.specs.Prelude.{◌≡◌, ℕ, List, [], ◌∷◌, ◌++◌, Some, codes, false, true}
 use Rattle.clap.specs.Words.{Text}
-use Rattle.club_values.specs.TextOf.{name_of_text, kind_of_text, day_of_text, hour_of_text, moment_of_text}
+use Rattle.club_values.specs.computed.TextOf.{name_of_text, kind_of_text, day_of_text, hour_of_text, moment_of_text}
 use Rattle.club_values.specs.declared.kind.Kind.{Kind}
 use Rattle.club_core.specs.declared.command.Command.TheVariants as order
 use Rattle.pass_forms.specs.declared.form.Form.{Form}

@@ -15,7 +15,7 @@ use Rattle.club_gate.specs.declared.fault.Fault.TheVariants as desk
 use Rattle.club_laws.specs.Failed.{ToOffice}
 use Rattle.pass_forms.specs.declared.form.Form.{Form}
 use Rattle.pass_forms.specs.declared.fault.FormFault.{FormFault}
-use Rattle.pass_json.specs.AnyForm.{writing}
+use Rattle.pass_json.specs.computed.AnyForm.{writing}
 use Rattle.clubdesk_commands.specs.declared.fault.Fault.{Fault}
 use Rattle.clubdesk_commands.specs.declared.fault.Fault.TheVariants.{Refused, Memory, Storage}
 use Rattle.clubdesk_commands.specs.Output.{Output, WritesText}

@@ -9,7 +9,7 @@ use Rattle.clap.specs.Words.{IsAmong, Row, Text, first_of, kind_of}
 use Rattle.clap.specs.declared.error.kind.ErrorKind.{ErrorKind}
 use Rattle.clap.specs.declared.error.kind.ErrorKind.TheVariants as kind
 use Rattle.clap.specs.Walk.{is_empty}
-use Rattle.club_values.specs.TextOf.{name_of_text, kind_of_text, day_of_text, hour_of_text, moment_of_text}
+use Rattle.club_values.specs.computed.TextOf.{name_of_text, kind_of_text, day_of_text, hour_of_text, moment_of_text}
 use Rattle.club_core.specs.declared.command.Command.TheVariants as order
 use Rattle.pass_forms.specs.declared.form.Form.{Form}
 use Rattle.passtool_commands.specs.FormName.{form_named}

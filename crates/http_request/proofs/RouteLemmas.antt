@@ -4,7 +4,7 @@ use Rattle.std.proofs.Common.{Bool, true, false, cond, ◌==◌, append-nil, cod
 use Rattle.std.specs.Prelude.{IsSome, option_map}
 use Rattle.std.proofs.lemmas.Bool.Decides.{nat_tests}
 use Rattle.std.specs.Str.{bytes_eq}
-use Rattle.club_values.specs.TextOf.{name_of_text, day_of_text, hour_of_text}
+use Rattle.club_values.specs.computed.TextOf.{name_of_text, day_of_text, hour_of_text}
 use Rattle.matchit.specs.Rows.{RowsOf, param_token}
 use Rattle.matchit.specs.Seek.{has_slash, seek, first, own, step, param_step}
 use Rattle.http_request.specs.declared.path.Place.{Place}

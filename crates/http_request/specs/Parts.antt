@@ -6,7 +6,7 @@ use Rattle.std.specs.Char.{is_ascii_digit}
 use Rattle.std.specs.List.{list_all}
 use Rattle.std.specs.Str.Parse.{digits_value}
 use Rattle.club_values.specs.declared.slot.Slot.{Slot}
-use Rattle.club_values.specs.TextOf.{name_of_text, day_of_text, hour_of_text}
+use Rattle.club_values.specs.computed.TextOf.{name_of_text, day_of_text, hour_of_text}
 
 -- bytes in front of the first part
 abbrev pub with_front : List ℕ → List (List ℕ) → List (List ℕ)

@@ -14,8 +14,8 @@ use Rattle.pass_caveats.specs.Actions.{all_actions, has_action, action_texts}
 use Rattle.pass_caveats.specs.Weekdays.{weekday_text, has_weekday, weekday_texts}
 use Rattle.pass_caveats.specs.Parts.{comma_list}
 use Rattle.pass_caveats.specs.Caveat.{IsCaveat, caveat_text, Understood}
-use Rattle.club_values.specs.TextOf.{day_of}
-use Rattle.pass_caveats.specs.CaveatOf.{candidate, actions_from, actions_of, weekdays_from, weekdays_of}
+use Rattle.club_values.specs.computed.TextOf.{day_of}
+use Rattle.pass_caveats.specs.computed.CaveatOf.{candidate, actions_from, actions_of, weekdays_from, weekdays_of}
 use Rattle.club_values.proofs.GuessLemmas.{two_again, day_of-day_text, moment_of-moment_text}
 use Rattle.pass_caveats.proofs.PartLemmas.{names_again}
 use Rattle.pass_caveats.proofs.ChoiceLemmas.{AreWords, choice_again}

@@ -17,9 +17,9 @@ use Rattle.pass_caveats.specs.Names.{AreNames}
 use Rattle.pass_caveats.specs.Actions.{action_texts}
 use Rattle.pass_caveats.specs.Weekdays.{weekday_texts}
 use Rattle.pass_caveats.specs.Caveat.{IsCaveat, caveat_text, Understood, Permits}
-use Rattle.club_values.specs.TextOf.{is_name}
+use Rattle.club_values.specs.computed.TextOf.{is_name}
 use Rattle.club_values.proofs.TestLemmas.{Decides-leb, Decides-range, Decides-is_name}
-use Rattle.pass_caveats.specs.CaveatOf.{is_caveat, spells, in_slot, same_kind, is_kind, permits}
+use Rattle.pass_caveats.specs.computed.CaveatOf.{is_caveat, spells, in_slot, same_kind, is_kind, permits}
 
 Decides-are_names : (names : List (List ℕ)) → Decides (is_caveat (Facility names)) (AreNames names)
 Decides-are_names names =

@@ -5,7 +5,7 @@ use Rattle.pass_caveats.specs.declared.caveat.Caveat.{Caveat}
 use Rattle.pass_caveats.specs.declared.ask.Ask.{Ask}
 use Rattle.pass_caveats.specs.declared.fault.CaveatFault.{CaveatFault}
 use Rattle.pass_caveats.specs.Caveat.{Understood, Permits}
-use Rattle.pass_caveats.specs.CaveatOf.{caveat_of, permits, first_fault_from, first_fault_of}
+use Rattle.pass_caveats.specs.computed.CaveatOf.{caveat_of, permits, first_fault_from, first_fault_of}
 use Rattle.pass_caveats.specs.Fault.{Allowed, IsFirstFault}
 
 -- more caveats never open more

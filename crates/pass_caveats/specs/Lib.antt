@@ -5,6 +5,6 @@ pub mod Actions
 pub mod Weekdays
 pub mod Caveat
 pub mod Fault
-pub mod CaveatOf
 pub mod Laws
 pub mod Spending
+pub mod computed

@@ -3,7 +3,7 @@
 ghost use Rattle.std.specs.Prelude.{◌≡◌, ◌⊎◌, ◌+◌, ◌≤◌, ◌↔◌, IsTrue};
 ghost use Rattle.club_values.specs.Reading.{Reads};
 ghost use Rattle.pass_caveats.specs.Caveat.{SpellsCaveat, Understood, Permits};
-ghost use Rattle.pass_caveats.specs.CaveatOf.{caveat_of, permits};
+ghost use Rattle.pass_caveats.specs.computed.CaveatOf.{caveat_of, permits};
 
 use crate::actions::Actions;
 use crate::ask::Ask;

@@ -19,7 +19,8 @@ use Rattle.base64.specs.Engines.{standard, standard_no_pad, url_safe, url_safe_n
 use Rattle.base64.specs.GeneralPurpose.{IsBytes, IsConsistent, IsDecodedInto, IsStrict, decode_of, decoded_of, encode_of, engine_symbols}
 use Rattle.base64.specs.Rfc4648.{encode, encode_symbols, padding_len}
 use Rattle.base64.specs.declared.engine.general_purpose.GeneralPurpose.{GeneralPurpose}
-use Rattle.pass_forms.specs.Envelope.{IsBase64, from_base64}
+use Rattle.pass_forms.specs.Envelope.{IsBase64}
+use Rattle.pass_forms.specs.computed.Envelope.{from_base64}
 use Rattle.pass_forms.proofs.Base64Spelling.{decoded-encode, decoded_spells, spells_one}
 use Rattle.pass_forms.proofs.Base64Symbols.{symbols_pass}
 

@@ -2,7 +2,7 @@
 use Rattle.std.proofs.Common.{◌≡◌, ℕ, zero, suc, ◌+◌, Bool, true, false, ◌||◌, List, [], ◌∷◌, length, map, Option, Some, None, option_map, refl, sym, ◌∙◌}
 use Rattle.std.proofs.Common.{subst, arith}
 use Rattle.std.specs.List.{list_any}
-use Rattle.pass_forms.specs.Caveats.{Counts, and_others, caveats_at, summary}
+use Rattle.pass_forms.specs.computed.Caveats.{Counts, and_others, caveats_at, summary}
 use Rattle.pass_forms.specs.Pass.{WideCaveat, is_third_party, first_party_caveat}
 
 abbrev pub Reader : Type 0

@@ -3,7 +3,7 @@ use Rattle.std.proofs.Common.{◌≡◌, ℕ, zero, suc, ◌≤◌, List, [], �
 use Rattle.std.specs.List.{flat_map, AllByRecursion}
 use Rattle.std.proofs.lemmas.List.Concat.{flat_map-cons}
 use Rattle.std.proofs.lemmas.List.{length-append}
-use Rattle.pass_forms.specs.Caveats.{and_others, caveats_at}
+use Rattle.pass_forms.specs.computed.Caveats.{and_others, caveats_at}
 use Rattle.pass_forms.specs.Pass.{WideCaveat}
 use Rattle.pass_forms.proofs.CaveatRuns.{Reader}
 

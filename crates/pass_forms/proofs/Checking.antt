@@ -9,7 +9,8 @@ use Rattle.pass_forms.specs.declared.fault.FormFault.{FormFault}
 use Rattle.pass_forms.specs.declared.fault.FormFault.TheVariants.{TooLong, Malformed, ThirdParty, TooMany, Memory}
 use Rattle.pass_forms.specs.Pass.{Plain, WideCaveat, WidePass, is_third_party, has_third_party, widened_caveat, as_wide_pass, first_party_caveat, first_party}
 use Rattle.pass_forms.proofs.Digits.{some_is}
-use Rattle.pass_forms.specs.Reading.{max_text_len, max_caveats, IsReadAs, checked_if_any, reading_of}
+use Rattle.pass_forms.specs.Reading.{max_text_len, max_caveats, IsReadAs}
+use Rattle.pass_forms.specs.computed.Reading.{checked_if_any, reading_of}
 
 -- ---- a wide pass with no third party's caveat is a pass
 

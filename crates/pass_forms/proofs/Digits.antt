@@ -2,8 +2,8 @@
 use Rattle.std.proofs.Common.{◌≡◌, ℕ, ◌+◌, ◌*◌, ◌/◌, ◌%◌, ◌^◌, ◌<◌, List, [], ◌∷◌, ◌++◌, Option, Some, None, refl, sym, ap, ◌∙◌, arith}
 use Rattle.std.proofs.lemmas.Bool.Decides.{nat_tests}
 use Rattle.pass_forms.specs.V1.{hex_digit, four_hex_digits}
-use Rattle.pass_forms.specs.Parts.{◌>>=◌}
-use Rattle.pass_forms.specs.V1Reading.{digit_value, len_at}
+use Rattle.pass_forms.specs.computed.Parts.{◌>>=◌}
+use Rattle.pass_forms.specs.computed.V1Reading.{digit_value, len_at}
 
 pub digit_again : (n : ℕ) → n < 16 → digit_value (hex_digit n) ≡ Some n
 digit_again n h = grind (arith, nat_tests)

@@ -6,7 +6,8 @@ use Rattle.base64.specs.GeneralPurpose.{IsBytes}
 use Rattle.pass_forms.specs.declared.fault.FormFault.{FormFault}
 use Rattle.pass_forms.specs.declared.fault.FormFault.TheVariants.{TooLong, Malformed, ThirdParty, TooMany, Memory}
 use Rattle.pass_forms.specs.declared.form.Form.{Form}
-use Rattle.pass_forms.specs.Envelope.{IsBase64, IsUnwrapped, Wraps, form_of, from_base64, starts_with_brace, unwrapping, with_its_form}
+use Rattle.pass_forms.specs.Envelope.{IsBase64, IsUnwrapped, Wraps, form_of, starts_with_brace}
+use Rattle.pass_forms.specs.computed.Envelope.{from_base64, unwrapping, with_its_form}
 use Rattle.pass_forms.specs.Reading.{max_text_len}
 use Rattle.pass_forms.proofs.Base64Decoding.{from_base64_spells, spells_from_base64}
 use Rattle.pass_forms.proofs.Base64Spelling.{spelling_brace, spells_one}

@@ -4,9 +4,9 @@ use Rattle.std.proofs.Common.{Some, None, refl, sym, ap, subst, ◌∙◌, appen
 use Rattle.std.proofs.lemmas.Bool.{cases_lt, leb-true, le-leb, lt-ltb, le-ltb}
 use Rattle.std.proofs.lemmas.Bool.Decides.{nat_tests}
 use Rattle.std.proofs.lemmas.List.{take_at, drop_at, take-append-drop, length-append, length-take}
-use Rattle.pass_forms.specs.Parts.{◌>>=◌, after_prefix, found_or_none}
+use Rattle.pass_forms.specs.computed.Parts.{◌>>=◌, after_prefix, found_or_none}
 use Rattle.pass_forms.specs.V2.{groups, varint, field, optional_field}
-use Rattle.pass_forms.specs.V2Reading.{varint_at, counted_at, field_at, optional_at}
+use Rattle.pass_forms.specs.computed.V2Reading.{varint_at, counted_at, field_at, optional_at}
 use Rattle.pass_forms.proofs.Digits.{bind_some, some_is}
 use Rattle.pass_forms.proofs.Packets.{guard_some, after_prefix_takes, after_prefix_again}
 use Rattle.pass_forms.proofs.Varints.{varint_last, varint_more, above_some}

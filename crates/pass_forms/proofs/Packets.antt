@@ -7,8 +7,8 @@ use Rattle.std.proofs.Math.Seq.{take-append-add}
 use Rattle.std.proofs.lemmas.List.{drop-take, take-take, take_at, drop_at, take-append-drop, length-append, length-take, length-drop}
 use Rattle.std.proofs.lemmas.Slice.Eq.{bytes_eq-Decides}
 use Rattle.pass_forms.specs.V1.{four_hex_digits, packet_len, packet, FitsPacket}
-use Rattle.pass_forms.specs.Parts.{◌>>=◌, after_prefix, before_suffix}
-use Rattle.pass_forms.specs.V1Reading.{len_at, packet_at}
+use Rattle.pass_forms.specs.computed.Parts.{◌>>=◌, after_prefix, before_suffix}
+use Rattle.pass_forms.specs.computed.V1Reading.{len_at, packet_at}
 use Rattle.pass_forms.proofs.Digits.{bind_some, some_is, len_takes, len_again}
 
 pub guard_some : {A : Type 0} (b : Bool) (x y : A) → cond b (Some x) None ≡ Some y → (b ≡ true) × (x ≡ y)

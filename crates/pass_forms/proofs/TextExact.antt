@@ -4,10 +4,13 @@ use Rattle.base64.specs.GeneralPurpose.{IsBytes}
 use Rattle.pass_forms.specs.declared.fault.FormFault.{FormFault}
 use Rattle.pass_forms.specs.declared.fault.FormFault.TheVariants.{TooLong, Malformed, ThirdParty, TooMany, Memory}
 use Rattle.pass_forms.specs.declared.form.Form.{Form}
-use Rattle.pass_forms.specs.Envelope.{Wraps, IsUnwrapped, unwrapping}
+use Rattle.pass_forms.specs.Envelope.{Wraps, IsUnwrapped}
+use Rattle.pass_forms.specs.computed.Envelope.{unwrapping}
 use Rattle.pass_forms.specs.Pass.{Plain, WidePass, as_wide_pass}
-use Rattle.pass_forms.specs.Reading.{max_text_len, IsReadAs, checked_if_any}
-use Rattle.pass_forms.specs.Text.{SpellsText, IsTextReading, in_form, reading_in, text_reading}
+use Rattle.pass_forms.specs.Reading.{max_text_len, IsReadAs}
+use Rattle.pass_forms.specs.computed.Reading.{checked_if_any}
+use Rattle.pass_forms.specs.Text.{SpellsText, IsTextReading}
+use Rattle.pass_forms.specs.computed.Text.{in_form, reading_in, text_reading}
 use Rattle.pass_forms.proofs.EnvelopeLaws.{wraps_one, unwrapped_answers}
 use Rattle.pass_forms.proofs.Checking.{Computes, checked_if_any_is, checked_determined}
 

@@ -4,7 +4,7 @@ use Rattle.pass_forms.specs.declared.fault.FormFault.{FormFault}
 use Rattle.pass_forms.specs.Pass.{Plain, WidePass}
 use Rattle.pass_forms.specs.Reading.{IsReadAs}
 use Rattle.pass_forms.specs.V1.{SpellsV1}
-use Rattle.pass_forms.specs.V1Reading.{wide_at, reading_v1}
+use Rattle.pass_forms.specs.computed.V1Reading.{wide_at, reading_v1}
 use Rattle.pass_forms.proofs.WholeV1.{wide_takes, wide_again}
 use Rattle.pass_forms.proofs.Checking.{Computes, one_spelled, reading_is, reading_determined}
 

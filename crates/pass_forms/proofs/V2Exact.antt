@@ -4,7 +4,7 @@ use Rattle.pass_forms.specs.declared.fault.FormFault.{FormFault}
 use Rattle.pass_forms.specs.Pass.{Plain, WidePass}
 use Rattle.pass_forms.specs.Reading.{IsReadAs}
 use Rattle.pass_forms.specs.V2.{SpellsV2}
-use Rattle.pass_forms.specs.V2Reading.{wide_at, reading_v2}
+use Rattle.pass_forms.specs.computed.V2Reading.{wide_at, reading_v2}
 use Rattle.pass_forms.proofs.WholeV2.{wide_takes, wide_again}
 use Rattle.pass_forms.proofs.Checking.{Computes, one_spelled, reading_is, reading_determined}
 

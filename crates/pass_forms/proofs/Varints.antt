@@ -3,7 +3,7 @@ use Rattle.std.proofs.Common.{◌≡◌, ◌≢◌, ℕ, ◌+◌, ◌-◌, ◌*�
 use Rattle.std.proofs.Common.{◌∙◌, arith, inl, inr}
 use Rattle.std.proofs.lemmas.Bool.{cases_lt, lt-ltb, le-ltb}
 use Rattle.std.proofs.lemmas.Bool.Decides.{nat_tests}
-use Rattle.pass_forms.specs.V2Reading.{above, varint_at}
+use Rattle.pass_forms.specs.computed.V2Reading.{above, varint_at}
 use Rattle.pass_forms.proofs.Digits.{some_is}
 
 -- a byte with more after it

@@ -1,8 +1,8 @@
 -- From the parts that were found one after another to the whole pass.
 use Rattle.std.proofs.Common.{◌≡◌, ℕ, Bool, List, length, map, Option, Some, option_map, refl, ap, ◌∙◌}
-use Rattle.pass_forms.specs.Caveats.{caveats_at, scan_summary, whole_at, Counts}
+use Rattle.pass_forms.specs.computed.Caveats.{caveats_at, scan_summary, whole_at, Counts}
 use Rattle.pass_forms.specs.FieldSource.{pass_fields}
-use Rattle.pass_forms.specs.Parts.{◌>>=◌}
+use Rattle.pass_forms.specs.computed.Parts.{◌>>=◌}
 use Rattle.pass_forms.specs.Pass.{WideCaveat, WidePass, first_party_caveat}
 use Rattle.pass_forms.proofs.Digits.{bind_some, some_is}
 use Rattle.pass_forms.proofs.CaveatRuns.{Reader, as_many}

@@ -6,9 +6,9 @@ use Rattle.std.proofs.lemmas.List.{append-nil, nil_from_length, length-append}
 use Rattle.pass_forms.specs.Pass.{WidePass}
 use Rattle.pass_forms.specs.V1.{packet, location_key, identifier_key, caveat_key, verifier_id_key, caveat_location_key, signature_key, caveat_packets}
 use Rattle.pass_forms.specs.V1.{packets_of, FitsPacket, FitsCaveat, FitsPackets, SpellsV1}
-use Rattle.pass_forms.specs.Parts.{◌>>=◌}
-use Rattle.pass_forms.specs.V1Reading.{packet_at, header_at, caveat_at, signature_at, wide_at}
-use Rattle.pass_forms.specs.Caveats.{caveats_at}
+use Rattle.pass_forms.specs.computed.Parts.{◌>>=◌}
+use Rattle.pass_forms.specs.computed.V1Reading.{packet_at, header_at, caveat_at, signature_at, wide_at}
+use Rattle.pass_forms.specs.computed.Caveats.{caveats_at}
 use Rattle.pass_forms.proofs.WholePass.{made, whole_parts, whole_again}
 use Rattle.pass_forms.proofs.Digits.{bind_some, some_is}
 use Rattle.pass_forms.proofs.Packets.{packet_takes, packet_again, packet_other, guard_some}

@@ -8,7 +8,8 @@ use Rattle.pass_forms.specs.Envelope.{form_of}
 use Rattle.pass_forms.specs.Pass.{Plain, WidePass, as_wide_pass}
 use Rattle.pass_forms.specs.Putting.{FitsBuffer, RefusesBytes, WritesBytes, buffer_len}
 use Rattle.pass_forms.specs.Reading.{IsReadAs}
-use Rattle.pass_forms.specs.Writing.{IsReadBack, IsWriteFault, IsTextBy, IsWritableText, in_base64, writing_of}
+use Rattle.pass_forms.specs.Writing.{IsReadBack, IsWriteFault, IsTextBy, IsWritableText, in_base64}
+use Rattle.pass_forms.specs.computed.Writing.{writing_of}
 use Rattle.pass_forms.proofs.WrittenTexts.{bytes_fit, text_fits, text_too_long, unwraps, written_by, written_parts}
 
 -- A form: the bytes of a pass, which bytes spell a pass, and how they are read.

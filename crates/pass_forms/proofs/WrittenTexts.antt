@@ -10,11 +10,13 @@ use Rattle.base64.proofs.RoundTrip.{length-encode_symbols}
 use Rattle.pass_forms.specs.declared.fault.FormFault.{FormFault}
 use Rattle.pass_forms.specs.declared.fault.FormFault.TheVariants.{TooLong, Malformed, ThirdParty, TooMany, Memory}
 use Rattle.pass_forms.specs.declared.form.Form.{Form}
-use Rattle.pass_forms.specs.Envelope.{IsBase64, form_of, unwrapping}
+use Rattle.pass_forms.specs.Envelope.{IsBase64, form_of}
+use Rattle.pass_forms.specs.computed.Envelope.{unwrapping}
 use Rattle.pass_forms.specs.Pass.{Plain}
 use Rattle.pass_forms.specs.Putting.{RefusesBytes, WritesBytes, buffer_len}
 use Rattle.pass_forms.specs.Reading.{max_caveats, max_text_len}
-use Rattle.pass_forms.specs.Writing.{FailsAs, in_base64, writing_of}
+use Rattle.pass_forms.specs.Writing.{FailsAs, in_base64}
+use Rattle.pass_forms.specs.computed.Writing.{writing_of}
 use Rattle.pass_forms.proofs.EnvelopeLaws.{unwrapped_is}
 
 length-in_base64 : (bytes : List ℕ) → length (in_base64 bytes) ≡ unpadded_len (length bytes)

@@ -10,9 +10,10 @@ use Rattle.pass_forms.specs.Putting.{buffer_len}
 use Rattle.pass_forms.specs.V1.{FitsPackets, FitsCaveat, FitsPacket, SpellsV1, caveat_key, caveat_packets, hex_digit, identifier_key, location_key, packet}
 use Rattle.pass_forms.specs.V1.{packet_len}
 use Rattle.pass_forms.specs.V1.{packets_of, signature_key}
-use Rattle.pass_forms.specs.Writing.{HasBytes, IsReadBack, IsV1Text, IsWritableText, v1_bytes, writing_v1}
+use Rattle.pass_forms.specs.Writing.{HasBytes, IsReadBack, IsV1Text, IsWritableText, v1_bytes}
+use Rattle.pass_forms.specs.computed.Writing.{writing_v1}
 use Rattle.pass_forms.proofs.Packets.{length-packet}
-use Rattle.pass_forms.specs.V1Reading.{reading_v1}
+use Rattle.pass_forms.specs.computed.V1Reading.{reading_v1}
 use Rattle.pass_forms.proofs.V1Exact.{reading_v1_determined}
 use Rattle.pass_forms.proofs.WrittenBytes.{v1_is_bytes}
 use Rattle.pass_forms.proofs.WrittenForm.{BytesForm, exact, reads_back}

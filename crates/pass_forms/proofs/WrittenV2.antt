@@ -5,8 +5,9 @@ use Rattle.pass_forms.specs.declared.form.Form.TheVariants.{V2}
 use Rattle.pass_forms.specs.Envelope.{form_of}
 use Rattle.pass_forms.specs.Pass.{Plain, as_wide_pass}
 use Rattle.pass_forms.specs.V2.{SpellsV2}
-use Rattle.pass_forms.specs.Writing.{HasBytes, IsReadBack, IsV2Text, IsWritableText, nonempty_location, v2_bytes, writing_v2}
-use Rattle.pass_forms.specs.V2Reading.{reading_v2}
+use Rattle.pass_forms.specs.Writing.{HasBytes, IsReadBack, IsV2Text, IsWritableText, nonempty_location, v2_bytes}
+use Rattle.pass_forms.specs.computed.Writing.{writing_v2}
+use Rattle.pass_forms.specs.computed.V2Reading.{reading_v2}
 use Rattle.pass_forms.proofs.V2Exact.{reading_v2_determined}
 use Rattle.pass_forms.proofs.WrittenBytes.{v2_is_bytes}
 use Rattle.pass_forms.proofs.WrittenForm.{BytesForm, exact, fits_buffer, reads_back}

@@ -1,10 +1,10 @@
 -- The envelope of a pass text: base64, and which form the bytes in it are in.
-use Rattle.std.specs.Prelude.{◌≡◌, ◌==◌, ◌≤◌, ◌<◌, ◌&&◌, ◌||◌, ◌⊎◌, ℕ, Bool, List, length, take, slice_get, nat_eq, nat_lt, nat_le, IsTrue, [], ◌∷◌}
-use Rattle.std.specs.Prelude.{if◌then◌else◌, Option, None, Some, Result, Ok, Err, ◌↔◌}
+use Rattle.std.specs.Prelude.{◌≡◌, ◌==◌, ◌≤◌, ◌<◌, ◌&&◌, ◌||◌, ◌⊎◌, ℕ, Bool, List, length, take, slice_get, nat_eq, nat_le, IsTrue, [], ◌∷◌}
+use Rattle.std.specs.Prelude.{if◌then◌else◌, Option, None, Some, Result, Ok, Err}
 use Rattle.std.specs.List.{starts_with}
-use Rattle.std.specs.Option.{option_and_then, option_map, option_or, ok_or}
+use Rattle.std.specs.Option.{option_and_then}
 use Rattle.base64.specs.Engines.{url_safe_no_pad, url_safe, standard_no_pad, standard}
-use Rattle.base64.specs.GeneralPurpose.{IsBytes, decoded_of, encode_of}
+use Rattle.base64.specs.GeneralPurpose.{IsBytes, encode_of}
 use Rattle.pass_forms.specs.declared.envelope.Unwrapped.{Unwrapped}
 use Rattle.pass_forms.specs.declared.fault.FormFault.{FormFault}
 use Rattle.pass_forms.specs.declared.fault.FormFault.TheVariants.{TooLong, Malformed}
@@ -60,25 +60,6 @@ IsUnwrapped text (Err Malformed) =
     (length text ≤ max_text_len) × ((form : Form) (bytes : List ℕ) → ¬ Wraps text form bytes)
 IsUnwrapped text (Err other) = ⊥
 
--- The same, computed from the text.
-
--- the bytes, by the first of the four decoders that accepts the text
-unfoldable pub from_base64 : List ℕ → Option (List ℕ)
-from_base64 text =
-    option_or (decoded_of url_safe_no_pad text)
-    (option_or (decoded_of url_safe text)
-    (option_or (decoded_of standard_no_pad text) (decoded_of standard text)))
-
--- the bytes, with the form that they are in
-abbrev pub with_its_form : List ℕ → Option (Form × List ℕ)
-with_its_form bytes = option_map (λ form. (form, bytes)) (form_of bytes)
-
-unfoldable pub unwrapping : List ℕ → Result (Form × List ℕ) FormFault
-unwrapping text =
-    if nat_lt max_text_len (length text) then Err TooLong
-    else if starts_with_brace text then Ok (Json, text)
-    else ok_or (option_and_then with_its_form (from_base64 text)) Malformed
-
 -- What a result of `unwrap_text` means, with the text and the buffer after the call.
 
 -- the bytes: the text if it is plain, else the front of the buffer
@@ -89,26 +70,3 @@ unwrapped_bytes unwrapping text buffer = if unwrapping.plain then text else take
 abbrev pub unwrapped_result : Result Unwrapped FormFault → List ℕ → List ℕ → Result (Form × List ℕ) FormFault
 unwrapped_result (Ok unwrapping) text buffer = Ok (unwrapping.form, unwrapped_bytes unwrapping text buffer)
 unwrapped_result (Err fault) text buffer = Err fault
-
--- Laws.
-
--- A text wraps at most one form and one list of bytes.
-abbrev pub WrapsOne : Type 0
-WrapsOne = (text : List ℕ) (form other_form : Form) (bytes other_bytes : List ℕ)
-    → Wraps text form bytes → Wraps text other_form other_bytes
-    → (form ≡ other_form) × (bytes ≡ other_bytes)
-
--- What it wraps is bytes, if the text is.
-abbrev pub WrapsBytes : Type 0
-WrapsBytes = (text : List ℕ) (form : Form) (bytes : List ℕ)
-    → IsBytes text → Wraps text form bytes → IsBytes bytes
-
--- `from_base64` returns the bytes that the text is base64 of, and `None` if there are none.
-abbrev pub FromBase64IsBase64 : Type 0
-FromBase64IsBase64 = (text bytes : List ℕ)
-    → IsBytes text → (from_base64 text ≡ Some bytes) ↔ IsBase64 text bytes
-
--- `unwrapping` of a text is the only result that `IsUnwrapped` allows.
-abbrev pub UnwrappedIsTheAnswer : Type 0
-UnwrappedIsTheAnswer = (text : List ℕ) (answer : Result (Form × List ℕ) FormFault)
-    → IsBytes text → (unwrapping text ≡ answer) ↔ IsUnwrapped text answer

@@ -2,13 +2,11 @@ pub mod Pass
 pub mod FormFault
 pub mod FieldSource
 pub mod Reading
-pub mod Parts
-pub mod Caveats
 pub mod V1
-pub mod V1Reading
 pub mod Envelope
 pub mod Text
 pub mod V2
-pub mod V2Reading
 pub mod Writing
 pub mod Putting
+pub mod Laws
+pub mod computed

@@ -1,8 +1,7 @@
 -- A pass is a macaroon (NDSS 2014) of first-party caveats. A wide pass is what the formats can spell: its
 -- caveats may be third-party.
-use Rattle.std.specs.Prelude.{◌≡◌, ◌↔◌, ℕ, Bool, true, ◌||◌, List, [], Option, None, map, is_some}
+use Rattle.std.specs.Prelude.{◌≡◌, ℕ, Bool, ◌||◌, List, [], Option, None, map, is_some}
 use Rattle.std.specs.List.{list_any}
-use Rattle.std.specs.Str.{bytes_eq}
 use Rattle.pass_mac.specs.Chain.{chain, derived_key}
 
 pub record Plain : Type 0 where
@@ -56,14 +55,6 @@ first_party wide = record {
 -- The signature is the chain of the identifier and the caveats under the root's derived key.
 abbrev pub IsSigned : List ℕ → Plain → Type 0
 IsSigned root pass = pass.signature ≡ chain (derived_key root) pass.identifier pass.caveats
-
--- the same, computed
-unfoldable pub is_signed : List ℕ → Plain → Bool
-is_signed root pass = bytes_eq (chain (derived_key root) pass.identifier pass.caveats) pass.signature
-
--- `is_signed` decides `IsSigned`.
-abbrev pub DecidesSigned : Type 0
-DecidesSigned = (root : List ℕ) (pass : Plain) → IsSigned root pass ↔ (is_signed root pass ≡ true)
 
 -- a new pass under a root, with no caveats yet
 abbrev pub minted_pass : List ℕ → List ℕ → List ℕ → Plain

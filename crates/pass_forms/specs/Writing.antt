@@ -1,5 +1,5 @@
 -- What the writers return: the one text of a pass in each form, or a fault.
-use Rattle.std.specs.Prelude.{◌≡◌, ◌↔◌, ℕ, ◌<◌, ◌≤◌, nat_lt, if◌then◌else◌, List, [], ◌∷◌, ◌++◌, length, Option, None, Some, Result, Ok, Err, IsOk}
+use Rattle.std.specs.Prelude.{◌≡◌, ℕ, ◌<◌, ◌≤◌, List, [], ◌∷◌, ◌++◌, length, Option, None, Some, Result, Ok, Err, IsOk}
 use Rattle.std.specs.List.{AllByRecursion}
 use Rattle.base64.specs.Engines.{url_safe_no_pad}
 use Rattle.base64.specs.GeneralPurpose.{IsBytes, encode_of}
@@ -7,14 +7,11 @@ use Rattle.pass_mac.specs.Hmac.{hmac}
 use Rattle.pass_forms.specs.declared.fault.FormFault.{FormFault}
 use Rattle.pass_forms.specs.declared.fault.FormFault.TheVariants.{TooLong, Malformed, ThirdParty, TooMany, Memory}
 use Rattle.pass_forms.specs.declared.form.Form.{Form}
-use Rattle.pass_forms.specs.declared.form.Form.TheVariants.{V1, V2}
-use Rattle.pass_forms.specs.Envelope.{unwrapping}
-use Rattle.pass_forms.specs.Pass.{IsSigned, Plain, WidePass, as_wide_pass}
+use Rattle.pass_forms.specs.computed.Envelope.{unwrapping}
+use Rattle.pass_forms.specs.Pass.{Plain, WidePass, as_wide_pass}
 use Rattle.pass_forms.specs.Reading.{max_caveats, max_text_len}
 use Rattle.pass_forms.specs.V1.{SpellsV1, packets_of}
-use Rattle.pass_forms.specs.V1Reading.{reading_v1}
 use Rattle.pass_forms.specs.V2.{SpellsV2, sections}
-use Rattle.pass_forms.specs.V2Reading.{reading_v2}
 
 -- Base64 in the URL-safe alphabet (RFC 4648, section 5), without padding (section 3.2; ours).
 abbrev pub in_base64 : List ℕ → List ℕ
@@ -59,18 +56,6 @@ IsWriteFault IsText pass TooLong =
 IsWriteFault IsText pass Memory = (text : List ℕ) × IsWritableText IsText pass text
 IsWriteFault IsText pass other = ⊥
 
--- The same, computed from the bytes of the pass.
-abbrev pub writing_of : List ℕ → Plain → Result (List ℕ) FormFault
-writing_of bytes pass =
-    if nat_lt max_caveats (length pass.caveats) then Err TooMany
-    else (if nat_lt max_text_len (length (in_base64 bytes)) then Err TooLong else Ok (in_base64 bytes))
-
-unfoldable pub writing_v1 : Plain → Result (List ℕ) FormFault
-writing_v1 pass = writing_of (v1_bytes pass) pass
-
-unfoldable pub writing_v2 : Plain → Result (List ℕ) FormFault
-writing_v2 pass = writing_of (v2_bytes pass) pass
-
 -- The fault that a writer returns for this computed result: the same fault, or out of memory in place of a text.
 abbrev pub FailsAs : Result (List ℕ) FormFault → FormFault → Type 0
 FailsAs writing Memory = IsOk writing
@@ -91,17 +76,6 @@ pub record HasBytes (pass : Plain) : Type 0 where
   pub caveats : AllByRecursion IsBytes pass.caveats
   pub signature : IsBytes pass.signature
 
--- A written text is read back as the same pass, in each form.
-abbrev pub TextsReadBack : Type 0
-TextsReadBack = (pass : Plain) (text : List ℕ) → HasBytes pass →
-    (IsWritableText IsV1Text pass text → IsReadBack reading_v1 V1 (v1_bytes pass) pass text)
-    × (IsWritableText IsV2Text pass text → IsReadBack reading_v2 V2 (v2_bytes pass) pass text)
-
--- For a pass with a signature of 32 bytes, a writer may return the computed text and no other.
-abbrev pub WritesExactly : Type 0
-WritesExactly = (pass : Plain) (text : List ℕ) → length pass.signature ≡ 32 →
-    ((writing_v1 pass ≡ Ok text) ↔ IsWritableText IsV1Text pass text) × ((writing_v2 pass ≡ Ok text) ↔ IsWritableText IsV2Text pass text)
-
 -- ---- narrowing
 
 -- A pass with one more caveat, signed with the old signature as the key (NDSS 2014; as libmacaroons computes it).
@@ -118,7 +92,3 @@ abbrev pub IsNarrowingFault : FormFault → Type 0
 IsNarrowingFault TooMany = Unit {0}
 IsNarrowingFault Memory = Unit {0}
 IsNarrowingFault other = ⊥
-
--- A pass that is signed under a root stays signed under it.
-abbrev pub NarrowedStaysSigned : Type 0
-NarrowedStaysSigned = (root caveat : List ℕ) (pass : Plain) → IsSigned root pass → IsSigned root (with_caveat caveat pass)

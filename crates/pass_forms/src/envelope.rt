@@ -8,12 +8,11 @@ ghost use Rattle.pass_forms.specs.Reading.{max_text_len};
 ghost use Rattle.pass_forms.specs.Envelope.{
   IsUnwrapped,
   form_of,
-  from_base64,
   starts_with_brace,
   unwrapped_result,
   unwrapped_bytes,
-  unwrapping,
 };
+ghost use Rattle.pass_forms.specs.computed.Envelope.{from_base64, unwrapping};
 
 use crate::fault::FormFault;
 use crate::form::Form;
@@ -61,7 +60,7 @@ impl Unwrapped {
 ///
 /// `TooLong` for a text of more than 8,192 bytes, else `Malformed` if it wraps nothing. There are
 /// no other faults.
-#[tactic(auto, unfolding(crate::specs::Envelope::unwrapping))]
+#[tactic(auto, unfolding(crate::specs::computed::Envelope::unwrapping))]
 pub fn unwrap_text(text: &[u8], buffer: &mut [u8; MAX_BYTES]) -> Result<Unwrapped, FormFault>
     ensures reading { IsUnwrapped text.now (unwrapped_result result text.now buffer.new) }
     // The same, as a function of the text.

@@ -1,24 +1,24 @@
 //! Laws of the definitions. Each law is the contract of a function with an empty body.
 
-ghost use Rattle.pass_forms.specs.Envelope.{
+ghost use Rattle.pass_forms.specs.Laws.{
   FromBase64IsBase64,
   UnwrappedIsTheAnswer,
   WrapsBytes,
   WrapsOne,
-};
-ghost use Rattle.pass_forms.specs.Pass.{DecidesSigned};
-ghost use Rattle.pass_forms.specs.Reading.{
+  DecidesSigned,
   AnswersExactly,
   ComputesSpelled,
   OnePassEach,
   ReadsExactly,
+  ReadsTextsExactly,
+  NarrowedStaysSigned,
+  TextsReadBack,
+  WritesExactly,
 };
-ghost use Rattle.pass_forms.specs.Text.{ReadsTextsExactly};
 ghost use Rattle.pass_forms.specs.V1.{SpellsV1};
-ghost use Rattle.pass_forms.specs.V1Reading as v1;
+ghost use Rattle.pass_forms.specs.computed.V1Reading as v1;
 ghost use Rattle.pass_forms.specs.V2.{SpellsV2};
-ghost use Rattle.pass_forms.specs.V2Reading as v2;
-ghost use Rattle.pass_forms.specs.Writing.{NarrowedStaysSigned, TextsReadBack, WritesExactly};
+ghost use Rattle.pass_forms.specs.computed.V2Reading as v2;
 
 /// A text wraps at most one form and one list of bytes, in any alphabet and padding.
 pub fn wraps_one()

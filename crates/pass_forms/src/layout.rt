@@ -2,7 +2,7 @@
 //! are read afterwards. Nothing here allocates memory.
 
 ghost use Rattle.std.specs.Prelude.{◌≡◌, [], ◌∷◌, Option, option_map, length, IfNone, IfSome};
-ghost use Rattle.pass_forms.specs.Caveats.{
+ghost use Rattle.pass_forms.specs.computed.Caveats.{
   caveats_at,
   scan_summary,
   identifiers_in,
@@ -11,7 +11,7 @@ ghost use Rattle.pass_forms.specs.Caveats.{
   Counts,
 };
 ghost use Rattle.pass_forms.specs.FieldSource.{opening_of, opening_by, as_field};
-ghost use Rattle.pass_forms.specs.Reading.{reading_of};
+ghost use Rattle.pass_forms.specs.computed.Reading.{reading_of};
 
 use crate::{Field, FormFault, MAX_CAVEATS, MAX_TEXT};
 
@@ -57,7 +57,7 @@ struct ScanResult<'a> {
 /// How a pass is laid out as bytes: a header, the caveats, and a footer that holds the signature.
 pub trait Layout {
     ghost use Rattle.std.specs.Prelude.{◌≡◌, ℕ, List, Option, option_map};
-    ghost use Rattle.pass_forms.specs.Caveats.{summary};
+    ghost use Rattle.pass_forms.specs.computed.Caveats.{summary};
     ghost use Rattle.pass_forms.specs.Pass.{WideCaveat};
 
     // the location, the identifier, and the bytes after them
@@ -116,7 +116,7 @@ fn skip_caveats<L: Layout>(bytes: &[u8]) -> Skipped<'_>
 }
 
 // Scans a whole pass.
-#[tactic(auto, unfolding(crate::specs::Caveats::to_come, crate::specs::Caveats::whole_at))]
+#[tactic(auto, unfolding(crate::specs::computed::Caveats::to_come, crate::specs::computed::Caveats::whole_at))]
 fn scan_pass<L: Layout>(bytes: &[u8]) -> Option<ScanResult<'_>>
     ensures { option_map (λ pass.
         (to_come L.caveat_at pass.fields, pass.fields.caveats.count, pass.third_party)) result
@@ -180,7 +180,7 @@ impl<'a> Caveats<'a> {
 
 impl<'a> Walk<'a> {
     /// Returns the next field, or `None` if none is left.
-    #[tactic(auto, unfolding(crate::specs::Caveats::to_come))]
+    #[tactic(auto, unfolding(crate::specs::computed::Caveats::to_come))]
     pub fn next<L: Layout>(&mut self) -> Option<Field<'a>>
         ensures some { IfSome result
             (λ field. to_come L.caveat_at self.old ≡ as_field field

@@ -1,7 +1,7 @@
 //! Prefixes and suffixes of bytes.
 
 ghost use Rattle.std.specs.Prelude.{◌≡◌, option_map};
-ghost use Rattle.pass_forms.specs.Parts as spec;
+ghost use Rattle.pass_forms.specs.computed.Parts as spec;
 
 /// The bytes after the prefix, if they begin with it.
 pub fn after_prefix<'a>(prefix: &[u8], bytes: &'a [u8]) -> Option<&'a [u8]>

@@ -56,7 +56,8 @@ impl Model for Pass {
 impl Pass {
     ghost use Rattle.std.specs.Prelude.{◌≡◌, ◌↔◌, length, map, IfOk, IsTrue, OnOk};
     ghost use Rattle.pass_forms.specs.FieldSource.{no_fields, as_field, with_field};
-    ghost use Rattle.pass_forms.specs.Pass.{IsSigned, is_signed, minted_pass};
+    ghost use Rattle.pass_forms.specs.Pass.{IsSigned, minted_pass};
+    ghost use Rattle.pass_forms.specs.computed.Pass.{is_signed};
 
     /// A pass of these parts, without any check.
     pub fn new(
@@ -177,7 +178,7 @@ impl Pass {
 
     /// Whether the signature is that of the identifier and the caveats under this root, of any
     /// length. No memory is allocated.
-    #[tactic(auto, unfolding(crate::specs::Pass::is_signed))]
+    #[tactic(auto, unfolding(crate::specs::computed::Pass::is_signed))]
     pub fn is_signed(&self, root: &[u8]) -> bool
         ensures signed { IsTrue result ↔ IsSigned root.now self.now }
         ensures computed { result ≡ is_signed root.now self.now }

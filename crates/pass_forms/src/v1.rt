@@ -3,7 +3,7 @@
 ghost use Rattle.std.specs.Prelude.{◌≡◌, length, option_map, is_some};
 ghost use Rattle.pass_forms.specs.Reading.{IsReadAs, OrOutOfMemory};
 ghost use Rattle.pass_forms.specs.V1.{SpellsV1};
-ghost use Rattle.pass_forms.specs.V1Reading as reading;
+ghost use Rattle.pass_forms.specs.computed.V1Reading as reading;
 
 use crate::field_source::collect;
 use crate::layout::{self, Caveat, Header, Layout, Walk};
@@ -54,7 +54,7 @@ fn packet_len(bytes: &[u8]) -> Option<usize>
 // The data of the packet of this key at the front, and the bytes after it. Inlined, so that the
 // comparison uses the caller's constant key.
 #[inline(always)]
-#[tactic(auto, unfolding(crate::specs::V1Reading::packet_at))]
+#[tactic(auto, unfolding(crate::specs::computed::V1Reading::packet_at))]
 fn first_packet<'a>(key: &[u8], bytes: &'a [u8]) -> Option<(&'a [u8], &'a [u8])>
     ensures { option_map (λ found. (found.0.now, found.1.now)) result
         ≡ reading.packet_at key.now bytes.now }
@@ -89,7 +89,7 @@ fn optional_packet<'a>(key: &[u8], bytes: &'a [u8]) -> (bool, &'a [u8])
 pub struct Packets;
 
 impl Layout for Packets {
-    ghost use Rattle.pass_forms.specs.V1Reading as reading;
+    ghost use Rattle.pass_forms.specs.computed.V1Reading as reading;
 
     ghost header_at = { reading.header_at };
 
@@ -97,7 +97,7 @@ impl Layout for Packets {
 
     ghost footer_at = { reading.signature_at };
 
-    #[tactic(auto, unfolding(crate::specs::V1Reading::header_at))]
+    #[tactic(auto, unfolding(crate::specs::computed::V1Reading::header_at))]
     fn first_header(bytes: &[u8]) -> Option<Header<'_>> {
         let (location, rest) = first_packet(LOCATION, bytes)?;
         let (identifier, rest) = first_packet(IDENTIFIER, rest)?;
@@ -108,7 +108,7 @@ impl Layout for Packets {
         })
     }
 
-    #[tactic(auto, unfolding(crate::specs::V1Reading::caveat_at))]
+    #[tactic(auto, unfolding(crate::specs::computed::V1Reading::caveat_at))]
     fn first_caveat(bytes: &[u8]) -> Option<Caveat<'_>> {
         let (identifier, rest) = first_packet(CAVEAT, bytes)?;
         let (has_verifier_id, rest) = optional_packet(VERIFIER_ID, rest);
@@ -120,7 +120,7 @@ impl Layout for Packets {
         })
     }
 
-    #[tactic(auto, unfolding(crate::specs::V1Reading::signature_at))]
+    #[tactic(auto, unfolding(crate::specs::computed::V1Reading::signature_at))]
     fn footer(bytes: &[u8]) -> Option<[u8; 32]> {
         let (signature, rest) = first_packet(SIGNATURE, bytes)?;
         if !rest.is_empty() {
@@ -143,8 +143,8 @@ impl<'a> Model for V1Fields<'a> {
 
     ghost Value = { List PassField };
 
-    ghost use Rattle.pass_forms.specs.Caveats.{to_come};
-    ghost use Rattle.pass_forms.specs.V1Reading.{caveat_at};
+    ghost use Rattle.pass_forms.specs.computed.Caveats.{to_come};
+    ghost use Rattle.pass_forms.specs.computed.V1Reading.{caveat_at};
 
     ghost view = { λ fields. to_come caveat_at fields.walk };
 }
@@ -154,7 +154,7 @@ impl<'a> V1Fields<'a> {
     ghost use Rattle.pass_forms.specs.FieldSource.{IsOpening, opening_of};
     ghost use Rattle.pass_forms.specs.Reading.{IsReadAs};
     ghost use Rattle.pass_forms.specs.V1.{SpellsV1};
-    ghost use Rattle.pass_forms.specs.V1Reading.{reading_v1};
+    ghost use Rattle.pass_forms.specs.computed.V1Reading.{reading_v1};
 
     /// Checks all of the bytes before the first field is returned. They are libmacaroons' packets,
     /// without base64. No memory is allocated: each field is a slice of the bytes.
@@ -163,7 +163,7 @@ impl<'a> V1Fields<'a> {
     ///
     /// The first that applies: `TooLong` for more than 8,192 bytes, `Malformed` if the bytes spell
     /// no pass, `ThirdParty` if a caveat is a third party's, `TooMany` for more than 64 caveats.
-    #[tactic(auto, unfolding(crate::specs::V1Reading::reading_v1))]
+    #[tactic(auto, unfolding(crate::specs::computed::V1Reading::reading_v1))]
     pub fn open(bytes: &'a [u8]) -> Result<V1Fields<'a>, FormFault>
         // The fields of the pass that the bytes spell.
         ensures spelling { IsOpening (IsReadAs (length bytes.now) (SpellsV1 bytes.now)) result }

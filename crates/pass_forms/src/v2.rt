@@ -15,7 +15,7 @@ ghost use Rattle.std.specs.Prelude.{
 };
 ghost use Rattle.pass_forms.specs.Reading.{IsReadAs, OrOutOfMemory};
 ghost use Rattle.pass_forms.specs.V2.{SpellsV2};
-ghost use Rattle.pass_forms.specs.V2Reading as reading;
+ghost use Rattle.pass_forms.specs.computed.V2Reading as reading;
 
 use crate::field_source::collect;
 use crate::layout::{self, Caveat, Header, Layout, Walk};
@@ -62,7 +62,7 @@ fn varint_up_to(most: usize, bytes: &[u8]) -> Option<(usize, &[u8])>
 }
 
 // The data of the field of this type at the front, and the bytes after it.
-#[tactic(auto, unfolding(crate::specs::V2Reading::field_at))]
+#[tactic(auto, unfolding(crate::specs::computed::V2Reading::field_at))]
 fn first_field<'a>(kind: u8, bytes: &'a [u8]) -> Option<(&'a [u8], &'a [u8])>
     ensures { option_map (λ found. (found.0.now, found.1.now)) result
         ≡ reading.field_at kind bytes.now }
@@ -88,7 +88,7 @@ fn optional_field<'a>(kind: u8, bytes: &'a [u8]) -> (Option<&'a [u8]>, &'a [u8])
 }
 
 // The signature's field, which nothing follows.
-#[tactic(auto, unfolding(crate::specs::V2Reading::signature_at))]
+#[tactic(auto, unfolding(crate::specs::computed::V2Reading::signature_at))]
 fn signature(bytes: &[u8]) -> Option<[u8; 32]>
     ensures { result ≡ reading.signature_at bytes.now }
 {
@@ -103,7 +103,7 @@ fn signature(bytes: &[u8]) -> Option<[u8; 32]>
 pub struct Sections;
 
 impl Layout for Sections {
-    ghost use Rattle.pass_forms.specs.V2Reading as reading;
+    ghost use Rattle.pass_forms.specs.computed.V2Reading as reading;
 
     ghost header_at = { reading.header_at };
 
@@ -111,7 +111,7 @@ impl Layout for Sections {
 
     ghost footer_at = { reading.footer_at };
 
-    #[tactic(auto, unfolding(crate::specs::V2Reading::header_at))]
+    #[tactic(auto, unfolding(crate::specs::computed::V2Reading::header_at))]
     fn first_header(bytes: &[u8]) -> Option<Header<'_>> {
         let rest = after_prefix(VERSION, bytes)?;
         let (location, rest) = optional_field(LOCATION, rest);
@@ -124,7 +124,7 @@ impl Layout for Sections {
         })
     }
 
-    #[tactic(auto, unfolding(crate::specs::V2Reading::caveat_at))]
+    #[tactic(auto, unfolding(crate::specs::computed::V2Reading::caveat_at))]
     fn first_caveat(bytes: &[u8]) -> Option<Caveat<'_>> {
         let (location, rest) = optional_field(LOCATION, bytes);
         let (identifier, rest) = first_field(IDENTIFIER, rest)?;
@@ -137,7 +137,7 @@ impl Layout for Sections {
         })
     }
 
-    #[tactic(auto, unfolding(crate::specs::V2Reading::footer_at))]
+    #[tactic(auto, unfolding(crate::specs::computed::V2Reading::footer_at))]
     fn footer(bytes: &[u8]) -> Option<[u8; 32]> {
         signature(after_prefix(END_OF_SECTION, bytes)?)
     }
@@ -156,8 +156,8 @@ impl<'a> Model for V2Fields<'a> {
 
     ghost Value = { List PassField };
 
-    ghost use Rattle.pass_forms.specs.Caveats.{to_come};
-    ghost use Rattle.pass_forms.specs.V2Reading.{caveat_at};
+    ghost use Rattle.pass_forms.specs.computed.Caveats.{to_come};
+    ghost use Rattle.pass_forms.specs.computed.V2Reading.{caveat_at};
 
     ghost view = { λ fields. to_come caveat_at fields.walk };
 }
@@ -167,7 +167,7 @@ impl<'a> V2Fields<'a> {
     ghost use Rattle.pass_forms.specs.FieldSource.{IsOpening, opening_of};
     ghost use Rattle.pass_forms.specs.Reading.{IsReadAs};
     ghost use Rattle.pass_forms.specs.V2.{SpellsV2};
-    ghost use Rattle.pass_forms.specs.V2Reading.{reading_v2};
+    ghost use Rattle.pass_forms.specs.computed.V2Reading.{reading_v2};
 
     /// Checks all of the bytes before the first field is returned. They are libmacaroons' binary
     /// form, without base64. Each number must have its shortest spelling (ours). No memory is
@@ -177,7 +177,7 @@ impl<'a> V2Fields<'a> {
     ///
     /// The first that applies: `TooLong` for more than 8,192 bytes, `Malformed` if the bytes spell
     /// no pass, `ThirdParty` if a caveat is a third party's, `TooMany` for more than 64 caveats.
-    #[tactic(auto, unfolding(crate::specs::V2Reading::reading_v2))]
+    #[tactic(auto, unfolding(crate::specs::computed::V2Reading::reading_v2))]
     pub fn open(bytes: &'a [u8]) -> Result<V2Fields<'a>, FormFault>
         // The fields of the pass that the bytes spell.
         ensures spelling { IsOpening (IsReadAs (length bytes.now) (SpellsV2 bytes.now)) result }

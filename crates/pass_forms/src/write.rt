@@ -5,8 +5,8 @@ ghost use Rattle.std.specs.String.{string_bytes};
 ghost use Rattle.base64.specs.GeneralPurpose.{IsBytes};
 ghost use Rattle.pass_forms.specs.declared.form.Form.TheVariants.{V1, V2};
 ghost use Rattle.pass_forms.specs.Putting.{RefusesBytes, WritesBytes};
-ghost use Rattle.pass_forms.specs.V1Reading.{reading_v1};
-ghost use Rattle.pass_forms.specs.V2Reading.{reading_v2};
+ghost use Rattle.pass_forms.specs.computed.V1Reading.{reading_v1};
+ghost use Rattle.pass_forms.specs.computed.V2Reading.{reading_v2};
 ghost use Rattle.pass_forms.specs.Writing.{
   FailsAs,
   IsReadBack,
@@ -17,9 +17,8 @@ ghost use Rattle.pass_forms.specs.Writing.{
   in_base64,
   v1_bytes,
   v2_bytes,
-  writing_v1,
-  writing_v2,
 };
+ghost use Rattle.pass_forms.specs.computed.Writing.{writing_v1, writing_v2};
 
 use crate::v1::Packets;
 use crate::v2::Sections;

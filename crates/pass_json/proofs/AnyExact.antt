@@ -5,15 +5,16 @@ use Rattle.pass_forms.specs.declared.fault.FormFault.{FormFault}
 use Rattle.pass_forms.specs.declared.form.Form.{Form}
 use Rattle.pass_forms.specs.declared.form.Form.TheVariants.{V1, V2, Json}
 use Rattle.pass_forms.specs.Pass.{Plain, WidePass}
-use Rattle.pass_forms.specs.Text.{SpellsText, IsTextReading, ReadsTextsExactly}
-use Rattle.pass_forms.specs.Reading.{ComputesSpelled}
+use Rattle.pass_forms.specs.Text.{SpellsText, IsTextReading}
+use Rattle.pass_forms.specs.Laws.{ReadsTextsExactly, ComputesSpelled}
 use Rattle.pass_forms.specs.V1.{SpellsV1}
-use Rattle.pass_forms.specs.V1Reading as v1
+use Rattle.pass_forms.specs.computed.V1Reading as v1
 use Rattle.pass_forms.specs.V2.{SpellsV2}
-use Rattle.pass_forms.specs.V2Reading as v2
-use Rattle.pass_json.specs.AnyForm.{SpellsForm, IsAnyReading, reading, wide_in}
+use Rattle.pass_forms.specs.computed.V2Reading as v2
+use Rattle.pass_json.specs.AnyForm.{SpellsForm, IsAnyReading}
+use Rattle.pass_json.specs.computed.AnyForm.{reading, wide_in}
 use Rattle.pass_json.specs.Json.{SpellsJson}
-use Rattle.pass_json.specs.JsonReading.{wide_json}
+use Rattle.pass_json.specs.computed.JsonReading.{wide_json}
 use Rattle.pass_json.proofs.SameReading.{same_answer}
 
 abbrev Relation : Type 1

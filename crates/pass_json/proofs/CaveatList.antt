@@ -5,12 +5,12 @@ use Rattle.std.specs.Option.{option_map}
 use Rattle.std.proofs.lemmas.List.{drop_all}
 use Rattle.pass_forms.specs.declared.fault.FormFault.{FormFault}
 use Rattle.pass_forms.specs.declared.fault.FormFault.TheVariants.{TooLong, Malformed, ThirdParty, TooMany, Memory}
-use Rattle.pass_forms.specs.Parts.{◌>>=◌}
+use Rattle.pass_forms.specs.computed.Parts.{◌>>=◌}
 use Rattle.pass_forms.specs.Pass.{WideCaveat}
 use Rattle.serde_json.specs.Data.{Data, Items, no_items, item}
 use Rattle.serde_json.specs.View.{items_view, view}
 use Rattle.serde_json.specs.declared.value.Value.{Value}
-use Rattle.pass_json.specs.JsonReading.{caveat_from, caveats_of, kept_caveat, kept_caveats, RefusesPart}
+use Rattle.pass_json.specs.computed.JsonReading.{caveat_from, caveats_of, kept_caveat, kept_caveats, RefusesPart}
 
 -- what was kept before the rest
 abbrev pub with_kept : List (List ℕ) → Bool → Option (List (List ℕ) × Bool) → Option (List (List ℕ) × Bool)

@@ -11,10 +11,12 @@ use Rattle.base64.specs.GeneralPurpose.{IsBytes, encode_of}
 use Rattle.base64.proofs.EngineFacts.{IsAscii-encode_of}
 use Rattle.serde_json.specs.Data.{Data, null, boolean, number, string, array, object, Members}
 use Rattle.serde_json.specs.Find.{get, as_str}
-use Rattle.pass_forms.specs.Envelope.{FromBase64IsBase64, IsBase64, from_base64}
-use Rattle.pass_forms.specs.Parts.{◌>>=◌}
+use Rattle.pass_forms.specs.Laws.{FromBase64IsBase64}
+use Rattle.pass_forms.specs.Envelope.{IsBase64}
+use Rattle.pass_forms.specs.computed.Envelope.{from_base64}
+use Rattle.pass_forms.specs.computed.Parts.{◌>>=◌}
 use Rattle.pass_json.specs.Json.{IsField}
-use Rattle.pass_json.specs.JsonReading.{base64_bytes, decoded_text, field_bytes, field_from, must_have}
+use Rattle.pass_json.specs.computed.JsonReading.{base64_bytes, decoded_text, field_bytes, field_from, must_have}
 
 pub bound : {A B : Type 0} (o : Option A) (f : A → Option B) (b : B) → (o >>= f) ≡ Some b → (a : A) × (o ≡ Some a) × (f a ≡ Some b)
 bound None f b e = absurd cc

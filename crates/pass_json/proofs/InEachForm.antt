@@ -5,12 +5,15 @@ use Rattle.pass_forms.specs.declared.fault.FormFault.TheVariants.{TooLong, Malfo
 use Rattle.pass_forms.specs.declared.form.Form.{Form}
 use Rattle.pass_forms.specs.declared.form.Form.TheVariants.{V1, V2, Json}
 use Rattle.pass_forms.specs.Pass.{Plain}
-use Rattle.pass_forms.specs.V1Reading.{reading_v1}
-use Rattle.pass_forms.specs.V2Reading.{reading_v2}
-use Rattle.pass_forms.specs.Writing.{FailsAs, HasBytes, IsReadBack, IsWritableText, TextsReadBack, WritesExactly, v1_bytes, v2_bytes}
-use Rattle.pass_json.specs.AnyForm.{IsTextIn, reading, wide_in, writing}
-use Rattle.pass_json.specs.JsonReading.{reading_json}
-use Rattle.pass_json.specs.JsonWriting.{JsonReadsBack, MayFailAs, WritesJsonExactly}
+use Rattle.pass_forms.specs.computed.V1Reading.{reading_v1}
+use Rattle.pass_forms.specs.computed.V2Reading.{reading_v2}
+use Rattle.pass_forms.specs.Writing.{FailsAs, HasBytes, IsReadBack, IsWritableText, v1_bytes, v2_bytes}
+use Rattle.pass_forms.specs.Laws.{TextsReadBack, WritesExactly}
+use Rattle.pass_json.specs.AnyForm.{IsTextIn}
+use Rattle.pass_json.specs.computed.AnyForm.{reading, wide_in, writing}
+use Rattle.pass_json.specs.computed.JsonReading.{reading_json}
+use Rattle.pass_json.specs.Laws.{JsonReadsBack, WritesJsonExactly}
+use Rattle.pass_json.specs.JsonWriting.{MayFailAs}
 use Rattle.pass_json.proofs.Wrapped.{reads_back}
 
 pub back_from_v1 : (bytes : List ℕ) (pass : Plain) (text : List ℕ) → IsReadBack reading_v1 V1 bytes pass text → reading text ≡ Ok (V1, pass)

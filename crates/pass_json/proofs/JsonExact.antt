@@ -9,13 +9,12 @@ use Rattle.serde_json.specs.Data.{Data, null, boolean, number, string, array, ob
 use Rattle.serde_json.specs.Find.{get, as_array}
 use Rattle.serde_json.specs.Read.{read}
 use Rattle.pass_forms.specs.declared.fault.FormFault.{FormFault}
-use Rattle.pass_forms.specs.Envelope.{FromBase64IsBase64}
+use Rattle.pass_forms.specs.Laws.{FromBase64IsBase64, AnswersExactly}
 use Rattle.pass_forms.specs.Pass.{Plain, WideCaveat, WidePass}
-use Rattle.pass_forms.specs.Reading.{AnswersExactly, IsReadAs}
+use Rattle.pass_forms.specs.Reading.{IsReadAs}
 use Rattle.pass_json.specs.Json.{HasOnly, IsCaveatObject, AreCaveats, IsCaveatList, IsVersion, IsPass, SpellsJson, caveat_names, pass_names}
-use Rattle.pass_json.specs.JsonReading.{field_from, must_have, has_only_names, caveat_from, caveats_of, caveat_list, is_version, of_length, signature_from}
-use Rattle.pass_json.specs.JsonReading.{pass_from, value_of}
-use Rattle.pass_json.specs.JsonReading.{wide_json, reading_json}
+use Rattle.pass_json.specs.computed.JsonReading.{field_from, must_have, has_only_names, caveat_from, caveats_of, caveat_list, is_version, of_length}
+use Rattle.pass_json.specs.computed.JsonReading.{signature_from, pass_from, value_of, wide_json, reading_json}
 use Rattle.pass_json.proofs.SameReading.{same_answer}
 use Rattle.pass_json.proofs.FieldExact.{bound, field_takes, field_again, required_takes, required_again, is_object}
 use Rattle.pass_json.proofs.NamesExact.{has_only_takes, has_only_again}

@@ -6,9 +6,9 @@ use Rattle.std.proofs.lemmas.List.{length-map}
 use Rattle.serde_json.specs.Data.{Data}
 use Rattle.serde_json.specs.Find.{get}
 use Rattle.pass_forms.specs.Pass.{WideCaveat, is_third_party, first_party_caveat}
-use Rattle.pass_forms.specs.Reading.{pass_summary}
+use Rattle.pass_forms.specs.computed.Reading.{pass_summary}
 use Rattle.pass_json.specs.Json.{pass_names}
-use Rattle.pass_json.specs.JsonReading.{field_from, has_only_names, is_version, kept_caveats, caveat_list, pass_from, must_have, signature_from}
+use Rattle.pass_json.specs.computed.JsonReading.{field_from, has_only_names, is_version, kept_caveats, caveat_list, pass_from, must_have, signature_from}
 
 were_kept : (found : Option (List WideCaveat)) (identifiers : List (List ℕ)) (third_party : Bool) →
     option_map kept_caveats found ≡ Some (identifiers, third_party)

@@ -8,7 +8,7 @@ use Rattle.std.specs.declared.alloc.Global.{Global}
 use Rattle.std.specs.declared.string.String.{String}
 use Rattle.serde_json.specs.View.{members_view}
 use Rattle.serde_json.specs.declared.value.Value.{Value}
-use Rattle.pass_json.specs.JsonReading.{only_among}
+use Rattle.pass_json.specs.computed.JsonReading.{only_among}
 
 one_among : (key : List ℕ) (names : List (Bor (List ℕ))) →
     list_any (λ name. bytes_eq key name.now) names ≡ list_any (bytes_eq key) (map (λ name. name.now) names)

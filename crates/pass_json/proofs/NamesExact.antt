@@ -12,7 +12,7 @@ use Rattle.std.proofs.lemmas.Map.Text.{is_eq-slice_cmp}
 use Rattle.serde_json.specs.Data.{Data, null, boolean, number, string, array, object, Members, no_members, member}
 use Rattle.serde_json.specs.Find.{get_member}
 use Rattle.pass_json.specs.Json.{HasOnly, IsOneOf}
-use Rattle.pass_json.specs.JsonReading.{only_among, has_only_names}
+use Rattle.pass_json.specs.computed.JsonReading.{only_among, has_only_names}
 
 either : (a b : Bool) → (a || b) ≡ true → (a ≡ true) ⊎ (b ≡ true)
 either true b e = inl refl

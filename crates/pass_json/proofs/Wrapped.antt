@@ -6,14 +6,17 @@ use Rattle.pass_forms.specs.declared.fault.FormFault.{FormFault}
 use Rattle.pass_forms.specs.declared.fault.FormFault.TheVariants.{TooLong, Malformed, ThirdParty, TooMany, Memory}
 use Rattle.pass_forms.specs.declared.form.Form.{Form}
 use Rattle.pass_forms.specs.declared.form.Form.TheVariants.{V1, V2, Json}
-use Rattle.pass_forms.specs.Envelope.{IsUnwrapped, unwrapping}
+use Rattle.pass_forms.specs.Envelope.{IsUnwrapped}
+use Rattle.pass_forms.specs.computed.Envelope.{unwrapping}
 use Rattle.pass_forms.specs.Pass.{Plain, WidePass}
-use Rattle.pass_forms.specs.Reading.{UnlessMemory, checked_if_any, max_text_len, reading_of}
-use Rattle.pass_forms.specs.Text.{in_form, text_reading}
-use Rattle.pass_forms.specs.V1Reading.{reading_v1}
-use Rattle.pass_forms.specs.V2Reading.{reading_v2}
-use Rattle.pass_json.specs.AnyForm.{MayRunOut, reading, reading_in_form, wide_in}
-use Rattle.pass_json.specs.JsonReading.{reading_json}
+use Rattle.pass_forms.specs.Reading.{UnlessMemory, max_text_len}
+use Rattle.pass_forms.specs.computed.Reading.{checked_if_any, reading_of}
+use Rattle.pass_forms.specs.computed.Text.{in_form, text_reading}
+use Rattle.pass_forms.specs.computed.V1Reading.{reading_v1}
+use Rattle.pass_forms.specs.computed.V2Reading.{reading_v2}
+use Rattle.pass_json.specs.AnyForm.{MayRunOut}
+use Rattle.pass_json.specs.computed.AnyForm.{reading, reading_in_form, wide_in}
+use Rattle.pass_json.specs.computed.JsonReading.{reading_json}
 
 -- what the envelope refuses
 pub refused_wrapping : (text : List ℕ) (fault : FormFault) → unwrapping text ≡ Err fault → reading text ≡ Err fault

@@ -5,13 +5,17 @@ use Rattle.std.proofs.lemmas.Bool.{le-ltb, ltb-false, ltb-true}
 use Rattle.pass_forms.specs.declared.fault.FormFault.{FormFault}
 use Rattle.pass_forms.specs.declared.fault.FormFault.TheVariants.{TooLong, Malformed, ThirdParty, TooMany, Memory}
 use Rattle.pass_forms.specs.declared.form.Form.TheVariants.{Json}
-use Rattle.pass_forms.specs.Envelope.{FromBase64IsBase64, starts_with_brace, unwrapping}
+use Rattle.pass_forms.specs.Laws.{FromBase64IsBase64, ReadsExactly}
+use Rattle.pass_forms.specs.Envelope.{starts_with_brace}
+use Rattle.pass_forms.specs.computed.Envelope.{unwrapping}
 use Rattle.pass_forms.specs.Pass.{Plain, as_wide_pass}
-use Rattle.pass_forms.specs.Reading.{ReadsExactly, max_caveats, max_text_len}
+use Rattle.pass_forms.specs.Reading.{max_caveats, max_text_len}
 use Rattle.pass_forms.specs.Writing.{HasBytes, IsReadBack, IsWritableText}
 use Rattle.pass_json.specs.Json.{SpellsJson}
-use Rattle.pass_json.specs.JsonReading.{reading_json}
-use Rattle.pass_json.specs.JsonWriting.{IsJsonText, IsRefusedJson, MayFailAs, WritesJsonExactly, json_text, writing_json}
+use Rattle.pass_json.specs.computed.JsonReading.{reading_json}
+use Rattle.pass_json.specs.JsonWriting.{IsJsonText, IsRefusedJson, MayFailAs, json_text}
+use Rattle.pass_json.specs.Laws.{WritesJsonExactly}
+use Rattle.pass_json.specs.computed.JsonWriting.{writing_json}
 use Rattle.pass_json.proofs.WrittenJson.{spells_json, starts_json}
 
 abbrev answer_by : Bool → Bool → List ℕ → Result (List ℕ) FormFault

@@ -7,11 +7,12 @@ use Rattle.base64.specs.Engines.{url_safe_no_pad}
 use Rattle.base64.specs.GeneralPurpose.{IsBytes, encode_of}
 use Rattle.serde_json.specs.Data.{object, Items, no_members}
 use Rattle.serde_json.specs.Read.{read}
-use Rattle.pass_forms.specs.Envelope.{FromBase64IsBase64, starts_with_brace}
+use Rattle.pass_forms.specs.Laws.{FromBase64IsBase64}
+use Rattle.pass_forms.specs.Envelope.{starts_with_brace}
 use Rattle.pass_forms.specs.Pass.{Plain, WideCaveat, as_wide_pass, widened_caveat}
 use Rattle.pass_forms.specs.Writing.{HasBytes}
 use Rattle.pass_json.specs.Json.{SpellsJson}
-use Rattle.pass_json.specs.JsonReading.{base64_bytes, caveat_from, caveats_of, field_from, has_only_names, pass_from, signature_from}
+use Rattle.pass_json.specs.computed.JsonReading.{base64_bytes, caveat_from, caveats_of, field_from, has_only_names, pass_from, signature_from}
 use Rattle.pass_json.specs.JsonWriting.{caveat_object, caveat_objects, json_text, object_of}
 use Rattle.pass_json.proofs.FieldExact.{base64_again}
 use Rattle.pass_json.proofs.JsonExact.{pass_takes}

@@ -1,5 +1,5 @@
 -- The JSON text of a pass, and the writer's faults.
-use Rattle.std.specs.Prelude.{◌≡◌, ◌↔◌, ℕ, ◌≤◌, nat_lt, if◌then◌else◌, List, [], ◌∷◌, codes, length, map, Result, Ok, Err}
+use Rattle.std.specs.Prelude.{◌≡◌, ℕ, ◌≤◌, if◌then◌else◌, List, [], ◌∷◌, codes, length, map, Result, Err}
 use Rattle.std.specs.Str.{is_utf8}
 use Rattle.base64.specs.Engines.{url_safe_no_pad}
 use Rattle.base64.specs.GeneralPurpose.{encode_of}
@@ -8,12 +8,10 @@ use Rattle.serde_json.specs.View.{items_of}
 use Rattle.serde_json.specs.Written.{compact_text}
 use Rattle.pass_forms.specs.declared.fault.FormFault.{FormFault}
 use Rattle.pass_forms.specs.declared.fault.FormFault.TheVariants.{TooLong, Malformed, ThirdParty, TooMany, Memory}
-use Rattle.pass_forms.specs.declared.form.Form.TheVariants.{Json}
 use Rattle.pass_forms.specs.Pass.{Plain, as_wide_pass}
-use Rattle.pass_forms.specs.Reading.{max_caveats, max_text_len}
-use Rattle.pass_forms.specs.Writing.{HasBytes, IsReadBack, IsWriteFault, IsWritableText}
+use Rattle.pass_forms.specs.Reading.{max_caveats}
+use Rattle.pass_forms.specs.Writing.{IsWriteFault}
 use Rattle.pass_json.specs.Json.{SpellsJson}
-use Rattle.pass_json.specs.JsonReading.{reading_json}
 
 -- URL-safe base64 (RFC 4648, section 5), without padding
 abbrev pub base64_text : List ℕ → Data
@@ -61,12 +59,6 @@ IsRefusedJson pass Malformed = IsWriteFault IsJsonText pass Malformed
 IsRefusedJson pass ThirdParty = IsWriteFault IsJsonText pass ThirdParty
 IsRefusedJson pass TooMany = IsWriteFault IsJsonText pass TooMany
 
--- The same, computed: the text, or the first fault that applies.
-unfoldable pub writing_json : Plain → Result (List ℕ) FormFault
-writing_json pass =
-    if nat_lt max_caveats (length pass.caveats) then Err TooMany
-    else (if nat_lt max_text_len (length (json_text pass)) then Err TooLong else Ok (json_text pass))
-
 -- The fault that a writer may return for this computed result: the same fault, or out of memory in place of a text or of
 -- `TooLong`.
 abbrev pub MayFailAs : Result (List ℕ) FormFault → FormFault → Type 0
@@ -75,12 +67,3 @@ MayFailAs writing TooLong = writing ≡ Err TooLong
 MayFailAs writing Malformed = writing ≡ Err Malformed
 MayFailAs writing ThirdParty = writing ≡ Err ThirdParty
 MayFailAs writing TooMany = writing ≡ Err TooMany
-
--- A written text is read back as the same pass.
-abbrev pub JsonReadsBack : Type 0
-JsonReadsBack = (pass : Plain) (text : List ℕ) → IsWritableText IsJsonText pass text → IsReadBack reading_json Json text pass text
-
--- For a pass of bytes with a signature of 32 bytes, the writer may return the computed text and no other.
-abbrev pub WritesJsonExactly : Type 0
-WritesJsonExactly = (pass : Plain) (text : List ℕ) → HasBytes pass → length pass.signature ≡ 32 →
-    (writing_json pass ≡ Ok text) ↔ IsWritableText IsJsonText pass text

@@ -1,4 +1,5 @@
 pub mod Json
-pub mod JsonReading
 pub mod AnyForm
 pub mod JsonWriting
+pub mod Laws
+pub mod computed

@@ -6,15 +6,8 @@ ghost use Rattle.pass_forms.specs.declared.fault.FormFault.TheVariants.{Memory};
 ghost use Rattle.pass_forms.specs.declared.form.Form.TheVariants.{Json};
 ghost use Rattle.pass_forms.specs.Writing.{IsWritableText};
 ghost use Rattle.pass_forms.specs.Reading.{UnlessMemory};
-ghost use Rattle.pass_json.specs.AnyForm.{
-  IsAnyReading,
-  IsRefusedIn,
-  IsTextIn,
-  MayRunOut,
-  reading,
-  reading_in_form,
-  writing,
-};
+ghost use Rattle.pass_json.specs.AnyForm.{IsAnyReading, IsRefusedIn, IsTextIn, MayRunOut};
+ghost use Rattle.pass_json.specs.computed.AnyForm.{reading, reading_in_form, writing};
 ghost use Rattle.pass_json.specs.JsonWriting.{MayFailAs};
 
 use crate::laws::reads_any_form_exactly;
@@ -45,7 +38,7 @@ pub fn read_any(alloc: Global, text: &[u8]) -> Result<(Form, Pass), FormFault>
 }
 
 // The same, computed from the unwrapped text.
-#[tactic(auto, unfolding(crate::specs::AnyForm::reading))]
+#[tactic(auto, unfolding(crate::specs::computed::AnyForm::reading))]
 fn unwrapping(alloc: Global, text: &[u8]) -> Result<(Form, Pass), FormFault>
     ensures answer { UnlessMemory (λ answer. reading text.now ≡ answer) result }
     ensures memory { result ≡ Err Memory → MayRunOut text.now }

@@ -3,14 +3,19 @@
 ghost use Rattle.std.specs.Prelude.{◌≡◌, Some, option_map, IfErr, IfOk};
 ghost use Rattle.serde_json.specs.Find.{as_str};
 ghost use Rattle.serde_json.specs.View.{view};
-ghost use Rattle.pass_json.specs.JsonReading.{base64_bytes, decoded_text, field_from, RefusesPart};
+ghost use Rattle.pass_json.specs.computed.JsonReading.{
+  base64_bytes,
+  decoded_text,
+  field_from,
+  RefusesPart,
+};
 
 use pass_forms::{FormFault, decode_base64};
 use serde_json::Value;
 use std::alloc::{AllocError, Global};
 
 /// The bytes under the plain name or the `64` name, if one of them is present.
-#[tactic(auto, unfolding(crate::specs::JsonReading::field_from))]
+#[tactic(auto, unfolding(crate::specs::computed::JsonReading::field_from))]
 pub fn field(
     alloc: Global,
     object: &Value,

@@ -6,7 +6,7 @@ ghost use Rattle.std.specs.List.{list_all, list_any};
 ghost use Rattle.std.specs.Str.{bytes_eq};
 ghost use Rattle.std.specs.String.{string_bytes};
 ghost use Rattle.serde_json.specs.View.{view};
-ghost use Rattle.pass_json.specs.JsonReading as reading;
+ghost use Rattle.pass_json.specs.computed.JsonReading as reading;
 
 use serde_json::{Map, Value};
 

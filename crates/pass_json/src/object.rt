@@ -1,11 +1,11 @@
 //! The object of a pass, and those of its caveats.
 
 ghost use Rattle.std.specs.Prelude.{◌≡◌, Some, codes, option_map, map, IfErr, IfOk};
-ghost use Rattle.pass_forms.specs.Reading.{pass_summary};
+ghost use Rattle.pass_forms.specs.computed.Reading.{pass_summary};
 ghost use Rattle.serde_json.specs.Find.{get};
 ghost use Rattle.serde_json.specs.View.{items_view, view};
-ghost use Rattle.pass_json.specs.JsonReading as reading;
-ghost use Rattle.pass_json.specs.JsonReading.{RefusesPart, kept_caveat, kept_caveats};
+ghost use Rattle.pass_json.specs.computed.JsonReading as reading;
+ghost use Rattle.pass_json.specs.computed.JsonReading.{RefusesPart, kept_caveat, kept_caveats};
 
 use crate::field::field;
 use crate::names::has_only_names;
@@ -40,7 +40,7 @@ struct Caveats {
 }
 
 /// The pass that an object holds.
-#[tactic(auto, unfolding(crate::specs::JsonReading::pass_from))]
+#[tactic(auto, unfolding(crate::specs::computed::JsonReading::pass_from))]
 pub fn pass_from(alloc: Global, value: &Value) -> Result<Read, FormFault>
     ensures ok { IfOk result (λ read. option_map pass_summary (reading.pass_from (view value.now))
         ≡ Some (read.pass, read.caveat_count, read.third_party)) }
@@ -137,7 +137,7 @@ fn all_caveats(alloc: Global, list: &[Value]) -> Result<Caveats, FormFault>
     })
 }
 
-#[tactic(auto, unfolding(crate::specs::JsonReading::caveat_from))]
+#[tactic(auto, unfolding(crate::specs::computed::JsonReading::caveat_from))]
 fn read_caveat(alloc: Global, value: &Value) -> Result<Caveat, FormFault>
     ensures ok { IfOk result
         (λ caveat. option_map kept_caveat (reading.caveat_from (view value.now))

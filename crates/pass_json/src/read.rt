@@ -4,8 +4,8 @@ ghost use Rattle.std.specs.Prelude.{◌≡◌, length, IfErr, IfOk, Some};
 ghost use Rattle.pass_forms.specs.Reading.{IsReadAs, UnlessMemory};
 ghost use Rattle.serde_json.specs.View.{view};
 ghost use Rattle.pass_json.specs.Json.{SpellsJson};
-ghost use Rattle.pass_json.specs.JsonReading as reading;
-ghost use Rattle.pass_json.specs.JsonReading.{RefusesPart};
+ghost use Rattle.pass_json.specs.computed.JsonReading as reading;
+ghost use Rattle.pass_json.specs.computed.JsonReading.{RefusesPart};
 
 use crate::laws::reads_json_exactly;
 use crate::object;
@@ -32,7 +32,7 @@ pub fn read_json(alloc: Global, bytes: &[u8]) -> Result<Pass, FormFault>
 }
 
 // The pass of an object, or the first fault that applies.
-#[tactic(auto, unfolding(crate::specs::JsonReading::reading_json, crate::specs::JsonReading::wide_json))]
+#[tactic(auto, unfolding(crate::specs::computed::JsonReading::reading_json, crate::specs::computed::JsonReading::wide_json))]
 fn read_object(alloc: Global, bytes: &[u8]) -> Result<Pass, FormFault>
     ensures { UnlessMemory (λ answer. reading.reading_json bytes.now ≡ answer) result }
 {

@@ -9,7 +9,7 @@ ghost use Rattle.serde_json.specs.View.{members_view, view};
 ghost use Rattle.pass_json.specs.JsonWriting as spec;
 ghost use Rattle.pass_forms.specs.declared.form.Form.TheVariants.{Json};
 ghost use Rattle.pass_forms.specs.Writing.{HasBytes, IsReadBack, IsWritableText};
-ghost use Rattle.pass_json.specs.JsonReading.{reading_json};
+ghost use Rattle.pass_json.specs.computed.JsonReading.{reading_json};
 ghost use Rattle.pass_json.specs.JsonWriting.{
   MayFailAs,
   IsJsonText,
@@ -17,8 +17,8 @@ ghost use Rattle.pass_json.specs.JsonWriting.{
   base64_text,
   put_member,
   with_location,
-  writing_json,
 };
+ghost use Rattle.pass_json.specs.computed.JsonWriting.{writing_json};
 
 use crate::laws::{json_reads_back, writes_json_exactly};
 use base64::engine::general_purpose::URL_SAFE_NO_PAD;
@@ -48,7 +48,7 @@ pub fn write_json(alloc: Global, pass: &Pass) -> Result<String, FormFault>
 }
 
 // The text, or the first fault that applies.
-#[tactic(auto, unfolding(crate::specs::JsonWriting::writing_json, crate::specs::JsonWriting::json_text))]
+#[tactic(auto, unfolding(crate::specs::computed::JsonWriting::writing_json, crate::specs::JsonWriting::json_text))]
 fn short_text(alloc: Global, pass: &Pass) -> Result<String, FormFault>
     ensures bytes { OnOk result (HasBytes pass.now) }
     ensures signature { OnOk result (length pass.now.signature ≡ 32) }

@@ -4,7 +4,8 @@ use Rattle.std.proofs.lemmas.List.Sums.{fold-append}
 use Rattle.std.proofs.lemmas.Slice.Eq.{bytes_eq-Decides}
 use Rattle.pass_mac.specs.Chain.{chain, derived_key, extended_signature}
 use Rattle.pass_mac.specs.Hmac.{hmac}
-use Rattle.pass_forms.specs.Pass.{IsSigned, Plain, is_signed}
+use Rattle.pass_forms.specs.Pass.{IsSigned, Plain}
+use Rattle.pass_forms.specs.computed.Pass.{is_signed}
 use Rattle.pass_forms.specs.Reading.{max_caveats}
 use Rattle.pass_forms.specs.declared.fault.FormFault.{FormFault}
 use Rattle.pass_forms.specs.declared.fault.FormFault.TheVariants.{TooMany}

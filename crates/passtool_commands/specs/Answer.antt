@@ -5,10 +5,11 @@ use Rattle.pass_mac.specs.Chain.{extended_signature}
 use Rattle.pass_forms.specs.declared.fault.FormFault.{FormFault}
 use Rattle.pass_forms.specs.declared.fault.FormFault.TheVariants.{TooMany}
 use Rattle.pass_forms.specs.declared.form.Form.{Form}
-use Rattle.pass_forms.specs.Pass.{IsSigned, Plain, is_signed}
+use Rattle.pass_forms.specs.Pass.{IsSigned, Plain}
+use Rattle.pass_forms.specs.computed.Pass.{is_signed}
 use Rattle.pass_forms.specs.Pass as passes
 use Rattle.pass_forms.specs.Reading.{max_caveats}
-use Rattle.pass_json.specs.AnyForm.{reading, writing}
+use Rattle.pass_json.specs.computed.AnyForm.{reading, writing}
 use Rattle.passtool_commands.specs.Minting.{Minting}
 use Rattle.passtool_commands.specs.Shown.{with_line_feed, shown_text}
 use Rattle.passtool_commands.specs.declared.answer.Outcome.{Outcome}

@@ -9,7 +9,7 @@ use Rattle.clap.specs.Words.{IsAmong, Row, Text, all_of, first_of, kind_of}
 use Rattle.clap.specs.declared.error.kind.ErrorKind.{ErrorKind}
 use Rattle.clap.specs.declared.error.kind.ErrorKind.TheVariants as kind
 use Rattle.clap.specs.Walk.{is_empty}
-use Rattle.pass_caveats.specs.CaveatOf.{caveat_of}
+use Rattle.pass_caveats.specs.computed.CaveatOf.{caveat_of}
 use Rattle.pass_forms.specs.declared.form.Form.{Form}
 use Rattle.passtool_commands.specs.Application.{refusals, subcommand}
 use Rattle.passtool_commands.specs.FormName.{form_named}

@@ -1,7 +1,7 @@
 //! Caveats from the command line.
 
 ghost use Rattle.std.specs.Prelude.{◌≡◌, IfOk, is_some, map, not, position};
-ghost use Rattle.pass_caveats.specs.CaveatOf.{caveat_of};
+ghost use Rattle.pass_caveats.specs.computed.CaveatOf.{caveat_of};
 ghost use Rattle.passtool_commands.specs.Words as spec;
 
 use pass_caveats::read;

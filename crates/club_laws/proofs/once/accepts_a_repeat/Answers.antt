@@ -2,7 +2,7 @@ use Rattle.std.proofs.Common.{[], ◌∷◌, Some, None, Ok, refl}
 use Rattle.std.specs.Prelude.{true, false, codes}
 use Rattle.club_values.specs.declared.kind.Kind.TheVariants.{Court}
 use Rattle.pass_caveats.specs.declared.caveat.Caveat.TheVariants.{Spend}
-use Rattle.pass_caveats.specs.CaveatOf.{permits}
+use Rattle.pass_caveats.specs.computed.CaveatOf.{permits}
 use Rattle.club_core.specs.declared.request.Request.TheVariants as asked
 use Rattle.club_core.specs.Examples.{slot_at, noon, root, ask}
 use Rattle.club_laws.proofs.once.accepts_a_repeat.Goals as goal

@@ -1,7 +1,7 @@
 use Rattle.std.proofs.Common.{sym}
 use Rattle.std.proofs.lemmas.Slice.Eq.{bytes_eq-Decides}
 use Rattle.pass_mac.specs.Chain.{chain, derived_key}
-use Rattle.pass_forms.specs.Pass.{is_signed}
+use Rattle.pass_forms.specs.computed.Pass.{is_signed}
 use Rattle.pass_forms.proofs.laws.decides_signed.Goals as goal
 
 pub returns : goal.returns

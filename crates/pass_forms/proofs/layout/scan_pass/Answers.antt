@@ -1,4 +1,4 @@
-use Rattle.pass_forms.specs.Caveats.{to_come}
+use Rattle.pass_forms.specs.computed.Caveats.{to_come}
 use Rattle.pass_forms.proofs.WholePass.{gone_over_whole}
 use Rattle.pass_forms.proofs.layout.scan_pass.Goals as goal
 

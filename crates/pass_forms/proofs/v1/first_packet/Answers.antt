@@ -1,6 +1,6 @@
 use Rattle.std.proofs.Common.{◌≡◌, ◌-◌, length, take, drop, Some, refl, sym, arith}
 use Rattle.std.proofs.lemmas.List.{length-drop, take_all}
-use Rattle.pass_forms.specs.Parts.{after_prefix}
+use Rattle.pass_forms.specs.computed.Parts.{after_prefix}
 use Rattle.pass_forms.proofs.Packets.{key_differs, too_short, packet_of_body}
 use Rattle.pass_forms.proofs.v1.first_packet.Goals as goal
 

@@ -2,7 +2,7 @@ use Rattle.std.proofs.Common.{length, Ok, ap, ◌∙◌, subst, sym}
 use Rattle.pass_forms.specs.Pass.{Plain}
 use Rattle.pass_forms.specs.Reading.{IsReadAs}
 use Rattle.pass_forms.specs.V1.{SpellsV1}
-use Rattle.pass_forms.specs.V1Reading.{reading_v1}
+use Rattle.pass_forms.specs.computed.V1Reading.{reading_v1}
 use Rattle.pass_forms.proofs.Collecting.{was_read}
 use Rattle.pass_forms.proofs.V1Exact.{reading_v1_is}
 use Rattle.pass_forms.proofs.v1.read_v1.Goals as goal

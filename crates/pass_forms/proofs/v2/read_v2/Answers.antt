@@ -2,7 +2,7 @@ use Rattle.std.proofs.Common.{length, Ok, ap, ◌∙◌, subst, sym}
 use Rattle.pass_forms.specs.Pass.{Plain}
 use Rattle.pass_forms.specs.Reading.{IsReadAs}
 use Rattle.pass_forms.specs.V2.{SpellsV2}
-use Rattle.pass_forms.specs.V2Reading.{reading_v2}
+use Rattle.pass_forms.specs.computed.V2Reading.{reading_v2}
 use Rattle.pass_forms.proofs.Collecting.{was_read}
 use Rattle.pass_forms.proofs.V2Exact.{reading_v2_is}
 use Rattle.pass_forms.proofs.v2.read_v2.Goals as goal

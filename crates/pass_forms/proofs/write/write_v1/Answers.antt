@@ -1,5 +1,6 @@
 use Rattle.std.proofs.lemmas.Result.{IfErr-weaker, IfOk-weaker, MatchResult-from_both}
-use Rattle.pass_forms.specs.Writing.{v1_bytes, writing_v1}
+use Rattle.pass_forms.specs.Writing.{v1_bytes}
+use Rattle.pass_forms.specs.computed.Writing.{writing_v1}
 use Rattle.pass_forms.proofs.WrittenTexts.{fails, writes}
 use Rattle.pass_forms.proofs.WrittenForm.{is_refused, is_written, reads_back}
 use Rattle.pass_forms.proofs.WrittenV1.{v1_form}

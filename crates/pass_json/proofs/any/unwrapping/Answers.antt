@@ -2,7 +2,7 @@ use Rattle.std.proofs.Common.{rules, ◌≡◌, ◌≤◌, length, Ok, Err, sym,
 use Rattle.std.proofs.lemmas.Result.{err_from_is_err_and}
 use Rattle.pass_forms.specs.declared.fault.FormFault.{FormFault}
 use Rattle.pass_forms.specs.declared.fault.FormFault.TheVariants.{Memory}
-use Rattle.pass_forms.specs.Envelope.{unwrapping}
+use Rattle.pass_forms.specs.computed.Envelope.{unwrapping}
 use Rattle.pass_forms.specs.Reading.{max_text_len}
 use Rattle.pass_json.proofs.Wrapped.{may_run_out, never_out_of_memory, read_wrapping, refused_unless_memory}
 use Rattle.pass_json.proofs.any.unwrapping.Goals as goal

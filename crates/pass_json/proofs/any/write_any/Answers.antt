@@ -1,7 +1,8 @@
 use Rattle.std.proofs.lemmas.Result.{IfOk-weaker, MatchResult-weaker}
 use Rattle.std.specs.String.{string_bytes}
-use Rattle.pass_forms.specs.Writing.{v1_bytes, v2_bytes, writing_v1, writing_v2}
-use Rattle.pass_json.specs.AnyForm.{writing}
+use Rattle.pass_forms.specs.Writing.{v1_bytes, v2_bytes}
+use Rattle.pass_forms.specs.computed.Writing.{writing_v1, writing_v2}
+use Rattle.pass_json.specs.computed.AnyForm.{writing}
 use Rattle.pass_json.proofs.InEachForm.{back_from_json, back_from_v1, back_from_v2, may_fail}
 use Rattle.pass_json.proofs.any.write_any.Goals as goal
 

@@ -1,6 +1,6 @@
 use Rattle.std.proofs.Common.{arith, sym, ap, ◌∙◌}
 use Rattle.std.proofs.lemmas.Result.{IfOk-weaker}
-use Rattle.pass_forms.specs.Envelope.{from_base64}
+use Rattle.pass_forms.specs.computed.Envelope.{from_base64}
 use Rattle.pass_json.proofs.FieldExact.{base64_bytes_is}
 use Rattle.pass_json.proofs.field.decode.Goals as goal
 

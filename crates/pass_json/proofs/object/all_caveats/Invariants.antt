@@ -2,7 +2,7 @@
 use Rattle.std.proofs.Common.{◌≡◌, map, drop}
 use Rattle.std.specs.Option.{option_map}
 use Rattle.serde_json.specs.View.{items_view}
-use Rattle.pass_json.specs.JsonReading.{caveats_of, kept_caveats}
+use Rattle.pass_json.specs.computed.JsonReading.{caveats_of, kept_caveats}
 use Rattle.pass_json.proofs.CaveatList.{with_kept}
 use Rattle.pass_json.proofs.object.all_caveats.Given as goal
 

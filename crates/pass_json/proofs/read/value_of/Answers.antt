@@ -3,7 +3,7 @@ use Rattle.std.specs.Str.{IsUtf8, is_utf8}
 use Rattle.std.proofs.lemmas.Str.{IsUtf8-from_is_utf8, is_utf8-from_IsUtf8}
 use Rattle.serde_json.specs.Data.{Data}
 use Rattle.serde_json.specs.Read.{read}
-use Rattle.pass_json.specs.JsonReading.{value_of}
+use Rattle.pass_json.specs.computed.JsonReading.{value_of}
 use Rattle.pass_json.proofs.read.value_of.Goals as goal
 
 -- either no text in UTF-8 or no JSON

@@ -1,5 +1,5 @@
 use Rattle.std.proofs.Common.{sym}
-use Rattle.pass_json.specs.AnyForm.{reading_in_form}
+use Rattle.pass_json.specs.computed.AnyForm.{reading_in_form}
 use Rattle.club_gate.proofs.Verifying.{verdict_by_text, read_wrapped, fault_in, other_form}
 use Rattle.club_gate.proofs.desk.Desk.verdict.Goals as goal
 

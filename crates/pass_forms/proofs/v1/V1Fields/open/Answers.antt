@@ -1,7 +1,7 @@
 use Rattle.std.proofs.Common.{rules, length, Err, Ok}
 use Rattle.pass_forms.specs.Reading.{IsReadAs}
 use Rattle.pass_forms.specs.V1.{SpellsV1}
-use Rattle.pass_forms.specs.V1Reading.{reading_v1}
+use Rattle.pass_forms.specs.computed.V1Reading.{reading_v1}
 use Rattle.pass_forms.proofs.Collecting.{opens}
 use Rattle.pass_forms.proofs.V1Exact.{reading_v1_is}
 use Rattle.pass_forms.proofs.v1.V1Fields.open.Goals as goal

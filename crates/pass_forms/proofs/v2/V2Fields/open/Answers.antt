@@ -1,7 +1,7 @@
 use Rattle.std.proofs.Common.{rules, length, Err, Ok}
 use Rattle.pass_forms.specs.Reading.{IsReadAs}
 use Rattle.pass_forms.specs.V2.{SpellsV2}
-use Rattle.pass_forms.specs.V2Reading.{reading_v2}
+use Rattle.pass_forms.specs.computed.V2Reading.{reading_v2}
 use Rattle.pass_forms.proofs.Collecting.{opens}
 use Rattle.pass_forms.proofs.V2Exact.{reading_v2_is}
 use Rattle.pass_forms.proofs.v2.V2Fields.open.Goals as goal

@@ -1,5 +1,5 @@
 use Rattle.std.proofs.Common.{◌∙◌, ap, sym, not, is_some}
-use Rattle.pass_caveats.specs.CaveatOf.{caveat_of}
+use Rattle.pass_caveats.specs.computed.CaveatOf.{caveat_of}
 use Rattle.passtool_commands.specs.Words.{first_unknown}
 use Rattle.passtool_commands.proofs.OptionLemmas.{place_map}
 use Rattle.passtool_commands.proofs.caveats.Caveats.first_unknown.Goals as goal

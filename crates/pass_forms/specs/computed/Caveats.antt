@@ -5,7 +5,7 @@ use Rattle.std.specs.List.{list_any}
 use Rattle.pass_forms.specs.declared.layout.Caveats.{Caveats}
 use Rattle.pass_forms.specs.declared.layout.Walk.{Walk}
 use Rattle.pass_forms.specs.FieldSource.{PassField, pass_fields, those_left}
-use Rattle.pass_forms.specs.Parts.{◌>>=◌}
+use Rattle.pass_forms.specs.computed.Parts.{◌>>=◌}
 use Rattle.pass_forms.specs.Pass.{WideCaveat, WidePass, has_third_party, is_third_party, first_party, first_party_caveat}
 
 -- A caveat, if there is one, and then the others.

@@ -17,7 +17,7 @@ use Rattle.club_values.specs.Slot.{guests_limit}
 use Rattle.pass_caveats.specs.declared.ask.Ask.{Ask}
 use Rattle.pass_caveats.specs.declared.fault.CaveatFault.{CaveatFault}
 use Rattle.pass_caveats.specs.declared.fault.CaveatFault.TheVariants.{NotUnderstood, Denied}
-use Rattle.club_values.specs.TextOf.{two_at, day_of, moment_of, candidate_kind, is_name}
+use Rattle.club_values.specs.computed.TextOf.{two_at, day_of, moment_of, candidate_kind, is_name}
 use Rattle.club_values.specs.Day.{first_day, last_day}
 use Rattle.club_values.specs.Hour.{hours_a_day}
 use Rattle.club_values.specs.Moment.{first_moment, last_moment}

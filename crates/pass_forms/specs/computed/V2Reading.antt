@@ -2,10 +2,10 @@
 use Rattle.std.specs.Prelude.{ℕ, ◌+◌, ◌-◌, ◌*◌, nat_lt, nat_le, ◌==◌, ◌&&◌, if◌then◌else◌, List, [], ◌∷◌, length, take, drop, Option, Some, None, Result}
 use Rattle.std.specs.Prelude.{unwrap_or}
 use Rattle.pass_forms.specs.declared.fault.FormFault.{FormFault}
-use Rattle.pass_forms.specs.Caveats.{whole_at}
-use Rattle.pass_forms.specs.Parts.{◌>>=◌, after_prefix, found_or_none}
+use Rattle.pass_forms.specs.computed.Caveats.{whole_at}
+use Rattle.pass_forms.specs.computed.Parts.{◌>>=◌, after_prefix, found_or_none}
 use Rattle.pass_forms.specs.Pass.{Plain, WideCaveat, WidePass}
-use Rattle.pass_forms.specs.Reading.{reading_of}
+use Rattle.pass_forms.specs.computed.Reading.{reading_of}
 use Rattle.pass_forms.specs.V2.{location_type, identifier_type, verifier_id_type, signature_type, end_of_section}
 
 -- seven low bits below the bits of the bytes that follow, which must not all be zero

@@ -1,10 +1,10 @@
 -- V1, parsed from the front: each function returns a value and the bytes after it.
 use Rattle.std.specs.Prelude.{ℕ, ◌+◌, ◌-◌, ◌*◌, nat_le, ◌==◌, ◌&&◌, if◌then◌else◌, List, [], ◌∷◌, length, take, drop, Option, Some, None, Result}
 use Rattle.pass_forms.specs.declared.fault.FormFault.{FormFault}
-use Rattle.pass_forms.specs.Caveats.{whole_at}
-use Rattle.pass_forms.specs.Parts.{◌>>=◌, after_prefix, before_suffix, found_or_none}
+use Rattle.pass_forms.specs.computed.Caveats.{whole_at}
+use Rattle.pass_forms.specs.computed.Parts.{◌>>=◌, after_prefix, before_suffix, found_or_none}
 use Rattle.pass_forms.specs.Pass.{Plain, WideCaveat, WidePass}
-use Rattle.pass_forms.specs.Reading.{reading_of}
+use Rattle.pass_forms.specs.computed.Reading.{reading_of}
 use Rattle.pass_forms.specs.V1.{location_key, identifier_key, caveat_key, verifier_id_key, caveat_location_key, signature_key}
 
 abbrev pub digit_value : ℕ → Option ℕ

@@ -8,10 +8,10 @@ use Rattle.serde_json.specs.Find.{get, as_array, as_number, as_object, as_str, a
 use Rattle.serde_json.specs.Read.{read}
 use Rattle.pass_forms.specs.declared.fault.FormFault.{FormFault}
 use Rattle.pass_forms.specs.declared.fault.FormFault.TheVariants.{Malformed, Memory}
-use Rattle.pass_forms.specs.Envelope.{from_base64}
-use Rattle.pass_forms.specs.Parts.{◌>>=◌}
+use Rattle.pass_forms.specs.computed.Envelope.{from_base64}
+use Rattle.pass_forms.specs.computed.Parts.{◌>>=◌}
 use Rattle.pass_forms.specs.Pass.{Plain, WideCaveat, WidePass, is_third_party, first_party_caveat}
-use Rattle.pass_forms.specs.Reading.{reading_of}
+use Rattle.pass_forms.specs.computed.Reading.{reading_of}
 use Rattle.pass_json.specs.Json.{caveat_names, pass_names}
 
 -- the bytes that a text of bytes is base64 of

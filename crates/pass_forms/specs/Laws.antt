@@ -1,0 +1,90 @@
+-- Laws of the definitions.
+use Rattle.std.specs.Prelude.{◌≡◌, ◌↔◌, ℕ, List, length, Option, Some, Result, Ok, true}
+use Rattle.pass_forms.specs.declared.fault.FormFault.{FormFault}
+use Rattle.pass_forms.specs.Pass.{Plain, WidePass, IsSigned}
+use Rattle.pass_forms.specs.Reading.{IsReadAs}
+use Rattle.pass_forms.specs.computed.Reading.{reading_of}
+use Rattle.base64.specs.GeneralPurpose.{IsBytes}
+use Rattle.pass_forms.specs.declared.form.Form.{Form}
+use Rattle.pass_forms.specs.Envelope.{IsBase64, Wraps, IsUnwrapped}
+use Rattle.pass_forms.specs.computed.Envelope.{from_base64, unwrapping}
+use Rattle.pass_forms.specs.Text.{IsTextReading}
+use Rattle.pass_forms.specs.computed.Text.{text_reading}
+use Rattle.pass_forms.specs.declared.form.Form.TheVariants.{V1, V2}
+use Rattle.pass_forms.specs.computed.V1Reading.{reading_v1}
+use Rattle.pass_forms.specs.computed.V2Reading.{reading_v2}
+use Rattle.pass_forms.specs.Writing.{v1_bytes, v2_bytes, IsV1Text, IsV2Text, IsWritableText, IsReadBack, HasBytes, with_caveat}
+use Rattle.pass_forms.specs.computed.Writing.{writing_v1, writing_v2}
+use Rattle.pass_forms.specs.computed.Pass.{is_signed}
+
+-- If a text spells exactly the computed wide pass, the relation allows exactly one result: the computed one.
+abbrev pub AnswersExactly : Type 0
+AnswersExactly = (len : ℕ) (computed : Option WidePass) (answer : Result Plain FormFault) →
+    IsReadAs len (λ wide. computed ≡ Some wide) answer ↔ (reading_of len computed ≡ answer)
+
+-- ---- of a form, which is given by the wide passes that bytes spell in it
+
+-- No bytes spell two passes.
+abbrev pub OnePassEach : (List ℕ → WidePass → Type 0) → Type 0
+OnePassEach Spells = (bytes : List ℕ) (one other : WidePass) → Spells bytes one → Spells bytes other → one ≡ other
+
+-- The computed wide pass is the one that the bytes spell.
+abbrev pub ComputesSpelled : (List ℕ → WidePass → Type 0) → (List ℕ → Option WidePass) → Type 0
+ComputesSpelled Spells wide_at = (bytes : List ℕ) (wide : WidePass) → Spells bytes wide ↔ (wide_at bytes ≡ Some wide)
+
+-- The relation allows exactly one result for bytes: the computed reading.
+abbrev pub ReadsExactly : (List ℕ → WidePass → Type 0) → (List ℕ → Result Plain FormFault) → Type 0
+ReadsExactly Spells reading = (bytes : List ℕ) (answer : Result Plain FormFault) →
+    IsReadAs (length bytes) (Spells bytes) answer ↔ (reading bytes ≡ answer)
+
+-- ---- of texts
+
+-- A text wraps at most one form and one list of bytes.
+abbrev pub WrapsOne : Type 0
+WrapsOne = (text : List ℕ) (form other_form : Form) (bytes other_bytes : List ℕ)
+    → Wraps text form bytes → Wraps text other_form other_bytes
+    → (form ≡ other_form) × (bytes ≡ other_bytes)
+
+-- What it wraps is bytes, if the text is.
+abbrev pub WrapsBytes : Type 0
+WrapsBytes = (text : List ℕ) (form : Form) (bytes : List ℕ)
+    → IsBytes text → Wraps text form bytes → IsBytes bytes
+
+-- `from_base64` returns the bytes that the text is base64 of, and `None` if there are none.
+abbrev pub FromBase64IsBase64 : Type 0
+FromBase64IsBase64 = (text bytes : List ℕ)
+    → IsBytes text → (from_base64 text ≡ Some bytes) ↔ IsBase64 text bytes
+
+-- `unwrapping` of a text is the only result that `IsUnwrapped` allows.
+abbrev pub UnwrappedIsTheAnswer : Type 0
+UnwrappedIsTheAnswer = (text : List ℕ) (answer : Result (Form × List ℕ) FormFault)
+    → IsBytes text → (unwrapping text ≡ answer) ↔ IsUnwrapped text answer
+
+-- The relation allows exactly one result for a text: the computed reading.
+abbrev pub ReadsTextsExactly : Type 0
+ReadsTextsExactly = (wide_at : Form → List ℕ → Option WidePass) (text : List ℕ) (answer : Result (Form × Plain) FormFault) →
+    IsBytes text →
+    IsTextReading (λ form bytes wide. wide_at form bytes ≡ Some wide) text answer ↔ (text_reading wide_at text ≡ answer)
+
+-- ---- of what is written
+
+-- A written text is read back as the same pass, in each form.
+abbrev pub TextsReadBack : Type 0
+TextsReadBack = (pass : Plain) (text : List ℕ) → HasBytes pass →
+    (IsWritableText IsV1Text pass text → IsReadBack reading_v1 V1 (v1_bytes pass) pass text)
+    × (IsWritableText IsV2Text pass text → IsReadBack reading_v2 V2 (v2_bytes pass) pass text)
+
+-- For a pass with a signature of 32 bytes, a writer may return the computed text and no other.
+abbrev pub WritesExactly : Type 0
+WritesExactly = (pass : Plain) (text : List ℕ) → length pass.signature ≡ 32 →
+    ((writing_v1 pass ≡ Ok text) ↔ IsWritableText IsV1Text pass text) × ((writing_v2 pass ≡ Ok text) ↔ IsWritableText IsV2Text pass text)
+
+-- ---- of signatures
+
+-- A pass that is signed under a root stays signed under it.
+abbrev pub NarrowedStaysSigned : Type 0
+NarrowedStaysSigned = (root caveat : List ℕ) (pass : Plain) → IsSigned root pass → IsSigned root (with_caveat caveat pass)
+
+-- `is_signed` decides `IsSigned`.
+abbrev pub DecidesSigned : Type 0
+DecidesSigned = (root : List ℕ) (pass : Plain) → IsSigned root pass ↔ (is_signed root pass ≡ true)

@@ -1,0 +1,29 @@
+-- What a text wraps, computed.
+use Rattle.std.specs.Prelude.{ℕ, List, length, nat_lt, if◌then◌else◌, Option, Result, Ok, Err}
+use Rattle.std.specs.Option.{option_and_then, option_map, option_or, ok_or}
+use Rattle.base64.specs.Engines.{url_safe_no_pad, url_safe, standard_no_pad, standard}
+use Rattle.base64.specs.GeneralPurpose.{decoded_of}
+use Rattle.pass_forms.specs.declared.fault.FormFault.{FormFault}
+use Rattle.pass_forms.specs.declared.fault.FormFault.TheVariants.{TooLong, Malformed}
+use Rattle.pass_forms.specs.declared.form.Form.{Form}
+use Rattle.pass_forms.specs.declared.form.Form.TheVariants.{Json}
+use Rattle.pass_forms.specs.Reading.{max_text_len}
+use Rattle.pass_forms.specs.Envelope.{starts_with_brace, form_of}
+
+-- the bytes, by the first of the four decoders that accepts the text
+unfoldable pub from_base64 : List ℕ → Option (List ℕ)
+from_base64 text =
+    option_or (decoded_of url_safe_no_pad text)
+    (option_or (decoded_of url_safe text)
+    (option_or (decoded_of standard_no_pad text) (decoded_of standard text)))
+
+-- the bytes, with the form that they are in
+abbrev pub with_its_form : List ℕ → Option (Form × List ℕ)
+with_its_form bytes = option_map (λ form. (form, bytes)) (form_of bytes)
+
+-- the form and the bytes, or the fault
+unfoldable pub unwrapping : List ℕ → Result (Form × List ℕ) FormFault
+unwrapping text =
+    if nat_lt max_text_len (length text) then Err TooLong
+    else if starts_with_brace text then Ok (Json, text)
+    else ok_or (option_and_then with_its_form (from_base64 text)) Malformed

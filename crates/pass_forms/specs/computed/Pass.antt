@@ -1,0 +1,8 @@
+-- Whether a pass is signed under a root, computed.
+use Rattle.std.specs.Prelude.{ℕ, Bool, List}
+use Rattle.std.specs.Str.{bytes_eq}
+use Rattle.pass_mac.specs.Chain.{chain, derived_key}
+use Rattle.pass_forms.specs.Pass.{Plain}
+
+unfoldable pub is_signed : List ℕ → Plain → Bool
+is_signed root pass = bytes_eq (chain (derived_key root) pass.identifier pass.caveats) pass.signature

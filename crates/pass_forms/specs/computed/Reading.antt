@@ -1,0 +1,24 @@
+-- The result of a reader, computed from the wide pass that a text spells, if there is one.
+use Rattle.std.specs.Prelude.{ℕ, Bool, nat_lt, if◌then◌else◌, length, Option, Some, None, Result, Ok, Err}
+use Rattle.pass_forms.specs.declared.fault.FormFault.{FormFault}
+use Rattle.pass_forms.specs.declared.fault.FormFault.TheVariants.{TooLong, Malformed, ThirdParty, TooMany}
+use Rattle.pass_forms.specs.Pass.{Plain, WidePass, has_third_party, first_party}
+use Rattle.pass_forms.specs.Reading.{max_text_len, max_caveats}
+
+-- the first fault of a wide pass, else the pass
+abbrev pub checked_pass : WidePass → Result Plain FormFault
+checked_pass wide =
+    if has_third_party wide then Err ThirdParty
+    else (if nat_lt max_caveats (length wide.caveats) then Err TooMany else Ok (first_party wide))
+
+abbrev pub checked_if_any : Option WidePass → Result Plain FormFault
+checked_if_any None = Err Malformed
+checked_if_any (Some wide) = checked_pass wide
+
+-- the result for a text of this length
+abbrev pub reading_of : ℕ → Option WidePass → Result Plain FormFault
+reading_of len spelling = if nat_lt max_text_len len then Err TooLong else checked_if_any spelling
+
+-- what a reader keeps of a wide pass: the pass, the number of its caveats, whether any is a third party's
+abbrev pub pass_summary : WidePass → Plain × ℕ × Bool
+pass_summary wide = (first_party wide, length wide.caveats, has_third_party wide)

@@ -1,0 +1,21 @@
+-- The reading of a text, computed from the wide pass that bytes spell in each form, if there is one.
+use Rattle.std.specs.Prelude.{ℕ, List, Option, Result, Ok, Err}
+use Rattle.pass_forms.specs.declared.fault.FormFault.{FormFault}
+use Rattle.pass_forms.specs.declared.form.Form.{Form}
+use Rattle.pass_forms.specs.computed.Envelope.{unwrapping}
+use Rattle.pass_forms.specs.Pass.{Plain, WidePass}
+use Rattle.pass_forms.specs.computed.Reading.{checked_if_any}
+
+-- a result in a form
+abbrev pub in_form : Form → Result Plain FormFault → Result (Form × Plain) FormFault
+in_form form (Ok pass) = Ok (form, pass)
+in_form form (Err fault) = Err fault
+
+-- the result for what a text wraps
+abbrev pub reading_in : (Form → List ℕ → Option WidePass) → Result (Form × List ℕ) FormFault → Result (Form × Plain) FormFault
+reading_in wide_at (Ok wrapped) = in_form wrapped.0 (checked_if_any (wide_at wrapped.0 wrapped.1))
+reading_in wide_at (Err fault) = Err fault
+
+-- the result for a text
+unfoldable pub text_reading : (Form → List ℕ → Option WidePass) → List ℕ → Result (Form × Plain) FormFault
+text_reading wide_at text = reading_in wide_at (unwrapping text)

@@ -1,0 +1,53 @@
+-- Laws of the definitions.
+use Rattle.std.specs.Prelude.{◌≡◌, ◌↔◌, ℕ, List, length, Ok, ◌≤◌, Result, Err}
+use Rattle.pass_forms.specs.declared.form.Form.TheVariants.{Json}
+use Rattle.pass_forms.specs.Pass.{Plain}
+use Rattle.pass_forms.specs.Writing.{HasBytes, IsReadBack, IsWritableText}
+use Rattle.pass_json.specs.computed.JsonReading.{reading_json}
+use Rattle.pass_json.specs.JsonWriting.{IsJsonText}
+use Rattle.pass_json.specs.computed.JsonWriting.{writing_json}
+use Rattle.base64.specs.GeneralPurpose.{IsBytes}
+use Rattle.pass_forms.specs.declared.fault.FormFault.{FormFault}
+use Rattle.pass_forms.specs.declared.form.Form.{Form}
+use Rattle.pass_forms.specs.computed.Envelope.{unwrapping}
+use Rattle.pass_forms.specs.Reading.{max_text_len}
+use Rattle.pass_forms.specs.computed.Text.{in_form}
+use Rattle.pass_json.specs.AnyForm.{IsAnyReading, IsTextIn}
+use Rattle.pass_json.specs.computed.AnyForm.{reading, reading_in_form, writing}
+
+-- A written text is read back as the same pass.
+abbrev pub JsonReadsBack : Type 0
+JsonReadsBack = (pass : Plain) (text : List ℕ) → IsWritableText IsJsonText pass text → IsReadBack reading_json Json text pass text
+
+-- For a pass of bytes with a signature of 32 bytes, the writer may return the computed text and no other.
+abbrev pub WritesJsonExactly : Type 0
+WritesJsonExactly = (pass : Plain) (text : List ℕ) → HasBytes pass → length pass.signature ≡ 32 →
+    (writing_json pass ≡ Ok text) ↔ IsWritableText IsJsonText pass text
+
+-- The reading of a text is the reading of the bytes that it wraps, in their form, if they are within the limit of texts.
+abbrev pub ReadsWhatIsWrapped : Type 0
+ReadsWhatIsWrapped = (text : List ℕ) (form : Form) (bytes : List ℕ) → unwrapping text ≡ Ok (form, bytes)
+    → length bytes ≤ max_text_len → reading text ≡ in_form form (reading_in_form form bytes)
+
+-- A text that wraps nothing is refused with the same fault.
+abbrev pub RefusesWhatWrapsNothing : Type 0
+RefusesWhatWrapsNothing = (text : List ℕ) (fault : FormFault) → unwrapping text ≡ Err fault → reading text ≡ Err fault
+
+-- The relation allows exactly one result for a text, in every case and form: the computed reading.
+abbrev pub ReadsAnyFormExactly : Type 0
+ReadsAnyFormExactly = (text : List ℕ) (answer : Result (Form × Plain) FormFault) →
+    IsBytes text → IsAnyReading text answer ↔ (reading text ≡ answer)
+
+-- A pass has at most one text in each form.
+abbrev pub OneTextEachForm : Type 0
+OneTextEachForm = (form : Form) (pass : Plain) (one other : List ℕ) → IsTextIn form pass one → IsTextIn form pass other → one ≡ other
+
+-- A written text is read back as the same form and the same pass.
+abbrev pub AnyFormReadsBack : Type 0
+AnyFormReadsBack = (form : Form) (pass : Plain) (text : List ℕ) → HasBytes pass →
+    IsWritableText (IsTextIn form) pass text → reading text ≡ Ok (form, pass)
+
+-- For a pass of bytes with a signature of 32 bytes, a writer may return the computed text and no other.
+abbrev pub WritesAnyFormExactly : Type 0
+WritesAnyFormExactly = (form : Form) (pass : Plain) (text : List ℕ) → HasBytes pass → length pass.signature ≡ 32 →
+    (writing form pass ≡ Ok text) ↔ IsWritableText (IsTextIn form) pass text

@@ -1,0 +1,5 @@
+-- Definitions that compute what the others of specs/ state. Laws say that both agree.
+
+pub mod AnyForm
+pub mod JsonReading
+pub mod JsonWriting

@@ -1,0 +1,34 @@
+-- The reading and the writing of a text in any form, computed.
+use Rattle.std.specs.Prelude.{ℕ, List, Option, Result}
+use Rattle.pass_forms.specs.declared.fault.FormFault.{FormFault}
+use Rattle.pass_forms.specs.declared.form.Form.{Form}
+use Rattle.pass_forms.specs.declared.form.Form.TheVariants.{V1, V2, Json}
+use Rattle.pass_forms.specs.Pass.{Plain, WidePass}
+use Rattle.pass_forms.specs.computed.Text.{text_reading}
+use Rattle.pass_forms.specs.computed.V1Reading as v1
+use Rattle.pass_forms.specs.computed.V2Reading as v2
+use Rattle.pass_forms.specs.computed.Writing.{writing_v1, writing_v2}
+use Rattle.pass_json.specs.computed.JsonReading.{reading_json, wide_json}
+use Rattle.pass_json.specs.computed.JsonWriting.{writing_json}
+
+-- the wide pass that bytes spell in this form, if there is one
+unfoldable pub wide_in : Form → List ℕ → Option WidePass
+wide_in V1 bytes = v1.wide_at bytes
+wide_in V2 bytes = v2.wide_at bytes
+wide_in Json bytes = wide_json bytes
+
+-- the form of a text and its pass, or the fault
+unfoldable pub reading : List ℕ → Result (Form × Plain) FormFault
+reading text = text_reading wide_in text
+
+-- the reading of bytes in this form
+abbrev pub reading_in_form : Form → List ℕ → Result Plain FormFault
+reading_in_form V1 bytes = v1.reading_v1 bytes
+reading_in_form V2 bytes = v2.reading_v2 bytes
+reading_in_form Json bytes = reading_json bytes
+
+-- the text of a pass in this form, or the first fault that applies
+unfoldable pub writing : Form → Plain → Result (List ℕ) FormFault
+writing V1 pass = writing_v1 pass
+writing V2 pass = writing_v2 pass
+writing Json pass = writing_json pass
