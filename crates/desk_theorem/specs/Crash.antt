@@ -12,8 +12,8 @@ use Rattle.club_core.specs.Club.{Club}
 use Rattle.club_core.specs.Run as machine
 use Rattle.club_laws.specs.RunsWithFailures.{RepeatsServedReplies}
 use Rattle.club_store.specs.Opening.{OpensFrom}
-use Rattle.club_store.specs.Tables.{Represents}
-use Rattle.club_store.specs.ReadsAndChanges.{sound_in}
+use Rattle.club_tables.specs.Tables.{Represents}
+use Rattle.club_tables.specs.ReadsAndChanges.{sound_in}
 use Rattle.club_gate.specs.Runs.{MayBeLeft, DeskResponse, club_left}
 
 -- The state represents exactly one of these clubs, and no crash leaves another. An accepted repeat gets the same reply.

@@ -10,7 +10,7 @@ ghost use Rattle.club_core.specs.Run as machine;
 ghost use Rattle.club_laws.specs.RunsWithFailures.{RepeatsServedReplies};
 ghost use Rattle.club_store.specs.Crash.{CrashLeaves};
 ghost use Rattle.club_store.specs.Opening.{OpensFrom};
-ghost use Rattle.club_store.specs.ReadsAndChanges.{sound_in};
+ghost use Rattle.club_tables.specs.ReadsAndChanges.{sound_in};
 ghost use Rattle.club_gate.specs.Runs.{IsAnsweredRun, DeskResponse, machine_events, responses_of};
 ghost use Rattle.desk_theorem.specs.Crash.{OpensAgain, RecoversOne};
 

@@ -1,10 +1,10 @@
 use Rattle.std.proofs.Common.{inr, refl, arith}
 use Rattle.sqlite.specs.State.{HasCleanDisk}
 use Rattle.sqlite.specs.Held.{state}
-use Rattle.club_tables.proofs.RepresentsLemmas.{on_ok, on_err}
-use Rattle.club_tables.proofs.IndexLemmas.{indexed_represents, refused_second}
+use Rattle.club_tables.proofs.crashes.RepresentsLemmas.{on_ok, on_err}
+use Rattle.club_tables.proofs.opening.IndexLemmas.{indexed_represents, refused_second}
 use Rattle.club_tables.specs.Opening.{IsOpeningBatch, index_batch}
-use Rattle.club_tables.proofs.SurviveLemmas.{may_commit}
+use Rattle.club_tables.proofs.crashes.SurviveLemmas.{may_commit}
 use Rattle.club_tables.proofs.open.add_index.Goals as goal
 
 pub returns-clause-indexed : goal.returns-clause-indexed

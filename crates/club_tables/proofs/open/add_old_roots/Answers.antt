@@ -1,10 +1,10 @@
 use Rattle.std.proofs.Common.{inl, inr, refl, arith}
 use Rattle.sqlite.specs.State.{HasCleanDisk}
 use Rattle.sqlite.specs.Held.{state}
-use Rattle.club_tables.proofs.RepresentsLemmas.{on_ok, on_err}
-use Rattle.club_tables.proofs.MigrateLemmas.{migrated_represents, refused_first}
+use Rattle.club_tables.proofs.crashes.RepresentsLemmas.{on_ok, on_err}
+use Rattle.club_tables.proofs.opening.MigrateLemmas.{migrated_represents, refused_first}
 use Rattle.club_tables.specs.Opening.{IsOpeningBatch, migration}
-use Rattle.club_tables.proofs.SurviveLemmas.{may_commit}
+use Rattle.club_tables.proofs.crashes.SurviveLemmas.{may_commit}
 use Rattle.club_tables.proofs.open.add_old_roots.Goals as goal
 
 pub returns-clause-migrated : goal.returns-clause-migrated

@@ -6,10 +6,10 @@ use Rattle.sqlite.specs.State.{HasCleanDisk}
 use Rattle.sqlite.specs.Held.{Held, state}
 use Rattle.club_tables.specs.Opening.{IsOpeningBatch, IsOpeningFault, HasOrGetsIndex, EnsuresIndex, texts_by_key, index_text}
 use Rattle.club_tables.specs.Transaction.{IsIdle, IsKept, IsUnderstood}
-use Rattle.club_tables.proofs.PrepareLemmas.{kept_then}
-use Rattle.club_tables.proofs.ReadLemmas.{fault_if}
-use Rattle.club_tables.proofs.RepresentsLemmas.{on_ok, on_err, keeps_second}
-use Rattle.club_tables.proofs.SurviveLemmas.{after_one, opened_after, commits_after, commits_nothing}
+use Rattle.club_tables.proofs.opening.PrepareLemmas.{kept_then}
+use Rattle.club_tables.proofs.queries.ReadLemmas.{fault_if}
+use Rattle.club_tables.proofs.crashes.RepresentsLemmas.{on_ok, on_err, keeps_second}
+use Rattle.club_tables.proofs.crashes.SurviveLemmas.{after_one, opened_after, commits_after, commits_nothing}
 use Rattle.club_tables.proofs.open.complete.Goals as goal
 
 pub returns-in-Ok-clause-indexed : goal.returns-in-Ok-clause-indexed

@@ -3,10 +3,10 @@ use Rattle.sqlite.specs.State.{HasCleanDisk}
 use Rattle.sqlite.specs.Held.{state}
 use Rattle.club_tables.specs.Fault.{FailsToRun}
 use Rattle.club_tables.specs.Opening.{IsOpeningBatch, IsOpeningFault, index_batch}
-use Rattle.club_tables.proofs.IndexLemmas.{named_represents}
-use Rattle.club_tables.proofs.ReadLemmas.{at_once, fault_if}
-use Rattle.club_tables.proofs.RepresentsLemmas.{on_ok, on_err, keeps_second}
-use Rattle.club_tables.proofs.SurviveLemmas.{after_one, commits_after}
+use Rattle.club_tables.proofs.opening.IndexLemmas.{named_represents}
+use Rattle.club_tables.proofs.queries.ReadLemmas.{at_once, fault_if}
+use Rattle.club_tables.proofs.crashes.RepresentsLemmas.{on_ok, on_err, keeps_second}
+use Rattle.club_tables.proofs.crashes.SurviveLemmas.{after_one, commits_after}
 use Rattle.club_tables.proofs.open.ensure_index.Goals as goal
 
 pub returns-in-Ok-clause-indexed : goal.returns-in-Ok-clause-indexed

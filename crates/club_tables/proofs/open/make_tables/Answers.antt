@@ -1,10 +1,10 @@
 use Rattle.std.proofs.Common.{inl, refl, arith}
 use Rattle.sqlite.specs.State.{HasCleanDisk}
 use Rattle.sqlite.specs.Held.{state}
-use Rattle.club_tables.proofs.RepresentsLemmas.{on_ok, on_err}
-use Rattle.club_tables.proofs.OpenLemmas.{made_represents, refused_found}
+use Rattle.club_tables.proofs.crashes.RepresentsLemmas.{on_ok, on_err}
+use Rattle.club_tables.proofs.opening.OpenLemmas.{made_represents, refused_found}
 use Rattle.club_tables.specs.Opening.{IsOpeningBatch, table_batch}
-use Rattle.club_tables.proofs.SurviveLemmas.{may_commit}
+use Rattle.club_tables.proofs.crashes.SurviveLemmas.{may_commit}
 use Rattle.club_tables.proofs.open.make_tables.Goals as goal
 
 pub returns-clause-made : goal.returns-clause-made

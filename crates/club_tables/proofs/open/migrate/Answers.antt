@@ -6,10 +6,10 @@ use Rattle.club_tables.specs.declared.texts.TheConstants.{OLDER_ROOT}
 use Rattle.club_tables.specs.Fault.{FailsToPrepare, FailsToRun}
 use Rattle.club_tables.specs.Opening.{IsOpeningBatch, IsOpeningFault, first_texts, migration}
 use Rattle.club_tables.specs.Transaction.{IsUnderstood}
-use Rattle.club_tables.proofs.PrepareLemmas.{kept_then, one_more}
-use Rattle.club_tables.proofs.ReadLemmas.{fault_if}
-use Rattle.club_tables.proofs.RepresentsLemmas.{on_ok, on_err, keeps_first}
-use Rattle.club_tables.proofs.SurviveLemmas.{after_one, commits_after, commits_nothing}
+use Rattle.club_tables.proofs.opening.PrepareLemmas.{kept_then, one_more}
+use Rattle.club_tables.proofs.queries.ReadLemmas.{fault_if}
+use Rattle.club_tables.proofs.crashes.RepresentsLemmas.{on_ok, on_err, keeps_first}
+use Rattle.club_tables.proofs.crashes.SurviveLemmas.{after_one, commits_after, commits_nothing}
 use Rattle.club_tables.proofs.open.migrate.Goals as goal
 
 pub returns-in-Ok-clause-migrated : goal.returns-in-Ok-clause-migrated

@@ -10,13 +10,13 @@ use Rattle.club_tables.specs.declared.texts.TheConstants.{VERSION}
 use Rattle.club_tables.specs.Columns.{HasValues, version_values}
 use Rattle.club_tables.specs.Opening.{HasNoDesk, AcceptsTables, YieldsRows, IsOpeningBatch, IsOpeningFault, HasRunOver, Upgrade, EnsuresIndex}
 use Rattle.club_tables.specs.Opening.{first_texts, texts_by_key, indexed_texts, table_batch, migration, index_batch}
-use Rattle.club_tables.proofs.RepresentsLemmas.{on_ok, on_err}
-use Rattle.club_tables.proofs.MakingLemmas.{makes_free}
-use Rattle.club_tables.proofs.OpenLemmas.{one_version, first_found, second_found}
-use Rattle.club_tables.proofs.PrepareLemmas.{kept_then}
-use Rattle.club_tables.proofs.ReadyLemmas.{found_ready}
-use Rattle.club_tables.proofs.SurviveLemmas.{after_one, opened_after, commits_after, commits_nothing}
-use Rattle.club_tables.proofs.ReadLemmas.{at_once, fault_if}
+use Rattle.club_tables.proofs.crashes.RepresentsLemmas.{on_ok, on_err}
+use Rattle.club_tables.proofs.opening.MakingLemmas.{makes_free}
+use Rattle.club_tables.proofs.opening.OpenLemmas.{one_version, first_found, second_found}
+use Rattle.club_tables.proofs.opening.PrepareLemmas.{kept_then}
+use Rattle.club_tables.proofs.opening.ReadyLemmas.{found_ready}
+use Rattle.club_tables.proofs.crashes.SurviveLemmas.{after_one, opened_after, commits_after, commits_nothing}
+use Rattle.club_tables.proofs.queries.ReadLemmas.{at_once, fault_if}
 use Rattle.club_tables.proofs.open.open_tables.Goals as goal
 
 -- where a batch was run over what was there, tables of the version that was read were there

@@ -1,8 +1,8 @@
 use Rattle.std.proofs.Common.{arith}
 use Rattle.sqlite.specs.State.{HasCleanDisk}
 use Rattle.sqlite.specs.Held.{state}
-use Rattle.club_tables.proofs.RepresentsLemmas.{survives_same, survives_none}
-use Rattle.club_tables.proofs.PrepareLemmas.{kept_when_idle, kept_then, one_at, none_understood, one_understood, all_understood}
+use Rattle.club_tables.proofs.crashes.RepresentsLemmas.{survives_same, survives_none}
+use Rattle.club_tables.proofs.opening.PrepareLemmas.{kept_when_idle, kept_then, one_at, none_understood, one_understood, all_understood}
 use Rattle.club_tables.specs.Fault.{FailsToPrepare}
 use Rattle.club_tables.proofs.open.prepare_all.Goals as goal
 

@@ -1,9 +1,9 @@
 use Rattle.std.proofs.Common.{inl, inr, arith}
 use Rattle.sqlite.specs.State.{HasCleanDisk}
 use Rattle.sqlite.specs.Held.{state}
-use Rattle.club_tables.proofs.RepresentsLemmas.{if_ok_map, keeps_second, keeps_first}
-use Rattle.club_tables.proofs.OpenLemmas.{version_returned}
-use Rattle.club_tables.proofs.VersionLemmas.{version_answered}
+use Rattle.club_tables.proofs.crashes.RepresentsLemmas.{if_ok_map, keeps_second, keeps_first}
+use Rattle.club_tables.proofs.opening.OpenLemmas.{version_returned}
+use Rattle.club_tables.proofs.opening.VersionLemmas.{version_answered}
 use Rattle.club_tables.proofs.open.version.Goals as goal
 
 pub returns-clause-returned : goal.returns-clause-returned

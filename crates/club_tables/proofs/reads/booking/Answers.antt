@@ -6,9 +6,9 @@ use Rattle.club_core.specs.declared.store.StoreFault.{StoreFault}
 use Rattle.club_core.specs.Sums.{booking_under}
 use Rattle.club_tables.specs.Answers.{OfBooking, FailsToRead, IsFirst, IsBookingIn, IsBookingNamed}
 use Rattle.club_tables.specs.Transaction.{BoundStatement}
-use Rattle.club_tables.proofs.BookingLemmas.{booking_returned}
-use Rattle.club_tables.proofs.FirstLemmas.{booking_first, unnamed, none_named, one_named, not_named}
-use Rattle.club_tables.proofs.ReadLemmas.{read_answer, fewer_read}
+use Rattle.club_tables.proofs.queries.BookingLemmas.{booking_returned}
+use Rattle.club_tables.proofs.lists.FirstLemmas.{booking_first, unnamed, none_named, one_named, not_named}
+use Rattle.club_tables.proofs.queries.ReadLemmas.{read_answer, fewer_read}
 use Rattle.club_tables.proofs.reads.booking.Goals as goal
 
 -- rows that yield no booking yield none of this key and number

@@ -11,10 +11,10 @@ use Rattle.club_tables.specs.Answers.{OfDay, FailsAtReading}
 use Rattle.club_tables.specs.Columns.{whole}
 use Rattle.club_tables.specs.Sheet.{AreBookings}
 use Rattle.club_tables.specs.Transaction.{Asked}
-use Rattle.club_tables.proofs.BookingRows.{day_of_rows, within_limits}
-use Rattle.club_tables.proofs.DayLemmas.{day_returned}
-use Rattle.club_tables.proofs.ReadLemmas.{read_by}
-use Rattle.club_tables.proofs.RepresentsLemmas.{if_ok_map}
+use Rattle.club_tables.proofs.lists.BookingRows.{day_of_rows, within_limits}
+use Rattle.club_tables.proofs.queries.DayLemmas.{day_returned}
+use Rattle.club_tables.proofs.queries.ReadLemmas.{read_by}
+use Rattle.club_tables.proofs.crashes.RepresentsLemmas.{if_ok_map}
 use Rattle.club_tables.proofs.reads.day.Goals as goal
 
 -- rows that were given and not read

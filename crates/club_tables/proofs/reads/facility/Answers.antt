@@ -1,9 +1,9 @@
 use Rattle.club_tables.specs.Answers.{OfFacility, IsFirst, IsFacilityIn}
 use Rattle.club_rows.specs.Rows.{IsFacility}
 use Rattle.club_core.specs.Club.{facility_named}
-use Rattle.club_tables.proofs.FirstLemmas.{facility_first, yielded_if}
-use Rattle.club_tables.proofs.KeyLemmas.{facility_returned}
-use Rattle.club_tables.proofs.ReadLemmas.{read_answer}
+use Rattle.club_tables.proofs.lists.FirstLemmas.{facility_first, yielded_if}
+use Rattle.club_tables.proofs.queries.KeyLemmas.{facility_returned}
+use Rattle.club_tables.proofs.queries.ReadLemmas.{read_answer}
 use Rattle.club_tables.proofs.reads.facility.Goals as goal
 
 pub returns-clause-gives : goal.returns-clause-gives

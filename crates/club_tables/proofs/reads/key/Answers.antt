@@ -1,9 +1,9 @@
 use Rattle.club_tables.specs.Answers.{OfKey, IsFirst, IsKeyIn}
 use Rattle.club_rows.specs.Rows.{IsKey}
 use Rattle.club_core.specs.Club.{key_named}
-use Rattle.club_tables.proofs.FirstLemmas.{key_first, yielded_if}
-use Rattle.club_tables.proofs.KeyLemmas.{key_returned}
-use Rattle.club_tables.proofs.ReadLemmas.{read_answer}
+use Rattle.club_tables.proofs.lists.FirstLemmas.{key_first, yielded_if}
+use Rattle.club_tables.proofs.queries.KeyLemmas.{key_returned}
+use Rattle.club_tables.proofs.queries.ReadLemmas.{read_answer}
 use Rattle.club_tables.proofs.reads.key.Goals as goal
 
 pub returns-clause-gives : goal.returns-clause-gives

@@ -2,9 +2,9 @@ use Rattle.club_tables.specs.Answers.{OfMember, IsFirst, IsMemberIn}
 use Rattle.std.specs.Prelude.{option_map}
 use Rattle.club_core.specs.Club.{member_named}
 use Rattle.club_tables.specs.Stored.{IsMemberRow, member_row}
-use Rattle.club_tables.proofs.FirstLemmas.{member_first, yielded_if}
-use Rattle.club_tables.proofs.KeyLemmas.{member_returned}
-use Rattle.club_tables.proofs.ReadLemmas.{read_answer}
+use Rattle.club_tables.proofs.lists.FirstLemmas.{member_first, yielded_if}
+use Rattle.club_tables.proofs.queries.KeyLemmas.{member_returned}
+use Rattle.club_tables.proofs.queries.ReadLemmas.{read_answer}
 use Rattle.club_tables.proofs.reads.member.Goals as goal
 
 pub returns-clause-gives : goal.returns-clause-gives

@@ -1,9 +1,9 @@
 use Rattle.club_tables.specs.Answers.{OfOlderRoot, IsFirst, IsOlderRootIn}
 use Rattle.club_rows.specs.Rows.{IsOlderRoot}
 use Rattle.club_tables.specs.Stored.{older_of}
-use Rattle.club_tables.proofs.FirstLemmas.{older_first, yielded_if}
-use Rattle.club_tables.proofs.KeyLemmas.{older_returned}
-use Rattle.club_tables.proofs.ReadLemmas.{read_answer}
+use Rattle.club_tables.proofs.lists.FirstLemmas.{older_first, yielded_if}
+use Rattle.club_tables.proofs.queries.KeyLemmas.{older_returned}
+use Rattle.club_tables.proofs.queries.ReadLemmas.{read_answer}
 use Rattle.club_tables.proofs.reads.older_root.Goals as goal
 
 pub returns-clause-gives : goal.returns-clause-gives

@@ -1,5 +1,5 @@
 use Rattle.std.proofs.Common.{inl, inr, refl, sym}
-use Rattle.club_tables.proofs.FirstLemmas.{first_none, first_not, first_some}
+use Rattle.club_tables.proofs.lists.FirstLemmas.{first_none, first_not, first_some}
 use Rattle.club_tables.proofs.reads.one.Goals as goal
 
 pub returns-in-Err-clause-gives : goal.returns-in-Err-clause-gives

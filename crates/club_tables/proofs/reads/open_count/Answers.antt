@@ -1,7 +1,7 @@
 use Rattle.std.proofs.Common.{rules, inl, ◌∙◌}
 use Rattle.club_tables.specs.Answers.{OfOpen, IsCount}
-use Rattle.club_tables.proofs.MemberLemmas.{open_returned}
-use Rattle.club_tables.proofs.ReadLemmas.{read_answer}
+use Rattle.club_tables.proofs.queries.MemberLemmas.{open_returned}
+use Rattle.club_tables.proofs.queries.ReadLemmas.{read_answer}
 use Rattle.club_tables.proofs.reads.open_count.Goals as goal
 
 pub returns-in-Err-clause-gives : goal.returns-in-Err-clause-gives

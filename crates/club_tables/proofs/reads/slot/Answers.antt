@@ -1,8 +1,8 @@
 use Rattle.std.proofs.Common.{inl, inr, refl}
 use Rattle.club_tables.specs.Answers.{OfSlot, IsUse}
-use Rattle.club_tables.proofs.BookingLemmas.{slot_returned}
-use Rattle.club_tables.proofs.ReadLemmas.{read_answer}
-use Rattle.club_tables.proofs.SlotUseLemmas.{use_is, use_read}
+use Rattle.club_tables.proofs.queries.BookingLemmas.{slot_returned}
+use Rattle.club_tables.proofs.queries.ReadLemmas.{read_answer}
+use Rattle.club_tables.proofs.lists.SlotUseLemmas.{use_is, use_read}
 use Rattle.club_tables.proofs.reads.slot.Goals as goal
 
 pub returns-in-Err-clause-gives : goal.returns-in-Err-clause-gives

@@ -9,9 +9,9 @@ use Rattle.club_core.specs.declared.store.StoreFault.TheVariants.{Storage}
 use Rattle.club_tables.specs.Answers.{OfCosts, AreCosts, FailsToRead}
 use Rattle.club_tables.specs.Columns.{cost_in, IsCostRow}
 use Rattle.club_tables.specs.Transaction.{BoundStatement, Asked}
-use Rattle.club_tables.proofs.BookingLemmas.{costs_returned}
-use Rattle.club_tables.proofs.ReadLemmas.{read_answer}
-use Rattle.club_tables.proofs.SumLemmas.{costs_are}
+use Rattle.club_tables.proofs.queries.BookingLemmas.{costs_returned}
+use Rattle.club_tables.proofs.queries.ReadLemmas.{read_answer}
+use Rattle.club_tables.proofs.lists.SumLemmas.{costs_are}
 use Rattle.club_tables.proofs.reads.spent.Goals as goal
 
 costs_given : {S E : Type 0} (g : Ghosts S) (statement : BoundStatement) (old : Held S) (rows : List Row) (r : Result ℕ E)

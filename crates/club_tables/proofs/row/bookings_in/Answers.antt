@@ -1,5 +1,5 @@
 use Rattle.std.proofs.Common.{arith}
-use Rattle.club_tables.proofs.BookingRows.{bookings_more, no_bookings}
+use Rattle.club_tables.proofs.lists.BookingRows.{bookings_more, no_bookings}
 use Rattle.club_tables.proofs.row.bookings_in.Goals as goal
 
 pub returns-in_default-clause-storage : goal.returns-in_default-clause-storage

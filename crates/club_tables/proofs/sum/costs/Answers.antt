@@ -3,7 +3,7 @@ use Rattle.std.proofs.lemmas.List.{take_all}
 use Rattle.std.proofs.lemmas.List.Elements.{All-more, All-same}
 use Rattle.std.proofs.lemmas.List.Sums.{sum_by_more}
 use Rattle.club_tables.specs.Columns.{cost_in, IsCostIn, IsCostRow}
-use Rattle.club_tables.proofs.SumLemmas.{cost_in_is, no_costs, too_much}
+use Rattle.club_tables.proofs.lists.SumLemmas.{cost_in_is, no_costs, too_much}
 use Rattle.club_tables.proofs.sum.costs.Goals as goal
 
 pub loop-row-preserved : goal.loop-row-preserved

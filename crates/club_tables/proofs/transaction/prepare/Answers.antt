@@ -3,7 +3,7 @@ use Rattle.sqlite.specs.State.{HasCleanDisk}
 use Rattle.sqlite.specs.Held.{state}
 use Rattle.club_tables.specs.Transaction.{IsKept, transaction_start}
 use Rattle.club_tables.specs.Fault.{FailsToPrepare}
-use Rattle.club_tables.proofs.TransactionLemmas.{Keeps, not_run_keeps, then_rolled}
+use Rattle.club_tables.proofs.crashes.TransactionLemmas.{Keeps, not_run_keeps, then_rolled}
 use Rattle.club_tables.proofs.transaction.prepare.Goals as goal
 
 pub returns-in-Err-clause-kept : goal.returns-in-Err-clause-kept

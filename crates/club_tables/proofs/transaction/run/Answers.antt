@@ -8,7 +8,7 @@ use Rattle.sqlite.proofs.StateLemmas.{survives_then}
 use Rattle.sqlite.proofs.Callers.{survives_begin}
 use Rattle.club_tables.specs.Transaction.{RanInTurn, Ran, transaction_start, bound_statement}
 use Rattle.club_tables.specs.Fault.{FailsInTurn, FailsToRun}
-use Rattle.club_tables.proofs.TurnLemmas.{turn_at, turn_all, fails_at, fails_last}
+use Rattle.club_tables.proofs.crashes.TurnLemmas.{turn_at, turn_all, fails_at, fails_last}
 use Rattle.club_tables.proofs.transaction.run.Goals as goal
 
 pub loop-statement-preserved : goal.loop-statement-preserved

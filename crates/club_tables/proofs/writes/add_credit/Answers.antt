@@ -1,8 +1,8 @@
 use Rattle.std.proofs.Common.{refl, arith}
 use Rattle.club_core.specs.declared.change.Change.TheVariants.{AddCredit}
 use Rattle.club_tables.specs.ChangeStatements.{adding_credit}
-use Rattle.club_tables.proofs.MadeLemmas.{credit_made}
-use Rattle.club_tables.proofs.WriteLemmas.{commits_of, makes}
+use Rattle.club_tables.proofs.changes.MadeLemmas.{credit_made}
+use Rattle.club_tables.proofs.changes.WriteLemmas.{commits_of, makes}
 use Rattle.club_tables.proofs.writes.add_credit.Goals as goal
 
 pub returns-clause-commits : goal.returns-clause-commits

@@ -2,8 +2,8 @@ use Rattle.std.proofs.Common.{inr, refl, arith}
 use Rattle.club_core.specs.declared.change.Change.TheVariants.{MarkCancelled}
 use Rattle.club_tables.specs.ReadsAndChanges.{IsOwnedBy, IsToCancel}
 use Rattle.club_tables.specs.ChangeStatements.{cancelling}
-use Rattle.club_tables.proofs.MadeLemmas.{cancel_made}
-use Rattle.club_tables.proofs.WriteLemmas.{makes}
+use Rattle.club_tables.proofs.changes.MadeLemmas.{cancel_made}
+use Rattle.club_tables.proofs.changes.WriteLemmas.{makes}
 use Rattle.club_tables.proofs.writes.cancel_booking.Goals as goal
 
 pub returns-clause-commits : goal.returns-clause-commits

@@ -1,8 +1,8 @@
 use Rattle.std.proofs.Common.{refl, arith}
 use Rattle.club_core.specs.declared.change.Change.TheVariants.{MarkClosed}
 use Rattle.club_tables.specs.ChangeStatements.{closing}
-use Rattle.club_tables.proofs.MadeLemmas.{close_made}
-use Rattle.club_tables.proofs.WriteLemmas.{commits_of, makes}
+use Rattle.club_tables.proofs.changes.MadeLemmas.{close_made}
+use Rattle.club_tables.proofs.changes.WriteLemmas.{commits_of, makes}
 use Rattle.club_tables.proofs.writes.close_slot.Goals as goal
 
 pub returns-clause-commits : goal.returns-clause-commits

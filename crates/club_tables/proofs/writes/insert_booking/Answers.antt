@@ -2,8 +2,8 @@ use Rattle.std.proofs.Common.{refl, arith}
 use Rattle.club_core.specs.declared.change.Change.TheVariants.{InsertBooking}
 use Rattle.club_tables.specs.ReadsAndChanges.{IsOwnedBy}
 use Rattle.club_tables.specs.ChangeStatements.{adding_booking}
-use Rattle.club_tables.proofs.MadeLemmas.{booking_made}
-use Rattle.club_tables.proofs.WriteLemmas.{makes}
+use Rattle.club_tables.proofs.changes.MadeLemmas.{booking_made}
+use Rattle.club_tables.proofs.changes.WriteLemmas.{makes}
 use Rattle.club_tables.proofs.writes.insert_booking.Goals as goal
 
 pub returns-clause-commits : goal.returns-clause-commits

@@ -1,8 +1,8 @@
 use Rattle.std.proofs.Common.{refl, arith}
 use Rattle.club_core.specs.declared.change.Change.TheVariants.{InsertFacility}
 use Rattle.club_tables.specs.ChangeStatements.{adding_facility}
-use Rattle.club_tables.proofs.MadeLemmas.{facility_made}
-use Rattle.club_tables.proofs.WriteLemmas.{commits_of, makes}
+use Rattle.club_tables.proofs.changes.MadeLemmas.{facility_made}
+use Rattle.club_tables.proofs.changes.WriteLemmas.{commits_of, makes}
 use Rattle.club_tables.proofs.writes.insert_facility.Goals as goal
 
 pub returns-clause-commits : goal.returns-clause-commits

@@ -2,8 +2,8 @@ use Rattle.std.proofs.Common.{◌≡◌, Option, Some, None, false, is_some, ref
 use Rattle.club_rows.specs.declared.key.OlderRoot.{OlderRoot}
 use Rattle.club_core.specs.declared.change.Change.TheVariants.{InsertKey}
 use Rattle.club_tables.specs.ChangeStatements.{adding_key}
-use Rattle.club_tables.proofs.MadeLemmas.{key_made}
-use Rattle.club_tables.proofs.WriteLemmas.{commits_of, makes, unmade}
+use Rattle.club_tables.proofs.changes.MadeLemmas.{key_made}
+use Rattle.club_tables.proofs.changes.WriteLemmas.{commits_of, makes, unmade}
 use Rattle.club_tables.proofs.writes.insert_key.Goals as goal
 
 not_older : (older : Option OlderRoot) → is_some older ≡ false → older ≡ None

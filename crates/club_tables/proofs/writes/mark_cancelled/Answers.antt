@@ -2,8 +2,8 @@ use Rattle.std.proofs.Common.{inl, refl, arith}
 use Rattle.club_core.specs.declared.change.Change.TheVariants.{MarkCancelled}
 use Rattle.club_tables.specs.ReadsAndChanges.{HasNoneToCancel}
 use Rattle.club_tables.specs.ChangeStatements.{marking}
-use Rattle.club_tables.proofs.MadeLemmas.{nothing_made}
-use Rattle.club_tables.proofs.WriteLemmas.{commits_of, makes}
+use Rattle.club_tables.proofs.changes.MadeLemmas.{nothing_made}
+use Rattle.club_tables.proofs.changes.WriteLemmas.{commits_of, makes}
 use Rattle.club_tables.proofs.writes.mark_cancelled.Goals as goal
 
 pub returns-clause-commits : goal.returns-clause-commits

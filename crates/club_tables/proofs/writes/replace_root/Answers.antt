@@ -2,8 +2,8 @@ use Rattle.std.proofs.Common.{refl, arith}
 use Rattle.club_core.specs.declared.change.Change.TheVariants.{ReplaceRoot}
 use Rattle.club_tables.specs.ReadsAndChanges.{HasRoot}
 use Rattle.club_tables.specs.ChangeStatements.{replacing_root}
-use Rattle.club_tables.proofs.MadeLemmas.{rotate_made}
-use Rattle.club_tables.proofs.WriteLemmas.{makes}
+use Rattle.club_tables.proofs.changes.MadeLemmas.{rotate_made}
+use Rattle.club_tables.proofs.changes.WriteLemmas.{makes}
 use Rattle.club_tables.proofs.writes.replace_root.Goals as goal
 
 pub returns-clause-commits : goal.returns-clause-commits

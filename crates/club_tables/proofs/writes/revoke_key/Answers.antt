@@ -1,8 +1,8 @@
 use Rattle.std.proofs.Common.{refl, arith}
 use Rattle.club_core.specs.declared.change.Change.TheVariants.{MarkRevoked}
 use Rattle.club_tables.specs.ChangeStatements.{revoking}
-use Rattle.club_tables.proofs.MadeLemmas.{revoke_made}
-use Rattle.club_tables.proofs.WriteLemmas.{commits_of, makes}
+use Rattle.club_tables.proofs.changes.MadeLemmas.{revoke_made}
+use Rattle.club_tables.proofs.changes.WriteLemmas.{commits_of, makes}
 use Rattle.club_tables.proofs.writes.revoke_key.Goals as goal
 
 pub returns-clause-commits : goal.returns-clause-commits

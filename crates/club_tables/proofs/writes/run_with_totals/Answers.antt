@@ -1,4 +1,4 @@
-use Rattle.club_tables.proofs.WriteLemmas.{commits_of}
+use Rattle.club_tables.proofs.changes.WriteLemmas.{commits_of}
 use Rattle.club_tables.proofs.writes.run_with_totals.Goals as goal
 
 pub returns-clause-commits : goal.returns-clause-commits

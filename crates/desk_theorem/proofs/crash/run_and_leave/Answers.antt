@@ -9,7 +9,7 @@ use Rattle.sqlite.specs.State.{HasCleanDisk}
 use Rattle.club_core.specs.Club.{Club, IsSound}
 use Rattle.club_core.specs.Run.{Event}
 use Rattle.club_store.specs.Crash.{RepresentsOne}
-use Rattle.club_store.specs.Tables.{Represents}
+use Rattle.club_tables.specs.Tables.{Represents}
 use Rattle.club_gate.specs.Runs.{MayBeLeft, DeskResponse, club_left, machine_events, responses_of}
 use Rattle.desk_theorem.specs.Crash.{IsLast, RecoversAfterRun}
 use Rattle.desk_theorem.proofs.crash.run_and_leave.Goals as goal

@@ -1,0 +1,11 @@
+-- What each change of the club makes of the tables.
+
+pub mod AddLemmas
+pub mod ChangeLemmas
+pub mod CancelLemmas
+pub mod CancelStored
+pub mod OlderLemmas
+pub mod UpsertLemmas
+pub mod StoredLemmas
+pub mod MadeLemmas
+pub mod WriteLemmas

@@ -1,0 +1,146 @@
+-- What the statements that insert a row make of the tables.
+use Rattle.std.proofs.Common.{◌≡◌, ℕ, pos, Ok, List, [], ◌∷◌, ◌++◌, refl, sym, subst}
+use Rattle.sqlite_tied.specs.Compute.{everything}
+use Rattle.sqlite_value.specs.declared.value.Value.TheVariants.{Null, Int, Text}
+use Rattle.sqlite.specs.Table.{Table}
+use Rattle.sqlite.specs.Term.{Term, lit, col}
+use Rattle.sqlite.specs.Source.TheVariants.{Values}
+use Rattle.sqlite.specs.Command.TheVariants.{Insert}
+use Rattle.sqlite.specs.Listing.{understood}
+use Rattle.sqlite.specs.State.{State, Executes}
+use Rattle.sqlite.proofs.Callers.{IsPlain, command_of}
+use Rattle.club_rows.specs.Columns.{truth}
+use Rattle.club_rows.specs.declared.member.Member.{Member}
+use Rattle.club_tables.specs.declared.row.MemberRow.{MemberRow}
+use Rattle.club_rows.specs.declared.facility.Facility.{Facility}
+use Rattle.club_rows.specs.declared.key.Key.{Key}
+use Rattle.club_rows.specs.declared.booking.Booking.{Booking}
+use Rattle.club_tables.specs.declared.texts.TheConstants.{ADD_MEMBER, ADD_FACILITY, ADD_KEY, ADD_BOOKING}
+use Rattle.club_tables.specs.Schema.{members_table, facilities_table, keys_table, bookings_table, club_schema}
+use Rattle.club_tables.specs.Columns.{whole, member_values, facility_values, key_values, booking_values}
+use Rattle.club_tables.specs.Stored.{Rows}
+use Rattle.club_tables.specs.Tables.{HoldsRows, Holds, members_tree, facilities_tree, keys_tree, bookings_tree}
+use Rattle.club_tables.proofs.statements.HoldsRowsLemmas.{on_members, on_facilities, on_keys, on_bookings}
+use Rattle.club_tables.proofs.statements.InsertLemmas.{inserts, cast_null, cast_int}
+use Rattle.club_tables.proofs.lists.RowLemmas.{holds_more}
+
+-- ---- members
+
+abbrev member_table : Table
+member_table = record members_table { tree = members_tree }
+
+abbrev member_terms : List Term
+member_terms = lit Null ∷ col 0 0 ∷ col 0 1 ∷ col 0 2 ∷ lit (Int (pos 0)) ∷ []
+
+member_is : command_of (understood club_schema ADD_MEMBER.now) ≡ Insert 1 (Values member_terms 5)
+unfolding understood everything
+member_is = refl
+
+member_plain : IsPlain (understood club_schema ADD_MEMBER.now)
+unfolding understood everything
+member_plain = (refl, refl)
+
+-- a new member's bookings have cost nothing
+abbrev pub new_row : Member → MemberRow
+new_row member = record { member = member; used = 0 }
+
+pub member_put : (old new : State) (rows : Rows) → HoldsRows old.now rows → (member : Member) (count : ℕ)
+    → Executes ADD_MEMBER.now (Text member.name ∷ whole member.credited ∷ whole member.quota ∷ []) old new (Ok count)
+    → HoldsRows new.now (record rows { members = rows.members ++ (new_row member) ∷ [] })
+member_put old new rows holds_rows member count ran =
+    let put = inserts old new club_schema holds_rows.schema ADD_MEMBER.now member_plain 1 member_table member_terms 5 (Text member.name ∷ whole member.credited
+    ∷ whole member.quota ∷ []) (member_values (new_row member)) refl member_is refl refl refl
+    (rw (cast_null, cast_int (pos member.credited), cast_int (pos member.quota), cast_int (pos 0))) (λ row. refl) count ran in
+    on_members old.now new.now rows holds_rows put.0 put.3 put.2 (rows.members ++ (new_row member) ∷ [])
+    (subst (λ rs. Holds member_values rs (rows.members ++ (new_row member) ∷ [])) (sym put.1)
+    (holds_more member_values _ rows.members (new_row member) holds_rows.members))
+
+-- ---- facilities
+
+abbrev facility_table : Table
+facility_table = record facilities_table { tree = facilities_tree }
+
+abbrev facility_terms : List Term
+facility_terms = lit Null ∷ col 0 0 ∷ col 0 1 ∷ col 0 2 ∷ col 0 3 ∷ col 0 4 ∷ col 0 5 ∷ []
+
+facility_is : command_of (understood club_schema ADD_FACILITY.now) ≡ Insert 2 (Values facility_terms 7)
+unfolding understood everything
+facility_is = refl
+
+facility_plain : IsPlain (understood club_schema ADD_FACILITY.now)
+unfolding understood everything
+facility_plain = (refl, refl)
+
+pub facility_put : (old new : State) (rows : Rows) → HoldsRows old.now rows → (facility : Facility) (count : ℕ)
+    → Executes ADD_FACILITY.now (facility_values facility) old new (Ok count)
+    → HoldsRows new.now (record rows { facilities = rows.facilities ++ facility ∷ [] })
+facility_put old new rows holds_rows facility count ran =
+    let put = inserts old new club_schema holds_rows.schema ADD_FACILITY.now facility_plain 2 facility_table facility_terms 7 (facility_values facility)
+    (facility_values facility) refl facility_is refl refl refl
+    (rw (cast_null, cast_int (pos facility.places), cast_int (pos facility.price), cast_int (pos facility.opens), cast_int (pos facility.shuts))) (λ row.
+    refl) count ran in
+    on_facilities old.now new.now rows holds_rows put.0 put.3 put.2 (rows.facilities ++ facility ∷ [])
+    (subst (λ rs. Holds facility_values rs (rows.facilities ++ facility ∷ [])) (sym put.1)
+    (holds_more facility_values _ rows.facilities facility holds_rows.facilities))
+
+-- ---- keys
+
+abbrev key_table : Table
+key_table = record keys_table { tree = keys_tree }
+
+abbrev key_terms : List Term
+key_terms = lit Null ∷ col 0 0 ∷ col 0 1 ∷ col 0 2 ∷ col 0 3 ∷ []
+
+key_is : command_of (understood club_schema ADD_KEY.now) ≡ Insert 3 (Values key_terms 5)
+unfolding understood everything
+key_is = refl
+
+key_plain : IsPlain (understood club_schema ADD_KEY.now)
+unfolding understood everything
+key_plain = (refl, refl)
+
+pub key_put : (old new : State) (rows : Rows) → HoldsRows old.now rows → (key : Key) (count : ℕ) → Executes ADD_KEY.now (key_values key) old new (Ok count)
+    → HoldsRows new.now (record rows { keys = rows.keys ++ key ∷ [] })
+key_put old new rows holds_rows key count ran =
+    let put = inserts old new club_schema holds_rows.schema ADD_KEY.now key_plain 3 key_table key_terms 5 (key_values key)
+    (key_values key) refl key_is refl refl refl
+    (rw (cast_null, cast_int (pos (truth key.revoked)))) (λ row. refl) count ran in
+    on_keys old.now new.now rows holds_rows put.0 put.3 put.2 (rows.keys ++ key ∷ [])
+    (subst (λ rs. Holds key_values rs (rows.keys ++ key ∷ [])) (sym put.1) (holds_more key_values _ rows.keys key holds_rows.keys))
+
+-- ---- bookings
+
+abbrev booking_table : Table
+booking_table = record bookings_table { tree = bookings_tree }
+
+abbrev booking_terms : List Term
+booking_terms = lit Null ∷ col 0 0 ∷ col 0 1 ∷ col 0 2 ∷ col 0 3 ∷ col 0 4 ∷ col 0 5 ∷ col 0 6 ∷ col 0 7 ∷ col 0 8 ∷ col 0 9 ∷ []
+
+booking_is : command_of (understood club_schema ADD_BOOKING.now) ≡ Insert 5 (Values booking_terms 11)
+unfolding understood everything
+booking_is = refl
+
+booking_plain : IsPlain (understood club_schema ADD_BOOKING.now)
+unfolding understood everything
+booking_plain = (refl, refl)
+
+pub booking_put : (old new : State) (rows : Rows) → HoldsRows old.now rows → (booking : Booking) (count : ℕ)
+    → Executes ADD_BOOKING.now (booking_values booking) old new (Ok count)
+    → HoldsRows new.now (record rows { bookings = rows.bookings ++ booking ∷ [] })
+booking_put old new rows holds_rows booking count ran =
+    let put = inserts old new club_schema holds_rows.schema ADD_BOOKING.now booking_plain 5 booking_table booking_terms 11 (booking_values booking)
+    (booking_values booking) refl booking_is refl refl refl
+    (rw (
+      cast_null,
+      cast_int (pos booking.number),
+      cast_int (pos booking.slot.day),
+      cast_int (pos booking.slot.hour),
+      cast_int (pos booking.guests),
+      cast_int (pos booking.charge),
+      cast_int (pos booking.left),
+      cast_int (pos (truth booking.cancelled)),
+      cast_int (pos booking.refund),
+    )) (λ row.
+    refl) count ran in
+    on_bookings old.now new.now rows holds_rows put.0 put.3 put.2 (rows.bookings ++ booking ∷ [])
+    (subst (λ rs. Holds booking_values rs (rows.bookings ++ booking ∷ [])) (sym put.1) (holds_more booking_values _ rows.bookings booking holds_rows.bookings))

@@ -1,0 +1,231 @@
+-- The rows of the club after a cancellation, as they are stored.
+use Rattle.std.proofs.Common.{◌≡◌, ℕ, zero, suc, ◌+◌, ◌-◌, ◌≤◌, ◌<◌, ◌==◌, Bool, true, false, not, ◌&&◌, ◌||◌, cond, if◌then◌else◌, List, [], ◌∷◌, length, map}
+use Rattle.std.proofs.Common.{Some, Contains, IsTrue, refl, sym, ap, subst, ◌∙◌, arith}
+use Rattle.std.specs.Prelude.{filter, find, sum_by, IfSome, slice_index_or}
+use Rattle.std.specs.List.{AllByRecursion}
+use Rattle.std.specs.Str.{bytes_eq}
+use Rattle.std.proofs.lemmas.Bool.{and_parts}
+use Rattle.std.proofs.lemmas.List.{length-map}
+use Rattle.club_values.specs.declared.slot.Slot.{Slot}
+use Rattle.club_rows.specs.declared.booking.Booking.{Booking}
+use Rattle.club_rows.specs.declared.member.Member.{Member}
+use Rattle.club_core.specs.declared.slot_use.SlotUse.{SlotUse}
+use Rattle.club_core.specs.declared.change.Change.TheVariants.{MarkCancelled}
+use Rattle.club_core.specs.After.{after, cancelled_booking, is_marked}
+use Rattle.club_rows.specs.Booking.{same_slot, persons_of}
+use Rattle.club_core.specs.Club.{Club, IsSound, is_key_of}
+use Rattle.club_rows.specs.Rows.{IsBooking}
+use Rattle.club_core.specs.Sums.{is_in, is_under, taken_in, cost_of}
+use Rattle.club_tables.specs.declared.row.MemberRow.{MemberRow}
+use Rattle.club_tables.specs.Stored.{Rows, IsStoredAs, member_row, used_by}
+use Rattle.club_tables.specs.ReadsAndChanges.{IsOwnedBy, IsToCancel, HasNoneToCancel}
+use Rattle.club_tables.proofs.changes.ChangeLemmas.{used_row, or_true, or_false}
+use Rattle.club_tables.proofs.statements.JoinLemmas.{map_map}
+use Rattle.club_tables.proofs.statements.SelectLemmas.{Apart, apart_from_pairs}
+use Rattle.club_tables.proofs.lists.SlotRows.{put_slot, use_put, put_once}
+use Rattle.club_tables.proofs.changes.UpsertLemmas.{take_use}
+use Rattle.club_tables.proofs.lists.FindLemmas.{found}
+use Rattle.std.specs.Cmp.{unsigned_Decides}
+use Rattle.club_tables.proofs.lists.OwnerLemmas.{map_agree, IsAlone, none_changed, others_fail, picked_changed, same_name, owner_is}
+use Rattle.club_tables.proofs.changes.StoredLemmas.{recounted_use}
+
+-- ---- cancellations
+
+index_mapped : {X Y : Type 0} (f : X → Y) (xs : List X) (k : ℕ) (d : X) → k < length xs → slice_index_or (map f xs) k (f d) ≡ f (slice_index_or xs k d)
+index_mapped f [] k d low = absurd (omega arith)
+index_mapped f (x ∷ xs) zero d low = refl
+index_mapped f (x ∷ xs) (suc k) d low = index_mapped f xs k d (omega arith)
+
+abbrev pub is_named : List ℕ → ℕ → Booking → Bool
+is_named key number booking = is_under key booking && booking.number == number
+
+unmarked : (key : List ℕ) (number refund : ℕ) (booking : Booking) → is_marked key number booking ≡ false → cancelled_booking key number refund booking ≡ booking
+unmarked key number refund booking fails =
+    ap (λ b. let k : Booking = record booking { cancelled = booking.cancelled || b; refund = if b then refund else booking.refund } in k) fails
+    ∙ ap (λ b. let k : Booking = record booking { cancelled = b } in k) (or_false booking.cancelled)
+
+unnamed : (key : List ℕ) (number refund : ℕ) (booking : Booking) → is_named key number booking ≡ false → cancelled_booking key number refund booking ≡ booking
+unnamed key number refund booking fails = unmarked key number refund booking (rw fails refl)
+
+named_alone : (key : List ℕ) (number refund : ℕ) (bookings : List Booking)
+    → Apart (λ (a : Booking) (b : Booking). ¬ ((a.key ≡ b.key) × (a.number ≡ b.number))) bookings
+    → Apart (IsAlone (is_named key number) (cancelled_booking key number refund) (unnamed key number refund)) bookings
+named_alone key number refund [] apart = tt
+named_alone key number refund (b ∷ bookings) apart = (each bookings apart.0, named_alone key number refund bookings apart.1)
+  where
+    each : (others : List Booking) → AllByRecursion (λ (other : Booking). ¬ ((b.key ≡ other.key) × (b.number ≡ other.number))) others
+        → AllByRecursion (λ (other : Booking). ¬ ((is_named key number b ≡ true) × (is_named key number other ≡ true))) others
+    each [] apart = tt
+    each (other ∷ others) apart = (two, each others apart.1)
+      where
+        two : ¬ ((is_named key number b ≡ true) × (is_named key number other ≡ true))
+        two both =
+            let mine = and_parts _ _ both.0 in
+            let its = and_parts _ _ both.1 in
+            apart.0 (
+              same_name key b.key other.key mine.0 its.0,
+              (unsigned_Decides b.number number).0 mine.1
+                  ∙ sym ((unsigned_Decides other.number number).0 its.1),
+            )
+
+module _ (club : Club) (sound : IsSound club) (booking : Booking) (cancels : IsToCancel booking club) (refund : ℕ)
+    (fits : IsSound (after (MarkCancelled booking.key booking.number refund) club)) where
+  abbrev key : List ℕ
+  key = booking.key
+
+  abbrev number : ℕ
+  number = booking.number
+
+  abbrev change : Booking → Booking
+  change = cancelled_booking key number refund
+
+  abbrev next : Club
+  next = after (MarkCancelled key number refund) club
+
+  abbrev R : Booking → Booking → Type 0
+  R a b = ¬ ((a.key ≡ b.key) × (a.number ≡ b.number))
+
+  alone : Apart (IsAlone (is_named key number) change (unnamed key number refund)) club.bookings
+  alone = named_alone key number refund club.bookings (apart_from_pairs R club.bookings sound.unique.bookings)
+
+  pub there : Contains club.bookings booking × (is_named key number booking ≡ true)
+  there = found (is_named key number) club.bookings booking cancels.0
+
+  marked : is_marked key number booking ≡ true
+  marked = rw (there.1, cancels.1) refl
+
+  -- the booking, and what it becomes, are among the club's rows
+  row : IsBooking booking
+  row = subst IsBooking there.0.2 (sound.rows.bookings there.0.0 booking there.0.1)
+
+  next_row : IsBooking (change booking)
+  next_row =
+      let at : slice_index_or (map change club.bookings) there.0.0 (change booking) ≡ change booking =
+      index_mapped change club.bookings there.0.0 booking there.0.1 ∙ ap change there.0.2 in
+      subst IsBooking at (fits.rows.bookings there.0.0 (change booking) (omega (arith, there.0.1, length-map club.bookings change)))
+
+  nothing_back : booking.refund ≡ 0
+  nothing_back = row.kept cancels.1
+
+  now_cancelled : (change booking).cancelled ≡ true
+  now_cancelled = ap (λ b. booking.cancelled || b) marked ∙ or_true booking.cancelled
+
+  now_refund : (change booking).refund ≡ refund
+  now_refund = ap (λ b. if b then refund else booking.refund) marked
+
+  at_most : refund ≤ booking.charge
+  at_most = omega (arith, next_row.refund, now_refund)
+
+  -- what the member's bookings have cost
+  pub used_back : (name : List ℕ) → used_by next name + (if is_key_of name club key then refund else 0) ≡ used_by club name
+  used_back name =
+      let own : Booking → Bool = λ b. is_key_of name club b.key in
+      let sums = picked_changed (is_named key number) change (unnamed key number refund) cost_of own club.bookings booking alone cancels.0 in
+      go own (own booking) refl sums
+    where
+      go : (own : Booking → Bool) (b : Bool) → own booking ≡ b
+          → sum_by cost_of (filter own (map change club.bookings)) + cond (own booking) (cost_of booking) 0
+          ≡ sum_by cost_of (filter own club.bookings) + cond (own booking) (cost_of (change booking)) 0
+          → sum_by cost_of (filter own (map change club.bookings)) + (if b then refund else 0) ≡ sum_by cost_of (filter own club.bookings)
+      go own true is sums =
+          let before : cond (own booking) (cost_of booking) 0 ≡ booking.charge = rw is (omega (arith, nothing_back)) in
+          let after : cond (own booking) (cost_of (change booking)) 0 ≡ booking.charge - refund = rw is (omega (arith, now_refund)) in
+          omega (arith, sums, before, after, at_most)
+      go own false is sums =
+          let before : cond (own booking) (cost_of booking) 0 ≡ 0 = rw is refl in
+          let after : cond (own booking) (cost_of (change booking)) 0 ≡ 0 = rw is refl in
+          omega (arith, sums, before, after)
+
+  -- the persons of a slot
+  pub taken_back : (s : Slot) → taken_in s next.bookings + (if same_slot booking.slot s then persons_of booking else 0) ≡ taken_in s club.bookings
+  taken_back s =
+      let sums = picked_changed (is_named key number) change (unnamed key number refund) persons_of (is_in s) club.bookings booking alone cancels.0 in
+      let after : cond (is_in s (change booking)) (persons_of (change booking)) 0 ≡ 0 =
+      ap (λ b. cond (not b && same_slot booking.slot s) (persons_of booking) 0) now_cancelled in
+      let before : cond (is_in s booking) (persons_of booking) 0 ≡ cond (same_slot booking.slot s) (persons_of booking) 0 =
+      ap (λ b. cond (not b && same_slot booking.slot s) (persons_of booking) 0) cancels.1 in
+      omega (arith, sums, before, after)
+
+  abbrev pub cancel_rows : Rows → List ℕ → Rows
+  cancel_rows rows member = record {
+    members = map (used_row member (λ n. n - refund)) rows.members;
+    facilities = rows.facilities;
+    keys = rows.keys;
+    slots = put_slot booking.slot (take_use (λ n. n - persons_of booking)) rows.slots;
+    bookings = map change rows.bookings;
+    olders = rows.olders;
+  }
+
+  used_less : (member : List ℕ) → IsOwnedBy member key club → (m : Member) → used_row member (λ n. n - refund) (member_row club m) ≡ member_row next m
+  used_less member owned m =
+      let mine = owner_is club sound key member m.name owned in
+      let back : used_by next m.name + (if bytes_eq m.name member then refund else 0) ≡ used_by club m.name =
+      ap (λ b. used_by next m.name + (if b then refund else 0)) (sym mine) ∙ used_back m.name in
+      ap (λ n. let row : MemberRow = record { member = m; used = n } in row)
+      (less (bytes_eq m.name member) (used_by club m.name) (used_by next m.name) refund back)
+    where
+      less : (b : Bool) (all left back : ℕ) → left + (if b then back else 0) ≡ all → (if b then all - back else all) ≡ left
+      less true all left back is = omega (arith, is)
+      less false all left back is = omega (arith, is)
+
+  taken_less : (s : Slot) → taken_in s next.bookings ≡ (if same_slot booking.slot s then taken_in s club.bookings - persons_of booking else taken_in s
+      club.bookings)
+  taken_less s = less (same_slot booking.slot s) (taken_in s club.bookings) (taken_in s next.bookings) (persons_of booking) (taken_back s)
+    where
+      less : (b : Bool) (all left back : ℕ) → left + (if b then back else 0) ≡ all → left ≡ (if b then all - back else all)
+      less true all left back is = omega (arith, is)
+      less false all left back is = omega (arith, is)
+
+  pub cancel_stored : (rows : Rows) → IsStoredAs club rows → (member : List ℕ) → IsOwnedBy member key club → IsStoredAs next (cancel_rows rows member)
+  cancel_stored rows stored member owned = record {
+    members = ap (map (used_row member (λ n. n - refund))) stored.members ∙ map_map (used_row member (λ n. n - refund)) (member_row club) club.members
+        ∙ map_agree _ (member_row next) (used_less member owned) club.members;
+    facilities = stored.facilities;
+    keys = stored.keys;
+    bookings = ap (map change) stored.bookings;
+    slots = λ s.
+        let less : ℕ → ℕ = λ n. n - persons_of booking in
+        use_put booking.slot (take_use less) s rows.slots ∙ ap (λ u. let v : SlotUse = if same_slot booking.slot s then take_use less u else u in
+        v) (stored.slots s)
+        ∙ recounted_use club s less (same_slot booking.slot s) (taken_in s next.bookings) (taken_less s);
+    olders = stored.olders;
+    olders_once = stored.olders_once;
+    once = put_once booking.slot (take_use (λ n. n - persons_of booking)) rows.slots stored.once;
+  }
+
+-- where there is none to cancel, the bookings stay as they are
+none_marked : (key : List ℕ) (number refund : ℕ) (bookings : List Booking)
+    → Apart (IsAlone (is_named key number) (cancelled_booking key number refund) (unnamed key number refund)) bookings
+    → IfSome (find (is_named key number) bookings) (λ (b : Booking). IsTrue b.cancelled) → map (cancelled_booking key number refund) bookings ≡ bookings
+none_marked key number refund [] alone none = refl
+none_marked key number refund (b ∷ bookings) alone none = go (none_marked key number refund bookings alone.1) (is_named key number b) refl none
+  where
+    go : (IfSome (find (is_named key number) bookings) (λ (b : Booking). IsTrue b.cancelled) → map (cancelled_booking key number refund) bookings ≡ bookings)
+        → (named : Bool) → is_named key number b ≡ named → IfSome (cond named (Some b) (find (is_named key number) bookings)) (λ (b : Booking).
+        IsTrue b.cancelled) → map (cancelled_booking key number refund) (b ∷ bookings) ≡ b ∷ bookings
+    go later true is marked =
+        let stays = unmarked key number refund b (rw (is, marked) refl) in
+        let rest = none_changed (is_named key number) (cancelled_booking key number refund) (unnamed key number refund) bookings
+        (others_fail (is_named key number) (cancelled_booking key number refund) (unnamed key number refund) b is bookings alone.0) in cc
+    go later false is more = let stays = unnamed key number refund b is in let rest = later more in cc
+
+pub same_stored : (club : Club) (rows : Rows) → IsStoredAs club rows → IsSound club → (key : List ℕ) (number refund : ℕ) → HasNoneToCancel key number club
+    → IsStoredAs (after (MarkCancelled key number refund) club) (record rows { bookings = map (cancelled_booking key number refund) rows.bookings })
+same_stored club rows stored sound key number refund none =
+    let R : Booking → Booking → Type 0 = λ a b. ¬ ((a.key ≡ b.key) × (a.number ≡ b.number)) in
+    let same = none_marked key number refund club.bookings (named_alone key number refund club.bookings
+    (apart_from_pairs R club.bookings sound.unique.bookings)) none in
+    let unmoved : IsStoredAs club (record rows { bookings = map (cancelled_booking key number refund) rows.bookings }) = record {
+      members = stored.members;
+      facilities = stored.facilities;
+      keys = stored.keys;
+      bookings = ap (map (cancelled_booking key number refund)) stored.bookings ∙ same;
+      slots = stored.slots;
+      olders = stored.olders;
+      olders_once = stored.olders_once;
+      once = stored.once;
+    } in
+    subst (λ (bookings : List Booking). IsStoredAs (record club { bookings = bookings }) (record rows {
+      bookings =
+          map (cancelled_booking key number refund) rows.bookings;
+    })) (sym same) unmoved

@@ -1,0 +1,384 @@
+-- The rows of the club after each change, as they are stored.
+use Rattle.std.proofs.Common.{◌≡◌, ◌≢◌, ℕ, ◌+◌, Bool, true, false, not, ◌&&◌, ◌||◌, cond, if◌then◌else◌, List, [], ◌∷◌, ◌++◌, map, Option, Some, None, Contains}
+use Rattle.std.proofs.Common.{refl, sym, ap, subst, ◌∙◌, arith, true≢false}
+use Rattle.std.specs.Prelude.{filter, find, sum_by, IfSome, option_and_then}
+use Rattle.std.specs.List.{AllByRecursion, list_any}
+use Rattle.std.specs.Str.{bytes_eq}
+use Rattle.std.proofs.lemmas.Bool.{false_from_ne_true}
+use Rattle.std.proofs.lemmas.List.{map-append}
+use Rattle.std.proofs.lemmas.List.Folds.{list_any-append}
+use Rattle.std.proofs.lemmas.Slice.Eq.{bytes_eq-Decides}
+use Rattle.club_values.specs.declared.slot.Slot.{Slot}
+use Rattle.club_rows.specs.declared.booking.Booking.{Booking}
+use Rattle.club_rows.specs.declared.facility.Facility.{Facility}
+use Rattle.club_rows.specs.declared.key.Key.{Key}
+use Rattle.club_rows.specs.declared.key.OlderRoot.{OlderRoot}
+use Rattle.club_rows.specs.declared.member.Member.{Member}
+use Rattle.club_core.specs.declared.slot_use.SlotUse.{SlotUse}
+use Rattle.club_core.specs.declared.change.Change.TheVariants.{InsertMember, AddCredit, InsertFacility, InsertKey, MarkRevoked, ReplaceRoot, MarkClosed}
+use Rattle.club_core.specs.declared.change.Change.TheVariants.{InsertBooking}
+use Rattle.club_core.specs.After.{after, credited_member, revoked_key, good_until, rotated_key}
+use Rattle.club_rows.specs.Booking.{same_slot, persons_of}
+use Rattle.club_core.specs.Club.{Club, IsSound, key_named, is_key_of, is_closed}
+use Rattle.club_core.specs.Basis.{slot_use}
+use Rattle.club_core.specs.Sums.{is_in, taken_in, cost_of}
+use Rattle.club_tables.specs.declared.row.MemberRow.{MemberRow}
+use Rattle.club_tables.specs.Stored.{Rows, IsStoredAs, member_row, used_by, persons_taken}
+use Rattle.club_tables.specs.ReadsAndChanges.{IsOwnedBy, HasRoot}
+use Rattle.club_tables.proofs.changes.AddLemmas.{new_row}
+use Rattle.club_tables.proofs.changes.ChangeLemmas.{credited_row, used_row, or_true, or_false}
+use Rattle.club_tables.proofs.statements.JoinLemmas.{map_map}
+use Rattle.club_tables.proofs.statements.SelectLemmas.{apart_from_pairs, none_pass}
+use Rattle.club_tables.proofs.changes.OlderLemmas.{put_older, older_put, put_once as olders_once}
+use Rattle.club_tables.proofs.lists.SlotRows.{put_slot, use_put, put_once}
+use Rattle.club_tables.proofs.changes.UpsertLemmas.{close_use, take_use}
+use Rattle.club_tables.proofs.lists.FindLemmas.{found}
+use Rattle.club_tables.proofs.lists.OwnerLemmas.{all_of, map_agree, filter_same, none_of, apart_last, not_among, unequal, sum_more, owner_is}
+
+-- ---- members
+
+used_none : (club : Club) (name : List ℕ) → AllByRecursion (λ (key : Key). bytes_eq key.member name ≡ false) club.keys → used_by club name ≡ 0
+used_none club name none =
+    let owns : Key → Bool = λ key. bytes_eq key.member name in
+    let no_keys : filter owns club.keys ≡ [] = none_pass owns club.keys none in
+    ap (λ keys. sum_by cost_of (filter (λ (booking : Booking). list_any (λ (key : Key). bytes_eq key.name booking.key) keys) club.bookings)) no_keys
+    ∙ ap (sum_by cost_of) (none_of club.bookings)
+
+keys_of_none : (club : Club) → IsSound club → (name : List ℕ) → AllByRecursion (λ (m : Member). m.name ≢ name) club.members
+    → AllByRecursion (λ (key : Key). bytes_eq key.member name ≡ false) club.keys
+keys_of_none club sound name apart = each club.keys (all_of _ club.keys sound.references.keys)
+  where
+    each : (keys : List Key) → AllByRecursion (λ (key : Key). Contains (map (λ (m : Member). m.name) club.members) key.member) keys
+        → AllByRecursion (λ (key : Key). bytes_eq key.member name ≡ false) keys
+    each [] h = tt
+    each (key ∷ keys) h = (
+      unequal key.member name (λ e. not_among (λ (m : Member). m.name) club.members name apart
+          (subst (Contains (map (λ (m : Member). m.name) club.members)) e h.0)),
+      each keys h.1,
+    )
+
+pub member_stored : (club : Club) (rows : Rows) → IsStoredAs club rows → IsSound club → (member : Member) → IsSound (after (InsertMember member) club)
+    → IsStoredAs (after (InsertMember member) club) (record rows { members = rows.members ++ new_row member ∷ [] })
+member_stored club rows stored sound member fits =
+    let R : Member → Member → Type 0 = λ a b. a.name ≢ b.name in
+    let apart = apart_last R club.members member (apart_from_pairs R (club.members ++ member ∷ []) fits.unique.members) in
+    let none = used_none club member.name (keys_of_none club sound member.name apart) in
+    record {
+      members = ap (λ ms. ms ++ new_row member ∷ []) stored.members ∙ ap (λ n. map (member_row club) club.members
+          ++ record { member = member; used = n } ∷ []) (sym none) ∙ sym (map-append (member_row club) club.members (member ∷ []));
+      facilities = stored.facilities;
+      keys = stored.keys;
+      bookings = stored.bookings;
+      slots = stored.slots;
+      olders = stored.olders;
+      olders_once = stored.olders_once;
+      once = stored.once;
+    }
+
+pub credit_stored : (club : Club) (rows : Rows) → IsStoredAs club rows → (name : List ℕ) (points : ℕ)
+    → IsStoredAs (after (AddCredit name points) club) (record rows { members = map (credited_row name points) rows.members })
+credit_stored club rows stored name points = record {
+  members = ap (map (credited_row name points)) stored.members ∙ map_map (credited_row name points) (member_row club) club.members
+      ∙ sym (map_map (member_row (after (AddCredit name points) club)) (credited_member name points) club.members);
+  facilities = stored.facilities;
+  keys = stored.keys;
+  bookings = stored.bookings;
+  slots = stored.slots;
+  olders = stored.olders;
+  olders_once = stored.olders_once;
+  once = stored.once;
+}
+
+pub facility_stored : (club : Club) (rows : Rows) → IsStoredAs club rows → (facility : Facility)
+    → IsStoredAs (after (InsertFacility facility) club) (record rows { facilities = rows.facilities ++ facility ∷ [] })
+facility_stored club rows stored facility = record {
+  members = stored.members;
+  facilities = ap (λ fs. fs ++ facility ∷ []) stored.facilities;
+  keys = stored.keys;
+  bookings = stored.bookings;
+  slots = stored.slots;
+  olders = stored.olders;
+  olders_once = stored.olders_once;
+  once = stored.once;
+}
+
+-- where each booking's key has the owners that it had, each member's bookings have cost what they had
+used_same : (club : Club) (keys : List Key) (name : List ℕ)
+    → AllByRecursion (λ (b : Booking). list_any (λ (key : Key). bytes_eq key.name b.key) (filter (λ (key : Key). bytes_eq key.member name) keys)
+    ≡ is_key_of name club b.key) club.bookings
+    → used_by (record club { keys = keys }) name ≡ used_by club name
+used_same club keys name same = ap (sum_by cost_of) (filter_same _ _ club.bookings same)
+
+owned_more : (names owns : Key → Bool) (keys : List Key) (key : Key) → names key ≡ false
+    → list_any names (filter owns (keys ++ key ∷ [])) ≡ list_any names (filter owns keys)
+owned_more names owns [] key other = elim (owns key) as (λ b. list_any names (cond b (key ∷ []) []) ≡ false) [ true ↦ rw other refl | false ↦ refl ]
+owned_more names owns (k ∷ keys) key other =
+    elim (owns k) as (λ b. list_any names (cond b (k ∷ filter owns (keys ++ key ∷ [])) (filter owns (keys ++ key ∷ [])))
+    ≡ list_any names (cond b (k ∷ filter owns keys) (filter owns keys)))
+    [ true ↦ ap (λ b. names k || b) (owned_more names owns keys key other) | false ↦ owned_more names owns keys key other ]
+
+-- a key without an older root, and rows that keep their names and their older roots, change none
+older_pushed : (name : List ℕ) (keys : List Key) (key : Key) → key.older ≡ None
+    → option_and_then (λ (k : Key). k.older) (find (λ (k : Key). bytes_eq k.name name) (keys ++ key ∷ []))
+    ≡ option_and_then (λ (k : Key). k.older) (find (λ (k : Key). bytes_eq k.name name) keys)
+older_pushed name [] key new = elim (bytes_eq key.name name) as (λ b. option_and_then (λ (k : Key). k.older) (cond b (Some key) None) ≡ None) [
+  | true ↦
+      new
+  | false ↦ refl
+]
+older_pushed name (k ∷ keys) key new =
+    elim (bytes_eq k.name name) as (λ b. option_and_then (λ (j : Key). j.older) (cond b (Some k) (find (λ (j : Key). bytes_eq j.name name) (keys ++ key ∷ [])))
+    ≡ option_and_then (λ (j : Key). j.older) (cond b (Some k) (find (λ (j : Key). bytes_eq j.name name) keys)))
+    [ true ↦ refl | false ↦ older_pushed name keys key new ]
+
+older_mapped : (f : Key → Key) → ((key : Key) → (f key).name ≡ key.name) → ((key : Key) → (f key).older ≡ key.older) → (name : List ℕ) (keys : List Key)
+    → option_and_then (λ (k : Key). k.older) (find (λ (k : Key). bytes_eq k.name name) (map f keys))
+    ≡ option_and_then (λ (k : Key). k.older) (find (λ (k : Key). bytes_eq k.name name) keys)
+older_mapped f named same name [] = refl
+older_mapped f named same name (k ∷ keys) =
+    let more = older_mapped f named same name keys in
+    ap (λ n. option_and_then (λ (j : Key). j.older) (cond (bytes_eq n name) (Some (f k)) (find (λ (j : Key). bytes_eq j.name name) (map f keys)))) (named k)
+    ∙ (elim (bytes_eq k.name name) as (λ b. option_and_then (λ (j : Key). j.older) (cond b (Some (f k)) (find (λ (j : Key). bytes_eq j.name name) (map f keys)))
+    ≡ option_and_then (λ (j : Key). j.older) (cond b (Some k) (find (λ (j : Key). bytes_eq j.name name) keys)))
+    [ true ↦ same k | false ↦ more ])
+
+pub key_stored : (club : Club) (rows : Rows) → IsStoredAs club rows → IsSound club → (key : Key) → key.older ≡ None → IsSound (after (InsertKey key) club)
+    → IsStoredAs (after (InsertKey key) club) (record rows { keys = rows.keys ++ key ∷ [] })
+key_stored club rows stored sound key new fits = record {
+  members = stored.members ∙ map_agree (member_row club) (member_row (after (InsertKey key) club)) (λ (m : Member).
+      ap (λ n. let row : MemberRow = record { member = m; used = n } in row)
+      (sym (used_same club (club.keys ++ key ∷ []) m.name (each m.name club.bookings (all_of _ club.bookings sound.references.bookings))))) club.members;
+  facilities = stored.facilities;
+  keys = ap (λ ks. ks ++ key ∷ []) stored.keys;
+  bookings = stored.bookings;
+  slots = stored.slots;
+  olders = λ name. stored.olders name ∙ sym (older_pushed name club.keys key new);
+  olders_once = stored.olders_once;
+  once = stored.once;
+}
+  where
+    apart : AllByRecursion (λ (k : Key). k.name ≢ key.name) club.keys
+    apart = let R : Key → Key → Type 0 = λ a b. a.name ≢ b.name in apart_last R club.keys key (apart_from_pairs R (club.keys ++ key ∷ []) fits.unique.keys)
+
+    each : (name : List ℕ) (bookings : List Booking) → AllByRecursion (λ (b : Booking). Contains (map (λ (k : Key). k.name) club.keys) b.key) bookings
+        → AllByRecursion (λ (b : Booking). list_any (λ (k : Key). bytes_eq k.name b.key) (filter (λ (k : Key). bytes_eq k.member name) (club.keys ++ key ∷ []))
+        ≡ is_key_of name club b.key) bookings
+    each name [] h = tt
+    each name (b ∷ bookings) h =
+        let other : bytes_eq key.name b.key ≡ false = unequal key.name b.key (λ e.
+        not_among (λ (k : Key). k.name) club.keys key.name apart (subst (Contains (map (λ (k : Key). k.name) club.keys)) (sym e) h.0)) in
+        (owned_more (λ (k : Key). bytes_eq k.name b.key) (λ (k : Key). bytes_eq k.member name) club.keys key other, each name bookings h.1)
+
+owned_mapped : (names owns : Key → Bool) (f : Key → Key) → ((key : Key) → names (f key) ≡ names key) → ((key : Key) → owns (f key) ≡ owns key)
+    → (keys : List Key) → list_any names (filter owns (map f keys)) ≡ list_any names (filter owns keys)
+owned_mapped names owns f named owned [] = refl
+owned_mapped names owns f named owned (k ∷ keys) =
+    let more = owned_mapped names owns f named owned keys in
+    ap (λ b. list_any names (cond b (f k ∷ filter owns (map f keys)) (filter owns (map f keys)))) (owned k)
+    ∙ (elim (owns k) as (λ b. list_any names (cond b (f k ∷ filter owns (map f keys)) (filter owns (map f keys)))
+    ≡ list_any names (cond b (k ∷ filter owns keys) (filter owns keys)))
+    [ true ↦ let e = named k in cc | false ↦ more ])
+
+pub revoke_stored : (club : Club) (rows : Rows) → IsStoredAs club rows → (name : List ℕ)
+    → IsStoredAs (after (MarkRevoked name) club) (record rows { keys = map (revoked_key name) rows.keys })
+revoke_stored club rows stored name = record {
+  members = stored.members ∙ map_agree (member_row club) (member_row (after (MarkRevoked name) club)) (λ (m : Member).
+      ap (λ n. let row : MemberRow = record { member = m; used = n } in row)
+      (sym (used_same club (map (revoked_key name) club.keys) m.name (each m.name club.bookings)))) club.members;
+  facilities = stored.facilities;
+  keys = ap (map (revoked_key name)) stored.keys;
+  bookings = stored.bookings;
+  slots = stored.slots;
+  olders = λ n. stored.olders n ∙ sym (older_mapped (revoked_key name) (λ k. refl) (λ k. refl) n club.keys);
+  olders_once = stored.olders_once;
+  once = stored.once;
+}
+  where
+    each : (owner : List ℕ) (bookings : List Booking) → AllByRecursion (λ (b : Booking).
+        list_any (λ (k : Key). bytes_eq k.name b.key) (filter (λ (k : Key). bytes_eq k.member owner) (map (revoked_key name) club.keys))
+        ≡ is_key_of owner club b.key) bookings
+    each owner [] = tt
+    each owner (b ∷ bookings) = (
+      owned_mapped (λ (k : Key). bytes_eq k.name b.key) (λ (k : Key). bytes_eq k.member owner) (revoked_key name) (λ k. refl) (λ k.
+          refl) club.keys,
+      each owner bookings,
+    )
+
+-- the older roots after a rotation
+older_rotated : (name root : List ℕ) (until : ℕ) (n : List ℕ) (keys : List Key)
+    → option_and_then (λ (k : Key). k.older) (find (λ (k : Key). bytes_eq k.name n) (map (rotated_key name root until) keys))
+    ≡ option_and_then (λ (k : Key). if bytes_eq k.name name then Some (good_until until k.root) else k.older) (find (λ (k : Key). bytes_eq k.name n) keys)
+older_rotated name root until n [] = refl
+older_rotated name root until n (k ∷ keys) =
+    let older : Key → Option OlderRoot = λ key. if bytes_eq key.name name then Some (good_until until key.root) else key.older in
+    elim (bytes_eq k.name n) as (λ b. option_and_then (λ (j : Key). j.older)
+    (cond b (Some (rotated_key name root until k)) (find (λ (j : Key). bytes_eq j.name n) (map (rotated_key name root until) keys)))
+    ≡ option_and_then older (cond b (Some k) (find (λ (j : Key). bytes_eq j.name n) keys)))
+    [ true ↦ refl | false ↦ older_rotated name root until n keys ]
+
+-- of a key that was found under a name
+named_so : (name root n : List ℕ) (until : ℕ) (found : Option Key) → IfSome found (λ (k : Key). bytes_eq k.name n ≡ true)
+    → (bytes_eq name n ≡ true → (k : Key) × (found ≡ Some k) × (k.root ≡ root))
+    → option_and_then (λ (k : Key). if bytes_eq k.name name then Some (good_until until k.root) else k.older) found
+    ≡ (if bytes_eq name n then Some (good_until until root) else option_and_then (λ (k : Key). k.older) found)
+named_so name root n until None is has = go (bytes_eq name n) refl
+  where
+    go : (b : Bool) → bytes_eq name n ≡ b → ◌≡◌ {A = Option OlderRoot} None (if b then Some (good_until until root) else None)
+    go true same = absurd (let it = (has same).1 in cc)
+    go false other = refl
+named_so name root n until (Some k) is has = go (bytes_eq name n) refl
+  where
+    go : (b : Bool) → bytes_eq name n ≡ b → (if bytes_eq k.name name then Some (good_until until k.root) else k.older)
+        ≡ (if b then Some (good_until until root) else k.older)
+    go true same =
+        let it = has same in
+        let here : it.0 ≡ k = let e : Some it.0 ≡ Some k = sym it.1 in cc in
+        let rooted : k.root ≡ root = ap (λ (j : Key). j.root) (sym here) ∙ it.2 in
+        let named : bytes_eq k.name name ≡ true = (bytes_eq-Decides k.name name).1 ((bytes_eq-Decides k.name n).0 is
+        ∙ sym ((bytes_eq-Decides name n).0 same)) in
+        rw (named, rooted) refl
+    go false other =
+        let differs : bytes_eq k.name name ≡ false = false_from_ne_true (bytes_eq k.name name) (λ e.
+        true≢false (sym ((bytes_eq-Decides name n).1 (sym ((bytes_eq-Decides k.name name).0 e) ∙ (bytes_eq-Decides k.name n).0 is)) ∙ other)) in
+        rw differs refl
+
+pub rotate_stored : (club : Club) (rows : Rows) → IsStoredAs club rows → (name root was : List ℕ) (until : ℕ) → HasRoot name was club
+    → IsStoredAs (after (ReplaceRoot name root until) club) (record rows {
+      keys = map (rotated_key name root until) rows.keys;
+      olders =
+          put_older name (good_until until was) rows.olders;
+    })
+rotate_stored club rows stored name root was until has = record {
+  members = stored.members ∙ map_agree (member_row club) (member_row (after (ReplaceRoot name root until) club)) (λ (m : Member).
+      ap (λ n. let row : MemberRow = record { member = m; used = n } in row)
+      (sym (used_same club (map (rotated_key name root until) club.keys) m.name (each m.name club.bookings)))) club.members;
+  facilities = stored.facilities;
+  keys = ap (map (rotated_key name root until)) stored.keys;
+  bookings = stored.bookings;
+  slots = stored.slots;
+  once = stored.once;
+  olders = λ n.
+      older_put name (good_until until was) n rows.olders
+      ∙ ap (λ o. let returned : Option OlderRoot = if bytes_eq name n then Some (good_until until was) else o in
+      returned) (stored.olders n)
+      ∙ sym (named_so name was n until (key_named n club) (found_named n) (of_name n)) ∙ sym (older_rotated name root until n club.keys);
+  olders_once = olders_once name (good_until until was) rows.olders stored.olders_once;
+}
+  where
+    each : (owner : List ℕ) (bookings : List Booking) → AllByRecursion (λ (b : Booking).
+        list_any (λ (k : Key). bytes_eq k.name b.key) (filter (λ (k : Key). bytes_eq k.member owner) (map (rotated_key name root until) club.keys))
+        ≡ is_key_of owner club b.key) bookings
+    each owner [] = tt
+    each owner (b ∷ bookings) = (
+      owned_mapped (λ (k : Key). bytes_eq k.name b.key) (λ (k : Key). bytes_eq k.member owner) (rotated_key name root until) (λ k.
+          refl) (λ k. refl) club.keys,
+      each owner bookings,
+    )
+
+    found_named : (n : List ℕ) → IfSome (key_named n club) (λ (k : Key). bytes_eq k.name n ≡ true)
+    found_named n = go (key_named n club) refl
+      where
+        go : (o : Option Key) → key_named n club ≡ o → IfSome o (λ (k : Key). bytes_eq k.name n ≡ true)
+        go None is = tt
+        go (Some k) is = (found (λ (j : Key). bytes_eq j.name n) club.keys k is).1
+
+    of_name : (n : List ℕ) → bytes_eq name n ≡ true → (k : Key) × (key_named n club ≡ Some k) × (k.root ≡ was)
+    of_name n same = (has.0, ap (λ m. key_named m club) (sym ((bytes_eq-Decides name n).0 same)) ∙ has.1, has.2)
+
+-- ---- slots
+
+closed_use : (club : Club) (s : Slot) (b : Bool) → (if b then close_use (slot_use club s) else slot_use club s)
+    ≡ record { taken = taken_in s club.bookings; closed = is_closed s club || (b || false) }
+closed_use club s true = ap (λ c. let u : SlotUse = record { taken = taken_in s club.bookings; closed = c } in u) (sym (or_true (is_closed s club)))
+closed_use club s false = ap (λ c. let u : SlotUse = record { taken = taken_in s club.bookings; closed = c } in u) (sym (or_false (is_closed s club)))
+
+pub close_stored : (club : Club) (rows : Rows) → IsStoredAs club rows → (slot : Slot)
+    → IsStoredAs (after (MarkClosed slot) club) (record rows { slots = put_slot slot close_use rows.slots })
+close_stored club rows stored slot = record {
+  members = stored.members;
+  facilities = stored.facilities;
+  keys = stored.keys;
+  bookings = stored.bookings;
+  slots = λ s.
+      use_put slot close_use s rows.slots ∙ ap (λ u. let v : SlotUse = if same_slot slot s then close_use u else u in v) (stored.slots s)
+      ∙ closed_use club s (same_slot slot s)
+      ∙ ap (λ c. let u : SlotUse = record { taken = taken_in s club.bookings; closed = c } in
+      u) (sym (list_any-append (λ other. same_slot other s) club.closed (slot ∷ [])));
+  olders = stored.olders;
+  olders_once = stored.olders_once;
+  once = put_once slot close_use rows.slots stored.once;
+}
+
+-- ---- bookings
+
+abbrev pub book_rows : Rows → List ℕ → Booking → Rows
+book_rows rows member booking = record {
+  members = map (used_row member (λ n. n + cost_of booking)) rows.members;
+  facilities = rows.facilities;
+  keys = rows.keys;
+  slots = put_slot booking.slot (take_use (λ n. n + persons_taken booking)) rows.slots;
+  bookings = rows.bookings ++ booking ∷ [];
+  olders = rows.olders;
+}
+
+used_more : (club : Club) → IsSound club → (member : List ℕ) (booking : Booking) → IsOwnedBy member booking.key club → (m : Member)
+    → used_row member (λ n. n + cost_of booking) (member_row club m) ≡ member_row (after (InsertBooking booking) club) m
+used_more club sound member booking owned m =
+    let own : Booking → Bool = λ b. is_key_of m.name club b.key in
+    let more = sum_more cost_of own club.bookings booking in
+    let mine = owner_is club sound booking.key member m.name owned in
+    ap (λ n. let row : MemberRow = record { member = m; used = n } in row) (sum_is (bytes_eq m.name member) mine more)
+  where
+    sum_is : (b : Bool) → is_key_of m.name club booking.key ≡ b
+        → used_by (after (InsertBooking booking) club) m.name ≡ used_by club m.name + cond (is_key_of m.name club booking.key) (cost_of booking) 0
+        → (if b then used_by club m.name + cost_of booking else used_by club m.name) ≡ used_by (after (InsertBooking booking) club) m.name
+    sum_is true is more = let here : cond (is_key_of m.name club booking.key) (cost_of booking) 0 ≡ cost_of booking = ap (λ b. cond b (cost_of booking) 0) is in
+        omega (arith, more, here)
+    sum_is false is more = let here : cond (is_key_of m.name club booking.key) (cost_of booking) 0 ≡ 0 = ap (λ b. cond b (cost_of booking) 0) is in
+        omega (arith, more, here)
+
+pub taken_more : (club : Club) (booking : Booking) (s : Slot) → taken_in s (club.bookings ++ booking ∷ [])
+    ≡ (if same_slot booking.slot s then taken_in s club.bookings + persons_taken booking else taken_in s club.bookings)
+taken_more club booking s = go booking.cancelled (same_slot booking.slot s) refl refl (sum_more persons_of (is_in s) club.bookings booking)
+  where
+    counts : (c b : Bool) → booking.cancelled ≡ c → same_slot booking.slot s ≡ b
+        → cond (is_in s booking) (persons_of booking) 0 ≡ cond (not c && b) (persons_of booking) 0
+    counts c b is same = ap (λ x. cond (not x && same_slot booking.slot s) (persons_of booking) 0) is ∙ ap (λ x. cond (not c && x) (persons_of booking) 0) same
+
+    go : (c b : Bool) → booking.cancelled ≡ c → same_slot booking.slot s ≡ b
+        → taken_in s (club.bookings ++ booking ∷ []) ≡ taken_in s club.bookings + cond (is_in s booking) (persons_of booking) 0
+        → taken_in s (club.bookings ++ booking ∷ []) ≡ (if b then taken_in s club.bookings + persons_taken booking else taken_in s club.bookings)
+    go true true is same more =
+        let none : cond (is_in s booking) (persons_of booking) 0 ≡ 0 = counts true true is same in
+        let taken : persons_taken booking ≡ 0 = ap (λ c. if c then 0 else persons_of booking) is in omega (arith, more, none, taken)
+    go true false is same more = let none : cond (is_in s booking) (persons_of booking) 0 ≡ 0 = counts true false is same in omega (arith, more, none)
+    go false true is same more =
+        let some : cond (is_in s booking) (persons_of booking) 0 ≡ persons_of booking = counts false true is same in
+        let taken : persons_taken booking ≡ persons_of booking = ap (λ c. if c then 0 else persons_of booking) is in omega (arith, more, some, taken)
+    go false false is same more = let none : cond (is_in s booking) (persons_of booking) 0 ≡ 0 = counts false false is same in omega (arith, more, none)
+
+-- the use of a slot whose persons are recounted
+pub recounted_use : (club : Club) (s : Slot) (next : ℕ → ℕ) (b : Bool) (taken : ℕ)
+    → taken ≡ (if b then next (taken_in s club.bookings) else taken_in s club.bookings)
+    → (if b then take_use next (slot_use club s) else slot_use club s) ≡ record { taken = taken; closed = is_closed s club }
+recounted_use club s next true taken is = ap (λ n. let u : SlotUse = record { taken = n; closed = is_closed s club } in u) (sym is)
+recounted_use club s next false taken is = ap (λ n. let u : SlotUse = record { taken = n; closed = is_closed s club } in u) (sym is)
+
+pub booking_stored : (club : Club) (rows : Rows) → IsStoredAs club rows → IsSound club → (member : List ℕ) (booking : Booking)
+    → IsOwnedBy member booking.key club → IsStoredAs (after (InsertBooking booking) club) (book_rows rows member booking)
+booking_stored club rows stored sound member booking owned = record {
+  members = ap (map (used_row member (λ n. n + cost_of booking))) stored.members
+      ∙ map_map (used_row member (λ n. n + cost_of booking)) (member_row club) club.members
+      ∙ map_agree _ (member_row (after (InsertBooking booking) club)) (used_more club sound member booking owned) club.members;
+  facilities = stored.facilities;
+  keys = stored.keys;
+  bookings = ap (λ bs. bs ++ booking ∷ []) stored.bookings;
+  slots = λ s.
+      let next : ℕ → ℕ = λ n. n + persons_taken booking in
+      use_put booking.slot (take_use next) s rows.slots ∙ ap (λ u. let v : SlotUse = if same_slot booking.slot s then take_use next u else u in
+      v) (stored.slots s)
+      ∙ recounted_use club s next (same_slot booking.slot s) (taken_in s (club.bookings ++ booking ∷ [])) (taken_more club booking s);
+  olders = stored.olders;
+  olders_once = stored.olders_once;
+  once = put_once booking.slot (take_use (λ n. n + persons_taken booking)) rows.slots stored.once;
+}

@@ -1,0 +1,213 @@
+-- What the statements that put the row of a slot make of the tables.
+use Rattle.std.proofs.Common.{◌≡◌, ◌≢◌, ℕ, ◌/◌, pos, ℤ, Bool, true, false, if◌then◌else◌, Some, Option, Ok, List, [], ◌∷◌, ◌++◌, length, refl, sym, ap, ◌∙◌}
+use Rattle.std.specs.Prelude.{AllPairs}
+use Rattle.std.specs.List.{AllByRecursion, list_any}
+use Rattle.sqlite_tied.specs.Compute.{everything}
+use Rattle.sqlite_value.specs.declared.value.Value.{Value}
+use Rattle.sqlite_value.specs.declared.value.Value.TheVariants.{Null, Int}
+use Rattle.sqlite_sql.specs.declared.ops.BinaryOp.TheVariants.{Arith}
+use Rattle.sqlite_sql.specs.declared.ops.ArithOp.TheVariants.{Add}
+use Rattle.sqlite_sql.specs.Ops.{binary}
+use Rattle.sqlite.specs.Order.{Row, column}
+use Rattle.sqlite.specs.Tree.{rowid}
+use Rattle.sqlite.specs.Term.{Term, lit, col, op2, eval_all}
+use Rattle.sqlite.specs.Source.TheVariants.{Values}
+use Rattle.sqlite.specs.Command.TheVariants.{InsertOr}
+use Rattle.sqlite_schema.specs.declared.command.Conflict.TheVariants.{Abort}
+use Rattle.sqlite_schema.specs.declared.command.Upsert.{Upsert}
+use Rattle.sqlite_schema.specs.declared.program.Program.{Program}
+use Rattle.sqlite.specs.Kind.TheVariants.{Integer}
+use Rattle.sqlite.specs.Cast.{cast}
+use Rattle.sqlite.specs.Edit.{next_rowid}
+use Rattle.sqlite.specs.Rows.{shown}
+use Rattle.sqlite.specs.Effect.{value_rows}
+use Rattle.sqlite.specs.State.{State, Executes}
+use Rattle.sqlite.specs.Listing.{understood}
+use Rattle.sqlite.proofs.Callers.{IsPlain, command_of}
+use Rattle.club_values.specs.declared.slot.Slot.{Slot}
+use Rattle.club_rows.specs.Booking.{same_slot}
+use Rattle.club_rows.specs.Columns.{truth}
+use Rattle.club_core.specs.declared.slot_use.SlotUse.{SlotUse}
+use Rattle.club_tables.specs.declared.texts.TheConstants.{CLOSE_SLOT, ADD_TAKEN}
+use Rattle.club_tables.specs.Schema.{slots_table, club_schema}
+use Rattle.club_tables.specs.Columns.{whole, flag, name_values, use_values, slot_values}
+use Rattle.club_tables.specs.Stored.{Rows, SlotRow, no_slot_use}
+use Rattle.club_tables.specs.Tables.{HoldsRows, slots_tree}
+use Rattle.club_tables.proofs.statements.InsertLemmas.{cast_null, cast_int}
+use Rattle.club_tables.proofs.statements.HoldsRowsLemmas.{on_slots}
+use Rattle.club_tables.proofs.statements.SelectLemmas.{Apart, apart_from_pairs}
+use Rattle.club_tables.proofs.queries.BookingLemmas.{same_slots}
+use Rattle.club_tables.proofs.statements.PutLemmas as put
+use Rattle.club_tables.proofs.statements.PutLemmas.{first_clause, row_put}
+use Rattle.club_tables.proofs.lists.PutRows.{IsLone}
+use Rattle.club_tables.proofs.lists.SlotRows.{AreApart, slots_conflict, slot_table, changed, put_slot}
+
+abbrev target : Option (List ℕ)
+target = Some (1 ∷ 2 ∷ 3 ∷ [])
+
+abbrev sets_by : ℕ → List Term → Option Program
+sets_by = put.sets_by slots_table.name slots_table.columns slots_table.uniques slots_table.checks slots_table.references slots_tree target
+
+module _ (slot : Slot) where
+  abbrev is_of : SlotRow → Bool
+  is_of row = same_slot row.slot slot
+
+  each_lone : (row : SlotRow) (rows : List SlotRow) → AllByRecursion (λ (x : SlotRow). row.slot ≢ x.slot) rows
+      → AllByRecursion (IsLone slot_values is_of row) rows
+  each_lone row [] apart = tt
+  each_lone row (x ∷ rows) apart = (λ both. apart.0 (same_slots row.slot slot both.0 ∙ sym (same_slots x.slot slot both.1)), each_lone row rows apart.1)
+
+  lone : (rows : List SlotRow) → AreApart rows → Apart (IsLone slot_values is_of) rows
+  lone [] apart = tt
+  lone (row ∷ rows) apart = (each_lone row rows apart.0, lone rows apart.1)
+
+-- ---- a statement of this form
+
+module _ (text : List ℕ) (terms sets : List Term) (at : ℕ) (clause : Upsert) (is : command_of (understood club_schema text)
+    ≡ InsertOr 4 Abort (Values terms 6) (clause ∷ [])) (plain : IsPlain (understood club_schema text))
+    (aims : clause.target ≡ target) (by : clause.update ≡ sets_by at sets)
+    (old new : State) (rows : Rows) (holds_rows : HoldsRows old.now rows) (once : AllPairs (λ (a : SlotRow) (b : SlotRow). a.slot ≢ b.slot) rows.slots)
+    (slot : Slot)
+    (params : Row) (closed taken : Value)
+    (gives : value_rows params 6 (length terms / 6) terms ≡ (Null ∷ name_values slot ++ closed ∷ taken ∷ []) ∷ []) (casts_closed : cast Integer closed
+    ≡ closed) (casts_taken : cast Integer taken ≡ taken) (change : SlotUse → SlotUse) where
+  abbrev new_row : Row
+  new_row = Int (next_rowid (old.now.trees slots_tree)) ∷ name_values slot ++ closed ∷ taken ∷ []
+
+  -- what the clause yields for the slot's row
+  abbrev YieldsUse : SlotRow → Type 0
+  YieldsUse x = (id : ℤ) (there : Row) → same_slot x.slot slot ≡ true → eval_all sets ((params ++ rowid there ∷ shown slot_table new_row)
+      ∷ (Int id ∷ slot_values x) ∷ []) ≡ Int id ∷ Int id ∷ name_values x.slot ++ use_values (change x.held)
+
+  abbrev YieldsRow : SlotRow → Type 0
+  YieldsRow x = (id : ℤ) (there : Row) → same_slot x.slot slot ≡ true → eval_all sets ((params ++ rowid there ∷ shown slot_table new_row)
+      ∷ (Int id ∷ slot_values x) ∷ []) ≡ Int id ∷ Int id ∷ slot_values (changed slot change x)
+
+  each_yields : (xs : List SlotRow) → AllByRecursion YieldsUse xs → AllByRecursion YieldsRow xs
+  each_yields [] yields = tt
+  each_yields (x ∷ xs) yields = (
+    λ id there passes. yields.0 id there passes
+        ∙ ap (λ b. Int id ∷ Int id ∷ name_values x.slot ++ use_values (if b then change x.held else x.held)) (sym passes),
+    each_yields xs yields.1,
+  )
+
+  -- the slot's row is put, where there was one and where there was none
+  slot_put : (list_any (λ (row : SlotRow). same_slot row.slot slot) rows.slots ≡ false → closed ∷ taken ∷ [] ≡ use_values (change no_slot_use))
+      → ((there : Row) → column (params ++ rowid there ∷ shown slot_table new_row) at ≡ rowid there)
+      → AllByRecursion YieldsUse rows.slots → (count : ℕ) → Executes text params old new (Ok count)
+      → HoldsRows new.now (record rows { slots = put_slot slot change rows.slots })
+  slot_put values ids yields count executed =
+      let t = slots_table in
+      let kept : (x : SlotRow) → same_slot x.slot slot ≡ false → changed slot change x ≡ x =
+      λ x fails. ap (λ b. let y : SlotRow = record x { held = if b then change x.held else x.held } in y) fails in
+      let left = row_put t.name t.columns t.uniques t.checks t.references slots_tree target 4 refl text terms sets 6 at clause is plain aims by old new
+      holds_rows.schema params (name_values slot ++ closed ∷ taken ∷ []) gives
+      (rw (cast_null, cast_int (pos slot.day), cast_int (pos slot.hour), casts_closed, casts_taken) refl) (λ id.
+      rw (cast_int id, cast_int (pos slot.day), cast_int (pos slot.hour), casts_closed, casts_taken) refl)
+      slot_values (is_of slot) (changed slot change) kept (record { slot = slot; held = change no_slot_use }) (λ id x.
+      slots_conflict id (next_rowid (old.now.trees slots_tree)) x slot closed taken)
+      (λ id x. rw (cast_int id, cast_int (pos x.slot.day), cast_int (pos x.slot.hour), cast_int (pos (truth x.held.closed)), cast_int (pos x.held.taken)) refl)
+      rows.slots holds_rows.slots (lone slot rows.slots (apart_from_pairs (λ (a : SlotRow) (b : SlotRow). a.slot ≢ b.slot) rows.slots once))
+      (λ none. ap (λ vs. name_values slot ++ vs) (values none)) ids (each_yields rows.slots yields) count executed in
+      on_slots old.now new.now rows holds_rows left.0 left.3 left.2 (put_slot slot change rows.slots) left.1
+
+-- ---- a slot is closed
+
+abbrev close_terms : List Term
+close_terms = lit Null ∷ col 0 0 ∷ col 0 1 ∷ col 0 2 ∷ lit (Int (pos 1)) ∷ lit (Int (pos 0)) ∷ []
+
+abbrev close_sets : List Term
+close_sets = col 1 0 ∷ col 1 0 ∷ col 1 1 ∷ col 1 2 ∷ col 1 3 ∷ lit (Int (pos 1)) ∷ col 1 5 ∷ []
+
+abbrev close_clause : Upsert
+close_clause = first_clause (command_of (understood club_schema CLOSE_SLOT.now))
+
+close_is : command_of (understood club_schema CLOSE_SLOT.now) ≡ InsertOr 4 Abort (Values close_terms 6) (close_clause ∷ [])
+unfolding understood everything
+close_is = refl
+
+close_target : close_clause.target ≡ target
+unfolding understood everything
+close_target = refl
+
+close_update : close_clause.update ≡ sets_by 3 close_sets
+unfolding understood everything
+close_update = refl
+
+close_plain : IsPlain (understood club_schema CLOSE_SLOT.now)
+unfolding understood everything
+close_plain = (refl, refl)
+
+abbrev pub close_use : SlotUse → SlotUse
+close_use held = record held { closed = true }
+
+each_slot : (P : SlotRow → Type 0) → ((x : SlotRow) → P x) → (xs : List SlotRow) → AllByRecursion P xs
+each_slot P h [] = tt
+each_slot P h (x ∷ xs) = (h x, each_slot P h xs)
+
+pub slot_closed : (old new : State) (rows : Rows) → HoldsRows old.now rows → AllPairs (λ (a : SlotRow) (b : SlotRow). a.slot ≢ b.slot) rows.slots
+    → (slot : Slot) (count : ℕ)
+    → Executes CLOSE_SLOT.now (name_values slot) old new (Ok count) → HoldsRows new.now (record rows { slots = put_slot slot close_use rows.slots })
+slot_closed old new rows holds_rows once slot count executed =
+    slot_put CLOSE_SLOT.now close_terms close_sets 3 close_clause close_is close_plain close_target close_update old new rows holds_rows once slot
+    (name_values slot)
+    (whole 1) (whole 0) refl (cast_int (pos 1)) (cast_int (pos 0))
+    close_use (λ _. refl) (λ there. refl) (each_slot _ (λ x id there same. refl) rows.slots) count executed
+
+-- ---- persons are added to a slot
+
+abbrev taken_terms : List Term
+taken_terms = lit Null ∷ col 0 0 ∷ col 0 1 ∷ col 0 2 ∷ lit (Int (pos 0)) ∷ col 0 3 ∷ []
+
+abbrev taken_sets : List Term
+taken_sets = col 1 0 ∷ col 1 0 ∷ col 1 1 ∷ col 1 2 ∷ col 1 3 ∷ col 1 4 ∷ op2 (Arith Add) (col 1 5) (col 0 3) ∷ []
+
+abbrev taken_clause : Upsert
+taken_clause = first_clause (command_of (understood club_schema ADD_TAKEN.now))
+
+taken_is : command_of (understood club_schema ADD_TAKEN.now) ≡ InsertOr 4 Abort (Values taken_terms 6) (taken_clause ∷ [])
+unfolding understood everything
+taken_is = refl
+
+taken_target : taken_clause.target ≡ target
+unfolding understood everything
+taken_target = refl
+
+taken_update : taken_clause.update ≡ sets_by 4 taken_sets
+unfolding understood everything
+taken_update = refl
+
+taken_plain : IsPlain (understood club_schema ADD_TAKEN.now)
+unfolding understood everything
+taken_plain = (refl, refl)
+
+abbrev pub take_use : (ℕ → ℕ) → SlotUse → SlotUse
+take_use next held = record held { taken = next held.taken }
+
+-- what the sum is, of the slot's row
+abbrev pub Takes : Slot → ℤ → (ℕ → ℕ) → SlotRow → Type 0
+Takes slot persons next row = same_slot row.slot slot ≡ true → binary (Arith Add) (whole row.held.taken) (Int persons) ≡ whole (next row.held.taken)
+
+yields_there : (slot : Slot) (persons : ℤ) (next : ℕ → ℕ) (row : Row) (xs : List SlotRow) → AllByRecursion (Takes slot persons next) xs
+    → AllByRecursion (λ (x : SlotRow). (id : ℤ) (there : Row) → same_slot x.slot slot ≡ true
+    → eval_all taken_sets (((name_values slot ++ Int persons ∷ []) ++ rowid there ∷ shown slot_table row) ∷ (Int id ∷ slot_values x) ∷ [])
+    ≡ Int id ∷ Int id ∷ name_values x.slot ++ use_values (take_use next x.held)) xs
+yields_there slot persons next row [] h = tt
+yields_there slot persons next row (x ∷ xs) h = (
+  λ id there same. ap (λ v. Int id ∷ Int id ∷ name_values x.slot ++ flag x.held.closed ∷ v ∷ []) (h.0 same),
+  yields_there slot persons next row xs h.1,
+)
+
+pub slot_taken : (old new : State) (rows : Rows) → HoldsRows old.now rows → AllPairs (λ (a : SlotRow) (b : SlotRow). a.slot ≢ b.slot) rows.slots
+    → (slot : Slot) (persons : ℤ) (next : ℕ → ℕ)
+    → AllByRecursion (Takes slot persons next) rows.slots → (list_any (λ (row : SlotRow). same_slot row.slot slot) rows.slots ≡ false → persons ≡ pos (next 0))
+    → (count : ℕ)
+    → Executes ADD_TAKEN.now (name_values slot ++ Int persons ∷ []) old new (Ok count)
+    → HoldsRows new.now (record rows { slots = put_slot slot (take_use next) rows.slots })
+slot_taken old new rows holds_rows once slot persons next sums fresh count executed =
+    slot_put ADD_TAKEN.now taken_terms taken_sets 4 taken_clause taken_is taken_plain taken_target taken_update old new rows holds_rows once slot
+    (name_values slot
+    ++ Int persons ∷ []) (whole 0) (Int persons) refl (cast_int (pos 0)) (cast_int persons)
+    (take_use next) (λ none. ap (λ n. whole 0 ∷ Int n ∷ []) (fresh none)) (λ there.
+    refl) (yields_there slot persons next (Int (next_rowid (old.now.trees slots_tree)) ∷ name_values slot ++ whole 0 ∷ Int persons ∷ []) rows.slots sums)
+    count executed

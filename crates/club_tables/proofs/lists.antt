@@ -1,0 +1,11 @@
+-- Lists of rows, and the values that are read from them.
+
+pub mod RowLemmas
+pub mod FindLemmas
+pub mod FirstLemmas
+pub mod BookingRows
+pub mod PutRows
+pub mod SlotRows
+pub mod OwnerLemmas
+pub mod SumLemmas
+pub mod SlotUseLemmas

@@ -1,0 +1,93 @@
+-- Rows and the bookings that are read from them.
+use Rattle.std.proofs.Common.{◌≡◌, ℕ, zero, suc, ◌+◌, ◌<◌, Bool, true, false, List, [], ◌∷◌, ◌++◌, length, take, map, refl, sym, subst, ◌∙◌, arith}
+use Rattle.std.specs.Prelude.{All, slice_index_or}
+use Rattle.std.specs.List.{AllByRecursion}
+use Rattle.std.proofs.lemmas.List.{take_more}
+use Rattle.std.proofs.lemmas.List.Elements.{All-from_recursion}
+use Rattle.sqlite.specs.Order.{Row}
+use Rattle.club_rows.specs.Columns.{truth}
+use Rattle.club_rows.specs.declared.booking.Booking.{Booking}
+use Rattle.club_core.specs.Club.{Club}
+use Rattle.club_rows.specs.Rows.{IsBooking}
+use Rattle.club_core.specs.Sheet.{AreRowsOf}
+use Rattle.club_tables.specs.Columns.{booking_values, HasValues}
+use Rattle.club_tables.specs.Sheet.{ShowsDay, AreBookings}
+use Rattle.club_tables.proofs.lists.RowLemmas.{zip_more}
+
+pub truths : (a b : Bool) → truth a ≡ truth b → a ≡ b
+truths true true h = refl
+truths true false h = absurd (omega arith)
+truths false true h = absurd (omega arith)
+truths false false h = refl
+
+-- a row is of one booking
+pub one_booking : (a b : Booking) → HasValues (booking_values a) (booking_values b) → b ≡ a
+one_booking a b h =
+    let flags : truth b.cancelled ≡ truth a.cancelled = cc in
+    let key : b.key ≡ a.key = cc in
+    let number : b.number ≡ a.number = cc in
+    let facility : b.slot.facility ≡ a.slot.facility = cc in
+    let day : b.slot.day ≡ a.slot.day = cc in
+    let hour : b.slot.hour ≡ a.slot.hour = cc in
+    let guests : b.guests ≡ a.guests = cc in
+    let charge : b.charge ≡ a.charge = cc in
+    let left : b.left ≡ a.left = cc in
+    let cancelled = truths b.cancelled a.cancelled flags in
+    let refund : b.refund ≡ a.refund = cc in
+    λ i. record {
+      key = key i;
+      number = number i;
+      slot = record { facility = facility i; day = day i; hour = hour i };
+      guests = guests i;
+      charge = charge i;
+      left = left i;
+      cancelled = cancelled i;
+      refund = refund i;
+    }
+
+pub bookings_of_rows : (bookings others : List Booking) → AreBookings (map booking_values bookings) others → others ≡ bookings
+bookings_of_rows [] [] h = refl
+bookings_of_rows [] (b ∷ others) h = absurd h
+bookings_of_rows (a ∷ bookings) [] h = absurd h
+bookings_of_rows (a ∷ bookings) (b ∷ others) h = let first = one_booking a b h.0.1 in let more = bookings_of_rows bookings others h.1 in cc
+
+-- the bookings that were read are the day's
+pub day_of_rows : (club : Club) (day : ℕ) (rows : List Row) (bookings : List Booking) → ShowsDay club day rows → AreBookings rows bookings
+    → AreRowsOf club day bookings
+day_of_rows club day rows bookings shows are =
+    let read = subst (λ rs. AreBookings rs bookings) shows.2 are in
+    subst (AreRowsOf club day) (sym (bookings_of_rows shows.0 bookings read)) shows.1
+
+pub within_limits : (rows : List Row) (bookings : List Booking) → AreBookings rows bookings → All IsBooking bookings
+within_limits rows bookings are = All-from_recursion IsBooking bookings (each rows bookings are)
+  where
+    each : (rows : List Row) (bookings : List Booking) → AreBookings rows bookings → AllByRecursion IsBooking bookings
+    each [] [] h = tt
+    each [] (b ∷ bookings) h = absurd h
+    each (r ∷ rows) [] h = absurd h
+    each (r ∷ rows) (b ∷ bookings) h = (h.0.0, each rows bookings h.1)
+
+abbrev IsOfRow : Row → Booking → Type 0
+IsOfRow row booking = IsBooking booking × HasValues row (booking_values booking)
+
+-- one row more is read
+pub bookings_more : (rows : List Row) (k : ℕ) (row : Row) (bookings : List Booking) (b : Booking) → k < length rows → row ≡ slice_index_or rows k row
+    → AreBookings (take k rows) bookings → IsOfRow row b
+    → AreBookings (take (k + 1) rows) (bookings ++ b ∷ [])
+bookings_more rows k row bookings b low is are of =
+    let next : take (k + 1) rows ≡ take k rows ++ row ∷ [] = take_more rows k row low ∙ (λ i. take k rows ++ (sym is) i ∷ []) in
+    rw next (zip_more IsOfRow (take k rows) bookings row b are of)
+
+booking_at : (rows : List Row) (bookings : List Booking) (k : ℕ) (d : Row) → AreBookings rows bookings → k < length rows → (b : Booking)
+    × IsOfRow (slice_index_or rows k d) b
+booking_at [] bookings k d are low = absurd (omega arith)
+booking_at (r ∷ rows) [] k d are low = absurd are
+booking_at (r ∷ rows) (b ∷ bookings) zero d are low = (b, are.0)
+booking_at (r ∷ rows) (b ∷ bookings) (suc k) d are low = booking_at rows bookings k d are.1 (omega arith)
+
+-- a row of no booking
+pub no_bookings : (rows : List Row) (k : ℕ) (row : Row) → k < length rows → row ≡ slice_index_or rows k row → ((b : Booking) → ¬ (IsOfRow row b))
+    → (bookings : List Booking) → ¬ (AreBookings rows bookings)
+no_bookings rows k row low is none bookings are =
+    let there = booking_at rows bookings k row are low in
+    none there.0 (subst (λ r. IsOfRow r there.0) (sym is) there.1)

@@ -1,0 +1,157 @@
+-- Lists, sums over parts of them, and whose a booking is.
+use Rattle.std.proofs.Common.{◌≡◌, ◌≢◌, ℕ, zero, suc, ◌+◌, Bool, true, false, ◌&&◌, ◌||◌, cond, List, [], ◌∷◌, ◌++◌, map, Some, Contains, refl, sym, ap, ◌∙◌}
+use Rattle.std.proofs.Common.{arith, true≢false}
+use Rattle.std.specs.Prelude.{All, filter, find, sum_by}
+use Rattle.std.specs.List.{AllByRecursion, list_any}
+use Rattle.std.specs.Str.{bytes_eq}
+use Rattle.std.proofs.lemmas.Bool.{false_from_ne_true}
+use Rattle.std.proofs.lemmas.List.Sums.{sum_by-cons, sum_by_push}
+use Rattle.std.proofs.lemmas.Slice.Eq.{bytes_eq-Decides}
+use Rattle.club_rows.specs.declared.key.Key.{Key}
+use Rattle.club_core.specs.Club.{Club, IsSound, is_key_of}
+use Rattle.club_tables.specs.ReadsAndChanges.{IsOwnedBy}
+use Rattle.club_tables.proofs.queries.MemberLemmas.{any_owned}
+use Rattle.club_tables.proofs.statements.SelectLemmas.{Apart, apart_from_pairs, fail_beside}
+
+-- ---- lists
+
+pub all_of : {X : Type 0} (P : X → Type 0) (xs : List X) → All P xs → AllByRecursion P xs
+all_of P [] h = tt
+all_of P (x ∷ xs) h = (h 0 x (omega arith), all_of P xs (λ k d low. h (suc k) d (omega arith)))
+
+pub map_agree : {X Y : Type 0} (f g : X → Y) → ((x : X) → f x ≡ g x) → (xs : List X) → map f xs ≡ map g xs
+map_agree f g same [] = refl
+map_agree f g same (x ∷ xs) = let e = same x in let more = map_agree f g same xs in cc
+
+pub filter_same : {X : Type 0} (p q : X → Bool) (xs : List X) → AllByRecursion (λ x. p x ≡ q x) xs → filter p xs ≡ filter q xs
+filter_same p q [] h = refl
+filter_same p q (x ∷ xs) h = let e = h.0 in let more = filter_same p q xs h.1 in rw (e, more) refl
+
+pub none_of : {X : Type 0} (xs : List X) → filter (λ x. false) xs ≡ []
+none_of [] = refl
+none_of (x ∷ xs) = none_of xs
+
+pub all_last : {X : Type 0} (P : X → Type 0) (xs : List X) (y : X) → AllByRecursion P (xs ++ y ∷ []) → P y
+all_last P [] y h = h.0
+all_last P (x ∷ xs) y h = all_last P xs y h.1
+
+pub apart_last : {X : Type 0} (R : X → X → Type 0) (xs : List X) (y : X) → Apart R (xs ++ y ∷ []) → AllByRecursion (λ x. R x y) xs
+apart_last R [] y h = tt
+apart_last R (x ∷ xs) y h = (all_last (R x) xs y h.0, apart_last R xs y h.1)
+
+pub not_among : {X : Type 0} (f : X → List ℕ) (xs : List X) (y : List ℕ) → AllByRecursion (λ x. f x ≢ y) xs → Contains (map f xs) y → ⊥
+not_among f [] y apart has = absurd (omega (arith, has.1))
+not_among f (x ∷ xs) y apart (zero, low, is) = apart.0 is
+not_among f (x ∷ xs) y apart (suc k, low, is) = not_among f xs y apart.1 (k, omega (arith, low), is)
+
+pub unequal : (a b : List ℕ) → a ≢ b → bytes_eq a b ≡ false
+unequal a b apart = false_from_ne_true (bytes_eq a b) (λ h. apart ((bytes_eq-Decides a b).0 h))
+
+pub bytes_eq-sym : (a b : List ℕ) → bytes_eq a b ≡ bytes_eq b a
+bytes_eq-sym a b = go (bytes_eq a b) refl
+  where
+    go : (x : Bool) → bytes_eq a b ≡ x → x ≡ bytes_eq b a
+    go true h = sym ((bytes_eq-Decides b a).1 (sym ((bytes_eq-Decides a b).0 h)))
+    go false h = sym (unequal b a (λ e. true≢false (sym ((bytes_eq-Decides a b).1 (sym e)) ∙ h)))
+
+-- ---- sums
+
+sum_picked : {X : Type 0} (w : X → ℕ) (q : X → Bool) (xs : List X) → sum_by w (filter q xs) ≡ sum_by (λ x. cond (q x) (w x) 0) xs
+sum_picked w q [] = refl
+sum_picked {X} w q (x ∷ xs) = go (q x) refl (sum_picked w q xs)
+  where
+    c : X → ℕ
+    c y = cond (q y) (w y) 0
+
+    go : (b : Bool) → q x ≡ b → sum_by w (filter q xs) ≡ sum_by c xs → sum_by w (cond b (x ∷ filter q xs) (filter q xs)) ≡ sum_by c (x ∷ xs)
+    go true is more = let here : c x ≡ w x = ap (λ b. cond b (w x) 0) is in omega (arith, sum_by-cons w x (filter q xs), sum_by-cons c x xs, more, here)
+    go false is more = let here : c x ≡ 0 = ap (λ b. cond b (w x) 0) is in omega (arith, sum_by-cons c x xs, more, here)
+
+-- one more element
+pub sum_more : {X : Type 0} (w : X → ℕ) (q : X → Bool) (xs : List X) (x : X) → sum_by w (filter q (xs ++ x ∷ [])) ≡ sum_by w (filter q xs) + cond (q x) (w x) 0
+sum_more {X} w q xs x =
+    let c : X → ℕ = λ y. cond (q y) (w y) 0 in
+    omega (arith, sum_picked w q (xs ++ x ∷ []), sum_picked w q xs, sum_by_push c xs x)
+
+module _ {X : Type 0} (p : X → Bool) (f : X → X) (kept : (x : X) → p x ≡ false → f x ≡ x) where
+  abbrev pub IsAlone : X → X → Type 0
+  IsAlone x y = ¬ ((p x ≡ true) × (p y ≡ true))
+
+  pub none_changed : (xs : List X) → AllByRecursion (λ x. p x ≡ false) xs → map f xs ≡ xs
+  none_changed [] h = refl
+  none_changed (x ∷ xs) h = let e = kept x h.0 in let more = none_changed xs h.1 in cc
+
+  pub others_fail : (x : X) → p x ≡ true → (xs : List X) → AllByRecursion (IsAlone x) xs → AllByRecursion (λ y. p y ≡ false) xs
+  others_fail x is xs alone = fail_beside IsAlone p (λ a b pa pb apart. apart (pa, pb)) x is xs alone
+
+  -- the sum once the one element that passes has changed
+  sum_changed : (c : X → ℕ) (xs : List X) (x : X) → Apart IsAlone xs → find p xs ≡ Some x → sum_by c (map f xs) + c x ≡ sum_by c xs + c (f x)
+  sum_changed c [] x alone is = absurd cc
+  sum_changed c (y ∷ xs) x alone is = go (sum_changed c xs x alone.1) (p y) refl is
+    where
+      go : (find p xs ≡ Some x → sum_by c (map f xs) + c x ≡ sum_by c xs + c (f x)) → (b : Bool) → p y ≡ b → cond b (Some y) (find p xs) ≡ Some x
+          → sum_by c (map f (y ∷ xs)) + c x ≡ sum_by c (y ∷ xs) + c (f x)
+      go later true passes e =
+          let same : y ≡ x = cc in
+          let rest : sum_by c (map f xs) ≡ sum_by c xs = ap (sum_by c) (none_changed xs (others_fail y passes xs alone.0)) in
+          omega (arith, sum_by-cons c (f y) (map f xs), sum_by-cons c y xs, rest, ap c same, ap (λ z. c (f z)) same)
+      go later false fails e = omega (arith, sum_by-cons c (f y) (map f xs), sum_by-cons c y xs, later e, ap c (kept y fails))
+
+  pub picked_changed : (w : X → ℕ) (q : X → Bool) (xs : List X) (x : X) → Apart IsAlone xs → find p xs ≡ Some x
+      → sum_by w (filter q (map f xs)) + cond (q x) (w x) 0 ≡ sum_by w (filter q xs) + cond (q (f x)) (w (f x)) 0
+  picked_changed w q xs x alone is =
+      let c : X → ℕ = λ y. cond (q y) (w y) 0 in
+      omega (arith, sum_picked w q (map f xs), sum_picked w q xs, sum_changed c xs x alone is)
+
+-- ---- whose a booking is
+
+module _ (names owns : Key → Bool) where
+  abbrev Lone : Key → Key → Type 0
+  Lone a b = ¬ ((names a ≡ true) × (names b ≡ true))
+
+  any_missing : (keys : List Key) → AllByRecursion (λ key. names key ≡ false) keys → list_any (λ key. names key && (owns key && true)) keys ≡ false
+  any_missing [] h = refl
+  any_missing (key ∷ keys) h = rw h.0 (any_missing keys h.1)
+
+  owner_any : (keys : List Key) (row : Key) → Apart Lone keys → find names keys ≡ Some row → list_any (λ key. names key && (owns key && true)) keys ≡ owns row
+  owner_any [] row lone is = absurd cc
+  owner_any (key ∷ keys) row lone is = go (owner_any keys row lone.1) (names key) refl is
+    where
+      either : (b : Bool) → ((b && true) || false) ≡ b
+      either true = refl
+      either false = refl
+
+      go : (find names keys ≡ Some row → list_any (λ key. names key && (owns key && true)) keys ≡ owns row) → (b : Bool) → names key ≡ b
+          → cond b (Some key) (find names keys) ≡ Some row → ((b && (owns key && true)) || list_any (λ key. names key && (owns key && true)) keys) ≡ owns row
+      go later true named e =
+          let same : key ≡ row = cc in
+          let missing = fail_beside Lone names (λ a b pa pb apart. apart (pa, pb)) key named keys lone.0 in
+          rw (any_missing keys missing) (either (owns key) ∙ ap owns same)
+      go later false other e = later e
+
+and_true' : (b : Bool) → (b && true) ≡ b
+and_true' true = refl
+and_true' false = refl
+
+pub same_name : (name a b : List ℕ) → bytes_eq a name ≡ true → bytes_eq b name ≡ true → a ≡ b
+same_name name a b p q = (bytes_eq-Decides a name).0 p ∙ sym ((bytes_eq-Decides b name).0 q)
+
+lone_keys : (name : List ℕ) (keys : List Key) → Apart (λ (a : Key) (b : Key). a.name ≢ b.name) keys
+    → Apart (Lone (λ (key : Key). bytes_eq key.name name) (λ _. true)) keys
+lone_keys name [] apart = tt
+lone_keys name (key ∷ keys) apart = (each keys apart.0, lone_keys name keys apart.1)
+  where
+    each : (others : List Key) → AllByRecursion (λ (other : Key). key.name ≢ other.name) others
+        → AllByRecursion (λ (other : Key). ¬ ((bytes_eq key.name name ≡ true) × (bytes_eq other.name name ≡ true))) others
+    each [] apart = tt
+    each (other ∷ others) apart = (λ both. apart.0 (same_name name key.name other.name both.0 both.1), each others apart.1)
+
+-- a key is the member's whose name its row holds
+pub owner_is : (club : Club) → IsSound club → (key member name : List ℕ) → IsOwnedBy member key club → is_key_of name club key ≡ bytes_eq name member
+owner_is club sound key member name owned =
+    let names : Key → Bool = λ row. bytes_eq row.name key in
+    let owns : Key → Bool = λ row. bytes_eq row.member name in
+    let R : Key → Key → Type 0 = λ a b. a.name ≢ b.name in
+    let lone = lone_keys key club.keys (apart_from_pairs R club.keys sound.unique.keys) in
+    sym (and_true' _) ∙ sym (any_owned names owns true club.keys) ∙ owner_any names owns club.keys owned.0 lone owned.1
+    ∙ ap (λ m. bytes_eq m name) owned.2 ∙ bytes_eq-sym member name

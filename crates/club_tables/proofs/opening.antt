@@ -1,0 +1,11 @@
+-- The tables as they are made, migrated and opened.
+
+pub mod MakesLemmas
+pub mod MakingLemmas
+pub mod DeskLemmas
+pub mod VersionLemmas
+pub mod MigrateLemmas
+pub mod IndexLemmas
+pub mod OpenLemmas
+pub mod ReadyLemmas
+pub mod PrepareLemmas

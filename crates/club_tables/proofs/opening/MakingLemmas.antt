@@ -1,0 +1,179 @@
+-- The batch that makes the tables.
+use Rattle.std.proofs.Common.{◌≡◌, pos, List, [], ◌∷◌, refl, sym, ap, subst, ◌∙◌, true≢false, arith}
+use Rattle.std.specs.Prelude.{is_ok}
+use Rattle.sqlite_tied.specs.Compute.{everything}
+use Rattle.sqlite_value.specs.declared.value.Value.TheVariants.{Null, Int}
+use Rattle.sqlite.specs.Store.{Ghosts}
+use Rattle.sqlite.specs.Term.{Term, lit}
+use Rattle.sqlite.specs.Source.TheVariants.{Values}
+use Rattle.sqlite.specs.Command.TheVariants.{Insert}
+use Rattle.sqlite.specs.Effect.{Database}
+use Rattle.sqlite.specs.Listing.{understood}
+use Rattle.sqlite.specs.State.{ExecutesIn}
+use Rattle.sqlite.specs.Held.{Held, state}
+use Rattle.sqlite.proofs.Callers.{IsPlain, command_of}
+use Rattle.club_core.specs.Club.{IsSound, empty_club}
+use Rattle.club_tables.specs.declared.texts.TheConstants.{MAKE_DESK, MAKE_MEMBERS, MAKE_FACILITIES, MAKE_KEYS, MAKE_SLOTS, MAKE_BOOKINGS, MAKE_KEYS_BY_MEMBER}
+use Rattle.club_tables.specs.declared.texts.TheConstants.{MAKE_OLD_ROOTS, MAKE_BOOKINGS_BY_KEY, ADD_VERSION}
+use Rattle.club_tables.specs.Schema.{no_schema, desk_table, members_table, facilities_table, keys_table, slots_table, bookings_table, six_tables}
+use Rattle.club_tables.specs.Schema.{old_roots_table, keys_by_member, first_schema, unindexed_schema, bookings_by_key, club_schema}
+use Rattle.club_tables.specs.Columns.{whole, version_values}
+use Rattle.club_tables.specs.Opening.{table_batch, HasNoDesk}
+use Rattle.club_tables.specs.Stored.{Rows, IsStoredAs}
+use Rattle.club_tables.specs.Tables.{HoldsClub, HoldsRows, Holds}
+use Rattle.club_tables.specs.Transaction.{Ran, transaction_start}
+use Rattle.club_tables.proofs.opening.DeskLemmas.{desk_made}
+use Rattle.club_tables.proofs.statements.InsertLemmas.{creates, indexes, inserts, cast_null, cast_int}
+use Rattle.club_tables.proofs.lists.RowLemmas.{holds_more, holds_none}
+use Rattle.club_tables.proofs.opening.MakesLemmas.{schema_1, schema_2, schema_3, schema_4, schema_5, makes_desk, makes_members, makes_facilities, makes_keys}
+use Rattle.club_tables.proofs.opening.MakesLemmas.{
+  makes_slots,
+  makes_bookings,
+  keys_made,
+  bookings_made,
+  makes_keys_by_member,
+  makes_old_roots,
+  makes_bookings_by_key,
+}
+use Rattle.club_tables.proofs.opening.MakesLemmas.{makes_again, makes_over_unindexed, makes_over_first}
+
+abbrev version_terms : List Term
+version_terms = lit Null ∷ lit (Int (pos 2)) ∷ []
+
+version_is : command_of (understood club_schema ADD_VERSION.now) ≡ Insert 0 (Values version_terms 2)
+unfolding understood everything
+version_is = refl
+
+version_plain : IsPlain (understood club_schema ADD_VERSION.now)
+unfolding understood everything
+version_plain = (refl, refl)
+
+pub empty_is_sound : IsSound empty_club
+empty_is_sound = record {
+  rows = record {
+    members = λ k d low. absurd (omega arith);
+    facilities = λ k d low. absurd (omega arith);
+    keys = λ k d low. absurd (omega arith);
+    bookings =
+        λ k d low. absurd (omega arith);
+    closed = λ k d low. absurd (omega arith);
+  };
+  unique = record {
+    members = λ i j d less low. absurd (omega arith);
+    facilities = λ i j d less low. absurd (omega arith);
+    keys = λ i j d less low. absurd (omega arith);
+    bookings = λ i j d less low. absurd (omega arith);
+    closed = λ i j d less low. absurd (omega arith);
+  };
+  references = record {
+    keys = λ k d low. absurd (omega arith);
+    bookings = λ k d low. absurd (omega arith);
+    facilities = λ k d low. absurd (omega arith);
+    closed =
+        λ k d low. absurd (omega arith);
+  };
+  balances = λ k d low. absurd (omega arith);
+  places = λ k d low. absurd (omega arith);
+}
+
+abbrev no_rows : Rows
+no_rows = record { members = []; facilities = []; keys = []; slots = []; bookings = []; olders = [] }
+
+empty_is_stored : IsStoredAs empty_club no_rows
+empty_is_stored = record {
+  members = refl;
+  facilities = refl;
+  keys = refl;
+  bookings = refl;
+  slots = λ slot. refl;
+  once =
+      λ i j d less low. absurd (omega arith);
+  olders = λ name. refl;
+  olders_once = λ i j d less low. absurd (omega arith);
+}
+
+module _ {S : Type 0} (g : Ghosts S) (old : Held S) (db : Database) (ran : Ran g table_batch old db) where
+  -- over no tables it makes those of the empty club
+  pub made_tables : (state g old).now.schema ≡ no_schema → HoldsClub db empty_club
+  made_tables has =
+      let t1 = ran.turns in
+      let t2 = t1.3 in
+      let t3 = t2.3 in
+      let t4 = t3.3 in
+      let t5 = t4.3 in
+      let t6 = t5.3 in
+      let t7 = t6.3 in
+      let t8 = t7.3 in
+      let t9 = t8.3 in
+      let t10 = t9.3 in
+      let c1 = creates (state g (transaction_start old)) (state g t1.0) no_schema has MAKE_DESK.now makes_desk.plain desk_table makes_desk.is makes_desk.whole
+      makes_desk.defined makes_desk.uncounted t1.1 t1.2 in
+      let c2 = creates (state g t1.0) (state g t2.0) schema_1 c1.1 MAKE_MEMBERS.now makes_members.plain members_table makes_members.is makes_members.whole
+      makes_members.defined makes_members.uncounted t2.1 t2.2 in
+      let c3 = creates (state g t2.0) (state g t3.0) schema_2 c2.1 MAKE_FACILITIES.now makes_facilities.plain facilities_table makes_facilities.is
+      makes_facilities.whole makes_facilities.defined makes_facilities.uncounted t3.1 t3.2 in
+      let c4 = creates (state g t3.0) (state g t4.0) schema_3 c3.1 MAKE_KEYS.now makes_keys.plain keys_table makes_keys.is makes_keys.whole makes_keys.defined
+      makes_keys.uncounted t4.1 t4.2 in
+      let c5 = creates (state g t4.0) (state g t5.0) schema_4 c4.1 MAKE_SLOTS.now makes_slots.plain slots_table makes_slots.is makes_slots.whole
+      makes_slots.defined makes_slots.uncounted t5.1 t5.2 in
+      let c6 = creates (state g t5.0) (state g t6.0) schema_5 c5.1 MAKE_BOOKINGS.now makes_bookings.plain bookings_table makes_bookings.is makes_bookings.whole
+      makes_bookings.defined makes_bookings.uncounted t6.1 t6.2 in
+      let c7 = indexes (state g t6.0) (state g t7.0) six_tables c6.1 MAKE_KEYS_BY_MEMBER.now makes_keys_by_member.plain 3 keys_made keys_by_member
+      makes_keys_by_member.listed makes_keys_by_member.is makes_keys_by_member.whole makes_keys_by_member.defined t7.1 t7.2 in
+      let c8 = creates (state g t7.0) (state g t8.0) first_schema c7.0 MAKE_OLD_ROOTS.now makes_old_roots.plain old_roots_table makes_old_roots.is
+      makes_old_roots.whole makes_old_roots.defined makes_old_roots.uncounted t8.1 t8.2 in
+      let c9 = indexes (state g t8.0) (state g t9.0) unindexed_schema c8.1 MAKE_BOOKINGS_BY_KEY.now makes_bookings_by_key.plain 5 bookings_made bookings_by_key
+      makes_bookings_by_key.listed makes_bookings_by_key.is makes_bookings_by_key.whole makes_bookings_by_key.defined t9.1 t9.2 in
+      let c10 = inserts (state g t9.0) (state g t10.0) club_schema c9.0 ADD_VERSION.now version_plain 0 desk_table version_terms 2 [] (whole 2 ∷ []) refl
+      version_is refl refl refl (rw (cast_null, cast_int (pos 2))) (λ row. refl) t10.1 t10.2 in
+      let kept = c9.1 in
+      let desk : (state g t9.0).now.trees 0 ≡ [] = kept.0 ∙ c8.3.0 ∙ c7.1.0 ∙ c6.3.0 ∙ c5.3.0 ∙ c4.3.0 ∙ c3.3.0 ∙ c2.3.0 ∙ c1.2 in
+      let members : (state g t9.0).now.trees 1 ≡ [] = kept.1.0 ∙ c8.3.1.0 ∙ c7.1.1.0 ∙ c6.3.1.0 ∙ c5.3.1.0 ∙ c4.3.1.0 ∙ c3.3.1.0 ∙ c2.2 in
+      let facilities : (state g t9.0).now.trees 3 ≡ [] = kept.1.1.0 ∙ c8.3.1.1.0 ∙ c7.1.1.1.0 ∙ c6.3.1.1.0 ∙ c5.3.1.1.0 ∙ c4.3.1.1.0 ∙ c3.2 in
+      let keys : (state g t9.0).now.trees 5 ≡ [] = kept.1.1.1.0 ∙ c8.3.1.1.1.0 ∙ c7.1.1.1.1.0 ∙ c6.3.1.1.1.0 ∙ c5.3.1.1.1.0 ∙ c4.2 in
+      let slots : (state g t9.0).now.trees 7 ≡ [] = kept.1.1.1.1.0 ∙ c8.3.1.1.1.1.0 ∙ c7.1.1.1.1.1.0 ∙ c6.3.1.1.1.1.0 ∙ c5.2 in
+      let bookings : (state g t9.0).now.trees 9 ≡ [] = kept.1.1.1.1.1.0 ∙ c8.3.1.1.1.1.1.0 ∙ c7.1.1.1.1.1.1.0 ∙ c6.2 in
+      let olders : (state g t9.0).now.trees 12 ≡ [] = kept.1.1.1.1.1.1.0 ∙ c8.2 in
+      let others = c10.2 in
+      let is : db ≡ (state g t10.0).now = ran.is ∙ ap (λ h. (state g h).now) t10.3 in
+      let before : Holds version_values ((state g t9.0).now.trees 0) [] = holds_none version_values _ desk in
+      let holds_rows : HoldsRows (state g t10.0).now no_rows = record {
+        schema = c10.0;
+        version = subst (λ rows. Holds version_values rows (2 ∷ [])) (sym c10.1) (holds_more version_values _ [] 2 before);
+        members = holds_none _ _ (others.1.0 (λ e. omega arith) ∙ members);
+        facilities = holds_none _ _ (others.1.1.0 (λ e. omega arith) ∙ facilities);
+        keys = holds_none _ _ (others.1.1.1.0 (λ e. omega arith) ∙ keys);
+        slots = holds_none _ _ (others.1.1.1.1.0 (λ e. omega arith) ∙ slots);
+        bookings = holds_none _ _ (others.1.1.1.1.1.0 (λ e. omega arith) ∙ bookings);
+        olders = holds_none _ _ (others.1.1.1.1.1.1.0 (λ e. omega arith) ∙ olders);
+        database = c10.3;
+      } in
+      let held : HoldsClub
+      (state g t10.0).now empty_club = record { rows = no_rows; holds_rows = holds_rows; storage = empty_is_stored; sound = empty_is_sound } in
+      subst (λ (d : Database). HoldsClub d empty_club) (sym is) held
+
+  -- it does not run over the club's tables
+  pub makes_no_more : (state g old).now.schema ≡ club_schema → ⊥
+  unfolding ExecutesIn
+  makes_no_more has =
+      let statement = ran.turns.2.1 in
+      true≢false (sym (ap is_ok statement.is) ∙ ap (λ s. is_ok (understood s MAKE_DESK.now)) has ∙ makes_again)
+
+  -- nor over those without the index
+  pub makes_no_unindexed : (state g old).now.schema ≡ unindexed_schema → ⊥
+  unfolding ExecutesIn
+  makes_no_unindexed has =
+      let statement = ran.turns.2.1 in
+      true≢false (sym (ap is_ok statement.is) ∙ ap (λ s. is_ok (understood s MAKE_DESK.now)) has ∙ makes_over_unindexed)
+
+  -- nor over those of version 1
+  pub makes_no_second : (state g old).now.schema ≡ first_schema → ⊥
+  unfolding ExecutesIn
+  makes_no_second has =
+      let statement = ran.turns.2.1 in
+      true≢false (sym (ap is_ok statement.is) ∙ ap (λ s. is_ok (understood s MAKE_DESK.now)) has ∙ makes_over_first)
+
+  -- it runs only where there is no version
+  pub makes_free : HasNoDesk (state g old).now.schema
+  unfolding ExecutesIn
+  makes_free = desk_made _ (ap is_ok ran.turns.2.1.is)

@@ -1,0 +1,117 @@
+-- The migration of tables of version 1.
+use Rattle.std.proofs.Common.{◌≡◌, ℕ, pos, true, List, [], ◌∷◌, IsTrue, inl, inr, refl, sym, ap, subst, ◌∙◌, arith}
+use Rattle.sqlite_tied.specs.Compute.{everything}
+use Rattle.sqlite_value.specs.declared.value.Value.TheVariants.{Int}
+use Rattle.sqlite.specs.Store.{Ghosts}
+use Rattle.sqlite.specs.Term.{Term, lit, col}
+use Rattle.sqlite.specs.Query.{inner, end}
+use Rattle.sqlite.specs.Table.{Table}
+use Rattle.sqlite.specs.Command.TheVariants.{Update}
+use Rattle.sqlite.specs.Effect.{Database}
+use Rattle.sqlite.specs.Listing.{understood}
+use Rattle.sqlite.specs.State.{HasCleanDisk, Survives}
+use Rattle.sqlite.specs.Held.{Held, state}
+use Rattle.sqlite.proofs.Callers.{IsPlain, command_of}
+use Rattle.club_core.specs.Club.{Club}
+use Rattle.club_core.specs.Store.{KeepsClub}
+use Rattle.club_tables.specs.declared.texts.TheConstants.{MAKE_OLD_ROOTS, MAKE_BOOKINGS_BY_KEY, SET_VERSION}
+use Rattle.club_tables.specs.Schema.{desk_table, old_roots_table, bookings_by_key, first_schema, unindexed_schema, club_schema}
+use Rattle.club_tables.specs.Columns.{version_values, member_values, facility_values, key_values, slot_values, booking_values}
+use Rattle.club_tables.specs.Opening.{migration}
+use Rattle.club_tables.specs.Statements.{select}
+use Rattle.club_tables.specs.Stored.{Rows}
+use Rattle.club_tables.specs.Tables.{HoldsClub, HoldsClubVersion1, HoldsRowsVersion1, HoldsRows, Holds, Represents, RepresentsVersion1, desk_tree}
+use Rattle.club_tables.specs.ReadsAndChanges.{version_1_in}
+use Rattle.club_tables.specs.Transaction.{Ran, IsKept, transaction_start}
+use Rattle.club_tables.proofs.changes.ChangeLemmas.{nothing_more}
+use Rattle.club_tables.proofs.statements.InsertLemmas.{creates, indexes, cast_int}
+use Rattle.club_tables.proofs.opening.MakesLemmas.{makes_old_roots, makes_bookings_by_key, bookings_made}
+use Rattle.club_tables.proofs.opening.OpenLemmas.{IsSettled, settles}
+use Rattle.club_tables.proofs.statements.ReplaceLemmas.{replaced}
+use Rattle.club_tables.proofs.lists.RowLemmas.{holds_none}
+use Rattle.club_tables.proofs.statements.UpdateLemmas.{updates}
+
+abbrev version_table : Table
+version_table = record desk_table { tree = desk_tree }
+
+abbrev version_terms : List Term
+version_terms = col 1 0 ∷ col 1 0 ∷ lit (Int (pos 2)) ∷ []
+
+version_is : command_of (understood club_schema SET_VERSION.now) ≡ Update 0 (record { lets = []; body = select (inner desk_tree end) [] version_terms })
+unfolding understood everything
+version_is = refl
+
+version_plain : IsPlain (understood club_schema SET_VERSION.now)
+unfolding understood everything
+version_plain = (refl, refl)
+
+module _ {S : Type 0} (g : Ghosts S) (old : Held S) (db : Database) (ran : Ran g migration old db) where
+  -- every row stays, and no key has an older root
+  migrated_rows : (rows : Rows) → HoldsRowsVersion1 (state g old).now rows → HoldsRows db rows
+  migrated_rows rows holds_rows =
+      let t1 = ran.turns in
+      let t2 = t1.3 in
+      let t3 = t2.3 in
+      let mid = (state g t2.0).now in
+      let c1 = creates (state g (transaction_start old))
+      (state g t1.0) first_schema holds_rows.schema MAKE_OLD_ROOTS.now makes_old_roots.plain old_roots_table makes_old_roots.is
+      makes_old_roots.whole makes_old_roots.defined makes_old_roots.uncounted t1.1 t1.2 in
+      let c2 = indexes (state g t1.0) (state g t2.0) unindexed_schema c1.1 MAKE_BOOKINGS_BY_KEY.now makes_bookings_by_key.plain 5 bookings_made bookings_by_key
+      makes_bookings_by_key.listed makes_bookings_by_key.is makes_bookings_by_key.whole makes_bookings_by_key.defined t2.1 t2.2 in
+      let c3 = updates (state g t2.0) (state g t3.0) c2.0 SET_VERSION.now version_plain 0 version_table (select (inner desk_tree end) [] version_terms) [] refl
+      version_is t3.1 t3.2 in
+      let next = (state g t3.0).now in
+      let kept = c2.1 in
+      let others = c3.4 in
+      let is : db ≡ next = ran.is ∙ ap (λ h. (state g h).now) t3.3 in
+      let one : Holds version_values (mid.trees desk_tree) (1 ∷ []) = subst
+      (λ rs. Holds version_values rs (1 ∷ [])) (sym (kept.0 ∙ c1.3.0)) holds_rows.version in
+      let two = replaced version_values (λ _. true) (λ _. 2) (λ n fails. absurd cc) [] [] version_terms (λ id n.
+      refl) version_table (record { schema = club_schema; trees = mid.trees }) (1 ∷ []) c3.0
+      (λ _. Unit {0}) (nothing_more {X = ℕ} (1 ∷ [])) (λ id n _ passes. refl) (λ id n. rw (cast_int id, cast_int (pos n)) refl) one (omega arith) c3.1 in
+      let left : HoldsRows next rows = record {
+        schema = c3.2;
+        version = subst (λ rs. Holds version_values rs (2 ∷ [])) (sym c3.3) two;
+        members = subst (λ rs. Holds member_values rs rows.members) (sym (others.1.0 (λ e. omega arith) ∙ kept.1.0 ∙ c1.3.1.0)) holds_rows.members;
+        facilities = subst
+            (λ rs. Holds facility_values rs rows.facilities) (sym (others.1.1.0 (λ e. omega arith) ∙ kept.1.1.0 ∙ c1.3.1.1.0)) holds_rows.facilities;
+        keys = subst (λ rs. Holds key_values rs rows.keys) (sym (others.1.1.1.0 (λ e. omega arith) ∙ kept.1.1.1.0 ∙ c1.3.1.1.1.0)) holds_rows.keys;
+        slots = subst (λ rs. Holds slot_values rs rows.slots) (sym (others.1.1.1.1.0 (λ e. omega arith) ∙ kept.1.1.1.1.0 ∙ c1.3.1.1.1.1.0)) holds_rows.slots;
+        bookings = subst (λ rs. Holds booking_values rs rows.bookings) (sym (others.1.1.1.1.1.0 (λ e. omega arith) ∙ kept.1.1.1.1.1.0 ∙ c1.3.1.1.1.1.1.0))
+            holds_rows.bookings;
+        olders = subst (Holds _ (next.trees 12)) (sym holds_rows.olders) (holds_none _ _ (others.1.1.1.1.1.1.0 (λ e. omega arith) ∙ kept.1.1.1.1.1.1.0 ∙ c1.2));
+        database = c3.5;
+      } in
+      subst (λ (d : Database). HoldsRows d rows) (sym is) left
+
+  pub migrated_tables : (club : Club) → HoldsClubVersion1 (state g old).now club → HoldsClub db club
+  migrated_tables club first =
+      record { rows = first.rows; holds_rows = migrated_rows first.rows first.holds_rows; storage = first.storage; sound = first.sound }
+
+module _ {S : Type 0} (g : Ghosts S) (old new : Held S) where
+  -- the migrated tables hold the same club
+  holds_first : (db : Database) → Ran g migration old db → HasCleanDisk (state g old) → (club : Club) (others : List Club)
+      → RepresentsVersion1 (state g old) club others → HoldsClub db club
+  holds_first db ran clean club others first =
+      let is_open = ran.was_open (omega arith) in
+      migrated_tables g old db ran club (subst (λ (d : Database). HoldsClubVersion1 d club) (sym (first.idle clean is_open)) (first.held clean is_open))
+
+  pub migrated_represents : HasCleanDisk (state g old) → IsTrue (state g new).is_open → Ran g migration old (state g new).committed
+      → (state g new).now ≡ (state g new).committed → IsSettled (state g new)
+      → (club : Club) (others : List Club) → RepresentsVersion1 (state g old) club others → Represents (state g new) club others
+  migrated_represents clean is_open ran same settled club others first =
+      settles (state g new) club others (λ _ _. holds_first (state g new).committed ran clean club others first) (λ _. is_open) same settled
+
+  -- a migration that is refused leaves tables of version 1, and a crash those or the migrated ones
+  pub refused_first : IsKept (state g old) (state g new) → Survives (state g old) (state g new) (λ trees. (db : Database) × Ran g migration old db
+      × (trees ≡ db.trees)) → KeepsClub (version_1_in g) old new
+  refused_first kept survives club others first =
+      let earlier = λ (clean : HasCleanDisk (state g new)). let e : HasCleanDisk (state g old) = omega (arith, survives.clean) in e in
+      record {
+        held = λ clean is_open. let k = kept clean is_open in subst (λ db. HoldsClubVersion1 db club) (sym k.2) (first.held (earlier clean) k.0);
+        idle = λ clean is_open. let k = kept clean is_open in k.1 ∙ sym k.2;
+        left = λ clean trees may. elim (survives.crash clean trees may) [
+          | inl was ↦ first.left (earlier clean) trees was
+          | inr made ↦ inl (made.0, sym made.2, inl (inl (holds_first made.0 made.1 (earlier clean) club others first)))
+        ];
+      }

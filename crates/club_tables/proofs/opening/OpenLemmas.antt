@@ -1,0 +1,168 @@
+-- What an opening finds, and what it makes.
+use Rattle.std.proofs.Common.{◌≡◌, ◌⊎◌, ℕ, List, [], ◌∷◌, IsTrue, true, false, true≢false, codes, inl, inr, refl, sym, subst, ap, ◌∙◌, arith}
+use Rattle.std.specs.Prelude.{is_ok}
+use Rattle.sqlite_tied.specs.Compute.{everything}
+use Rattle.sqlite.specs.Order.{Row, column}
+use Rattle.sqlite.specs.Schema.{Schema}
+use Rattle.sqlite.specs.Term.{col}
+use Rattle.sqlite.specs.Query.{inner, end}
+use Rattle.sqlite.specs.Command.TheVariants.{Select}
+use Rattle.sqlite.specs.Listing.{understood, reads_listing, listing_schema}
+use Rattle.sqlite.proofs.Callers.{IsPlain, command_of}
+use Rattle.club_tables.specs.declared.texts.TheConstants.{VERSION}
+use Rattle.club_tables.specs.Columns.{whole, HasValues, version_values}
+use Rattle.club_tables.specs.Statements.{select}
+use Rattle.sqlite.specs.Store.{Ghosts}
+use Rattle.sqlite.specs.Tree.{Trees}
+use Rattle.sqlite.specs.Effect.{Database}
+use Rattle.sqlite.specs.State.{State, HasCleanDisk, Survives, Shown}
+use Rattle.sqlite_trees.specs.declared.memory.MemStore.{MemStore}
+use Rattle.sqlite.specs.Steps.{over_memory, IsEmpty}
+use Rattle.sqlite.specs.Held.{Held, state}
+use Rattle.club_core.specs.Club.{Club, empty_club}
+use Rattle.club_core.specs.Store.{KeepsClub}
+use Rattle.club_tables.specs.Schema.{club_schema, first_schema, unindexed_schema, no_schema}
+use Rattle.club_tables.specs.Tables.{HoldsClub, HoldsClubVersion2, HoldsClubAnyVersion, Holds, Represents, RepresentsVersion1, RepresentsVersion2, IsFound}
+use Rattle.club_tables.specs.Tables.{desk_tree}
+use Rattle.club_tables.specs.ReadsAndChanges.{found_in}
+use Rattle.club_tables.specs.Opening.{table_batch}
+use Rattle.club_tables.specs.Transaction.{Asked, Ran, IsKept}
+use Rattle.club_tables.proofs.statements.SelectLemmas.{selected, short_permutation}
+use Rattle.club_tables.proofs.crashes.RepresentsLemmas.{asked_open, reads_over}
+use Rattle.club_tables.proofs.opening.MakingLemmas.{made_tables, makes_no_more, makes_no_unindexed, makes_no_second}
+
+-- every crash leaves what was committed last
+abbrev pub IsSettled : State → Type 0
+IsSettled state = IsTrue state.is_open → (trees : Trees) → state.may_leave trees → trees ≡ state.committed.trees
+
+-- a store that holds the club, and of which each crash leaves what was committed
+pub settles : (now : State) (club : Club) (others : List Club) → (HasCleanDisk now → IsTrue now.is_open → HoldsClub now.committed club)
+    → (HasCleanDisk now → IsTrue now.is_open) → now.now ≡ now.committed → IsSettled now → Represents now club others
+settles now club others held opens same settled = record {
+  held = held;
+  idle = λ clean is_open. same;
+  left = λ clean trees may. inl (now.committed, sym (settled (opens clean) trees may), inl (inl (held clean (opens clean))));
+}
+
+module _ {S : Type 0} (g : Ghosts S) (old new : Held S) where
+  -- what the batch leaves holds the club that was found
+  holds_found : (db : Database) → Ran g table_batch old db → HasCleanDisk (state g old) → (club : Club) (others : List Club) → IsFound (state g old) club others
+      → HoldsClub db club
+  holds_found db ran clean club others found =
+      let is_open = ran.was_open (omega arith) in
+      let now = found.idle clean is_open in
+      elim (found.held clean is_open) [
+        | inl (inl tables) ↦ absurd (makes_no_more g old db ran (ap (λ (d : Database). d.schema) now ∙ tables.holds_rows.schema))
+        | inl (inr unindexed) ↦ absurd (makes_no_unindexed g old db ran (ap (λ (d : Database). d.schema) now ∙ unindexed.holds_rows.schema))
+        | inr (inl first) ↦ absurd (makes_no_second g old db ran (ap (λ (d : Database). d.schema) now ∙ first.holds_rows.schema))
+        | inr (inr blank) ↦ subst (HoldsClub db) (sym blank.1) (made_tables g old db ran (ap (λ (d : Database). d.schema) now ∙ blank.0))
+      ]
+
+  pub made_represents : HasCleanDisk (state g old) → IsTrue (state g new).is_open → Ran g table_batch old (state g new).committed
+      → (state g new).now ≡ (state g new).committed → IsSettled (state g new)
+      → (club : Club) (others : List Club) → IsFound (state g old) club others → Represents (state g new) club others
+  made_represents clean is_open ran same settled club others found =
+      settles (state g new) club others (λ _ _. holds_found (state g new).committed ran clean club others found) (λ _. is_open) same settled
+
+  pub refused_found : IsKept (state g old) (state g new) → Survives (state g old) (state g new) (λ trees. (db : Database) × Ran g table_batch old db
+      × (trees ≡ db.trees)) → KeepsClub (found_in g) old new
+  refused_found kept survives club others found =
+      let earlier = λ (clean : HasCleanDisk (state g new)). let e : HasCleanDisk (state g old) = omega (arith, survives.clean) in e in
+      record {
+        held = λ clean is_open. let k = kept clean is_open in subst (λ db. HoldsClubAnyVersion db club) (sym k.2) (found.held (earlier clean) k.0);
+        idle = λ clean is_open. let k = kept clean is_open in k.1 ∙ sym k.2;
+        left = λ clean trees may. elim (survives.crash clean trees may) [
+          | inl was ↦ found.left (earlier clean) trees was
+          | inr made ↦ inl (made.0, sym made.2, inl (inl (holds_found made.0 made.1 (earlier clean) club others found)))
+        ];
+      }
+
+-- without tables there is no version
+no_version : is_ok (understood no_schema VERSION.now) ≡ false
+unfolding understood listing_schema everything
+no_version = refl
+
+-- over these tables the version is a query of the one row
+record AsksVersion (schema : Schema) : Type 0 where
+  is : command_of (understood schema VERSION.now)
+      ≡ Select (record { lets = []; body = select (inner desk_tree end) [] (col 1 1 ∷ []) }) (codes "version" ∷ [])
+  plain : IsPlain (understood schema VERSION.now)
+  unlisted : reads_listing schema VERSION.now ≡ false
+
+asks_club : AsksVersion club_schema
+unfolding understood everything
+asks_club = record { is = refl; plain = (refl, refl); unlisted = refl }
+
+asks_unindexed : AsksVersion unindexed_schema
+unfolding understood everything
+asks_unindexed = record { is = refl; plain = (refl, refl); unlisted = refl }
+
+asks_first : AsksVersion first_schema
+unfolding understood everything
+asks_first = record { is = refl; plain = (refl, refl); unlisted = refl }
+
+-- and that row is the version
+version_row : {S : Type 0} (g : Ghosts S) (old : Held S) (rows : List Row) → Asked g VERSION.now [] old rows → (schema : Schema) → AsksVersion schema
+    → (state g old).now.schema ≡ schema → (version : ℕ) → Holds version_values ((state g old).now.trees desk_tree) (version ∷ [])
+    → rows ≡ version_values version ∷ []
+version_row g old rows asked schema asks over version held =
+    let reads = reads_over g VERSION.now [] old rows asked schema over _ asks.is asks.plain asks.unlisted in
+    let same = selected version_values [] [] (col 1 1 ∷ []) (λ _. true) version_values (λ id n. refl) (λ id n.
+    refl) desk_tree (codes "version" ∷ []) (state g old).now (version ∷ []) rows held reads in
+    short_permutation (version_values version ∷ []) rows (omega arith) same
+
+-- a database whose version was read has the tables of the club that was found
+pub version_returned : {S : Type 0} (g : Ghosts S) (old : Held S) (rows : List Row) → HasCleanDisk (state g old) → Asked g VERSION.now [] old rows
+    → (club : Club) (others : List Club) → IsFound (state g old) club others → (RepresentsVersion2 (state g old) club others × (rows ≡ version_values 2 ∷ []))
+    ⊎ (RepresentsVersion1 (state g old) club others × (rows ≡ version_values 1 ∷ []))
+unfolding Shown
+version_returned g old rows clean asked club others found =
+    let is_open = asked_open g VERSION.now [] old rows asked in
+    let now = found.idle clean is_open in
+    let schema = ap (λ (d : Database). d.schema) now in
+    let second : HoldsClubVersion2 (state g old).committed club → RepresentsVersion2 (state g old) club others = λ held.
+    record { held = λ _ _. held; idle = found.idle; left = found.left } in
+    elim (found.held clean is_open) [
+      | inl (inl tables) ↦ inl (
+        second (inl tables),
+        version_row g old rows asked club_schema asks_club (schema ∙ tables.holds_rows.schema) 2
+            (subst (λ (d : Database). Holds version_values (d.trees desk_tree) (2 ∷ [])) (sym now) tables.holds_rows.version),
+      )
+      | inl (inr unindexed) ↦ inl (
+        second (inr unindexed),
+        version_row g old rows asked unindexed_schema asks_unindexed (schema ∙ unindexed.holds_rows.schema) 2
+            (subst (λ (d : Database). Holds version_values (d.trees desk_tree) (2 ∷ [])) (sym now) unindexed.holds_rows.version),
+      )
+      | inr (inl first) ↦ inr (
+        record { held = λ _ _. first; idle = found.idle; left = found.left },
+        version_row g old rows asked first_schema asks_first (schema ∙ first.holds_rows.schema) 1
+            (subst (λ (d : Database). Holds version_values (d.trees desk_tree) (1 ∷ [])) (sym now) first.holds_rows.version),
+      )
+      | inr (inr blank) ↦
+          let none : is_ok (understood (state g old).now.schema VERSION.now) ≡ false = ap (λ s. is_ok (understood s VERSION.now)) (schema ∙ blank.0)
+          ∙ no_version in
+          absurd (true≢false (sym (ap is_ok asked.shown.1.is) ∙ none))
+    ]
+
+-- rows hold one version
+pub one_version : (rows : List Row) (m n : ℕ) → rows ≡ version_values m ∷ [] → (row : Row) × (rows ≡ row ∷ []) × HasValues row (version_values n) → m ≡ n
+one_version rows m n is one =
+    let same : one.0 ≡ version_values m = let e : one.0 ∷ [] ≡ version_values m ∷ [] = sym one.1 ∙ is in cc in
+    let values : whole m ≡ whole n = subst (λ (row : Row). column row 0 ≡ whole n) same one.2.0 in
+    cc
+
+pub second_found : (s : State) (club : Club) (others : List Club) → RepresentsVersion2 s club others → IsFound s club others
+second_found s club others second = record { held = λ clean is_open. inl (second.held clean is_open); idle = second.idle; left = second.left }
+
+pub first_found : (s : State) (club : Club) (others : List Club) → RepresentsVersion1 s club others → IsFound s club others
+first_found s club others first = record { held = λ clean is_open. inr (inl (first.held clean is_open)); idle = first.idle; left = first.left }
+
+-- a new database in memory is found to hold the empty club
+pub empty_found : (c : Held MemStore) → IsEmpty (state over_memory c) → IsFound (state over_memory c) empty_club []
+empty_found c empty =
+    let blank : HoldsClubAnyVersion (state over_memory c).committed empty_club = inr (inr (
+      ap (λ (d : Database). d.schema) (sym empty.0.clean) ∙ empty.2,
+      refl,
+      (empty.1 empty.0.is_open).1,
+    )) in
+    record { held = λ _ _. blank; idle = λ _ _. empty.0.clean; left = λ _ trees may. inl ((state over_memory c).committed, sym may, blank) }

@@ -1,0 +1,7 @@
+-- What the club's queries return.
+
+pub mod KeyLemmas
+pub mod BookingLemmas
+pub mod MemberLemmas
+pub mod DayLemmas
+pub mod ReadLemmas

@@ -1,0 +1,175 @@
+-- The bookings of a day, as they are asked for.
+use Rattle.std.proofs.Common.{◌≡◌, ℕ, ◌<◌, ◌⊎◌, inl, inr, pos, ℤ, Bool, true, false, ◌&&◌, List, [], ◌∷◌, map, codes, refl, sym, ap, subst, ◌∙◌, arith}
+use Rattle.std.proofs.Common.{Ordering, Less, Equal, Greater, nat_cmp, int_cmp}
+use Rattle.std.specs.Prelude.{filter, IsSorted, slice_index_or}
+use Rattle.std.specs.Ordering.{on, then_cmp, is_lt, ordering_then, ordering_reverse}
+use Rattle.std.specs.Cmp.{IsTotalOrder}
+use Rattle.std.specs.Cmp.Lexicographic.{slice_cmp}
+use Rattle.std.proofs.lemmas.Bool.Decides.{nat_tests}
+use Rattle.std.proofs.lemmas.Cmp.{ranked, nat_cmp_total, nat_list_cmp_total, on_total, then_total}
+use Rattle.std.proofs.lemmas.List.Kept.{AllPairs-filter}
+use Rattle.std.proofs.lemmas.Map.Lookups.{exact_bytes}
+use Rattle.sqlite_tied.specs.Compute.{everything}
+use Rattle.sqlite_value.specs.declared.value.Value.TheVariants.{Text}
+use Rattle.sqlite_value.specs.declared.keys.Collation.TheVariants.{Binary}
+use Rattle.sqlite_value.specs.Keys.{ascending}
+use Rattle.sqlite_value.proofs.OrderLemmas.{value_cmp-Int, value_cmp-Text, then-Equal}
+use Rattle.sqlite.specs.Order.{Row, value_cmp}
+use Rattle.sqlite.specs.Store.{Ghosts}
+use Rattle.sqlite.specs.Term.{Term, col}
+use Rattle.sqlite.specs.Query.{inner, end, key_cmp}
+use Rattle.sqlite.specs.Command.TheVariants.{Select}
+use Rattle.sqlite.specs.Listing.{understood, reads_listing}
+use Rattle.sqlite.specs.State.{HasCleanDisk}
+use Rattle.sqlite.specs.Held.{Held, state}
+use Rattle.sqlite.proofs.Callers.{IsPlain, command_of}
+use Rattle.club_rows.specs.Columns.{truth}
+use Rattle.club_rows.specs.declared.booking.Booking.{Booking}
+use Rattle.club_core.specs.Club.{Club}
+use Rattle.club_core.specs.Sheet.{is_on, Precedes}
+use Rattle.club_tables.specs.declared.texts.TheConstants.{DAY}
+use Rattle.club_tables.specs.Schema.{club_schema}
+use Rattle.club_tables.specs.Columns.{whole, booking_values}
+use Rattle.club_tables.specs.Sheet.{ShowsDay}
+use Rattle.club_tables.specs.Tables.{Represents, bookings_tree}
+use Rattle.club_tables.specs.Statements.{select, in_order, is_given}
+use Rattle.club_tables.specs.Transaction.{Asked}
+use Rattle.club_tables.proofs.statements.SelectLemmas.{whole_equal, apart_from_pairs}
+use Rattle.club_tables.proofs.crashes.RepresentsLemmas.{asked_tables, asked_reads, bookings_held}
+use Rattle.club_tables.proofs.queries.BookingLemmas.{is_uncancelled, no_truth}
+use Rattle.club_tables.proofs.statements.OrderLemmas.{selected_in_order, none_less, apart-permutation, pairs_from_apart}
+
+-- ---- the order of the sheet
+
+abbrev sheet_cmp : Booking → Booking → Ordering
+sheet_cmp =
+    then_cmp (on (λ (b : Booking). b.slot.facility) (slice_cmp nat_cmp))
+    (then_cmp (on (λ (b : Booking). b.slot.hour) nat_cmp)
+    (then_cmp (on (λ (b : Booking). b.key) (slice_cmp nat_cmp)) (on (λ (b : Booking). b.number) nat_cmp)))
+
+sheet_total : IsTotalOrder sheet_cmp
+sheet_total =
+    then_total (on_total (λ (b : Booking). b.slot.facility) nat_list_cmp_total)
+    (then_total (on_total (λ (b : Booking). b.slot.hour) nat_cmp_total)
+    (then_total (on_total (λ (b : Booking). b.key) nat_list_cmp_total) (on_total (λ (b : Booking). b.number) nat_cmp_total)))
+
+then_less : (o p : Ordering) → ordering_then o p ≡ Less → (o ≡ Less) ⊎ ((o ≡ Equal) × (p ≡ Less))
+then_less Less p h = inl refl
+then_less Equal p h = inr (refl, h)
+then_less Greater p h = absurd cc
+
+then_equal : (o p : Ordering) → ordering_then o p ≡ Equal → (o ≡ Equal) × (p ≡ Equal)
+then_equal Less p h = absurd cc
+then_equal Equal p h = (refl, h)
+then_equal Greater p h = absurd cc
+
+number_less : (m n : ℕ) → nat_cmp m n ≡ Less → m < n
+number_less m n h = ranked m n Less (sym h)
+
+number_equal : (m n : ℕ) → nat_cmp m n ≡ Equal → m ≡ n
+number_equal m n h = ranked m n Equal (sym h)
+
+-- by the first part, and where those are equal, by the others
+by_parts : {A B C : Type 0} (o p : Ordering) → (o ≡ Less → A) → (o ≡ Equal → B) → (p ≡ Less → C) → ordering_then o p ≡ Less → A ⊎ (B × C)
+by_parts {A} {B} {C} o p f g h less = elim (then_less o p less) [ inl first ↦ inl (f first) | inr both ↦ inr (g both.0, h both.1) ]
+
+precedes : (a b : Booking) → sheet_cmp a b ≡ Less → Precedes a b
+precedes a b =
+    by_parts _ _ (λ h. h) (exact_bytes a.slot.facility b.slot.facility)
+    (by_parts _ _ (number_less a.slot.hour b.slot.hour) (number_equal a.slot.hour b.slot.hour)
+    (by_parts _ _ (λ h. h) (exact_bytes a.key b.key) (number_less a.number b.number)))
+
+same_name : (a b : Booking) → sheet_cmp a b ≡ Equal → (a.key ≡ b.key) × (a.number ≡ b.number)
+same_name a b h =
+    let later = (then_equal _ _ (then_equal _ _ h).1).1 in
+    let names = then_equal _ _ later in
+    (exact_bytes a.key b.key names.0, number_equal a.number b.number names.1)
+
+abbrev Differ : Booking → Booking → Type 0
+Differ a b = ¬ ((a.key ≡ b.key) × (a.number ≡ b.number))
+
+-- of two bookings of different names, the first precedes where the second isn't less
+strictly : (a b : Booking) → is_lt (sheet_cmp b a) ≡ false → Differ a b → Precedes a b
+strictly a b h differ = go (sheet_cmp a b) refl
+  where
+    go : (o : Ordering) → sheet_cmp a b ≡ o → Precedes a b
+    go Less is = precedes a b is
+    go Equal is = absurd (differ (same_name a b is))
+    go Greater is = let less : sheet_cmp b a ≡ Less = sheet_total.antisymm b a ∙ ap ordering_reverse is in let no : true ≡ false = rw less at h in absurd cc
+
+-- ---- the statement
+
+-- what the sheet is sorted by
+abbrev sheet_key : Booking → Row
+sheet_key b = Text b.slot.facility ∷ whole b.slot.hour ∷ Text b.key ∷ whole b.number ∷ []
+
+abbrev sheet_terms : List Term
+sheet_terms = map (col 1) (3 ∷ 5 ∷ 1 ∷ 2 ∷ [])
+
+abbrev booking_terms : List Term
+booking_terms = map (col 1) (1 ∷ 2 ∷ 3 ∷ 4 ∷ 5 ∷ 6 ∷ 7 ∷ 8 ∷ 9 ∷ 10 ∷ [])
+
+abbrev booking_names : List (List ℕ)
+booking_names = map codes ("pass_key" ∷ "number" ∷ "facility" ∷ "day" ∷ "hour" ∷ "guests" ∷ "charge" ∷ "remains" ∷ "cancelled" ∷ "refund" ∷ [])
+
+abbrev day_tests : List Term
+day_tests = is_given 4 0 ∷ is_uncancelled ∷ []
+
+day_is : command_of (understood club_schema DAY.now) ≡ Select (record {
+  lets = [];
+  body =
+      in_order sheet_terms (select (inner bookings_tree end) day_tests booking_terms);
+}) booking_names
+unfolding understood everything
+day_is = refl
+
+day_plain : IsPlain (understood club_schema DAY.now)
+unfolding understood everything
+day_plain = (refl, refl)
+
+day_unlisted : reads_listing club_schema DAY.now ≡ false
+unfolding everything
+day_unlisted = refl
+
+whole_cmp : (m n : ℕ) → value_cmp (whole m) (whole n) ≡ nat_cmp m n
+whole_cmp m n = let same : int_cmp (pos m) (pos n) ≡ nat_cmp m n = grind (arith, nat_tests) in value_cmp-Int (pos m) (pos n) ∙ same
+
+by_values : (a b : Booking) → key_cmp 0 (map (λ _. ascending Binary) sheet_terms) (sheet_key a) (sheet_key b) ≡ sheet_cmp a b
+by_values a b = simp (value_cmp-Text, whole_cmp, then-Equal)
+
+two_turned : (a a' b b' : Bool) → a ≡ a' → b ≡ b' → (a && (b && true)) ≡ (b' && a')
+two_turned a a' b b' p q = turned a b ∙ cc
+  where
+    turned : (a b : Bool) → (a && (b && true)) ≡ (b && a)
+    turned true true = refl
+    turned true false = refl
+    turned false true = refl
+    turned false false = refl
+
+pub day_returned : {S : Type 0} (g : Ghosts S) (old : Held S) (day : ℕ) (rows : List Row) → HasCleanDisk (state g old)
+    → Asked g DAY.now (whole day ∷ []) old rows
+    → (club : Club) (others : List Club) → Represents (state g old) club others → ShowsDay club day rows
+day_returned g old day rows clean asked club others represents =
+    let tables = asked_tables g DAY.now _ old rows asked clean club others represents in
+    let reads = asked_reads g DAY.now _ old rows asked tables.holds_rows.schema _ day_is day_plain day_unlisted in
+    let tests = λ (id : ℤ) (b : Booking). two_turned _ _ _ _ (whole_equal b.slot.day day) (whole_equal (truth b.cancelled) 0 ∙ no_truth b.cancelled) in
+    let day_selection = selected_in_order booking_values (whole day
+    ∷ []) day_tests booking_terms (map (λ term. (term, ascending Binary)) sheet_terms) (is_on day)
+    booking_values sheet_key
+    tests (λ id b. refl) (λ id b. refl) bookings_tree booking_names (state g old).now club.bookings rows (bookings_held _ club tables) reads in
+    let bookings = day_selection.ordered in
+    let same_cmp : (λ (a b : Booking). key_cmp 0 (map (λ _. ascending Binary) sheet_terms) (sheet_key a) (sheet_key b)) ≡ sheet_cmp =
+    λ i a b. by_values a b i in
+    let none_before = none_less sheet_cmp sheet_total bookings (subst (λ cmp. IsSorted cmp bookings) same_cmp day_selection.sorted) in
+    let unique = AllPairs-filter Differ (is_on day) club.bookings tables.sound.unique.bookings in
+    let apart = apart-permutation Differ (λ a b differ same. differ (sym same.0, sym same.1)) (filter (is_on day) club.bookings) bookings day_selection.same
+    (apart_from_pairs Differ _ unique) in
+    let differ = pairs_from_apart Differ bookings apart in (
+      bookings,
+      record {
+        same = day_selection.same;
+        order = λ i j d less low. strictly (slice_index_or bookings i d) (slice_index_or bookings j d)
+            (none_before i j d less low) (differ i j d less low);
+      },
+      day_selection.shown,
+    )

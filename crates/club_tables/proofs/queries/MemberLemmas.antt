@@ -1,0 +1,242 @@
+-- What is asked of the bookings of all keys of a member.
+use Rattle.std.proofs.Common.{◌≡◌, ◌≢◌, ℕ, ◌+◌, ◌*◌, ◌/◌, ◌<◌, ◌≤◌, ◌^◌, pos, ℤ, Bool, true, false}
+use Rattle.std.proofs.Common.{not, cond, ◌&&◌, ◌||◌, List, [], ◌∷◌, map, codes, length, refl}
+use Rattle.std.proofs.Common.{sym, ap, subst, ◌∙◌, arith}
+use Rattle.std.specs.Prelude.{filter, flat_map, slice_index_or, nat_lt, nat_le, All, AllPairs, IsPermutation}
+use Rattle.std.specs.List.{list_any}
+use Rattle.std.specs.Str.{bytes_eq}
+use Rattle.std.specs.Ordering.{is_gt, is_ge, int_cmp}
+use Rattle.std.proofs.lemmas.Bool.{and_parts, lt-ltb, false_from_ne_true}
+use Rattle.std.proofs.lemmas.Bool.Decides.{nat_tests}
+use Rattle.std.proofs.lemmas.List.{length-map}
+use Rattle.std.proofs.lemmas.List.Elements.{All-head, All-tail, All-filter, filter_agree}
+use Rattle.std.proofs.lemmas.List.Sorted.{IsPermutation-map, IsPermutation-trans, length_permutation}
+use Rattle.std.proofs.lemmas.Slice.Eq.{bytes_eq-Decides}
+use Rattle.sqlite_tied.specs.Compute.{everything}
+use Rattle.sqlite_value.specs.declared.value.Value.{Value}
+use Rattle.sqlite_value.specs.declared.value.Value.TheVariants.{Int, Text}
+use Rattle.sqlite_value.specs.declared.keys.Collation.TheVariants.{Binary}
+use Rattle.sqlite_value.proofs.OrderLemmas.{value_cmp-Int}
+use Rattle.sqlite_sql.specs.declared.ops.ArithOp.TheVariants.{Add, Mul}
+use Rattle.sqlite_sql.specs.declared.ops.BinaryOp.TheVariants.{Arith, Compare}
+use Rattle.sqlite_sql.specs.declared.ops.CompareOp.TheVariants.{Eq, Gt, Ge}
+use Rattle.sqlite_sql.specs.Ops.{binary, is_true}
+use Rattle.sqlite.specs.Order.{Row}
+use Rattle.sqlite.specs.Store.{Ghosts}
+use Rattle.sqlite.specs.Term.{Term, lit, col, op2}
+use Rattle.sqlite.specs.Query.{inner, end}
+use Rattle.sqlite.specs.Command.TheVariants.{Select}
+use Rattle.sqlite.specs.Listing.{understood, reads_listing}
+use Rattle.sqlite.specs.State.{HasCleanDisk}
+use Rattle.sqlite.specs.Held.{Held, state}
+use Rattle.sqlite.proofs.Callers.{IsPlain, command_of}
+use Rattle.club_values.specs.Slot.{start_of}
+use Rattle.club_rows.specs.Columns.{truth}
+use Rattle.club_rows.specs.declared.key.Key.{Key}
+use Rattle.club_rows.specs.declared.booking.Booking.{Booking}
+use Rattle.club_rows.specs.Rows.{IsBooking}
+use Rattle.club_core.specs.Sums.{is_to_come, count_to_come}
+use Rattle.club_core.specs.Club.{Club, is_key_of, bookings_of}
+use Rattle.club_tables.specs.declared.texts.TheConstants.{OPEN}
+use Rattle.club_tables.specs.Schema.{club_schema}
+use Rattle.club_tables.specs.Columns.{whole, key_values, booking_values}
+use Rattle.club_tables.specs.Tables.{Represents, keys_tree, bookings_tree}
+use Rattle.club_tables.specs.Statements.{select, is_given}
+use Rattle.club_tables.specs.Transaction.{Asked}
+use Rattle.club_tables.proofs.statements.SelectLemmas.{apart_from_pairs, from_truth_is, text_equal, whole_equal}
+use Rattle.club_tables.proofs.statements.JoinLemmas.{filter_filter, map_flat_map, IsElsewhere, pairs_of, selected_both}
+use Rattle.club_tables.proofs.crashes.RepresentsLemmas.{asked_tables, asked_reads, keys_held, bookings_held}
+use Rattle.club_tables.proofs.queries.KeyLemmas.{and_true}
+use Rattle.club_tables.proofs.queries.BookingLemmas.{no_truth}
+
+-- the booking's key is the key
+abbrev under_it : Term
+under_it = op2 (Compare Eq Binary) (col 1 1) (col 2 1)
+
+abbrev is_uncancelled : Term
+is_uncancelled = op2 (Compare Eq Binary) (col 2 9) (lit (Int (pos 0)))
+
+abbrev begins_later : Term
+begins_later = op2 (Compare Gt Binary) (op2 (Arith Add) (op2 (Arith Mul) (col 2 4) (lit (Int (pos 1440)))) (op2 (Arith Mul) (col 2 5) (lit (Int (pos 60)))))
+    (col 0 1)
+
+abbrev from_day : Term
+from_day = op2 (Compare Ge Binary) (col 2 4) (col 0 2)
+
+open_is : command_of (understood club_schema OPEN.now)
+    ≡ Select (record {
+      lets = [];
+      body = select (inner keys_tree (inner bookings_tree end)) (under_it ∷ is_given 2 0 ∷ is_uncancelled ∷ begins_later ∷ from_day ∷ [])
+          (col 2 2 ∷ []);
+    }) (codes "number" ∷ [])
+unfolding understood everything
+open_is = refl
+
+open_plain : IsPlain (understood club_schema OPEN.now)
+unfolding understood everything
+open_plain = (refl, refl)
+
+open_unlisted : reads_listing club_schema OPEN.now ≡ false
+unfolding everything
+open_unlisted = refl
+
+-- ---- numbers
+
+-- `>` of two whole numbers
+int_gt : (m n : ℕ) → is_gt (int_cmp (pos m) (pos n)) ≡ nat_lt n m
+int_gt m n = grind (arith, nat_tests)
+
+whole_above : (m n : ℕ) → is_true (binary (Compare Gt Binary) (Int (pos m)) (Int (pos n))) ≡ nat_lt n m
+unfolding binary
+whole_above m n = from_truth_is _ ∙ ap is_gt (value_cmp-Int (pos m) (pos n)) ∙ int_gt m n
+
+-- `>=` of two whole numbers
+int_ge : (m n : ℕ) → is_ge (int_cmp (pos m) (pos n)) ≡ nat_le n m
+int_ge m n = grind (arith, nat_tests)
+
+whole_from : (m n : ℕ) → is_true (binary (Compare Ge Binary) (Int (pos m)) (Int (pos n))) ≡ nat_le n m
+unfolding binary
+whole_from m n = from_truth_is _ ∙ ap is_ge (value_cmp-Int (pos m) (pos n)) ∙ int_ge m n
+
+-- what begins after a moment is on its day or a later one
+day_after : (moment day hour : ℕ) → hour < 24 → nat_lt moment (day * 1440 + hour * 60) ≡ true → nat_le (moment / 1440) day ≡ true
+day_after moment day hour low later =
+    let after : moment < day * 1440 + hour * 60 = grind (arith, nat_tests) in
+    let reached : moment / 1440 ≤ day = omega arith in
+    grind (arith, nat_tests)
+
+-- a product and a sum that 64 bits hold
+product : (m n : ℕ) → m * n < 2 ^ 63 → binary (Arith Mul) (Int (pos m)) (Int (pos n)) ≡ Int (pos (m * n))
+unfolding binary
+product m n low = rw (lt-ltb (m * n) (2 ^ 63) low) refl
+
+pub total : (m n : ℕ) → m + n < 2 ^ 63 → binary (Arith Add) (Int (pos m)) (Int (pos n)) ≡ Int (pos (m + n))
+unfolding binary
+total m n low = rw (lt-ltb (m + n) (2 ^ 63) low) refl
+
+abbrev start_value : Booking → Value
+start_value b = binary (Arith Add) (binary (Arith Mul) (whole b.slot.day) (whole 1440)) (binary (Arith Mul) (whole b.slot.hour) (whole 60))
+
+start_value_is : (b : Booking) → IsBooking b → start_value b ≡ whole (start_of b.slot)
+start_value_is b row =
+    let day = row.slot.day.1 in
+    let hour = row.slot.hour in
+    let one = product b.slot.day 1440 (omega arith) in
+    let two = product b.slot.hour 60 (omega arith) in
+    let both = total (b.slot.day * 1440) (b.slot.hour * 60) (omega arith) in
+    cc
+
+-- ---- the bookings of a member, by its keys
+
+-- the booking is the key's, the key is the member's, and the booking passes a test
+abbrev pub is_owned : List ℕ → (Booking → Bool) → Key → Booking → Bool
+is_owned member test key booking = bytes_eq key.name booking.key && (bytes_eq key.member member && test booking)
+
+with_one : (n o c a : Bool) → ((n && (o && c)) || (a && c)) ≡ (cond o (n || a) a && c)
+with_one true true true a = refl
+with_one true true false true = refl
+with_one true true false false = refl
+with_one true false c a = refl
+with_one false true c a = refl
+with_one false false c a = refl
+
+any_of : (names : Key → Bool) (o : Bool) (key : Key) (keys : List Key) → list_any names (cond o (key ∷ keys) keys)
+    ≡ cond o (names key || list_any names keys) (list_any names keys)
+any_of names true key keys = refl
+any_of names false key keys = refl
+
+pub any_owned : (names owns : Key → Bool) (b : Bool) (keys : List Key) → list_any (λ key. names key && (owns key && b)) keys
+    ≡ (list_any names (filter owns keys) && b)
+any_owned names owns b [] = refl
+any_owned names owns b (key ∷ keys) =
+    ap (λ rest. (names key && (owns key && b)) || rest) (any_owned names owns b keys) ∙ with_one (names key) (owns key) b (list_any names (filter owns keys))
+    ∙ ap (λ any. any && b) (sym (any_of names (owns key) key (filter owns keys)))
+
+same_name : (a b : List ℕ) → bytes_eq a b ≡ true → a ≡ b
+same_name a b h = (bytes_eq-Decides a b).0 h
+
+other_key : (member : List ℕ) (test : Booking → Bool) (a b : Key) → a.name ≢ b.name → IsElsewhere (is_owned member test) a b
+other_key member test a b apart booking h =
+    let mine = same_name a.name booking.key (and_parts _ _ h).0 in
+    false_from_ne_true _ (λ k. apart (mine ∙ sym (same_name b.name booking.key (and_parts _ _ k).0)))
+
+owned_rows : (member : List ℕ) (test : Booking → Bool) (club : Club) → AllPairs (λ (a : Key) (b : Key). a.name ≢ b.name) club.keys
+    → IsPermutation (filter test (bookings_of member club)) (flat_map (λ key. filter (is_owned member test key) club.bookings) club.keys)
+owned_rows member test club unique =
+    let among : Booking → Bool = λ booking. is_key_of member club booking.key in
+    let same : filter (λ booking. list_any (λ key. is_owned member test key booking) club.keys) club.bookings ≡ filter test (bookings_of member club) =
+    filter_agree _ (λ booking. among booking && test booking) (λ booking.
+    any_owned (λ key. bytes_eq key.name booking.key) (λ key. bytes_eq key.member member) (test booking) club.keys) club.bookings
+    ∙ sym (filter_filter test among club.bookings) in
+    subst (λ bookings. IsPermutation bookings (flat_map (λ key. filter (is_owned member test key) club.bookings) club.keys)) same
+    (pairs_of (is_owned member test) club.keys club.bookings
+    (apart_from_pairs (IsElsewhere (is_owned member test)) club.keys (λ i j d less low.
+    other_key member test (slice_index_or club.keys i d) (slice_index_or club.keys j d) (unique i j d less low))))
+
+-- what is shown of each pair of a key of the member and a booking under it is what is shown of the member's bookings
+owned_shown : (member : List ℕ) (test : Booking → Bool) (show : Booking → Row) (club : Club) (rows : List Row)
+    → AllPairs (λ (a : Key) (b : Key). a.name ≢ b.name) club.keys
+    → IsPermutation (flat_map (λ key. map show (filter (is_owned member test key) club.bookings)) club.keys) rows
+    → IsPermutation (map show (filter test (bookings_of member club))) rows
+owned_shown member test show club rows unique h =
+    let pairs : Key → List Booking = λ key. filter (is_owned member test key) club.bookings in
+    IsPermutation-trans (map show (filter test (bookings_of member club))) (flat_map (λ key. map show (pairs key)) club.keys) rows
+    (subst (IsPermutation (map show (filter test (bookings_of member club)))) (map_flat_map show pairs club.keys)
+    (IsPermutation-map show _ _ (owned_rows member test club unique))) h
+
+-- ---- the statements
+
+all_pass : {X : Type 0} (xs : List X) → filter (λ x. true) xs ≡ xs
+all_pass [] = refl
+all_pass (x ∷ xs) = ap (λ ys. x ∷ ys) (all_pass xs)
+
+-- whether a booking is still to come, as the statement asks it
+abbrev comes : ℕ → Booking → Bool
+comes moment b =
+    not b.cancelled
+    && (is_true (binary (Compare Gt Binary) (start_value b) (whole moment)) && is_true (binary (Compare Ge Binary) (whole b.slot.day) (whole (moment / 1440))))
+
+-- a second test that holds wherever the first does
+both_if_first : (a b : Bool) → (a ≡ true → b ≡ true) → (a && b) ≡ a
+both_if_first true b follows = follows refl
+both_if_first false b follows = refl
+
+-- the bound by the day leaves out nothing
+comes_is : (moment : ℕ) (b : Booking) → IsBooking b → comes moment b ≡ is_to_come moment b
+comes_is moment b row =
+    let later = ap (λ v. is_true (binary (Compare Gt Binary) v (whole moment))) (start_value_is b row) ∙ whole_above (start_of b.slot) moment in
+    let from = whole_from b.slot.day (moment / 1440) in
+    let first = both_if_first (nat_lt moment (start_of b.slot)) (nat_le (moment / 1440) b.slot.day)
+    (day_after moment b.slot.day b.slot.hour row.slot.hour) in
+    rw (later, from, first) refl
+
+filter_where : {X : Type 0} (P : X → Type 0) (p q : X → Bool) → ((x : X) → P x → p x ≡ q x) → (xs : List X) → All P xs → filter p xs ≡ filter q xs
+filter_where P p q same [] all = refl
+filter_where P p q same (x ∷ xs) all = let e = same x (All-head P x xs all) in let more = filter_where P p q same xs (All-tail P x xs all) in rw (e, more) refl
+
+pub open_returned : {S : Type 0} (g : Ghosts S) (old : Held S) (member : List ℕ) (moment : ℕ) (rows : List Row) → HasCleanDisk (state g old)
+    → Asked g OPEN.now (Text member ∷ whole moment ∷ whole (moment / 1440) ∷ []) old rows
+    → (club : Club) (others : List Club) → Represents (state g old) club others → length rows ≡ count_to_come moment (bookings_of member club)
+open_returned g old member moment rows clean asked club others represents =
+    let tables = asked_tables g OPEN.now _ old rows asked clean club others represents in
+    let reads = asked_reads g OPEN.now _ old rows asked tables.holds_rows.schema _ open_is open_plain open_unlisted in
+    let number : Booking → Row = λ b. whole b.number ∷ [] in
+    let tests = λ (i j : ℤ) (k : Key) (b : Booking).
+    let e = text_equal k.name b.key in
+    let f = text_equal k.member member in
+    let t = whole_equal (truth b.cancelled) 0 ∙ no_truth b.cancelled in
+    let l = and_true (is_true (binary (Compare Ge Binary) (whole b.slot.day) (whole (moment / 1440)))) in
+    let h : (is_true (binary (Compare Eq Binary) (Text k.name) (Text b.key)) && (is_true (binary (Compare Eq Binary) (Text k.member) (Text member))
+    && (is_true (binary (Compare Eq Binary) (whole (truth b.cancelled)) (whole 0))
+    && (is_true (binary (Compare Gt Binary) (start_value b) (whole moment))
+    && (is_true (binary (Compare Ge Binary) (whole b.slot.day) (whole (moment / 1440))) && true)))))
+    ≡ is_owned member (comes moment) k b = cc in h in
+    let both = selected_both key_values booking_values (Text member ∷ whole moment ∷ whole (moment / 1440) ∷ [])
+    (under_it ∷ is_given 2 0 ∷ is_uncancelled ∷ begins_later ∷ from_day ∷ []) (col 2 2 ∷ []) (is_owned member (comes moment)) number tests (λ i j k b. refl)
+    keys_tree bookings_tree (codes "number" ∷ []) (state g old).now club.keys club.bookings rows (keys_held _ club tables) (bookings_held _ club tables)
+    reads in
+    let own = bookings_of member club in
+    let same = owned_shown member (comes moment) number club rows tables.sound.unique.keys both in
+    length_permutation (map number (filter (comes moment) own)) rows same ∙ length-map (filter (comes moment) own) number
+    ∙ ap length (filter_where IsBooking (comes moment) (is_to_come moment) (comes_is moment) own
+    (All-filter (λ b. is_key_of member club b.key) IsBooking club.bookings tables.sound.rows.bookings))

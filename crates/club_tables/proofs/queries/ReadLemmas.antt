@@ -1,0 +1,69 @@
+-- What makes a reading, and which fault it has.
+use Rattle.std.proofs.Common.{List, Result, Ok, Err, IfOk, IfErr, inl, inr, arith}
+use Rattle.sqlite.specs.Order.{Row}
+use Rattle.sqlite.specs.Store.{Ghosts}
+use Rattle.sqlite.specs.State.{HasCleanDisk, Survives}
+use Rattle.sqlite.specs.Held.{Held, state}
+use Rattle.club_core.specs.declared.store.StoreFault.{StoreFault}
+use Rattle.club_core.specs.Club.{Club}
+use Rattle.club_tables.specs.Answers.{Answers, FailsAtReading, FailsToRead, IsAfterReadings, IsReadFault, Reading, CanRead, reading_statement}
+use Rattle.club_tables.specs.Tables.{Represents}
+use Rattle.club_tables.specs.ReadsAndChanges.{ReadsClub}
+use Rattle.club_tables.specs.Transaction.{Asked, IsKept, BoundStatement}
+use Rattle.club_tables.proofs.crashes.RepresentsLemmas.{keeps_club, if_ok_map}
+use Rattle.club_tables.proofs.crashes.SurviveLemmas.{kept_when_idle}
+
+pub fault_if : {A E : Type 0} (P Q : E → Type 0) (r : Result A E) → IfErr r P → ((e : E) → P e → Q e) → IfErr r Q
+fault_if P Q (Ok x) p f = tt
+fault_if P Q (Err e) p f = f e p
+
+-- no reading before
+pub at_once : {S : Type 0} (g : Ghosts S) (held : Held S) → HasCleanDisk (state g held) → IsAfterReadings g held held
+at_once g held clean = record { same = kept_when_idle (state g held); clean = clean; fault_count = omega arith }
+
+-- fewer rows can be decoded
+pub fewer_read : {S : Type 0} (g : Ghosts S) (statement : BoundStatement) (P Q : List Row → Type 0) (old new : Held S) (fault : StoreFault)
+    → ((rows : List Row) → Q rows → P rows) → FailsToRead g statement P old new fault → FailsToRead g statement Q old new fault
+fewer_read g statement P Q old new fault through (inl failed) = inl failed
+fewer_read g statement P Q old new fault through (inr it) =
+    inr (record { rows = it.rows; query = it.query; unread = λ q. it.unread (through it.rows q); fault_is = it.fault_is })
+
+-- the fault of one reading
+pub one_failed : {S : Type 0} (g : Ghosts S) (reading : Reading) (old new : Held S) (fault : StoreFault) → HasCleanDisk (state g old)
+    → FailsAtReading g reading old new fault → IsReadFault g old new fault
+one_failed g reading old new fault clean failed = record { from = old; after = at_once g old clean; reading = reading; failure = failed }
+
+-- a result that is true of the current club, by a statement that leaves the committed state unchanged
+pub read_by : {S A : Type 0} (g : Ghosts S) (reading : Reading) (IsAnswer : List Row → A → Type 0) (old new : Held S) (result : Result A StoreFault)
+    (IsReturned : Club → A → Type 0) → IsKept (state g old) (state g new) → Survives (state g old) (state g new) (λ _. ⊥)
+    → (HasCleanDisk (state g new) → IfOk result (λ answer. (rows : List Row)
+    × Asked g (reading_statement reading).0 (reading_statement reading).1 old rows × IsAnswer rows answer))
+    → (HasCleanDisk (state g new) → IfErr result (FailsAtReading g reading old new))
+    → (HasCleanDisk (state g old) → (club : Club) (others : List Club) → Represents (state g old) club others → (rows : List Row)
+    → Asked g (reading_statement reading).0 (reading_statement reading).1 old rows → (answer : A) → IsAnswer rows answer → IsReturned club answer)
+    → ReadsClub g old new result IsReturned
+read_by {A} g reading IsAnswer old new result IsReturned kept quiet gives fails returned =
+    let earlier = λ (clean : HasCleanDisk (state g new)). let e : HasCleanDisk (state g old) = omega (arith, quiet.clean) in e in
+    let Given = λ (answer : A). (rows : List Row) × Asked g (reading_statement reading).0 (reading_statement reading).1 old rows × IsAnswer rows answer in
+    record {
+      returns = λ clean club others represents. if_ok_map Given (IsReturned club) result (gives clean) (λ answer given.
+          returned (earlier clean) club others represents given.0 given.1 answer given.2);
+      kept = λ clean. keeps_club g old new kept quiet;
+      no_change = λ rest. kept;
+      survives = quiet;
+      fault = λ clean. fault_if (FailsAtReading g reading old new) (IsReadFault g old new) result (fails clean) (λ fault failed.
+          one_failed g reading old new fault (earlier clean) failed);
+    }
+
+-- the same of an answer by its rows
+pub read_answer : {S A : Type 0} (g : Ghosts S) (reading : Reading) (IsAnswer : List Row → A → Type 0) (old new : Held S) (result : Result A StoreFault)
+    (IsReturned : Club → A → Type 0) → IsKept (state g old) (state g new) → Survives (state g old) (state g new) (λ _. ⊥)
+    → Answers g (reading_statement reading) IsAnswer old new result → ((rows : List Row) → CanRead reading rows → (answer : A) × IsAnswer rows answer)
+    → (HasCleanDisk (state g old) → (club : Club) (others : List Club) → Represents (state g old) club others → (rows : List Row)
+    → Asked g (reading_statement reading).0 (reading_statement reading).1 old rows → (answer : A) → IsAnswer rows answer → IsReturned club answer)
+    → ReadsClub g old new result IsReturned
+read_answer {A} g reading IsAnswer old new result IsReturned kept quiet answers can returned =
+    let Unanswered = λ (rows : List Row). (answer : A) × IsAnswer rows answer in
+    read_by g reading IsAnswer old new result IsReturned kept quiet answers.success (λ clean.
+    fault_if (FailsToRead g (reading_statement reading) Unanswered old new) (FailsAtReading g reading old new) result (answers.failure clean) (λ fault failed.
+    inl (fewer_read g (reading_statement reading) Unanswered (CanRead reading) old new fault can failed))) returned

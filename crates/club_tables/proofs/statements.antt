@@ -1,0 +1,10 @@
+-- What one statement does, whatever the table: SELECT, INSERT, UPDATE.
+
+pub mod SelectLemmas
+pub mod JoinLemmas
+pub mod OrderLemmas
+pub mod InsertLemmas
+pub mod UpdateLemmas
+pub mod ReplaceLemmas
+pub mod PutLemmas
+pub mod HoldsRowsLemmas

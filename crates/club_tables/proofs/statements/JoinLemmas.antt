@@ -1,0 +1,143 @@
+-- What a SELECT over two tables gives, where each holds a list.
+use Rattle.std.proofs.Common.{◌≡◌, ℕ, ℤ, Bool, true, false, cond, ◌||◌, ◌&&◌, List, [], ◌∷◌, ◌++◌, map, refl, sym, ap, subst, ◌∙◌}
+use Rattle.std.specs.Prelude.{filter, flat_map, IsPermutation}
+use Rattle.std.specs.List.{AllByRecursion, AllZip, list_all, list_any}
+use Rattle.std.proofs.lemmas.List.{map-append}
+use Rattle.std.proofs.lemmas.List.Sorted.{IsPermutation-map, IsPermutation-refl, IsPermutation-sym, IsPermutation-cons, IsPermutation-trans}
+use Rattle.std.proofs.lemmas.List.Sorted.{IsPermutation-middle, IsPermutation-append_right}
+use Rattle.sqlite_value.specs.declared.value.Value.TheVariants.{Int, Null}
+use Rattle.sqlite.specs.Order.{Row}
+use Rattle.sqlite.specs.Term.{Term, Env, holds, eval_all}
+use Rattle.sqlite.specs.Query.{inner, end, IsAnswer, Output, output}
+use Rattle.sqlite.specs.Program.{overlay}
+use Rattle.sqlite.specs.Command.TheVariants.{Select}
+use Rattle.sqlite.specs.Effect.{Database, Reads, Answers}
+use Rattle.club_tables.specs.Tables.{IsRowOf, Holds}
+use Rattle.club_tables.specs.Statements.{select}
+use Rattle.club_tables.proofs.statements.SelectLemmas.{Apart, pick_by_if, no_overlay, picked}
+
+-- ---- lists
+
+pub flat_map_agree : {X A : Type 0} (f g : X → List A) → ((x : X) → f x ≡ g x) → (xs : List X) → flat_map f xs ≡ flat_map g xs
+flat_map_agree f g same [] = refl
+flat_map_agree f g same (x ∷ xs) = let e = same x in let more = flat_map_agree f g same xs in cc
+
+pub map_flat_map : {X A B : Type 0} (h : A → B) (f : X → List A) (xs : List X) → map h (flat_map f xs) ≡ flat_map (λ x. map h (f x)) xs
+map_flat_map h f [] = refl
+map_flat_map h f (x ∷ xs) = map-append h (f x) (flat_map f xs) ∙ ap (λ ys. map h (f x) ++ ys) (map_flat_map h f xs)
+
+pub map_map : {A B C : Type 0} (h : B → C) (f : A → B) (xs : List A) → map h (map f xs) ≡ map (λ x. h (f x)) xs
+map_map h f [] = refl
+map_map h f (x ∷ xs) = ap (λ ys. h (f x) ∷ ys) (map_map h f xs)
+
+pub filter_filter : {X : Type 0} (p q : X → Bool) (xs : List X) → filter p (filter q xs) ≡ filter (λ x. q x && p x) xs
+filter_filter p q [] = refl
+filter_filter {X} p q (x ∷ xs) = elim (q x) as (λ b. filter p (cond b (x ∷ filter q xs) (filter q xs))
+    ≡ cond (b && p x) (x ∷ filter (λ y. q y && p y) xs) (filter (λ y. q y && p y) xs)) [
+      | true ↦ elim (p x) as (λ b. cond b (x ∷ filter p (filter q xs)) (filter p (filter q xs))
+          ≡ cond b (x ∷ filter (λ y. q y && p y) xs) (filter (λ y. q y && p y) xs))
+          [ true ↦ ap (λ ys. x ∷ ys) (filter_filter p q xs) | false ↦ filter_filter p q xs ]
+      | false ↦ filter_filter p q xs
+    ]
+
+-- what passes a test passes one of two others, and never both
+pub in_two : {X : Type 0} (r p s : X → Bool) → ((x : X) → r x ≡ (p x || s x)) → ((x : X) → p x ≡ true → s x ≡ false) → (xs : List X)
+    → IsPermutation (filter r xs) (filter p xs ++ filter s xs)
+in_two r p s either apart [] = IsPermutation-refl []
+in_two {X} r p s either apart (x ∷ xs) = go (p x) (s x) refl refl (in_two r p s either apart xs)
+  where
+    go : (b c : Bool) → p x ≡ b → s x ≡ c → IsPermutation (filter r xs) (filter p xs ++ filter s xs)
+        → IsPermutation (cond (r x) (x ∷ filter r xs) (filter r xs)) (cond b (x ∷ filter p xs) (filter p xs) ++ cond c (x ∷ filter s xs) (filter s xs))
+    go true true hp hs more = absurd (let e = apart x hp in cc)
+    go true false hp hs more = rw (either x, hp) (IsPermutation-cons x (filter r xs) (filter p xs ++ filter s xs) more)
+    go false true hp hs more =
+        let front = filter p xs in
+        let back = filter s xs in
+        rw (either x, hp, hs) (IsPermutation-trans (x ∷ filter r xs) (x ∷ (front ++ back)) (front ++ x ∷ back)
+        (IsPermutation-cons x (filter r xs) (front ++ back) more) (IsPermutation-sym (front
+        ++ x ∷ back) (x ∷ (front ++ back)) (IsPermutation-middle front x back)))
+    go false false hp hs more = rw (either x, hp, hs) more
+
+-- where no two of the xs are paired with one y, the ys that are paired are those of the pairs
+module _ {X Y : Type 0} (paired : X → Y → Bool) where
+  abbrev pub IsElsewhere : X → X → Type 0
+  IsElsewhere a b = (y : Y) → paired a y ≡ true → paired b y ≡ false
+
+  none_else : (x : X) (y : Y) → paired x y ≡ true → (xs : List X) → AllByRecursion (IsElsewhere x) xs → list_any (λ other. paired other y) xs ≡ false
+  none_else x y h [] apart = refl
+  none_else x y h (other ∷ xs) apart = let here = apart.0 y h in rw here (none_else x y h xs apart.1)
+
+  no_pairs : (ys : List Y) → filter (λ y. false) ys ≡ []
+  no_pairs [] = refl
+  no_pairs (y ∷ ys) = no_pairs ys
+
+  pub pairs_of : (xs : List X) (ys : List Y) → Apart IsElsewhere xs → IsPermutation (filter (λ y. list_any (λ x. paired x y) xs) ys)
+      (flat_map (λ x. filter (paired x) ys) xs)
+  pairs_of [] ys apart = rw (no_pairs ys) (IsPermutation-refl [])
+  pairs_of (x ∷ xs) ys apart =
+      let others = λ (y : Y). list_any (λ other. paired other y) xs in
+      IsPermutation-trans (filter (λ y. list_any (λ other. paired other y) (x ∷ xs)) ys) (filter (paired x) ys
+      ++ filter others ys) (flat_map (λ other. filter (paired other) ys) (x ∷ xs))
+      (in_two (λ y. list_any (λ other. paired other y) (x ∷ xs)) (paired x) others (λ y. refl) (λ y h. none_else x y h xs apart.0) ys)
+      (IsPermutation-append_right (filter (paired x) ys) (filter others ys) (flat_map (λ other. filter (paired other) ys) xs) (pairs_of xs ys apart.1))
+
+-- ---- a query of two tables
+
+module _ (params : Row) (tests : List Term) (project : List Term) where
+  abbrev pub joins : Row → Row → Bool
+  joins a b = list_all (holds (params ∷ a ∷ b ∷ [])) tests
+
+  abbrev pub shows_both : Row → Row → Row
+  shows_both a b = eval_all project (params ∷ a ∷ b ∷ [])
+
+  -- the answer has what is shown of each pair that passes, in some order
+  pub answered_both : (outer inside : ℕ) (db : Database) (rows : List Row)
+      → Answers db (record { lets = []; body = select (inner outer (inner inside end)) tests project }) params rows
+      → IsPermutation (flat_map (λ a. map (shows_both a) (filter (joins a) (db.trees inside))) (db.trees outer)) rows
+  answered_both outer inside db rows h =
+      let query = select (inner outer (inner inside end)) tests project in
+      let a : IsAnswer query (overlay db.trees []) params rows = h.answer Null in
+      let pair : Row → Row → Env = λ x y. params ∷ x ∷ y ∷ [] in
+      let below : Row → List Env = λ x. map (pair x) (filter (joins x) (db.trees inside)) in
+      let ways : List Row → Row → List Env = λ ys x. flat_map (λ y. cond (joins x y) (pair x y ∷ []) []) ys in
+      let staged : a.staged ≡ flat_map below (db.trees outer) =
+      a.grouped ∙ ap (λ xs. flat_map (ways (overlay db.trees [] inside)) xs) (no_overlay db.trees outer)
+      ∙ ap (λ ys. flat_map (ways ys) (db.trees outer)) (no_overlay db.trees inside)
+      ∙ flat_map_agree (ways (db.trees inside)) below (λ x. pick_by_if (joins x) (pair x) (db.trees inside)) (db.trees outer) in
+      let kept : a.kept ≡ map (output query) (flat_map below (db.trees outer)) = a.distinct ∙ ap (map (output query)) staged in
+      let same = IsPermutation-map (λ (o : Output). o.1) a.kept a.ordered a.same in
+      let shown : Env → Row = λ env. (output query env).1 in
+      let all : map (λ (o : Output). o.1) a.kept ≡ flat_map (λ x. map (shows_both x) (filter (joins x) (db.trees inside))) (db.trees outer) =
+      ap (map (λ (o : Output). o.1)) kept ∙ map_map (λ (o : Output). o.1) (output query) (flat_map below (db.trees outer))
+      ∙ map_flat_map shown below (db.trees outer)
+      ∙ flat_map_agree (λ x. map shown (below x)) (λ x. map (shows_both x) (filter (joins x) (db.trees inside))) (λ x.
+      map_map shown (pair x) (filter (joins x) (db.trees inside))) (db.trees outer) in
+      subst (λ ys. IsPermutation ys rows) all (subst (IsPermutation (map (λ (o : Output). o.1) a.kept)) (sym a.shown) same)
+
+module _ {X Y : Type 0} (outer_values : X → Row) (values : Y → Row) (params : Row) (tests : List Term) (project : List Term) (p : X → Y → Bool) (show : Y → Row)
+    (tested : (i j : ℤ) (x : X) (y : Y) → list_all (holds (params ∷ (Int i ∷ outer_values x) ∷ (Int j ∷ values y) ∷ [])) tests ≡ p x y)
+    (shown : (i j : ℤ) (x : X) (y : Y) → eval_all project (params ∷ (Int i ∷ outer_values x) ∷ (Int j ∷ values y) ∷ []) ≡ show y) where
+  picked_both : (inside : List Row) (ys : List Y) → AllZip (λ row y. IsRowOf (values y) row) inside ys → (outer : List Row) (xs : List X)
+      → AllZip (λ row x. IsRowOf (outer_values x) row) outer xs
+      → flat_map (λ a. map (shows_both params tests project a) (filter (joins params tests project a) inside)) outer
+      ≡ flat_map (λ x. map show (filter (p x) ys)) xs
+  picked_both inside ys same [] [] h = refl
+  picked_both inside ys same [] (x ∷ xs) h = absurd h
+  picked_both inside ys same (a ∷ outer) [] h = absurd h
+  picked_both inside ys same (a ∷ outer) (x ∷ xs) h =
+      let row = h.0.1 in
+      let one : map (shows_both params tests project a) (filter (joins params tests project a) inside) ≡ map show (filter (p x) ys) =
+      picked values (p x) show (joins params tests project a) (shows_both params tests project a)
+      (λ id y. ap (λ r. joins params tests project r (Int id ∷ values y)) row ∙ tested h.0.0 id x y)
+      (λ id y. ap (λ r. shows_both params tests project r (Int id ∷ values y)) row ∙ shown h.0.0 id x y) inside ys same in
+      let more = picked_both inside ys same outer xs h.1 in
+      cc
+
+  -- the answer has what is shown of each pair of elements that passes, in some order
+  pub selected_both : (outer inside : ℕ) (names : List (List ℕ)) (db : Database) (xs : List X) (ys : List Y) (rows : List Row)
+      → Holds outer_values (db.trees outer) xs → Holds values (db.trees inside) ys
+      → Reads (Select (record { lets = []; body = select (inner outer (inner inside end)) tests project }) names) db params rows
+      → IsPermutation (flat_map (λ x. map show (filter (p x) ys)) xs) rows
+  selected_both outer inside names db xs ys rows held_outer held h =
+      subst (λ zs. IsPermutation zs rows) (picked_both (db.trees inside) ys held.same (db.trees outer) xs held_outer.same)
+      (answered_both params tests project outer inside db rows h)
