@@ -1,5 +1,5 @@
 -- The laws of the desk, from the response to one event.
-use Rattle.std.proofs.Common.{◌≡◌, ◌⊎◌, inl, inr, ℕ, true, List, [], ◌∷◌, ◌++◌, map, Option, Some, None, Result, Ok, Err, All, refl, sym, ap, ◌∙◌, subst}
+use Rattle.std.proofs.Common.{◌≡◌, ◌≢◌, ◌⊎◌, inl, inr, ℕ, true, List, [], ◌∷◌, ◌++◌, map, Option, Some, None, Result, Ok, Err, All, refl, sym, ap, ◌∙◌, subst}
 use Rattle.std.proofs.lemmas.List.{map-append}
 use Rattle.std.proofs.lemmas.List.Elements.{All-nil, All-cons, All-head, All-tail}
 use Rattle.base64.specs.GeneralPurpose.{IsBytes}
@@ -28,13 +28,13 @@ use Rattle.club_core.specs.Basis.{view_of}
 use Rattle.club_core.specs.Club.{Club}
 use Rattle.club_core.specs.Pass.{Pass, Words, IsSignedUnder}
 use Rattle.club_core.specs.Run.{Asked}
-use Rattle.club_laws.specs.SingleRequest.{MoreCaveatsNeverOpenMore, ServesOnlyTheEntitled, words_with}
+use Rattle.club_laws.specs.SingleRequest.{DependsOnTheBasisAlone, MoreCaveatsNeverOpenMore, RefusesWithoutABasis, ServesOnlyTheEntitled, words_with}
 use Rattle.club_laws.specs.Failed.{ToMember, is_unavailable}
 use Rattle.club_gate.specs.Desk.{IsAnsweredBy, IsRefusedBy}
 use Rattle.club_gate.specs.Identifier.{FindsNames, key_name_in}
 use Rattle.club_gate.specs.Minted.{identifier_of}
 use Rattle.club_gate.specs.DecodedPass.{machine_pass, decoded_pass, decoded_or_fault, without_form, decoded_words}
-use Rattle.club_gate.specs.Served.{AnswersItsForms, EntitlesTo, IsNarrowedText, IsSignedFor, reply_in}
+use Rattle.club_gate.specs.Served.{AnswersItsForms, EntitlesTo, IsLawful, IsNarrowedText, IsSignedFor, reply_in}
 use Rattle.club_gate.specs.Response.{unavailable}
 
 failed_reply : (reply : Reply) → is_unavailable reply ≡ true → reply ≡ unavailable
@@ -54,7 +54,7 @@ reply_or_failure Represents new club others words moment reply (inr f) = inl (fa
 not_served : (reply : Reply) → reply ≡ unavailable → IsServed reply → ⊥
 not_served reply e h = h Unavailable e
 
-pub served_reply : (club : Club) (words : Words) (moment : ℕ) (reply : Reply)
+served_reply : (club : Club) (words : Words) (moment : ℕ) (reply : Reply)
     → (reply ≡ unavailable) ⊎ (reply ≡ (verdict_in club words moment).reply) → IsServed reply
     → reply ≡ (verdict_in club words moment).reply
 served_reply club words moment reply (inl e) h = absurd (not_served reply e h)
@@ -90,7 +90,7 @@ plain_signed : DecidesSigned → (plain : Plain) (key : Key) (moment : ℕ) → 
 plain_signed signed_law plain key moment h = record { root = h.root; good = h.good; signed = (signed_law h.root plain).0 h.signed }
 
 -- a text that is served entitles to the request
-pub served_text : ServesOnlyTheEntitled → ReadsAnyFormExactly → DecidesSigned → FindsNames → ReadsWhatIsUnderstood
+served_text : ServesOnlyTheEntitled → ReadsAnyFormExactly → DecidesSigned → FindsNames → ReadsWhatIsUnderstood
     → (club : Club) (text : List ℕ) (request : Request) (moment : ℕ) → IsBytes text → IsServed (reply_in club text request moment)
     → EntitlesTo club text request moment
 served_text serves reads signed_law finds understood club text request moment bytes h =
@@ -129,7 +129,7 @@ forms_alike reads club text other request moment form other_form plain a b h k =
     let same : decoded_pass text ≡ decoded_pass other = decodes_as reads text form plain a h ∙ sym (decodes_as reads other other_form plain b k) in
     ap (λ (s : Result Pass FormFault). (verdict_in club (record { pass = s; request = request }) moment).reply) same
 
-pub answers_forms : ReadsAnyFormExactly → (club : Club) (text : List ℕ) (request : Request) (moment : ℕ) (reply : Reply)
+answers_forms : ReadsAnyFormExactly → (club : Club) (text : List ℕ) (request : Request) (moment : ℕ) (reply : Reply)
     → IsBytes text → (reply ≡ unavailable) ⊎ (reply ≡ reply_in club text request moment)
     → AnswersItsForms club text request moment reply
 answers_forms reads club text request moment reply bytes (inl e) other form other_form plain b h k some = absurd (some e)
@@ -148,7 +148,7 @@ named_by finds identifier name other e f =
     e ∙ ap (λ (n : List ℕ). Some n) same
 
 -- a narrower pass opens no more
-pub opens_no_more : ServesOnlyTheEntitled → MoreCaveatsNeverOpenMore → ReadsAnyFormExactly → DecidesSigned → FindsNames
+opens_no_more : ServesOnlyTheEntitled → MoreCaveatsNeverOpenMore → ReadsAnyFormExactly → DecidesSigned → FindsNames
     → (club : Club) (text wide : List ℕ) (request : Request) (moment : ℕ) → IsBytes text → IsBytes wide
     → IsNarrowedText club wide text moment → IsServed (reply_in club text request moment)
     → reply_in club text request moment ≡ reply_in club wide request moment
@@ -173,3 +173,29 @@ opens_no_more serves more reads signed_law finds club text wide request moment b
     (plain_signed signed_law n.pass n.key moment n.signed)
     there in
     ap reply narrow_decoded ∙ (ap (λ (v : Verdict). v.reply) (sym same) ∙ sym (ap reply broad_decoded))
+
+-- a reply that isn't `Unavailable` is the machine's
+machine_reply : (reply wanted : Reply) → (reply ≡ unavailable) ⊎ (reply ≡ wanted) → reply ≢ unavailable → reply ≡ wanted
+machine_reply reply wanted (inl e) some = absurd (some e)
+machine_reply reply wanted (inr e) some = e
+
+-- the law of the desk, for the machine's reply or `Unavailable`
+pub lawful : ServesOnlyTheEntitled → DependsOnTheBasisAlone → RefusesWithoutABasis → MoreCaveatsNeverOpenMore → ReadsAnyFormExactly → DecidesSigned
+    → FindsNames → ReadsWhatIsUnderstood
+    → (club : Club) (text : List ℕ) (request : Request) (moment : ℕ) (reply : Reply) → IsBytes text
+    → (reply ≡ unavailable) ⊎ (reply ≡ reply_in club text request moment)
+    → IsLawful club text request moment reply
+lawful serves alone refuses more reads signed_law finds understood club text request moment reply bytes returned =
+    let words = decoded_words text request in
+    let machine = reply_in club text request moment in
+    let same = served_reply club words moment reply returned in
+    let also_served : IsServed reply → IsServed machine = λ served. subst (λ (r : Reply). IsServed r) (same served) served in
+    record {
+      entitles = λ served. served_text serves reads signed_law finds understood club text request moment bytes (also_served served);
+      depends = λ other basis some. machine_reply reply machine returned some
+          ∙ ap (λ (v : Verdict). v.reply) (alone words moment club other (sym basis));
+      blind = λ none some. machine_reply reply machine returned some ∙ ap (λ (v : Verdict). v.reply) (refuses words moment club none);
+      forms = answers_forms reads club text request moment reply bytes returned;
+      less = λ wide wide_bytes narrowed served. same served
+          ∙ opens_no_more serves more reads signed_law finds club text wide request moment bytes wide_bytes narrowed (also_served served);
+    }

@@ -15,6 +15,10 @@ use Rattle.club_gate.specs.declared.fault.Fault.{Fault}
 use Rattle.club_gate.specs.declared.fault.Fault.TheVariants.{Memory}
 use Rattle.club_gate.specs.Response.{fault_of_store, desk_presentation}
 
+-- true of whichever club the store represented before a call, if its disk is clean after the call
+abbrev pub OfItsClub : {S : Type 0} → (S → Type 0) → (S → Club → List Club → Type 0) → S → S → (Club → Type 0) → Type 0
+OfItsClub IsClean Represents old new IsSo = IsClean new → (club : Club) (others : List Club) → Represents old club others → IsSo club
+
 abbrev pub change_by : Result Change OfficeFault → Option Change
 change_by (Ok change) = Some change
 change_by (Err fault) = None

@@ -121,6 +121,20 @@ IsNeverNegative club = All (λ (member : Member). sum_by cost_of (bookings_of me
 abbrev pub IsNeverOverbooked : Club → Type 0
 IsNeverOverbooked club = (slot : Slot) → HasPlaces slot club
 
+-- The laws of a run from a club.
+pub record IsLawfulRun (club : Club) (events : List machine.Event) (responses : List DeskResponse) : Type 0 where
+  -- the replies are the machine's, failed events left out
+  pub run : IsAnsweredRun club events responses
+  -- a member's replies depend on its own part and events, and on what others hold of its slots
+  pub solo : IsSolo club events responses
+  pub solo_of_two : IsAsInAnother club events responses
+  -- a repeat of a served request gets the same reply, and changes nothing
+  pub once : IsOnce club events responses
+  -- points are neither made nor lost, and no slot is overbooked
+  pub conserves : Conserves club events responses
+  pub never_negative : IsNeverNegative (club_left club events responses)
+  pub never_overbooked : IsNeverOverbooked (club_left club events responses)
+
 -- another possible crash state: one of before, or the last club after one of the events that failed
 abbrev pub IsLeftBehind : Club → List Club → Club → List machine.Event → Club → Type 0
 IsLeftBehind club others last refused left = WasLeftBefore club others last left ⊎ IsAfterOneOf last refused left

@@ -87,6 +87,19 @@ OpensNoMore club text request moment reply =
     (wide : List ℕ) → IsBytes wide → IsNarrowedText club wide text moment
     → IsServed reply → reply ≡ reply_in club wide request moment
 
+-- The law of the desk, for one reply.
+pub record IsLawful (club : Club) (text : List ℕ) (request : Request) (moment : ℕ) (reply : Reply) : Type 0 where
+  -- the request is served only if its pass entitles to it
+  pub entitles : IsServed reply → EntitlesTo club text request moment
+  -- the reply depends on the words, the moment and the rows that the words name, and on nothing else
+  pub depends : DependsOnTheBasis club text request moment reply
+  -- if the words name no such rows, the reply depends on the words alone
+  pub blind : IsBlind club text request reply
+  -- the same pass in another form gets the same reply
+  pub forms : AnswersItsForms club text request moment reply
+  -- a pass with more caveats never opens more
+  pub less : OpensNoMore club text request moment reply
+
 -- The text isn't JSON, so it is read in place, without memory.
 abbrev pub IsReadInPlace : List ℕ → Type 0
 IsReadInPlace text = (bytes : List ℕ) → unwrapping text ≢ Ok (Json, bytes)

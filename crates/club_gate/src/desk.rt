@@ -18,7 +18,6 @@ ghost use Rattle.pass_json.specs.AnyForm.{IsAnyReading};
 ghost use Rattle.pass_json.specs.computed.AnyForm.{reading};
 ghost use Rattle.club_core.specs.declared.reply.Reply.TheVariants.{Refused};
 ghost use Rattle.club_core.specs.Answer.{form_refusal};
-ghost use Rattle.club_core.specs.Acceptance.{IsServed};
 ghost use Rattle.club_core.specs.Club.{Club};
 ghost use Rattle.club_core.specs.Office.{order_view};
 ghost use Rattle.club_core.specs.Run as machine;
@@ -32,19 +31,12 @@ ghost use Rattle.club_gate.specs.Desk.{
   FitsIfAny,
   IsSheetFault,
   NamesItsFault,
+  OfItsClub,
   Steps,
   others_after,
 };
 ghost use Rattle.club_gate.specs.DecodedPass.{fault_of, decoded_words};
-ghost use Rattle.club_gate.specs.Served.{
-  AnswersItsForms,
-  DependsOnTheBasis,
-  EntitlesTo,
-  IsBlind,
-  IsReadInPlace,
-  RefusesByFormFault,
-  OpensNoMore,
-};
+ghost use Rattle.club_gate.specs.Served.{IsLawful, IsReadInPlace, RefusesByFormFault};
 ghost use Rattle.club_gate.specs.Response.{answer_or_fault, machine_event, reply_or_unavailable, response_of};
 
 use crate::event::{Event, EventReply, OfficeReply};
@@ -202,10 +194,9 @@ impl<S: ClubStore> Desk<S> {
         ensures was_clean { S.disk_is_clean self.new → S.disk_is_clean self.old }
         ensures steps { S.disk_is_clean self.new → Steps S.represents self.old self.new
             (machine.Ordered command.now) (ToOffice (answer_or_fault result)) }
-        ensures failed { S.disk_is_clean self.new → (club : Club) (others : List Club)
-            → S.represents self.old club others
-            → IfErr result
-            (FailsAt S.fails self.old self.new club (machine.Ordered command.now)) }
+        ensures failed { OfItsClub S.disk_is_clean S.represents self.old self.new
+            (λ club. IfErr result
+            (FailsAt S.fails self.old self.new club (machine.Ordered command.now))) }
     {
         steps_keep_sound();
         command.within();
@@ -234,28 +225,8 @@ impl<S: ClubStore> Desk<S> {
         ensures steps { S.disk_is_clean self.new → Steps S.represents self.old self.new
             (machine.Asked (decoded_words words.now.pass.now words.now.request) moment)
             (ToMember result) }
-        // A request is served only if its pass entitles to it.
-        ensures served { S.disk_is_clean self.new → (club : Club) (others : List Club)
-            → S.represents self.old club others
-            → IsServed result
-            → EntitlesTo club words.now.pass.now words.now.request moment }
-        // The reply depends on the words, the moment and the rows that the words name, and on
-        // nothing else.
-        ensures depends { S.disk_is_clean self.new → (club : Club) (others : List Club)
-            → S.represents self.old club others
-            → DependsOnTheBasis club words.now.pass.now words.now.request moment result }
-        // If the words name no such rows, the reply depends on the words alone.
-        ensures blind { S.disk_is_clean self.new → (club : Club) (others : List Club)
-            → S.represents self.old club others
-            → IsBlind club words.now.pass.now words.now.request result }
-        // The same pass in another form gets the same reply.
-        ensures forms { S.disk_is_clean self.new → (club : Club) (others : List Club)
-            → S.represents self.old club others
-            → AnswersItsForms club words.now.pass.now words.now.request moment result }
-        // A pass with more caveats never opens more.
-        ensures less { S.disk_is_clean self.new → (club : Club) (others : List Club)
-            → S.represents self.old club others
-            → OpensNoMore club words.now.pass.now words.now.request moment result }
+        ensures lawful { OfItsClub S.disk_is_clean S.represents self.old self.new
+            (λ club. IsLawful club words.now.pass.now words.now.request moment result) }
         // A text that isn't a pass leaves the store as it is, and is refused without memory unless
         // it is JSON.
         ensures untouched { (fault : FormFault) → IsAnyReading words.now.pass.now (Err fault)
@@ -287,9 +258,9 @@ impl<S: ClubStore> Desk<S> {
         ensures was_clean { S.disk_is_clean self.new → S.disk_is_clean self.old }
         ensures steps { S.disk_is_clean self.new → Steps S.represents self.old self.new
             (machine.Ordered command.now) (ToOffice result) }
-        ensures failed { S.disk_is_clean self.new → (club : Club) (others : List Club)
-            → S.represents self.old club others
-            → NamesItsFault S.fails self.old self.new club (machine.Ordered command.now) result }
+        ensures failed { OfItsClub S.disk_is_clean S.represents self.old self.new
+            (λ club. NamesItsFault S.fails self.old self.new club (machine.Ordered command.now)
+            result) }
     {
         match self.answer_to(command) {
             Ok(answer) => OfficeReply::from_answer(answer),

@@ -5,16 +5,9 @@ ghost use Rattle.club_core.specs.Club.{Club};
 ghost use Rattle.club_core.specs.Events.{IsEvent};
 ghost use Rattle.club_core.specs.Store.{Returns};
 ghost use Rattle.club_gate.specs.Runs.{
-  Conserves,
-  IsAnsweredRun,
-  IsAsInAnother,
   IsFollowed,
-  IsNeverNegative,
-  IsNeverOverbooked,
-  IsOnce,
-  IsSolo,
+  IsLawfulRun,
   LeavesClub,
-  club_left,
   machine_events,
   responses_of,
 };
@@ -50,29 +43,14 @@ impl<S: ClubStore> Desk<S> {
     pub fn run(&mut self, events: &[Event]) -> Result<Vec<EventReply>, AllocError>
         ensures was_clean { S.disk_is_clean self.new → S.disk_is_clean self.old }
         ensures err { OnErr result (self.new ≡ self.old) }
-        ensures answered { S.disk_is_clean self.new → Returns S.represents self.old result
-            (λ club replies. IsAnsweredRun club (machine_events events.now)
+        ensures lawful { S.disk_is_clean self.new → Returns S.represents self.old result
+            (λ club replies. IsLawfulRun club (machine_events events.now)
             (responses_of replies.items)) }
+        // A crash leaves the club of the answered events, or that after one event that failed.
         ensures represents { S.disk_is_clean self.new → (club : Club) (others : List Club)
             → S.represents self.old club others
             → IfOk result (λ replies. LeavesClub S.represents self.new club others
             (machine_events events.now) (responses_of replies.items)) }
-        ensures solo { S.disk_is_clean self.new → Returns S.represents self.old result
-            (λ club replies. IsSolo club (machine_events events.now) (responses_of replies.items)) }
-        ensures solo_of_two { S.disk_is_clean self.new → Returns S.represents self.old result
-            (λ club replies. IsAsInAnother club (machine_events events.now)
-            (responses_of replies.items)) }
-        ensures once { S.disk_is_clean self.new → Returns S.represents self.old result
-            (λ club replies. IsOnce club (machine_events events.now) (responses_of replies.items)) }
-        ensures conserved { S.disk_is_clean self.new → Returns S.represents self.old result
-            (λ club replies. Conserves club (machine_events events.now)
-            (responses_of replies.items)) }
-        ensures never_negative { S.disk_is_clean self.new → Returns S.represents self.old result
-            (λ club replies. IsNeverNegative
-            (club_left club (machine_events events.now) (responses_of replies.items))) }
-        ensures never_overbooked { S.disk_is_clean self.new → Returns S.represents self.old result
-            (λ club replies. IsNeverOverbooked
-            (club_left club (machine_events events.now) (responses_of replies.items))) }
     {
         leaves_out_failed::<OfficeReply>();
         keeps_sound::<OfficeReply>();

@@ -2,7 +2,7 @@
 -- and on a count of failures (ours).
 use Rattle.std.specs.Prelude.{ℕ, ◌==◌, ◌+◌, ◌-◌, ◌^◌, ◌<◌, ◌&&◌, min, List}
 use Rattle.std.specs.Prelude.{length, take, nat_lt, if◌then◌else◌, Option, Some, None, ◌≡◌}
-use Rattle.std.specs.Prelude.{MatchOption}
+use Rattle.std.specs.Prelude.{MatchOption, MatchResult, Result}
 use Rattle.std.specs.Io.KnownBytes.{Keeps, Appends, Consumes, IsAtEnd}
 
 -- one failure more; the count is a u64 that saturates
@@ -26,6 +26,12 @@ abbrev pub Takes : Option (List ℕ) → Option (List ℕ) → Option ℕ → Li
 Takes old new result bytes = MatchOption result
     (Keeps old new)
     (λ n. Appends old new (take n bytes))
+
+-- all the bytes were taken; or the first n of them, fewer than all, before one failure
+abbrev pub TakesAll : {A : Type 0} → Option (List ℕ) → Option (List ℕ) → ℕ → ℕ → List ℕ → Result A ℕ → Type 0
+TakesAll old new failures failures' bytes result = MatchResult result
+    (λ _. Appends old new bytes × (failures' ≡ failures))
+    (λ n. (n < length bytes) × Appends old new (take n bytes) × (failures' ≡ one_more failures))
 
 -- the count after a call that writes: `None` is a failure, and so is 0 of some bytes
 abbrev pub put_failures : ℕ → Option ℕ → List ℕ → ℕ

@@ -1,6 +1,6 @@
 //! The server.
 
-ghost use Rattle.std.specs.Prelude.{◌≡◌, length, MatchResult, Some, None};
+ghost use Rattle.std.specs.Prelude.{◌≡◌, length, None, OnErr, OnOk};
 ghost use Rattle.desk_server.specs.Served.{AreNoted, CountsOn, IsNoted, ServesOne, Serves, ServerSteps};
 ghost use Rattle.desk_server.specs.declared.log.Fate.{Fate};
 ghost use Rattle.desk_server.specs.declared.log.Fate.TheVariants.{Unanswered};
@@ -97,12 +97,11 @@ fn serve_next<L: Connections, M: Moments, D: IdleHook, G: Log>(
     log: &mut G,
 ) -> Result<(), ClockOutOfRange>
     ensures waited { CountsOn (L.waited connections.old) 1 (L.waited connections.new) }
-    ensures served { MatchResult result
-        (λ _. (fate : Fate) × IsNoted G.begins G.notes log.old fate log.new
+    ensures served { OnOk result ((fate : Fate) × IsNoted G.begins G.notes log.old fate log.new
         × ServesOne M.gives D.answers D.idles L.Connection.ends
         moments.old desk.old (L.failures connections.old) fate
-        moments.new desk.new (L.failures connections.new))
-        (λ _. IsNoted G.begins G.notes log.old Unanswered log.new
+        moments.new desk.new (L.failures connections.new)) }
+    ensures no_moment { OnErr result (IsNoted G.begins G.notes log.old Unanswered log.new
         × M.gives moments.old None moments.new
         × (desk.new ≡ desk.old)
         × (L.failures connections.new ≡ L.failures connections.old)) }

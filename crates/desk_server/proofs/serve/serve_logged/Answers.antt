@@ -22,7 +22,7 @@ loop-served-preserved g c =
 pub returns-in-Err-clause-served : goal.returns-in-Err-clause-served
 returns-in-Err-clause-served g c =
     let inv = c.loop-served.invariant in
-    let stop = c.in-Err.ensures.served in
+    let stop = c.in-Err.ensures.no_moment in
     record {
       fates = inv.fates;
       last = c.loop-served.moments;
@@ -43,7 +43,7 @@ returns-clause-served g c =
 pub returns-in-Err-clause-desk_steps : goal.returns-in-Err-clause-desk_steps
 returns-in-Err-clause-desk_steps g c =
     let inv = c.loop-served.invariant in
-    let stop = c.in-Err.ensures.served in
+    let stop = c.in-Err.ensures.no_moment in
     (c.loop-served.served, omega arith, rw (stop.2, stop.3, ← inv.so_many) (desk_steps _ _ _ _ _ _ _ _ _ _ _ inv.served))
 
 pub returns-clause-desk_steps : goal.returns-clause-desk_steps

@@ -35,7 +35,7 @@ recovers_after_run opened club others events returned (now ∷ clubs) sound each
 pub returns-in-Ok-clause-answered : goal.returns-in-Ok-clause-answered
 returns-in-Ok-clause-answered g c = λ clean club others represents.
     let was_clean = subst (λ held. HasCleanDisk (file_state held)) c.into_store.ensures (c.into_store-store.ensures.was_clean clean) in
-    c.in-Ok.ensures.answered was_clean club others represents
+    (c.in-Ok.ensures.lawful was_clean club others represents).run
 
 pub returns-in-Ok-clause-again : goal.returns-in-Ok-clause-again
 returns-in-Ok-clause-again g c = λ club others represents left opened by opens.
