@@ -39,7 +39,7 @@ keeps_new : (view : View) (slot : Slot) (number guests moment : ℕ) (facility :
     KeepsWhereRefused (new_verdict view slot number guests moment facility)
 keeps_new view slot number guests moment None = record { kept = λ r e. refl }
 keeps_new view slot number guests moment (Some facility) =
-    let last = booked_now (new_booking view slot number guests facility) in
+    let last = booked_now (new_booking view slot number guests facility) view.key.member in
     keeps_first (book_lines view slot guests moment facility) last (
       record { kept = λ r e. refl },
       (record { kept = λ r e. refl }, (record { kept = λ r e. refl }, (record { kept = λ r e. refl }, (record { kept = λ r e. refl }, tt)))),
@@ -51,9 +51,9 @@ keeps_repeat booking slot guests =
     keep (same_slot booking.slot slot && booking.guests == guests) (booked_before booking) (refusal_verdict NumberUsed) (record { kept = λ r e. refl })
     (record { kept = λ r e. refl })
 
-keeps_cancel : (booking : Booking) (slot : Slot) (moment : ℕ) → KeepsWhereRefused (cancel_recorded_verdict booking slot moment)
-keeps_cancel booking slot moment =
-    keeps_first (cancel_lines booking slot moment) (cancelled_now booking (refund_at booking moment))
+keeps_cancel : (booking : Booking) (member : List ℕ) (slot : Slot) (moment : ℕ) → KeepsWhereRefused (cancel_recorded_verdict booking member slot moment)
+keeps_cancel booking member slot moment =
+    keeps_first (cancel_lines booking slot moment) (cancelled_now booking member (refund_at booking moment))
     (record { kept = λ r e. refl }, (record { kept = λ r e. refl }, (record { kept = λ r e. refl }, tt)))
     (record { kept = λ r e. cc })
 
@@ -76,7 +76,8 @@ keeps_verdict view (asked.Book slot number guests) moment =
     keeps_recorded view.booking (λ b. repeat_booking_verdict b slot guests) (new_verdict view slot number guests moment view.facility)
     (λ b. keeps_repeat b slot guests) (keeps_new view slot number guests moment view.facility)
 keeps_verdict view (asked.Cancel slot number) moment =
-    keeps_recorded view.booking (λ b. cancel_recorded_verdict b slot moment) (unknown_verdict view.facility) (λ b. keeps_cancel b slot moment)
+    keeps_recorded view.booking (λ b. cancel_recorded_verdict b view.key.member slot moment) (unknown_verdict view.facility)
+    (λ b. keeps_cancel b view.key.member slot moment)
     (keeps_unknown view.facility)
 keeps_verdict view asked.Account moment = record { kept = λ r e. refl }
 

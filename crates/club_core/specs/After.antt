@@ -45,7 +45,7 @@ after (AddCredit name points) club = record club { members = map (credited_membe
 after (InsertFacility facility) club = record club { facilities = club.facilities ++ facility ∷ [] }
 after (InsertKey key) club = record club { keys = club.keys ++ key ∷ [] }
 after (MarkRevoked name) club = record club { keys = map (revoked_key name) club.keys }
-after (ReplaceRoot name root until) club = record club { keys = map (rotated_key name root until) club.keys }
+after (ReplaceRoot name former root until) club = record club { keys = map (rotated_key name root until) club.keys }
 after (MarkClosed slot) club = record club { closed = club.closed ++ slot ∷ [] }
-after (InsertBooking booking) club = record club { bookings = club.bookings ++ booking ∷ [] }
-after (MarkCancelled key number refund) club = record club { bookings = map (cancelled_booking key number refund) club.bookings }
+after (InsertBooking booking member) club = record club { bookings = club.bookings ++ booking ∷ [] }
+after (MarkCancelled booking member refund) club = record club { bookings = map (cancelled_booking booking.key booking.number refund) club.bookings }

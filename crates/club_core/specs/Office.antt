@@ -52,7 +52,7 @@ are_limits places price opens shuts =
 abbrev pub rotate_verdict : List ℕ → List ℕ → ℕ → Option Key → Result Change OfficeFault
 rotate_verdict name root until None = Err Unknown
 rotate_verdict name root until (Some key) =
-    first_of (line_if (bytes_eq key.root root) (Err Exists) ∷ []) (Ok (ReplaceRoot name root until))
+    first_of (line_if (bytes_eq key.root root) (Err Exists) ∷ []) (Ok (ReplaceRoot name key.root root until))
 
 abbrev pub close_verdict : SlotUse → Slot → Option Facility → Result Change OfficeFault
 close_verdict held slot None = Err Unknown

@@ -39,10 +39,10 @@ is_own name club (AddCredit member points) = bytes_eq member name
 is_own name club (InsertFacility facility) = true
 is_own name club (InsertKey key) = bytes_eq key.member name
 is_own name club (MarkRevoked key) = is_key_of name club key
-is_own name club (ReplaceRoot key root until) = is_key_of name club key
+is_own name club (ReplaceRoot key former root until) = is_key_of name club key
 is_own name club (MarkClosed slot) = false
-is_own name club (InsertBooking booking) = false
-is_own name club (MarkCancelled key number refund) = false
+is_own name club (InsertBooking booking member) = false
+is_own name club (MarkCancelled booking member refund) = false
 
 abbrev pub own_change : List ℕ → Club → Result Change OfficeFault → List OwnEvent
 own_change name club (Err fault) = []

@@ -1,13 +1,37 @@
 -- What a store of the club's rows returns, keeps and may recover to (ours).
-use Rattle.std.specs.Prelude.{List, Option, None, Result, Ok, Err, IfOk}
+use Rattle.std.specs.Prelude.{◌≡◌, ℕ, false, List, Option, Some, None, Result, Ok, Err, IfOk}
+use Rattle.club_rows.specs.declared.key.Key.{Key}
+use Rattle.club_rows.specs.declared.booking.Booking.{Booking}
 use Rattle.club_core.specs.declared.change.Change.{Change}
+use Rattle.club_core.specs.declared.change.Change.TheVariants.{ReplaceRoot, InsertBooking, MarkCancelled}
 use Rattle.club_core.specs.declared.store.StoreFault.{StoreFault}
 use Rattle.club_core.specs.After.{after}
-use Rattle.club_core.specs.Club.{Club, IsSound}
+use Rattle.club_core.specs.Club.{Club, IsSound, key_named}
+use Rattle.club_core.specs.Sums.{booking_under}
 
--- a change fits a club if the club after it is sound
-abbrev pub FitsClub : Change → Club → Type 0
-FitsClub change club = IsSound (after change club)
+-- the key of this name is the member's
+abbrev pub IsOwnedBy : List ℕ → List ℕ → Club → Type 0
+IsOwnedBy member key club = (row : Key) × (key_named key club ≡ Some row) × (row.member ≡ member)
+
+-- the key of this name has this root
+abbrev pub HasRoot : List ℕ → List ℕ → Club → Type 0
+HasRoot key root club = (row : Key) × (key_named key club ≡ Some row) × (row.root ≡ root)
+
+-- the booking is in the club, and isn't cancelled
+abbrev pub IsToCancel : Booking → Club → Type 0
+IsToCancel booking club = (booking_under booking.key booking.number club.bookings ≡ Some booking) × (booking.cancelled ≡ false)
+
+-- what a change carries of the club's rows is so: the key's former root, the member of a booking's key, the booking as it is on record
+abbrev pub IsTrueOf : Change → Club → Type 0
+IsTrueOf (ReplaceRoot key former root until) club = HasRoot key former club
+IsTrueOf (InsertBooking booking member) club = IsOwnedBy member booking.key club
+IsTrueOf (MarkCancelled booking member refund) club = IsToCancel booking club × IsOwnedBy member booking.key club
+IsTrueOf change club = Unit {0}
+
+-- a change fits a club if what it carries is true of the club, and the club after it is sound
+pub record FitsClub (change : Change) (club : Club) : Type 0 where
+  pub carries : IsTrueOf change club
+  pub sound : IsSound (after change club)
 
 -- the store represents the same club, with the same possible crash states
 abbrev pub KeepsClub : {S : Type 0} → (S → Club → List Club → Type 0) → S → S → Type 0

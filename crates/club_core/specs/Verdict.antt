@@ -46,17 +46,18 @@ new_booking view slot number guests facility = record {
   refund = 0;
 }
 
-abbrev pub booked_now : Booking → Verdict
-booked_now booking = record {
+-- a new booking, under a key of the member
+abbrev pub booked_now : Booking → List ℕ → Verdict
+booked_now booking member = record {
   reply = Booked booking.key booking.number booking.charge booking.left;
-  change = Some (InsertBooking booking);
+  change = Some (InsertBooking booking member);
 }
 
--- the booking is marked cancelled with its refund
-abbrev pub cancelled_now : Booking → ℕ → Verdict
-cancelled_now booking refund = record {
+-- the booking, under a key of the member, is marked cancelled with its refund
+abbrev pub cancelled_now : Booking → List ℕ → ℕ → Verdict
+cancelled_now booking member refund = record {
   reply = Cancelled booking.key booking.number refund;
-  change = Some (MarkCancelled booking.key booking.number refund);
+  change = Some (MarkCancelled booking member refund);
 }
 
 -- the first reply to a cancellation, again
@@ -82,7 +83,7 @@ book_lines view slot guests moment facility =
 abbrev pub new_verdict : View → Slot → ℕ → ℕ → ℕ → Option Facility → Verdict
 new_verdict view slot number guests moment None = refusal_verdict NoSuchFacility
 new_verdict view slot number guests moment (Some facility) =
-    first_of (book_lines view slot guests moment facility) (booked_now (new_booking view slot number guests facility))
+    first_of (book_lines view slot guests moment facility) (booked_now (new_booking view slot number guests facility) view.key.member)
 
 abbrev pub recorded_or : Option Booking → (Booking → Verdict) → Verdict → Verdict
 recorded_or None recorded other = other
@@ -101,10 +102,10 @@ cancel_lines booking slot moment =
     ∷ line_if (nat_le (start_of booking.slot) moment) (refusal_verdict SlotHasBegun)
     ∷ []
 
--- a cancellation under a used number
-abbrev pub cancel_recorded_verdict : Booking → Slot → ℕ → Verdict
-cancel_recorded_verdict booking slot moment =
-    first_of (cancel_lines booking slot moment) (cancelled_now booking (refund_at booking moment))
+-- a cancellation under a used number, by a key of the member
+abbrev pub cancel_recorded_verdict : Booking → List ℕ → Slot → ℕ → Verdict
+cancel_recorded_verdict booking member slot moment =
+    first_of (cancel_lines booking slot moment) (cancelled_now booking member (refund_at booking moment))
 
 -- a cancellation under an unused number
 abbrev pub unknown_verdict : Option Facility → Verdict
@@ -113,7 +114,7 @@ unknown_verdict (Some facility) = refusal_verdict NoSuchBooking
 
 abbrev pub cancel_verdict : View → Slot → ℕ → Verdict
 cancel_verdict view slot moment =
-    recorded_or view.booking (λ booking. cancel_recorded_verdict booking slot moment) (unknown_verdict view.facility)
+    recorded_or view.booking (λ booking. cancel_recorded_verdict booking view.key.member slot moment) (unknown_verdict view.facility)
 
 abbrev pub shown_at : View → Slot → Option Facility → Verdict
 shown_at view slot None = refusal_verdict NoSuchFacility

@@ -1,9 +1,10 @@
 //! The changes that a request or an order makes to the club's rows.
 
-use club_rows::{Booking, BookingNumber, Facility, Key, Member, Root};
+use club_rows::{Booking, Facility, Key, Member, Root};
 use club_values::{Moment, Name, Slot};
 
-/// A change of the club's rows.
+/// A change of the club's rows. It carries what its decision found in them, so that a store makes
+/// it without a read.
 #[derive(Clone, Copy, Debug, PartialEq, Eq)]
 pub enum Change {
     InsertMember(Member),
@@ -20,15 +21,21 @@ pub enum Change {
     /// older root before that is dropped.
     ReplaceRoot {
         key: Name,
+        former: Root,
         root: Root,
         until: Moment,
     },
     MarkClosed(Slot),
-    InsertBooking(Booking),
-    /// Marks a booking cancelled, with its refund. A cancelled booking is unchanged.
+    /// Inserts a booking under a key of the member.
+    InsertBooking {
+        booking: Booking,
+        member: Name,
+    },
+    /// Marks a booking under a key of the member cancelled, with its refund. The booking is as it
+    /// is on record. A cancelled booking is unchanged.
     MarkCancelled {
-        key: Name,
-        number: BookingNumber,
+        booking: Booking,
+        member: Name,
         refund: u32,
     },
 }

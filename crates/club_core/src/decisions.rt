@@ -21,7 +21,7 @@ use crate::request::Request;
 use crate::verdict::Verdict;
 use crate::view::View;
 use club_rows::{Booking, BookingNumber, Facility, Guests};
-use club_values::{MINUTES_A_DAY, Moment, Slot};
+use club_values::{MINUTES_A_DAY, Moment, Name, Slot};
 
 /// How many minutes ahead a slot may begin: those of 60 days.
 const BOOKING_WINDOW: u64 = 60 * MINUTES_A_DAY as u64;
@@ -96,7 +96,7 @@ fn book_at(
     if view.balance < charge {
         return Verdict::refuse(Refusal::BalanceTooLow);
     }
-    Verdict::new_booking(Booking {
+    let booking = Booking {
         key: view.key.name,
         number,
         slot: *slot,
@@ -105,7 +105,8 @@ fn book_at(
         left: facility.places - taken as u8,
         cancelled: false,
         refund: 0,
-    })
+    };
+    Verdict::new_booking(booking, &view.key.member)
 }
 
 /// Decides a booking: the reply, and the booking to write if it is served.
@@ -125,9 +126,9 @@ pub fn decide_book(
     }
 }
 
-/// Decides a cancellation of a recorded booking.
-fn cancel_recorded(booking: &Booking, slot: &Slot, moment: Moment) -> Verdict
-    ensures { result ≡ cancel_recorded_verdict booking.now slot.now moment }
+/// Decides a cancellation of a recorded booking, under a key of the member.
+fn cancel_recorded(booking: &Booking, member: &Name, slot: &Slot, moment: Moment) -> Verdict
+    ensures { result ≡ cancel_recorded_verdict booking.now member.now slot.now moment }
 {
     if booking.slot != *slot {
         return Verdict::refuse(Refusal::NumberUsed);
@@ -142,7 +143,7 @@ fn cancel_recorded(booking: &Booking, slot: &Slot, moment: Moment) -> Verdict
     if booking.slot.start() <= moment.number() {
         return Verdict::refuse(Refusal::SlotHasBegun);
     }
-    Verdict::new_cancellation(booking, booking.refund_at(moment))
+    Verdict::new_cancellation(booking, member, booking.refund_at(moment))
 }
 
 /// Decides a cancellation: the reply, and the refund to write if the booking wasn't cancelled yet.
@@ -150,7 +151,7 @@ pub fn decide_cancel(view: &View, slot: &Slot, moment: Moment) -> Verdict
     ensures { result ≡ cancel_verdict view.now slot.now moment }
 {
     match (&view.booking, &view.facility) {
-        (Some(booking), _) => cancel_recorded(booking, slot, moment),
+        (Some(booking), _) => cancel_recorded(booking, &view.key.member, slot, moment),
         (None, None) => Verdict::refuse(Refusal::NoSuchFacility),
         (None, Some(_)) => Verdict::refuse(Refusal::NoSuchBooking),
     }

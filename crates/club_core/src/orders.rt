@@ -124,6 +124,7 @@ fn rotate_key(
     }
     Ok(Change::ReplaceRoot {
         key: *name,
+        former: key.root,
         root: *root,
         until,
     })

@@ -6,6 +6,7 @@ use crate::change::Change;
 use crate::refusal::Refusal;
 use crate::reply::Reply;
 use club_rows::Booking;
+use club_values::Name;
 
 /// The reply to a request, and the change that it makes to the club.
 #[derive(Clone, Copy, Debug, PartialEq, Eq)]
@@ -34,9 +35,9 @@ impl Verdict {
         Verdict::reply_only(Reply::Refused(refusal))
     }
 
-    /// The reply to a new booking, and the change that writes it.
-    pub(crate) fn new_booking(booking: Booking) -> Verdict
-        ensures { result ≡ verdicts.booked_now booking }
+    /// The reply to a new booking under a key of the member, and the change that writes it.
+    pub(crate) fn new_booking(booking: Booking, member: &Name) -> Verdict
+        ensures { result ≡ verdicts.booked_now booking member.now }
     {
         Verdict {
             reply: Reply::Booked {
@@ -45,24 +46,27 @@ impl Verdict {
                 charge: booking.charge,
                 left: booking.left,
             },
-            change: Some(Change::InsertBooking(booking)),
+            change: Some(Change::InsertBooking {
+                booking,
+                member: *member,
+            }),
         }
     }
 
-    /// The reply to a cancellation with this refund, and the change that writes it.
-    pub(crate) fn new_cancellation(booking: &Booking, refund: u32) -> Verdict
-        ensures { result ≡ verdicts.cancelled_now booking.now refund }
+    /// The reply to a cancellation, under a key of the member and with this refund, and the change
+    /// that writes it.
+    pub(crate) fn new_cancellation(booking: &Booking, member: &Name, refund: u32) -> Verdict
+        ensures { result ≡ verdicts.cancelled_now booking.now member.now refund }
     {
-        let (key, number) = (booking.key, booking.number);
         Verdict {
             reply: Reply::Cancelled {
-                key,
-                number,
+                key: booking.key,
+                number: booking.number,
                 refund,
             },
             change: Some(Change::MarkCancelled {
-                key,
-                number,
+                booking: *booking,
+                member: *member,
                 refund,
             }),
         }

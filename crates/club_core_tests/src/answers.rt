@@ -61,7 +61,7 @@ const BOOKS_7: Expected = Expected::Books(BOOKING_7);
 
 const BOOKS_8: Expected = Expected::Books(BOOKING_8);
 
-const CANCELS_7: Expected = Expected::Cancels(7, 600);
+const CANCELS_7: Expected = Expected::Cancels(BOOKING_7, 600);
 
 const DENIED_1: Expected = Expected::Refused(Refusal::CaveatDenies(1));
 

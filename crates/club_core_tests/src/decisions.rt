@@ -103,12 +103,14 @@ const NOWHERE: Seen = Seen {
     ..FRESH
 };
 
-/// A booking 7 for 601 points, and one that was cancelled.
+/// A booking 7 for 601 points, the view of it, and that of one that was cancelled.
+const ODD_BOOKED: Booked = Booked {
+    charge: 601,
+    ..BOOKING_7
+};
+
 const ODD_CHARGE: Seen = Seen {
-    booking: Some(Booked {
-        charge: 601,
-        ..BOOKING_7
-    }),
+    booking: Some(ODD_BOOKED),
     ..NOWHERE
 };
 
@@ -135,20 +137,35 @@ static CANCELLATIONS: [Row; 12] = [
         ROOM_TAKEN,
         CANCEL_ROOM,
         DAY_AHEAD,
-        Expected::Cancels(8, 601),
+        Expected::Cancels(ROOM_BOOKED, 601),
     ),
-    Row(ROOM_TAKEN, CANCEL_ROOM, LATER, Expected::Cancels(8, 300)),
+    Row(
+        ROOM_TAKEN,
+        CANCEL_ROOM,
+        LATER,
+        Expected::Cancels(ROOM_BOOKED, 300),
+    ),
     Row(ROOM_TAKEN, CANCEL_ROOM, START, SLOT_HAS_BEGUN),
     Row(FRESH, Asked::Cancel(ROOM, 9), NOON, NO_SUCH_BOOKING),
     Row(FRESH, CANCEL_7, NOON, NO_SUCH_BOOKING),
     Row(NOWHERE, CANCEL_7, NOON, NO_SUCH_FACILITY),
-    Row(ODD_CHARGE, CANCEL_7, DAY_AHEAD, Expected::Cancels(7, 601)),
-    Row(ODD_CHARGE, CANCEL_7, LATER, Expected::Cancels(7, 300)),
+    Row(
+        ODD_CHARGE,
+        CANCEL_7,
+        DAY_AHEAD,
+        Expected::Cancels(ODD_BOOKED, 601),
+    ),
+    Row(
+        ODD_CHARGE,
+        CANCEL_7,
+        LATER,
+        Expected::Cancels(ODD_BOOKED, 300),
+    ),
     Row(
         ODD_CHARGE,
         CANCEL_7,
         BEFORE_START,
-        Expected::Cancels(7, 300),
+        Expected::Cancels(ODD_BOOKED, 300),
     ),
     Row(ODD_CHARGE, CANCEL_7, START, SLOT_HAS_BEGUN),
     Row(ODD_CHARGE, Asked::Cancel(AT_19, 7), START, NUMBER_USED),

@@ -39,9 +39,9 @@ pub(crate) enum Expected {
     Books(Booked),
     /// The first reply to a booking, repeated; nothing is written.
     Repeats(Booked),
-    /// The number of a booking of `amy-1` and its refund, which is written.
-    Cancels(u32, u32),
-    /// The same reply, repeated; nothing is written.
+    /// The cancellation of a booking, which is written with its refund.
+    Cancels(Booked, u32),
+    /// The reply to a cancellation of a number of `amy-1`, repeated; nothing is written.
     RepeatsCancelled(u32, u32),
     /// Of amy, who has quota 5: the balance, the bookings to come, and what her key has spent.
     Account(u32, u64, u64),
@@ -168,10 +168,17 @@ fn cancelled(rt: &impl Abort, booking: u32, refund: u32) -> Reply {
     }
 }
 
-fn mark_cancelled(rt: &impl Abort, booking: u32, refund: u32) -> Change {
+fn insert_booking(rt: &impl Abort, booked: &Booked) -> Change {
+    Change::InsertBooking {
+        booking: booked.row(rt),
+        member: name(rt, "amy"),
+    }
+}
+
+fn mark_cancelled(rt: &impl Abort, booked: &Booked, refund: u32) -> Change {
     Change::MarkCancelled {
-        key: name(rt, "amy-1"),
-        number: number(rt, booking),
+        booking: booked.row(rt),
+        member: name(rt, "amy"),
         refund,
     }
 }
@@ -191,9 +198,8 @@ impl Expected {
         match self {
             Expected::Taken(persons) => taken(rt, *persons),
             Expected::Books(row) | Expected::Repeats(row) => booked(rt, row),
-            Expected::Cancels(booking, refund) | Expected::RepeatsCancelled(booking, refund) => {
-                cancelled(rt, *booking, *refund)
-            }
+            Expected::Cancels(row, refund) => cancelled(rt, row.number, *refund),
+            Expected::RepeatsCancelled(booking, refund) => cancelled(rt, *booking, *refund),
             Expected::Account(balance, open, spent) => account(rt, *balance, *open, *spent),
             Expected::Refused(refusal) => Reply::Refused(*refusal),
         }
@@ -201,8 +207,8 @@ impl Expected {
 
     fn change(&self, rt: &impl Abort) -> Option<Change> {
         match self {
-            Expected::Books(row) => Some(Change::InsertBooking(row.row(rt))),
-            Expected::Cancels(booking, refund) => Some(mark_cancelled(rt, *booking, *refund)),
+            Expected::Books(row) => Some(insert_booking(rt, row)),
+            Expected::Cancels(row, refund) => Some(mark_cancelled(rt, row, *refund)),
             _ => None,
         }
     }

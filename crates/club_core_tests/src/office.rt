@@ -167,6 +167,7 @@ fn insert_facility(rt: &impl Abort, places: u8, price: u16, opens: u8, shuts: u8
 fn replace_root(rt: &impl Abort, bytes: &[u8]) -> Change {
     Change::ReplaceRoot {
         key: name(rt, "amy-1"),
+        former: root(rt, FIRST),
         root: root(rt, bytes),
         until: moment(rt, "2026-04-25T00:00"),
     }

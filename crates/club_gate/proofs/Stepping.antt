@@ -1,5 +1,5 @@
 -- An event that was decided: its change was applied, or the store failed.
-use Rattle.std.proofs.Common.{◌≡◌, ◌≢◌, inr, ℕ, true, false, List, [], ◌∷◌, Result, Ok, Err, refl, sym, ap, ◌∙◌, subst}
+use Rattle.std.proofs.Common.{◌≡◌, ◌≢◌, inr, ℕ, true, false, List, [], ◌∷◌, Option, Some, None, Result, Ok, Err, refl, sym, ap, ◌∙◌, subst}
 use Rattle.std.specs.Prelude.{IsErr}
 use Rattle.club_core.specs.declared.change.Change.{Change}
 use Rattle.club_core.specs.declared.command.Command.{Command}
@@ -19,11 +19,11 @@ use Rattle.club_core.specs.Club.{Club, IsSound}
 use Rattle.club_core.specs.Events.{IsEvent}
 use Rattle.club_core.specs.Office.{office_verdict}
 use Rattle.club_core.specs.Pass.{Words}
-use Rattle.club_core.specs.Run.{Asked, Ordered, after_change, done_answer, order_outcome, verdict_outcome}
+use Rattle.club_core.specs.Run.{Asked, Ordered, after_change, done_answer, order_outcome}
 use Rattle.club_laws.specs.Failed.{ToMember, ToOffice, present_reply, is_unavailable, NeverUnavailable}
-use Rattle.club_laws.specs.SoundRuns.{StepsKeepSound}
+use Rattle.club_laws.specs.SoundRuns.{ChangesFit}
 use Rattle.club_gate.specs.declared.event.OfficeReply.TheVariants as replies
-use Rattle.club_gate.specs.Desk.{IsAnsweredBy, IsRefusedBy, change_by, others_after}
+use Rattle.club_gate.specs.Desk.{FitsIfAny, IsAnsweredBy, IsRefusedBy, change_by, others_after}
 use Rattle.club_gate.specs.Response.{answer_or_fault, fault_of_store, is_failure, reply_or_unavailable, office_reply_of, desk_presentation, unavailable}
 
 -- a command that is done is no failure
@@ -52,18 +52,14 @@ other_reply : (reply : Reply) → Replied reply ≢ Replied (Refused Unavailable
 other_reply (Refused Unavailable) h = absurd (h refl)
 other_reply reply h = refl
 
--- a decided change leaves a sound club
-pub order_fits : StepsKeepSound → (club : Club) (command : Command) (change : Change) → IsSound club → IsEvent (Ordered command)
-    → office_verdict club command ≡ Ok change → IsSound (after change club)
-order_fits steps club command change sound event e =
-    let P : Result Change OfficeFault → Type 0 = λ v. IsSound (order_outcome club command v).club in
-    subst P e (steps club (Ordered command) sound event)
-
-pub ask_fits : StepsKeepSound → (club : Club) (words : Words) (moment : ℕ) (verdict : Verdict) → IsSound club
-    → IsEvent (Asked words moment) → verdict ≡ verdict_in club words moment → IsSound (after_change verdict.change club)
-ask_fits steps club words moment verdict sound event e =
-    let P : Verdict → Type 0 = λ v. IsSound (verdict_outcome club v).club in
-    subst P (sym e) (steps club (Asked words moment) sound event)
+-- the change of a request that was decided fits
+pub ask_fits : ChangesFit → (club : Club) (words : Words) (moment : ℕ) (verdict : Verdict) → IsSound club
+    → IsEvent (Asked words moment) → verdict ≡ verdict_in club words moment → FitsIfAny verdict.change club
+ask_fits fits club words moment verdict sound event e = go verdict.change (ap (λ (v : Verdict). v.change) (sym e))
+  where
+    go : (change : Option Change) → (verdict_in club words moment).change ≡ change → FitsIfAny change club
+    go None is = tt
+    go (Some change) is = fits club (Asked words moment) change sound event is
 
 module _ {S : Type 0} (Represents : S → Club → List Club → Type 0) (new : S) (club : Club) (others : List Club) where
   pub order_done : (command : Command) (change : Change) → office_verdict club command ≡ Ok change

@@ -4,10 +4,10 @@ use Rattle.club_core.specs.declared.change.Change.{Change}
 use Rattle.club_core.specs.declared.command.OfficeFault.{OfficeFault}
 use Rattle.club_core.specs.declared.store.StoreFault.{StoreFault}
 use Rattle.club_core.specs.Answer.{verdict_in}
-use Rattle.club_core.specs.Club.{Club, IsSound}
+use Rattle.club_core.specs.Club.{Club}
 use Rattle.club_core.specs.Office.{office_verdict}
-use Rattle.club_core.specs.Run.{Event, Asked, Ordered, after_change, step}
-use Rattle.club_core.specs.Store.{IsRead}
+use Rattle.club_core.specs.Run.{Event, Asked, Ordered, step}
+use Rattle.club_core.specs.Store.{FitsClub, IsRead}
 use Rattle.club_laws.specs.Failed.{Response, present_reply, has_failed}
 use Rattle.club_gate.specs.declared.event.OfficeReply.{OfficeReply}
 use Rattle.club_gate.specs.declared.event.OfficeReply.TheVariants.{Refused}
@@ -28,9 +28,10 @@ abbrev pub change_of : Club → Event → Option Change
 change_of club (Asked words moment) = (verdict_in club words moment).change
 change_of club (Ordered command) = change_by (office_verdict club command)
 
--- a change, where there is one, leaves a sound club
+-- a change, where there is one, fits
 abbrev pub FitsIfAny : Option Change → Club → Type 0
-FitsIfAny change club = IsSound (after_change change club)
+FitsIfAny None club = Unit {0}
+FitsIfAny (Some change) club = FitsClub change club
 
 -- other possible crash states: none after a committed change; unchanged where nothing was changed
 abbrev pub others_after : Option Change → List Club → List Club

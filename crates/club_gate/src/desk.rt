@@ -51,7 +51,7 @@ use club_laws::single_request::{
     depends_on_the_basis_alone, more_caveats_never_open_more, refuses_without_a_basis,
     serves_only_the_entitled,
 };
-use club_laws::sound::steps_keep_sound;
+use club_laws::sound::changes_fit;
 use club_values::{Day, Moment};
 use key_cache::KeptKeys;
 use pass_caveats::laws::reads_what_is_understood;
@@ -143,7 +143,7 @@ impl<S: ClubStore> Desk<S> {
             → reading words.now.pass.now ≡ Err fault
             → result ≡ Ok (Refused (form_refusal (fault_of fault))) }
     {
-        steps_keep_sound();
+        changes_fit();
         never_unavailable();
         words.request.within();
         let verdict = self.verdict(words, moment)?;
@@ -198,7 +198,7 @@ impl<S: ClubStore> Desk<S> {
             (λ club. IfErr result
             (FailsAt S.fails self.old self.new club (machine.Ordered command.now))) }
     {
-        steps_keep_sound();
+        changes_fit();
         command.within();
         let view = self.order_view(command)?;
         match decide_order(&view, command) {

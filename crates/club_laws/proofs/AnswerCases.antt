@@ -99,11 +99,12 @@ pub record Ways (P : Verdict → Type 0) (club : Club) (words : Words) (moment :
       → words.request ≡ asked.Book slot number guests → RepeatsBooking club key slot number guests booking → P (verdicts.booked_before booking)
   pub books : (key : Key) (member : Member) (slot : Slot) (number guests : ℕ) (facility : Facility) → Knows club words key member
       → words.request ≡ asked.Book slot number guests → Books club key member slot number guests facility
-      → P (verdicts.booked_now (written club key slot number guests facility))
+      → P (verdicts.booked_now (written club key slot number guests facility) key.member)
   pub cancels_recorded : (key : Key) (member : Member) (slot : Slot) (number : ℕ) (booking : Booking) → Knows club words key member
       → words.request ≡ asked.Cancel slot number → CancelsRecorded club key slot number booking → P (verdicts.cancelled_before booking)
   pub cancels : (key : Key) (member : Member) (slot : Slot) (number : ℕ) (booking : Booking) → Knows club words key member
-      → words.request ≡ asked.Cancel slot number → Cancels club key slot number booking → P (verdicts.cancelled_now booking (refund_at booking moment))
+      → words.request ≡ asked.Cancel slot number → Cancels club key slot number booking
+      → P (verdicts.cancelled_now booking key.member (refund_at booking moment))
 
 -- the key is one of its member's
 pub is_own_key : (club : Club) (words : Words) (key : Key) (member : Member) → Knows club words key member → is_key_of member.name club key.name ≡ true
@@ -146,7 +147,7 @@ module _ (P : Verdict → Type 0) (club : Club) (words : Words) (moment : ℕ) (
   new_cases key member k slot number guests r new None at = refused_cases refusals.NoSuchFacility tt
   new_cases key member k slot number guests r new (Some facility) at =
       let view = view_at club (asked.Book slot number guests) moment key member in
-      first_of_cases P (verdicts.book_lines view slot guests moment facility) (verdicts.booked_now (written club key slot number guests facility)) (
+      first_of_cases P (verdicts.book_lines view slot guests moment facility) (verdicts.booked_now (written club key slot number guests facility) key.member) (
         refused_cases refusals.NotBookable tt,
         (
           refused_cases refusals.SlotClosed tt,
@@ -171,18 +172,18 @@ module _ (P : Verdict → Type 0) (club : Club) (words : Words) (moment : ℕ) (
       (λ other. refused_cases refusals.NumberUsed tt)
 
   cancel_recorded_cases : (key : Key) (member : Member) → Knows club words key member → (slot : Slot) (number : ℕ) → words.request ≡ asked.Cancel slot number
-      → (booking : Booking) → booking_under key.name number club.bookings ≡ Some booking → P (verdicts.cancel_recorded_verdict booking slot moment)
+      → (booking : Booking) → booking_under key.name number club.bookings ≡ Some booking → P (verdicts.cancel_recorded_verdict booking key.member slot moment)
   cancel_recorded_cases key member k slot number r booking found = go (same_slot booking.slot slot) refl booking.cancelled refl
     where
       go : (b : Bool) → same_slot booking.slot slot ≡ b → (c : Bool) → booking.cancelled ≡ c
           → P (cond (not b) (verdicts.refusal_verdict refusals.NumberUsed) (cond c (verdicts.cancelled_before booking)
           (cond (nat_le (start_of booking.slot) moment) (verdicts.refusal_verdict refusals.SlotHasBegun)
-          (verdicts.cancelled_now booking (refund_at booking moment)))))
+          (verdicts.cancelled_now booking key.member (refund_at booking moment)))))
       go false e c h = refused_cases refusals.NumberUsed tt
       go true e true h = w.cancels_recorded key member slot number booking k r (record { found = found; same = e; before = h })
       go true e false h =
           cond_both (nat_le (start_of booking.slot) moment) (verdicts.refusal_verdict refusals.SlotHasBegun)
-          (verdicts.cancelled_now booking (refund_at booking moment))
+          (verdicts.cancelled_now booking key.member (refund_at booking moment))
           P
           (λ late. refused_cases refusals.SlotHasBegun tt)
           (λ early. w.cancels key member slot number booking k r (record { found = found; same = e; still_booked = h }))
@@ -197,7 +198,7 @@ module _ (P : Verdict → Type 0) (club : Club) (words : Words) (moment : ℕ) (
 
   cancel_cases : (key : Key) (member : Member) → Knows club words key member → (slot : Slot) (number : ℕ) → words.request ≡ asked.Cancel slot number
       → (o : Option Booking) → booking_under key.name number club.bookings ≡ o
-      → P (verdicts.recorded_or o (λ booking. verdicts.cancel_recorded_verdict booking slot moment)
+      → P (verdicts.recorded_or o (λ booking. verdicts.cancel_recorded_verdict booking key.member slot moment)
       (verdicts.unknown_verdict (facility_named slot.facility club)))
   cancel_cases key member k slot number r None new = go (facility_named slot.facility club)
     where
@@ -221,7 +222,7 @@ module _ (P : Verdict → Type 0) (club : Club) (words : Words) (moment : ℕ) (
       (book_cases key member k slot number guests r (booking_under key.name number club.bookings) refl)
   verdict_cases key member k (asked.Cancel slot number) r =
       let Q : Option Booking → Type 0 = λ o. P (verdicts.recorded_or o (λ booking.
-      verdicts.cancel_recorded_verdict booking slot moment) (verdicts.unknown_verdict (facility_named slot.facility club))) in
+      verdicts.cancel_recorded_verdict booking key.member slot moment) (verdicts.unknown_verdict (facility_named slot.facility club))) in
       subst Q (sym (own_booking club words key member number k))
       (cancel_cases key member k slot number r (booking_under key.name number club.bookings) refl)
   verdict_cases key member k asked.Account r =

@@ -117,18 +117,19 @@ key_revoked : (name : List ℕ) (club : Club) (other : List ℕ) (b : Bool) → 
 key_revoked name club other b e =
     key_edited (λ key. key.root) (λ key. key.older) (λ key. (revoked_key other key).revoked) name club other b (not_revoked other) e
 
-key_rotated : (name : List ℕ) (club : Club) (other root : List ℕ) (until : ℕ) (b : Bool) → is_key_of name club other ≡ b
-    → part_of name (after (ReplaceRoot other root until) club) ≡ cond b (after (ReplaceRoot other root until) (part_of name club)) (part_of name club)
-key_rotated name club other root until b e =
+key_rotated : (name : List ℕ) (club : Club) (other former root : List ℕ) (until : ℕ) (b : Bool) → is_key_of name club other ≡ b
+    → part_of name (after (ReplaceRoot other former root until) club)
+    ≡ cond b (after (ReplaceRoot other former root until) (part_of name club)) (part_of name club)
+key_rotated name club other former root until b e =
     key_edited (λ key. (rotated_key other root until key).root) (λ key. (rotated_key other root until key).older) (λ key.
     key.revoked) name club other b (not_rotated other root until) e
 
-booking_inserted : (name : List ℕ) (club : Club) (booking : Booking) (b : Bool) → is_key_of name club booking.key ≡ b
-    → part_of name (after (InsertBooking booking) club) ≡ cond b (after (InsertBooking booking) (part_of name club)) (part_of name club)
-booking_inserted name club booking true e =
+booking_inserted : (name : List ℕ) (club : Club) (booking : Booking) (member : List ℕ) (b : Bool) → is_key_of name club booking.key ≡ b
+    → part_of name (after (InsertBooking booking member) club) ≡ cond b (after (InsertBooking booking member) (part_of name club)) (part_of name club)
+booking_inserted name club booking member true e =
     ap (λ (bookings : List Booking). part_with club (filter (is_named name) club.members) (keys_of name club) bookings)
     (filter_push_true (is_under_one (keys_of name club)) club.bookings booking e)
-booking_inserted name club booking false e =
+booking_inserted name club booking member false e =
     ap (λ (bookings : List Booking). part_with club (filter (is_named name) club.members) (keys_of name club) bookings)
     (filter_push_false (is_under_one (keys_of name club)) club.bookings booking e)
 
@@ -147,16 +148,17 @@ apart_keys : (keys : List Key) (a b : List ℕ) → list_any (has_name a) keys �
 apart_keys keys a b e f =
     other_bytes a b (λ s. let t : list_any (has_name b) keys ≡ true = subst (λ (x : List ℕ). list_any (has_name x) keys ≡ true) s e in absurd (cc))
 
-booking_cancelled : (name : List ℕ) (club : Club) (key : List ℕ) (number refund : ℕ) (b : Bool) → is_key_of name club key ≡ b
-    → part_of name (after (MarkCancelled key number refund) club) ≡ cond b (after (MarkCancelled key number refund) (part_of name club)) (part_of name club)
-booking_cancelled name club key number refund true e =
+booking_cancelled : (name : List ℕ) (club : Club) (booking : Booking) (member : List ℕ) (refund : ℕ) (b : Bool) → is_key_of name club booking.key ≡ b
+    → part_of name (after (MarkCancelled booking member refund) club)
+    ≡ cond b (after (MarkCancelled booking member refund) (part_of name club)) (part_of name club)
+booking_cancelled name club booking member refund true e =
     ap (λ (bookings : List Booking). part_with club (filter (is_named name) club.members) (keys_of name club) bookings)
-    (filter-map (cancelled_booking key number refund) (is_under_one (keys_of name club)) club.bookings)
-booking_cancelled name club key number refund false e =
+    (filter-map (cancelled_booking booking.key booking.number refund) (is_under_one (keys_of name club)) club.bookings)
+booking_cancelled name club booking member refund false e =
     ap (λ (bookings : List Booking). part_with club (filter (is_named name) club.members) (keys_of name club) bookings)
-    (filter-map (cancelled_booking key number refund) (is_under_one (keys_of name club)) club.bookings
-    ∙ filter_fixed (is_under_one (keys_of name club)) (cancelled_booking key number refund)
-    (λ booking f. not_cancelled key number refund booking (apart_keys (keys_of name club) booking.key key f e)) club.bookings)
+    (filter-map (cancelled_booking booking.key booking.number refund) (is_under_one (keys_of name club)) club.bookings
+    ∙ filter_fixed (is_under_one (keys_of name club)) (cancelled_booking booking.key booking.number refund)
+    (λ other f. not_cancelled booking.key booking.number refund other (apart_keys (keys_of name club) other.key booking.key f e)) club.bookings)
 
 -- a key that is new has a new name
 abbrev pub IsFresh : Club → Change → Type 0
@@ -171,7 +173,8 @@ part_changed name club (AddCredit other points) known fresh = credit_added name 
 part_changed name club (InsertFacility facility) known fresh = refl
 part_changed name club (InsertKey key) known fresh = key_inserted name club key (bytes_eq key.member name) known fresh refl
 part_changed name club (MarkRevoked other) known fresh = key_revoked name club other (is_key_of name club other) refl
-part_changed name club (ReplaceRoot other root until) known fresh = key_rotated name club other root until (is_key_of name club other) refl
+part_changed name club (ReplaceRoot other former root until) known fresh = key_rotated name club other former root until (is_key_of name club other) refl
 part_changed name club (MarkClosed slot) known fresh = refl
-part_changed name club (InsertBooking booking) known fresh = booking_inserted name club booking (is_key_of name club booking.key) refl
-part_changed name club (MarkCancelled key number refund) known fresh = booking_cancelled name club key number refund (is_key_of name club key) refl
+part_changed name club (InsertBooking booking member) known fresh = booking_inserted name club booking member (is_key_of name club booking.key) refl
+part_changed name club (MarkCancelled booking member refund) known fresh =
+    booking_cancelled name club booking member refund (is_key_of name club booking.key) refl

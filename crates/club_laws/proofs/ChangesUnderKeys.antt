@@ -16,8 +16,8 @@ use Rattle.club_laws.proofs.NamedRows.{is_numbered, numbered}
 -- a booking or a cancellation under this key, or none
 abbrev pub IsUnder : List ℕ → Option Change → Type 0
 IsUnder key None = Unit {0}
-IsUnder key (Some (InsertBooking booking)) = booking.key ≡ key
-IsUnder key (Some (MarkCancelled name number refund)) = name ≡ key
+IsUnder key (Some (InsertBooking booking member)) = booking.key ≡ key
+IsUnder key (Some (MarkCancelled booking member refund)) = booking.key ≡ key
 IsUnder key (Some change) = ⊥
 
 changes_under : (club : Club) (words : Words) (moment : ℕ) (key : List ℕ) → key_of words.pass ≡ Some key → IsUnder key (verdict_in club words moment).change

@@ -62,10 +62,10 @@ Fits club (AddCredit name points) = FitsCredit club name points
 Fits club (InsertFacility facility) = FitsFacility club facility
 Fits club (InsertKey key) = FitsKey club key
 Fits club (MarkRevoked name) = Unit {0}
-Fits club (ReplaceRoot name root until) = FitsRotation root until
+Fits club (ReplaceRoot name former root until) = FitsRotation root until
 Fits club (MarkClosed slot) = FitsClosed club slot
-Fits club (InsertBooking booking) = FitsBooking club booking
-Fits club (MarkCancelled key number refund) = FitsCancellation club key number refund
+Fits club (InsertBooking booking member) = FitsBooking club booking
+Fits club (MarkCancelled booking member refund) = FitsCancellation club booking.key booking.number refund
 
 abbrev pub FitsIfAny : Club → Option Change → Type 0
 FitsIfAny club None = Unit {0}

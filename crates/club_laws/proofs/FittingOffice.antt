@@ -24,7 +24,7 @@ abbrev pub FitsIfOk : Club → Result Change OfficeFault → Type 0
 FitsIfOk club (Err fault) = Unit {0}
 FitsIfOk club (Ok change) = Fits club change
 
-fits : (club : Club) → IsSound club → (command : Command) → IsCommand command → OrderRestsOn club command → Fits club (change_of command)
+fits : (club : Club) → IsSound club → (command : Command) → IsCommand command → (r : OrderRestsOn club command) → Fits club (change_of club command r)
 fits club s (AddMember name quota) c r = record {
   row = record { name = c; credited = omega arith; quota = r.0 };
   fresh = none_named (λ (m : Member). m.name) name club.members r.1;

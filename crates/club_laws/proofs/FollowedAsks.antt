@@ -38,12 +38,12 @@ pub under_own : (name : List ℕ) (club : Club) (key : List ℕ) (change : Optio
     → is_key_of name club key ≡ b → part_of name (after_change change club) ≡ cond b (after_change change (part_of name club)) (part_of name club)
 under_own name club key None true known under e = refl
 under_own name club key None false known under e = refl
-under_own name club key (Some (InsertBooking booking)) b known under e =
-    part_changed name club (InsertBooking booking) known tt
-    ∙ ap (λ (t : Bool). cond t (after (InsertBooking booking) (part_of name club)) (part_of name club)) (ap (is_key_of name club) under ∙ e)
-under_own name club key (Some (MarkCancelled other number refund)) b known under e =
-    part_changed name club (MarkCancelled other number refund) known tt
-    ∙ ap (λ (t : Bool). cond t (after (MarkCancelled other number refund) (part_of name club)) (part_of name club)) (ap (is_key_of name club) under ∙ e)
+under_own name club key (Some (InsertBooking booking member)) b known under e =
+    part_changed name club (InsertBooking booking member) known tt
+    ∙ ap (λ (t : Bool). cond t (after (InsertBooking booking member) (part_of name club)) (part_of name club)) (ap (is_key_of name club) under ∙ e)
+under_own name club key (Some (MarkCancelled booking member refund)) b known under e =
+    part_changed name club (MarkCancelled booking member refund) known tt
+    ∙ ap (λ (t : Bool). cond t (after (MarkCancelled booking member refund) (part_of name club)) (part_of name club)) (ap (is_key_of name club) under ∙ e)
 under_own name club key (Some change) b known under e = absurd under
 
 -- a request of the member's

@@ -48,9 +48,9 @@ follows name club (Ordered command) keyed = order_follows name club command (off
 keyed_under : (club : Club) (key : List ℕ) (change : Option Change) → Contains (map (λ (k : Key). k.name) club.keys) key → IsUnder key change → IsKeyed club
     → IsKeyed (after_change change club)
 keyed_under club key None known under keyed = keyed
-keyed_under club key (Some (InsertBooking booking)) known under keyed =
-    keyed_after club (InsertBooking booking) tt (subst (λ (n : List ℕ). Contains (map (λ (k : Key). k.name) club.keys) n) (sym under) known) keyed
-keyed_under club key (Some (MarkCancelled other number refund)) known under keyed = keyed_after club (MarkCancelled other number refund) tt tt keyed
+keyed_under club key (Some (InsertBooking booking member)) known under keyed =
+    keyed_after club (InsertBooking booking member) tt (subst (λ (n : List ℕ). Contains (map (λ (k : Key). k.name) club.keys) n) (sym under) known) keyed
+keyed_under club key (Some (MarkCancelled booking member refund)) known under keyed = keyed_after club (MarkCancelled booking member refund) tt tt keyed
 keyed_under club key (Some change) known under keyed = absurd under
 
 keyed_asked : (club : Club) (words : Words) (moment : ℕ) (basis : Option Basis) → basis_of club words ≡ basis → IsKeyed club

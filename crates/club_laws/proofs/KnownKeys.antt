@@ -27,7 +27,7 @@ keyed_from_sound club sound = record { unique = sound.unique.keys; known = sound
 
 -- a booking that is made is under a known key
 abbrev pub IsKnown : Club → Change → Type 0
-IsKnown club (InsertBooking booking) = Contains (map (λ (key : Key). key.name) club.keys) booking.key
+IsKnown club (InsertBooking booking member) = Contains (map (λ (key : Key). key.name) club.keys) booking.key
 IsKnown club change = Unit {0}
 
 keyed_edited : (root : Key → List ℕ) (older : Key → Option OlderRoot) (is_revoked : Key → Bool) (club : Club) → IsKeyed club
@@ -46,15 +46,16 @@ keyed_after club (InsertKey key) fresh known keyed = record {
   known = λ k d short. still_there (λ (other : Key). other.name) club.keys key _ (keyed.known k d short);
 }
 keyed_after club (MarkRevoked name) fresh known keyed = keyed_edited (λ key. key.root) (λ key. key.older) (λ key. (revoked_key name key).revoked) club keyed
-keyed_after club (ReplaceRoot name root until) fresh known keyed =
+keyed_after club (ReplaceRoot name former root until) fresh known keyed =
     keyed_edited (λ key. (rotated_key name root until key).root) (λ key. (rotated_key name root until key).older) (λ key. key.revoked) club keyed
-keyed_after club (InsertBooking booking) fresh known keyed = record {
+keyed_after club (InsertBooking booking member) fresh known keyed = record {
   unique = keyed.unique;
   known = All-push (λ (b : Booking). Contains (map (λ (k : Key). k.name) club.keys) b.key) club.bookings booking keyed.known known;
 }
-keyed_after club (MarkCancelled key number refund) fresh known keyed = record {
+keyed_after club (MarkCancelled booking member refund) fresh known keyed = record {
   unique = keyed.unique;
-  known = All-map (λ (b : Booking). Contains (map (λ (k : Key). k.name) club.keys) b.key) (cancelled_booking key number refund) club.bookings keyed.known;
+  known = All-map (λ (b : Booking). Contains (map (λ (k : Key). k.name) club.keys) b.key) (cancelled_booking booking.key booking.number refund) club.bookings
+      keyed.known;
 }
 keyed_after club change fresh known keyed = record { unique = keyed.unique; known = keyed.known }
 

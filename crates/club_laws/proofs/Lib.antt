@@ -10,6 +10,7 @@ pub mod NamedRows
 pub mod FittingOffice
 pub mod FittingAnswers
 pub mod SoundSteps
+pub mod CarriedRows
 pub mod OnRecord
 pub mod RepeatAnswers
 pub mod FirstEntries

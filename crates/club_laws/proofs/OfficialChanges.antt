@@ -17,21 +17,21 @@ use Rattle.club_laws.proofs.OrderCases.{OrderRestsOn, change_of, order_cases}
 abbrev pub IsOfficial : Club → Result Change OfficeFault → Type 0
 IsOfficial club (Err fault) = Unit {0}
 IsOfficial club (Ok (InsertKey key)) = key_named key.name club ≡ None
-IsOfficial club (Ok (InsertBooking booking)) = ⊥
-IsOfficial club (Ok (MarkCancelled key number refund)) = ⊥
+IsOfficial club (Ok (InsertBooking booking member)) = ⊥
+IsOfficial club (Ok (MarkCancelled booking member refund)) = ⊥
 IsOfficial club (Ok change) = Unit {0}
 
 pub official : (club : Club) (command : Command) → IsOfficial club (office_verdict club command)
 official club command = order_cases (IsOfficial club) club (λ fault. tt) command (done command)
   where
-    done : (c : Command) → OrderRestsOn club c → IsOfficial club (Ok (change_of c))
+    done : (c : Command) (r : OrderRestsOn club c) → IsOfficial club (Ok (change_of club c r))
     done (AddKey name member root) r = r.2
     done c r = tt
 
 -- for such a change "of the part" and "own" are one
 pub own_of_part : (name : List ℕ) (club : Club) (change : Change) → IsOfficial club (Ok change) → is_of_part name club change ≡ is_own name club change
-own_of_part name club (InsertBooking booking) h = absurd h
-own_of_part name club (MarkCancelled key number refund) h = absurd h
+own_of_part name club (InsertBooking booking member) h = absurd h
+own_of_part name club (MarkCancelled booking member refund) h = absurd h
 own_of_part name club change h = refl
 
 pub official_fresh : (club : Club) (change : Change) → IsOfficial club (Ok change) → IsFresh club change
@@ -39,5 +39,5 @@ official_fresh club (InsertKey key) h = h
 official_fresh club change h = tt
 
 pub official_known : (club : Club) (change : Change) → IsOfficial club (Ok change) → IsKnown club change
-official_known club (InsertBooking booking) h = absurd h
+official_known club (InsertBooking booking member) h = absurd h
 official_known club change h = tt

@@ -89,8 +89,9 @@ stays_marked bookings name n refund key asked.Account reply h = h
 
 stays_after : (club : Club) (change : Change) (key : List ℕ) (request : Request) (reply : Reply) → OnRecord club.bookings key request reply
     → OnRecord (after change club).bookings key request reply
-stays_after club (InsertBooking booking) key request reply h = stays_behind club.bookings booking key request reply h
-stays_after club (MarkCancelled name number refund) key request reply h = stays_marked club.bookings name number refund key request reply h
+stays_after club (InsertBooking booking member) key request reply h = stays_behind club.bookings booking key request reply h
+stays_after club (MarkCancelled booking member refund) key request reply h =
+    stays_marked club.bookings booking.key booking.number refund key request reply h
 stays_after club change key request reply h = h
 
 pub stays_on_record : (club : Club) (events : List Event) (key : List ℕ) (request : Request) (reply : Reply) → OnRecord club.bookings key request reply

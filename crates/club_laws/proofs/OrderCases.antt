@@ -22,23 +22,6 @@ use Rattle.club_core.specs.Office.{office_verdict, credit_verdict, rotate_verdic
 use Rattle.club_laws.proofs.AnswerCases.{first_of_cases}
 use Rattle.club_laws.proofs.NamedRows.{none_there, some_there}
 
-abbrev pub change_of : Command → Change
-change_of (AddMember name quota) = InsertMember (record { name = name; credited = 0; quota = quota })
-change_of (Credit name points) = AddCredit name points
-change_of (AddFacility name kind places price opens shuts) = InsertFacility (record {
-  name = name;
-  kind = kind;
-  places = places;
-  price = price;
-  opens =
-      opens;
-  shuts = shuts;
-})
-change_of (AddKey name member root) = InsertKey (record { name = name; member = member; root = root; older = None; revoked = false })
-change_of (RevokeKey name) = MarkRevoked name
-change_of (RotateKey name root until) = ReplaceRoot name root until
-change_of (CloseSlot slot) = MarkClosed slot
-
 -- what an order that is carried out rests on
 abbrev pub OrderRestsOn : Club → Command → Type 0
 OrderRestsOn club (AddMember name quota) = (quota ≤ 99) × (member_named name club ≡ None)
@@ -49,6 +32,24 @@ OrderRestsOn club (RevokeKey name) = (key : Key) × (key_named name club ≡ Som
 OrderRestsOn club (RotateKey name root until) = (key : Key) × (key_named name club ≡ Some key)
 OrderRestsOn club (CloseSlot slot) = (facility : Facility) × (facility_named slot.facility club ≡ Some facility) × (is_closed slot club ≡ false)
 
+-- the change that such an order makes
+abbrev pub change_of : (club : Club) (command : Command) → OrderRestsOn club command → Change
+change_of club (AddMember name quota) r = InsertMember (record { name = name; credited = 0; quota = quota })
+change_of club (Credit name points) r = AddCredit name points
+change_of club (AddFacility name kind places price opens shuts) r = InsertFacility (record {
+  name = name;
+  kind = kind;
+  places = places;
+  price = price;
+  opens =
+      opens;
+  shuts = shuts;
+})
+change_of club (AddKey name member root) r = InsertKey (record { name = name; member = member; root = root; older = None; revoked = false })
+change_of club (RevokeKey name) r = MarkRevoked name
+change_of club (RotateKey name root until) r = ReplaceRoot name r.0.root root until
+change_of club (CloseSlot slot) r = MarkClosed slot
+
 module _ (P : Result Change OfficeFault → Type 0) (club : Club) (fails : (fault : OfficeFault) → P (Err fault)) where
   credit_cases : (name : List ℕ) (points : ℕ) (o : Option Member) → member_named name club ≡ o
       → (OrderRestsOn club (Credit name points) → P (Ok (AddCredit name points))) → P (credit_verdict name points o)
@@ -58,10 +59,11 @@ module _ (P : Result Change OfficeFault → Type 0) (club : Club) (fails : (faul
       (λ none. done (member, e, ltb-false 999_999_999 (member.credited + points) none.0))
 
   rotate_cases : (name root : List ℕ) (until : ℕ) (o : Option Key) → key_named name club ≡ o
-      → (OrderRestsOn club (RotateKey name root until) → P (Ok (ReplaceRoot name root until))) → P (rotate_verdict name root until o)
+      → ((r : OrderRestsOn club (RotateKey name root until)) → P (Ok (ReplaceRoot name r.0.root root until))) → P (rotate_verdict name root until o)
   rotate_cases name root until None e done = fails Unknown
   rotate_cases name root until (Some key) e done =
-      first_of_cases P (line_if (bytes_eq key.root root) (Err Exists) ∷ []) (Ok (ReplaceRoot name root until)) (fails Exists, tt) (λ none. done (key, e))
+      first_of_cases P (line_if (bytes_eq key.root root) (Err Exists) ∷ []) (Ok (ReplaceRoot name key.root root until)) (fails Exists, tt)
+      (λ none. done (key, e))
 
   close_cases : (slot : Slot) (o : Option Facility) → facility_named slot.facility club ≡ o → (OrderRestsOn club (CloseSlot slot) → P (Ok (MarkClosed slot)))
       → P (close_verdict (slot_use club slot) slot o)
@@ -72,10 +74,10 @@ module _ (P : Result Change OfficeFault → Type 0) (club : Club) (fails : (faul
       ∷ line_if (nat_lt 0 (taken_in slot club.bookings)) (Err SlotInUse) ∷ [])
       (Ok (MarkClosed slot)) (fails OutOfRange, (fails Exists, (fails SlotInUse, tt))) (λ none. done (facility, e, none.1.0))
 
-  pub order_cases : (command : Command) → (OrderRestsOn club command → P (Ok (change_of command))) → P (office_verdict club command)
+  pub order_cases : (command : Command) → ((r : OrderRestsOn club command) → P (Ok (change_of club command r))) → P (office_verdict club command)
   order_cases (AddMember name quota) done =
       first_of_cases P (line_if (nat_lt 99 quota) (Err OutOfRange) ∷ line_if (is_some (member_named name club)) (Err Exists) ∷ [])
-      (Ok (change_of (AddMember name quota))) (fails OutOfRange, (fails Exists, tt))
+      (Ok (InsertMember (record { name = name; credited = 0; quota = quota }))) (fails OutOfRange, (fails Exists, tt))
       (λ none. done (ltb-false 99 quota none.0, none_there (member_named name club) none.1.0))
   order_cases (Credit name points) done =
       first_of_cases P (line_if (points == 0 || nat_lt 1_000_000 points) (Err OutOfRange) ∷ []) (credit_verdict name points (member_named name club))
@@ -83,11 +85,12 @@ module _ (P : Result Change OfficeFault → Type 0) (club : Club) (fails : (faul
       (λ none. credit_cases name points (member_named name club) refl done)
   order_cases (AddFacility name kind places price opens shuts) done =
       first_of_cases P (line_if (not (are_limits places price opens shuts)) (Err OutOfRange) ∷ line_if (is_some (facility_named name club)) (Err Exists) ∷ [])
-      (Ok (change_of (AddFacility name kind places price opens shuts))) (fails OutOfRange, (fails Exists, tt))
+      (Ok (InsertFacility (record { name = name; kind = kind; places = places; price = price; opens = opens; shuts = shuts })))
+      (fails OutOfRange, (fails Exists, tt))
       (λ none. done (not-false (are_limits places price opens shuts) none.0, none_there (facility_named name club) none.1.0))
   order_cases (AddKey name member root) done =
       first_of_cases P (line_if (not (is_some (member_named member club))) (Err Unknown) ∷ line_if (is_some (key_named name club)) (Err Exists) ∷ [])
-      (Ok (change_of (AddKey name member root))) (fails Unknown, (fails Exists, tt))
+      (Ok (InsertKey (record { name = name; member = member; root = root; older = None; revoked = false }))) (fails Unknown, (fails Exists, tt))
       (λ none.
       let owner = some_there (member_named member club) (not-false (is_some (member_named member club)) none.0) in
       done (owner.0, owner.1, none_there (key_named name club) none.1.0))

@@ -23,7 +23,7 @@ use Rattle.club_laws.specs.Points.{firsts}
 use Rattle.club_laws.specs.Conservation.{IsConserved}
 use Rattle.club_laws.proofs.FoundRows.{at_found}
 use Rattle.club_laws.proofs.NamedRows.{named, none_named}
-use Rattle.club_laws.proofs.OrderCases.{change_of, order_cases}
+use Rattle.club_laws.proofs.OrderCases.{OrderRestsOn, change_of, order_cases}
 use Rattle.club_laws.proofs.SoundOffice.{nobody_in}
 use Rattle.club_laws.proofs.SoundSteps.{sound_step, sound_run}
 use Rattle.club_laws.proofs.FirstEntries.{Seen, Stays, unseen_total, counts, points_of, moved}
@@ -38,12 +38,12 @@ pub record KeepsPoints (club : Club) (command : Command) (verdict : Result Chang
   pub no_refund : refund_of_reply (order_outcome club command verdict).reply ≡ []
 
 order_keeps : (club : Club) (command : Command) → KeepsPoints club command (office_verdict club command)
-order_keeps club command = order_cases (KeepsPoints club command) club (λ fault. record { bookings = refl; no_charge = refl; no_refund = refl }) command (λ k.
-    done command)
+order_keeps club command = order_cases (KeepsPoints club command) club (λ fault. record { bookings = refl; no_charge = refl; no_refund = refl }) command
+    (done command)
   where
-    done : (c : Command) → KeepsPoints club c (Ok (change_of c))
-    done (RevokeKey name) = record { bookings = refl; no_charge = refl; no_refund = refl }
-    done c = record { bookings = refl; no_charge = refl; no_refund = refl }
+    done : (c : Command) (r : OrderRestsOn club c) → KeepsPoints club c (Ok (change_of club c r))
+    done (RevokeKey name) r = record { bookings = refl; no_charge = refl; no_refund = refl }
+    done c r = record { bookings = refl; no_charge = refl; no_refund = refl }
 
 module _ (p : List ℕ → Bool) where
   step_charges : (club : Club) (event : Event) → MovesCharge p club.bookings (step club event).club.bookings (step club event).reply

@@ -61,15 +61,15 @@ decides_by_record bookings key (asked.Book slot number guests) reply view moment
     (verdicts.refusal_verdict refusals.NumberUsed) h.same
     ∙ ap verdicts.reply_only (sym h.returned))
 decides_by_record bookings key (asked.Cancel slot number) reply view moment h e =
-    recorded-some view.booking h.booking (λ booking. verdicts.cancel_recorded_verdict booking slot moment) (verdicts.unknown_verdict view.facility) (e
-    ∙ h.found)
+    recorded-some view.booking h.booking (λ booking. verdicts.cancel_recorded_verdict booking view.key.member slot moment)
+    (verdicts.unknown_verdict view.facility) (e ∙ h.found)
     ∙ (cancels_as_recorded h.booking h.same h.before ∙ ap verdicts.reply_only (sym h.returned))
   where
     cancels_as_recorded : (booking : Booking) → same_slot booking.slot slot ≡ true → booking.cancelled ≡ true
-        → verdicts.cancel_recorded_verdict booking slot moment ≡ verdicts.cancelled_before booking
+        → verdicts.cancel_recorded_verdict booking view.key.member slot moment ≡ verdicts.cancelled_before booking
     cancels_as_recorded booking same before =
         let late : Verdict = cond (nat_le (start_of booking.slot) moment) (verdicts.refusal_verdict refusals.SlotHasBegun)
-        (verdicts.cancelled_now booking (refund_at booking moment)) in
+        (verdicts.cancelled_now booking view.key.member (refund_at booking moment)) in
         cond-false (not (same_slot booking.slot slot)) (verdicts.refusal_verdict refusals.NumberUsed)
         (cond booking.cancelled (verdicts.cancelled_before booking) late)
         (not_from_true (same_slot booking.slot slot) same)

@@ -40,7 +40,7 @@ stays_revoked name club (MarkRevoked other) h =
       row = found_edited (revoked_key other) (λ (k : Key). bytes_eq k.name name) (λ k. refl) club.keys h.key h.row;
       revoked = or_left h.key.revoked (bytes_eq h.key.name other) h.revoked;
     }
-stays_revoked name club (ReplaceRoot other root until) h =
+stays_revoked name club (ReplaceRoot other former root until) h =
     record {
       key = rotated_key other root until h.key;
       row = found_edited (rotated_key other root until) (λ (k : Key). bytes_eq k.name name) (λ k. refl) club.keys h.key h.row;

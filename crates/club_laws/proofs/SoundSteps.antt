@@ -25,10 +25,10 @@ sound_after club (AddCredit name points) s f = sound_credit club name points s f
 sound_after club (InsertFacility facility) s f = sound_facility club facility s f
 sound_after club (InsertKey key) s f = sound_key club key s f
 sound_after club (MarkRevoked name) s f = sound_revoked club name s
-sound_after club (ReplaceRoot name root until) s f = sound_rotated club name root until s f
+sound_after club (ReplaceRoot name former root until) s f = sound_rotated club name root until s f
 sound_after club (MarkClosed slot) s f = sound_closed club slot s f
-sound_after club (InsertBooking booking) s f = sound_booking club booking s f
-sound_after club (MarkCancelled key number refund) s f = sound_cancellation club key number refund s f
+sound_after club (InsertBooking booking member) s f = sound_booking club booking s f
+sound_after club (MarkCancelled booking member refund) s f = sound_cancellation club booking.key booking.number refund s f
 
 sound_after_any : (club : Club) (change : Option Change) → IsSound club → FitsIfAny club change → IsSound (after_change change club)
 sound_after_any club None s f = s

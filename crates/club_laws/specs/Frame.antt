@@ -11,8 +11,8 @@ use Rattle.club_core.specs.Solo.{outside, is_own, own_part, part_of}
 
 -- whether a change is made in the member's part: the member's own changes, and the bookings and cancellations under its keys
 abbrev pub is_of_part : List ℕ → Club → Change → Bool
-is_of_part name club (InsertBooking booking) = is_key_of name club booking.key
-is_of_part name club (MarkCancelled key number refund) = is_key_of name club key
+is_of_part name club (InsertBooking booking member) = is_key_of name club booking.key
+is_of_part name club (MarkCancelled booking member refund) = is_key_of name club booking.key
 is_of_part name club change = is_own name club change
 
 -- the member's part after a change of the club: changed by the same change, or unchanged

@@ -1,6 +1,11 @@
-//! Every club that a run reaches is sound.
+//! Every club that a run reaches is sound, and each change fits.
 
-ghost use Rattle.club_laws.specs.SoundRuns.{EmptyIsSound, StepsKeepSound, RunsKeepSound};
+ghost use Rattle.club_laws.specs.SoundRuns.{
+  ChangesFit,
+  EmptyIsSound,
+  RunsKeepSound,
+  StepsKeepSound,
+};
 
 /// The empty club is sound.
 pub fn empty_is_sound()
@@ -11,6 +16,12 @@ pub fn empty_is_sound()
 /// their types.
 pub fn steps_keep_sound()
     ensures { StepsKeepSound }
+{}
+
+/// The change that an event makes of a sound club fits it: what it carries of the club's rows is
+/// true, and the club after it is sound.
+pub fn changes_fit()
+    ensures { ChangesFit }
 {}
 
 /// A run from a sound club ends in a sound club, if the values of all events are within them.

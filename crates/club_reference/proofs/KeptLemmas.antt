@@ -1,5 +1,5 @@
 -- Each step keeps a club's numbers within their widths.
-use Rattle.std.proofs.Common.{◌≡◌, ℕ, ◌+◌, ◌≤◌, Bool, true, false, cond, List, [], ◌∷◌, refl, arith, sym, ap, subst}
+use Rattle.std.proofs.Common.{◌≡◌, ℕ, ◌+◌, ◌≤◌, Bool, true, false, cond, List, [], ◌∷◌, ◌++◌, refl, arith, sym, ap, subst}
 use Rattle.std.specs.Prelude.{Option, Some, None, Result, Ok, Err, sum_by, option_map, option_and_then, nat_lt, nat_le, ◌&&◌, ◌==◌, not}
 use Rattle.std.specs.Str.{bytes_eq}
 use Rattle.std.proofs.lemmas.Bool.{ltb-false}
@@ -80,7 +80,7 @@ spent_le club name key member found owner =
 fits_booked : (club : Club) (name : List ℕ) (key : Key) (member : Member) (facility : Facility) (booking : Booking) → FitsWidths club
     → key_named name club ≡ Some key → member_named key.member club ≡ Some member → facility_named booking.slot.facility club ≡ Some facility
     → booking.key ≡ key.name → booking.refund ≡ 0 → taken_in booking.slot club.bookings + booking.guests + 1 ≤ facility.places
-    → booking.charge ≤ balance_of member (bookings_of member.name club) → FitsWidths (after (InsertBooking booking) club)
+    → booking.charge ≤ balance_of member (bookings_of member.name club) → FitsWidths (record club { bookings = club.bookings ++ booking ∷ [] })
 fits_booked club name key member facility booking h found owner place under none room points =
     let places : facility.places ≤ 50 = found_holds (λ (f : Facility). f.places ≤ 50) (λ (f : Facility).
     bytes_eq f.name booking.slot.facility) club.facilities facility h.places place in
@@ -102,14 +102,15 @@ keeps_new club name key member view slot number guests moment (Some facility) h 
     keep club view.closed (refusal_verdict refusals.SlotClosed) _ (keeps_reply_only club _) (λ open_slot.
     keep club (nat_lt facility.places (view.taken + guests + 1)) (refusal_verdict refusals.NoPlaces) _ (keeps_reply_only club _) (λ has_room.
     keep club (nat_le view.member.quota view.open_count) (refusal_verdict refusals.QuotaReached) _ (keeps_reply_only club _) (λ quota.
-    keep club (nat_lt view.balance (charge_of facility guests)) (refusal_verdict refusals.BalanceTooLow) (booked_now booking) (keeps_reply_only club _)
-    (λ has_points.
+    keep club (nat_lt view.balance (charge_of facility guests)) (refusal_verdict refusals.BalanceTooLow) (booked_now booking view.key.member)
+    (keeps_reply_only club _) (λ has_points.
     let full : view.taken + guests + 1 ≤ facility.places = ltb-false facility.places (view.taken + guests + 1) has_room in
     let room : taken_in slot club.bookings + guests + 1 ≤ facility.places = omega arith in
     let points : charge_of facility guests ≤ balance_of member (bookings_of member.name club) =
     rw (← balance) (ltb-false view.balance (charge_of facility guests) has_points) in
     let under : booking.key ≡ key.name = ap (λ (k : Key). k.name) same in
-    keeps_change club _ (InsertBooking booking) (fits_booked club name key member facility booking h found owner place under refl room points))))))
+    keeps_change club _ (InsertBooking booking view.key.member)
+    (fits_booked club name key member facility booking h found owner place under refl room points))))))
 
 keeps_repeat : (club : Club) (booking : Booking) (slot : Slot) (guests : ℕ) → Keeps club (repeat_booking_verdict booking slot guests)
 keeps_repeat club booking slot guests =
@@ -118,18 +119,19 @@ keeps_repeat club booking slot guests =
     keeps_reply_only club _)
 
 -- a cancellation
-keeps_cancel : (club : Club) (booking : Booking) (slot : Slot) (moment : ℕ) → FitsWidths club → Keeps club (cancel_recorded_verdict booking slot moment)
-keeps_cancel club booking slot moment h =
+keeps_cancel : (club : Club) (booking : Booking) (member : List ℕ) (slot : Slot) (moment : ℕ) → FitsWidths club
+    → Keeps club (cancel_recorded_verdict booking member slot moment)
+keeps_cancel club booking member slot moment h =
     let refund = refund_at booking moment in
     let begun = line_if (nat_le (start_of booking.slot) moment) (refusal_verdict refusals.SlotHasBegun) in
     let again = line_if booking.cancelled (cancelled_before booking) in
-    keep club (not (same_slot booking.slot slot)) (refusal_verdict refusals.NumberUsed) (first_of (again ∷ begun ∷ []) (cancelled_now booking refund))
+    keep club (not (same_slot booking.slot slot)) (refusal_verdict refusals.NumberUsed) (first_of (again ∷ begun ∷ []) (cancelled_now booking member refund))
     (keeps_reply_only club (Refused refusals.NumberUsed)) (λ e.
-    keep club booking.cancelled (cancelled_before booking) (first_of (begun ∷ []) (cancelled_now booking refund))
+    keep club booking.cancelled (cancelled_before booking) (first_of (begun ∷ []) (cancelled_now booking member refund))
     (keeps_reply_only club (Cancelled booking.key booking.number booking.refund)) (λ f.
-    keep club (nat_le (start_of booking.slot) moment) (refusal_verdict refusals.SlotHasBegun) (cancelled_now booking refund)
+    keep club (nat_le (start_of booking.slot) moment) (refusal_verdict refusals.SlotHasBegun) (cancelled_now booking member refund)
     (keeps_reply_only club (Refused refusals.SlotHasBegun)) (λ g.
-    keeps_change club (Cancelled booking.key booking.number refund) (MarkCancelled booking.key booking.number refund)
+    keeps_change club (Cancelled booking.key booking.number refund) (MarkCancelled booking member refund)
     (fits_mark_cancelled club booking.key booking.number refund h))))
 
 keeps_unknown : (club : Club) (facility : Option Facility) → Keeps club (unknown_verdict facility)
@@ -166,8 +168,8 @@ keeps_decision club name key member state (asked.Book slot number guests) moment
     (keeps_new club name key member view slot number guests moment view.facility h found owner (at slot refl).0 refl (at slot refl).1 refl)
 keeps_decision club name key member state (asked.Cancel slot number) moment h found owner at =
     let view = view_of (basis_with club key member state) (asked.Cancel slot number) moment in
-    keeps_recorded club view.booking (λ b. cancel_recorded_verdict b slot moment) (unknown_verdict view.facility) (λ b.
-    keeps_cancel club b slot moment h) (keeps_unknown club view.facility)
+    keeps_recorded club view.booking (λ b. cancel_recorded_verdict b view.key.member slot moment) (unknown_verdict view.facility)
+    (λ b. keeps_cancel club b view.key.member slot moment h) (keeps_unknown club view.facility)
 keeps_decision club name key member state asked.Account moment h found owner at = keeps_reply_only club _
 
 keeps_after_caveats : (club : Club) (fault : Option CaveatFault) (verdict : Verdict) → Keeps club verdict → Keeps club (after_caveats fault verdict)

@@ -71,7 +71,7 @@ fits_closed club closed h = record { credited = h.credited; unique = h.unique; p
 keeps_rotation : (club : Club) (name root : List ℕ) (until : ℕ) (key : Option Key) → FitsWidths club → KeepsOk club (rotate_verdict name root until key)
 keeps_rotation club name root until None h = keeps_err club _
 keeps_rotation club name root until (Some key) h =
-    let change = ReplaceRoot name root until in
+    let change = ReplaceRoot name key.root root until in
     keep club (bytes_eq key.root root) Exists (Ok change) (λ e. keeps_ok club change (fits_keys club (after change club).keys h))
 
 keeps_close : (club : Club) (held : SlotUse) (slot : Slot) (facility : Option Facility) → FitsWidths club → KeepsOk club (close_verdict held slot facility)

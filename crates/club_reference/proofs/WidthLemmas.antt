@@ -11,7 +11,7 @@ use Rattle.club_values.specs.declared.slot.Slot.{Slot}
 use Rattle.club_rows.specs.declared.member.Member.{Member}
 use Rattle.club_rows.specs.declared.facility.Facility.{Facility}
 use Rattle.club_rows.specs.declared.booking.Booking.{Booking}
-use Rattle.club_core.specs.declared.change.Change.TheVariants.{InsertMember, AddCredit, InsertFacility, InsertBooking, MarkCancelled}
+use Rattle.club_core.specs.declared.change.Change.TheVariants.{InsertMember, AddCredit, InsertFacility}
 use Rattle.club_rows.specs.Booking.{same_slot, persons_of}
 use Rattle.club_core.specs.Club.{Club, member_named}
 use Rattle.club_core.specs.Sums.{is_in, taken_in, cost_of, is_under, spent_under}
@@ -118,7 +118,7 @@ more f p xs y = total_is f p (xs ++ y ∷ []) ∙ (total_push f p xs y ∙ ap (�
 
 pub fits_insert_booking : (club : Club) (booking : Booking) → FitsWidths club → taken_in booking.slot club.bookings + persons_of booking ≤ 50
     → spent_under booking.key club.bookings + cost_of booking ≤ 999_999_999 → (booking.cancelled ≡ false → booking.refund ≡ 0)
-    → FitsWidths (after (InsertBooking booking) club)
+    → FitsWidths (record club { bookings = club.bookings ++ booking ∷ [] })
 fits_insert_booking club booking h persons cost kept = record {
   credited = h.credited;
   unique = h.unique;
@@ -154,7 +154,8 @@ still_kept true marked old new kept e = cc
 still_kept false true old new kept e = cc
 still_kept false false old new kept e = kept refl
 
-pub fits_mark_cancelled : (club : Club) (key : List ℕ) (number refund : ℕ) → FitsWidths club → FitsWidths (after (MarkCancelled key number refund) club)
+pub fits_mark_cancelled : (club : Club) (key : List ℕ) (number refund : ℕ) → FitsWidths club
+    → FitsWidths (record club { bookings = map (cancelled_booking key number refund) club.bookings })
 fits_mark_cancelled club key number refund h =
     let edit = cancelled_booking key number refund in
     let none : (k : ℕ) (d : Booking) → k < length club.bookings → is_marked key number (get_or club.bookings k d) ≡ true

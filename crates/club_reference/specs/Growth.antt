@@ -12,10 +12,10 @@ is_growth (AddCredit member points) = false
 is_growth (InsertFacility facility) = true
 is_growth (InsertKey key) = true
 is_growth (MarkRevoked key) = false
-is_growth (ReplaceRoot key root until) = false
+is_growth (ReplaceRoot key former root until) = false
 is_growth (MarkClosed slot) = true
-is_growth (InsertBooking booking) = true
-is_growth (MarkCancelled key number refund) = false
+is_growth (InsertBooking booking member) = true
+is_growth (MarkCancelled booking member refund) = false
 
 -- how many rows a club has
 abbrev pub row_count : Club → ℕ

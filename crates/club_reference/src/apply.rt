@@ -25,14 +25,19 @@ impl Club {
             Change::InsertFacility(facility) => self.facilities.push(facility)?,
             Change::InsertKey(key) => self.keys.push(key)?,
             Change::MarkRevoked { key } => revoke(&mut self.keys, &key),
-            Change::ReplaceRoot { key, root, until } => rotate(&mut self.keys, &key, &root, until),
-            Change::MarkClosed(slot) => self.closed.push(slot)?,
-            Change::InsertBooking(booking) => self.bookings.push(booking)?,
-            Change::MarkCancelled {
+            Change::ReplaceRoot {
                 key,
-                number,
+                root,
+                until,
+                ..
+            } => rotate(&mut self.keys, &key, &root, until),
+            Change::MarkClosed(slot) => self.closed.push(slot)?,
+            Change::InsertBooking { booking, .. } => self.bookings.push(booking)?,
+            Change::MarkCancelled {
+                booking,
                 refund,
-            } => cancel(&mut self.bookings, &key, number, refund),
+                ..
+            } => cancel(&mut self.bookings, &booking.key, booking.number, refund),
         }
         Ok(())
     }

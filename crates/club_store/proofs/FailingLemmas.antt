@@ -16,8 +16,7 @@ module _ {S A : Type 0} (g : Ghosts S) (old new : Held S) (first : Result A Stor
     (clean : HasCleanDisk (state g new)) where
   fails_since : (wish : Option Change) (fault : StoreFault) (later : Held S) → Fails g wish new fault later → Fails g wish old fault later
   fails_since None fault later it = later_fault g old new later first IsReturned fault clean reads it
-  fails_since (Some change) fault later it =
-      change_fault g old new first IsReturned reads later (λ _. Unit {0}) (λ _. Unit {0}) change fault clean (λ club before returned. tt) it
+  fails_since (Some change) fault later it = change_fault g old new later first IsReturned change fault clean reads it
 
 pub reads_or_fails : {S A : Type 0} (g : Ghosts S) (old new : Held S) (result : Result A StoreFault) (IsReturned : Club → A → Type 0)
     → ReadsClub g old new result IsReturned → HasCleanDisk (state g new) → ReadsOrFails (Fails g) old new result

@@ -1,23 +1,17 @@
 -- Readings in turn, and a change after a reading.
-use Rattle.std.proofs.Common.{◌≡◌, Result, Ok, Err, IfOk, IfErr, IsErrAnd, OnErr, subst, refl, inl, inr, sym, ◌∙◌, arith}
+use Rattle.std.proofs.Common.{◌≡◌, Result, Ok, Err, IfOk, IfErr, IsErrAnd, subst, refl, inl, inr, sym, ◌∙◌, arith}
 use Rattle.sqlite.specs.Store.{Ghosts}
 use Rattle.sqlite.specs.State.{State, HasCleanDisk, Survives}
 use Rattle.sqlite.specs.Held.{Held, state}
 use Rattle.sqlite.proofs.StateLemmas.{survives_then}
 use Rattle.club_core.specs.declared.change.Change.{Change}
-use Rattle.club_core.specs.After.{after}
 use Rattle.club_core.specs.Club.{Club}
 use Rattle.club_core.specs.declared.store.StoreFault.{StoreFault}
-use Rattle.club_core.specs.declared.store.StoreFault.TheVariants.{Storage}
 use Rattle.club_tables.specs.Transaction.{IsUntouched, MayCommit}
 use Rattle.club_tables.specs.Answers.{IsAfterReadings, IsReadFault}
 use Rattle.club_tables.specs.Opening.{IsOpeningBatch}
-use Rattle.club_tables.specs.ChangeStatements.{AreStatementsOf}
 use Rattle.club_store.specs.Opening.{SurvivesOpening}
-use Rattle.club_tables.specs.ReadsAndChanges.{ReadsClub, ChangesClubWhere, IsChangeFault, IsRefusedBeforeWrite}
-
-kept_when_idle : (s : State) → IsUntouched s s
-kept_when_idle s rest clean is_open = (is_open, rest is_open, refl)
+use Rattle.club_tables.specs.ReadsAndChanges.{ReadsClub, IsChangeFault}
 
 pub untouched_then : (a b c : State) → (HasCleanDisk c → HasCleanDisk b) → IsUntouched a b → IsUntouched b c → IsUntouched a c
 untouched_then a b c earlier first next rest clean is_open =
@@ -94,91 +88,12 @@ read_failed g a b c one fault result IsOne IsTwo IsReturned first next is =
     (λ club was none. err_is_never_ok result (λ other. other ≡ fault) (IsReturned club) is)
     (λ P p. passed_on fault result P is p)
 
-on_err : {E : Type 0} {P Q : Type 0} (r : Result (Unit {0}) E) → OnErr r P → (P → Q) → OnErr r Q
-on_err (Ok done) p f = tt
-on_err (Err e) p f = f p
-
-module _ {S A : Type 0} (g : Ghosts S) (a b : Held S) (first : Result A StoreFault) (IsFirst : Club → A → Type 0) (reads : ReadsClub g a b first IsFirst) where
-  pub change_fault : (c : Held S) (IsBefore IsIt : Club → Type 0) (change : Change) (fault : StoreFault) → HasCleanDisk (state g b)
-      → ((club : Club) → IsBefore club → IfOk first (IsFirst club) → IsIt club)
-      → IsChangeFault g IsIt change b c fault → IsChangeFault g IsBefore change a c fault
-  change_fault c IsBefore IsIt change fault clean is (inl read) = inl (later_fault g a b c first IsFirst fault clean reads read)
-  change_fault c IsBefore IsIt change fault clean is (inr (inl run)) = inr (inl (record {
-    from = run.from;
-    after = after_reading g a b run.from first IsFirst clean reads run.after;
-    statements = run.statements;
-    are = run.are;
-    failure = run.failure;
-  }))
-  change_fault c IsBefore IsIt change fault clean is (inr (inr refusal)) = inr (inr (record {
-    before_write = λ club others before represents. refusal.before_write club others (is club before (reads.returns clean club others represents))
-        (reads.kept clean club others represents);
-    fault_is = refusal.fault_is;
-  }))
-
-  -- a change after a reading
-  pub change_after : (c : Held S) (result : Result (Unit {0}) StoreFault) (IsBefore IsIt : Club → Type 0) (change : Change)
-      → ChangesClubWhere g IsIt change b c result → ((club : Club) → IsBefore club → IfOk first (IsFirst club) → IsIt club)
-      → ChangesClubWhere g IsBefore change a c result
-  change_after c result IsBefore IsIt change changes is =
-      let earlier : HasCleanDisk (state g b) → HasCleanDisk (state g a) = λ clean. let e : HasCleanDisk (state g a) =
-      omega (arith, reads.survives.clean) in e in
-      let P = MayCommit g (AreStatementsOf change) a in
-      record {
-        was_clean = λ clean. earlier (changes.was_clean clean);
-        effect = λ clean club others before represents fits.
-            let mid = changes.was_clean clean in
-            changes.effect clean club others (is club before (reads.returns mid club others represents)) (reads.kept mid club others represents) fits;
-        no_change = on_err result changes.no_change (λ un. untouched_then (state g a) (state g b) (state g c) changes.was_clean reads.no_change un);
-        survives = survives_then (state g a) (state g b) (state g c) (λ _. ⊥) (MayCommit g (AreStatementsOf change) b) P (λ _ db none. absurd none)
-            (λ clean db may. let p : P db = record {
-              from = may.from;
-              same = untouched_then (state g a) (state g b) (state g may.from) (λ _. changes.was_clean clean) reads.no_change may.same;
-              clean = may.clean;
-              statements = may.statements;
-              are = may.are;
-              db = may.db;
-              ran = may.ran;
-              left = may.left;
-            } in p)
-            reads.survives changes.survives;
-        fault = λ clean. fault_if (IsChangeFault g IsIt change b c) (IsChangeFault g IsBefore change a c) result (changes.fault clean) (λ fault it.
-            change_fault c IsBefore IsIt change fault (changes.was_clean clean) is it);
-      }
-
-  -- a refusal after a reading
-  refuse_after : (fault : StoreFault) (IsIt : Club → Type 0) (change : Change) → (HasCleanDisk (state g b) → IsChangeFault g IsIt change a b fault)
-      → ChangesClubWhere g IsIt change a b (Err fault)
-  refuse_after fault IsIt change fails = record {
-    was_clean = λ clean. let e : HasCleanDisk (state g a) = omega (arith, reads.survives.clean) in e;
-    effect = λ clean club others it represents fits.
-        let kept = reads.kept clean club others represents in
-        record {
-          held = kept.held;
-          idle = kept.idle;
-          left = λ clean trees may. elim (kept.left clean trees may) [ inl here ↦ inl here | inr there ↦ inr (inr there) ];
-        };
-    no_change = reads.no_change;
-    survives = survives_then (state g a) (state g b) (state g b) (λ _. ⊥) (λ _. ⊥) (MayCommit g (AreStatementsOf change) a) (λ _ db none. absurd none)
-        (λ _ db none.
-        absurd none)
-        reads.survives (survives_same (state g b));
-    fault = fails;
-  }
-
-  -- where the reading failed
-  pub refuse_unread : (fault : StoreFault) (IsIt : Club → Type 0) (change : Change) → first ≡ Err fault → ChangesClubWhere g IsIt change a b (Err fault)
-  refuse_unread fault IsIt change is =
-      refuse_after fault IsIt change (λ clean. inl (let failed = rw is at (reads.fault clean) in failed))
-
-  -- the read shows that the change can't be made
-  pub refuse_found : (IsIt : Club → Type 0) (change : Change) → ((club : Club) → IsIt club → IfOk first (IsFirst club) → IsRefusedBeforeWrite change club)
-      → ChangesClubWhere g IsIt change a b (Err Storage)
-  refuse_found IsIt change refused =
-      refuse_after Storage IsIt change (λ clean. inr (inr (record {
-        before_write = λ club others it represents. refused club it (reads.returns clean club others represents);
-        fault_is = refl;
-      })))
+-- a fault of a change after a reading
+pub change_fault : {S A : Type 0} (g : Ghosts S) (a b c : Held S) (first : Result A StoreFault) (IsFirst : Club → A → Type 0) (change : Change)
+    (fault : StoreFault) → HasCleanDisk (state g b) → ReadsClub g a b first IsFirst → IsChangeFault g change b c fault → IsChangeFault g change a c fault
+change_fault g a b c first IsFirst change fault clean reads (inl run) =
+    inl (record { from = run.from; after = after_reading g a b run.from first IsFirst clean reads run.after; failure = run.failure })
+change_fault g a b c first IsFirst change fault clean reads (inr refused) = inr refused
 
 -- nothing is opened
 pub opens_nothing : {S : Type 0} (g : Ghosts S) (held : Held S) → SurvivesOpening g held held

@@ -7,19 +7,14 @@ use Rattle.sqlite.specs.Held.{Held}
 use Rattle.club_core.specs.declared.change.Change.{Change}
 use Rattle.club_core.specs.After.{after}
 use Rattle.club_core.specs.Club.{IsSound}
-use Rattle.club_tables.specs.ReadsAndChanges.{Changes, ChangesWhere, sound_in, represents_in}
-
--- a change of any club
-pub any_change : {S E : Type 0} (g : Ghosts S) (change : Change) (old new : Held S) (result : Result (Unit {0}) E)
-    → ChangesWhere (λ _. Unit {0}) (represents_in g) change old new result → Changes (represents_in g) change old new result
-any_change g change old new result changes club others represents fits = changes club others tt represents fits
+use Rattle.club_tables.specs.ReadsAndChanges.{Changes, sound_in, represents_in}
 
 pub sound_changes : {S E : Type 0} (g : Ghosts S) (change : Change) (old new : Held S) (result : Result (Unit {0}) E)
     → Changes (represents_in g) change old new result → Changes (sound_in g) change old new result
 sound_changes g change old new (Ok done) made = λ club others represents fits.
-    (All-cons IsSound (after change club) [] fits (All-nil IsSound), made club others represents.1 fits)
+    (All-cons IsSound (after change club) [] fits.sound (All-nil IsSound), made club others represents.1 fits)
 sound_changes g change old new (Err fault) made = λ club others represents fits. (
   All-cons IsSound club (after change club ∷ others) (All-head IsSound club others represents.0)
-      (All-cons IsSound (after change club) others fits (All-tail IsSound club others represents.0)),
+      (All-cons IsSound (after change club) others fits.sound (All-tail IsSound club others represents.0)),
   made club others represents.1 fits,
 )

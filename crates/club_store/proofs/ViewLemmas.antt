@@ -60,11 +60,6 @@ pub of_fresh : (found : Option Key) (key : Key) → Some key ≡ option_map fres
 of_fresh None key h = absurd cc
 of_fresh (Some row) key h = let e : key ≡ fresh row = cc in (row, refl, e)
 
--- where none was found there is none
-pub unnamed : (found : Option Key) → None ≡ option_map fresh found → found ≡ None
-unnamed None h = refl
-unnamed (Some row) h = absurd (cc)
-
 -- with its older root it is the key
 pub with_older : (row key : Key) (older : Option OlderRoot) → key ≡ fresh row → older ≡ row.older
     → ◌≡◌ {A = Key} (record { name = key.name; member = key.member; root = key.root; older = older; revoked = key.revoked }) row

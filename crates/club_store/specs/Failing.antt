@@ -10,4 +10,4 @@ use Rattle.club_tables.specs.ReadsAndChanges.{IsChangeFault}
 -- from the first state to the second, a read failed with this fault, or this change did
 abbrev pub Fails : {S : Type 0} → Ghosts S → Option Change → Held S → StoreFault → Held S → Type 0
 Fails g None old fault new = IsReadFault g old new fault
-Fails g (Some change) old fault new = IsChangeFault g (λ _. Unit {0}) change old new fault
+Fails g (Some change) old fault new = IsChangeFault g change old new fault

@@ -49,13 +49,7 @@ ghost use Rattle.club_store.specs.Opening.{
 };
 ghost use Rattle.club_tables.specs.Opening.{AcceptsTables, IsOpeningFault};
 ghost use Rattle.club_tables.specs.Tables.{Represents, IsFound};
-ghost use Rattle.club_tables.specs.ReadsAndChanges.{
-  ReadsClub,
-  ChangesClub,
-  ChangesClubWhere,
-  IsToCancel,
-  HasNoneToCancel,
-};
+ghost use Rattle.club_tables.specs.ReadsAndChanges.{ReadsClub, ChangesClub};
 ghost use Rattle.club_tables.specs.Stored.{IsMemberRow, member_row, older_of, fresh};
 ghost use Rattle.club_store.specs.Figures.{slot_state, member_view, HasLimits};
 
@@ -415,52 +409,43 @@ impl<S: Alter> Store<S> {
             Change::InsertFacility(facility) => self.insert_facility(facility),
             Change::InsertKey(key) => self.insert_key(key),
             Change::MarkRevoked { key } => self.revoke_key(key),
-            Change::ReplaceRoot { key, root, until } => self.replace_root(key, root, *until),
-            Change::MarkClosed(slot) => self.close_slot(slot),
-            Change::InsertBooking(booking) => self.insert_booking(booking),
-            Change::MarkCancelled {
+            Change::ReplaceRoot {
                 key,
-                number,
+                former,
+                root,
+                until,
+            } => self.replace_root(key, former, root, *until),
+            Change::MarkClosed(slot) => self.close_slot(slot),
+            Change::InsertBooking { booking, member } => self.insert_booking(booking, member),
+            Change::MarkCancelled {
+                booking,
+                member,
                 refund,
-            } => self.cancel_booking(key, *number, *refund),
+            } => self.cancel_booking(booking, member, *refund),
         }
     }
 
-    /// Inserts a booking, and adds it to its member's cost and its slot's persons, in one
-    /// transaction. Fails as `apply`.
-    fn insert_booking(&mut self, booking: &Booking) -> Result<(), StoreFault>
-        ensures makes { ChangesClub S.Store (InsertBooking booking.now) self.old self.new result }
+    /// Inserts a booking under a key of the member, and adds it to the member's cost and its slot's
+    /// persons, in one transaction. Fails as `apply`.
+    fn insert_booking(&mut self, booking: &Booking, member: &Name) -> Result<(), StoreFault>
+        ensures makes { ChangesClub S.Store
+            (InsertBooking booking.now member.now) self.old self.new result }
     {
-        let found = match self.key_row(&booking.key) {
-            Ok(found) => found,
-            Err(fault) => return Err(fault),
-        };
-        match found {
-            Some(key) => writes::insert_booking(&mut self.connection, booking, &key.member),
-            None => Err(StoreFault::Storage),
-        }
+        writes::insert_booking(&mut self.connection, booking, member)
     }
 
     /// Marks a booking cancelled with its refund, gives the refund back to its member and its
-    /// places to its slot, in one transaction. If there is none to cancel, nothing is changed.
-    /// Fails as `apply`.
+    /// places to its slot, in one transaction. Fails as `apply`.
     fn cancel_booking(
         &mut self,
-        key: &Name,
-        number: BookingNumber,
+        booking: &Booking,
+        member: &Name,
         refund: u32,
     ) -> Result<(), StoreFault>
         ensures makes { ChangesClub S.Store
-            (MarkCancelled key.now number refund) self.old self.new result }
+            (MarkCancelled booking.now member.now refund) self.old self.new result }
     {
-        let found = match self.booking(key, number) {
-            Ok(found) => found,
-            Err(fault) => return Err(fault),
-        };
-        match found {
-            Some(booking) if !booking.cancelled => self.give_back(&booking, refund),
-            _ => self.mark_cancelled(key, number, refund),
-        }
+        writes::cancel_booking(&mut self.connection, booking, member, refund)
     }
 
     /// The booking of a key under a number; `None` if there is none. A row out of its limits is a
@@ -477,36 +462,6 @@ impl<S: Alter> Store<S> {
             (λ booking. (booking.key ≡ key.now) × (booking.number ≡ number))) }
     {
         reads::booking(&mut self.connection, key, number)
-    }
-
-    /// Runs the statement that cancels a booking when there is none to cancel: nothing is changed.
-    fn mark_cancelled(
-        &mut self,
-        key: &Name,
-        number: BookingNumber,
-        refund: u32,
-    ) -> Result<(), StoreFault>
-        ensures makes { ChangesClubWhere S.Store (HasNoneToCancel key.now number)
-            (MarkCancelled key.now number refund) self.old self.new result }
-    {
-        writes::mark_cancelled(&mut self.connection, key, number, refund)
-    }
-
-    /// Cancels a booking that isn't cancelled, as `cancel_booking`.
-    fn give_back(&mut self, booking: &Booking, refund: u32) -> Result<(), StoreFault>
-        ensures makes { ChangesClubWhere S.Store (IsToCancel booking.now)
-            (MarkCancelled booking.now.key booking.now.number refund) self.old self.new result }
-    {
-        let found = match self.key_row(&booking.key) {
-            Ok(found) => found,
-            Err(fault) => return Err(fault),
-        };
-        match found {
-            Some(key) => {
-                writes::cancel_booking(&mut self.connection, booking, &key.member, refund)
-            }
-            None => Err(StoreFault::Storage),
-        }
     }
 
     /// Inserts a member, in one transaction. Fails as `apply`.
@@ -545,31 +500,27 @@ impl<S: Alter> Store<S> {
         writes::revoke_key(&mut self.connection, key)
     }
 
-    /// Gives a key a new root, in one transaction. Its current root becomes its older root, good
-    /// until the moment, and replaces an earlier one. Fails as `apply`, and with `Storage` if the
-    /// key is unknown.
-    pub fn replace_root(&mut self, key: &Name, root: &Root, until: Moment) -> Result<(), StoreFault>
+    /// Gives a key a new root, in one transaction. Its former root becomes its older root, good
+    /// until the moment, and replaces an earlier one. Fails as `apply`.
+    pub fn replace_root(
+        &mut self,
+        key: &Name,
+        former: &Root,
+        root: &Root,
+        until: Moment,
+    ) -> Result<(), StoreFault>
         ensures makes { ChangesClub S.Store
-            (ReplaceRoot key.now root.now until) self.old self.new result }
+            (ReplaceRoot key.now former.now root.now until) self.old self.new result }
     {
-        let found = match self.key_row(key) {
-            Ok(found) => found,
-            Err(fault) => return Err(fault),
+        let rotation = Rotation {
+            key: *key,
+            root: *root,
+            older: OlderRoot {
+                root: *former,
+                until,
+            },
         };
-        match found {
-            Some(row) => {
-                let rotation = Rotation {
-                    key: *key,
-                    root: *root,
-                    older: OlderRoot {
-                        root: row.root,
-                        until,
-                    },
-                };
-                writes::replace_root(&mut self.connection, &rotation)
-            }
-            None => Err(StoreFault::Storage),
-        }
+        writes::replace_root(&mut self.connection, &rotation)
     }
 
     /// Marks a slot closed, in one transaction. Fails as `apply`.

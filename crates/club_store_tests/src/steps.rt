@@ -62,7 +62,7 @@ static BOOKS: [Step; 4] = [
     Step::Applies(Write::Credit(10_000)),
     Step::Applies(Write::Book(COURT_7)),
     Step::Applies(Write::Book(ROOM_8)),
-    Step::Applies(Write::Cancel(8, 300)),
+    Step::Applies(Write::Cancel(ROOM_8, 300)),
 ];
 
 fn shows_member<C: ClubStore>(rt: &impl Abort, store: &mut C, credited: Option<u32>) {
@@ -191,9 +191,14 @@ fn make<S: Alter>(store: &mut Store<S>, change: &Change) -> Result<(), StoreFaul
         Change::InsertFacility(facility) => store.insert_facility(facility),
         Change::InsertKey(key) => store.insert_key(key),
         Change::MarkRevoked { key } => store.revoke_key(key),
-        Change::ReplaceRoot { key, root, until } => store.replace_root(key, root, *until),
+        Change::ReplaceRoot {
+            key,
+            former,
+            root,
+            until,
+        } => store.replace_root(key, former, root, *until),
         Change::MarkClosed(slot) => store.close_slot(slot),
-        Change::InsertBooking(_) | Change::MarkCancelled { .. } => store.apply(change),
+        Change::InsertBooking { .. } | Change::MarkCancelled { .. } => store.apply(change),
     }
 }
 

@@ -43,7 +43,7 @@ static PERSONS: [Step; 7] = [
     Step::Applies(Write::Book(ROOM_8)),
     Step::Shows(Shown::Slot(COURT_AT_18, 3, false)),
     Step::Shows(Shown::Slot(ROOM_AT_18, 1, false)),
-    Step::Applies(Write::Cancel(8, 300)),
+    Step::Applies(Write::Cancel(ROOM_8, 300)),
     Step::Shows(Shown::Slot(COURT_AT_18, 3, false)),
     Step::Shows(Shown::Slot(ROOM_AT_18, 0, false)),
 ];
@@ -110,7 +110,7 @@ static DAYS: [Step; 9] = [
     Step::Applies(Write::Book(COURT_3_AT_9)),
     Step::Applies(Write::Book(COURT_4_A_DAY_LATER)),
     Step::Applies(Write::Book(COURT_7)),
-    Step::Applies(Write::Cancel(3, 200)),
+    Step::Applies(Write::Cancel(COURT_3_AT_9, 200)),
     Step::Shows(Shown::Sheet(DAY, FULL_SHEET)),
     Step::Shows(Shown::Sheet("2026-05-03", EMPTY_SHEET)),
 ];

@@ -5,12 +5,13 @@ ghost use Rattle.std.specs.Prelude.{◌≡◌, false};
 use crate::expect::expect_eq;
 use crate::rows::{
     AMY_1, At, Booked, COURT, COURT_7, Kept, Older, Place, amy, booking, booking_of, day,
-    facility_of, key, key_of, moment, name, number, older_root, older_root_of, root, slot,
+    facility_of, key, key_of, moment, name, number, older_root_of, slot,
 };
 use crate::write::{Write, change};
 use club_core::{Change, SlotUse, StoreFault};
+use club_rows::{OlderRoot, Root};
 use club_tables::{Rotation, open_tables, reads, writes};
-use club_values::Name;
+use club_values::{Moment, Name};
 use sqlite::{Connection, MemStore};
 use std::alloc::Global;
 use std::process::Abort;
@@ -28,12 +29,8 @@ pub(crate) enum Step {
     /// Finds the tables that are there.
     Opens,
     Writes(Write),
-    /// Gives amy's key a new root beside an older one.
-    Rotates(&'static str, Older),
     /// Adds a key that has an older root, which is refused.
     Refuses(Kept),
-    /// Cancels a booking of amy's with a refund.
-    Cancels(Booked, u32),
     Expects(Expected),
 }
 
@@ -66,6 +63,17 @@ static FILLS: [Step; 5] = [
     Step::Writes(Write::Book(COURT_7)),
 ];
 
+fn rotation(key: &Name, former: &Root, root: &Root, until: Moment) -> Rotation {
+    Rotation {
+        key: *key,
+        root: *root,
+        older: OlderRoot {
+            root: *former,
+            until,
+        },
+    }
+}
+
 impl Tables {
     /// Those of an empty club.
     pub fn empty(rt: &(impl Abort + Alloc<A = Global>)) -> Tables {
@@ -91,19 +99,16 @@ impl Tables {
         match step {
             Step::Opens => expect_eq(rt, &open_tables(&mut self.conn), &Ok(())),
             Step::Writes(write) => self.makes(rt, &change(rt, write)),
-            Step::Rotates(to, older) => self.rotates(rt, to, older),
             Step::Refuses(kept) => self.refuses(rt, kept),
-            Step::Cancels(booked, refund) => self.cancels(rt, booked, *refund),
             Step::Expects(expected) => self.expects(rt, expected),
         }
     }
 
     fn makes(&mut self, rt: &impl Abort, change: &Change) {
-        expect_eq(rt, &self.made(change, &name(rt, "amy")), &Ok(()));
+        expect_eq(rt, &self.made(change), &Ok(()));
     }
 
-    /// Makes a change of a member. A new root takes the older one too, so it isn't made here.
-    fn made(&mut self, change: &Change, amy: &Name) -> Result<(), StoreFault> {
+    fn made(&mut self, change: &Change) -> Result<(), StoreFault> {
         let conn = &mut self.conn;
         match change {
             Change::InsertMember(member) => writes::insert_member(conn, member),
@@ -111,40 +116,27 @@ impl Tables {
             Change::InsertFacility(facility) => writes::insert_facility(conn, facility),
             Change::InsertKey(key) => writes::insert_key(conn, key),
             Change::MarkRevoked { key } => writes::revoke_key(conn, key),
-            Change::ReplaceRoot { .. } => Err(StoreFault::Storage),
-            Change::MarkClosed(slot) => writes::close_slot(conn, slot),
-            Change::InsertBooking(booking) => writes::insert_booking(conn, booking, amy),
-            Change::MarkCancelled {
+            Change::ReplaceRoot {
                 key,
-                number,
+                former,
+                root,
+                until,
+            } => writes::replace_root(conn, &rotation(key, former, root, *until)),
+            Change::MarkClosed(slot) => writes::close_slot(conn, slot),
+            Change::InsertBooking { booking, member } => {
+                writes::insert_booking(conn, booking, member)
+            }
+            Change::MarkCancelled {
+                booking,
+                member,
                 refund,
-            } => writes::mark_cancelled(conn, key, *number, *refund),
+            } => writes::cancel_booking(conn, booking, member, *refund),
         }
-    }
-
-    fn rotates(&mut self, rt: &impl Abort, to: &str, older: &Older) {
-        let rotation = Rotation {
-            key: name(rt, "amy-1"),
-            root: root(rt, to),
-            older: older_root(rt, older),
-        };
-        expect_eq(
-            rt,
-            &writes::replace_root(&mut self.conn, &rotation),
-            &Ok(()),
-        );
     }
 
     fn refuses(&mut self, rt: &impl Abort, kept: &Kept) {
         let refused = writes::insert_key(&mut self.conn, &key(rt, kept));
         expect_eq(rt, &refused, &Err(StoreFault::Storage));
-    }
-
-    fn cancels(&mut self, rt: &impl Abort, booked: &Booked, refund: u32) {
-        let booking = booking(rt, booked);
-        let amy = name(rt, "amy");
-        let cancelled = writes::cancel_booking(&mut self.conn, &booking, &amy, refund);
-        expect_eq(rt, &cancelled, &Ok(()));
     }
 
     fn expects(&mut self, rt: &(impl Abort + Alloc<A = Global>), expected: &Expected) {

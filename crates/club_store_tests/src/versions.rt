@@ -179,12 +179,14 @@ fn has_no_older_root_once_migrated(rt: HostRuntime) {
     plays_again(&rt, store, &NO_OLDER_ROOT, &NO_OLDER_ROOT);
 }
 
-static ROTATES: [Step; 1] = [Step::Applies(Write::Rotate("amy-1", SECOND, "2026-04-25T00:00"))];
+const OLDER: Older = Older(FIRST, "2026-04-25T00:00");
+
+static ROTATES: [Step; 1] = [Step::Applies(Write::Rotate("amy-1", OLDER, SECOND))];
 
 static ROTATED: [Step; 1] = [Step::Shows(Shown::Key(Kept {
     name: "amy-1",
     root: SECOND,
-    older: Some(Older(FIRST, "2026-04-25T00:00")),
+    older: Some(OLDER),
     revoked: false,
 }))];
 
@@ -196,8 +198,8 @@ fn rotates_a_key_once_migrated(rt: HostRuntime) {
 
 /// Of two rotations the second drops the root that the first kept; bookings stay.
 static ROTATES_TWICE: [Step; 4] = [
-    Step::Applies(Write::Rotate("amy-1", SECOND, "2000-01-01T00:00")),
-    Step::Applies(Write::Rotate("amy-1", THIRD, "2099-12-31T23:59")),
+    Step::Applies(Write::Rotate("amy-1", Older(FIRST, "2000-01-01T00:00"), SECOND)),
+    Step::Applies(Write::Rotate("amy-1", Older(SECOND, "2099-12-31T23:59"), THIRD)),
     Step::Shows(Shown::Key(Kept {
         name: "amy-1",
         root: THIRD,
@@ -212,10 +214,10 @@ fn rotates_a_key_twice(rt: HostRuntime) {
     plays(&rt, &mut with_bookings(&rt), &ROTATES_TWICE);
 }
 
-/// By the call of its own name.
+/// By the call of its own name. A root of an unknown key is refused by the tables.
 static REPLACES: [Step; 2] = [
-    Step::Calls(Write::Rotate("amy-1", SECOND, "2026-04-25T00:00")),
-    Step::Refuses(Write::Rotate("amy-2", SECOND, "2026-04-25T00:00")),
+    Step::Calls(Write::Rotate("amy-1", OLDER, SECOND)),
+    Step::Refuses(Write::Rotate("amy-2", OLDER, SECOND)),
 ];
 
 #[test]

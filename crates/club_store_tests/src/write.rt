@@ -1,7 +1,7 @@
 //! Changes of a club, from plain data.
 
 use crate::rows::{
-    At, Booked, Kept, Place, amy, booking, facility, key, moment, name, number, root, slot,
+    At, Booked, Kept, Older, Place, amy, booking, facility, key, moment, name, root, slot,
 };
 use club_core::Change;
 use std::process::Abort;
@@ -16,12 +16,12 @@ pub(crate) enum Write {
     Key(Kept),
     /// Revokes `amy-1`.
     Revoke,
-    /// Gives a key a new root. The one that it had is good until the moment.
-    Rotate(&'static str, &'static str, &'static str),
+    /// Gives a key a new root, in place of the former one, which is good until the moment.
+    Rotate(&'static str, Older, &'static str),
     Close(At),
     Book(Booked),
-    /// Cancels a booking under `amy-1` with a refund.
-    Cancel(u32, u32),
+    /// Cancels a booking with a refund.
+    Cancel(Booked, u32),
 }
 
 fn credited(rt: &impl Abort, points: u32) -> Change {
@@ -37,18 +37,26 @@ fn revoked(rt: &impl Abort) -> Change {
     }
 }
 
-fn rotated(rt: &impl Abort, key: &str, to: &str, until: &str) -> Change {
+fn rotated(rt: &impl Abort, key: &str, former: &Older, to: &str) -> Change {
     Change::ReplaceRoot {
         key: name(rt, key),
+        former: root(rt, former.0),
         root: root(rt, to),
-        until: moment(rt, until),
+        until: moment(rt, former.1),
     }
 }
 
-fn cancelled(rt: &impl Abort, booking: u32, refund: u32) -> Change {
+fn booked(rt: &impl Abort, booked: &Booked) -> Change {
+    Change::InsertBooking {
+        booking: booking(rt, booked),
+        member: name(rt, "amy"),
+    }
+}
+
+fn cancelled(rt: &impl Abort, booked: &Booked, refund: u32) -> Change {
     Change::MarkCancelled {
-        key: name(rt, "amy-1"),
-        number: number(rt, booking),
+        booking: booking(rt, booked),
+        member: name(rt, "amy"),
         refund,
     }
 }
@@ -60,9 +68,9 @@ pub(crate) fn change(rt: &impl Abort, write: &Write) -> Change {
         Write::Facility(place) => Change::InsertFacility(facility(rt, place)),
         Write::Key(kept) => Change::InsertKey(key(rt, kept)),
         Write::Revoke => revoked(rt),
-        Write::Rotate(key, to, until) => rotated(rt, key, to, until),
+        Write::Rotate(key, former, to) => rotated(rt, key, former, to),
         Write::Close(at) => Change::MarkClosed(slot(rt, at)),
-        Write::Book(booked) => Change::InsertBooking(booking(rt, booked)),
-        Write::Cancel(booking, refund) => cancelled(rt, *booking, *refund),
+        Write::Book(row) => booked(rt, row),
+        Write::Cancel(row, refund) => cancelled(rt, row, *refund),
     }
 }

@@ -17,7 +17,7 @@ const CANCELLED_7: Booked = Booked {
 
 /// The refund goes back to the member and the key, and the places to the slot.
 static CANCELS: [Step; 7] = [
-    Step::Cancels(COURT_7, 300),
+    Step::Writes(Write::Cancel(COURT_7, 300)),
     Step::Expects(Expected::Booking(7, Some(CANCELLED_7))),
     Step::Expects(Expected::Spent("amy-1", 300)),
     Step::Expects(Expected::Member("amy", Some((10_000, 300)))),
@@ -29,18 +29,6 @@ static CANCELS: [Step; 7] = [
 #[test]
 fn a_cancellation(rt: HostRuntime) {
     Tables::filled(&rt).plays_all(&rt, &CANCELS);
-}
-
-static CANCELS_NONE: [Step; 4] = [
-    Step::Writes(Write::Cancel(8, 300)),
-    Step::Expects(Expected::Booking(7, Some(COURT_7))),
-    Step::Expects(Expected::Booking(8, None)),
-    Step::Expects(Expected::Spent("amy-1", 600)),
-];
-
-#[test]
-fn a_cancellation_of_none(rt: HostRuntime) {
-    Tables::filled(&rt).plays_all(&rt, &CANCELS_NONE);
 }
 
 /// A slot whose places are taken, and one that was never booked.
@@ -74,7 +62,7 @@ const ROTATED_AND_REVOKED: Kept = Kept {
 
 /// An older root has a row in a table of its own.
 static ROTATES: [Step; 5] = [
-    Step::Rotates(SECOND, OLDER),
+    Step::Writes(Write::Rotate("amy-1", OLDER, SECOND)),
     Step::Expects(Expected::OlderRoot("amy-1", Some(OLDER))),
     Step::Expects(Expected::Key("amy-1", Some(ROTATED))),
     Step::Writes(Write::Revoke),

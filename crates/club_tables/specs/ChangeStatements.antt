@@ -1,5 +1,5 @@
 -- The statements that make each change, with the values of their parameters (ours).
-use Rattle.std.specs.Prelude.{◌≡◌, ◌⊎◌, ℕ, pos, neg_ℤ, List, [], ◌∷◌, ◌++◌}
+use Rattle.std.specs.Prelude.{◌≡◌, ℕ, pos, neg_ℤ, List, [], ◌∷◌, ◌++◌}
 use Rattle.sqlite_value.specs.declared.value.Value.TheVariants.{Int, Text, Blob}
 use Rattle.sqlite_value.specs.Order.{Row}
 use Rattle.club_values.specs.declared.slot.Slot.{Slot}
@@ -55,25 +55,23 @@ adding_booking booking member =
     with_totals ADD_BOOKING.now (booking_values booking) (Text member ∷ Int (pos (cost_of booking)) ∷ [])
     (name_values booking.slot ++ Int (pos (persons_taken booking)) ∷ [])
 
-abbrev pub marking : List ℕ → ℕ → ℕ → List BoundStatement
-marking key number refund = (CANCEL_BOOKING.now, Text key ∷ whole number ∷ whole refund ∷ []) ∷ []
-
 -- a booking of the member is marked, and subtracted from the totals
 abbrev pub cancelling : Booking → List ℕ → ℕ → List BoundStatement
 cancelling booking member refund =
     with_totals CANCEL_BOOKING.now (Text booking.key ∷ whole booking.number ∷ whole refund ∷ []) (Text member ∷ Int (neg_ℤ (pos refund)) ∷ [])
     (name_values booking.slot ++ Int (neg_ℤ (pos (persons_of booking))) ∷ [])
 
--- the statements of a change, with a member, a root or a booking that is read before it
+-- the statements of a change
+abbrev pub statements_of : Change → List BoundStatement
+statements_of (InsertMember member) = adding_member member
+statements_of (AddCredit member points) = adding_credit member points
+statements_of (InsertFacility facility) = adding_facility facility
+statements_of (InsertKey key) = adding_key key
+statements_of (MarkRevoked key) = revoking key
+statements_of (ReplaceRoot key former root until) = replacing_root key root (record { root = former; until = until })
+statements_of (MarkClosed slot) = closing slot
+statements_of (InsertBooking booking member) = adding_booking booking member
+statements_of (MarkCancelled booking member refund) = cancelling booking member refund
+
 abbrev pub AreStatementsOf : Change → List BoundStatement → Type 0
-AreStatementsOf (InsertMember member) statements = statements ≡ adding_member member
-AreStatementsOf (AddCredit member points) statements = statements ≡ adding_credit member points
-AreStatementsOf (InsertFacility facility) statements = statements ≡ adding_facility facility
-AreStatementsOf (InsertKey key) statements = statements ≡ adding_key key
-AreStatementsOf (MarkRevoked key) statements = statements ≡ revoking key
-AreStatementsOf (ReplaceRoot key root until) statements = (older : OlderRoot) × (older.until ≡ until) × (statements ≡ replacing_root key root older)
-AreStatementsOf (MarkClosed slot) statements = statements ≡ closing slot
-AreStatementsOf (InsertBooking booking) statements = (member : List ℕ) × (statements ≡ adding_booking booking member)
-AreStatementsOf (MarkCancelled key number refund) statements =
-    (statements ≡ marking key number refund)
-    ⊎ ((booking : Booking) × (member : List ℕ) × (booking.key ≡ key) × (booking.number ≡ number) × (statements ≡ cancelling booking member refund))
+AreStatementsOf change statements = statements ≡ statements_of change

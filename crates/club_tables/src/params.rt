@@ -69,7 +69,7 @@ pub(crate) fn of_key(key: &Key) -> [ValueRef<'_>; 4]
     ]
 }
 
-/// A new root for a key, and its current root with the moment until which that one stays good.
+/// A new root for a key, and its former root with the moment until which that one stays good.
 #[derive(Clone, Copy)]
 pub struct Rotation {
     pub key: Name,

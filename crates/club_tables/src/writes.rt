@@ -25,23 +25,15 @@ ghost use Rattle.club_tables.specs.ChangeStatements.{
   replacing_root,
   with_totals,
   adding_booking,
-  marking,
   cancelling,
 };
-ghost use Rattle.club_tables.specs.ReadsAndChanges.{
-  ChangesClub,
-  ChangesClubWhere,
-  IsOwnedBy,
-  HasRoot,
-  IsToCancel,
-  HasNoneToCancel,
-};
+ghost use Rattle.club_tables.specs.ReadsAndChanges.{ChangesClub};
 
 use crate::params::Rotation;
 use crate::transaction::{Statement, run};
 use crate::{params, texts};
 use club_core::StoreFault;
-use club_rows::{Booking, BookingNumber, Facility, Key, Member};
+use club_rows::{Booking, Facility, Key, Member};
 use club_values::{Name, Slot};
 use sqlite::types::ValueRef;
 use sqlite::{Alter, Connection};
@@ -142,7 +134,7 @@ pub fn revoke_key<S: Alter>(conn: &mut Connection<S>, key: &Name) -> Result<(), 
     )
 }
 
-/// Gives a key a new root. Its current root becomes its older root, and replaces an earlier one.
+/// Gives a key a new root. Its former root becomes its older root, and replaces an earlier one.
 pub fn replace_root<S: Alter>(
     conn: &mut Connection<S>,
     rotation: &Rotation,
@@ -152,9 +144,9 @@ pub fn replace_root<S: Alter>(
     ensures commits { Commits S.Store
         (replacing_root rotation.now.key rotation.now.root rotation.now.older)
         conn.old conn.new result }
-    ensures makes { ChangesClubWhere S.Store (HasRoot rotation.now.key rotation.now.older.root)
-        (ReplaceRoot rotation.now.key rotation.now.root rotation.now.older.until) conn.old conn.new
-        result }
+    ensures makes { ChangesClub S.Store
+        (ReplaceRoot rotation.now.key rotation.now.older.root rotation.now.root
+        rotation.now.older.until) conn.old conn.new result }
 {
     let put = params::of_older_root(rotation);
     let set = params::of_root(rotation);
@@ -249,8 +241,8 @@ pub fn insert_booking<S: Alter>(
     ensures idle { conn.new.in_transaction ≡ false }
     ensures commits { Commits S.Store (adding_booking booking.now member.now)
         conn.old conn.new result }
-    ensures makes { ChangesClubWhere S.Store (IsOwnedBy member.now booking.now.key)
-        (InsertBooking booking.now) conn.old conn.new result }
+    ensures makes { ChangesClub S.Store (InsertBooking booking.now member.now)
+        conn.old conn.new result }
 {
     let row = params::of_booking(booking);
     let used = params::of_cost(member, booking);
@@ -270,35 +262,11 @@ pub fn cancel_booking<S: Alter>(
     ensures idle { conn.new.in_transaction ≡ false }
     ensures commits { Commits S.Store (cancelling booking.now member.now refund)
         conn.old conn.new result }
-    ensures makes { ChangesClubWhere S.Store
-        (λ club. IsToCancel booking.now club × IsOwnedBy member.now booking.now.key club)
-        (MarkCancelled booking.now.key booking.now.number refund) conn.old conn.new result }
+    ensures makes { ChangesClub S.Store (MarkCancelled booking.now member.now refund)
+        conn.old conn.new result }
 {
     let mark = params::of_refund(&booking.key, booking.number, refund);
     let used = params::of_return(member, refund);
     let taken = params::of_freed(booking);
     run_with_totals(conn, texts::CANCEL_BOOKING, &mark, &used, &taken)
-}
-
-/// Runs the statement that cancels a booking when there is none to cancel: nothing is changed.
-pub fn mark_cancelled<S: Alter>(
-    conn: &mut Connection<S>,
-    key: &Name,
-    number: BookingNumber,
-    refund: u32,
-) -> Result<(), StoreFault>
-    requires { conn.old.in_transaction ≡ false }
-    ensures idle { conn.new.in_transaction ≡ false }
-    ensures commits { Commits S.Store (marking key.now number refund) conn.old conn.new result }
-    ensures makes { ChangesClubWhere S.Store (HasNoneToCancel key.now number)
-        (MarkCancelled key.now number refund) conn.old conn.new result }
-{
-    let values = params::of_refund(key, number, refund);
-    run(
-        conn,
-        &[Statement {
-            text: texts::CANCEL_BOOKING,
-            params: &values,
-        }],
-    )
 }

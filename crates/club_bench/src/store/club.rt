@@ -44,7 +44,7 @@ pub(crate) fn fill<S: ClubStore>(store: &mut S, rows: u32) -> Result<()> {
         join(store, index)?;
     }
     for index in 0..rows {
-        book(store, &known(booking(index), "a booking")?)?;
+        store.apply(&known(insertion(index), "a booking")?)?;
     }
     Ok(())
 }
@@ -70,10 +70,6 @@ pub(crate) fn view<S: ClubStore>(store: &mut S, booking: &Booking, moment: Momen
     view.taken = u64::from(held.taken);
     view.closed = held.closed;
     Ok(view)
-}
-
-pub(crate) fn book<S: ClubStore>(store: &mut S, booking: &Booking) -> Result<()> {
-    Ok(store.apply(&Change::InsertBooking(*booking))?)
 }
 
 /// Whether the key of the booking of this index sees what the bookings before it come to.
@@ -140,6 +136,14 @@ pub(crate) fn booking(index: u32) -> Option<Booking> {
         left: (PLACES - PERSONS).saturating_sub(taken(index)),
         cancelled: false,
         refund: 0,
+    })
+}
+
+/// The change that inserts the booking of this index.
+pub(crate) fn insertion(index: u32) -> Option<Change> {
+    Some(Change::InsertBooking {
+        booking: booking(index)?,
+        member: name(b'm', index % KEYS)?,
     })
 }
 

@@ -3,7 +3,7 @@
 use crate::known::known;
 use crate::store::club;
 use anyhow::{Result, anyhow};
-use club_core::ClubStore;
+use club_core::{Change, ClubStore};
 use club_rows::Booking;
 use std::alloc::{AllocError, Global};
 use std::io;
@@ -71,9 +71,9 @@ fn view<S: ClubStore>(
 }
 
 // How long the booking itself takes.
-fn book<S: ClubStore>(rt: &impl Clock, store: &mut S, booking: &Booking) -> Result<u128> {
+fn book<S: ClubStore>(rt: &impl Clock, store: &mut S, insertion: &Change) -> Result<u128> {
     let start = Instant::now(rt)?;
-    club::book(store, booking)?;
+    store.apply(insertion)?;
     Ok(start.elapsed(rt)?.as_nanos())
 }
 
@@ -82,7 +82,8 @@ impl Times {
     fn add<S: ClubStore>(&mut self, rt: &impl Clock, store: &mut S, index: u32) -> Result<()> {
         let booking = known(club::booking(index), "a booking")?;
         self.views.push(view(rt, store, &booking, index)?)?;
-        Ok(self.bookings.push(book(rt, store, &booking)?)?)
+        let insertion = known(club::insertion(index), "a booking")?;
+        Ok(self.bookings.push(book(rt, store, &insertion)?)?)
     }
 
     /// The median and the mean of the views, and of the bookings.

@@ -10,15 +10,14 @@ use Rattle.club_values.specs.declared.slot.Slot.{Slot}
 use Rattle.club_rows.specs.declared.booking.Booking.{Booking}
 use Rattle.club_rows.specs.declared.member.Member.{Member}
 use Rattle.club_core.specs.declared.slot_use.SlotUse.{SlotUse}
-use Rattle.club_core.specs.declared.change.Change.TheVariants.{MarkCancelled}
-use Rattle.club_core.specs.After.{after, cancelled_booking, is_marked}
+use Rattle.club_core.specs.After.{cancelled_booking, is_marked}
 use Rattle.club_rows.specs.Booking.{same_slot, persons_of}
 use Rattle.club_core.specs.Club.{Club, IsSound, is_key_of}
 use Rattle.club_rows.specs.Rows.{IsBooking}
+use Rattle.club_core.specs.Store.{IsOwnedBy, IsToCancel}
 use Rattle.club_core.specs.Sums.{is_in, is_under, taken_in, cost_of}
 use Rattle.club_tables.specs.declared.row.MemberRow.{MemberRow}
 use Rattle.club_tables.specs.Stored.{Rows, IsStoredAs, member_row, used_by}
-use Rattle.club_tables.specs.ReadsAndChanges.{IsOwnedBy, IsToCancel, HasNoneToCancel}
 use Rattle.club_tables.proofs.changes.ChangeLemmas.{used_row, or_true, or_false}
 use Rattle.club_tables.proofs.statements.JoinLemmas.{map_map}
 use Rattle.club_tables.proofs.statements.SelectLemmas.{Apart, apart_from_pairs}
@@ -69,7 +68,7 @@ named_alone key number refund (b ∷ bookings) apart = (each bookings apart.0, n
             )
 
 module _ (club : Club) (sound : IsSound club) (booking : Booking) (cancels : IsToCancel booking club) (refund : ℕ)
-    (fits : IsSound (after (MarkCancelled booking.key booking.number refund) club)) where
+    (fits : IsSound (record club { bookings = map (cancelled_booking booking.key booking.number refund) club.bookings })) where
   abbrev key : List ℕ
   key = booking.key
 
@@ -80,7 +79,7 @@ module _ (club : Club) (sound : IsSound club) (booking : Booking) (cancels : IsT
   change = cancelled_booking key number refund
 
   abbrev next : Club
-  next = after (MarkCancelled key number refund) club
+  next = record club { bookings = map change club.bookings }
 
   abbrev R : Booking → Booking → Type 0
   R a b = ¬ ((a.key ≡ b.key) × (a.number ≡ b.number))
@@ -192,40 +191,3 @@ module _ (club : Club) (sound : IsSound club) (booking : Booking) (cancels : IsT
     olders_once = stored.olders_once;
     once = put_once booking.slot (take_use (λ n. n - persons_of booking)) rows.slots stored.once;
   }
-
--- where there is none to cancel, the bookings stay as they are
-none_marked : (key : List ℕ) (number refund : ℕ) (bookings : List Booking)
-    → Apart (IsAlone (is_named key number) (cancelled_booking key number refund) (unnamed key number refund)) bookings
-    → IfSome (find (is_named key number) bookings) (λ (b : Booking). IsTrue b.cancelled) → map (cancelled_booking key number refund) bookings ≡ bookings
-none_marked key number refund [] alone none = refl
-none_marked key number refund (b ∷ bookings) alone none = go (none_marked key number refund bookings alone.1) (is_named key number b) refl none
-  where
-    go : (IfSome (find (is_named key number) bookings) (λ (b : Booking). IsTrue b.cancelled) → map (cancelled_booking key number refund) bookings ≡ bookings)
-        → (named : Bool) → is_named key number b ≡ named → IfSome (cond named (Some b) (find (is_named key number) bookings)) (λ (b : Booking).
-        IsTrue b.cancelled) → map (cancelled_booking key number refund) (b ∷ bookings) ≡ b ∷ bookings
-    go later true is marked =
-        let stays = unmarked key number refund b (rw (is, marked) refl) in
-        let rest = none_changed (is_named key number) (cancelled_booking key number refund) (unnamed key number refund) bookings
-        (others_fail (is_named key number) (cancelled_booking key number refund) (unnamed key number refund) b is bookings alone.0) in cc
-    go later false is more = let stays = unnamed key number refund b is in let rest = later more in cc
-
-pub same_stored : (club : Club) (rows : Rows) → IsStoredAs club rows → IsSound club → (key : List ℕ) (number refund : ℕ) → HasNoneToCancel key number club
-    → IsStoredAs (after (MarkCancelled key number refund) club) (record rows { bookings = map (cancelled_booking key number refund) rows.bookings })
-same_stored club rows stored sound key number refund none =
-    let R : Booking → Booking → Type 0 = λ a b. ¬ ((a.key ≡ b.key) × (a.number ≡ b.number)) in
-    let same = none_marked key number refund club.bookings (named_alone key number refund club.bookings
-    (apart_from_pairs R club.bookings sound.unique.bookings)) none in
-    let unmoved : IsStoredAs club (record rows { bookings = map (cancelled_booking key number refund) rows.bookings }) = record {
-      members = stored.members;
-      facilities = stored.facilities;
-      keys = stored.keys;
-      bookings = ap (map (cancelled_booking key number refund)) stored.bookings ∙ same;
-      slots = stored.slots;
-      olders = stored.olders;
-      olders_once = stored.olders_once;
-      once = stored.once;
-    } in
-    subst (λ (bookings : List Booking). IsStoredAs (record club { bookings = bookings }) (record rows {
-      bookings =
-          map (cancelled_booking key number refund) rows.bookings;
-    })) (sym same) unmoved

@@ -34,7 +34,6 @@ use Rattle.club_tables.specs.declared.texts.TheConstants.{ADD_BOOKING, CANCEL_BO
 use Rattle.club_tables.specs.Columns.{whole, facility_values, key_values, older_root_values, booking_values, name_values}
 use Rattle.club_tables.specs.Stored.{SlotRow, Rows, member_row, used_by, no_slot_use, stored_slot_use, persons_taken}
 use Rattle.club_tables.specs.Tables.{HoldsClub}
-use Rattle.club_tables.specs.ReadsAndChanges.{IsOwnedBy, HasRoot, IsToCancel, HasNoneToCancel}
 use Rattle.club_tables.specs.Transaction.{BoundStatement, Ran, transaction_start}
 use Rattle.club_tables.specs.ChangeStatements.{with_totals}
 use Rattle.club_tables.proofs.changes.AddLemmas.{member_put, facility_put, key_put, booking_put}
@@ -49,7 +48,7 @@ use Rattle.club_tables.proofs.changes.OlderLemmas.{put_older, older_represents}
 use Rattle.club_tables.proofs.lists.OwnerLemmas.{all_of, all_last, owner_is}
 use Rattle.club_tables.proofs.changes.StoredLemmas.{member_stored, credit_stored, facility_stored, key_stored, revoke_stored, rotate_stored, close_stored}
 use Rattle.club_tables.proofs.changes.StoredLemmas.{booking_stored, taken_more}
-use Rattle.club_tables.proofs.changes.CancelStored.{there, used_back, taken_back, cancel_stored, same_stored}
+use Rattle.club_tables.proofs.changes.CancelStored.{there, used_back, taken_back, cancel_stored}
 use Rattle.club_tables.proofs.changes.UpsertLemmas.{slot_closed, slot_taken, Takes}
 
 -- ---- turns
@@ -192,8 +191,8 @@ module _ {S : Type 0} (g : Ghosts S) (old : Held S) (db : Database) (club : Club
       held_by g old db _ t.mid t.left (record {
         rows = _;
         holds_rows = member_put (state g (transaction_start old)) (state g t.mid) tables.rows tables.holds_rows member t.count t.ran;
-        storage = member_stored club tables.rows tables.storage tables.sound member fits;
-        sound = fits;
+        storage = member_stored club tables.rows tables.storage tables.sound member fits.sound;
+        sound = fits.sound;
       })
 
   pub facility_made : (facility : Facility) → FitsClub (InsertFacility facility) club → Ran g ((ADD_FACILITY.now, facility_values facility) ∷ []) old db
@@ -204,7 +203,7 @@ module _ {S : Type 0} (g : Ghosts S) (old : Held S) (db : Database) (club : Club
         rows = _;
         holds_rows = facility_put (state g (transaction_start old)) (state g t.mid) tables.rows tables.holds_rows facility t.count t.ran;
         storage = facility_stored club tables.rows tables.storage facility;
-        sound = fits;
+        sound = fits.sound;
       })
 
   pub key_made : (key : Key) → key.older ≡ None → FitsClub (InsertKey key) club → Ran g ((ADD_KEY.now, key_values key) ∷ []) old db
@@ -214,8 +213,8 @@ module _ {S : Type 0} (g : Ghosts S) (old : Held S) (db : Database) (club : Club
       held_by g old db _ t.mid t.left (record {
         rows = _;
         holds_rows = key_put (state g (transaction_start old)) (state g t.mid) tables.rows tables.holds_rows key t.count t.ran;
-        storage = key_stored club tables.rows tables.storage tables.sound key new fits;
-        sound = fits;
+        storage = key_stored club tables.rows tables.storage tables.sound key new fits.sound;
+        sound = fits.sound;
       })
 
   pub credit_made : (name : List ℕ) (points : ℕ) → FitsClub (AddCredit name points) club → Ran g ((ADD_CREDIT.now, Text name ∷ whole points ∷ []) ∷ []) old db
@@ -223,14 +222,14 @@ module _ {S : Type 0} (g : Ghosts S) (old : Held S) (db : Database) (club : Club
   credit_made name points fits ran =
       let t = one_turn g old db _ ran in
       let within = all_mapped IsMember (credited_member name points) club.members
-      (all_of IsMember (map (credited_member name points) club.members) fits.rows.members) in
+      (all_of IsMember (map (credited_member name points) club.members) fits.sound.rows.members) in
       let sums = subst (AllByRecursion (Credits name points)) (sym tables.storage.members) (credits_of club name points club.members within) in
       held_by g old db _ t.mid t.left (record {
         rows = _;
         holds_rows = member_credited (state g (transaction_start old)) (state g t.mid) tables.rows tables.holds_rows
             (named_once club tables.rows.members tables.storage.members tables.sound) name points sums t.count t.ran;
         storage = credit_stored club tables.rows tables.storage name points;
-        sound = fits;
+        sound = fits.sound;
       })
 
   pub revoke_made : (name : List ℕ) → FitsClub (MarkRevoked name) club → Ran g ((REVOKE_KEY.now, Text name ∷ []) ∷ []) old db
@@ -242,13 +241,13 @@ module _ {S : Type 0} (g : Ghosts S) (old : Held S) (db : Database) (club : Club
         rows = _;
         holds_rows = key_revoked (state g (transaction_start old)) (state g t.mid) tables.rows tables.holds_rows unique name t.count t.ran;
         storage = revoke_stored club tables.rows tables.storage name;
-        sound = fits;
+        sound = fits.sound;
       })
 
-  pub rotate_made : (name root was : List ℕ) (until : ℕ) → HasRoot name was club → FitsClub (ReplaceRoot name root until) club
+  pub rotate_made : (name root was : List ℕ) (until : ℕ) → FitsClub (ReplaceRoot name was root until) club
       → Ran g ((PUT_OLDER_ROOT.now, Text name ∷ older_root_values (good_until until was)) ∷ (SET_ROOT.now, Text name ∷ Blob root ∷ []) ∷ []) old db
-      → HoldsClub db (after (ReplaceRoot name root until) club)
-  rotate_made name root was until has fits ran =
+      → HoldsClub db (after (ReplaceRoot name was root until) club)
+  rotate_made name root was until fits ran =
       let t1 = ran.turns in
       let t2 = t1.3 in
       let unique = subst (AllPairs (λ (a : Key) (b : Key). a.name ≢ b.name)) (sym tables.storage.keys) tables.sound.unique.keys in
@@ -258,8 +257,8 @@ module _ {S : Type 0} (g : Ghosts S) (old : Held S) (db : Database) (club : Club
       held_by g old db _ t2.0 (ran.is ∙ ap (λ h. (state g h).now) t2.3) (record {
         rows = _;
         holds_rows = root_set (state g t1.0) (state g t2.0) mid put unique name root until t2.1 t2.2;
-        storage = rotate_stored club tables.rows tables.storage name root was until has;
-        sound = fits;
+        storage = rotate_stored club tables.rows tables.storage name root was until fits.carries;
+        sound = fits.sound;
       })
 
   pub close_made : (slot : Slot) → FitsClub (MarkClosed slot) club → Ran g ((CLOSE_SLOT.now, name_values slot) ∷ []) old db
@@ -270,7 +269,7 @@ module _ {S : Type 0} (g : Ghosts S) (old : Held S) (db : Database) (club : Club
         rows = _;
         holds_rows = slot_closed (state g (transaction_start old)) (state g t.mid) tables.rows tables.holds_rows tables.storage.once slot t.count t.ran;
         storage = close_stored club tables.rows tables.storage slot;
-        sound = fits;
+        sound = fits.sound;
       })
 
   bookings_once : AllPairs (λ (a : Booking) (b : Booking). ¬ ((a.key ≡ b.key) × (a.number ≡ b.number))) tables.rows.bookings
@@ -280,33 +279,21 @@ module _ {S : Type 0} (g : Ghosts S) (old : Held S) (db : Database) (club : Club
   all_held : AllByRecursion (λ (x : SlotRow). stored_slot_use x.slot tables.rows.slots ≡ x.held) tables.rows.slots
   all_held = held_is tables.rows.slots (apart_from_pairs (λ (a : SlotRow) (b : SlotRow). a.slot ≢ b.slot) tables.rows.slots tables.storage.once)
 
-  pub nothing_made : (key : List ℕ) (number refund : ℕ) → HasNoneToCancel key number club → FitsClub (MarkCancelled key number refund) club
-      → Ran g ((CANCEL_BOOKING.now, Text key ∷ whole number ∷ whole refund ∷ []) ∷ []) old db → HoldsClub db (after (MarkCancelled key number refund) club)
-  nothing_made key number refund none fits ran =
-      let t = one_turn g old db _ ran in
-      held_by g old db _ t.mid t.left (record {
-        rows = _;
-        holds_rows = booking_cancelled (state g (transaction_start old))
-            (state g t.mid) tables.rows tables.holds_rows bookings_once key number refund t.count t.ran;
-        storage = same_stored club tables.rows tables.storage tables.sound key number refund none;
-        sound = fits;
-      })
-
-  pub booking_made : (booking : Booking) (member : List ℕ) → IsOwnedBy member booking.key club → FitsClub (InsertBooking booking) club
+  pub booking_made : (booking : Booking) (member : List ℕ) → FitsClub (InsertBooking booking member) club
       → Ran g (with_totals ADD_BOOKING.now (booking_values booking) (Text member ∷ Int (pos (cost_of booking)) ∷ []) (name_values booking.slot
-      ++ Int (pos (persons_taken booking)) ∷ [])) old db → HoldsClub db (after (InsertBooking booking) club)
-  booking_made booking member owned fits ran =
+      ++ Int (pos (persons_taken booking)) ∷ [])) old db → HoldsClub db (after (InsertBooking booking member) club)
+  booking_made booking member fits ran =
       let t1 = ran.turns in
       let t2 = t1.3 in
       let t3 = t2.3 in
       let left : db ≡ (state g t3.0).now = ran.is ∙ ap (λ h. (state g h).now) t3.3 in
-      let row : IsBooking booking = all_last IsBooking club.bookings booking (all_of IsBooking (club.bookings ++ booking ∷ []) fits.rows.bookings) in
+      let row : IsBooking booking = all_last IsBooking club.bookings booking (all_of IsBooking (club.bookings ++ booking ∷ []) fits.sound.rows.bookings) in
       let booked = all_last (λ (b : Booking). Contains (map (λ (f : Facility). f.name) club.facilities) b.slot.facility) club.bookings booking
-      (all_of _ (club.bookings ++ booking ∷ []) fits.references.facilities) in
+      (all_of _ (club.bookings ++ booking ∷ []) fits.sound.references.facilities) in
       let cost_low : cost_of booking ≤ 499_950 = omega (arith, row.charge) in
       let uses = subst (AllByRecursion (Uses member (pos (cost_of booking)) (λ n. n + cost_of booking))) (sym tables.storage.members)
       (uses_more club member (cost_of booking) cost_low club.members (few_used club tables.sound)) in
-      let few = few_taken (after (InsertBooking booking) club) fits booking.slot booked in
+      let few = few_taken (after (InsertBooking booking member) club) fits.sound booking.slot booked in
       let more = taken_more club booking booking.slot in
       let here : (if same_slot booking.slot booking.slot then taken_in booking.slot club.bookings + persons_taken booking else taken_in booking.slot
       club.bookings) ≡ taken_in booking.slot club.bookings + persons_taken booking =
@@ -323,32 +310,33 @@ module _ {S : Type 0} (g : Ghosts S) (old : Held S) (db : Database) (club : Club
         rows = _;
         holds_rows = third;
         storage =
-            booking_stored club tables.rows tables.storage tables.sound member booking owned;
-        sound = fits;
+            booking_stored club tables.rows tables.storage tables.sound member booking fits.carries;
+        sound = fits.sound;
       })
 
-  pub cancel_made : (booking : Booking) (member : List ℕ) (refund : ℕ) → IsToCancel booking club → IsOwnedBy member booking.key club
-      → FitsClub (MarkCancelled booking.key booking.number refund) club
+  pub cancel_made : (booking : Booking) (member : List ℕ) (refund : ℕ) → FitsClub (MarkCancelled booking member refund) club
       → Ran g (with_totals CANCEL_BOOKING.now (Text booking.key ∷ whole booking.number ∷ whole refund ∷ []) (Text member ∷ Int (neg_ℤ (pos refund)) ∷ [])
       (name_values booking.slot ++ Int (neg_ℤ (pos (persons_of booking))) ∷ [])) old db
-      → HoldsClub db (after (MarkCancelled booking.key booking.number refund) club)
-  cancel_made booking member refund cancels owned fits ran =
+      → HoldsClub db (after (MarkCancelled booking member refund) club)
+  cancel_made booking member refund fits ran =
+      let cancels = fits.carries.0 in
+      let owned = fits.carries.1 in
       let t1 = ran.turns in
       let t2 = t1.3 in
       let t3 = t2.3 in
       let left : db ≡ (state g t3.0).now = ran.is ∙ ap (λ h. (state g h).now) t3.3 in
       let enough : (m : Member) → bytes_eq m.name member ≡ true → refund ≤ used_by club m.name = λ m passes.
-      let back = used_back club tables.sound booking cancels refund fits m.name in
+      let back = used_back club tables.sound booking cancels refund fits.sound m.name in
       let mine = owner_is club tables.sound booking.key member m.name owned ∙ passes in
       let all : (if is_key_of m.name club booking.key then refund else 0) ≡ refund = ap (λ b. if b then refund else 0) mine in
       omega (arith, back, all) in
       let uses = subst (AllByRecursion (Uses member (neg_ℤ (pos refund)) (λ n. n - refund))) (sym tables.storage.members)
       (uses_less club member refund club.members (few_used club tables.sound) enough) in
-      let at = (there club tables.sound booking cancels refund fits).0 in
+      let at = (there club tables.sound booking cancels refund fits.sound).0 in
       let booked = subst (λ (b : Booking). Contains (map (λ (f : Facility). f.name) club.facilities) b.slot.facility) at.2
       (tables.sound.references.facilities at.0 booking at.1) in
       let few = few_taken club tables.sound booking.slot booked in
-      let back = taken_back club tables.sound booking cancels refund fits booking.slot in
+      let back = taken_back club tables.sound booking cancels refund fits.sound booking.slot in
       let here : (if same_slot booking.slot booking.slot then persons_of booking else 0) ≡ persons_of booking =
       ap (λ b. if b then persons_of booking else 0) (same_itself booking.slot) in
       let there_are : persons_of booking ≤ taken_in booking.slot club.bookings = omega (arith, back, here) in
@@ -370,6 +358,6 @@ module _ {S : Type 0} (g : Ghosts S) (old : Held S) (db : Database) (club : Club
         rows = _;
         holds_rows = third;
         storage =
-            cancel_stored club tables.sound booking cancels refund fits tables.rows tables.storage member owned;
-        sound = fits;
+            cancel_stored club tables.sound booking cancels refund fits.sound tables.rows tables.storage member owned;
+        sound = fits.sound;
       })

@@ -21,10 +21,10 @@ use Rattle.club_core.specs.After.{after, credited_member, revoked_key, good_unti
 use Rattle.club_rows.specs.Booking.{same_slot, persons_of}
 use Rattle.club_core.specs.Club.{Club, IsSound, key_named, is_key_of, is_closed}
 use Rattle.club_core.specs.Basis.{slot_use}
+use Rattle.club_core.specs.Store.{IsOwnedBy, HasRoot}
 use Rattle.club_core.specs.Sums.{is_in, taken_in, cost_of}
 use Rattle.club_tables.specs.declared.row.MemberRow.{MemberRow}
 use Rattle.club_tables.specs.Stored.{Rows, IsStoredAs, member_row, used_by, persons_taken}
-use Rattle.club_tables.specs.ReadsAndChanges.{IsOwnedBy, HasRoot}
 use Rattle.club_tables.proofs.changes.AddLemmas.{new_row}
 use Rattle.club_tables.proofs.changes.ChangeLemmas.{credited_row, used_row, or_true, or_false}
 use Rattle.club_tables.proofs.statements.JoinLemmas.{map_map}
@@ -243,13 +243,13 @@ named_so name root n until (Some k) is has = go (bytes_eq name n) refl
         rw differs refl
 
 pub rotate_stored : (club : Club) (rows : Rows) → IsStoredAs club rows → (name root was : List ℕ) (until : ℕ) → HasRoot name was club
-    → IsStoredAs (after (ReplaceRoot name root until) club) (record rows {
+    → IsStoredAs (after (ReplaceRoot name was root until) club) (record rows {
       keys = map (rotated_key name root until) rows.keys;
       olders =
           put_older name (good_until until was) rows.olders;
     })
 rotate_stored club rows stored name root was until has = record {
-  members = stored.members ∙ map_agree (member_row club) (member_row (after (ReplaceRoot name root until) club)) (λ (m : Member).
+  members = stored.members ∙ map_agree (member_row club) (member_row (after (ReplaceRoot name was root until) club)) (λ (m : Member).
       ap (λ n. let row : MemberRow = record { member = m; used = n } in row)
       (sym (used_same club (map (rotated_key name root until) club.keys) m.name (each m.name club.bookings)))) club.members;
   facilities = stored.facilities;
@@ -322,7 +322,7 @@ book_rows rows member booking = record {
 }
 
 used_more : (club : Club) → IsSound club → (member : List ℕ) (booking : Booking) → IsOwnedBy member booking.key club → (m : Member)
-    → used_row member (λ n. n + cost_of booking) (member_row club m) ≡ member_row (after (InsertBooking booking) club) m
+    → used_row member (λ n. n + cost_of booking) (member_row club m) ≡ member_row (after (InsertBooking booking member) club) m
 used_more club sound member booking owned m =
     let own : Booking → Bool = λ b. is_key_of m.name club b.key in
     let more = sum_more cost_of own club.bookings booking in
@@ -330,8 +330,8 @@ used_more club sound member booking owned m =
     ap (λ n. let row : MemberRow = record { member = m; used = n } in row) (sum_is (bytes_eq m.name member) mine more)
   where
     sum_is : (b : Bool) → is_key_of m.name club booking.key ≡ b
-        → used_by (after (InsertBooking booking) club) m.name ≡ used_by club m.name + cond (is_key_of m.name club booking.key) (cost_of booking) 0
-        → (if b then used_by club m.name + cost_of booking else used_by club m.name) ≡ used_by (after (InsertBooking booking) club) m.name
+        → used_by (after (InsertBooking booking member) club) m.name ≡ used_by club m.name + cond (is_key_of m.name club booking.key) (cost_of booking) 0
+        → (if b then used_by club m.name + cost_of booking else used_by club m.name) ≡ used_by (after (InsertBooking booking member) club) m.name
     sum_is true is more = let here : cond (is_key_of m.name club booking.key) (cost_of booking) 0 ≡ cost_of booking = ap (λ b. cond b (cost_of booking) 0) is in
         omega (arith, more, here)
     sum_is false is more = let here : cond (is_key_of m.name club booking.key) (cost_of booking) 0 ≡ 0 = ap (λ b. cond b (cost_of booking) 0) is in
@@ -365,11 +365,11 @@ recounted_use club s next true taken is = ap (λ n. let u : SlotUse = record { t
 recounted_use club s next false taken is = ap (λ n. let u : SlotUse = record { taken = n; closed = is_closed s club } in u) (sym is)
 
 pub booking_stored : (club : Club) (rows : Rows) → IsStoredAs club rows → IsSound club → (member : List ℕ) (booking : Booking)
-    → IsOwnedBy member booking.key club → IsStoredAs (after (InsertBooking booking) club) (book_rows rows member booking)
+    → IsOwnedBy member booking.key club → IsStoredAs (after (InsertBooking booking member) club) (book_rows rows member booking)
 booking_stored club rows stored sound member booking owned = record {
   members = ap (map (used_row member (λ n. n + cost_of booking))) stored.members
       ∙ map_map (used_row member (λ n. n + cost_of booking)) (member_row club) club.members
-      ∙ map_agree _ (member_row (after (InsertBooking booking) club)) (used_more club sound member booking owned) club.members;
+      ∙ map_agree _ (member_row (after (InsertBooking booking member) club)) (used_more club sound member booking owned) club.members;
   facilities = stored.facilities;
   keys = stored.keys;
   bookings = ap (λ bs. bs ++ booking ∷ []) stored.bookings;

@@ -12,10 +12,10 @@ use Rattle.club_core.specs.Club.{Club}
 use Rattle.club_core.specs.declared.store.StoreFault.{StoreFault}
 use Rattle.club_core.specs.declared.store.StoreFault.TheVariants.{Storage}
 use Rattle.club_tables.specs.Tables.{HoldsClub, Represents}
-use Rattle.club_tables.specs.ReadsAndChanges.{ChangesClubWhere, IsChangeFault, IsRefusedBeforeWrite}
+use Rattle.club_tables.specs.ReadsAndChanges.{ChangesClub, HasOlderRoot, IsChangeFault}
 use Rattle.club_tables.specs.Transaction.{BoundStatement, Ran, IsKept}
 use Rattle.club_tables.specs.Fault.{Commits, FailsToRun}
-use Rattle.club_tables.specs.ChangeStatements.{AreStatementsOf}
+use Rattle.club_tables.specs.ChangeStatements.{AreStatementsOf, statements_of}
 use Rattle.club_tables.proofs.opening.OpenLemmas.{IsSettled, settles}
 use Rattle.club_tables.proofs.crashes.RepresentsLemmas.{survives_same}
 use Rattle.club_tables.proofs.queries.ReadLemmas.{at_once, fault_if}
@@ -64,37 +64,35 @@ pub commits_of : {S : Type 0} (g : Ghosts S) (all : List BoundStatement) (old ne
 commits_of g all old new r ran kept survives fault = record { ran = ran; kept = kept; survives = survives; fault = fault }
 
 -- statements that were run in a transaction of their own make the change
-pub makes : {S : Type 0} (g : Ghosts S) (all : List BoundStatement) → 0 < length all → (old new : Held S) (r : Result (Unit {0}) StoreFault)
-    → Commits g all old new r
-    → IsSettled (state g new) → (IsIt : Club → Type 0) (change : Change) → AreStatementsOf change all
-    → ((db : Database) (club : Club) → IsIt club → HoldsClub (state g old).now club → FitsClub change club → Ran g all old db
+pub makes : {S : Type 0} (g : Ghosts S) (change : Change) → 0 < length (statements_of change) → (old new : Held S) (r : Result (Unit {0}) StoreFault)
+    → Commits g (statements_of change) old new r
+    → IsSettled (state g new)
+    → ((db : Database) (club : Club) → HoldsClub (state g old).now club → FitsClub change club → Ran g (statements_of change) old db
     → HoldsClub db (after change club))
-    → ChangesClubWhere g IsIt change old new r
-makes g all some old new r commits settled IsIt change are made =
+    → ChangesClub g change old new r
+makes g change some old new r commits settled made =
+    let all = statements_of change in
     let earlier = λ (clean : HasCleanDisk (state g new)). let e : HasCleanDisk (state g old) = omega (arith, commits.survives.clean) in e in
     record {
       was_clean = earlier;
-      effect = λ clean club others it represents fits. wrote g all some old new commits.survives clean club (after change club) others represents
-          (λ db tables ran.
-          made db club it tables fits ran) r (commits.ran clean) commits.kept settled;
+      effect = λ clean club others represents fits. wrote g all some old new commits.survives clean club (after change club) others represents
+          (λ db tables ran. made db club tables fits ran) r (commits.ran clean) commits.kept settled;
       no_change = on_err r commits.kept (λ kept rest. kept);
-      survives = may_commit g all (AreStatementsOf change) are old new commits.survives;
-      fault = λ clean. fault_if (FailsToRun g all old new) (IsChangeFault g IsIt change old new) r (commits.fault clean) (λ fault failed.
-          inr (inl (record { from = old; after = at_once g old (earlier clean); statements = all; are = are; failure = failed })));
+      survives = may_commit g all (AreStatementsOf change) refl old new commits.survives;
+      fault = λ clean. fault_if (FailsToRun g all old new) (IsChangeFault g change old new) r (commits.fault clean) (λ fault failed.
+          inl (record { from = old; after = at_once g old (earlier clean); failure = failed }));
     }
 
 -- a refusal before the first statement
-pub unmade : {S : Type 0} (g : Ghosts S) (held : Held S) (IsIt : Club → Type 0) (change : Change)
-    → ((club : Club) → IsIt club → IsRefusedBeforeWrite change club)
-    → ChangesClubWhere g IsIt change held held (Err Storage)
-unmade g held IsIt change refused = record {
+pub unmade : {S : Type 0} (g : Ghosts S) (held : Held S) (change : Change) → HasOlderRoot change → ChangesClub g change held held (Err Storage)
+unmade g held change older = record {
   was_clean = λ clean. clean;
-  effect = λ clean club others it represents fits. record {
+  effect = λ clean club others represents fits. record {
     held = represents.held;
     idle = represents.idle;
     left = λ clean trees may. elim (represents.left clean trees may) [ inl here ↦ inl here | inr there ↦ inr (inr there) ];
   };
   no_change = kept_when_idle (state g held);
   survives = commits_nothing g (AreStatementsOf change) held held (survives_same (state g held));
-  fault = λ clean. inr (inr (record { before_write = λ club others it represents. refused club it; fault_is = refl }));
+  fault = λ clean. inr (older, refl);
 }

@@ -9,7 +9,7 @@ use Rattle.std.proofs.lemmas.List.Sums.{sum_by-cons, sum_by_push}
 use Rattle.std.proofs.lemmas.Slice.Eq.{bytes_eq-Decides}
 use Rattle.club_rows.specs.declared.key.Key.{Key}
 use Rattle.club_core.specs.Club.{Club, IsSound, is_key_of}
-use Rattle.club_tables.specs.ReadsAndChanges.{IsOwnedBy}
+use Rattle.club_core.specs.Store.{IsOwnedBy}
 use Rattle.club_tables.proofs.queries.MemberLemmas.{any_owned}
 use Rattle.club_tables.proofs.statements.SelectLemmas.{Apart, apart_from_pairs, fail_beside}
 

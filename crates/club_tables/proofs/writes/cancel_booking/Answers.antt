@@ -1,7 +1,5 @@
-use Rattle.std.proofs.Common.{inr, refl, arith}
+use Rattle.std.proofs.Common.{arith}
 use Rattle.club_core.specs.declared.change.Change.TheVariants.{MarkCancelled}
-use Rattle.club_tables.specs.ReadsAndChanges.{IsOwnedBy, IsToCancel}
-use Rattle.club_tables.specs.ChangeStatements.{cancelling}
 use Rattle.club_tables.proofs.changes.MadeLemmas.{cancel_made}
 use Rattle.club_tables.proofs.changes.WriteLemmas.{makes}
 use Rattle.club_tables.proofs.writes.cancel_booking.Goals as goal
@@ -11,10 +9,7 @@ returns-clause-commits g c = rw (c.of_refund-mark.ensures, c.of_return-used.ensu
 
 pub returns-clause-makes : goal.returns-clause-makes
 returns-clause-makes g c =
-    makes g.S.Store (cancelling c.args.booking.now c.args.member.now c.args.refund) (omega arith) c.args.conn.now c.run_with_totals.new.conn
+    makes g.S.Store (MarkCancelled c.args.booking.now c.args.member.now c.args.refund) (omega arith) c.args.conn.now c.run_with_totals.new.conn
     c.run_with_totals.result (returns-clause-commits g c)
     (λ is_open trees may. g.met.S.Store.settled c.run_with_totals.new.conn.store trees is_open may)
-    (λ club. IsToCancel c.args.booking.now club × IsOwnedBy c.args.member.now c.args.booking.now.key club)
-    (MarkCancelled c.args.booking.now.key c.args.booking.now.number c.args.refund) (inr (c.args.booking.now, c.args.member.now, refl, refl, refl))
-    (λ db club it tables fits ran. cancel_made g.S.Store c.args.conn.now db club tables c.args.booking.now c.args.member.now c.args.refund it.0 it.1 fits
-    ran)
+    (λ db club tables fits ran. cancel_made g.S.Store c.args.conn.now db club tables c.args.booking.now c.args.member.now c.args.refund fits ran)

@@ -1,6 +1,5 @@
-use Rattle.std.proofs.Common.{refl, arith}
+use Rattle.std.proofs.Common.{arith}
 use Rattle.club_core.specs.declared.change.Change.TheVariants.{MarkClosed}
-use Rattle.club_tables.specs.ChangeStatements.{closing}
 use Rattle.club_tables.proofs.changes.MadeLemmas.{close_made}
 use Rattle.club_tables.proofs.changes.WriteLemmas.{commits_of, makes}
 use Rattle.club_tables.proofs.writes.close_slot.Goals as goal
@@ -11,7 +10,6 @@ returns-clause-commits g c = rw c.of_slot-values.ensures at (commits_of g.S.Stor
 
 pub returns-clause-makes : goal.returns-clause-makes
 returns-clause-makes g c =
-    makes g.S.Store (closing c.args.slot.now) (omega arith) c.args.conn.now c.run.new.conn c.run.result (returns-clause-commits g c)
+    makes g.S.Store (MarkClosed c.args.slot.now) (omega arith) c.args.conn.now c.run.new.conn c.run.result (returns-clause-commits g c)
     (λ is_open trees may. g.met.S.Store.settled c.run.new.conn.store trees is_open may)
-    (λ _. Unit {0}) (MarkClosed c.args.slot.now) (refl) (λ db club it tables fits ran.
-    close_made g.S.Store c.args.conn.now db club tables c.args.slot.now fits ran)
+    (λ db club tables fits ran. close_made g.S.Store c.args.conn.now db club tables c.args.slot.now fits ran)

@@ -1,7 +1,5 @@
-use Rattle.std.proofs.Common.{refl, arith}
+use Rattle.std.proofs.Common.{arith}
 use Rattle.club_core.specs.declared.change.Change.TheVariants.{InsertBooking}
-use Rattle.club_tables.specs.ReadsAndChanges.{IsOwnedBy}
-use Rattle.club_tables.specs.ChangeStatements.{adding_booking}
 use Rattle.club_tables.proofs.changes.MadeLemmas.{booking_made}
 use Rattle.club_tables.proofs.changes.WriteLemmas.{makes}
 use Rattle.club_tables.proofs.writes.insert_booking.Goals as goal
@@ -11,8 +9,7 @@ returns-clause-commits g c = rw (c.of_booking-row.ensures, c.of_cost-used.ensure
 
 pub returns-clause-makes : goal.returns-clause-makes
 returns-clause-makes g c =
-    makes g.S.Store (adding_booking c.args.booking.now c.args.member.now) (omega arith) c.args.conn.now c.run_with_totals.new.conn c.run_with_totals.result
-    (returns-clause-commits g c)
+    makes g.S.Store (InsertBooking c.args.booking.now c.args.member.now) (omega arith) c.args.conn.now c.run_with_totals.new.conn
+    c.run_with_totals.result (returns-clause-commits g c)
     (λ is_open trees may. g.met.S.Store.settled c.run_with_totals.new.conn.store trees is_open may)
-    (IsOwnedBy c.args.member.now c.args.booking.now.key) (InsertBooking c.args.booking.now) ((c.args.member.now, refl)) (λ db club it tables fits ran.
-    booking_made g.S.Store c.args.conn.now db club tables c.args.booking.now c.args.member.now it fits ran)
+    (λ db club tables fits ran. booking_made g.S.Store c.args.conn.now db club tables c.args.booking.now c.args.member.now fits ran)

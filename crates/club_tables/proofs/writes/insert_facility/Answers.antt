@@ -1,6 +1,5 @@
-use Rattle.std.proofs.Common.{refl, arith}
+use Rattle.std.proofs.Common.{arith}
 use Rattle.club_core.specs.declared.change.Change.TheVariants.{InsertFacility}
-use Rattle.club_tables.specs.ChangeStatements.{adding_facility}
 use Rattle.club_tables.proofs.changes.MadeLemmas.{facility_made}
 use Rattle.club_tables.proofs.changes.WriteLemmas.{commits_of, makes}
 use Rattle.club_tables.proofs.writes.insert_facility.Goals as goal
@@ -11,7 +10,6 @@ returns-clause-commits g c = rw c.of_facility-values.ensures at (commits_of g.S.
 
 pub returns-clause-makes : goal.returns-clause-makes
 returns-clause-makes g c =
-    makes g.S.Store (adding_facility c.args.facility.now) (omega arith) c.args.conn.now c.run.new.conn c.run.result (returns-clause-commits g c)
+    makes g.S.Store (InsertFacility c.args.facility.now) (omega arith) c.args.conn.now c.run.new.conn c.run.result (returns-clause-commits g c)
     (λ is_open trees may. g.met.S.Store.settled c.run.new.conn.store trees is_open may)
-    (λ _. Unit {0}) (InsertFacility c.args.facility.now) (refl) (λ db club it tables fits ran.
-    facility_made g.S.Store c.args.conn.now db club tables c.args.facility.now fits ran)
+    (λ db club tables fits ran. facility_made g.S.Store c.args.conn.now db club tables c.args.facility.now fits ran)

@@ -1,7 +1,6 @@
 use Rattle.std.proofs.Common.{◌≡◌, Option, Some, None, false, is_some, refl, sym, ◌∙◌, arith}
 use Rattle.club_rows.specs.declared.key.OlderRoot.{OlderRoot}
 use Rattle.club_core.specs.declared.change.Change.TheVariants.{InsertKey}
-use Rattle.club_tables.specs.ChangeStatements.{adding_key}
 use Rattle.club_tables.proofs.changes.MadeLemmas.{key_made}
 use Rattle.club_tables.proofs.changes.WriteLemmas.{commits_of, makes, unmade}
 use Rattle.club_tables.proofs.writes.insert_key.Goals as goal
@@ -16,12 +15,10 @@ returns-clause-commits g c none = rw c.of_key-values.ensures at (commits_of g.S.
 
 pub returns-clause-makes : goal.returns-clause-makes
 returns-clause-makes g c =
-    makes g.S.Store (adding_key c.args.key.now) (omega arith) c.args.conn.now c.run.new.conn c.run.result
-    (returns-clause-commits g c (not_older c.args.key.now.older (sym c.is_some.ensures ∙ c.if-is_some.false)))
+    let none = not_older c.args.key.now.older (sym c.is_some.ensures ∙ c.if-is_some.false) in
+    makes g.S.Store (InsertKey c.args.key.now) (omega arith) c.args.conn.now c.run.new.conn c.run.result (returns-clause-commits g c none)
     (λ is_open trees may. g.met.S.Store.settled c.run.new.conn.store trees is_open may)
-    (λ _. Unit {0}) (InsertKey c.args.key.now) (refl) (λ db club it tables fits ran.
-    key_made g.S.Store c.args.conn.now db club tables c.args.key.now (not_older c.args.key.now.older (sym c.is_some.ensures ∙ c.if-is_some.false)) fits ran)
+    (λ db club tables fits ran. key_made g.S.Store c.args.conn.now db club tables c.args.key.now none fits ran)
 
 pub returns-then-is_some-clause-makes : goal.returns-then-is_some-clause-makes
-returns-then-is_some-clause-makes g c = unmade g.S.Store c.args.conn.now (λ _. Unit {0}) (InsertKey c.args.key.now) (λ club it.
-    sym c.is_some.ensures ∙ c.if-is_some.true)
+returns-then-is_some-clause-makes g c = unmade g.S.Store c.args.conn.now (InsertKey c.args.key.now) (sym c.is_some.ensures ∙ c.if-is_some.true)

@@ -1,6 +1,5 @@
-use Rattle.std.proofs.Common.{refl, arith}
+use Rattle.std.proofs.Common.{arith}
 use Rattle.club_core.specs.declared.change.Change.TheVariants.{InsertMember}
-use Rattle.club_tables.specs.ChangeStatements.{adding_member}
 use Rattle.club_tables.proofs.changes.MadeLemmas.{member_made}
 use Rattle.club_tables.proofs.changes.WriteLemmas.{commits_of, makes}
 use Rattle.club_tables.proofs.writes.insert_member.Goals as goal
@@ -11,7 +10,6 @@ returns-clause-commits g c = rw c.of_member-values.ensures at (commits_of g.S.St
 
 pub returns-clause-makes : goal.returns-clause-makes
 returns-clause-makes g c =
-    makes g.S.Store (adding_member c.args.member.now) (omega arith) c.args.conn.now c.run.new.conn c.run.result (returns-clause-commits g c)
+    makes g.S.Store (InsertMember c.args.member.now) (omega arith) c.args.conn.now c.run.new.conn c.run.result (returns-clause-commits g c)
     (λ is_open trees may. g.met.S.Store.settled c.run.new.conn.store trees is_open may)
-    (λ _. Unit {0}) (InsertMember c.args.member.now) (refl) (λ db club it tables fits ran.
-    member_made g.S.Store c.args.conn.now db club tables c.args.member.now fits ran)
+    (λ db club tables fits ran. member_made g.S.Store c.args.conn.now db club tables c.args.member.now fits ran)

@@ -8,7 +8,7 @@ use Rattle.club_core.specs.Run.{Ordered}
 use Rattle.club_laws.specs.Failed.{ToOffice}
 use Rattle.club_gate.specs.Desk.{IsAnsweredBy}
 use Rattle.club_gate.specs.Response.{office_reply_of}
-use Rattle.club_gate.proofs.Stepping.{order_done, order_failed, order_fits}
+use Rattle.club_gate.proofs.Stepping.{order_done, order_failed}
 use Rattle.club_gate.proofs.desk.Desk.answer_to.Goals as goal
 
 pub returns-in_err-settle-in-Ok-clause-steps : goal.returns-in_err-settle-in-Ok-clause-steps
@@ -18,7 +18,7 @@ returns-in_err-settle-in-Ok-clause-steps g c = λ was_clean club others represen
     let change = c.in-Ok.change in
     let decided = sym (c.in-Ok.ensures ∙ ap (λ (v : OrderView). order_verdict v command) (c.in_ok-view.ensures.returned before club others represents)) in
     let sound = All-head IsSound club others (g.met.S.ClubStore.sound c.args.self.now club others represents) in
-    let fits = order_fits c.steps_keep_sound.ensures club command change sound c.within.ensures decided in
+    let fits = c.changes_fit.ensures club (Ordered command) change sound c.within.ensures decided in
     inr (order_failed g.S.ClubStore.represents c.settle.new.self club others command change c.from_residual-in_err-settle-in-Ok.result
     c.from_residual-in_err-settle-in-Ok.ensures.0 decided
     (c.in_err-settle-in-Ok.ensures.settled was_clean club others (c.order_view.ensures.kept before club others represents) fits))
@@ -30,7 +30,7 @@ returns-in_ok-settle-in-Ok-clause-steps g c = λ was_clean club others represent
     let change = c.in-Ok.change in
     let decided = sym (c.in-Ok.ensures ∙ ap (λ (v : OrderView). order_verdict v command) (c.in_ok-view.ensures.returned before club others represents)) in
     let sound = All-head IsSound club others (g.met.S.ClubStore.sound c.args.self.now club others represents) in
-    let fits = order_fits c.steps_keep_sound.ensures club command change sound c.within.ensures decided in
+    let fits = c.changes_fit.ensures club (Ordered command) change sound c.within.ensures decided in
     let returned = subst
     (λ (answer : OfficeAnswer). IsAnsweredBy g.S.ClubStore.represents c.settle.new.self club others (Ordered command) (ToOffice (office_reply_of answer)))
     (sym c.done.ensures)

@@ -12,7 +12,7 @@ returns-in_err-settle-clause-steps g c = λ was_clean club others represents.
     let verdict = c.in_ok-verdict.verdict in
     let decided = c.in_ok-verdict.ensures.returned before club others represents in
     let sound = All-head IsSound club others (g.met.S.ClubStore.sound c.args.self.now club others represents) in
-    let fits = ask_fits c.steps_keep_sound.ensures club words c.args.moment verdict sound c.within.ensures decided in
+    let fits = ask_fits c.changes_fit.ensures club words c.args.moment verdict sound c.within.ensures decided in
     inr (ask_failed g.S.ClubStore.represents c.settle.new.self club others words c.args.moment verdict c.from_residual-in_err-settle.result
     c.from_residual-in_err-settle.ensures.0 decided
     (c.in_err-settle.ensures.settled was_clean club others (c.verdict.ensures.kept before club others represents) fits))
@@ -24,6 +24,6 @@ returns-clause-steps g c = λ was_clean club others represents.
     let verdict = c.in_ok-verdict.verdict in
     let decided = c.in_ok-verdict.ensures.returned before club others represents in
     let sound = All-head IsSound club others (g.met.S.ClubStore.sound c.args.self.now club others represents) in
-    let fits = ask_fits c.steps_keep_sound.ensures club words c.args.moment verdict sound c.within.ensures decided in
+    let fits = ask_fits c.changes_fit.ensures club words c.args.moment verdict sound c.within.ensures decided in
     inl (ask_done g.S.ClubStore.represents c.settle.new.self club others c.never_unavailable.ensures words c.args.moment verdict decided
     (c.in_ok-settle.ensures.settled was_clean club others (c.verdict.ensures.kept before club others represents) fits))
