@@ -33,12 +33,12 @@ club_gate_tests refused_memory::ask_in_json
 club_gate_tests refused_memory::run_in_v1
 club_gate_tests refused_memory::run_in_v2
 club_gate_tests refused_memory::run_in_json
-clubdesk_tests refused_memory::exchange_in_v1
-clubdesk_tests refused_memory::exchange_in_v2
-clubdesk_tests refused_memory::exchange_in_json
-clubdesk_tests refused_memory::run_in_v2
-clubdesk_tests refused_memory::run_in_json
-clubdesk_tests refused_memory::faults_of_bytes
+exchange_tests refused_memory::exchange_in_v1
+exchange_tests refused_memory::exchange_in_v2
+exchange_tests refused_memory::exchange_in_json
+exchange_tests refused_memory::run_in_v2
+exchange_tests refused_memory::run_in_json
+exchange_tests refused_memory::faults_of_bytes
 club_http_tests bodies::refused_memory
 club_http_tests counted::refused_memory
 '

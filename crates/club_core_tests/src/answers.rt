@@ -1,18 +1,22 @@
 //! The answers to requests under passes, by their keys' views.
 
-use crate::exchange::{Asked, BOOK_7, CANCEL_7, Expected, Shown};
-use crate::expect::expect_of_row;
-use crate::fixture::{AFTER_7, AT_18, AT_19, BOOKING_7, Booked, FIRST, FRESH, NOON, SECOND, Seen};
+use crate::exchange::{Expected, Shown};
+use crate::expect::expect_row;
+use crate::fixture::{AFTER_7, AT_19, FRESH, Seen};
 use crate::values::moment;
 use club_core::{FormFault, Refusal, Verdict, Words};
 use club_values::Moment;
 use std::alloc::Global;
 use std::process::Abort;
 use std::test::*;
+use test_kit::moments::NOON;
+use test_kit::requests::{ACCOUNT, BOOK_7, CANCEL_7};
+use test_kit::roots::{ROOT, SECOND_ROOT};
+use test_kit::{BOOKING_7, COURT_AT_18, PlainBooking, PlainRequest};
 
 /// The pass, its key's view (`None` if the club has no such key), the request, the moment, and the
 /// expected answer.
-struct Row(Shown, Option<Seen>, Asked, &'static str, Expected);
+struct Row(Shown, Option<Seen>, PlainRequest, &'static str, Expected);
 
 /// The answer to words by their key's view.
 fn verdict(rt: &impl Abort, words: &Words, seen: &Option<Seen>, at: Moment) -> Verdict {
@@ -25,9 +29,9 @@ fn verdict(rt: &impl Abort, words: &Words, seen: &Option<Seen>, at: Moment) -> V
 fn check_row(rt: &(impl Abort + Alloc<A = Global>), number: usize, row: &Row) {
     let Row(shown, seen, asked, at, outcome) = row;
     let words = shown.words(rt, asked);
-    expect_of_row(rt, number, &words.key(), &shown.key(rt));
+    expect_row(rt, number, &words.key(), &shown.key(rt));
     let verdict = verdict(rt, &words, seen, moment(rt, at));
-    expect_of_row(rt, number, &verdict, &outcome.verdict(rt));
+    expect_row(rt, number, &verdict, &outcome.verdict(rt));
 }
 
 /// Ends the test unless each row gets its expected answer.
@@ -37,13 +41,13 @@ fn check_rows(rt: &(impl Abort + Alloc<A = Global>), rows: &[Row]) {
     }
 }
 
-const SPENDS_600: Shown = Shown::Pass(FIRST, &["spend <= 600"]);
+const SPENDS_600: Shown = Shown::Pass(ROOT, &["spend <= 600"]);
 
-const BOOK_8_AT_19: Asked = Asked::Book(AT_19, 8, 0);
+const BOOK_8_AT_19: PlainRequest = PlainRequest::Book(AT_19, 8, 0);
 
-const BOOKING_8: Booked = Booked {
+const BOOKING_8: PlainBooking = PlainBooking {
     number: 8,
-    place: AT_19,
+    slot: AT_19,
     guests: 0,
     charge: 200,
     left: 3,
@@ -77,10 +81,10 @@ fn a_limit_of_what_is_spent(rt: HostRuntime) {
     check_rows(&rt, &SPENDS);
 }
 
-const AT_COURT: Shown = Shown::Pass(FIRST, &["facility = court-1"]);
+const AT_COURT: Shown = Shown::Pass(ROOT, &["facility = court-1"]);
 
 /// Signed under another root.
-const CHANGED: Shown = Shown::Pass(SECOND, &["facility = court-1"]);
+const CHANGED: Shown = Shown::Pass(SECOND_ROOT, &["facility = court-1"]);
 
 const REVOKED: Seen = Seen {
     revoked: true,
@@ -95,11 +99,11 @@ const KEY_REVOKED: Expected = Expected::Refused(Refusal::KeyRevoked);
 /// before a revoked key and before any caveat. Only a pass that the key signed gets `KeyRevoked`,
 /// before its caveats.
 static VERIFIES: [Row; 5] = [
-    Row(AT_COURT, None, Asked::Account, NOON, NOT_VERIFIED),
-    Row(Shown::Unnamed, None, Asked::Account, NOON, NOT_VERIFIED),
-    Row(CHANGED, Some(FRESH), Asked::Account, NOON, NOT_VERIFIED),
-    Row(CHANGED, Some(REVOKED), Asked::Account, NOON, NOT_VERIFIED),
-    Row(AT_COURT, Some(REVOKED), Asked::Account, NOON, KEY_REVOKED),
+    Row(AT_COURT, None, ACCOUNT, NOON, NOT_VERIFIED),
+    Row(Shown::Unnamed, None, ACCOUNT, NOON, NOT_VERIFIED),
+    Row(CHANGED, Some(FRESH), ACCOUNT, NOON, NOT_VERIFIED),
+    Row(CHANGED, Some(REVOKED), ACCOUNT, NOON, NOT_VERIFIED),
+    Row(AT_COURT, Some(REVOKED), ACCOUNT, NOON, KEY_REVOKED),
 ];
 
 #[test]
@@ -107,14 +111,14 @@ fn verifies(rt: HostRuntime) {
     check_rows(&rt, &VERIFIES);
 }
 
-const ODD: Shown = Shown::Pass(FIRST, &["guests <= 0", "shoe = red"]);
+const ODD: Shown = Shown::Pass(ROOT, &["guests <= 0", "shoe = red"]);
 
-const BOOK_7_ALONE: Asked = Asked::Book(AT_18, 7, 0);
+const BOOK_7_ALONE: PlainRequest = PlainRequest::Book(COURT_AT_18, 7, 0);
 
 const NOT_UNDERSTOOD_2: Expected = Expected::Refused(Refusal::CaveatNotUnderstood(2));
 
 static CAVEATS: [Row; 3] = [
-    Row(AT_COURT, Some(FRESH), Asked::Account, NOON, DENIED_1),
+    Row(AT_COURT, Some(FRESH), ACCOUNT, NOON, DENIED_1),
     Row(ODD, Some(FRESH), BOOK_7, NOON, DENIED_1),
     Row(ODD, Some(FRESH), BOOK_7_ALONE, NOON, NOT_UNDERSTOOD_2),
 ];
@@ -141,10 +145,10 @@ const THIRD_PARTY_CAVEAT: Expected = Expected::Refused(Refusal::ThirdPartyCaveat
 const TOO_MANY_CAVEATS: Expected = Expected::Refused(Refusal::TooManyCaveats);
 
 static NO_PASSES: [Row; 4] = [
-    Row(TOO_LONG, None, Asked::Account, NOON, PASS_TOO_LONG),
-    Row(MALFORMED, None, Asked::Account, NOON, PASS_MALFORMED),
-    Row(THIRD_PARTY, None, Asked::Account, NOON, THIRD_PARTY_CAVEAT),
-    Row(TOO_MANY, None, Asked::Account, NOON, TOO_MANY_CAVEATS),
+    Row(TOO_LONG, None, ACCOUNT, NOON, PASS_TOO_LONG),
+    Row(MALFORMED, None, ACCOUNT, NOON, PASS_MALFORMED),
+    Row(THIRD_PARTY, None, ACCOUNT, NOON, THIRD_PARTY_CAVEAT),
+    Row(TOO_MANY, None, ACCOUNT, NOON, TOO_MANY_CAVEATS),
 ];
 
 #[test]

@@ -1,21 +1,21 @@
 //! Decisions of bookings by their keys' views.
 
 use crate::decisions::{Row, check_rows};
-use crate::exchange::{Asked, BOOK_7, CANCEL_7, Expected};
-use crate::fixture::{
-    AFTER_7, AT_18, AT_19, BEFORE_START, BEGUN, BOOKING_7, Booked, COURT, FRESH, NOON, START, Seen,
-    Site,
-};
-use crate::values::Place;
+use crate::exchange::Expected;
+use crate::fixture::{AFTER_7, AT_19, FRESH, Seen};
 use club_core::Refusal;
 use std::test::*;
+use test_kit::moments::{BEFORE_START, BEGUN, NOON, START};
+use test_kit::requests::{BOOK_7, CANCEL_7};
+use test_kit::{
+    BOOKING_7, COURT, COURT_AT_18, PlainBooking, PlainFacility, PlainRequest, PlainSlot,
+};
 
 const NUMBER_USED: Expected = Expected::Refused(Refusal::NumberUsed);
 
 /// Booking 7 once it is cancelled.
-const CANCELLED_7: Booked = Booked {
-    cancelled: true,
-    refund: 600,
+const CANCELLED_7: PlainBooking = PlainBooking {
+    refund: Some(600),
     ..BOOKING_7
 };
 
@@ -32,9 +32,9 @@ const CANCELLED_AND_FULL: Seen = Seen {
 };
 
 /// The number 7 with other guests, and in another hour.
-const OTHER_GUESTS: Asked = Asked::Book(AT_18, 7, 1);
+const OTHER_GUESTS: PlainRequest = PlainRequest::Book(COURT_AT_18, 7, 1);
 
-const OTHER_HOUR: Asked = Asked::Book(AT_19, 7, 2);
+const OTHER_HOUR: PlainRequest = PlainRequest::Book(AT_19, 7, 2);
 
 static REPEATS: [Row; 8] = [
     Row(FRESH, BOOK_7, NOON, Expected::Books(BOOKING_7)),
@@ -62,16 +62,16 @@ fn a_booking_and_its_repeats(rt: HostRuntime) {
     check_rows(&rt, &REPEATS);
 }
 
-const BOOK_ALONE: Asked = Asked::Book(AT_18, 7, 0);
+const BOOK_ALONE: PlainRequest = PlainRequest::Book(COURT_AT_18, 7, 0);
 
-const ALONE: Booked = Booked {
+const ALONE: PlainBooking = PlainBooking {
     guests: 0,
     charge: 200,
     left: 3,
     ..BOOKING_7
 };
 
-const LAST_PLACE: Booked = Booked { left: 0, ..ALONE };
+const LAST_PLACE: PlainBooking = PlainBooking { left: 0, ..ALONE };
 
 const THREE_TAKEN: Seen = Seen { taken: 3, ..FRESH };
 
@@ -141,10 +141,30 @@ static BOOKINGS: [Row; 12] = [
     Row(FULL, BOOK_ALONE, NOON, NO_PLACES),
     Row(FIVE_OPEN, BOOK_ALONE, NOON, QUOTA_REACHED),
     Row(FOUR_OPEN, BOOK_ALONE, NOON, BALANCE_TOO_LOW),
-    Row(THREE_TAKEN, Asked::Book(AT_18, 2, 1), NOON, NO_PLACES),
-    Row(QUOTA_1, Asked::Book(AT_18, 2, 0), NOON, BALANCE_TOO_LOW),
-    Row(QUOTA_0, Asked::Book(AT_18, 2, 0), NOON, QUOTA_REACHED),
-    Row(CLOSED, Asked::Book(AT_18, 8, 0), NOON, SLOT_CLOSED),
+    Row(
+        THREE_TAKEN,
+        PlainRequest::Book(COURT_AT_18, 2, 1),
+        NOON,
+        NO_PLACES,
+    ),
+    Row(
+        QUOTA_1,
+        PlainRequest::Book(COURT_AT_18, 2, 0),
+        NOON,
+        BALANCE_TOO_LOW,
+    ),
+    Row(
+        QUOTA_0,
+        PlainRequest::Book(COURT_AT_18, 2, 0),
+        NOON,
+        QUOTA_REACHED,
+    ),
+    Row(
+        CLOSED,
+        PlainRequest::Book(COURT_AT_18, 8, 0),
+        NOON,
+        SLOT_CLOSED,
+    ),
 ];
 
 #[test]
@@ -175,7 +195,7 @@ static ORDER: [Row; 6] = [
     Row(NOTHING_LEFT, BOOK_ALONE, START, NOT_BOOKABLE),
     Row(UNKNOWN, BOOK_ALONE, START, NO_SUCH_FACILITY),
     Row(RECORDED, BOOK_ALONE, START, NUMBER_USED),
-    Row(RECORDED, Asked::Cancel(AT_19, 7), START, NUMBER_USED),
+    Row(RECORDED, PlainRequest::Cancel(AT_19, 7), START, NUMBER_USED),
     Row(RECORDED, CANCEL_7, START, SLOT_HAS_BEGUN),
 ];
 
@@ -184,21 +204,33 @@ fn order_of_refusals(rt: HostRuntime) {
     check_rows(&rt, &ORDER);
 }
 
-const AT_7: Place = Place("court-1", 7);
+const AT_7: PlainSlot = PlainSlot {
+    hour: 7,
+    ..COURT_AT_18
+};
 
-const AT_8: Place = Place("court-1", 8);
+const AT_8: PlainSlot = PlainSlot {
+    hour: 8,
+    ..COURT_AT_18
+};
 
-const AT_21: Place = Place("court-1", 21);
+const AT_21: PlainSlot = PlainSlot {
+    hour: 21,
+    ..COURT_AT_18
+};
 
-const AT_22: Place = Place("court-1", 22);
+const AT_22: PlainSlot = PlainSlot {
+    hour: 22,
+    ..COURT_AT_18
+};
 
-const EARLIEST: Booked = Booked {
-    place: AT_8,
+const EARLIEST: PlainBooking = PlainBooking {
+    slot: AT_8,
     ..ALONE
 };
 
-const LATEST: Booked = Booked {
-    place: AT_21,
+const LATEST: PlainBooking = PlainBooking {
+    slot: AT_21,
     ..ALONE
 };
 
@@ -213,20 +245,20 @@ static WINDOW: [Row; 8] = [
     Row(FRESH, BOOK_ALONE, "2026-03-02T17:59", NOT_BOOKABLE),
     Row(FRESH, BOOK_ALONE, BEFORE_START, Expected::Books(ALONE)),
     Row(FRESH, BOOK_ALONE, START, NOT_BOOKABLE),
-    Row(FRESH, Asked::Book(AT_7, 7, 0), NOON, NOT_BOOKABLE),
+    Row(FRESH, PlainRequest::Book(AT_7, 7, 0), NOON, NOT_BOOKABLE),
     Row(
         FRESH,
-        Asked::Book(AT_8, 7, 0),
+        PlainRequest::Book(AT_8, 7, 0),
         NOON,
         Expected::Books(EARLIEST),
     ),
     Row(
         FRESH,
-        Asked::Book(AT_21, 7, 0),
+        PlainRequest::Book(AT_21, 7, 0),
         NOON,
         Expected::Books(LATEST),
     ),
-    Row(FRESH, Asked::Book(AT_22, 7, 0), NOON, NOT_BOOKABLE),
+    Row(FRESH, PlainRequest::Book(AT_22, 7, 0), NOON, NOT_BOOKABLE),
 ];
 
 #[test]
@@ -234,15 +266,15 @@ fn booking_window(rt: HostRuntime) {
     check_rows(&rt, &WINDOW);
 }
 
-const DEAREST: Site = Site {
+const DEAREST: PlainFacility = PlainFacility {
     places: 50,
     price: 9_999,
     ..COURT
 };
 
-const BOOK_ALL_PLACES: Asked = Asked::Book(AT_18, 7, 49);
+const BOOK_ALL_PLACES: PlainRequest = PlainRequest::Book(COURT_AT_18, 7, 49);
 
-const ALL_PLACES: Booked = Booked {
+const ALL_PLACES: PlainBooking = PlainBooking {
     guests: 49,
     charge: 499_950,
     left: 0,

@@ -1,12 +1,9 @@
 //! Decisions of requests by their keys' views.
 
-use crate::exchange::{Asked, BOOK_7, CANCEL_7, Expected, Shown};
-use crate::expect::expect_of_row;
-use crate::fixture::{
-    AFTER_7, AT_18, AT_19, BEFORE_START, BOOKING_7, Booked, DAY_AHEAD, FIRST, FRESH, LATER, NOON,
-    START, Seen, Site, key,
-};
-use crate::values::{Place, moment};
+use crate::exchange::{Expected, Shown};
+use crate::expect::expect_row;
+use crate::fixture::{AFTER_7, AT_19, FRESH, Seen, key};
+use crate::values::moment;
 use club_core::{
     Refusal, Request, Verdict, View, answer, decide, decide_account, decide_book, decide_cancel,
     decide_view,
@@ -16,10 +13,16 @@ use pass_caveats::Ask;
 use std::alloc::Global;
 use std::process::Abort;
 use std::test::*;
+use test_kit::moments::{BEFORE_START, DAY_AHEAD, LATER, NOON, START};
+use test_kit::requests::{ACCOUNT, BOOK_7, CANCEL_7, CANCEL_ROOM};
+use test_kit::roots::ROOT;
+use test_kit::{
+    BOOKING_7, BOOKING_8, COURT_AT_18, PlainBooking, PlainRequest, PlainSlot, ROOM, ROOM_AT_18,
+};
 
 /// The view of `amy-1`, a request under its pass without caveats, the moment, and the expected
 /// answer.
-pub(crate) struct Row(pub Seen, pub Asked, pub &'static str, pub Expected);
+pub(crate) struct Row(pub Seen, pub PlainRequest, pub &'static str, pub Expected);
 
 /// The decision of a request by the call for its kind.
 fn decided(view: &View, request: &Request, moment: Moment) -> Verdict {
@@ -44,18 +47,18 @@ fn is_decided(
     moment: Moment,
     want: &Verdict,
 ) {
-    expect_of_row(rt, number, &decided(view, request, moment), want);
-    expect_of_row(rt, number, &decide(view, request, moment), want);
+    expect_row(rt, number, &decided(view, request, moment), want);
+    expect_row(rt, number, &decide(view, request, moment), want);
     let verdict = answer(Some(view), true, None, request, moment);
-    expect_of_row(rt, number, &verdict, want);
+    expect_row(rt, number, &verdict, want);
 }
 
 /// Ends the test unless the request gets this answer under a pass.
 fn is_answered(rt: &(impl Abort + Alloc<A = Global>), number: usize, row: &Row, view: &View) {
     let Row(_, asked, at, outcome) = row;
-    let words = Shown::Pass(FIRST, &[]).words(rt, asked);
+    let words = Shown::Pass(ROOT, &[]).words(rt, asked);
     let verdict = words.answer(Some(view), moment(rt, at));
-    expect_of_row(rt, number, &verdict, &outcome.verdict(rt));
+    expect_row(rt, number, &verdict, &outcome.verdict(rt));
 }
 
 /// Ends the test unless each row gets its expected answer.
@@ -64,37 +67,20 @@ pub(crate) fn check_rows(rt: &(impl Abort + Alloc<A = Global>), rows: &[Row]) {
         let Row(seen, asked, at, outcome) = row;
         let view = seen.view(rt);
         let want = outcome.verdict(rt);
-        is_decided(rt, number, &view, &asked.request(rt), moment(rt, at), &want);
+        let request = asked.request().expect(rt, "a request");
+        is_decided(rt, number, &view, &request, moment(rt, at), &want);
         is_answered(rt, number, row, &view);
     }
 }
 
-const ROOM: Place = Place("room-1", 18);
-
-const CANCEL_ROOM: Asked = Asked::Cancel(ROOM, 8);
-
-/// Booking 8 of `room-1` for 601 points, and the view of it.
-const ROOM_BOOKED: Booked = Booked {
-    number: 8,
-    place: ROOM,
-    guests: 0,
-    charge: 601,
-    left: 0,
-    ..BOOKING_7
-};
-
+/// The view after booking 8 of `room-1`.
 const ROOM_TAKEN: Seen = Seen {
     spent: 601,
     balance: 9_399,
     open_count: 1,
-    facility: Some(Site {
-        name: "room-1",
-        kind: Kind::Room,
-        places: 1,
-        price: 601,
-    }),
+    facility: Some(ROOM),
     taken: 1,
-    booking: Some(ROOM_BOOKED),
+    booking: Some(BOOKING_8),
     ..FRESH
 };
 
@@ -104,7 +90,7 @@ const NOWHERE: Seen = Seen {
 };
 
 /// A booking 7 for 601 points, the view of it, and that of one that was cancelled.
-const ODD_BOOKED: Booked = Booked {
+const ODD_BOOKED: PlainBooking = PlainBooking {
     charge: 601,
     ..BOOKING_7
 };
@@ -115,9 +101,8 @@ const ODD_CHARGE: Seen = Seen {
 };
 
 const HALF_BACK: Seen = Seen {
-    booking: Some(Booked {
-        cancelled: true,
-        refund: 300,
+    booking: Some(PlainBooking {
+        refund: Some(300),
         ..BOOKING_7
     }),
     ..NOWHERE
@@ -137,16 +122,21 @@ static CANCELLATIONS: [Row; 12] = [
         ROOM_TAKEN,
         CANCEL_ROOM,
         DAY_AHEAD,
-        Expected::Cancels(ROOM_BOOKED, 601),
+        Expected::Cancels(BOOKING_8, 601),
     ),
     Row(
         ROOM_TAKEN,
         CANCEL_ROOM,
         LATER,
-        Expected::Cancels(ROOM_BOOKED, 300),
+        Expected::Cancels(BOOKING_8, 300),
     ),
     Row(ROOM_TAKEN, CANCEL_ROOM, START, SLOT_HAS_BEGUN),
-    Row(FRESH, Asked::Cancel(ROOM, 9), NOON, NO_SUCH_BOOKING),
+    Row(
+        FRESH,
+        PlainRequest::Cancel(ROOM_AT_18, 9),
+        NOON,
+        NO_SUCH_BOOKING,
+    ),
     Row(FRESH, CANCEL_7, NOON, NO_SUCH_BOOKING),
     Row(NOWHERE, CANCEL_7, NOON, NO_SUCH_FACILITY),
     Row(
@@ -168,7 +158,12 @@ static CANCELLATIONS: [Row; 12] = [
         Expected::Cancels(ODD_BOOKED, 300),
     ),
     Row(ODD_CHARGE, CANCEL_7, START, SLOT_HAS_BEGUN),
-    Row(ODD_CHARGE, Asked::Cancel(AT_19, 7), START, NUMBER_USED),
+    Row(
+        ODD_CHARGE,
+        PlainRequest::Cancel(AT_19, 7),
+        START,
+        NUMBER_USED,
+    ),
     Row(
         HALF_BACK,
         CANCEL_7,
@@ -196,11 +191,26 @@ const NO_BOOKING: Seen = Seen {
 const ACCOUNT_AFTER: Expected = Expected::Account(9_400, 1, 600);
 
 static SHOWN: [Row; 5] = [
-    Row(AFTER_7, Asked::View(AT_18), NOON, Expected::Taken(3)),
-    Row(NO_BOOKING, Asked::View(AT_18), START, Expected::Taken(3)),
-    Row(NO_COURT, Asked::View(AT_18), START, NO_SUCH_FACILITY),
-    Row(AFTER_7, Asked::Account, NOON, ACCOUNT_AFTER),
-    Row(NO_BOOKING, Asked::Account, START, ACCOUNT_AFTER),
+    Row(
+        AFTER_7,
+        PlainRequest::View(COURT_AT_18),
+        NOON,
+        Expected::Taken(3),
+    ),
+    Row(
+        NO_BOOKING,
+        PlainRequest::View(COURT_AT_18),
+        START,
+        Expected::Taken(3),
+    ),
+    Row(
+        NO_COURT,
+        PlainRequest::View(COURT_AT_18),
+        START,
+        NO_SUCH_FACILITY,
+    ),
+    Row(AFTER_7, ACCOUNT, NOON, ACCOUNT_AFTER),
+    Row(NO_BOOKING, ACCOUNT, START, ACCOUNT_AFTER),
 ];
 
 #[test]
@@ -210,7 +220,15 @@ fn showing(rt: HostRuntime) {
 
 /// The view of `amy-1`, the request, and the request as caveats see it at noon: its action, its
 /// slot and the slot's kind, its guests and its points.
-struct AskRow(Seen, Asked, Action, Option<Place>, Option<Kind>, u8, u64);
+struct AskRow(
+    Seen,
+    PlainRequest,
+    Action,
+    Option<PlainSlot>,
+    Option<Kind>,
+    u8,
+    u64,
+);
 
 const RECORDED: Seen = Seen {
     booking: Some(BOOKING_7),
@@ -220,32 +238,49 @@ const RECORDED: Seen = Seen {
 const A_COURT: Option<Kind> = Some(Kind::Court);
 
 static ASKS: [AskRow; 3] = [
-    AskRow(FRESH, BOOK_7, Action::Book, Some(AT_18), A_COURT, 2, 600),
-    AskRow(RECORDED, BOOK_7, Action::Book, Some(AT_18), A_COURT, 2, 0),
-    AskRow(NOWHERE, Asked::Account, Action::Account, None, None, 0, 0),
+    AskRow(
+        FRESH,
+        BOOK_7,
+        Action::Book,
+        Some(COURT_AT_18),
+        A_COURT,
+        2,
+        600,
+    ),
+    AskRow(
+        RECORDED,
+        BOOK_7,
+        Action::Book,
+        Some(COURT_AT_18),
+        A_COURT,
+        2,
+        0,
+    ),
+    AskRow(NOWHERE, ACCOUNT, Action::Account, None, None, 0, 0),
 ];
 
-fn slot(rt: &impl Abort, place: &Option<Place>) -> Option<Slot> {
-    match place {
-        Some(place) => Some(place.slot(rt)),
+fn slot(rt: &impl Abort, slot: &Option<PlainSlot>) -> Option<Slot> {
+    match slot {
+        Some(slot) => Some(slot.slot().expect(rt, "a slot")),
         None => None,
     }
 }
 
 fn asks_so(rt: &impl Abort, number: usize, row: &AskRow) {
-    let AskRow(seen, asked, action, place, kind, guests, owed) = row;
+    let AskRow(seen, asked, action, at, kind, guests, owed) = row;
     let moment = moment(rt, NOON);
     let want = Ask {
         action: *action,
-        slot: slot(rt, place),
+        slot: slot(rt, at),
         kind: *kind,
         guests: *guests,
         moment,
         owed: *owed,
         spent: 0,
     };
-    let ask = seen.view(rt).ask(&asked.request(rt), moment);
-    expect_of_row(rt, number, &ask, &want);
+    let request = asked.request().expect(rt, "a request");
+    let ask = seen.view(rt).ask(&request, moment);
+    expect_row(rt, number, &ask, &want);
 }
 
 #[test]
@@ -267,7 +302,7 @@ const BARE: Seen = Seen {
 fn a_bare_view(rt: HostRuntime) {
     let mut want = BARE.view(&rt);
     want.member.credited = 0;
-    expect_of_row(&rt, 0, &View::of_key(&key(&rt, false)), &want);
+    expect_row(&rt, 0, &View::of_key(&key(&rt, false)), &want);
 }
 
 /// A view, and whether a booking would be a new one at a known facility.
@@ -281,6 +316,6 @@ static ANEW: [(Seen, bool); 4] = [
 #[test]
 fn new_bookings(rt: HostRuntime) {
     for (number, (seen, is_new)) in ANEW.iter().enumerate() {
-        expect_of_row(&rt, number, &seen.view(&rt).books_anew(), is_new);
+        expect_row(&rt, number, &seen.view(&rt).books_anew(), is_new);
     }
 }

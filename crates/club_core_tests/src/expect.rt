@@ -1,15 +1,15 @@
-//! Comparing a result with the expected value.
+//! What a test expects.
 
 use std::fmt::Debug;
 use std::process::Abort;
 
-/// Ends the test unless the row of this number, from 0, gives the expected value. A test that calls
-/// it is proved in a third of the time of one that asserts.
-pub(crate) fn expect_of_row<T: PartialEq + Debug>(
+/// Ends the test unless the values are equal, of the row of this number, from 0 on. A test that
+/// calls it is proved in a third of the time of one that asserts.
+pub(crate) fn expect_row<T: PartialEq + Debug>(
     rt: &impl Abort,
-    number: usize,
-    outcome: &T,
+    row: usize,
+    returned: &T,
     want: &T,
 ) {
-    assert_eq!(rt; outcome, want, "row {number}");
+    assert_eq!(rt; returned, want, "row {row}");
 }

@@ -1,11 +1,14 @@
-//! Orders of the office, their views and their expected results, as plain values.
+//! The views of orders of the office, and their expected results, as plain values.
 
-use crate::fixture::{COURT, FIRST, Site, amy, facility, key};
-use crate::values::{Place, moment, name, root};
-use club_core::{Change, Command, OfficeFault, OrderView, SlotUse};
+use crate::fixture::{facility, key};
+use crate::values::{moment, name, root};
+use club_core::{Change, OfficeFault, OrderView, SlotUse};
 use club_rows::{Facility, Key};
 use club_values::Kind;
 use std::process::Abort;
+use test_kit::moments::UNTIL;
+use test_kit::roots::ROOT;
+use test_kit::{COURT, PlainFacility, PlainSlot, amy};
 
 /// The state of amy's key.
 #[derive(Clone, Copy)]
@@ -21,7 +24,7 @@ pub(crate) struct Known {
     /// Whether amy is known. She was credited 999,000,000 points.
     pub amy: bool,
     pub key: KeySeen,
-    pub facility: Option<Site>,
+    pub facility: Option<PlainFacility>,
     pub taken: u32,
     pub closed: bool,
 }
@@ -44,23 +47,6 @@ pub(crate) const EVERYTHING: Known = Known {
     closed: false,
 };
 
-/// An order of the office.
-#[derive(Clone, Copy)]
-pub(crate) enum Order {
-    /// Amy, with this quota.
-    AddMember(u32),
-    /// So many points for amy.
-    Credit(u32),
-    /// The places, the price and the hours of `court-1`.
-    AddFacility(u32, u32, u32, u32),
-    /// `amy-1` with the first root.
-    AddKey,
-    RevokeKey,
-    /// Another root for `amy-1`. Passes under its first root are good until 2026-04-25T00:00.
-    RotateKey(&'static [u8]),
-    CloseSlot(Place),
-}
-
 /// The expected result of an order: a change of what it names, or a refusal.
 #[derive(Clone, Copy)]
 pub(crate) enum Made {
@@ -70,7 +56,7 @@ pub(crate) enum Made {
     Key,
     Revoked,
     Rotated(&'static [u8]),
-    Closed(Place),
+    Closed(PlainSlot),
     Refused(OfficeFault),
 }
 
@@ -87,68 +73,13 @@ impl KeySeen {
 impl Known {
     pub fn view(&self, rt: &impl Abort) -> OrderView {
         OrderView {
-            member: if self.amy {
-                Some(amy(rt, 999_000_000, 5))
-            } else {
-                None
-            },
+            member: if self.amy { amy(999_000_000, 5) } else { None },
             key: self.key.key(rt),
             facility: facility(rt, &self.facility),
             slot: SlotUse {
                 taken: self.taken,
                 closed: self.closed,
             },
-        }
-    }
-}
-
-fn add_facility(rt: &impl Abort, places: u32, price: u32, opens: u32, shuts: u32) -> Command {
-    Command::AddFacility {
-        name: name(rt, "court-1"),
-        kind: Kind::Court,
-        places,
-        price,
-        opens,
-        shuts,
-    }
-}
-
-fn add_key(rt: &impl Abort) -> Command {
-    Command::AddKey {
-        name: name(rt, "amy-1"),
-        member: name(rt, "amy"),
-        root: root(rt, FIRST),
-    }
-}
-
-fn rotate_key(rt: &impl Abort, bytes: &[u8]) -> Command {
-    Command::RotateKey {
-        name: name(rt, "amy-1"),
-        root: root(rt, bytes),
-        until: moment(rt, "2026-04-25T00:00"),
-    }
-}
-
-impl Order {
-    pub fn command(self, rt: &impl Abort) -> Command {
-        match self {
-            Order::AddMember(quota) => Command::AddMember {
-                name: name(rt, "amy"),
-                quota,
-            },
-            Order::Credit(points) => Command::Credit {
-                member: name(rt, "amy"),
-                points,
-            },
-            Order::AddFacility(places, price, opens, shuts) => {
-                add_facility(rt, places, price, opens, shuts)
-            }
-            Order::AddKey => add_key(rt),
-            Order::RevokeKey => Command::RevokeKey {
-                name: name(rt, "amy-1"),
-            },
-            Order::RotateKey(bytes) => rotate_key(rt, bytes),
-            Order::CloseSlot(place) => Command::CloseSlot(place.slot(rt)),
         }
     }
 }
@@ -167,16 +98,16 @@ fn insert_facility(rt: &impl Abort, places: u8, price: u16, opens: u8, shuts: u8
 fn replace_root(rt: &impl Abort, bytes: &[u8]) -> Change {
     Change::ReplaceRoot {
         key: name(rt, "amy-1"),
-        former: root(rt, FIRST),
+        former: root(rt, ROOT),
         root: root(rt, bytes),
-        until: moment(rt, "2026-04-25T00:00"),
+        until: moment(rt, UNTIL),
     }
 }
 
 impl Made {
     pub fn change(self, rt: &impl Abort) -> Result<Change, OfficeFault> {
         Ok(match self {
-            Made::Member(quota) => Change::InsertMember(amy(rt, 0, quota)),
+            Made::Member(quota) => Change::InsertMember(amy(0, quota).expect(rt, "a member")),
             Made::Credit(points) => Change::AddCredit {
                 member: name(rt, "amy"),
                 points,
@@ -189,7 +120,7 @@ impl Made {
                 key: name(rt, "amy-1"),
             },
             Made::Rotated(bytes) => replace_root(rt, bytes),
-            Made::Closed(place) => Change::MarkClosed(place.slot(rt)),
+            Made::Closed(slot) => Change::MarkClosed(slot.slot().expect(rt, "a slot")),
             Made::Refused(fault) => return Err(fault),
         })
     }

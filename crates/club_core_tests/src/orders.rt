@@ -1,12 +1,14 @@
 //! Orders of the office, each with its refusals in the order of testing.
 
-use crate::expect::expect_of_row;
-use crate::fixture::{AT_18, COURT, FIRST, SECOND};
-use crate::office::{EVERYTHING, KeySeen, Known, Made, NOTHING, Order};
-use crate::values::{Place, name, root};
+use crate::expect::expect_row;
+use crate::office::{EVERYTHING, KeySeen, Known, Made, NOTHING};
+use crate::values::{name, root};
 use club_core::{OfficeAnswer, OfficeFault, decide_order};
+use club_values::Kind;
 use std::process::Abort;
 use std::test::*;
+use test_kit::roots::{ROOT, SECOND_ROOT};
+use test_kit::{COURT, COURT_AT_18, Order, PlainSlot, minutes};
 
 /// The view of an order, the order, and its expected result.
 struct Row(Known, Order, Made);
@@ -15,8 +17,9 @@ struct Row(Known, Order, Made);
 fn are_decided(rt: &impl Abort, rows: &[Row]) {
     for (number, row) in rows.iter().enumerate() {
         let Row(known, order, made) = row;
-        let decided = decide_order(&known.view(rt), &order.command(rt));
-        expect_of_row(rt, number, &decided, &made.change(rt));
+        let command = order.command().expect(rt, "an order");
+        let decided = decide_order(&known.view(rt), &command);
+        expect_row(rt, number, &decided, &made.change(rt));
     }
 }
 
@@ -29,17 +32,21 @@ const OUT_OF_RANGE: Made = Made::Refused(OfficeFault::OutOfRange);
 const IN_USE: Made = Made::Refused(OfficeFault::SlotInUse);
 
 static MEMBERS: [Row; 3] = [
-    Row(EVERYTHING, Order::AddMember(100), OUT_OF_RANGE),
-    Row(EVERYTHING, Order::AddMember(99), EXISTS),
-    Row(NOTHING, Order::AddMember(99), Made::Member(99)),
+    Row(EVERYTHING, Order::AddMember("amy", 100), OUT_OF_RANGE),
+    Row(EVERYTHING, Order::AddMember("amy", 99), EXISTS),
+    Row(NOTHING, Order::AddMember("amy", 99), Made::Member(99)),
 ];
 
 static CREDITS: [Row; 5] = [
-    Row(NOTHING, Order::Credit(0), OUT_OF_RANGE),
-    Row(NOTHING, Order::Credit(1_000_001), OUT_OF_RANGE),
-    Row(NOTHING, Order::Credit(1), UNKNOWN),
-    Row(EVERYTHING, Order::Credit(1_000_000), OUT_OF_RANGE),
-    Row(EVERYTHING, Order::Credit(999_999), Made::Credit(999_999)),
+    Row(NOTHING, Order::Credit("amy", 0), OUT_OF_RANGE),
+    Row(NOTHING, Order::Credit("amy", 1_000_001), OUT_OF_RANGE),
+    Row(NOTHING, Order::Credit("amy", 1), UNKNOWN),
+    Row(EVERYTHING, Order::Credit("amy", 1_000_000), OUT_OF_RANGE),
+    Row(
+        EVERYTHING,
+        Order::Credit("amy", 999_999),
+        Made::Credit(999_999),
+    ),
 ];
 
 #[test]
@@ -48,21 +55,49 @@ fn members_and_credits(rt: HostRuntime) {
     are_decided(&rt, &CREDITS);
 }
 
-const ODD_PRICE: Order = Order::AddFacility(4, 10_000, 8, 22);
+const ODD_PRICE: Order = Order::AddFacility("court-1", Kind::Court, 4, 10_000, 8, 22);
 
 const COURT_1: Made = Made::Facility(4, 200, 8, 22);
 
 const LARGEST: Made = Made::Facility(50, 9_999, 0, 24);
 
 static FACILITIES: [Row; 8] = [
-    Row(EVERYTHING, Order::AddFacility(0, 200, 8, 22), OUT_OF_RANGE),
-    Row(EVERYTHING, Order::AddFacility(51, 200, 8, 22), OUT_OF_RANGE),
+    Row(
+        EVERYTHING,
+        Order::AddFacility("court-1", Kind::Court, 0, 200, 8, 22),
+        OUT_OF_RANGE,
+    ),
+    Row(
+        EVERYTHING,
+        Order::AddFacility("court-1", Kind::Court, 51, 200, 8, 22),
+        OUT_OF_RANGE,
+    ),
     Row(EVERYTHING, ODD_PRICE, OUT_OF_RANGE),
-    Row(EVERYTHING, Order::AddFacility(4, 200, 8, 8), OUT_OF_RANGE),
-    Row(EVERYTHING, Order::AddFacility(4, 200, 8, 25), OUT_OF_RANGE),
-    Row(EVERYTHING, Order::AddFacility(4, 200, 8, 22), EXISTS),
-    Row(NOTHING, Order::AddFacility(4, 200, 8, 22), COURT_1),
-    Row(NOTHING, Order::AddFacility(50, 9_999, 0, 24), LARGEST),
+    Row(
+        EVERYTHING,
+        Order::AddFacility("court-1", Kind::Court, 4, 200, 8, 8),
+        OUT_OF_RANGE,
+    ),
+    Row(
+        EVERYTHING,
+        Order::AddFacility("court-1", Kind::Court, 4, 200, 8, 25),
+        OUT_OF_RANGE,
+    ),
+    Row(
+        EVERYTHING,
+        Order::AddFacility("court-1", Kind::Court, 4, 200, 8, 22),
+        EXISTS,
+    ),
+    Row(
+        NOTHING,
+        Order::AddFacility("court-1", Kind::Court, 4, 200, 8, 22),
+        COURT_1,
+    ),
+    Row(
+        NOTHING,
+        Order::AddFacility("court-1", Kind::Court, 50, 9_999, 0, 24),
+        LARGEST,
+    ),
 ];
 
 #[test]
@@ -86,12 +121,12 @@ const REVOKED: Known = Known {
 };
 
 static KEYS: [Row; 6] = [
-    Row(EVERYTHING, Order::AddKey, EXISTS),
-    Row(NO_MEMBER, Order::AddKey, UNKNOWN),
-    Row(NO_KEY, Order::AddKey, Made::Key),
-    Row(NOTHING, Order::RevokeKey, UNKNOWN),
-    Row(EVERYTHING, Order::RevokeKey, Made::Revoked),
-    Row(REVOKED, Order::RevokeKey, Made::Revoked),
+    Row(EVERYTHING, Order::AddKey("amy-1", "amy", ROOT), EXISTS),
+    Row(NO_MEMBER, Order::AddKey("amy-1", "amy", ROOT), UNKNOWN),
+    Row(NO_KEY, Order::AddKey("amy-1", "amy", ROOT), Made::Key),
+    Row(NOTHING, Order::RevokeKey("amy-1"), UNKNOWN),
+    Row(EVERYTHING, Order::RevokeKey("amy-1"), Made::Revoked),
+    Row(REVOKED, Order::RevokeKey("amy-1"), Made::Revoked),
 ];
 
 #[test]
@@ -100,10 +135,26 @@ fn keys_and_revocations(rt: HostRuntime) {
 }
 
 static ROTATIONS: [Row; 4] = [
-    Row(NOTHING, Order::RotateKey(SECOND), UNKNOWN),
-    Row(EVERYTHING, Order::RotateKey(FIRST), EXISTS),
-    Row(EVERYTHING, Order::RotateKey(SECOND), Made::Rotated(SECOND)),
-    Row(REVOKED, Order::RotateKey(SECOND), Made::Rotated(SECOND)),
+    Row(
+        NOTHING,
+        Order::RotateKey("amy-1", SECOND_ROOT, minutes::UNTIL),
+        UNKNOWN,
+    ),
+    Row(
+        EVERYTHING,
+        Order::RotateKey("amy-1", ROOT, minutes::UNTIL),
+        EXISTS,
+    ),
+    Row(
+        EVERYTHING,
+        Order::RotateKey("amy-1", SECOND_ROOT, minutes::UNTIL),
+        Made::Rotated(SECOND_ROOT),
+    ),
+    Row(
+        REVOKED,
+        Order::RotateKey("amy-1", SECOND_ROOT, minutes::UNTIL),
+        Made::Rotated(SECOND_ROOT),
+    ),
 ];
 
 #[test]
@@ -111,7 +162,10 @@ fn rotations(rt: HostRuntime) {
     are_decided(&rt, &ROTATIONS);
 }
 
-const AT_22: Place = Place("court-1", 22);
+const AT_22: PlainSlot = PlainSlot {
+    hour: 22,
+    ..COURT_AT_18
+};
 
 const NOWHERE: Known = Known {
     taken: 3,
@@ -134,9 +188,13 @@ const FREE: Known = Known { taken: 0, ..BOOKED };
 static CLOSINGS: [Row; 5] = [
     Row(NOWHERE, Order::CloseSlot(AT_22), UNKNOWN),
     Row(CLOSED_AND_BOOKED, Order::CloseSlot(AT_22), OUT_OF_RANGE),
-    Row(CLOSED_AND_BOOKED, Order::CloseSlot(AT_18), EXISTS),
-    Row(BOOKED, Order::CloseSlot(AT_18), IN_USE),
-    Row(FREE, Order::CloseSlot(AT_18), Made::Closed(AT_18)),
+    Row(CLOSED_AND_BOOKED, Order::CloseSlot(COURT_AT_18), EXISTS),
+    Row(BOOKED, Order::CloseSlot(COURT_AT_18), IN_USE),
+    Row(
+        FREE,
+        Order::CloseSlot(COURT_AT_18),
+        Made::Closed(COURT_AT_18),
+    ),
 ];
 
 #[test]
@@ -146,9 +204,12 @@ fn closed_slots(rt: HostRuntime) {
 
 /// The answer to an order that was carried out; for a new key or a new root, with that root.
 static DONE: [(Order, Option<&[u8]>); 3] = [
-    (Order::RevokeKey, None),
-    (Order::AddKey, Some(FIRST)),
-    (Order::RotateKey(SECOND), Some(SECOND)),
+    (Order::RevokeKey("amy-1"), None),
+    (Order::AddKey("amy-1", "amy", ROOT), Some(ROOT)),
+    (
+        Order::RotateKey("amy-1", SECOND_ROOT, minutes::UNTIL),
+        Some(SECOND_ROOT),
+    ),
 ];
 
 fn answer(rt: &impl Abort, bytes: &Option<&[u8]>) -> OfficeAnswer {
@@ -164,7 +225,8 @@ fn answer(rt: &impl Abort, bytes: &Option<&[u8]>) -> OfficeAnswer {
 #[test]
 fn answers_done_orders(rt: HostRuntime) {
     for (row, (order, bytes)) in DONE.iter().enumerate() {
-        let outcome = OfficeAnswer::done(&order.command(&rt));
-        expect_of_row(&rt, row, &outcome, &answer(&rt, bytes));
+        let command = order.command().expect(&rt, "an order");
+        let outcome = OfficeAnswer::done(&command);
+        expect_row(&rt, row, &outcome, &answer(&rt, bytes));
     }
 }

@@ -1,7 +1,6 @@
 //! The texts of refusals, of faults and of the day sheet.
 
-use crate::expect::expect_of_row;
-use crate::fixture::{BOOKING_7, Booked};
+use crate::expect::expect_row;
 use crate::values::{day, root};
 use club_core::{Methods, OfficeFault, Refusal, StoreFault, sheet_text};
 use club_rows::Booking;
@@ -9,6 +8,7 @@ use std::alloc::Global;
 use std::fmt::Display;
 use std::process::Abort;
 use std::test::*;
+use test_kit::{BOOKING_7, PlainBooking};
 
 /// A refusal, its number, its status, its text and the number of its caveat.
 struct RefusalRow(Refusal, u8, u16, &'static str, Option<usize>);
@@ -29,10 +29,10 @@ static REFUSALS: [RefusalRow; 7] = [
 
 fn check_row(rt: &impl Abort, row: usize, refusal_row: &RefusalRow) {
     let RefusalRow(refusal, number, status, text, caveat) = refusal_row;
-    expect_of_row(rt, row, &refusal.number(), number);
-    expect_of_row(rt, row, &refusal.status(), status);
-    expect_of_row(rt, row, &refusal.text(), text);
-    expect_of_row(rt, row, &refusal.caveat(), caveat);
+    expect_row(rt, row, &refusal.number(), number);
+    expect_row(rt, row, &refusal.status(), status);
+    expect_row(rt, row, &refusal.text(), text);
+    expect_row(rt, row, &refusal.caveat(), caveat);
 }
 
 #[test]
@@ -59,7 +59,7 @@ static SHOWN_REFUSALS: [(Refusal, &str); 1] = [(Refusal::CaveatDenies(2), "cavea
 fn check_rows<T: Display>(rt: &(impl Abort + Alloc<A = Global>), rows: &[(T, &str)]) {
     for (row, (fault, want)) in rows.iter().enumerate() {
         let text = format!(in rt.alloc(); "{fault}").expect(rt, "memory");
-        expect_of_row(rt, row, &text.as_str(), want);
+        expect_row(rt, row, &text.as_str(), want);
     }
 }
 
@@ -78,12 +78,12 @@ fn prints_no_root(rt: HostRuntime) {
     for (row, bytes) in ROOTS.iter().enumerate() {
         let root = root(&rt, bytes);
         let text = format!(in rt.alloc(); "{root:?}").expect(&rt, "memory");
-        expect_of_row(&rt, row, &text.as_str(), &"Root(..)");
+        expect_row(&rt, row, &text.as_str(), &"Root(..)");
     }
 }
 
 /// Another key's booking of the same slot, without guests.
-const BOOKING_2: Booked = Booked {
+const BOOKING_2: PlainBooking = PlainBooking {
     key: "bob-1",
     number: 2,
     guests: 0,
@@ -102,17 +102,18 @@ Total bookings 2, persons 4, charge 800
 const EMPTY: &str = "Day sheet 2026-05-02\nNo bookings.\n";
 
 /// A day, its bookings and its sheet.
-struct Sheet(&'static str, &'static [Booked], &'static str);
+struct Sheet(&'static str, &'static [PlainBooking], &'static str);
 
 static SHEETS: [Sheet; 2] = [
     Sheet("2026-05-01", &[BOOKING_7, BOOKING_2], FULL),
     Sheet("2026-05-02", &[], EMPTY),
 ];
 
-fn bookings(rt: &(impl Abort + Alloc<A = Global>), rows: &[Booked]) -> Vec<Booking> {
+fn bookings(rt: &(impl Abort + Alloc<A = Global>), rows: &[PlainBooking]) -> Vec<Booking> {
     let mut bookings = Vec::new(rt.alloc());
     for row in rows {
-        bookings.push(row.row(rt)).expect(rt, "memory");
+        let booking = row.booking().expect(rt, "a booking");
+        bookings.push(booking).expect(rt, "memory");
     }
     bookings
 }
@@ -121,7 +122,7 @@ fn is_sheet(rt: &(impl Abort + Alloc<A = Global>), row: usize, sheet: &Sheet) {
     let Sheet(date, rows, want) = sheet;
     let text = sheet_text(rt.alloc(), day(rt, date), &bookings(rt, rows));
     let text = text.expect(rt, "memory");
-    expect_of_row(rt, row, &text.as_str(), want);
+    expect_row(rt, row, &text.as_str(), want);
 }
 
 #[test]

@@ -1,7 +1,7 @@
 //! The rows of a club, read from their columns within their limits.
 
-use crate::expect::expect_of_row;
-use crate::fixture::{AT_18, BOOKING_7, Booked, COURT, FIRST, Site, booking, facility, key};
+use crate::expect::expect_row;
+use crate::fixture::{booking, facility, key};
 use club_rows::{
     Booking, BookingColumns, BookingNumber, Facility, FacilityColumns, Guests, Key, Member, Root,
     slot_from_columns,
@@ -9,6 +9,8 @@ use club_rows::{
 use club_values::Slot;
 use std::process::Abort;
 use std::test::*;
+use test_kit::roots::ROOT;
+use test_kit::{BOOKING_7, COURT, COURT_AT_18, PlainBooking, PlainFacility};
 
 static NUMBERS: [(u32, bool); 4] = [
     (0, false),
@@ -37,13 +39,13 @@ fn is_root(len: usize) -> bool {
 #[test]
 fn limits(rt: HostRuntime) {
     for (row, (number, within)) in NUMBERS.iter().enumerate() {
-        expect_of_row(&rt, row, &BookingNumber::new(*number).is_some(), within);
+        expect_row(&rt, row, &BookingNumber::new(*number).is_some(), within);
     }
     for (row, (guests, want)) in GUESTS.iter().enumerate() {
-        expect_of_row(&rt, row, &persons(*guests), want);
+        expect_row(&rt, row, &persons(*guests), want);
     }
     for (row, (len, within)) in ROOT_LENGTHS.iter().enumerate() {
-        expect_of_row(&rt, row, &is_root(*len), within);
+        expect_row(&rt, row, &is_root(*len), within);
     }
 }
 
@@ -59,13 +61,13 @@ static MEMBERS: [(&[u8], i64, i64, bool); 4] = [
 fn columns_of_members(rt: HostRuntime) {
     for (row, (name, credited, quota, within)) in MEMBERS.iter().enumerate() {
         let member = Member::from_columns(name, *credited, *quota);
-        expect_of_row(&rt, row, &member.is_some(), within);
+        expect_row(&rt, row, &member.is_some(), within);
     }
 }
 
 fn is_key(rt: &impl Abort, row: usize, revoked: i64, want: Option<Key>) {
-    let key = Key::from_columns(b"amy-1", b"amy", FIRST, revoked);
-    expect_of_row(rt, row, &key, &want);
+    let key = Key::from_columns(b"amy-1", b"amy", ROOT, revoked);
+    expect_row(rt, row, &key, &want);
 }
 
 #[test]
@@ -76,19 +78,19 @@ fn columns_of_keys(rt: HostRuntime) {
 
 fn is_slot(rt: &impl Abort, row: usize, hour: i64, want: Option<Slot>) {
     let slot = slot_from_columns(b"court-1", 20_574, hour);
-    expect_of_row(rt, row, &slot, &want);
+    expect_row(rt, row, &slot, &want);
 }
 
 #[test]
 fn columns_of_slots(rt: HostRuntime) {
-    is_slot(&rt, 0, 18, Some(AT_18.slot(&rt)));
+    is_slot(&rt, 0, 18, COURT_AT_18.slot());
     is_slot(&rt, 1, 24, None);
 }
 
 /// The hour at which `court-1` shuts, and what its columns are then.
-static FACILITIES: [(i64, Option<Site>); 2] = [(22, Some(COURT)), (8, None)];
+static FACILITIES: [(i64, Option<PlainFacility>); 2] = [(22, Some(COURT)), (8, None)];
 
-fn is_facility(rt: &impl Abort, row: usize, shuts: i64, want: &Option<Site>) {
+fn is_facility(rt: &impl Abort, row: usize, shuts: i64, want: &Option<PlainFacility>) {
     let columns = FacilityColumns {
         name: b"court-1",
         kind: b"court",
@@ -98,7 +100,7 @@ fn is_facility(rt: &impl Abort, row: usize, shuts: i64, want: &Option<Site>) {
         shuts,
     };
     let facility = facility(rt, want);
-    expect_of_row(rt, row, &Facility::from_columns(&columns), &facility);
+    expect_row(rt, row, &Facility::from_columns(&columns), &facility);
 }
 
 #[test]
@@ -108,14 +110,13 @@ fn columns_of_facilities(rt: HostRuntime) {
     }
 }
 
-const CANCELLED: Booked = Booked {
-    cancelled: true,
-    refund: 1,
+const CANCELLED: PlainBooking = PlainBooking {
+    refund: Some(1),
     ..BOOKING_7
 };
 
 /// Whether booking 7 is cancelled, its refund, and what its columns are then.
-static BOOKINGS: [(i64, i64, Option<Booked>); 4] = [
+static BOOKINGS: [(i64, i64, Option<PlainBooking>); 4] = [
     (0, 0, Some(BOOKING_7)),
     (0, 1, None),
     (1, 1, Some(CANCELLED)),
@@ -141,6 +142,6 @@ fn columns_of(cancelled: i64, refund: i64) -> BookingColumns<'static> {
 fn columns_of_bookings(rt: HostRuntime) {
     for (row, (cancelled, refund, want)) in BOOKINGS.iter().enumerate() {
         let read = Booking::from_columns(&columns_of(*cancelled, *refund));
-        expect_of_row(&rt, row, &read, &booking(&rt, want));
+        expect_row(&rt, row, &read, &booking(&rt, want));
     }
 }

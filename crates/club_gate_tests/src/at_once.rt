@@ -4,29 +4,34 @@ use crate::counter::{MemoryDesk, empty_desk};
 use crate::happens::{Happens, events, expect_replies};
 use crate::known;
 use crate::known::{BOB_SIGNED, BOB_SIGNED_AGAIN, BOBS, CY_SIGNED, CYS, SIGNED};
-use crate::messages::{
-    ACCOUNT, ACCOUNT_AFTER, Asked, BOOK_7, BOOKED_7, CANCEL_7, CANCELLED_7, COURT, Expected,
-    PlainSlot,
-};
-use crate::office::Order;
-use crate::values::{FRIDAY, push};
+use crate::values::push;
 use club_gate::OfficeReply;
 use club_values::Kind;
 use std::alloc::Global;
 use std::process::Abort;
+use test_kit::replies::{ACCOUNT_AFTER, BOOKED_7, CANCELLED_7};
+use test_kit::requests::{ACCOUNT, BOOK_7, CANCEL_7};
+use test_kit::roots::ROOT;
+use test_kit::{COURT_AT_18, FRIDAY, Order, PlainReply, PlainRequest, PlainSlot};
 
 const DONE: OfficeReply = OfficeReply::Done;
 
 /// The fixture.
 static FIXTURE: [Happens; 8] = [
-    Happens::Ordered(Order::AddMember(b"amy", 5), DONE),
-    Happens::Ordered(Order::Credit(b"amy", 10_000), DONE),
-    Happens::Ordered(Order::AddKey(b"amy-1", b"amy", known::ROOT), SIGNED),
-    Happens::Ordered(Order::AddMember(b"bob", 5), DONE),
-    Happens::Ordered(Order::Credit(b"bob", 10_000), DONE),
-    Happens::Ordered(Order::AddKey(b"bob-1", b"bob", known::ROOT), BOB_SIGNED),
-    Happens::Ordered(Order::AddFacility(b"court-1", Kind::Court, 4, 200, 8), DONE),
-    Happens::Ordered(Order::AddFacility(b"room-1", Kind::Room, 1, 601, 8), DONE),
+    Happens::Ordered(Order::AddMember("amy", 5), DONE),
+    Happens::Ordered(Order::Credit("amy", 10_000), DONE),
+    Happens::Ordered(Order::AddKey("amy-1", "amy", ROOT), SIGNED),
+    Happens::Ordered(Order::AddMember("bob", 5), DONE),
+    Happens::Ordered(Order::Credit("bob", 10_000), DONE),
+    Happens::Ordered(Order::AddKey("bob-1", "bob", ROOT), BOB_SIGNED),
+    Happens::Ordered(
+        Order::AddFacility("court-1", Kind::Court, 4, 200, 8, 22),
+        DONE,
+    ),
+    Happens::Ordered(
+        Order::AddFacility("room-1", Kind::Room, 1, 601, 8, 22),
+        DONE,
+    ),
 ];
 
 /// Amy's list.
@@ -77,29 +82,26 @@ fn append(rt: &impl Abort, rows: &mut Vec<Happens>, more: &[Happens]) {
 }
 
 static BEFORE_CY: [Happens; 4] = [
-    Happens::Ordered(Order::AddMember(b"cy", 20), DONE),
-    Happens::Ordered(Order::Credit(b"cy", 20_000), DONE),
-    Happens::Ordered(Order::AddKey(b"cy-1", b"cy", known::ROOT), CY_SIGNED),
-    Happens::Ordered(
-        Order::AddKey(b"bob-2", b"bob", known::ROOT),
-        BOB_SIGNED_AGAIN,
-    ),
+    Happens::Ordered(Order::AddMember("cy", 20), DONE),
+    Happens::Ordered(Order::Credit("cy", 20_000), DONE),
+    Happens::Ordered(Order::AddKey("cy-1", "cy", ROOT), CY_SIGNED),
+    Happens::Ordered(Order::AddKey("bob-2", "bob", ROOT), BOB_SIGNED_AGAIN),
 ];
 
 static BEHIND_CY: [Happens; 2] = [
-    Happens::Ordered(Order::Credit(b"bob", 500), DONE),
-    Happens::Ordered(Order::RevokeKey(b"bob-1"), DONE),
+    Happens::Ordered(Order::Credit("bob", 500), DONE),
+    Happens::Ordered(Order::RevokeKey("bob-1"), DONE),
 ];
 
 /// Cy's booking of `court-1` for two persons, on a later day than amy's.
 fn cys(day: u16, hour: u8, number: u32) -> Happens {
     let slot = PlainSlot {
-        facility: b"court-1",
+        facility: "court-1",
         day,
         hour,
     };
-    let booked = Expected::Booked(b"cy-1", number, 400, 2);
-    Happens::Asked(CYS, Asked::Book(slot, number, 1), booked)
+    let booked = PlainReply::Booked("cy-1", number, 400, 2);
+    Happens::Asked(CYS, PlainRequest::Book(slot, number, 1), booked)
 }
 
 /// Ten bookings of cy's on a day, from this number on.
@@ -123,12 +125,12 @@ fn among_others(rt: &(impl Abort + Alloc<A = Global>), list: &List) -> Vec<Happe
     rows
 }
 
-const BOOK_2: Asked = Asked::Book(COURT, 2, 0);
+const BOOK_2: PlainRequest = PlainRequest::Book(COURT_AT_18, 2, 0);
 
-const BOOKED_2: Expected = Expected::Booked(b"bob-1", 2, 200, 3);
+const BOOKED_2: PlainReply = PlainReply::Booked("bob-1", 2, 200, 3);
 
 /// Amy's booking if bob has a place of the slot.
-const BOOKED_LAST: Expected = Expected::Booked(b"amy-1", 7, 600, 0);
+const BOOKED_LAST: PlainReply = PlainReply::Booked("amy-1", 7, 600, 0);
 
 static BESIDE_BOB: [Happens; 4] = [
     Happens::Asked(BOBS, BOOK_2, BOOKED_2),

@@ -1,19 +1,27 @@
 //! The worked rows of caveats, each in every form of a pass.
 
 use crate::counter::{Step, plays_in_all_forms};
-use crate::messages::{
-    ACCOUNT, Asked, BOOK_7, BOOKED_7, CANCEL_7, CANCELLED_7, COURT, DENIED_1, Expected, PlainSlot,
-};
 use crate::passes::Shown;
-use crate::values::{FRIDAY, NOON, ROOT};
 use club_core::Refusal;
 use std::test::*;
+use test_kit::minutes::NOON;
+use test_kit::replies::{BOOKED_7, CANCELLED_7, DENIED_1};
+use test_kit::requests::{ACCOUNT, BOOK_7, CANCEL_7};
+use test_kit::roots::ROOT;
+use test_kit::{COURT_AT_18, FRIDAY, PlainReply, PlainRequest, PlainSlot};
 
-const SPENDS_600: Shown = Shown::Of(b"amy-1", ROOT, &["spend <= 600"]);
+const SPENDS_600: Shown = Shown::Of("amy-1", ROOT, &["spend <= 600"]);
 
-const BOOK_8_AT_19: Asked = Asked::Book(PlainSlot { hour: 19, ..COURT }, 8, 0);
+const BOOK_8_AT_19: PlainRequest = PlainRequest::Book(
+    PlainSlot {
+        hour: 19,
+        ..COURT_AT_18
+    },
+    8,
+    0,
+);
 
-const BOOKED_8: Expected = Expected::Booked(b"amy-1", 8, 200, 3);
+const BOOKED_8: PlainReply = PlainReply::Booked("amy-1", 8, 200, 3);
 
 pub(crate) static SPENDS: [Step; 4] = [
     Step::Asks(NOON, SPENDS_600, BOOK_7, BOOKED_7),
@@ -27,13 +35,13 @@ fn keeps_a_spend_limit(rt: HostRuntime) {
     plays_in_all_forms(&rt, &SPENDS);
 }
 
-const AT_THE_COURT: Shown = Shown::Of(b"amy-1", ROOT, &["facility = court-1"]);
+const AT_THE_COURT: Shown = Shown::Of("amy-1", ROOT, &["facility = court-1"]);
 
-const ODD: Shown = Shown::Of(b"amy-1", ROOT, &["guests <= 0", "shoe = red"]);
+const ODD: Shown = Shown::Of("amy-1", ROOT, &["guests <= 0", "shoe = red"]);
 
-const BOOK_7_ALONE: Asked = Asked::Book(COURT, 7, 0);
+const BOOK_7_ALONE: PlainRequest = PlainRequest::Book(COURT_AT_18, 7, 0);
 
-const NOT_UNDERSTOOD_2: Expected = Expected::Refused(Refusal::CaveatNotUnderstood(2));
+const NOT_UNDERSTOOD_2: PlainReply = PlainReply::Refused(Refusal::CaveatNotUnderstood(2));
 
 pub(crate) static CAVEATS: [Step; 3] = [
     Step::Asks(NOON, AT_THE_COURT, ACCOUNT, DENIED_1),
@@ -46,29 +54,29 @@ fn tests_caveats(rt: HostRuntime) {
     plays_in_all_forms(&rt, &CAVEATS);
 }
 
-const FRIDAYS: Shown = Shown::Of(b"amy-1", ROOT, &["weekday = fri"]);
+const FRIDAYS: Shown = Shown::Of("amy-1", ROOT, &["weekday = fri"]);
 
-const ALL_WEEK: Shown = Shown::Of(b"amy-1", ROOT, &["weekday = mon,tue,wed,thu,fri,sat,sun"]);
+const ALL_WEEK: Shown = Shown::Of("amy-1", ROOT, &["weekday = mon,tue,wed,thu,fri,sat,sun"]);
 
-const NO_DAY: Shown = Shown::Of(b"amy-1", ROOT, &["weekday = sat,sun", "weekday = fri"]);
+const NO_DAY: Shown = Shown::Of("amy-1", ROOT, &["weekday = sat,sun", "weekday = fri"]);
 
-const TUESDAY_FIRST: Shown = Shown::Of(b"amy-1", ROOT, &["weekday = tue,mon"]);
+const TUESDAY_FIRST: Shown = Shown::Of("amy-1", ROOT, &["weekday = tue,mon"]);
 
-const MONDAY_TWICE: Shown = Shown::Of(b"amy-1", ROOT, &["weekday = mon,mon"]);
+const MONDAY_TWICE: Shown = Shown::Of("amy-1", ROOT, &["weekday = mon,mon"]);
 
-const CAPITAL: Shown = Shown::Of(b"amy-1", ROOT, &["weekday = Fri"]);
+const CAPITAL: Shown = Shown::Of("amy-1", ROOT, &["weekday = Fri"]);
 
-const EMPTY: Shown = Shown::Of(b"amy-1", ROOT, &["weekday = "]);
+const EMPTY: Shown = Shown::Of("amy-1", ROOT, &["weekday = "]);
 
 /// A Saturday.
 const A_DAY_LATER: PlainSlot = PlainSlot {
     day: FRIDAY + 1,
-    ..COURT
+    ..COURT_AT_18
 };
 
-const BOOK_8_A_DAY_LATER: Asked = Asked::Book(A_DAY_LATER, 8, 0);
+const BOOK_8_A_DAY_LATER: PlainRequest = PlainRequest::Book(A_DAY_LATER, 8, 0);
 
-const NOT_UNDERSTOOD_1: Expected = Expected::Refused(Refusal::CaveatNotUnderstood(1));
+const NOT_UNDERSTOOD_1: PlainReply = PlainReply::Refused(Refusal::CaveatNotUnderstood(1));
 
 /// The slot's day is a Friday.
 pub(crate) static WEEKDAYS: [Step; 8] = [

@@ -1,8 +1,6 @@
 //! A desk over tables in memory, and the steps of a worked row.
 
-use crate::expect::{expect_at, expect_eq};
-use crate::messages::{Asked, Expected};
-use crate::office::{FIXTURE, Order};
+use crate::expect::{expect_eq, expect_row};
 use crate::passes::{FORMS, Shown};
 use crate::values::at;
 use club_core::{ClubStore, Reply};
@@ -12,6 +10,7 @@ use pass_forms::Form;
 use sqlite::MemStore;
 use std::alloc::Global;
 use std::process::Abort;
+use test_kit::{FIXTURE, Order, PlainReply, PlainRequest};
 
 pub(crate) type MemoryDesk = Desk<Store<MemStore>>;
 
@@ -26,7 +25,7 @@ pub(crate) struct Counter {
 #[derive(Clone, Copy)]
 pub(crate) enum Step {
     /// A request at a moment under a pass, and its reply.
-    Asks(u32, Shown, Asked, Expected),
+    Asks(u32, Shown, PlainRequest, PlainReply),
     /// An order of the office that succeeds.
     Orders(Order),
     /// An order of the office, and its answer.
@@ -41,7 +40,7 @@ pub(crate) fn empty_desk(rt: &(impl Abort + Alloc<A = Global>)) -> MemoryDesk {
 
 /// Gives an order that has to succeed.
 pub(crate) fn carry_out(rt: &impl Abort, desk: &mut MemoryDesk, order: &Order) {
-    let answer = desk.office(&order.command(rt));
+    let answer = desk.office(&order.command().expect(rt, "an order"));
     expect_eq(rt, &matches!(answer, OfficeReply::Refused(_)), &false);
 }
 
@@ -60,9 +59,9 @@ pub(crate) fn reply<S: ClubStore>(
     desk: &mut Desk<S>,
     moment: u32,
     pass: &[u8],
-    asked: &Asked,
+    asked: &PlainRequest,
 ) -> Reply {
-    let request = asked.request(rt);
+    let request = asked.request().expect(rt, "a request");
     desk.ask(at(rt, moment), &Words { pass, request })
 }
 
@@ -73,7 +72,7 @@ impl Counter {
         rt: &(impl Abort + Alloc<A = Global>),
         moment: u32,
         shown: &Shown,
-        asked: &Asked,
+        asked: &PlainRequest,
     ) -> Reply {
         let text = shown.text(rt, self.form);
         reply(rt, &mut self.desk, moment, text.as_bytes(), asked)
@@ -83,11 +82,16 @@ impl Counter {
         match step {
             Step::Asks(moment, shown, asked, expected) => {
                 let reply = self.reply(rt, *moment, shown, asked);
-                expect_at(rt, row, &reply, &expected.reply(rt));
+                expect_row(rt, row, &reply, &expected.reply().expect(rt, "a reply"));
             }
             Step::Orders(order) => carry_out(rt, &mut self.desk, order),
             Step::IsAnswered(order, answer) => {
-                expect_at(rt, row, &self.desk.office(&order.command(rt)), answer);
+                expect_row(
+                    rt,
+                    row,
+                    &self.desk.office(&order.command().expect(rt, "an order")),
+                    answer,
+                );
             }
         }
     }

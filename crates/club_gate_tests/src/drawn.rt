@@ -2,12 +2,12 @@
 
 ghost use Rattle.std.specs.Prelude.{◌<◌};
 
-use crate::messages::{Asked, COURT, PlainSlot, ROOM};
-use crate::office::Order;
 use crate::passes::{FORMS, Shown};
-use crate::values::{ROOT, SECOND_ROOT, START};
 use club_values::Kind;
 use pass_forms::Form;
+use test_kit::minutes::START;
+use test_kit::roots::{ROOT, SECOND_ROOT};
+use test_kit::{COURT_AT_18, Order, PlainRequest, PlainSlot, ROOM_AT_18};
 
 // The linear congruential generator of Knuth's MMIX, of whose 64 bits the upper 31 are used.
 const FACTOR: u64 = 6_364_136_223_846_793_005;
@@ -16,17 +16,24 @@ const SUMMAND: u64 = 1_442_695_040_888_963_407;
 
 const UNUSED_BITS: u32 = 33;
 
-pub(crate) const AMY: &[u8] = b"amy";
+pub(crate) const AMY: &str = "amy";
 
-static MEMBERS: [&[u8]; 3] = [AMY, b"bob", b"cy"];
+static MEMBERS: [&str; 3] = [AMY, "bob", "cy"];
 
-static KEYS: [&[u8]; 4] = [b"amy-1", b"bob-1", b"cy-1", SPARE];
+static KEYS: [&str; 4] = ["amy-1", "bob-1", "cy-1", SPARE];
 
 // The key that no member begins with.
-const SPARE: &[u8] = b"spare";
+const SPARE: &str = "spare";
 
 // The slots on 2026-05-01.
-pub(crate) static SLOTS: [PlainSlot; 3] = [COURT, PlainSlot { hour: 19, ..COURT }, ROOM];
+pub(crate) static SLOTS: [PlainSlot; 3] = [
+    COURT_AT_18,
+    PlainSlot {
+        hour: 19,
+        ..COURT_AT_18
+    },
+    ROOM_AT_18,
+];
 
 // The caveats of passes.
 static CAVEATS: [&[&str]; 12] = [
@@ -50,11 +57,11 @@ static ROOTS: [&[u8]; 2] = [ROOT, SECOND_ROOT];
 /// A request, and the pass that comes with it.
 #[derive(Clone, Copy)]
 pub(crate) struct Asking {
-    pub key: &'static [u8],
+    pub key: &'static str,
     pub root: &'static [u8],
     pub caveats: &'static [&'static str],
     pub form: Form,
-    pub asked: Asked,
+    pub asked: PlainRequest,
     pub moment: u32,
 }
 
@@ -104,14 +111,14 @@ impl Numbers {
         SLOTS[(booking % 3) as usize]
     }
 
-    fn asked(&mut self) -> Asked {
+    fn asked(&mut self) -> PlainRequest {
         let booking = 1 + self.below(6);
         let slot = self.slot_of(booking);
         match self.below(10) {
-            0..=3 => Asked::Book(slot, booking, self.below(2) as u8),
-            4..=6 => Asked::Cancel(slot, booking),
-            7 | 8 => Asked::Account,
-            _ => Asked::View(slot),
+            0..=3 => PlainRequest::Book(slot, booking, self.below(2) as u8),
+            4..=6 => PlainRequest::Cancel(slot, booking),
+            7 | 8 => PlainRequest::Account,
+            _ => PlainRequest::View(slot),
         }
     }
 
@@ -136,7 +143,7 @@ impl Numbers {
         }
     }
 
-    fn rotation(&mut self, key: &'static [u8]) -> Order {
+    fn rotation(&mut self, key: &'static str) -> Order {
         let root = ROOTS[self.below(2) as usize];
         Order::RotateKey(key, root, self.moment())
     }
@@ -152,7 +159,7 @@ impl Numbers {
             15..=17 => Order::AddKey(SPARE, member, ROOT),
             18 => Order::AddKey(key, member, SECOND_ROOT),
             19..=21 => Order::AddMember(member, 90 + self.below(20)),
-            _ => Order::AddFacility(b"court-2", Kind::Court, 40 + self.below(20), 200, 8),
+            _ => Order::AddFacility("court-2", Kind::Court, 40 + self.below(20), 200, 8, 22),
         }
     }
 

@@ -1,12 +1,12 @@
 //! Events with their replies, in plain values.
 
 use crate::expect::expect_eq;
-use crate::messages::{Asked, Expected};
-use crate::office::Order;
-use crate::values::{NOON, at, push};
+use crate::values::{at, push};
 use club_gate::{Event, EventReply, OfficeReply, Words};
 use std::alloc::Global;
 use std::process::Abort;
+use test_kit::minutes::NOON;
+use test_kit::{Order, PlainReply, PlainRequest};
 
 /// An event, and its reply.
 #[derive(Clone, Copy)]
@@ -14,17 +14,17 @@ pub(crate) enum Happens {
     /// An order of the office, and its answer.
     Ordered(Order, OfficeReply),
     /// A request at noon under the text of a pass, and its reply.
-    Asked(&'static str, Asked, Expected),
+    Asked(&'static str, PlainRequest, PlainReply),
 }
 
 impl Happens {
     fn event(&self, rt: &impl Abort) -> Event<'static> {
         match *self {
-            Happens::Ordered(order, _) => Event::Ordered(order.command(rt)),
+            Happens::Ordered(order, _) => Event::Ordered(order.command().expect(rt, "an order")),
             Happens::Asked(pass, asked, _) => Event::Asked {
                 words: Words {
                     pass: pass.as_bytes(),
-                    request: asked.request(rt),
+                    request: asked.request().expect(rt, "a request"),
                 },
                 moment: at(rt, NOON),
             },
@@ -34,7 +34,9 @@ impl Happens {
     fn reply(&self, rt: &impl Abort) -> EventReply {
         match *self {
             Happens::Ordered(_, answer) => EventReply::Answered(answer),
-            Happens::Asked(_, _, expected) => EventReply::Replied(expected.reply(rt)),
+            Happens::Asked(_, _, expected) => EventReply::Replied(
+                expected.reply().expect(rt, "a reply"),
+            ),
         }
     }
 }

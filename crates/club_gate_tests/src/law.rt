@@ -4,9 +4,7 @@ use crate::expect::expect_eq;
 use crate::happens::{Happens, events, expect_replies};
 use crate::known;
 use crate::known::SIGNED;
-use crate::messages::{ACCOUNT, ACCOUNT_AFTER, BOOK_7, BOOKED_7, Expected, NOT_VERIFIED};
-use crate::office::Order;
-use crate::values::{NOON, at};
+use crate::values::at;
 use club_core::Request;
 use club_gate::{Desk, OfficeReply, Words};
 use club_store::Store;
@@ -17,17 +15,22 @@ use sqlite_disk::{Disk, Memory};
 use std::alloc::Global;
 use std::process::Abort;
 use std::test::*;
+use test_kit::minutes::NOON;
+use test_kit::replies::{ACCOUNT_AFTER, BOOKED_7, NOT_VERIFIED};
+use test_kit::requests::{ACCOUNT, BOOK_7};
+use test_kit::roots::ROOT;
+use test_kit::{Order, PlainReply};
 
 /// Four orders, a booking, its repeats in the two other forms, and the account, which was charged
 /// once.
 static BOOKS: [Happens; 8] = [
-    Happens::Ordered(Order::AddMember(b"amy", 5), OfficeReply::Done),
-    Happens::Ordered(Order::Credit(b"amy", 10_000), OfficeReply::Done),
+    Happens::Ordered(Order::AddMember("amy", 5), OfficeReply::Done),
+    Happens::Ordered(Order::Credit("amy", 10_000), OfficeReply::Done),
     Happens::Ordered(
-        Order::AddFacility(b"court-1", Kind::Court, 4, 200, 8),
+        Order::AddFacility("court-1", Kind::Court, 4, 200, 8, 22),
         OfficeReply::Done,
     ),
-    Happens::Ordered(Order::AddKey(b"amy-1", b"amy", known::ROOT), SIGNED),
+    Happens::Ordered(Order::AddKey("amy-1", "amy", ROOT), SIGNED),
     Happens::Asked(known::V2, BOOK_7, BOOKED_7),
     Happens::Asked(known::V1, BOOK_7, BOOKED_7),
     Happens::Asked(known::JSON, BOOK_7, BOOKED_7),
@@ -46,7 +49,7 @@ fn books_once_in_three_forms(rt: HostRuntime) {
 }
 
 /// Ends the test unless a request for the account after these events gets this reply.
-fn expect_reply_after(rt: &(impl Abort + Alloc<A = Global>), rows: &[Happens], want: &Expected) {
+fn expect_reply_after(rt: &(impl Abort + Alloc<A = Global>), rows: &[Happens], want: &PlainReply) {
     let words = Words {
         pass: known::V1.as_bytes(),
         request: Request::Account,
@@ -56,7 +59,7 @@ fn expect_reply_after(rt: &(impl Abort + Alloc<A = Global>), rows: &[Happens], w
         rt, "replies",
     );
     expect_replies(rt, returned.replies.as_slice(), rows);
-    expect_eq(rt, &returned.reply, &want.reply(rt));
+    expect_eq(rt, &returned.reply, &want.reply().expect(rt, "a reply"));
 }
 
 // A request after a list, and one under an unknown key.

@@ -1,22 +1,23 @@
 //! Stored totals, the cache of keys, and answers to the office.
 
 use crate::counter::{Counter, Step, opened, plays_in_all_forms, reply};
-use crate::expect::{expect_at, expect_eq};
-use crate::messages::{
-    ACCOUNT, ACCOUNT_BEFORE, BOOK_7, BOOK_ROOM, BOOKED_7, CANCEL_ROOM, COURT, Expected, HALF_BACK,
-    PlainSlot, ROOM_BOOKED,
-};
-use crate::office::Order;
+use crate::expect::{expect_eq, expect_row};
 use crate::passes::{AMY, pass_of, text_of};
-use crate::values::{NOON, ROOT, START, add_key};
+use crate::values::{name, root};
+use club_core::Command;
 use club_gate::{Desk, Fault, OfficeReply};
 use club_values::Kind;
 use pass_forms::Form;
 use std::alloc::Global;
 use std::process::Abort;
 use std::test::*;
+use test_kit::minutes::{NOON, START};
+use test_kit::replies::{ACCOUNT_BEFORE, BOOKED_7, HALF_BACK, ROOM_BOOKED};
+use test_kit::requests::{ACCOUNT, BOOK_7, BOOK_ROOM, CANCEL_ROOM};
+use test_kit::roots::ROOT;
+use test_kit::{COURT_AT_18, Order, PlainReply, PlainSlot};
 
-const ONE_LEFT: Expected = Expected::Account(9_099, 1, 901);
+const ONE_LEFT: PlainReply = PlainReply::AccountShown(9_099, 1, 901);
 
 /// The sum of a member's charges and refunds follows a cancellation for half the charge.
 pub(crate) static TOTALS: [Step; 4] = [
@@ -39,10 +40,17 @@ fn key_text(index: u8) -> [u8; 2] {
     [b'0' + index / 10 % 10, b'0' + index % 10]
 }
 
+fn add_key(rt: &impl Abort, key: &[u8]) -> Command {
+    Command::AddKey {
+        name: name(rt, key),
+        member: name(rt, b"amy"),
+        root: root(rt, ROOT),
+    }
+}
+
 fn add_keys(rt: &impl Abort, counter: &mut Counter) {
     for index in 0..KEYS {
-        let order = add_key(rt, &key_text(index), b"amy", ROOT);
-        let answer = counter.desk.office(&order);
+        let answer = counter.desk.office(&add_key(rt, &key_text(index)));
         expect_eq(rt, &matches!(answer, OfficeReply::Key { .. }), &true);
     }
 }
@@ -53,7 +61,12 @@ fn expect_accounts(rt: &(impl Abort + Alloc<A = Global>), counter: &mut Counter)
         let pass = pass_of(rt, &key_text(index), ROOT);
         let text = text_of(rt, Form::V2, &pass);
         let returned = reply(rt, &mut counter.desk, NOON, text.as_bytes(), &ACCOUNT);
-        expect_at(rt, usize::from(index), &returned, &ACCOUNT_BEFORE.reply(rt));
+        expect_row(
+            rt,
+            usize::from(index),
+            &returned,
+            &ACCOUNT_BEFORE.reply().expect(rt, "a reply"),
+        );
     }
 }
 
@@ -84,27 +97,30 @@ const UNKNOWN: OfficeReply = OfficeReply::Refused(Fault::Unknown);
 
 const OUT_OF_RANGE: OfficeReply = OfficeReply::Refused(Fault::OutOfRange);
 
-const TOO_MANY_PLACES: Order = Order::AddFacility(b"court-2", Kind::Court, 51, 200, 8);
+const TOO_MANY_PLACES: Order = Order::AddFacility("court-2", Kind::Court, 51, 200, 8, 22);
 
-const NEVER_OPEN: Order = Order::AddFacility(b"court-2", Kind::Court, 4, 200, 22);
+const NEVER_OPEN: Order = Order::AddFacility("court-2", Kind::Court, 4, 200, 22, 22);
 
-const CLOSE_AT_22: Order = Order::CloseSlot(PlainSlot { hour: 22, ..COURT });
+const CLOSE_AT_22: Order = Order::CloseSlot(PlainSlot {
+    hour: 22,
+    ..COURT_AT_18
+});
 
 const CLOSE_ELSEWHERE: Order = Order::CloseSlot(PlainSlot {
-    facility: b"court-2",
-    ..COURT
+    facility: "court-2",
+    ..COURT_AT_18
 });
 
 static REFUSED: [Step; 11] = [
-    Step::IsAnswered(Order::AddMember(b"amy", 5), EXISTS),
-    Step::IsAnswered(Order::AddMember(b"amy", 100), OUT_OF_RANGE),
-    Step::IsAnswered(Order::Credit(b"amy", 0), OUT_OF_RANGE),
-    Step::IsAnswered(Order::Credit(b"cy", 1), UNKNOWN),
+    Step::IsAnswered(Order::AddMember("amy", 5), EXISTS),
+    Step::IsAnswered(Order::AddMember("amy", 100), OUT_OF_RANGE),
+    Step::IsAnswered(Order::Credit("amy", 0), OUT_OF_RANGE),
+    Step::IsAnswered(Order::Credit("cy", 1), UNKNOWN),
     Step::IsAnswered(TOO_MANY_PLACES, OUT_OF_RANGE),
     Step::IsAnswered(NEVER_OPEN, OUT_OF_RANGE),
-    Step::IsAnswered(Order::AddKey(b"cy-1", b"cy", ROOT), UNKNOWN),
-    Step::IsAnswered(Order::AddKey(b"amy-1", b"bob", ROOT), EXISTS),
-    Step::IsAnswered(Order::RevokeKey(b"cy-1"), UNKNOWN),
+    Step::IsAnswered(Order::AddKey("cy-1", "cy", ROOT), UNKNOWN),
+    Step::IsAnswered(Order::AddKey("amy-1", "bob", ROOT), EXISTS),
+    Step::IsAnswered(Order::RevokeKey("cy-1"), UNKNOWN),
     Step::IsAnswered(CLOSE_ELSEWHERE, UNKNOWN),
     Step::IsAnswered(CLOSE_AT_22, OUT_OF_RANGE),
 ];

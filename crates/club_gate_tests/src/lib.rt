@@ -27,10 +27,6 @@ mod lists;
 #[cfg(test)]
 mod looks;
 #[cfg(test)]
-mod messages;
-#[cfg(test)]
-mod office;
-#[cfg(test)]
 mod passes;
 #[cfg(test)]
 mod readings;

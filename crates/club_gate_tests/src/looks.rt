@@ -2,21 +2,24 @@
 
 use crate::counter::{Counter, Step, opened};
 use crate::expect::expect_eq;
-use crate::messages::{BOOK_7, BOOKED_7, CANCEL_7, CANCELLED_7, COURT, PlainSlot, ROOM};
-use crate::office::Order;
 use crate::passes::AMY;
-use crate::values::{NOON, SECOND_ROOT, START, at, name};
+use crate::values::{at, name};
 use club_gate::Fault;
 use pass_forms::Form;
 use std::alloc::Global;
 use std::process::Abort;
 use std::test::*;
+use test_kit::minutes::{NOON, START};
+use test_kit::replies::{BOOKED_7, CANCELLED_7};
+use test_kit::requests::{BOOK_7, CANCEL_7};
+use test_kit::roots::SECOND_ROOT;
+use test_kit::{COURT_AT_18, Order, PlainSlot, ROOM_AT_18};
 
 /// What is looked at.
 #[derive(Clone, Copy)]
 enum Look {
     /// The account of a key at a moment.
-    Account(&'static [u8], u32),
+    Account(&'static str, u32),
     Slot(PlainSlot),
 }
 
@@ -24,9 +27,10 @@ impl Look {
     fn shown(&self, rt: &impl Abort, counter: &mut Counter) -> Result<String, Fault> {
         match *self {
             Look::Account(key, moment) => {
-                counter.desk.show_account(&name(rt, key), at(rt, moment))
+                let key = name(rt, key.as_bytes());
+                counter.desk.show_account(&key, at(rt, moment))
             }
-            Look::Slot(slot) => counter.desk.show_slot(&slot.slot(rt)),
+            Look::Slot(slot) => counter.desk.show_slot(&slot.slot().expect(rt, "a slot")),
         }
     }
 }
@@ -126,15 +130,15 @@ static ROWS: [Row; 5] = [
     Row {
         step: Step::Asks(NOON, AMY, BOOK_7, BOOKED_7),
         looks: &[
-            (Look::Account(b"amy-1", NOON), AMY_BOOKED),
-            (Look::Account(b"amy-1", START), AMY_BEGUN),
-            (Look::Account(b"bob-1", NOON), BOB),
-            (Look::Slot(COURT), COURT_TAKEN),
+            (Look::Account("amy-1", NOON), AMY_BOOKED),
+            (Look::Account("amy-1", START), AMY_BEGUN),
+            (Look::Account("bob-1", NOON), BOB),
+            (Look::Slot(COURT_AT_18), COURT_TAKEN),
         ],
     },
     Row {
-        step: Step::Orders(Order::RotateKey(b"amy-1", SECOND_ROOT, START - 1)),
-        looks: &[(Look::Account(b"amy-1", NOON), AMY_ROTATED)],
+        step: Step::Orders(Order::RotateKey("amy-1", SECOND_ROOT, START - 1)),
+        looks: &[(Look::Account("amy-1", NOON), AMY_ROTATED)],
     },
     // Under the older root.
     Row {
@@ -142,14 +146,20 @@ static ROWS: [Row; 5] = [
         looks: &[],
     },
     Row {
-        step: Step::Orders(Order::RevokeKey(b"amy-1")),
-        looks: &[(Look::Account(b"amy-1", NOON), AMY_REVOKED)],
+        step: Step::Orders(Order::RevokeKey("amy-1")),
+        looks: &[(Look::Account("amy-1", NOON), AMY_REVOKED)],
     },
     Row {
-        step: Step::Orders(Order::CloseSlot(COURT)),
+        step: Step::Orders(Order::CloseSlot(COURT_AT_18)),
         looks: &[
-            (Look::Slot(COURT), COURT_CLOSED),
-            (Look::Slot(PlainSlot { hour: 23, ..ROOM }), ROOM_AT_NINE),
+            (Look::Slot(COURT_AT_18), COURT_CLOSED),
+            (
+                Look::Slot(PlainSlot {
+                    hour: 23,
+                    ..ROOM_AT_18
+                }),
+                ROOM_AT_NINE,
+            ),
         ],
     },
 ];
@@ -175,11 +185,11 @@ fn shows_accounts_and_slots(rt: HostRuntime) {
 }
 
 static UNKNOWN: [Look; 3] = [
-    Look::Account(b"amy", NOON),
-    Look::Account(b"zed-1", NOON),
+    Look::Account("amy", NOON),
+    Look::Account("zed-1", NOON),
     Look::Slot(PlainSlot {
-        facility: b"court-2",
-        ..COURT
+        facility: "court-2",
+        ..COURT_AT_18
     }),
 ];
 

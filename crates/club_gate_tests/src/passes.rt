@@ -1,11 +1,12 @@
 //! Passes, in plain values.
 
-use crate::values::{ROOT, name, root};
+use crate::values::{name, root};
 use club_gate::{LOCATION, key_signature, minted};
 use pass_forms::{Form, Pass, narrow};
 use pass_json::write_any;
 use std::alloc::Global;
 use std::process::Abort;
+use test_kit::roots::ROOT;
 
 pub(crate) static FORMS: [Form; 3] = [Form::V1, Form::V2, Form::Json];
 
@@ -13,7 +14,7 @@ pub(crate) static FORMS: [Form; 3] = [Form::V1, Form::V2, Form::Json];
 #[derive(Clone, Copy)]
 pub(crate) enum Shown {
     /// The office's pass of a key under a root, with caveats that were added without the root.
-    Of(&'static [u8], &'static [u8], &'static [&'static str]),
+    Of(&'static str, &'static [u8], &'static [&'static str]),
     /// Amy's with its last byte changed.
     Changed,
     /// Its identifier is the name of amy's key alone.
@@ -33,11 +34,11 @@ pub(crate) fn pass_of(
 
 fn narrowed(
     rt: &(impl Abort + Alloc<A = Global>),
-    key: &[u8],
+    key: &str,
     root_bytes: &[u8],
     caveats: &[&str],
 ) -> Pass {
-    let mut pass = pass_of(rt, key, root_bytes);
+    let mut pass = pass_of(rt, key.as_bytes(), root_bytes);
     for caveat in caveats {
         narrow(rt.alloc(), &mut pass, caveat.as_bytes()).expect(rt, "a narrower pass");
     }
@@ -78,8 +79,8 @@ impl Shown {
     }
 }
 
-pub(crate) const AMY: Shown = Shown::Of(b"amy-1", ROOT, &[]);
+pub(crate) const AMY: Shown = Shown::Of("amy-1", ROOT, &[]);
 
-pub(crate) const BOB: Shown = Shown::Of(b"bob-1", ROOT, &[]);
+pub(crate) const BOB: Shown = Shown::Of("bob-1", ROOT, &[]);
 
-pub(crate) const CY: Shown = Shown::Of(b"cy-1", ROOT, &[]);
+pub(crate) const CY: Shown = Shown::Of("cy-1", ROOT, &[]);

@@ -1,14 +1,8 @@
 //! The desk reads of its store what an answer needs, and no more.
 
 use crate::counter::{carry_out, opened, reply};
-use crate::expect::{expect_at, expect_eq};
-use crate::messages::{
-    ACCOUNT, ACCOUNT_BEFORE, Asked, BOOK_7, BOOKED_7, CANCEL_7, CANCELLED_7, COURT, DENIED_1,
-    Expected, NOT_VERIFIED, PlainSlot,
-};
-use crate::office::Order;
+use crate::expect::{expect_eq, expect_row};
 use crate::passes::{AMY, BOB, FORMS, Shown};
-use crate::values::{FRIDAY, NOON, ROOT, SECOND_ROOT};
 use club_core::{Change, ClubStore, MemberAccount, Refusal, SlotUse, StoreFault};
 use club_gate::Desk;
 use club_rows::{Booking, BookingNumber, Facility, Key, Member};
@@ -19,6 +13,11 @@ use sqlite::MemStore;
 use std::alloc::Global;
 use std::process::Abort;
 use std::test::*;
+use test_kit::minutes::NOON;
+use test_kit::replies::{ACCOUNT_BEFORE, BOOKED_7, CANCELLED_7, DENIED_1, NOT_VERIFIED};
+use test_kit::requests::{ACCOUNT, BOOK_7, CANCEL_7};
+use test_kit::roots::{ROOT, SECOND_ROOT};
+use test_kit::{COURT_AT_18, FRIDAY, Order, PlainReply, PlainRequest, PlainSlot};
 
 /// How often each thing was asked of a store: a key's row, a record under a number, a facility, the
 /// state of a slot, a member's account, its open bookings, what a key has spent; and how often
@@ -170,11 +169,11 @@ impl ClubStore for Counting {
 /// The fixture, in which bob's key is revoked, after number 7 was booked or before.
 fn counted_fixture(rt: &(impl Abort + Alloc<A = Global>), is_booked: bool) -> Counting {
     let mut desk = opened(rt, Form::V2).desk;
-    carry_out(rt, &mut desk, &Order::RevokeKey(b"bob-1"));
+    carry_out(rt, &mut desk, &Order::RevokeKey("bob-1"));
     if is_booked {
         let text = AMY.text(rt, Form::V2);
         let returned = reply(rt, &mut desk, NOON, text.as_bytes(), &BOOK_7);
-        expect_eq(rt, &returned, &BOOKED_7.reply(rt));
+        expect_eq(rt, &returned, &BOOKED_7.reply().expect(rt, "a reply"));
     }
     Counting {
         store: desk.into_store(),
@@ -183,20 +182,20 @@ fn counted_fixture(rt: &(impl Abort + Alloc<A = Global>), is_booked: bool) -> Co
 }
 
 /// A pass, a request under it, the reply, and the calls of the store.
-type Row = (Shown, Asked, Expected, Calls);
+type Row = (Shown, PlainRequest, PlainReply, Calls);
 
-const BOOKS_AT_18: Shown = Shown::Of(b"amy-1", ROOT, &["hours = 18-19"]);
+const BOOKS_AT_18: Shown = Shown::Of("amy-1", ROOT, &["hours = 18-19"]);
 
 /// A pass that allows no booking, whatever its key has spent.
-const VIEWS: Shown = Shown::Of(b"amy-1", ROOT, &["actions = view"]);
+const VIEWS: Shown = Shown::Of("amy-1", ROOT, &["actions = view"]);
 
-const VIEWS_THEN_SPENDS: Shown = Shown::Of(b"amy-1", ROOT, &["actions = view", "spend <= 700"]);
+const VIEWS_THEN_SPENDS: Shown = Shown::Of("amy-1", ROOT, &["actions = view", "spend <= 700"]);
 
-const SPENDS_700: Shown = Shown::Of(b"amy-1", ROOT, &["spend <= 700"]);
+const SPENDS_700: Shown = Shown::Of("amy-1", ROOT, &["spend <= 700"]);
 
 /// A facility that the club lacks.
 const NOWHERE: PlainSlot = PlainSlot {
-    facility: b"court-9",
+    facility: "court-9",
     day: FRIDAY,
     hour: 18,
 };
@@ -205,20 +204,25 @@ const NOWHERE: PlainSlot = PlainSlot {
 static REFUSED: [Row; 5] = [
     // The identifier is no key's.
     (Shown::Unnamed, BOOK_7, NOT_VERIFIED, NONE),
-    (Shown::Of(b"nobody", ROOT, &[]), BOOK_7, NOT_VERIFIED, KEY),
+    (Shown::Of("nobody", ROOT, &[]), BOOK_7, NOT_VERIFIED, KEY),
     (Shown::Changed, BOOK_7, NOT_VERIFIED, KEY),
     (
-        Shown::Of(b"amy-1", SECOND_ROOT, &["hours = 18-20"]),
+        Shown::Of("amy-1", SECOND_ROOT, &["hours = 18-20"]),
         BOOK_7,
         NOT_VERIFIED,
         KEY,
     ),
-    (BOB, BOOK_7, Expected::Refused(Refusal::KeyRevoked), KEY),
+    (BOB, BOOK_7, PlainReply::Refused(Refusal::KeyRevoked), KEY),
 ];
 
 // Number 7 isn't booked.
 static FIRST: [Row; 10] = [
-    (AMY, Asked::View(COURT), Expected::Shown(0, false), SLOT),
+    (
+        AMY,
+        PlainRequest::View(COURT_AT_18),
+        PlainReply::SlotShown(0, false),
+        SLOT,
+    ),
     (AMY, ACCOUNT, ACCOUNT_BEFORE, SUMS),
     (AMY, BOOK_7, BOOKED_7, BOOKING),
     (BOOKS_AT_18, BOOK_7, BOOKED_7, BOOKING),
@@ -230,13 +234,13 @@ static FIRST: [Row; 10] = [
     (
         AMY,
         CANCEL_7,
-        Expected::Refused(Refusal::NoSuchBooking),
+        PlainReply::Refused(Refusal::NoSuchBooking),
         RECORD,
     ),
     (
         AMY,
-        Asked::Book(NOWHERE, 7, 2),
-        Expected::Refused(Refusal::NoSuchFacility),
+        PlainRequest::Book(NOWHERE, 7, 2),
+        PlainReply::Refused(Refusal::NoSuchFacility),
         RECORD,
     ),
 ];
@@ -248,11 +252,11 @@ static AGAIN: [Row; 6] = [
     (SPENDS_700, BOOK_7, BOOKED_7, RECORD),
     (AMY, CANCEL_7, CANCELLED_7, CANCELLATION),
     (SPENDS_700, CANCEL_7, CANCELLED_7, CANCELLATION),
-    (AMY, ACCOUNT, Expected::Account(9_400, 1, 600), SUMS),
+    (AMY, ACCOUNT, PlainReply::AccountShown(9_400, 1, 600), SUMS),
     // Number 8 would come to 800 points.
     (
         SPENDS_700,
-        Asked::Book(COURT, 8, 0),
+        PlainRequest::Book(COURT_AT_18, 8, 0),
         DENIED_1,
         OVER_THE_LIMIT,
     ),
@@ -269,8 +273,13 @@ fn reads(
     let mut desk = Desk::new(rt.alloc(), counted_fixture(rt, is_booked));
     let text = shown.text(rt, form);
     let answered = reply(rt, &mut desk, NOON, text.as_bytes(), asked);
-    expect_at(rt, place, &answered, &expected.reply(rt));
-    expect_at(rt, place, &desk.into_store().calls, calls);
+    expect_row(
+        rt,
+        place,
+        &answered,
+        &expected.reply().expect(rt, "a reply"),
+    );
+    expect_row(rt, place, &desk.into_store().calls, calls);
 }
 
 fn reads_each(rt: &(impl Abort + Alloc<A = Global>), is_booked: bool, rows: &[Row]) {

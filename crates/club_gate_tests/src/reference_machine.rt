@@ -1,40 +1,21 @@
 //! The reference machine's replies to events.
 
 use crate::drawn::{Asking, Event};
-use crate::office::Order;
-use crate::values::{at, name, push, root};
-use club_core::{OfficeAnswer, Pass, Reply, SlotUse, Words};
+use crate::values::{at, name, push};
+use club_core::{OfficeAnswer, Reply, SlotUse, Words};
 use club_gate::{EventReply, Fault, OfficeReply, key_signature};
 use club_reference::Club;
-use club_rows::Root;
 use std::alloc::Global;
 use std::process::Abort;
-
-fn caveats_of(rt: &(impl Abort + Alloc<A = Global>), texts: &[&str]) -> Vec<Vec<u8>> {
-    let mut caveats = Vec::new(rt.alloc());
-    for text in texts {
-        let caveat = text.as_bytes().to_vec(rt.alloc()).expect(rt, "memory");
-        push(rt, &mut caveats, caveat);
-    }
-    caveats
-}
-
-fn roots_of(rt: &(impl Abort + Alloc<A = Global>), bytes: &[u8]) -> Vec<Root> {
-    let mut roots = Vec::new(rt.alloc());
-    push(rt, &mut roots, root(rt, bytes));
-    roots
-}
+use test_kit::{Order, signed_pass};
 
 /// The words of a request for the reference machine: the pass is signed under the one root.
 fn words_of(rt: &(impl Abort + Alloc<A = Global>), asking: &Asking) -> Words {
-    let pass = Pass {
-        key: Some(name(rt, asking.key)),
-        caveats: caveats_of(rt, asking.caveats),
-        roots: roots_of(rt, asking.root),
-    };
+    let key = name(rt, asking.key.as_bytes());
+    let pass = signed_pass(rt.alloc(), Some(key), asking.root, asking.caveats);
     Words {
-        pass: Ok(pass),
-        request: asking.asked.request(rt),
+        pass: Ok(pass.expect(rt, "a pass")),
+        request: asking.asked.request().expect(rt, "a request"),
     }
 }
 
@@ -74,7 +55,9 @@ pub(crate) fn shown(answer: &OfficeAnswer) -> OfficeReply {
 }
 
 fn reference_answer(rt: &impl Abort, reference: &mut Club, order: &Order) -> OfficeReply {
-    let answer = reference.office(&order.command(rt)).expect(rt, "memory");
+    let answer = reference
+        .office(&order.command().expect(rt, "an order"))
+        .expect(rt, "memory");
     shown(&answer)
 }
 

@@ -1,11 +1,10 @@
 //! The desk's replies if its store fails, or isn't called.
 
 use crate::counter::{opened, reply};
-use crate::expect::{expect_at, expect_eq};
-use crate::messages::{ACCOUNT, BOOK_7, COURT};
+use crate::expect::{expect_eq, expect_row};
 use crate::passes::AMY;
 use crate::refusing::Refusing;
-use crate::values::{NOON, ROOT, add_key, name, root};
+use crate::values::{name, root};
 use club_core::{ClubStore, Refusal, Reply, StoreFault};
 use club_gate::{Desk, Fault, OfficeReply, key_signature};
 use club_values::Day;
@@ -13,6 +12,10 @@ use pass_forms::{Form, MAX_TEXT};
 use std::alloc::Global;
 use std::process::Abort;
 use std::test::*;
+use test_kit::minutes::NOON;
+use test_kit::requests::{ACCOUNT, BOOK_7};
+use test_kit::roots::ROOT;
+use test_kit::{COURT_AT_18, Order};
 
 // The signature of the longest name under a root of 64 bytes 7, by an independent program.
 const LONGEST: [u8; 32] = *b"\
@@ -41,9 +44,11 @@ fn expect_unavailable(rt: &(impl Abort + Alloc<A = Global>), desk: &mut Desk<Ref
     expect_eq(rt, &returned, &Reply::Refused(Refusal::Unavailable));
 }
 
+const ADD_KEY: Order = Order::AddKey("amy-2", "amy", ROOT);
+
 /// A new key and the day sheet fail.
 fn expect_failures(rt: &impl Abort, desk: &mut Desk<Refusing>, expected: Fault) {
-    let answer = desk.office(&add_key(rt, b"amy-2", b"amy", ROOT));
+    let answer = desk.office(&ADD_KEY.command().expect(rt, "an order"));
     expect_eq(rt, &answer, &OfficeReply::Refused(expected));
     let day = Day::read(b"2026-05-01").expect(rt, "a day");
     expect_eq(rt, &desk.sheet(day).is_err(), &true);
@@ -51,7 +56,9 @@ fn expect_failures(rt: &impl Abort, desk: &mut Desk<Refusing>, expected: Fault) 
 
 /// `court-1` has no persons at 18, and there is no key `amy-2`.
 fn expect_untouched<S: ClubStore>(rt: &impl Abort, store: &mut S) {
-    let held = store.slot(&COURT.slot(rt)).expect(rt, "a slot");
+    let held = store
+        .slot(&COURT_AT_18.slot().expect(rt, "a slot"))
+        .expect(rt, "a slot");
     expect_eq(rt, &held.taken, &0);
     let key = store.key(&name(rt, b"amy-2")).expect(rt, "no fault");
     expect_eq(rt, &key.is_none(), &true);
@@ -120,7 +127,7 @@ static FAULTS: [(Fault, &str); 6] = [
 
 fn prints(rt: &(impl Abort + Alloc<A = Global>), row: usize, fault: Fault, want: &str) {
     let printed = format!(in rt.alloc(); "{fault}").expect(rt, "memory");
-    expect_at(rt, row, &printed.as_str(), &want);
+    expect_row(rt, row, &printed.as_str(), &want);
 }
 
 #[test]

@@ -5,12 +5,8 @@
 use crate::counter::{MemoryDesk, reply};
 use crate::expect::expect_eq;
 use crate::known;
-use crate::known::SIGNED;
-use crate::messages::{
-    ACCOUNT, ACCOUNT_AFTER, ACCOUNT_BEFORE, Asked, BOOK_7, BOOKED_7, COURT, Expected, PlainSlot,
-};
-use crate::office::Order;
-use crate::values::{NOON, SECOND_ROOT, START, at};
+use crate::known::{SIGNED, SIGNED_ANEW};
+use crate::values::at;
 use club_core::{Refusal, Reply, StoreFault};
 use club_gate::{Desk, Event, EventReply, Fault, OfficeReply, Words};
 use club_store::Store;
@@ -19,6 +15,11 @@ use sqlite::MemStore;
 use std::alloc::Global;
 use std::process::Abort;
 use std::test::*;
+use test_kit::minutes::{NOON, START};
+use test_kit::replies::{ACCOUNT_AFTER, ACCOUNT_BEFORE, BOOKED_7};
+use test_kit::requests::{ACCOUNT, BOOK_7};
+use test_kit::roots::{ROOT, SECOND_ROOT};
+use test_kit::{COURT_AT_18, Order, PlainReply, PlainRequest, PlainSlot};
 
 fn new_store(rt: &(impl Abort + Alloc<A = Global>)) -> Store<MemStore> {
     match Store::open_in_memory(rt.alloc()) {
@@ -30,7 +31,7 @@ fn new_store(rt: &(impl Abort + Alloc<A = Global>)) -> Store<MemStore> {
 const UNAVAILABLE: Reply = Reply::Refused(Refusal::Unavailable);
 
 /// The reply at noon; by a second call if the first is out of memory.
-fn replied(rt: &impl Abort, desk: &mut MemoryDesk, pass: &str, asked: &Asked) -> Reply {
+fn replied(rt: &impl Abort, desk: &mut MemoryDesk, pass: &str, asked: &PlainRequest) -> Reply {
     let first = reply(rt, desk, NOON, pass.as_bytes(), asked);
     if first != UNAVAILABLE {
         return first;
@@ -39,14 +40,17 @@ fn replied(rt: &impl Abort, desk: &mut MemoryDesk, pass: &str, asked: &Asked) ->
 }
 
 /// `court-1` on 2026-05-01 at 19.
-const AT_19: PlainSlot = PlainSlot { hour: 19, ..COURT };
+const AT_19: PlainSlot = PlainSlot {
+    hour: 19,
+    ..COURT_AT_18
+};
 
 /// What amy's key sees of the club: her account, and two slots.
 fn seen(rt: &impl Abort, desk: &mut MemoryDesk) -> [Reply; 3] {
     [
         replied(rt, desk, known::V2, &ACCOUNT),
-        replied(rt, desk, known::V2, &Asked::View(COURT)),
-        replied(rt, desk, known::V2, &Asked::View(AT_19)),
+        replied(rt, desk, known::V2, &PlainRequest::View(COURT_AT_18)),
+        replied(rt, desk, known::V2, &PlainRequest::View(AT_19)),
     ]
 }
 
@@ -54,13 +58,17 @@ fn seen(rt: &impl Abort, desk: &mut MemoryDesk) -> [Reply; 3] {
 /// must be unchanged, and a second call must get it.
 fn is_answered(rt: &impl Abort, desk: &mut MemoryDesk, order: &Order, answer: &OfficeReply) {
     let before = seen(rt, desk);
-    let first = desk.office(&order.command(rt));
+    let first = desk.office(&order.command().expect(rt, "an order"));
     if first != OfficeReply::Refused(Fault::Memory) {
         expect_eq(rt, &first, answer);
         return;
     }
     expect_eq(rt, &seen(rt, desk), &before);
-    expect_eq(rt, &desk.office(&order.command(rt)), answer);
+    expect_eq(
+        rt,
+        &desk.office(&order.command().expect(rt, "an order")),
+        answer,
+    );
 }
 
 fn are_answered(rt: &impl Abort, desk: &mut MemoryDesk, orders: &[(Order, OfficeReply)]) {
@@ -73,10 +81,13 @@ const DONE: OfficeReply = OfficeReply::Done;
 
 /// Amy with quota 5, 10,000 points and her key; and the court.
 static FIXTURE: [(Order, OfficeReply); 4] = [
-    (Order::AddMember(b"amy", 5), DONE),
-    (Order::Credit(b"amy", 10_000), DONE),
-    (Order::AddKey(b"amy-1", b"amy", known::ROOT), SIGNED),
-    (Order::AddFacility(b"court-1", Kind::Court, 4, 200, 8), DONE),
+    (Order::AddMember("amy", 5), DONE),
+    (Order::Credit("amy", 10_000), DONE),
+    (Order::AddKey("amy-1", "amy", ROOT), SIGNED),
+    (
+        Order::AddFacility("court-1", Kind::Court, 4, 200, 8, 22),
+        DONE,
+    ),
 ];
 
 /// The desk of the fixture.
@@ -86,23 +97,17 @@ fn desk(rt: &(impl Abort + Alloc<A = Global>)) -> MemoryDesk {
     desk
 }
 
-// The signature of `amy-1` under its second root, by an independent program.
-const SIGNED_ANEW: OfficeReply = OfficeReply::Key {
-    signature: *b"\xa6\x1f\x5d\x76\xf6\x9e\x75\x1b\xb3\x58\x6b\x12\xf7\x90\x1e\xeb\
-        \x6c\xb4\xe2\x0a\xb2\x44\x30\xf5\xce\xb9\xc0\x48\x88\x17\x46\xc6",
-};
-
 /// The older root is good for long, so amy's pass still shows what the key sees.
 static ORDERS: [(Order, OfficeReply); 3] = [
     (Order::CloseSlot(AT_19), DONE),
-    (Order::RotateKey(b"amy-1", SECOND_ROOT, START), SIGNED_ANEW),
-    (Order::RevokeKey(b"amy-1"), DONE),
+    (Order::RotateKey("amy-1", SECOND_ROOT, START), SIGNED_ANEW),
+    (Order::RevokeKey("amy-1"), DONE),
 ];
 
 /// The orders were carried out.
 static REVOKED: [(Order, OfficeReply); 2] = [
     (
-        Order::AddMember(b"amy", 5),
+        Order::AddMember("amy", 5),
         OfficeReply::Refused(Fault::Exists),
     ),
     (Order::CloseSlot(AT_19), OfficeReply::Refused(Fault::Exists)),
@@ -112,7 +117,11 @@ static REVOKED: [(Order, OfficeReply); 2] = [
 fn orders(rt: HostRuntime) {
     let mut desk = desk(&rt);
     let account = replied(&rt, &mut desk, known::V2, &ACCOUNT);
-    expect_eq(&rt, &account, &ACCOUNT_BEFORE.reply(&rt));
+    expect_eq(
+        &rt,
+        &account,
+        &ACCOUNT_BEFORE.reply().expect(&rt, "a reply"),
+    );
     are_answered(&rt, &mut desk, &ORDERS);
     are_answered(&rt, &mut desk, &REVOKED);
     let account = replied(&rt, &mut desk, known::V2, &ACCOUNT);
@@ -123,10 +132,14 @@ fn expect_replied(
     rt: &impl Abort,
     desk: &mut MemoryDesk,
     pass: &str,
-    asked: &Asked,
-    want: &Expected,
+    asked: &PlainRequest,
+    want: &PlainReply,
 ) {
-    expect_eq(rt, &replied(rt, desk, pass, asked), &want.reply(rt));
+    expect_eq(
+        rt,
+        &replied(rt, desk, pass, asked),
+        &want.reply().expect(rt, "a reply"),
+    );
 }
 
 /// The booking is on record: its reply, and that of the account.
@@ -144,11 +157,11 @@ fn is_booked_or_unavailable(rt: &impl Abort, desk: &mut MemoryDesk, pass: &str, 
             rt,
             desk,
             pass,
-            &Asked::View(COURT),
-            &Expected::Shown(0, false),
+            &PlainRequest::View(COURT_AT_18),
+            &PlainReply::SlotShown(0, false),
         );
     } else {
-        expect_eq(rt, first, &BOOKED_7.reply(rt));
+        expect_eq(rt, first, &BOOKED_7.reply().expect(rt, "a reply"));
     }
     is_booked(rt, desk, pass);
 }
@@ -186,7 +199,7 @@ fn only(replies: &[EventReply]) -> Option<Reply> {
 fn reply_of_a_run(rt: &impl Abort, desk: &mut MemoryDesk, pass: &str) -> Reply {
     let words = Words {
         pass: pass.as_bytes(),
-        request: BOOK_7.request(rt),
+        request: BOOK_7.request().expect(rt, "a request"),
     };
     let moment = at(rt, NOON);
     match desk.run(&[Event::Asked { words, moment }]) {

@@ -2,26 +2,24 @@
 
 use crate::counter::{Step, plays_in_all_forms};
 use crate::expect::expect_eq;
-use crate::messages::{ACCOUNT, ACCOUNT_AFTER, ACCOUNT_BEFORE, BOOK_7, BOOKED_7, NOT_VERIFIED};
-use crate::office::Order;
+use crate::known::SIGNED_ANEW;
 use crate::passes::{AMY, Shown};
-use crate::values::{NOON, ROOT, SECOND_ROOT, THIRD_ROOT, at};
+use crate::values::at;
 use club_gate::{Fault, OfficeReply};
 use club_values::Moment;
 use std::process::Abort;
 use std::test::*;
-
-const LONG_AGO: u32 = 15_778_080;
-
-const SATURDAY: u32 = 29_617_920;
-
-const FAR_AHEAD: u32 = 68_374_079;
+use test_kit::Order;
+use test_kit::minutes::{FIRST, LAST, NOON, UNTIL};
+use test_kit::replies::{ACCOUNT_AFTER, ACCOUNT_BEFORE, BOOKED_7, NOT_VERIFIED};
+use test_kit::requests::{ACCOUNT, BOOK_7};
+use test_kit::roots::{ROOT, SECOND_ROOT, THIRD_ROOT};
 
 static MOMENTS: [(&[u8], u32); 4] = [
-    (b"2000-01-01T00:00", LONG_AGO),
+    (b"2000-01-01T00:00", FIRST),
     (b"2026-04-20T12:00", NOON),
-    (b"2026-04-25T00:00", SATURDAY),
-    (b"2099-12-31T23:59", FAR_AHEAD),
+    (b"2026-04-25T00:00", UNTIL),
+    (b"2099-12-31T23:59", LAST),
 ];
 
 fn is_moment(rt: &impl Abort, text: &[u8], number: u32) {
@@ -36,28 +34,19 @@ fn moments_are_those_of_their_texts(rt: HostRuntime) {
     }
 }
 
-const RENEWED: Shown = Shown::Of(b"amy-1", SECOND_ROOT, &[]);
+const RENEWED: Shown = Shown::Of("amy-1", SECOND_ROOT, &[]);
 
-const RENEWED_AGAIN: Shown = Shown::Of(b"amy-1", THIRD_ROOT, &[]);
-
-// The signature of `amy-1` under its second root, by an independent program.
-const SIGNED_ANEW: OfficeReply = OfficeReply::Key {
-    signature: *b"\xa6\x1f\x5d\x76\xf6\x9e\x75\x1b\xb3\x58\x6b\x12\xf7\x90\x1e\xeb\
-        \x6c\xb4\xe2\x0a\xb2\x44\x30\xf5\xce\xb9\xc0\x48\x88\x17\x46\xc6",
-};
+const RENEWED_AGAIN: Shown = Shown::Of("amy-1", THIRD_ROOT, &[]);
 
 /// Passes under the older root are good until the moment, and not at it. A booking is repeated
 /// under the new root.
 pub(crate) static FOR_A_WHILE: [Step; 6] = [
     Step::Asks(NOON, AMY, BOOK_7, BOOKED_7),
-    Step::IsAnswered(
-        Order::RotateKey(b"amy-1", SECOND_ROOT, SATURDAY),
-        SIGNED_ANEW,
-    ),
-    Step::Asks(SATURDAY - 1, AMY, ACCOUNT, ACCOUNT_AFTER),
-    Step::Asks(SATURDAY, AMY, ACCOUNT, NOT_VERIFIED),
+    Step::IsAnswered(Order::RotateKey("amy-1", SECOND_ROOT, UNTIL), SIGNED_ANEW),
+    Step::Asks(UNTIL - 1, AMY, ACCOUNT, ACCOUNT_AFTER),
+    Step::Asks(UNTIL, AMY, ACCOUNT, NOT_VERIFIED),
     Step::Asks(NOON, RENEWED, BOOK_7, BOOKED_7),
-    Step::Asks(SATURDAY, RENEWED, ACCOUNT, ACCOUNT_AFTER),
+    Step::Asks(UNTIL, RENEWED, ACCOUNT, ACCOUNT_AFTER),
 ];
 
 #[test]
@@ -68,7 +57,7 @@ fn serves_both_roots_for_a_while(rt: HostRuntime) {
 /// An older root is refused after its moment, even if its derived key is in the cache.
 pub(crate) static PAST: [Step; 3] = [
     Step::Asks(NOON, AMY, ACCOUNT, ACCOUNT_BEFORE),
-    Step::Orders(Order::RotateKey(b"amy-1", SECOND_ROOT, LONG_AGO)),
+    Step::Orders(Order::RotateKey("amy-1", SECOND_ROOT, FIRST)),
     Step::Asks(NOON, AMY, ACCOUNT, NOT_VERIFIED),
 ];
 
@@ -80,14 +69,14 @@ fn forgets_a_root_that_is_past(rt: HostRuntime) {
 /// A rotation to the key's current root is refused. A second rotation drops the first root.
 pub(crate) static TWICE: [Step; 6] = [
     Step::IsAnswered(
-        Order::RotateKey(b"amy-1", ROOT, FAR_AHEAD),
+        Order::RotateKey("amy-1", ROOT, LAST),
         OfficeReply::Refused(Fault::Exists),
     ),
-    Step::Orders(Order::RotateKey(b"amy-1", SECOND_ROOT, FAR_AHEAD)),
-    Step::Orders(Order::RotateKey(b"amy-1", THIRD_ROOT, FAR_AHEAD)),
+    Step::Orders(Order::RotateKey("amy-1", SECOND_ROOT, LAST)),
+    Step::Orders(Order::RotateKey("amy-1", THIRD_ROOT, LAST)),
     Step::Asks(NOON, AMY, ACCOUNT, NOT_VERIFIED),
-    Step::Asks(SATURDAY, RENEWED, ACCOUNT, ACCOUNT_BEFORE),
-    Step::Asks(SATURDAY, RENEWED_AGAIN, ACCOUNT, ACCOUNT_BEFORE),
+    Step::Asks(UNTIL, RENEWED, ACCOUNT, ACCOUNT_BEFORE),
+    Step::Asks(UNTIL, RENEWED_AGAIN, ACCOUNT, ACCOUNT_BEFORE),
 ];
 
 #[test]

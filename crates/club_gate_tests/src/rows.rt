@@ -2,14 +2,7 @@
 
 use crate::counter::{Counter, Step, opened, plays_in_all_forms};
 use crate::expect::expect_eq;
-use crate::messages::{
-    ACCOUNT, ACCOUNT_AFTER, ACCOUNT_BEFORE, Asked, BOOK_7, BOOK_ROOM, BOOKED_7, CANCEL_7,
-    CANCEL_ROOM, CANCELLED_7, COURT, Expected, HALF_BACK, NOT_VERIFIED, PlainSlot, ROOM,
-    ROOM_BOOKED,
-};
-use crate::office::Order;
 use crate::passes::{AMY, BOB, CY, FORMS, Shown};
-use crate::values::{FRIDAY, NOON, ROOT, START};
 use club_core::Refusal;
 use club_gate::{Fault, OfficeReply};
 use club_values::Day;
@@ -17,12 +10,19 @@ use pass_forms::Form;
 use std::alloc::Global;
 use std::process::Abort;
 use std::test::*;
+use test_kit::minutes::{NOON, START};
+use test_kit::replies::{
+    ACCOUNT_AFTER, ACCOUNT_BEFORE, BOOKED_7, CANCELLED_7, HALF_BACK, NOT_VERIFIED, ROOM_BOOKED,
+};
+use test_kit::requests::{ACCOUNT, BOOK_7, BOOK_ROOM, CANCEL_7, CANCEL_ROOM};
+use test_kit::roots::ROOT;
+use test_kit::{COURT_AT_18, FRIDAY, Order, PlainReply, PlainRequest, PlainSlot, ROOM_AT_18};
 
-const VIEW: Asked = Asked::View(COURT);
+const VIEW: PlainRequest = PlainRequest::View(COURT_AT_18);
 
-const BOOK_7_FOR_TWO: Asked = Asked::Book(COURT, 7, 1);
+const BOOK_7_FOR_TWO: PlainRequest = PlainRequest::Book(COURT_AT_18, 7, 1);
 
-const NUMBER_USED: Expected = Expected::Refused(Refusal::NumberUsed);
+const NUMBER_USED: PlainReply = PlainReply::Refused(Refusal::NumberUsed);
 
 /// A repeat gets the same reply, also when the slot has begun and after the cancellation.
 pub(crate) static REPEATS: [Step; 8] = [
@@ -33,7 +33,7 @@ pub(crate) static REPEATS: [Step; 8] = [
     Step::Asks(NOON, AMY, CANCEL_7, CANCELLED_7),
     Step::Asks(START + 30, AMY, BOOK_7, BOOKED_7),
     Step::Asks(NOON, AMY, ACCOUNT, ACCOUNT_BEFORE),
-    Step::Asks(NOON, BOB, VIEW, Expected::Shown(0, false)),
+    Step::Asks(NOON, BOB, VIEW, PlainReply::SlotShown(0, false)),
 ];
 
 #[test]
@@ -41,13 +41,13 @@ fn repeats_a_booking(rt: HostRuntime) {
     plays_in_all_forms(&rt, &REPEATS);
 }
 
-const CANCEL_OTHER: Asked = Asked::Cancel(ROOM, 9);
+const CANCEL_OTHER: PlainRequest = PlainRequest::Cancel(ROOM_AT_18, 9);
 
-const NO_SUCH_BOOKING: Expected = Expected::Refused(Refusal::NoSuchBooking);
+const NO_SUCH_BOOKING: PlainReply = PlainReply::Refused(Refusal::NoSuchBooking);
 
-const ALL_BACK: Expected = Expected::Cancelled(b"amy-1", 8, 601);
+const ALL_BACK: PlainReply = PlainReply::Cancelled("amy-1", 8, 601);
 
-const SLOT_HAS_BEGUN: Expected = Expected::Refused(Refusal::SlotHasBegun);
+const SLOT_HAS_BEGUN: PlainReply = PlainReply::Refused(Refusal::SlotHasBegun);
 
 /// The whole charge a day before the start, half of it a minute later, nothing from the start on.
 pub(crate) static REFUNDS: [[Step; 3]; 3] = [
@@ -75,15 +75,15 @@ fn refunds(rt: HostRuntime) {
     }
 }
 
-const STRANGER: Shown = Shown::Of(b"zed-1", ROOT, &[]);
+const STRANGER: Shown = Shown::Of("zed-1", ROOT, &[]);
 
-const KEY_REVOKED: Expected = Expected::Refused(Refusal::KeyRevoked);
+const KEY_REVOKED: PlainReply = PlainReply::Refused(Refusal::KeyRevoked);
 
 pub(crate) static VERIFIES: [Step; 6] = [
     Step::Asks(NOON, STRANGER, ACCOUNT, NOT_VERIFIED),
     Step::Asks(NOON, Shown::Changed, ACCOUNT, NOT_VERIFIED),
     Step::Asks(NOON, Shown::Unnamed, ACCOUNT, NOT_VERIFIED),
-    Step::Orders(Order::RevokeKey(b"amy-1")),
+    Step::Orders(Order::RevokeKey("amy-1")),
     Step::Asks(NOON, AMY, ACCOUNT, KEY_REVOKED),
     Step::Asks(NOON, Shown::Changed, ACCOUNT, NOT_VERIFIED),
 ];
@@ -93,11 +93,11 @@ fn verifies(rt: HostRuntime) {
     plays_in_all_forms(&rt, &VERIFIES);
 }
 
-const BOOK_2: Asked = Asked::Book(COURT, 2, 0);
+const BOOK_2: PlainRequest = PlainRequest::Book(COURT_AT_18, 2, 0);
 
-const BOOKED_2: Expected = Expected::Booked(b"bob-1", 2, 200, 3);
+const BOOKED_2: PlainReply = PlainReply::Booked("bob-1", 2, 200, 3);
 
-const FILLED_BY_7: Expected = Expected::Booked(b"amy-1", 7, 600, 0);
+const FILLED_BY_7: PlainReply = PlainReply::Booked("amy-1", 7, 600, 0);
 
 /// Amy's replies, whatever others do in other slots.
 pub(crate) static ALONE: [Step; 3] = [
@@ -115,15 +115,15 @@ pub(crate) static BESIDE_BOB: [Step; 4] = [
 ];
 
 static BEFORE_CY: [Step; 4] = [
-    Step::Orders(Order::AddMember(b"cy", 20)),
-    Step::Orders(Order::Credit(b"cy", 20_000)),
-    Step::Orders(Order::AddKey(b"cy-1", b"cy", ROOT)),
-    Step::Orders(Order::AddKey(b"bob-2", b"bob", ROOT)),
+    Step::Orders(Order::AddMember("cy", 20)),
+    Step::Orders(Order::Credit("cy", 20_000)),
+    Step::Orders(Order::AddKey("cy-1", "cy", ROOT)),
+    Step::Orders(Order::AddKey("bob-2", "bob", ROOT)),
 ];
 
 static BEHIND_CY: [Step; 2] = [
-    Step::Orders(Order::Credit(b"bob", 500)),
-    Step::Orders(Order::RevokeKey(b"bob-1")),
+    Step::Orders(Order::Credit("bob", 500)),
+    Step::Orders(Order::RevokeKey("bob-1")),
 ];
 
 /// Cy books `court-1` on a day at an hour, with a guest or none, under a number.
@@ -134,15 +134,15 @@ fn cy_books(
     number: u32,
     has_guest: bool,
 ) {
-    let facility = b"court-1";
+    let facility = "court-1";
     let slot = PlainSlot {
         facility,
         day,
         hour,
     };
     let (guests, charge, left) = if has_guest { (1, 400, 2) } else { (0, 200, 3) };
-    let booking = Asked::Book(slot, number, guests);
-    let expected = Expected::Booked(b"cy-1", number, charge, left);
+    let booking = PlainRequest::Book(slot, number, guests);
+    let expected = PlainReply::Booked("cy-1", number, charge, left);
     counter.plays(rt, &[Step::Asks(NOON, CY, booking, expected)]);
 }
 
@@ -168,11 +168,25 @@ fn answers_amy_the_same_whatever_others_do(rt: HostRuntime) {
     }
 }
 
-const BOOK_7_AT_21: Asked = Asked::Book(PlainSlot { hour: 21, ..COURT }, 7, 2);
+const BOOK_7_AT_21: PlainRequest = PlainRequest::Book(
+    PlainSlot {
+        hour: 21,
+        ..COURT_AT_18
+    },
+    7,
+    2,
+);
 
-const BOOK_7_AT_22: Asked = Asked::Book(PlainSlot { hour: 22, ..COURT }, 7, 2);
+const BOOK_7_AT_22: PlainRequest = PlainRequest::Book(
+    PlainSlot {
+        hour: 22,
+        ..COURT_AT_18
+    },
+    7,
+    2,
+);
 
-const NOT_BOOKABLE: Expected = Expected::Refused(Refusal::NotBookable);
+const NOT_BOOKABLE: PlainReply = PlainReply::Refused(Refusal::NotBookable);
 
 /// No more than 86,400 minutes ahead, before the start, and in the hours of opening.
 pub(crate) static WINDOW: [Step; 6] = [
@@ -191,24 +205,24 @@ fn books_within_the_window(rt: HostRuntime) {
     }
 }
 
-const DI: Shown = Shown::Of(b"di-1", ROOT, &[]);
+const DI: Shown = Shown::Of("di-1", ROOT, &[]);
 
-const BOOK_1: Asked = Asked::Book(COURT, 1, 0);
+const BOOK_1: PlainRequest = PlainRequest::Book(COURT_AT_18, 1, 0);
 
-const BOOK_2_FOR_TWO: Asked = Asked::Book(COURT, 2, 1);
+const BOOK_2_FOR_TWO: PlainRequest = PlainRequest::Book(COURT_AT_18, 2, 1);
 
-const NO_PLACES: Expected = Expected::Refused(Refusal::NoPlaces);
+const NO_PLACES: PlainReply = PlainReply::Refused(Refusal::NoPlaces);
 
-const BALANCE_TOO_LOW: Expected = Expected::Refused(Refusal::BalanceTooLow);
+const BALANCE_TOO_LOW: PlainReply = PlainReply::Refused(Refusal::BalanceTooLow);
 
-const QUOTA_REACHED: Expected = Expected::Refused(Refusal::QuotaReached);
+const QUOTA_REACHED: PlainReply = PlainReply::Refused(Refusal::QuotaReached);
 
 pub(crate) static LIMITS: [Step; 9] = [
-    Step::Orders(Order::AddMember(b"cy", 1)),
-    Step::Orders(Order::Credit(b"cy", 100)),
-    Step::Orders(Order::AddKey(b"cy-1", b"cy", ROOT)),
-    Step::Orders(Order::AddMember(b"di", 0)),
-    Step::Orders(Order::AddKey(b"di-1", b"di", ROOT)),
+    Step::Orders(Order::AddMember("cy", 1)),
+    Step::Orders(Order::Credit("cy", 100)),
+    Step::Orders(Order::AddKey("cy-1", "cy", ROOT)),
+    Step::Orders(Order::AddMember("di", 0)),
+    Step::Orders(Order::AddKey("di-1", "di", ROOT)),
     Step::Asks(NOON, AMY, BOOK_7, BOOKED_7),
     Step::Asks(NOON, BOB, BOOK_2_FOR_TWO, NO_PLACES),
     Step::Asks(NOON, CY, BOOK_1, BALANCE_TOO_LOW),
@@ -220,16 +234,16 @@ fn minds_places_points_and_quota(rt: HostRuntime) {
     plays_in_all_forms(&rt, &LIMITS);
 }
 
-const CLOSE: Order = Order::CloseSlot(COURT);
+const CLOSE: Order = Order::CloseSlot(COURT_AT_18);
 
-const BOOK_8: Asked = Asked::Book(COURT, 8, 0);
+const BOOK_8: PlainRequest = PlainRequest::Book(COURT_AT_18, 8, 0);
 
-const SLOT_CLOSED: Expected = Expected::Refused(Refusal::SlotClosed);
+const SLOT_CLOSED: PlainReply = PlainReply::Refused(Refusal::SlotClosed);
 
 pub(crate) static CLOSES: [Step; 7] = [
     Step::Asks(NOON, AMY, BOOK_7, BOOKED_7),
     Step::IsAnswered(CLOSE, OfficeReply::Refused(Fault::SlotInUse)),
-    Step::Asks(NOON, AMY, VIEW, Expected::Shown(3, false)),
+    Step::Asks(NOON, AMY, VIEW, PlainReply::SlotShown(3, false)),
     Step::Asks(NOON, AMY, CANCEL_7, CANCELLED_7),
     Step::IsAnswered(CLOSE, OfficeReply::Done),
     Step::IsAnswered(CLOSE, OfficeReply::Refused(Fault::Exists)),
@@ -241,7 +255,7 @@ fn closes_a_slot(rt: HostRuntime) {
     plays_in_all_forms(&rt, &CLOSES);
 }
 
-const FILLED_BY_2: Expected = Expected::Booked(b"bob-1", 2, 200, 0);
+const FILLED_BY_2: PlainReply = PlainReply::Booked("bob-1", 2, 200, 0);
 
 static FILLED: [Step; 2] = [
     Step::Asks(NOON, AMY, BOOK_7, BOOKED_7),

@@ -27,7 +27,7 @@ fn asked<'a>(rt: &impl Abort, asking: &Asking, text: &'a str) -> SentEvent<'a> {
     SentEvent::Asked {
         words: Words {
             pass: text.as_bytes(),
-            request: asking.asked.request(rt),
+            request: asking.asked.request().expect(rt, "a request"),
         },
         moment: at(rt, asking.moment),
     }
@@ -37,7 +37,7 @@ fn asked<'a>(rt: &impl Abort, asking: &Asking, text: &'a str) -> SentEvent<'a> {
 fn sent_event<'a>(rt: &impl Abort, event: &Event, text: &'a str) -> SentEvent<'a> {
     match event {
         Event::Asked(asking) => asked(rt, asking, text),
-        Event::Ordered(order) => SentEvent::Ordered(order.command(rt)),
+        Event::Ordered(order) => SentEvent::Ordered(order.command().expect(rt, "an order")),
     }
 }
 

@@ -1,29 +1,32 @@
 //! Texts of passes, and texts that are no pass.
 
 use crate::counter::{Counter, Step, empty_desk, opened, reply};
-use crate::expect::{expect_at, expect_eq};
+use crate::expect::{expect_eq, expect_row};
 use crate::known;
 use crate::known::SIGNED;
-use crate::messages::{ACCOUNT, Expected};
-use crate::office::Order;
 use crate::passes::text_of;
-use crate::values::{NOON, name};
+use crate::values::name;
 use club_core::{Refusal, Reply};
 use club_gate::minted;
 use pass_forms::Form;
 use std::alloc::Global;
 use std::process::Abort;
 use std::test::*;
+use test_kit::minutes::NOON;
+use test_kit::passes::AMY_1_SIGNATURE;
+use test_kit::requests::ACCOUNT;
+use test_kit::roots::ROOT;
+use test_kit::{Order, PlainReply};
 
 static ADDS_A_KEY: [Step; 2] = [
-    Step::Orders(Order::AddMember(b"amy", 5)),
-    Step::IsAnswered(Order::AddKey(b"amy-1", b"amy", known::ROOT), SIGNED),
+    Step::Orders(Order::AddMember("amy", 5)),
+    Step::IsAnswered(Order::AddKey("amy-1", "amy", ROOT), SIGNED),
 ];
 
 /// The pass of the key in V2 is this text.
 pub(crate) fn expect_text(rt: &(impl Abort + Alloc<A = Global>)) {
     let name = name(rt, b"amy-1");
-    let pass = minted(rt.alloc(), &name, known::SIGNATURE).expect(rt, "memory");
+    let pass = minted(rt.alloc(), &name, AMY_1_SIGNATURE).expect(rt, "memory");
     let text = text_of(rt, Form::V2, &pass);
     expect_eq(rt, &text.as_str(), &known::V2);
     expect_eq(rt, &text.len(), &79);
@@ -32,7 +35,7 @@ pub(crate) fn expect_text(rt: &(impl Abort + Alloc<A = Global>)) {
 /// Ends the test unless a request with this text gets this reply.
 fn expect_reply(rt: &impl Abort, counter: &mut Counter, row: usize, text: &str, want: &Reply) {
     let returned = reply(rt, &mut counter.desk, NOON, text.as_bytes(), &ACCOUNT);
-    expect_at(rt, row, &returned, want);
+    expect_row(rt, row, &returned, want);
 }
 
 // The office's pass of a new key has 79 characters in V2, and is served.
@@ -49,7 +52,9 @@ fn mints_the_pass_of_a_key(rt: HostRuntime) {
         &mut counter,
         0,
         known::V2,
-        &Expected::Account(0, 0, 0).reply(&rt),
+        &PlainReply::AccountShown(0, 0, 0)
+            .reply()
+            .expect(&rt, "a reply"),
     );
 }
 

@@ -3,11 +3,9 @@
 use crate::counter::{MemoryDesk, empty_desk, reply};
 use crate::drawn::{AMY, Asking, Event, SLOTS};
 use crate::expect::expect_eq;
-use crate::messages::{Asked, PlainSlot};
-use crate::office::Order;
 use crate::reference_machine::{part_reply, reference_replies, reference_reply, shown};
 use crate::sent::{sent, texts_of};
-use crate::values::{ROOT, START, at, name, push};
+use crate::values::{at, name, push};
 use club_core::{ClubStore, OfficeAnswer, Reply, SlotUse};
 use club_gate::{Desk, EventReply, Fault};
 use club_reference::Club;
@@ -15,35 +13,38 @@ use club_values::Kind;
 use pass_forms::Form;
 use std::alloc::Global;
 use std::process::Abort;
+use test_kit::minutes::START;
+use test_kit::roots::ROOT;
+use test_kit::{Order, PlainRequest, PlainSlot};
 
 // Keys of the three members, which no event names. Their accounts show the totals.
-const AUDIT_AMY: &[u8] = b"audit-amy";
+const AUDIT_AMY: &str = "audit-amy";
 
-const AUDIT_BOB: &[u8] = b"audit-bob";
+const AUDIT_BOB: &str = "audit-bob";
 
-const AUDIT_CY: &[u8] = b"audit-cy";
+const AUDIT_CY: &str = "audit-cy";
 
-static AUDITORS: [&[u8]; 3] = [AUDIT_AMY, AUDIT_BOB, AUDIT_CY];
+static AUDITORS: [&str; 3] = [AUDIT_AMY, AUDIT_BOB, AUDIT_CY];
 
 // No member, so that others hold all of a slot.
-const NOBODY: &[u8] = b"nobody";
+const NOBODY: &str = "nobody";
 
 /// Three members with a key each, and their auditors' keys; `court-1` and `room-1`.
 static BEGINNING: [Order; 14] = [
     Order::AddMember(AMY, 2),
     Order::Credit(AMY, 1_500),
-    Order::AddKey(b"amy-1", AMY, ROOT),
+    Order::AddKey("amy-1", AMY, ROOT),
     Order::AddKey(AUDIT_AMY, AMY, ROOT),
-    Order::AddMember(b"bob", 3),
-    Order::Credit(b"bob", 1_500),
-    Order::AddKey(b"bob-1", b"bob", ROOT),
-    Order::AddKey(AUDIT_BOB, b"bob", ROOT),
-    Order::AddMember(b"cy", 4),
-    Order::Credit(b"cy", 1_500),
-    Order::AddKey(b"cy-1", b"cy", ROOT),
-    Order::AddKey(AUDIT_CY, b"cy", ROOT),
-    Order::AddFacility(b"court-1", Kind::Court, 8, 200, 8),
-    Order::AddFacility(b"room-1", Kind::Room, 1, 601, 8),
+    Order::AddMember("bob", 3),
+    Order::Credit("bob", 1_500),
+    Order::AddKey("bob-1", "bob", ROOT),
+    Order::AddKey(AUDIT_BOB, "bob", ROOT),
+    Order::AddMember("cy", 4),
+    Order::Credit("cy", 1_500),
+    Order::AddKey("cy-1", "cy", ROOT),
+    Order::AddKey(AUDIT_CY, "cy", ROOT),
+    Order::AddFacility("court-1", Kind::Court, 8, 200, 8, 22),
+    Order::AddFacility("room-1", Kind::Room, 1, 601, 8, 22),
 ];
 
 /// The desk, the reference machine, the solo machine of amy, and the names of her keys.
@@ -52,7 +53,7 @@ pub(crate) struct Trial {
     desk: MemoryDesk,
     reference: Club,
     part: Club,
-    own_keys: Vec<&'static [u8]>,
+    own_keys: Vec<&'static str>,
 }
 
 fn is_done(answer: &OfficeAnswer) -> bool {
@@ -60,14 +61,24 @@ fn is_done(answer: &OfficeAnswer) -> bool {
 }
 
 /// What others than a member hold of the requested slot.
-fn held_by_others(rt: &impl Abort, reference: &Club, member: &[u8], asked: &Asked) -> SlotUse {
-    reference.outside(&name(rt, member), asked.request(rt).slot())
+fn held_by_others(
+    rt: &impl Abort,
+    reference: &Club,
+    member: &str,
+    asked: &PlainRequest,
+) -> SlotUse {
+    reference.outside(
+        &name(rt, member.as_bytes()),
+        asked.request().expect(rt, "a request").slot(),
+    )
 }
 
 /// Ends the test unless the stored use of a slot is the sum over the reference machine's bookings.
 fn expect_held<S: ClubStore>(rt: &impl Abort, store: &mut S, reference: &Club, slot: PlainSlot) {
-    let held = store.slot(&slot.slot(rt)).expect(rt, "a slot");
-    let want = held_by_others(rt, reference, NOBODY, &Asked::View(slot));
+    let held = store
+        .slot(&slot.slot().expect(rt, "a slot"))
+        .expect(rt, "a slot");
+    let want = held_by_others(rt, reference, NOBODY, &PlainRequest::View(slot));
     expect_eq(rt, &held, &want);
 }
 
@@ -118,13 +129,13 @@ fn expect_shown(
 }
 
 /// The asking for a member's account by a key that nothing else is asked for by.
-fn audit(key: &'static [u8]) -> Asking {
+fn audit(key: &'static str) -> Asking {
     Asking {
         key,
         root: ROOT,
         caveats: &[],
         form: Form::V2,
-        asked: Asked::Account,
+        asked: PlainRequest::Account,
         moment: START - 1_000,
     }
 }
@@ -161,7 +172,9 @@ impl Trial {
         for slot in &SLOTS {
             expect_held(rt, &mut store, &reference, *slot);
         }
-        let part = reference.part(&name(rt, AMY)).expect(rt, "memory");
+        let part = reference
+            .part(&name(rt, AMY.as_bytes()))
+            .expect(rt, "memory");
         Trial {
             desk: Desk::new(rt.alloc(), store),
             reference,
@@ -170,7 +183,7 @@ impl Trial {
         }
     }
 
-    fn is_own_key(&self, key: &[u8]) -> bool {
+    fn is_own_key(&self, key: &str) -> bool {
         for own in &self.own_keys {
             if *own == key {
                 return true;
@@ -192,7 +205,10 @@ impl Trial {
 
     /// Gives amy's part an order of her own: its answer is the reference machine's.
     fn order_part(&mut self, rt: &impl Abort, order: &Order, answer: &OfficeAnswer) {
-        let own = self.part.office(&order.command(rt)).expect(rt, "memory");
+        let own = self
+            .part
+            .office(&order.command().expect(rt, "an order"))
+            .expect(rt, "memory");
         expect_eq(rt, &own, answer);
         if let Order::AddKey(key, _, _) = *order {
             push(rt, &mut self.own_keys, key);
@@ -201,7 +217,7 @@ impl Trial {
 
     /// Gives an order to the desk and the reference machine, and to amy's part if it is her own.
     fn order(&mut self, rt: &impl Abort, order: &Order) {
-        let command = order.command(rt);
+        let command = order.command().expect(rt, "an order");
         let answer = self.reference.office(&command).expect(rt, "memory");
         expect_eq(rt, &self.desk.office(&command), &shown(&answer));
         if is_done(&answer) && self.is_own(order) {
@@ -257,11 +273,11 @@ impl Trial {
             let asking = audit(key);
             let want = reference_reply(rt, &mut self.reference, &asking);
             let moment = at(rt, asking.moment);
-            let shown = self.desk.show_account(&name(rt, key), moment);
+            let shown = self.desk.show_account(&name(rt, key.as_bytes()), moment);
             expect_shown(rt, &shown, &want);
         }
         for slot in &SLOTS {
-            let asked = Asked::View(*slot);
+            let asked = PlainRequest::View(*slot);
             let want = reference_reply(
                 rt,
                 &mut self.reference,
@@ -270,7 +286,7 @@ impl Trial {
                     ..audit(AUDIT_AMY)
                 },
             );
-            let shown = self.desk.show_slot(&slot.slot(rt));
+            let shown = self.desk.show_slot(&slot.slot().expect(rt, "a slot"));
             expect_shown(rt, &shown, &want);
         }
     }

@@ -2,11 +2,11 @@
 
 ghost use Rattle.http_request.specs.Front.{Covers};
 
-use crate::rows::{expect_row, slot_at};
+use crate::rows::expect_row;
 use club_core::{Refusal, Request};
-use club_rows::{BookingNumber, Guests};
 use http_request::{HeadScan, Routes, words_by_scan, words_of};
 use std::process::Abort;
+use test_kit::{COURT_AT_18, PlainRequest};
 
 /// What a request asks for, of `court-1` on 2026-05-01 at 18 where it is of a slot, or why it is
 /// refused.
@@ -29,39 +29,20 @@ pub(crate) const NO_PASS: Want = Want::Refused(Refusal::NoPass);
 /// A field that carries a pass.
 pub(crate) const PASS: &str = "Authorization: Bearer x\r\n";
 
-fn number(rt: &impl Abort, number: u32) -> BookingNumber {
-    BookingNumber::new(number).expect(rt, "a number")
-}
-
 pub(crate) fn book(rt: &impl Abort, guests: u8) -> Request {
-    Request::Book {
-        slot: slot_at(rt, 18),
-        number: number(rt, 7),
-        guests: Guests::new(guests).expect(rt, "guests"),
-    }
-}
-
-fn cancel(rt: &impl Abort, booking: u32) -> Request {
-    Request::Cancel {
-        slot: slot_at(rt, 18),
-        number: number(rt, booking),
-    }
-}
-
-fn view(rt: &impl Abort) -> Request {
-    Request::View {
-        slot: slot_at(rt, 18),
-    }
+    let booking = PlainRequest::Book(COURT_AT_18, 7, guests);
+    booking.request().expect(rt, "a request")
 }
 
 fn wanted(rt: &impl Abort, want: &Want) -> Result<Request, Refusal> {
-    match want {
-        Want::View => Ok(view(rt)),
-        Want::Book(guests) => Ok(book(rt, *guests)),
-        Want::Cancel(booking) => Ok(cancel(rt, *booking)),
-        Want::Account => Ok(Request::Account),
-        Want::Refused(refusal) => Err(*refusal),
-    }
+    let request = match *want {
+        Want::View => PlainRequest::View(COURT_AT_18),
+        Want::Book(guests) => PlainRequest::Book(COURT_AT_18, 7, guests),
+        Want::Cancel(booking) => PlainRequest::Cancel(COURT_AT_18, booking),
+        Want::Account => PlainRequest::Account,
+        Want::Refused(refusal) => return Err(refusal),
+    };
+    Ok(request.request().expect(rt, "a request"))
 }
 
 pub(crate) fn asked(rt: &(impl Abort + AllocGlobal), bytes: &[u8]) -> Result<Request, Refusal> {

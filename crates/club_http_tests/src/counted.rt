@@ -4,16 +4,17 @@ mod doubles;
 mod reading;
 
 use crate::expect::{expect_bytes, expect_eq, expect_shown};
-use crate::rows::{NOON, moment, slot_at};
+use crate::rows::moment;
 use crate::sockets::{client_of, expect_reply, listening};
 use club_core::{Refusal, Reply, Request};
 use club_http::{AnswerFault, Face, Inlet, Outlet, ReadInlet, WriteOutlet, answer};
-use club_rows::{BookingNumber, Guests};
-use club_values::Name;
 use doubles::{Counting, Narrow, Pieces, ROOM};
 use std::alloc::Global;
 use std::net::TcpListener;
 use std::process::Abort;
+use test_kit::exchanges::{BAD_REQUEST, BOOKED_7, UNAVAILABLE};
+use test_kit::moments::NOON;
+use test_kit::{replies, requests};
 
 /// A head of 116 bytes and a body of 12.
 const BOOKING: &str = "PUT /slots/court-1/2026-05-01/18/bookings/7 HTTP/1.1\r\nHost: club\r\n\
@@ -21,36 +22,12 @@ const BOOKING: &str = "PUT /slots/court-1/2026-05-01/18/bookings/7 HTTP/1.1\r\nH
 
 const _: () = prove!(BOOKING.len() == 128);
 
-const BOOKED: &str = "HTTP/1.1 200 OK\r\nContent-Type: application/json\r\nContent-Length: 43\r\n\
-    Connection: close\r\n\r\n{\"booking\":\"amy-1/7\",\"charge\":600,\"left\":1}";
-
-const _: () = prove!(BOOKED.len() == 133);
-
-const BAD_REQUEST: &str =
-    "HTTP/1.1 400 Bad Request\r\nContent-Type: application/json\r\nContent-Length: 32\r\n\
-    Connection: close\r\n\r\n{\"fault\":1,\"text\":\"bad request\"}";
-
-const UNAVAILABLE: &str =
-    "HTTP/1.1 503 Service Unavailable\r\nContent-Type: application/json\r\nContent-Length: 33\r\n\
-    Connection: close\r\n\r\n{\"fault\":22,\"text\":\"unavailable\"}";
-
-const _: () = prove!(UNAVAILABLE.len() == 140);
-
 fn booked(rt: &impl Abort) -> Reply {
-    Reply::Booked {
-        key: Name::read(b"amy-1").expect(rt, "a name"),
-        number: BookingNumber::new(7).expect(rt, "a number"),
-        charge: 600,
-        left: 1,
-    }
+    replies::BOOKED_7.reply().expect(rt, "a reply")
 }
 
 fn booking(rt: &impl Abort) -> Request {
-    Request::Book {
-        slot: slot_at(rt, 18),
-        number: BookingNumber::new(7).expect(rt, "a number"),
-        guests: Guests::new(2).expect(rt, "guests"),
-    }
+    requests::BOOK_7.request().expect(rt, "a request")
 }
 
 /// The outcome of an exchange with a desk that answers the booking.
@@ -90,10 +67,10 @@ impl ExchangeResult {
 
     fn written(&self, rt: &impl Abort) -> &'static [u8] {
         match self {
-            ExchangeResult::Booked => BOOKED.as_bytes(),
+            ExchangeResult::Booked => BOOKED_7.as_bytes(),
             ExchangeResult::Refused(_, text) => text.as_bytes(),
             ExchangeResult::NoRequest => b"",
-            ExchangeResult::CutOff(len) => BOOKED
+            ExchangeResult::CutOff(len) => BOOKED_7
                 .as_bytes()
                 .get(..*len)
                 .expect(rt, "bytes of the reply"),
@@ -162,7 +139,7 @@ fn fails_after(rt: &(impl Abort + Alloc<A = Global>), len: usize) {
 
 #[test]
 fn failing_writers(rt: HostRuntime) {
-    for len in 0..BOOKED.len() {
+    for len in 0..BOOKED_7.len() {
         fails_after(&rt, len);
     }
 }
@@ -219,5 +196,5 @@ fn over_a_socket(rt: HostRuntime) {
     let listener = listening(&rt);
     let mut client = client_of(&rt, &listener, BOOKING.as_bytes());
     answers_one(&rt, &listener);
-    expect_reply(&rt, &mut client, BOOKED.as_bytes());
+    expect_reply(&rt, &mut client, BOOKED_7.as_bytes());
 }

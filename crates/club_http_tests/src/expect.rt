@@ -4,13 +4,13 @@ use std::alloc::Global;
 use std::fmt::{Debug, Display};
 use std::process::Abort;
 
-/// Fails the test unless the values are equal. A test that calls it is proved in a third of the
-/// time of one that asserts.
+/// Ends the test unless the values are equal. A test that calls it is proved in a third of the time
+/// of one that asserts.
 pub(crate) fn expect_eq<T: PartialEq + Debug>(rt: &impl Abort, returned: &T, want: &T) {
     assert_eq!(rt; returned, want);
 }
 
-/// Fails the test unless the bytes are equal. `asked` is for the message.
+/// Ends the test unless the bytes are equal. `asked` is for the message.
 pub(crate) fn expect_bytes(rt: &impl Abort, returned: &[u8], want: &[u8], asked: &str) {
     assert_eq!(rt; returned, want, "{asked}");
 }

@@ -2,10 +2,10 @@
 
 use crate::rows::{expect_row, name, slot_at};
 use club_core::{Methods, Refusal, Reply};
-use club_rows::BookingNumber;
 use club_values::Kind;
 use http_response::{MAX_REPLY_LEN, reply_bytes};
 use std::process::Abort;
+use test_kit::PlainReply;
 
 static UNTOUCHED: [u8; MAX_REPLY_LEN] = [b'x'; MAX_REPLY_LEN];
 
@@ -43,25 +43,14 @@ enum ReplyFields {
     },
 }
 
-fn number(rt: &impl Abort, number: u32) -> BookingNumber {
-    BookingNumber::new(number).expect(rt, "a number")
+fn booked(rt: &impl Abort, number: u32, charge: u32, left: u8) -> Reply {
+    let reply = PlainReply::Booked("amy-1", number, charge, left);
+    reply.reply().expect(rt, "a reply")
 }
 
-fn booked(rt: &impl Abort, booking: u32, charge: u32, left: u8) -> Reply {
-    Reply::Booked {
-        key: name(rt, b"amy-1"),
-        number: number(rt, booking),
-        charge,
-        left,
-    }
-}
-
-fn cancelled(rt: &impl Abort, booking: u32, refund: u32) -> Reply {
-    Reply::Cancelled {
-        key: name(rt, b"amy-1"),
-        number: number(rt, booking),
-        refund,
-    }
+fn cancelled(rt: &impl Abort, number: u32, refund: u32) -> Reply {
+    let reply = PlainReply::Cancelled("amy-1", number, refund);
+    reply.reply().expect(rt, "a reply")
 }
 
 fn shown(rt: &impl Abort, hour: u8, taken: u64, closed: bool) -> Reply {

@@ -1,8 +1,9 @@
 //! What the rows of the tests are made of, and what a row expects.
 
-use club_values::{Day, Hour, Moment, Name, Slot};
+use club_values::{Moment, Name, Slot};
 use std::fmt::Debug;
 use std::process::Abort;
+use test_kit::{COURT_AT_18, PlainSlot};
 
 /// Ends the test of this row unless the values are equal.
 pub(crate) fn expect_row<T: PartialEq + Debug>(
@@ -36,17 +37,15 @@ pub(crate) fn name(rt: &impl Abort, text: &[u8]) -> Name {
     Name::read(text).expect(rt, "a name")
 }
 
-pub(crate) const NOON: &str = "2026-04-20T12:00";
-
 pub(crate) fn moment(rt: &impl Abort, text: &str) -> Moment {
     Moment::read(text.as_bytes()).expect(rt, "a moment")
 }
 
 /// `court-1` on 2026-05-01.
 pub(crate) fn slot_at(rt: &impl Abort, hour: u8) -> Slot {
-    Slot {
-        facility: name(rt, b"court-1"),
-        day: Day::read(b"2026-05-01").expect(rt, "a day"),
-        hour: Hour::from_number(hour).expect(rt, "an hour"),
-    }
+    let slot = PlainSlot {
+        hour,
+        ..COURT_AT_18
+    };
+    slot.slot().expect(rt, "a slot")
 }

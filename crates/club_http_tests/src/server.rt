@@ -10,12 +10,13 @@ mod request_lines;
 mod zones;
 
 use crate::expect::{expect_eq, expect_shown};
-use crate::rows::{NOON, moment};
+use crate::rows::moment;
 use club_http::Face;
 use desk_server::{ClockOutOfRange, Connections, Fixed, Moments, serve_on};
 use doubles::{Countdown, Noting, Script, Wire};
 use std::alloc::Global;
 use std::process::Abort;
+use test_kit::moments::NOON;
 
 const REQUEST: &[u8] = b"GET /account HTTP/1.1\r\nAuthorization: Bearer AgEJ\r\n\r\n";
 

@@ -1,4 +1,4 @@
-//! Assertions of the tests.
+//! What a test expects.
 
 use std::fmt::Debug;
 use std::process::Abort;
@@ -9,7 +9,7 @@ pub(crate) fn expect_eq<T: PartialEq + Debug>(rt: &impl Abort, returned: &T, wan
     assert_eq!(rt; returned, want);
 }
 
-/// Ends the test unless the values are equal; names the step, counted from 0, and its moment.
+/// The same of a step, whose number is counted from 0, at a moment.
 pub(crate) fn expect_reply<T: PartialEq + Debug>(
     rt: &impl Abort,
     (number, at): (usize, &str),

@@ -1,33 +1,38 @@
 //! A copy of a club, and a member's part of it.
 
+use crate::answers::Answer;
 use crate::expect::{expect_eq, expect_reply};
-use crate::messages::{
-    ACCOUNT_AFTER, ACCOUNT_BEFORE, AMY, AMY_CHANGED, Asked, BOB, BOOK_7, BOOKED_7, CANCEL_7,
-    CANCELLED_7, COURT, Expected, FIRST, NOON, NOT_VERIFIED, SECOND, Step,
-};
-use crate::orders::{Answer, Order};
+use crate::messages::{AMY, AMY_CHANGED, BOB, Step};
 use crate::play::{opened, plays};
-use crate::values::name;
 use club_core::{Event, EventReply, SlotUse};
 use club_reference::Club;
-use club_values::Slot;
+use club_values::{Name, Slot};
 use std::alloc::Global;
 use std::process::Abort;
 use std::test::*;
+use test_kit::moments::NOON;
+use test_kit::replies::{ACCOUNT_AFTER, ACCOUNT_BEFORE, BOOKED_7, CANCELLED_7, NOT_VERIFIED};
+use test_kit::requests::{ACCOUNT, BOOK_7, CANCEL_7};
+use test_kit::roots::{ROOT, SECOND_ROOT};
+use test_kit::{COURT_AT_18, Order, PlainReply, PlainRequest, minutes};
+
+fn amy(rt: &impl Abort) -> Name {
+    Name::read(b"amy").expect(rt, "a name")
+}
 
 fn amys_part(rt: &impl Abort, club: &Club) -> Club {
-    club.part(&name(rt, "amy")).expect(rt, "memory")
+    club.part(&amy(rt)).expect(rt, "memory")
 }
 
 /// Ends the test unless others than amy hold this of the slot.
 fn others_hold(rt: &impl Abort, club: &Club, slot: Option<Slot>, others: SlotUse) {
-    expect_eq(rt, &club.outside(&name(rt, "amy"), slot), &others);
+    expect_eq(rt, &club.outside(&amy(rt), slot), &others);
 }
 
 /// The reply to an event on a part, with what others hold of its slot.
 fn reply_alone(rt: &impl Abort, part: &mut Club, event: &Event, others: SlotUse) -> EventReply {
     match event {
-        Event::Asked { words, moment } => {
+        Event::PlainRequest { words, moment } => {
             let reply = part.ask_alone(words, *moment, others);
             EventReply::Replied(reply.expect(rt, "memory"))
         }
@@ -58,16 +63,21 @@ const ONE_PLACE: SlotUse = SlotUse {
     closed: false,
 };
 
-const BOOK_2: Asked = Asked::Book(COURT, 2, 0);
+const BOOK_2: PlainRequest = PlainRequest::Book(COURT_AT_18, 2, 0);
 
-static BOB_BOOKS: [Step; 1] = [Step::Asks(NOON, BOB, BOOK_2, Expected::Booked("bob-1", 2, 200, 3))];
+static BOB_BOOKS: [Step; 1] = [Step::Asks(
+    NOON,
+    BOB,
+    BOOK_2,
+    PlainReply::Booked("bob-1", 2, 200, 3),
+)];
 
-const FILLED_BY_7: Expected = Expected::Booked("amy-1", 7, 600, 0);
+const FILLED_BY_7: PlainReply = PlainReply::Booked("amy-1", 7, 600, 0);
 
 /// Amy's replies if another member holds a place of the slot.
 static BESIDE_BOB: [Step; 3] = [
     Step::Asks(NOON, AMY, BOOK_7, FILLED_BY_7),
-    Step::Asks(NOON, AMY, Asked::Account, ACCOUNT_AFTER),
+    Step::Asks(NOON, AMY, ACCOUNT, ACCOUNT_AFTER),
     Step::Asks(NOON, AMY, CANCEL_7, CANCELLED_7),
 ];
 
@@ -75,13 +85,13 @@ static BESIDE_BOB: [Step; 3] = [
 fn a_part_sees_what_others_hold(rt: HostRuntime) {
     let mut club = opened(&rt);
     plays(&rt, &mut club, &BOB_BOOKS);
-    others_hold(&rt, &club, Some(COURT.slot(&rt)), ONE_PLACE);
+    others_hold(&rt, &club, COURT_AT_18.slot(), ONE_PLACE);
     plays_alone(&rt, &mut amys_part(&rt, &club), ONE_PLACE, &BESIDE_BOB);
 }
 
-static NOT_YET: [Step; 1] = [Step::Asks(NOON, AMY, Asked::Account, ACCOUNT_BEFORE)];
+static NOT_YET: [Step; 1] = [Step::Asks(NOON, AMY, ACCOUNT, ACCOUNT_BEFORE)];
 
-static BOB_IS_UNKNOWN: [Step; 1] = [Step::Asks(NOON, BOB, Asked::Account, NOT_VERIFIED)];
+static BOB_IS_UNKNOWN: [Step; 1] = [Step::Asks(NOON, BOB, ACCOUNT, NOT_VERIFIED)];
 
 #[test]
 fn a_part_has_no_rows_of_others(rt: HostRuntime) {
@@ -93,24 +103,24 @@ fn a_part_has_no_rows_of_others(rt: HostRuntime) {
     plays(&rt, &mut part, &BOB_IS_UNKNOWN);
 }
 
-const NEW_CY: Answer = Answer::NewKey("cy-1", FIRST);
+const NEW_CY: Answer = Answer::NewKey("cy-1", ROOT);
 
-const RENEWED_CY: Answer = Answer::NewKey("cy-1", SECOND);
+const RENEWED_CY: Answer = Answer::NewKey("cy-1", SECOND_ROOT);
 
 /// Another member, whose key gets another root at once.
 static CY_ROTATES: [Step; 3] = [
     Step::Orders(Order::AddMember("cy", 5), Answer::Done),
-    Step::Orders(Order::AddKey("cy-1", "cy"), NEW_CY),
+    Step::Orders(Order::AddKey("cy-1", "cy", ROOT), NEW_CY),
     Step::Orders(
-        Order::RotateKey("cy-1", SECOND, "2000-01-01T00:00"),
+        Order::RotateKey("cy-1", SECOND_ROOT, minutes::FIRST),
         RENEWED_CY,
     ),
 ];
 
 static AFTER_ROTATION: [Step; 4] = [
     Step::Asks(NOON, AMY, BOOK_7, BOOKED_7),
-    Step::Asks(NOON, AMY, Asked::Account, ACCOUNT_AFTER),
-    Step::Asks(NOON, AMY_CHANGED, Asked::Account, NOT_VERIFIED),
+    Step::Asks(NOON, AMY, ACCOUNT, ACCOUNT_AFTER),
+    Step::Asks(NOON, AMY_CHANGED, ACCOUNT, NOT_VERIFIED),
     Step::Asks(NOON, AMY, BOOK_7, BOOKED_7),
 ];
 
@@ -130,10 +140,10 @@ static AMY_BOOKS: [Step; 1] = [Step::Asks(NOON, AMY, BOOK_7, BOOKED_7)];
 
 static AMY_CANCELS: [Step; 2] = [
     Step::Asks(NOON, AMY, CANCEL_7, CANCELLED_7),
-    Step::Asks(NOON, AMY, Asked::Account, ACCOUNT_BEFORE),
+    Step::Asks(NOON, AMY, ACCOUNT, ACCOUNT_BEFORE),
 ];
 
-static STILL_BOOKED: [Step; 1] = [Step::Asks(NOON, AMY, Asked::Account, ACCOUNT_AFTER)];
+static STILL_BOOKED: [Step; 1] = [Step::Asks(NOON, AMY, ACCOUNT, ACCOUNT_AFTER)];
 
 #[test]
 fn a_duplicate_is_independent(rt: HostRuntime) {

@@ -1,43 +1,17 @@
 //! Steps, played on the reference machine by each of its calls.
 
 use crate::expect::{expect_eq, expect_reply};
-use crate::messages::{FIRST, Step};
-use crate::orders::{Answer, Order};
-use club_core::{Event, EventReply};
+use crate::messages::Step;
+use club_core::{Event, EventReply, OfficeAnswer};
 use club_reference::Club;
-use club_values::Kind;
 use std::alloc::Global;
 use std::process::Abort;
-
-/// Members `amy` and `bob`, each with quota 5, 10,000 points and a key; `court-1` with 4 places for
-/// 200 points and `room-1` with 1 place for 601, both from 8 to 22.
-static FIXTURE: [Step; 8] = [
-    Step::Orders(Order::AddMember("amy", 5), Answer::Done),
-    Step::Orders(Order::Credit("amy", 10_000), Answer::Done),
-    Step::Orders(
-        Order::AddKey("amy-1", "amy"),
-        Answer::NewKey("amy-1", FIRST),
-    ),
-    Step::Orders(Order::AddMember("bob", 5), Answer::Done),
-    Step::Orders(Order::Credit("bob", 10_000), Answer::Done),
-    Step::Orders(
-        Order::AddKey("bob-1", "bob"),
-        Answer::NewKey("bob-1", FIRST),
-    ),
-    Step::Orders(
-        Order::AddFacility("court-1", Kind::Court, 4, 200),
-        Answer::Done,
-    ),
-    Step::Orders(
-        Order::AddFacility("room-1", Kind::Room, 1, 601),
-        Answer::Done,
-    ),
-];
+use test_kit::{FIXTURE, Order};
 
 /// The reply to an event by `ask` or `office`.
 fn reply_by_kind(rt: &impl Abort, club: &mut Club, event: &Event) -> EventReply {
     match event {
-        Event::Asked { words, moment } => {
+        Event::PlainRequest { words, moment } => {
             EventReply::Replied(club.ask(words, *moment).expect(rt, "memory"))
         }
         Event::Ordered(command) => EventReply::Answered(club.office(command).expect(rt, "memory")),
@@ -82,10 +56,19 @@ fn plays_at_once(rt: &(impl Abort + Alloc<A = Global>), club: &mut Club, steps: 
     expect_eq(rt, &returned.as_slice(), &replies(rt, steps).as_slice());
 }
 
+/// Gives an order, and ends the test unless it is carried out.
+fn carry_out(rt: &impl Abort, club: &mut Club, order: &Order) {
+    let command = order.command().expect(rt, "an order");
+    let answer = club.office(&command).expect(rt, "memory");
+    expect_eq(rt, &answer, &OfficeAnswer::done(&command));
+}
+
 /// The club of the fixture.
 pub(crate) fn opened(rt: &(impl Abort + Alloc<A = Global>)) -> Club {
     let mut club = Club::new(rt.alloc());
-    plays(rt, &mut club, &FIXTURE);
+    for order in &FIXTURE {
+        carry_out(rt, &mut club, order);
+    }
     club
 }
 

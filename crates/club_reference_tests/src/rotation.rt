@@ -1,39 +1,36 @@
 //! Worked lists with rotations of a key.
 
-use crate::messages::{
-    ACCOUNT_AFTER, ACCOUNT_BEFORE, AMY, AMY_CHANGED, Asked, BOOK_7, BOOKED_7, Expected, FIRST,
-    NOON, NOT_VERIFIED, SECOND, Shown, Step, THIRD,
-};
-use crate::orders::{Answer, Order};
+use crate::answers::Answer;
+use crate::messages::{AMY, AMY_CHANGED, Shown, Step};
 use crate::play::plays_by_each_call;
 use club_core::{OfficeFault, Refusal};
 use std::test::*;
+use test_kit::moments::{BEFORE_UNTIL, NOON, UNTIL};
+use test_kit::replies::{ACCOUNT_AFTER, ACCOUNT_BEFORE, BOOKED_7, NOT_VERIFIED};
+use test_kit::requests::{ACCOUNT, BOOK_7};
+use test_kit::roots::{ROOT, SECOND_ROOT, THIRD_ROOT};
+use test_kit::{Order, PlainReply, minutes};
 
 /// Amy's pass under her key's second root, and under its third.
 const RENEWED: Shown = AMY_CHANGED;
 
-const RENEWED_AGAIN: Shown = Shown::Pass("amy-1", THIRD, &[]);
+const RENEWED_AGAIN: Shown = Shown::Pass("amy-1", THIRD_ROOT, &[]);
 
-const BEFORE: &str = "2026-04-24T23:59";
+const NEW_SECOND: Answer = Answer::NewKey("amy-1", SECOND_ROOT);
 
-const UNTIL: &str = "2026-04-25T00:00";
-
-const LONG_PAST: &str = "2000-01-01T00:00";
-
-const LAST: &str = "2099-12-31T23:59";
-
-const NEW_SECOND: Answer = Answer::NewKey("amy-1", SECOND);
-
-const NEW_THIRD: Answer = Answer::NewKey("amy-1", THIRD);
+const NEW_THIRD: Answer = Answer::NewKey("amy-1", THIRD_ROOT);
 
 /// The older root is good until the moment. The new pass repeats the booking of the old one.
 static ROTATES: [Step; 6] = [
     Step::Asks(NOON, AMY, BOOK_7, BOOKED_7),
-    Step::Orders(Order::RotateKey("amy-1", SECOND, UNTIL), NEW_SECOND),
-    Step::Asks(BEFORE, AMY, Asked::Account, ACCOUNT_AFTER),
-    Step::Asks(UNTIL, AMY, Asked::Account, NOT_VERIFIED),
+    Step::Orders(
+        Order::RotateKey("amy-1", SECOND_ROOT, minutes::UNTIL),
+        NEW_SECOND,
+    ),
+    Step::Asks(BEFORE_UNTIL, AMY, ACCOUNT, ACCOUNT_AFTER),
+    Step::Asks(UNTIL, AMY, ACCOUNT, NOT_VERIFIED),
     Step::Asks(UNTIL, RENEWED, BOOK_7, BOOKED_7),
-    Step::Asks(UNTIL, RENEWED, Asked::Account, ACCOUNT_AFTER),
+    Step::Asks(UNTIL, RENEWED, ACCOUNT, ACCOUNT_AFTER),
 ];
 
 #[test]
@@ -43,9 +40,12 @@ fn rotates_a_key(rt: HostRuntime) {
 
 /// If the moment is past, the older root is refused at once.
 static ROTATES_AT_ONCE: [Step; 3] = [
-    Step::Asks(NOON, AMY, Asked::Account, ACCOUNT_BEFORE),
-    Step::Orders(Order::RotateKey("amy-1", SECOND, LONG_PAST), NEW_SECOND),
-    Step::Asks(NOON, AMY, Asked::Account, NOT_VERIFIED),
+    Step::Asks(NOON, AMY, ACCOUNT, ACCOUNT_BEFORE),
+    Step::Orders(
+        Order::RotateKey("amy-1", SECOND_ROOT, minutes::FIRST),
+        NEW_SECOND,
+    ),
+    Step::Asks(NOON, AMY, ACCOUNT, NOT_VERIFIED),
 ];
 
 #[test]
@@ -55,11 +55,17 @@ fn rotates_from_a_moment_past(rt: HostRuntime) {
 
 /// Of two rotations the second drops the root that the first kept.
 static ROTATES_TWICE: [Step; 5] = [
-    Step::Orders(Order::RotateKey("amy-1", SECOND, LAST), NEW_SECOND),
-    Step::Orders(Order::RotateKey("amy-1", THIRD, LAST), NEW_THIRD),
-    Step::Asks(NOON, AMY, Asked::Account, NOT_VERIFIED),
-    Step::Asks(NOON, RENEWED, Asked::Account, ACCOUNT_BEFORE),
-    Step::Asks(NOON, RENEWED_AGAIN, Asked::Account, ACCOUNT_BEFORE),
+    Step::Orders(
+        Order::RotateKey("amy-1", SECOND_ROOT, minutes::LAST),
+        NEW_SECOND,
+    ),
+    Step::Orders(
+        Order::RotateKey("amy-1", THIRD_ROOT, minutes::LAST),
+        NEW_THIRD,
+    ),
+    Step::Asks(NOON, AMY, ACCOUNT, NOT_VERIFIED),
+    Step::Asks(NOON, RENEWED, ACCOUNT, ACCOUNT_BEFORE),
+    Step::Asks(NOON, RENEWED_AGAIN, ACCOUNT, ACCOUNT_BEFORE),
 ];
 
 #[test]
@@ -72,8 +78,11 @@ const ROOT_BEFORE: Answer = Answer::NotDone(OfficeFault::Exists);
 const NO_SUCH_KEY: Answer = Answer::NotDone(OfficeFault::Unknown);
 
 static NO_ROTATIONS: [Step; 2] = [
-    Step::Orders(Order::RotateKey("amy-1", FIRST, UNTIL), ROOT_BEFORE),
-    Step::Orders(Order::RotateKey("zed-1", SECOND, UNTIL), NO_SUCH_KEY),
+    Step::Orders(Order::RotateKey("amy-1", ROOT, minutes::UNTIL), ROOT_BEFORE),
+    Step::Orders(
+        Order::RotateKey("zed-1", SECOND_ROOT, minutes::UNTIL),
+        NO_SUCH_KEY,
+    ),
 ];
 
 #[test]
@@ -81,14 +90,17 @@ fn refuses_a_rotation(rt: HostRuntime) {
     plays_by_each_call(&rt, &NO_ROTATIONS);
 }
 
-const KEY_REVOKED: Expected = Expected::Refused(Refusal::KeyRevoked);
+const KEY_REVOKED: PlainReply = PlainReply::Refused(Refusal::KeyRevoked);
 
 /// A revoked key stays revoked, under its older root and its new one.
 static ROTATES_REVOKED: [Step; 4] = [
     Step::Orders(Order::RevokeKey("amy-1"), Answer::Done),
-    Step::Orders(Order::RotateKey("amy-1", SECOND, UNTIL), NEW_SECOND),
-    Step::Asks(NOON, AMY, Asked::Account, KEY_REVOKED),
-    Step::Asks(NOON, RENEWED, Asked::Account, KEY_REVOKED),
+    Step::Orders(
+        Order::RotateKey("amy-1", SECOND_ROOT, minutes::UNTIL),
+        NEW_SECOND,
+    ),
+    Step::Asks(NOON, AMY, ACCOUNT, KEY_REVOKED),
+    Step::Asks(NOON, RENEWED, ACCOUNT, KEY_REVOKED),
 ];
 
 #[test]

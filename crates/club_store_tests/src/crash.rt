@@ -1,7 +1,7 @@
 //! A disk that stops in a commit, and what is found by a store that is opened again.
 
 use crate::expect::expect_eq;
-use crate::rows::{AMY_1, COURT, COURT_7, COURT_AT_18, ROOM_AT_18, slot};
+use crate::rows::{AMY_1, slot};
 use crate::steps::{Shown, Step, plays};
 use crate::versions::fill;
 use crate::write::{Write, change};
@@ -12,6 +12,7 @@ use sqlite_disk::{Crash, Disk, Fuse, Memory};
 use std::alloc::Global;
 use std::process::Abort;
 use std::test::*;
+use test_kit::{BOOKING_7, COURT, COURT_AT_18, ROOM_AT_18};
 
 type Stops = Fuse<Memory>;
 
@@ -222,7 +223,7 @@ fn bytes_of(rt: &(impl Abort + Alloc<A = Global>), first: bool) -> Vec<u8> {
 fn holds_a_booking_whole_or_not_at_all(rt: HostRuntime) {
     let trial = Trial {
         bytes: bytes_of(&rt, false),
-        task: Task::Change(change(&rt, &Write::Book(COURT_7))),
+        task: Task::Change(change(&rt, &Write::Book(BOOKING_7))),
     };
     let calls = calls_too_few(&rt, &trial);
     leaves(&rt, &trial, calls, End::NotChanged, [0, 3]);

@@ -1,7 +1,7 @@
 //! Rows out of their limits, in tables that take any row: each is a fault of storage where it is
 //! read.
 
-use crate::rows::{COURT_AT_18, day, moment, name, number, slot};
+use crate::rows::{day, moment, name, number, slot};
 use crate::versions::{database, runs};
 use club_core::{Request, StoreFault};
 use club_store::Store;
@@ -9,6 +9,7 @@ use sqlite::Alter;
 use std::alloc::Global;
 use std::process::Abort;
 use std::test::*;
+use test_kit::COURT_AT_18;
 
 /// The tables of version 2 without their checks, and without references.
 static TABLES: [&str; 8] = [
@@ -65,8 +66,8 @@ static TABLES: [&str; 8] = [
 /// Amy, her key with an older root, the court, and a booking of it for three persons.
 static ROWS: [&str; 6] = [
     "INSERT INTO members VALUES ('amy', 10000, 5, 600)",
-    "INSERT INTO keys VALUES ('amy-1', 'amy', X'30313233343536373839616263646566', 0)",
-    "INSERT INTO old_roots VALUES ('amy-1', X'30313233343536373839616263646566', 15778080)",
+    "INSERT INTO keys VALUES ('amy-1', 'amy', X'00112233445566778899AABBCCDDEEFF', 0)",
+    "INSERT INTO old_roots VALUES ('amy-1', X'00112233445566778899AABBCCDDEEFF', 15778080)",
     "INSERT INTO facilities VALUES ('court-1', 'court', 4, 200, 8, 22)",
     "INSERT INTO slots VALUES ('court-1', 20574, 18, 0, 3)",
     "INSERT INTO bookings VALUES ('amy-1', 7, 'court-1', 20574, 18, 2, 600, 1, 0, 0)",

@@ -1,8 +1,14 @@
 //! Tests of the reads of the tables.
 
-use crate::rows::{AMY_1, At, COURT, COURT_7, COURT_AT_18, DAY};
+use crate::rows::{AMY_1, DAY};
 use crate::tables::{Expected, Step, Tables};
 use std::test::*;
+use test_kit::{BOOKING_7, COURT, COURT_AT_18, PlainSlot};
+
+const COURT_AT_19: PlainSlot = PlainSlot {
+    hour: 19,
+    ..COURT_AT_18
+};
 
 static MEMBERS: [Step; 2] = [
     Step::Expects(Expected::Member("amy", Some((10_000, 600)))),
@@ -18,7 +24,7 @@ static FACILITIES_AND_SLOTS: [Step; 4] = [
     Step::Expects(Expected::Facility("court-1", Some(COURT))),
     Step::Expects(Expected::Facility("court-2", None)),
     Step::Expects(Expected::Slot(COURT_AT_18, 3, false)),
-    Step::Expects(Expected::Slot(At("court-1", DAY, 19), 0, false)),
+    Step::Expects(Expected::Slot(COURT_AT_19, 0, false)),
 ];
 
 #[test]
@@ -38,11 +44,11 @@ fn keys(rt: HostRuntime) {
 }
 
 static BOOKINGS: [Step; 6] = [
-    Step::Expects(Expected::Booking(7, Some(COURT_7))),
+    Step::Expects(Expected::Booking(7, Some(BOOKING_7))),
     Step::Expects(Expected::Booking(8, None)),
     Step::Expects(Expected::Spent("amy-1", 600)),
     Step::Expects(Expected::Spent("amy-2", 0)),
-    Step::Expects(Expected::Day(DAY, Some(COURT_7))),
+    Step::Expects(Expected::Day(DAY, Some(BOOKING_7))),
     Step::Expects(Expected::Day("2026-05-02", None)),
 ];
 

@@ -1,115 +1,46 @@
-//! The rows of a small club as plain data, and the values made of them: amy with quota 5,
-//! her keys, two facilities, and bookings under `amy-1`.
+//! The rows of a small club, from plain values: amy with quota 5, her keys, two facilities, and
+//! bookings under `amy-1`.
 
-use club_rows::{Booking, BookingNumber, Facility, Guests, Key, Member, OlderRoot, Root};
-use club_values::{Day, Hour, Kind, Moment, Name, Slot};
+use club_rows::{Booking, BookingNumber, Facility, Key, Member, OlderRoot, Root};
+use club_values::{Day, Moment, Name, Slot};
 use std::process::Abort;
+use test_kit::roots::ROOT;
+use test_kit::{BOOKING_8, PlainBooking, PlainFacility, PlainSlot, amy};
 
 /// The day on which nearly everything happens.
 pub(crate) const DAY: &str = "2026-05-01";
 
-/// A facility, open from 8 to 22.
-#[derive(Clone, Copy)]
-pub(crate) struct Place {
-    pub name: &'static str,
-    pub kind: Kind,
-    pub places: u8,
-    pub price: u16,
-}
-
-pub(crate) const COURT: Place = Place {
-    name: "court-1",
-    kind: Kind::Court,
-    places: 4,
-    price: 200,
-};
-
-pub(crate) const ROOM: Place = Place {
-    name: "room-1",
-    kind: Kind::Room,
-    places: 1,
-    price: 601,
-};
-
-/// An hour of a day at a facility.
-#[derive(Clone, Copy)]
-pub(crate) struct At(pub &'static str, pub &'static str, pub u8);
-
-pub(crate) const COURT_AT_18: At = At("court-1", DAY, 18);
-
-pub(crate) const ROOM_AT_18: At = At("room-1", DAY, 18);
-
-/// The roots of a key, in turn.
-pub(crate) const FIRST: &str = "0123456789abcdef";
-
-pub(crate) const SECOND: &str = "fedcba9876543210";
-
-pub(crate) const THIRD: &str = "0011223344556677";
-
 /// A root that a key had, and the moment until which it is good.
 #[derive(Clone, Copy)]
-pub(crate) struct Older(pub &'static str, pub &'static str);
+pub(crate) struct Older(pub &'static [u8], pub &'static str);
 
 /// A key of amy's.
 #[derive(Clone, Copy)]
 pub(crate) struct Kept {
     pub name: &'static str,
-    pub root: &'static str,
+    pub root: &'static [u8],
     pub older: Option<Older>,
     pub revoked: bool,
 }
 
 pub(crate) const AMY_1: Kept = Kept {
     name: "amy-1",
-    root: FIRST,
+    root: ROOT,
     older: None,
     revoked: false,
 };
 
 pub(crate) const REVOKED: Kept = Kept {
     name: "amy-1",
-    root: FIRST,
+    root: ROOT,
     older: None,
     revoked: true,
 };
 
-/// A booking under `amy-1`, with its refund where it is cancelled.
-#[derive(Clone, Copy)]
-pub(crate) struct Booked {
-    pub number: u32,
-    pub at: At,
-    pub guests: u8,
-    pub charge: u32,
-    pub left: u8,
-    pub refund: Option<u32>,
-}
-
-pub(crate) const COURT_7: Booked = Booked {
-    number: 7,
-    at: COURT_AT_18,
-    guests: 2,
-    charge: 600,
-    left: 1,
-    refund: None,
-};
-
-pub(crate) const ROOM_8: Booked = Booked {
-    number: 8,
-    at: ROOM_AT_18,
-    guests: 0,
-    charge: 601,
-    left: 0,
-    refund: None,
-};
-
 /// The room's booking, cancelled.
-pub(crate) const CANCELLED_8: Booked = Booked {
-    number: 8,
-    at: ROOM_AT_18,
-    guests: 0,
-    charge: 601,
-    left: 0,
+pub(crate) const CANCELLED_8: PlainBooking = PlainBooking {
     refund: Some(300),
+    ..BOOKING_8
 };
 
 pub(crate) fn name(rt: &impl Abort, text: &str) -> Name {
@@ -128,39 +59,24 @@ pub(crate) fn number(rt: &impl Abort, number: u32) -> BookingNumber {
     BookingNumber::new(number).expect(rt, "a number")
 }
 
-pub(crate) fn root(rt: &impl Abort, text: &str) -> Root {
-    Root::new(text.as_bytes()).expect(rt, "a root")
+pub(crate) fn root(rt: &impl Abort, bytes: &[u8]) -> Root {
+    Root::new(bytes).expect(rt, "a root")
 }
 
-pub(crate) fn slot(rt: &impl Abort, at: &At) -> Slot {
-    Slot {
-        facility: name(rt, at.0),
-        day: day(rt, at.1),
-        hour: Hour::from_number(at.2).expect(rt, "an hour"),
-    }
+pub(crate) fn slot(rt: &impl Abort, slot: &PlainSlot) -> Slot {
+    slot.slot().expect(rt, "a slot")
 }
 
 /// Amy, to whom so many points were credited.
-pub(crate) fn amy(rt: &impl Abort, credited: u32) -> Member {
-    Member {
-        name: name(rt, "amy"),
-        credited,
-        quota: 5,
-    }
+pub(crate) fn member(rt: &impl Abort, credited: u32) -> Member {
+    amy(credited, 5).expect(rt, "a member")
 }
 
-pub(crate) fn facility(rt: &impl Abort, place: &Place) -> Facility {
-    Facility {
-        name: name(rt, place.name),
-        kind: place.kind,
-        places: place.places,
-        price: place.price,
-        opens: 8,
-        shuts: 22,
-    }
+pub(crate) fn facility(rt: &impl Abort, facility: &PlainFacility) -> Facility {
+    facility.facility().expect(rt, "a facility")
 }
 
-pub(crate) fn facility_of(rt: &impl Abort, place: &Option<Place>) -> Option<Facility> {
+pub(crate) fn facility_of(rt: &impl Abort, place: &Option<PlainFacility>) -> Option<Facility> {
     match place {
         Some(place) => Some(facility(rt, place)),
         None => None,
@@ -198,20 +114,11 @@ pub(crate) fn key_of(rt: &impl Abort, kept: &Option<Kept>) -> Option<Key> {
     }
 }
 
-pub(crate) fn booking(rt: &impl Abort, booked: &Booked) -> Booking {
-    Booking {
-        key: name(rt, "amy-1"),
-        number: number(rt, booked.number),
-        slot: slot(rt, &booked.at),
-        guests: Guests::new(booked.guests).expect(rt, "guests"),
-        charge: booked.charge,
-        left: booked.left,
-        cancelled: booked.refund.is_some(),
-        refund: booked.refund.unwrap_or(0),
-    }
+pub(crate) fn booking(rt: &impl Abort, booking: &PlainBooking) -> Booking {
+    booking.booking().expect(rt, "a booking")
 }
 
-pub(crate) fn booking_of(rt: &impl Abort, booked: &Option<Booked>) -> Option<Booking> {
+pub(crate) fn booking_of(rt: &impl Abort, booked: &Option<PlainBooking>) -> Option<Booking> {
     match booked {
         Some(booked) => Some(booking(rt, booked)),
         None => None,

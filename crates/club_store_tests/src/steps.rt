@@ -2,8 +2,7 @@
 
 use crate::expect::expect_eq;
 use crate::rows::{
-    AMY_1, At, Booked, COURT, COURT_7, COURT_AT_18, Kept, Place, ROOM, ROOM_8, amy, booking_of,
-    day, facility, key, moment, name, number, slot,
+    AMY_1, Kept, booking_of, day, facility, key, member, moment, name, number, slot,
 };
 use crate::write::{Write, change};
 use club_core::{Change, ClubStore, MemberAccount, Request, SlotUse, StoreFault, View, sheet_text};
@@ -11,6 +10,9 @@ use club_store::Store;
 use sqlite::{Alter, MemStore};
 use std::alloc::Global;
 use std::process::Abort;
+use test_kit::{
+    BOOKING_7, BOOKING_8, COURT, COURT_AT_18, PlainBooking, PlainFacility, PlainSlot, ROOM,
+};
 
 #[derive(Clone, Copy)]
 pub(crate) enum Step {
@@ -29,12 +31,12 @@ pub(crate) enum Shown {
     /// Amy with so many points credited; `None` where she is unknown.
     Member(Option<u32>),
     Key(Kept),
-    Facility(Place),
+    Facility(PlainFacility),
     /// So many persons in a slot, which is closed or isn't.
-    Slot(At, u32, bool),
+    Slot(PlainSlot, u32, bool),
     /// What `amy-1` sees of a request where all of `BOOKS` was done: so many persons in its slot,
     /// and the booking of its number.
-    View(Asked, u64, Option<Booked>),
+    View(Asked, u64, Option<PlainBooking>),
     /// The sheet of a day.
     Sheet(&'static str, &'static str),
 }
@@ -44,7 +46,7 @@ pub(crate) enum Shown {
 pub(crate) enum Asked {
     Account,
     /// To see a slot.
-    View(At),
+    View(PlainSlot),
     /// To cancel a booking of the court at 18.
     Cancel(u32),
 }
@@ -60,14 +62,14 @@ static ROWS: [Step; 4] = [
 /// Her points, and two bookings, of which the room's is cancelled.
 static BOOKS: [Step; 4] = [
     Step::Applies(Write::Credit(10_000)),
-    Step::Applies(Write::Book(COURT_7)),
-    Step::Applies(Write::Book(ROOM_8)),
-    Step::Applies(Write::Cancel(ROOM_8, 300)),
+    Step::Applies(Write::Book(BOOKING_7)),
+    Step::Applies(Write::Book(BOOKING_8)),
+    Step::Applies(Write::Cancel(BOOKING_8, 300)),
 ];
 
 fn shows_member<C: ClubStore>(rt: &impl Abort, store: &mut C, credited: Option<u32>) {
     let want = match credited {
-        Some(credited) => Some(amy(rt, credited)),
+        Some(credited) => Some(member(rt, credited)),
         None => None,
     };
     expect_eq(rt, &store.member(&name(rt, "amy")), &Ok(want));
@@ -78,12 +80,12 @@ pub(crate) fn shows_key<C: ClubStore>(rt: &impl Abort, store: &mut C, kept: &Kep
     expect_eq(rt, &store.key(&want.name), &Ok(Some(want)));
 }
 
-fn shows_facility<C: ClubStore>(rt: &impl Abort, store: &mut C, place: &Place) {
+fn shows_facility<C: ClubStore>(rt: &impl Abort, store: &mut C, place: &PlainFacility) {
     let want = facility(rt, place);
     expect_eq(rt, &store.facility(&want.name), &Ok(Some(want)));
 }
 
-fn shows_slot<C: ClubStore>(rt: &impl Abort, store: &mut C, at: &At, want: SlotUse) {
+fn shows_slot<C: ClubStore>(rt: &impl Abort, store: &mut C, at: &PlainSlot, want: SlotUse) {
     expect_eq(rt, &store.slot(&slot(rt, at)), &Ok(want));
 }
 
@@ -127,7 +129,7 @@ fn shows_sums<C: ClubStore>(rt: &impl Abort, store: &mut C) {
     let at = moment(rt, DAY_BEFORE);
     expect_eq(rt, &store.open_count(&name(rt, "amy"), at), &Ok(1));
     let account = MemberAccount {
-        member: amy(rt, 10_000),
+        member: member(rt, 10_000),
         balance: 9_099,
     };
     expect_eq(rt, &store.account(&name(rt, "amy")), &Ok(Some(account)));
@@ -138,7 +140,7 @@ fn shows_booking<C: ClubStore>(
     rt: &impl Abort,
     store: &mut C,
     asked: &Asked,
-    booked: &Option<Booked>,
+    booked: &Option<PlainBooking>,
 ) {
     if let Some(number) = request(rt, asked).number() {
         let want = Ok(booking_of(rt, booked));

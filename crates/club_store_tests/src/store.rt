@@ -1,11 +1,32 @@
 //! Tests of a store: what is written to it, and what it shows then.
 
-use crate::rows::{
-    AMY_1, At, Booked, COURT_7, COURT_AT_18, DAY, REVOKED, ROOM, ROOM_8, ROOM_AT_18,
-};
+use crate::rows::{AMY_1, DAY, REVOKED};
 use crate::steps::{Asked, Shown, Step, empty, plays, plays_again, with_bookings, with_rows};
 use crate::write::Write;
 use std::test::*;
+use test_kit::{
+    BOOKING_7, BOOKING_8, COURT_AT_18, FRIDAY, PlainBooking, PlainSlot, ROOM, ROOM_AT_18,
+};
+
+const COURT_AT_9: PlainSlot = PlainSlot {
+    hour: 9,
+    ..COURT_AT_18
+};
+
+const ROOM_AT_9: PlainSlot = PlainSlot {
+    hour: 9,
+    ..ROOM_AT_18
+};
+
+const COURT_AT_10: PlainSlot = PlainSlot {
+    hour: 10,
+    ..COURT_AT_18
+};
+
+const ROOM_AT_10: PlainSlot = PlainSlot {
+    hour: 10,
+    ..ROOM_AT_18
+};
 
 static UNKNOWN: [Step; 1] = [Step::Shows(Shown::Member(None))];
 
@@ -39,11 +60,11 @@ fn changes_rows(rt: HostRuntime) {
 }
 
 static PERSONS: [Step; 7] = [
-    Step::Applies(Write::Book(COURT_7)),
-    Step::Applies(Write::Book(ROOM_8)),
+    Step::Applies(Write::Book(BOOKING_7)),
+    Step::Applies(Write::Book(BOOKING_8)),
     Step::Shows(Shown::Slot(COURT_AT_18, 3, false)),
     Step::Shows(Shown::Slot(ROOM_AT_18, 1, false)),
-    Step::Applies(Write::Cancel(ROOM_8, 300)),
+    Step::Applies(Write::Cancel(BOOKING_8, 300)),
     Step::Shows(Shown::Slot(COURT_AT_18, 3, false)),
     Step::Shows(Shown::Slot(ROOM_AT_18, 0, false)),
 ];
@@ -54,9 +75,9 @@ fn counts_the_persons_of_a_slot(rt: HostRuntime) {
 }
 
 static CLOSES: [Step; 3] = [
-    Step::Applies(Write::Close(At("court-1", DAY, 9))),
-    Step::Shows(Shown::Slot(At("court-1", DAY, 9), 0, true)),
-    Step::Shows(Shown::Slot(At("court-1", DAY, 10), 0, false)),
+    Step::Applies(Write::Close(COURT_AT_9)),
+    Step::Shows(Shown::Slot(COURT_AT_9, 0, true)),
+    Step::Shows(Shown::Slot(COURT_AT_10, 0, false)),
 ];
 
 #[test]
@@ -64,27 +85,33 @@ fn closes_a_slot(rt: HostRuntime) {
     plays(&rt, &mut with_rows(&rt), &CLOSES);
 }
 
-const COURT_10: Booked = Booked {
+const COURT_10: PlainBooking = PlainBooking {
+    key: "amy-1",
     number: 10,
-    at: COURT_AT_18,
+    slot: COURT_AT_18,
     guests: 0,
     charge: 200,
     left: 0,
     refund: None,
 };
 
-const COURT_3_AT_9: Booked = Booked {
+const COURT_3_AT_9: PlainBooking = PlainBooking {
+    key: "amy-1",
     number: 3,
-    at: At("court-1", DAY, 9),
+    slot: COURT_AT_9,
     guests: 0,
     charge: 200,
     left: 3,
     refund: None,
 };
 
-const COURT_4_A_DAY_LATER: Booked = Booked {
+const COURT_4_A_DAY_LATER: PlainBooking = PlainBooking {
+    key: "amy-1",
     number: 4,
-    at: At("court-1", "2026-05-02", 18),
+    slot: PlainSlot {
+        day: FRIDAY + 1,
+        ..COURT_AT_18
+    },
     guests: 1,
     charge: 400,
     left: 2,
@@ -105,11 +132,11 @@ const EMPTY_SHEET: &str = "Day sheet 2026-05-03\nNo bookings.\n";
 /// next day.
 static DAYS: [Step; 9] = [
     Step::Applies(Write::Credit(10_000)),
-    Step::Applies(Write::Book(ROOM_8)),
+    Step::Applies(Write::Book(BOOKING_8)),
     Step::Applies(Write::Book(COURT_10)),
     Step::Applies(Write::Book(COURT_3_AT_9)),
     Step::Applies(Write::Book(COURT_4_A_DAY_LATER)),
-    Step::Applies(Write::Book(COURT_7)),
+    Step::Applies(Write::Book(BOOKING_7)),
     Step::Applies(Write::Cancel(COURT_3_AT_9, 200)),
     Step::Shows(Shown::Sheet(DAY, FULL_SHEET)),
     Step::Shows(Shown::Sheet("2026-05-03", EMPTY_SHEET)),
@@ -125,7 +152,7 @@ static VIEWS: [Step; 5] = [
     Step::Shows(Shown::View(Asked::Account, 0, None)),
     Step::Shows(Shown::View(Asked::View(COURT_AT_18), 3, None)),
     Step::Shows(Shown::View(Asked::View(ROOM_AT_18), 0, None)),
-    Step::Shows(Shown::View(Asked::Cancel(7), 3, Some(COURT_7))),
+    Step::Shows(Shown::View(Asked::Cancel(7), 3, Some(BOOKING_7))),
     Step::Shows(Shown::View(Asked::Cancel(9), 3, None)),
 ];
 
@@ -157,9 +184,9 @@ static KEYS_AND_SLOTS: [Step; 9] = [
     Step::Shows(Shown::Key(AMY_1)),
     Step::Calls(Write::Revoke),
     Step::Shows(Shown::Key(REVOKED)),
-    Step::Calls(Write::Close(At("room-1", DAY, 9))),
-    Step::Shows(Shown::Slot(At("room-1", DAY, 9), 0, true)),
-    Step::Shows(Shown::Slot(At("room-1", DAY, 10), 0, false)),
+    Step::Calls(Write::Close(ROOM_AT_9)),
+    Step::Shows(Shown::Slot(ROOM_AT_9, 0, true)),
+    Step::Shows(Shown::Slot(ROOM_AT_10, 0, false)),
 ];
 
 #[test]

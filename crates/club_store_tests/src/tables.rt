@@ -4,8 +4,8 @@ ghost use Rattle.std.specs.Prelude.{◌≡◌, false};
 
 use crate::expect::expect_eq;
 use crate::rows::{
-    AMY_1, At, Booked, COURT, COURT_7, Kept, Older, Place, amy, booking, booking_of, day,
-    facility_of, key, key_of, moment, name, number, older_root_of, slot,
+    AMY_1, Kept, Older, booking, booking_of, day, facility_of, key, key_of, member, moment, name,
+    number, older_root_of, slot,
 };
 use crate::write::{Write, change};
 use club_core::{Change, SlotUse, StoreFault};
@@ -15,6 +15,7 @@ use club_values::{Moment, Name};
 use sqlite::{Connection, MemStore};
 use std::alloc::Global;
 use std::process::Abort;
+use test_kit::{BOOKING_7, COURT, PlainBooking, PlainFacility, PlainSlot};
 
 /// The tables of a club. The calls are those of `club_tables`, over a connection that is in no
 /// transaction between them.
@@ -39,15 +40,15 @@ pub(crate) enum Step {
 pub(crate) enum Expected {
     /// Of a name the member's points, and what the bookings cost.
     Member(&'static str, Option<(u32, u32)>),
-    Facility(&'static str, Option<Place>),
+    Facility(&'static str, Option<PlainFacility>),
     Key(&'static str, Option<Kept>),
     OlderRoot(&'static str, Option<Older>),
     /// So many persons in a slot, which is closed or isn't.
-    Slot(At, u32, bool),
+    Slot(PlainSlot, u32, bool),
     /// The booking of `amy-1` with a number.
-    Booking(u32, Option<Booked>),
+    Booking(u32, Option<PlainBooking>),
     /// The only booking of a day; `None` where there is none.
-    Day(&'static str, Option<Booked>),
+    Day(&'static str, Option<PlainBooking>),
     /// What a key has spent.
     Spent(&'static str, u64),
     /// How many bookings of a member are still to come at a moment.
@@ -60,7 +61,7 @@ static FILLS: [Step; 5] = [
     Step::Writes(Write::Credit(1_000)),
     Step::Writes(Write::Key(AMY_1)),
     Step::Writes(Write::Facility(COURT)),
-    Step::Writes(Write::Book(COURT_7)),
+    Step::Writes(Write::Book(BOOKING_7)),
 ];
 
 fn rotation(key: &Name, former: &Root, root: &Root, until: Moment) -> Rotation {
@@ -153,18 +154,18 @@ impl Tables {
         }
     }
 
-    fn expects_member(&mut self, rt: &impl Abort, member: &str, points: &Option<(u32, u32)>) {
-        let found = reads::member(&mut self.conn, &name(rt, member)).expect(rt, "an answer");
+    fn expects_member(&mut self, rt: &impl Abort, text: &str, points: &Option<(u32, u32)>) {
+        let found = reads::member(&mut self.conn, &name(rt, text)).expect(rt, "an answer");
         match (found, points) {
             (Some(row), Some(points)) => {
-                expect_eq(rt, &row.member, &amy(rt, points.0));
+                expect_eq(rt, &row.member, &member(rt, points.0));
                 expect_eq(rt, &row.used, &points.1);
             }
             (found, points) => expect_eq(rt, &found.is_some(), &points.is_some()),
         }
     }
 
-    fn expects_facility(&mut self, rt: &impl Abort, facility: &str, place: &Option<Place>) {
+    fn expects_facility(&mut self, rt: &impl Abort, facility: &str, place: &Option<PlainFacility>) {
         let found = reads::facility(&mut self.conn, &name(rt, facility));
         expect_eq(rt, &found, &Ok(facility_of(rt, place)));
     }
@@ -179,12 +180,12 @@ impl Tables {
         expect_eq(rt, &found, &Ok(older_root_of(rt, older)));
     }
 
-    fn expects_slot(&mut self, rt: &impl Abort, at: &At, taken: u32, closed: bool) {
+    fn expects_slot(&mut self, rt: &impl Abort, at: &PlainSlot, taken: u32, closed: bool) {
         let found = reads::slot(&mut self.conn, &slot(rt, at));
         expect_eq(rt, &found, &Ok(SlotUse { taken, closed }));
     }
 
-    fn expects_booking(&mut self, rt: &impl Abort, booking: u32, booked: &Option<Booked>) {
+    fn expects_booking(&mut self, rt: &impl Abort, booking: u32, booked: &Option<PlainBooking>) {
         let amy_1 = name(rt, "amy-1");
         let found = reads::booking(&mut self.conn, &amy_1, number(rt, booking));
         expect_eq(rt, &found, &Ok(booking_of(rt, booked)));
@@ -194,7 +195,7 @@ impl Tables {
         &mut self,
         rt: &(impl Abort + Alloc<A = Global>),
         date: &str,
-        booked: &Option<Booked>,
+        booked: &Option<PlainBooking>,
     ) {
         let found = reads::day(&mut self.conn, rt.alloc(), day(rt, date));
         let rows = found.expect(rt, "an answer");

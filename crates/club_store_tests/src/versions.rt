@@ -2,7 +2,7 @@
 //! kinds, and the older roots of version 2.
 
 use crate::expect::expect_eq;
-use crate::rows::{AMY_1, CANCELLED_8, COURT_7, FIRST, Kept, Older, SECOND, THIRD};
+use crate::rows::{AMY_1, CANCELLED_8, Kept, Older};
 use crate::steps::{Asked, Shown, Step, plays, plays_again, with_bookings};
 use crate::write::Write;
 use club_core::StoreFault;
@@ -11,6 +11,8 @@ use sqlite::{Alter, Connection, MemStore};
 use std::alloc::Global;
 use std::process::Abort;
 use std::test::*;
+use test_kit::BOOKING_7;
+use test_kit::roots::{ROOT, SECOND_ROOT, THIRD_ROOT};
 
 const DESK: &str = "CREATE TABLE desk (version INTEGER NOT NULL) STRICT";
 
@@ -84,7 +86,7 @@ static ROWS: [&str; 8] = [
     "INSERT INTO members VALUES ('amy', 10000, 5, 901)",
     "INSERT INTO facilities VALUES ('court-1', 'court', 4, 200, 8, 22)",
     "INSERT INTO facilities VALUES ('room-1', 'room', 1, 601, 8, 22)",
-    "INSERT INTO keys VALUES ('amy-1', 'amy', X'30313233343536373839616263646566', 0)",
+    "INSERT INTO keys VALUES ('amy-1', 'amy', X'00112233445566778899AABBCCDDEEFF', 0)",
     "INSERT INTO slots VALUES ('court-1', 20574, 18, 0, 3)",
     "INSERT INTO slots VALUES ('room-1', 20574, 18, 0, 0)",
     "INSERT INTO bookings VALUES ('amy-1', 7, 'court-1', 20574, 18, 2, 600, 1, 0, 0)",
@@ -133,7 +135,7 @@ fn adopted(
 /// The account, and both bookings.
 pub(crate) static MIGRATED: [Step; 3] = [
     Step::Shows(Shown::View(Asked::Account, 0, None)),
-    Step::Shows(Shown::View(Asked::Cancel(7), 3, Some(COURT_7))),
+    Step::Shows(Shown::View(Asked::Cancel(7), 3, Some(BOOKING_7))),
     Step::Shows(Shown::View(Asked::Cancel(8), 3, Some(CANCELLED_8))),
 ];
 
@@ -179,13 +181,13 @@ fn has_no_older_root_once_migrated(rt: HostRuntime) {
     plays_again(&rt, store, &NO_OLDER_ROOT, &NO_OLDER_ROOT);
 }
 
-const OLDER: Older = Older(FIRST, "2026-04-25T00:00");
+const OLDER: Older = Older(ROOT, "2026-04-25T00:00");
 
-static ROTATES: [Step; 1] = [Step::Applies(Write::Rotate("amy-1", OLDER, SECOND))];
+static ROTATES: [Step; 1] = [Step::Applies(Write::Rotate("amy-1", OLDER, SECOND_ROOT))];
 
 static ROTATED: [Step; 1] = [Step::Shows(Shown::Key(Kept {
     name: "amy-1",
-    root: SECOND,
+    root: SECOND_ROOT,
     older: Some(OLDER),
     revoked: false,
 }))];
@@ -198,12 +200,12 @@ fn rotates_a_key_once_migrated(rt: HostRuntime) {
 
 /// Of two rotations the second drops the root that the first kept; bookings stay.
 static ROTATES_TWICE: [Step; 4] = [
-    Step::Applies(Write::Rotate("amy-1", Older(FIRST, "2000-01-01T00:00"), SECOND)),
-    Step::Applies(Write::Rotate("amy-1", Older(SECOND, "2099-12-31T23:59"), THIRD)),
+    Step::Applies(Write::Rotate("amy-1", Older(ROOT, "2000-01-01T00:00"), SECOND_ROOT)),
+    Step::Applies(Write::Rotate("amy-1", Older(SECOND_ROOT, "2099-12-31T23:59"), THIRD_ROOT)),
     Step::Shows(Shown::Key(Kept {
         name: "amy-1",
-        root: THIRD,
-        older: Some(Older(SECOND, "2099-12-31T23:59")),
+        root: THIRD_ROOT,
+        older: Some(Older(SECOND_ROOT, "2099-12-31T23:59")),
         revoked: false,
     })),
     Step::Shows(Shown::View(Asked::Account, 0, None)),
@@ -216,8 +218,8 @@ fn rotates_a_key_twice(rt: HostRuntime) {
 
 /// By the call of its own name. A root of an unknown key is refused by the tables.
 static REPLACES: [Step; 2] = [
-    Step::Calls(Write::Rotate("amy-1", OLDER, SECOND)),
-    Step::Refuses(Write::Rotate("amy-2", OLDER, SECOND)),
+    Step::Calls(Write::Rotate("amy-1", OLDER, SECOND_ROOT)),
+    Step::Refuses(Write::Rotate("amy-2", OLDER, SECOND_ROOT)),
 ];
 
 #[test]

@@ -1,10 +1,9 @@
 //! Changes of a club, from plain data.
 
-use crate::rows::{
-    At, Booked, Kept, Older, Place, amy, booking, facility, key, moment, name, root, slot,
-};
+use crate::rows::{Kept, Older, booking, facility, key, member, moment, name, root, slot};
 use club_core::Change;
 use std::process::Abort;
+use test_kit::{PlainBooking, PlainFacility, PlainSlot};
 
 #[derive(Clone, Copy)]
 pub(crate) enum Write {
@@ -12,16 +11,16 @@ pub(crate) enum Write {
     Member(u32),
     /// So many points for amy.
     Credit(u32),
-    Facility(Place),
+    Facility(PlainFacility),
     Key(Kept),
     /// Revokes `amy-1`.
     Revoke,
     /// Gives a key a new root, in place of the former one, which is good until the moment.
-    Rotate(&'static str, Older, &'static str),
-    Close(At),
-    Book(Booked),
+    Rotate(&'static str, Older, &'static [u8]),
+    Close(PlainSlot),
+    Book(PlainBooking),
     /// Cancels a booking with a refund.
-    Cancel(Booked, u32),
+    Cancel(PlainBooking, u32),
 }
 
 fn credited(rt: &impl Abort, points: u32) -> Change {
@@ -37,7 +36,7 @@ fn revoked(rt: &impl Abort) -> Change {
     }
 }
 
-fn rotated(rt: &impl Abort, key: &str, former: &Older, to: &str) -> Change {
+fn rotated(rt: &impl Abort, key: &str, former: &Older, to: &[u8]) -> Change {
     Change::ReplaceRoot {
         key: name(rt, key),
         former: root(rt, former.0),
@@ -46,14 +45,14 @@ fn rotated(rt: &impl Abort, key: &str, former: &Older, to: &str) -> Change {
     }
 }
 
-fn booked(rt: &impl Abort, booked: &Booked) -> Change {
+fn booked(rt: &impl Abort, booked: &PlainBooking) -> Change {
     Change::InsertBooking {
         booking: booking(rt, booked),
         member: name(rt, "amy"),
     }
 }
 
-fn cancelled(rt: &impl Abort, booked: &Booked, refund: u32) -> Change {
+fn cancelled(rt: &impl Abort, booked: &PlainBooking, refund: u32) -> Change {
     Change::MarkCancelled {
         booking: booking(rt, booked),
         member: name(rt, "amy"),
@@ -63,7 +62,7 @@ fn cancelled(rt: &impl Abort, booked: &Booked, refund: u32) -> Change {
 
 pub(crate) fn change(rt: &impl Abort, write: &Write) -> Change {
     match write {
-        Write::Member(credited) => Change::InsertMember(amy(rt, *credited)),
+        Write::Member(credited) => Change::InsertMember(member(rt, *credited)),
         Write::Credit(points) => credited(rt, *points),
         Write::Facility(place) => Change::InsertFacility(facility(rt, place)),
         Write::Key(kept) => Change::InsertKey(key(rt, kept)),

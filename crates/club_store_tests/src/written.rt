@@ -1,14 +1,22 @@
 //! Tests of the changes: the rows that each leaves.
 
-use crate::rows::{AMY_1, At, Booked, COURT_7, COURT_AT_18, DAY, FIRST, Kept, Older, SECOND};
+use crate::rows::{DAY, Kept, Older};
 use crate::tables::{Expected, Step, Tables};
 use crate::write::Write;
 use std::test::*;
+use test_kit::roots::{ROOT, SECOND_ROOT};
+use test_kit::{BOOKING_7, COURT_AT_18, PlainBooking, PlainSlot};
+
+const COURT_AT_19: PlainSlot = PlainSlot {
+    hour: 19,
+    ..COURT_AT_18
+};
 
 /// The court's booking, cancelled for half its price.
-const CANCELLED_7: Booked = Booked {
+const CANCELLED_7: PlainBooking = PlainBooking {
+    key: "amy-1",
     number: 7,
-    at: COURT_AT_18,
+    slot: COURT_AT_18,
     guests: 2,
     charge: 600,
     left: 1,
@@ -17,7 +25,7 @@ const CANCELLED_7: Booked = Booked {
 
 /// The refund goes back to the member and the key, and the places to the slot.
 static CANCELS: [Step; 7] = [
-    Step::Writes(Write::Cancel(COURT_7, 300)),
+    Step::Writes(Write::Cancel(BOOKING_7, 300)),
     Step::Expects(Expected::Booking(7, Some(CANCELLED_7))),
     Step::Expects(Expected::Spent("amy-1", 300)),
     Step::Expects(Expected::Member("amy", Some((10_000, 300)))),
@@ -35,8 +43,8 @@ fn a_cancellation(rt: HostRuntime) {
 static CLOSES: [Step; 4] = [
     Step::Writes(Write::Close(COURT_AT_18)),
     Step::Expects(Expected::Slot(COURT_AT_18, 3, true)),
-    Step::Writes(Write::Close(At("court-1", DAY, 19))),
-    Step::Expects(Expected::Slot(At("court-1", DAY, 19), 0, true)),
+    Step::Writes(Write::Close(COURT_AT_19)),
+    Step::Expects(Expected::Slot(COURT_AT_19, 0, true)),
 ];
 
 #[test]
@@ -44,25 +52,25 @@ fn closed_slots(rt: HostRuntime) {
     Tables::filled(&rt).plays_all(&rt, &CLOSES);
 }
 
-const OLDER: Older = Older(FIRST, "2026-04-25T00:00");
+const OLDER: Older = Older(ROOT, "2026-04-25T00:00");
 
 const ROTATED: Kept = Kept {
     name: "amy-1",
-    root: SECOND,
+    root: SECOND_ROOT,
     older: None,
     revoked: false,
 };
 
 const ROTATED_AND_REVOKED: Kept = Kept {
     name: "amy-1",
-    root: SECOND,
+    root: SECOND_ROOT,
     older: None,
     revoked: true,
 };
 
 /// An older root has a row in a table of its own.
 static ROTATES: [Step; 5] = [
-    Step::Writes(Write::Rotate("amy-1", OLDER, SECOND)),
+    Step::Writes(Write::Rotate("amy-1", OLDER, SECOND_ROOT)),
     Step::Expects(Expected::OlderRoot("amy-1", Some(OLDER))),
     Step::Expects(Expected::Key("amy-1", Some(ROTATED))),
     Step::Writes(Write::Revoke),
@@ -78,7 +86,7 @@ fn a_rotation_and_a_revoked_key(rt: HostRuntime) {
 static REFUSES: [Step; 3] = [
     Step::Refuses(Kept {
         name: "amy-2",
-        root: FIRST,
+        root: ROOT,
         older: Some(OLDER),
         revoked: false,
     }),

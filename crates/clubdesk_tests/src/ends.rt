@@ -1,114 +1,81 @@
-//! A reader that gives a request, and a writer that takes a reply, which may fail.
+//! Ends that aren't the office's: a writer that fails, and a port in use.
 
-ghost use Rattle.std.specs.Prelude.{◌≤◌, length};
+use crate::clubs::expect_over_clubs;
+use crate::runs::{Row, ended_at, expect_rows, new_path, remove};
+use std::net::TcpListener;
+use std::test::Fail;
 
-use club_http::MAX_REPLY_LEN;
-use std::io::{self, ErrorKind, Read, Write};
-
-/// More bytes than any request has.
-pub(crate) const WHOLE: usize = 65_536;
-
-/// Gives a request, at most so many bytes a call. Behind its end it gives none, or fails.
-#[derive(Drop)]
-pub(crate) struct Giver<'a> {
-    pub left: &'a [u8],
-    step: usize,
-    fails: bool,
-    pub calls: u64,
+// A command fails with its writer once that has taken this much, which is less than it writes, and
+// logs nothing.
+fn fails_with_room(
+    rt: &HostRuntime,
+    path: &str,
+    command: &str,
+    words: &str,
+    room: usize,
+) -> Result<bool, Fail> {
+    let ended = ended_at(rt, path, command, words, room)?;
+    let output = &ended.output;
+    let failed = output.returned.as_str() == "7 input or output failed";
+    Ok(failed && output.taken == room && output.logged == 0)
 }
 
-impl<'a> Giver<'a> {
-    /// These bytes, and then the input ends.
-    pub fn ending(bytes: &'a [u8]) -> Giver<'a> {
-        Giver {
-            left: bytes,
-            step: WHOLE,
-            fails: false,
-            calls: 0,
-        }
-    }
+static KEY_EXISTS: [Row; 1] = [Row(
+    "add-key",
+    "amy-1 amy 00112233445566778899aabbccddeeff",
+    "1 refused: exists",
+)];
 
-    /// Fails where more is wanted than these bytes.
-    pub fn failing(bytes: &'a [u8], step: usize) -> Giver<'a> {
-        Giver {
-            left: bytes,
-            step,
-            fails: true,
-            calls: 0,
-        }
-    }
+// A key whose pass couldn't be printed is kept, and its pass can be minted.
+#[test]
+fn a_failing_writer(rt: HostRuntime) -> Result<(), Fail> {
+    let path = new_path(&rt, "full")?;
+    let path = path.as_str();
+    assert!(rt; fails_with_room(&rt, path, "add-member", "amy 5", 0)?);
+    let words = "amy-1 amy 00112233445566778899aabbccddeeff";
+    assert!(rt; fails_with_room(&rt, path, "add-key", words, 40)?);
+    expect_rows(&rt, path, &KEY_EXISTS)?;
+    remove(&rt, path);
+    Ok(())
 }
 
-impl Read for Giver<'_> {
-    fn read(&mut self, room: &mut [u8]) -> io::Result<usize> {
-        self.calls = self.calls.saturating_add(1);
-        if self.left.is_empty() && self.fails {
-            return Err(io::Error::from(ErrorKind::ConnectionReset));
-        }
-        let n = self.step.min(room.len()).min(self.left.len());
-        let (front, rest) = self.left.split_at(n);
-        room[..n].copy_from_slice(front);
-        self.left = rest;
-        Ok(n)
-    }
+const MINT: &[&str] = &[
+    "passtool",
+    "mint",
+    "--root",
+    "00112233445566778899aabbccddeeff",
+    "--id",
+    "key:amy-1",
+    "--location",
+    "club-desk",
+];
+
+#[test]
+fn a_minted_pass(rt: HostRuntime) -> Result<(), Fail> {
+    let mut nothing: &[u8] = b"";
+    let mut written = Vec::new(rt.alloc());
+    passtool_commands::run(rt.alloc(), MINT, &mut nothing, &mut written)?;
+    let pass: &[u8] =
+        b"AgEJY2x1Yi1kZXNrAglrZXk6YW15LTEAAAYgDsU-vMVpq3Ex5_BQk6D5VX6TimC0IfCk7Dn6nv7TIJk\n";
+    assert_eq!(rt; written.as_slice(), pass);
+    Ok(())
 }
 
-/// Takes a reply, at most so many bytes a call. Where its limit is reached it fails, or takes none.
-#[derive(Drop)]
-pub(crate) struct Taker {
-    bytes: [u8; MAX_REPLY_LEN],
-    len: usize,
-    step: usize,
-    limit: usize,
-    stalls: bool,
-    pub calls: u64,
-    ghost within: { len ≤ 512 },
+#[test]
+fn a_port_in_use(rt: HostRuntime) -> Result<(), Fail> {
+    let listener = TcpListener::bind(&rt, "127.0.0.1:0")?;
+    let port = listener.local_addr()?.port();
+    let words = format!(in rt.alloc(); "--port {port} --count 1")?;
+    let row = Row("serve", words.as_str(), "7 input or output failed");
+    expect_over_clubs(&rt, 1, &[row])
 }
 
-impl Taker {
-    pub fn new(step: usize, limit: usize, stalls: bool) -> Taker {
-        Taker {
-            bytes: [0; MAX_REPLY_LEN],
-            len: 0,
-            step,
-            limit,
-            stalls,
-            calls: 0,
-        }
-    }
-
-    /// Takes a whole reply in one call.
-    pub fn whole() -> Taker {
-        Taker::new(MAX_REPLY_LEN, MAX_REPLY_LEN, false)
-    }
-
-    /// Takes the first of these bytes that have room, and answers how many.
-    pub fn take(&mut self, bytes: &[u8]) -> usize
-        ensures { result ≤ length bytes.now }
-    {
-        let room = self.limit.min(MAX_REPLY_LEN).saturating_sub(self.len);
-        let n = self.step.min(room).min(bytes.len());
-        self.bytes[self.len..self.len + n].copy_from_slice(&bytes[..n]);
-        self.len += n;
-        n
-    }
-
-    pub fn written(&self) -> &[u8] {
-        &self.bytes[..self.len]
-    }
-}
-
-impl Write for Taker {
-    fn write(&mut self, bytes: &[u8]) -> io::Result<usize> {
-        self.calls = self.calls.saturating_add(1);
-        let n = self.take(bytes);
-        if n == 0 && !bytes.is_empty() && !self.stalls {
-            return Err(io::Error::from(ErrorKind::BrokenPipe));
-        }
-        Ok(n)
-    }
-
-    fn flush(&mut self) -> io::Result<()> {
-        Ok(())
-    }
+// A server whose first line can't be written serves nobody.
+#[test]
+fn a_server_with_no_output(rt: HostRuntime) -> Result<(), Fail> {
+    let path = new_path(&rt, "silent")?;
+    let words = "--port 0 --count 1 --log";
+    assert!(rt; fails_with_room(&rt, path.as_str(), "serve", words, 5)?);
+    remove(&rt, path.as_str());
+    Ok(())
 }

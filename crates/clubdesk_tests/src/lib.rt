@@ -1,32 +1,31 @@
-//! Tests of whole exchanges, from the bytes of a request to the bytes of the reply, with a desk
-//! over tables in memory; and of whole runs of the program, over files and memory.
+//! Tests of runs of `clubdesk`, over clubs in files and over one in memory.
 #![tactic(auto)]
 
 #[cfg(test)]
-mod bad_requests;
+mod beside;
 #[cfg(test)]
-mod bookings;
+mod callers;
+#[cfg(test)]
+mod clubs;
 #[cfg(test)]
 mod ends;
 #[cfg(test)]
-mod entitlement;
+mod files;
 #[cfg(test)]
-mod expect;
+mod input;
 #[cfg(test)]
-mod failing_ends;
+mod looks;
 #[cfg(test)]
-mod front;
+mod memory;
 #[cfg(test)]
-mod limits;
-#[cfg(test)]
-mod messages;
-#[cfg(test)]
-mod office;
+mod orders;
 #[cfg(test)]
 mod others;
 #[cfg(test)]
-mod passes;
+mod runs;
 #[cfg(test)]
-mod program;
+mod served;
 #[cfg(test)]
-mod refused_memory;
+mod servers;
+#[cfg(test)]
+mod turns;

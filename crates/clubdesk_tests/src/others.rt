@@ -1,114 +1,72 @@
-//! Worked rows of a member among others.
+//! Other programs that wish for a database, as a test has them.
 
-use crate::front::{FORMS, Front, plays_in_all_forms};
-use crate::messages::{
-    ACCOUNT, ACCOUNT_AFTER, Asked, BOOK_2, BOOK_7, BOOKED_7, CANCEL_7, CANCELLED_7, HttpReply,
-    NO_GUESTS, NOON, Step,
-};
-use crate::office::Order;
-use crate::passes::{AMY, BOB, CY};
-use pass_forms::Form;
-use std::alloc::Global;
-use std::process::Abort;
+use club_core::StoreFault;
+use std::cell::Cell;
 
-const BOOKED_2: HttpReply<'static> = HttpReply {
-    status: "200 OK",
-    field: "",
-    len: 43,
-    body: "{\"booking\":\"bob-1/2\",\"charge\":200,\"left\":3}",
-};
-
-const FILLED_BY_7: HttpReply<'static> = HttpReply {
-    status: "200 OK",
-    field: "",
-    len: 43,
-    body: "{\"booking\":\"amy-1/7\",\"charge\":600,\"left\":0}",
-};
-
-/// The replies to amy, whatever others do in other slots.
-static ALONE: [Step; 3] = [
-    Step::Asks(NOON, &AMY, &BOOK_7, &BOOKED_7),
-    Step::Asks(NOON, &AMY, &ACCOUNT, &ACCOUNT_AFTER),
-    Step::Asks(NOON, &AMY, &CANCEL_7, &CANCELLED_7),
-];
-
-/// A place of bob's in her slot changes the places that are left, and nothing else.
-static BESIDE_BOB: [Step; 4] = [
-    Step::Asks(NOON, &BOB, &BOOK_2, &BOOKED_2),
-    Step::Asks(NOON, &AMY, &BOOK_7, &FILLED_BY_7),
-    Step::Asks(NOON, &AMY, &ACCOUNT, &ACCOUNT_AFTER),
-    Step::Asks(NOON, &AMY, &CANCEL_7, &CANCELLED_7),
-];
-
-static BEFORE_CY: [Step; 4] = [
-    Step::Orders(Order::AddMember("cy", 20), None),
-    Step::Orders(Order::Credit("cy", 20_000), None),
-    Step::Orders(Order::AddKey("cy-1", "cy"), None),
-    Step::Orders(Order::AddKey("bob-2", "bob"), None),
-];
-
-static BEHIND_CY: [Step; 2] = [
-    Step::Orders(Order::Credit("bob", 500), None),
-    Step::Orders(Order::RevokeKey("bob-1"), None),
-];
-
-/// The request of a place in `court-1` on a day of May under a number of two digits.
-fn line_of(rt: &(impl Abort + Alloc<A = Global>), day: u32, hour: u32, number: u32) -> String {
-    let line = format!(in rt.alloc(); "PUT /slots/court-1/2026-05-0{day}/{hour}/bookings/{number}");
-    line.expect(rt, "memory")
+/// What is found of other programs.
+#[derive(Drop)]
+pub struct Others {
+    wishes: &'static [bool],
+    faults: &'static [Option<StoreFault>],
+    /// Whether servers can't be kept away.
+    pub refuse_pauses: bool,
+    looks: Cell<usize>,
+    reopenings: usize,
+    waited: Cell<u64>,
 }
 
-/// The reply to cy if the place is booked.
-fn booked_by_cy(rt: &(impl Abort + Alloc<A = Global>), number: u32) -> String {
-    let body = format!(in rt.alloc();
-        "{{\"booking\":\"cy-1/{number}\",\"charge\":200,\"left\":3}}"
-    );
-    body.expect(rt, "memory")
-}
-
-/// Cy books a place in `court-1` on a day of May under a number of two digits.
-fn cy_books(
-    rt: &(impl Abort + Alloc<A = Global>),
-    front: &mut Front,
-    form: Form,
-    (day, hour, number): (u32, u32, u32),
-) {
-    let line = line_of(rt, day, hour, number);
-    let body = booked_by_cy(rt, number);
-    let asked = Asked {
-        line: line.as_str(),
-        body: NO_GUESTS,
-    };
-    let returned = HttpReply {
-        status: "200 OK",
-        field: "",
-        len: 43,
-        body: body.as_str(),
-    };
-    front.answers(rt, NOON, CY.in_form(form), &asked, &returned);
-}
-
-/// Twenty bookings of others in other slots, credits, and a new key and a revoked one of bob's.
-fn others_are_busy(rt: &(impl Abort + Alloc<A = Global>), front: &mut Front, form: Form) {
-    front.plays(rt, form, &BEFORE_CY);
-    for hour in 10..20u32 {
-        cy_books(rt, front, form, (2, hour, hour));
-        cy_books(rt, front, form, (3, hour, hour + 20));
+impl Others {
+    /// At each look this is found, and no wish once there were so many looks; each opening again
+    /// has this fault, and none once there were so many.
+    pub fn new(wishes: &'static [bool], faults: &'static [Option<StoreFault>]) -> Others {
+        Others {
+            wishes,
+            faults,
+            refuse_pauses: false,
+            looks: Cell::new(0),
+            reopenings: 0,
+            waited: Cell::new(0),
+        }
     }
-    front.plays(rt, form, &BEHIND_CY);
-}
 
-fn answers_amy_the_same(rt: &(impl Abort + Alloc<A = Global>), form: Form) {
-    let mut front = Front::opened(rt);
-    others_are_busy(rt, &mut front, form);
-    front.plays(rt, form, &ALONE);
-}
+    /// Nobody else.
+    pub fn none() -> Others {
+        Others::new(&[], &[])
+    }
 
-#[test]
-fn answers_amy_the_same_whatever_others_do(rt: HostRuntime) {
-    plays_in_all_forms(&rt, &ALONE);
-    plays_in_all_forms(&rt, &BESIDE_BOB);
-    for form in &FORMS {
-        answers_amy_the_same(&rt, *form);
+    /// A look for a wish.
+    pub fn look(&self) -> bool {
+        let place = self.looks.get();
+        self.looks.set(place.saturating_add(1));
+        match self.wishes.get(place) {
+            Some(wished) => *wished,
+            None => false,
+        }
+    }
+
+    /// How many looks there were.
+    pub fn looks(&self) -> usize {
+        self.looks.get()
+    }
+
+    /// The fault of the next opening again.
+    pub fn fault_of_reopening(&mut self) -> Option<StoreFault> {
+        let place = self.reopenings;
+        self.reopenings = place.saturating_add(1);
+        match self.faults.get(place) {
+            Some(fault) => *fault,
+            None => None,
+        }
+    }
+
+    /// Waits for so many seconds.
+    pub fn wait(&self, seconds: u32) {
+        let waited = self.waited.get();
+        self.waited.set(waited.saturating_add(u64::from(seconds)));
+    }
+
+    /// How many seconds were waited.
+    pub fn waited(&self) -> u64 {
+        self.waited.get()
     }
 }

@@ -2,7 +2,7 @@
 
 use crate::disk::{Bytes, Part, Stops, has_calls_left, restarted};
 use crate::events::{Event, FIXTURE};
-use crate::expect::{append, expect_eq, push, text};
+use crate::expect::{append, expect_case, push, text};
 use crate::reference_club::{Version, lines_of, replies};
 use crate::texts::FAILURES;
 use crate::version_1::{OLDER_ROOTS, STATEMENTS};
@@ -154,7 +154,7 @@ impl Trial {
             None => End::NotOpened,
             Some(replies) if has_failed(replies.as_slice()) => End::Failed,
             Some(replies) => {
-                expect_eq(rt, "the task's replies", replies, &self.replies(rt));
+                expect_case(rt, "the task's replies", replies, &self.replies(rt));
                 End::Done
             }
         }
@@ -189,7 +189,7 @@ impl Trial {
             } else {
                 &prepared.from_before
             };
-            expect_eq(rt, "the club after the crash", &found, wanted);
+            expect_case(rt, "the club after the crash", &found, wanted);
         }
     }
 
@@ -210,7 +210,7 @@ impl Trial {
         let kept = Bytes::left_in(rt, &files);
         self.expect_whole(rt, prepared, end, kept.files(rt));
         self.expect_whole(rt, prepared, end, restarted(files));
-        expect_eq(
+        expect_case(
             rt,
             "done or stopped",
             &(end == End::Done || !has_more_calls),
@@ -241,9 +241,9 @@ impl Trial {
         let (found, _) = done(rt, files, Work::Inspects(self.again));
         let wanted = Some(prepared.from_before.as_slice());
         let found = found.as_ref().map(|lines| lines.as_slice());
-        expect_eq(rt, "the club before the task", &found, &wanted);
+        expect_case(rt, "the club before the task", &found, &wanted);
         let log = self.calls_of(rt, &prepared, Part::Log);
         let database = self.calls_of(rt, &prepared, Part::Database);
-        expect_eq(rt, "calls", &[log, database], &self.calls);
+        expect_case(rt, "calls", &[log, database], &self.calls);
     }
 }

@@ -1,7 +1,7 @@
 //! Events at a desk, and the texts of their replies.
 
 use crate::events::{Event, moment};
-use crate::expect::{expect_eq, push, text};
+use crate::expect::{expect_case, push, text};
 use club_core::{ClubStore, Reply};
 use club_gate::OfficeReply;
 use club_http::{
@@ -57,7 +57,7 @@ fn exchanged<S: ClubStore>(
     let reply = answer(&mut face, desk, moment(rt, at), &mut reader, &mut writer);
     let reply = reply.ok().expect(rt, "a reply");
     let written = String::from_utf8(output).ok().expect(rt, "a text");
-    expect_eq(rt, "written", &written, &reply_text(rt, &reply));
+    expect_case(rt, "written", &written, &reply_text(rt, &reply));
     written
 }
 
@@ -68,7 +68,10 @@ fn reply<S: ClubStore>(
     event: &Event,
 ) -> String {
     match event {
-        Event::Orders(order) => office_text(rt, &desk.office(&order.command(rt))),
+        Event::Orders(order) => {
+            let command = order.command().expect(rt, "an order");
+            office_text(rt, &desk.office(&command))
+        }
         Event::Asks(at, bytes) => asked(rt, desk, at, bytes),
         Event::Exchanges(at, bytes) => exchanged(rt, desk, at, bytes),
     }

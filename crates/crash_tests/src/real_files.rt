@@ -2,8 +2,8 @@
 //! called.
 
 use crate::events::{Event, FIXTURE};
-use crate::expect::expect_eq;
-use crate::texts::{BOOK_7, BOOKED_7, DONE, NOON};
+use crate::expect::expect_case;
+use crate::texts::DONE;
 use crate::work::{Work, worked};
 use club_store::Store;
 use club_store::laws::{files_hold_one_of, memory_disk_is_clean, one_club_recovered};
@@ -13,6 +13,8 @@ use std::alloc::Global;
 use std::process::Abort;
 use std::test::*;
 use std::{env, fs, process};
+use test_kit::exchanges::{BOOK_7, BOOKED_7};
+use test_kit::moments::NOON;
 
 /// A store over a real file.
 type RealStore = Store<FileStore<FileFrom<Unknown>>>;
@@ -81,7 +83,7 @@ fn visited(rt: &(impl Abort + Alloc<A = Global>), store: RealStore, visit: Visit
     let (lines, connection) = worked(rt, store.into_connection(), visit.work());
     let lines = lines.expect(rt, "a desk");
     let last = lines.last().map(|line| line.as_str());
-    expect_eq(rt, "the last line", &last, &Some(visit.line()));
+    expect_case(rt, "the last line", &last, &Some(visit.line()));
     if matches!(visit, Visit::Makes) {
         connection.close().ok().expect(rt, "closed");
     }
@@ -96,7 +98,7 @@ fn prints_a_booking_in_the_log_alone(rt: HostRuntime) -> Result<(), Fail> {
     let closed = fs::read(&rt, path)?;
     visited(&rt, opened(&rt, path)?, Visit::Books);
     let dropped = fs::read(&rt, path)?;
-    expect_eq(&rt, "the file", &dropped.as_slice(), &closed.as_slice());
+    expect_case(&rt, "the file", &dropped.as_slice(), &closed.as_slice());
     visited(&rt, opened(&rt, path)?, Visit::Prints);
     remove(&rt, path);
     Ok(())

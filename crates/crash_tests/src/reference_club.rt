@@ -1,10 +1,10 @@
 //! The reference machine's club: its replies to events, and the rows that its tables have then.
 
 use crate::desk::{office_text, reply_text};
-use crate::events::{Event, Order, ROOT, moment, name, root};
-use crate::expect::{expect_eq, push, text};
+use crate::events::{Event, moment};
+use crate::expect::{push, text};
 use crate::tables::{names, none_of};
-use club_core::{OfficeAnswer, Pass, Request, Words};
+use club_core::{OfficeAnswer, Request, Words};
 use club_gate::{Fault, OfficeReply, key_signature};
 use club_http::{Routes, words_of};
 use club_reference::Club;
@@ -12,6 +12,8 @@ use club_rows::{Booking, Facility, Key, Member, OlderRoot};
 use club_values::{Name, Slot};
 use std::alloc::Global;
 use std::process::Abort;
+use test_kit::roots::ROOT;
+use test_kit::{Order, signed_pass};
 
 /// Which tables a file has.
 #[derive(Clone, Copy, PartialEq, Eq)]
@@ -23,17 +25,16 @@ pub(crate) enum Version {
     Second,
 }
 
+fn name(rt: &impl Abort, text: &str) -> Name {
+    Name::read(text.as_bytes()).expect(rt, "a name")
+}
+
 /// A request under the pass of `amy-1` that is signed under the first root.
 fn words(rt: &(impl Abort + Alloc<A = Global>), request: Request) -> Words {
-    let mut roots = Vec::new(rt.alloc());
-    push(rt, &mut roots, root(rt, ROOT));
-    let pass = Pass {
-        key: Some(name(rt, "amy-1")),
-        caveats: Vec::new(rt.alloc()),
-        roots,
-    };
+    let key = name(rt, "amy-1");
+    let pass = signed_pass(rt.alloc(), Some(key), ROOT, &[]);
     Words {
-        pass: Ok(pass),
+        pass: Ok(pass.expect(rt, "a pass")),
         request,
     }
 }
@@ -59,7 +60,8 @@ fn shown(answer: &OfficeAnswer) -> OfficeReply {
 }
 
 fn ordered(rt: &(impl Abort + Alloc<A = Global>), club: &mut Club, order: &Order) -> String {
-    let answer = club.office(&order.command(rt)).expect(rt, "memory");
+    let command = order.command().expect(rt, "an order");
+    let answer = club.office(&command).expect(rt, "memory");
     office_text(rt, &shown(&answer))
 }
 

@@ -1,12 +1,16 @@
 //! The tasks in which a disk fails.
 
 use crate::crash::{Beginning, Trial};
-use crate::events::{Event, Order, ROOT, SECOND_ROOT};
-use crate::texts::{
-    ACCOUNT, AMY_1_ANEW, AMY_2, BALANCE_9099, BALANCE_9400, BALANCE_10000, BOOK_7, BOOK_8,
-    BOOKED_7, BOOKED_8, CANCEL_7, CANCEL_8, CANCELLED_7, DAY_BEFORE, DONE, EXISTS, NOON,
-};
+use crate::events::Event;
+use crate::texts::{AMY_1_ANEW, AMY_2, DONE, EXISTS};
 use std::test::*;
+use test_kit::exchanges::{
+    ACCOUNT, BALANCE_9099, BALANCE_9400, BALANCE_10000, BOOK_7, BOOK_8, BOOKED_7, BOOKED_8,
+    CANCEL_7, CANCEL_8, CANCELLED_7,
+};
+use test_kit::moments::{LATER, NOON};
+use test_kit::roots::{ROOT, SECOND_ROOT};
+use test_kit::{COURT_AT_18, Order, PlainSlot, minutes};
 
 /// By `Desk::ask`.
 static BOOKS: Trial = Trial {
@@ -76,7 +80,10 @@ fn adds_a_key_whole_or_not_at_all(rt: HostRuntime) {
 }
 
 /// While the slot before it is booked.
-const CLOSE_AT_19: Event = Event::Orders(Order::CloseSlot(19));
+const CLOSE_AT_19: Event = Event::Orders(Order::CloseSlot(PlainSlot {
+    hour: 19,
+    ..COURT_AT_18
+}));
 
 static CLOSES: Trial = Trial {
     beginning: Beginning::Made(&[Event::Asks(NOON, BOOK_7)]),
@@ -92,7 +99,7 @@ fn closes_a_slot_or_not(rt: HostRuntime) {
     CLOSES.holds(&rt);
 }
 
-const ROTATE: Event = Event::Orders(Order::RotateKey("amy-1", SECOND_ROOT, "2026-04-25T00:00"));
+const ROTATE: Event = Event::Orders(Order::RotateKey("amy-1", SECOND_ROOT, minutes::UNTIL));
 
 static ROTATES: Trial = Trial {
     beginning: Beginning::Made(&[]),
@@ -126,7 +133,7 @@ static MIGRATES: Trial = Trial {
     beginning: Beginning::First(&[
         Event::Asks(NOON, BOOK_7),
         Event::Asks(NOON, BOOK_8),
-        Event::Asks(DAY_BEFORE, CANCEL_8),
+        Event::Asks(LATER, CANCEL_8),
     ]),
     task: &[],
     again: &[
@@ -148,7 +155,7 @@ static ADDS_THE_INDEX: Trial = Trial {
     beginning: Beginning::Unindexed(&[
         Event::Asks(NOON, BOOK_7),
         Event::Asks(NOON, BOOK_8),
-        Event::Asks(DAY_BEFORE, CANCEL_8),
+        Event::Asks(LATER, CANCEL_8),
     ]),
     task: &[],
     again: &[

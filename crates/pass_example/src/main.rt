@@ -1,7 +1,9 @@
 //! Passes in code, from minting to checking. The program mints a pass for a key, narrows it as its
 //! holder would, reads and verifies it as a desk does, and tests its caveats against a request.
-//! Copy it to begin a program of your own.
+//! Copy it to begin a program of your own. Then it walks through the commands of `passtool`.
 #![tactic(auto)]
+
+mod walk;
 
 use anyhow::{Result, anyhow};
 use pass_caveats::{
@@ -34,6 +36,12 @@ impl fmt::Display for Verdict {
 }
 
 fn main(rt: HostRuntime) -> Result<()> {
+    print_verdicts(&rt)?;
+    walk::print_walk(&rt)
+}
+
+// A pass is minted and narrowed, and requests are tested against it.
+fn print_verdicts(rt: &(impl Print + Alloc<A = Global>)) -> Result<()> {
     let minted = mint(rt.alloc())?;
     println!(rt; "minted {minted}")?;
     let caveats = ["kind = court", "spend <= 600"];

@@ -6,11 +6,12 @@ use super::doubles::{Stopped, Ticking};
 use super::noon;
 use super::zones::BERLIN;
 use crate::expect::expect_eq;
-use crate::rows::{NOON, expect_row, moment};
+use crate::rows::{expect_row, moment};
 use club_values::Moment;
 use desk_server::{ClockIn, Moments, Zone};
 use std::process::Abort;
 use std::time::{Clock, Duration};
+use test_kit::moments::NOON;
 
 /// The rule of a zone, the seconds after 1970 began of a clock that can be read, and the moment
 /// that it shows there.

@@ -3,13 +3,14 @@
 use super::REQUEST;
 use super::doubles::{Noting, Running, Slow};
 use crate::expect::expect_eq;
-use crate::rows::{NOON, expect_row, moment};
+use crate::rows::{expect_row, moment};
 use crate::sockets::listening;
 use club_http::{AnswerFault, Face, answer};
 use desk_server::{Connections, Limit, Listening, TimedInlet, TimedOutlet};
 use std::alloc::Global;
 use std::process::Abort;
 use std::time::Duration;
+use test_kit::moments::NOON;
 
 /// Longer than a limit of these tests, in milliseconds.
 const NEVER: u64 = 1_000_000_000;

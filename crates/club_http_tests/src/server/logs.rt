@@ -3,12 +3,13 @@
 use super::doubles::{Noting, Script, Taken, Ticking, Wire};
 use super::{REQUEST, noon, noons};
 use crate::expect::{expect_bytes, expect_eq};
-use crate::rows::{NOON, moment};
+use crate::rows::moment;
 use club_http::{Face, WriteOutlet};
 use desk_server::{ClockOutOfRange, Log, LogLines, Moments, serve_logged};
 use std::alloc::Global;
 use std::io::Write;
 use std::process::Abort;
+use test_kit::moments::NOON;
 
 static SCRIPT: [Wire<'static>; 8] = [
     Wire::Whole(REQUEST),

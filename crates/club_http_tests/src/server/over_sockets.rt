@@ -5,7 +5,7 @@
 use super::doubles::Noting;
 use super::{REPLY, REQUEST, noon, serves};
 use crate::expect::{expect_bytes, expect_eq};
-use crate::rows::{NOON, moment};
+use crate::rows::moment;
 use crate::sockets::{client_of, connected, expect_reply, listening};
 use club_http::Face;
 use desk_server::{Connection, Connections, Listening};
@@ -13,6 +13,7 @@ use std::alloc::Global;
 use std::net::{Net, TcpListener, TcpStream};
 use std::process::Abort;
 use std::time::{Clock, Duration};
+use test_kit::moments::NOON;
 
 /// The patience with a client of these tests.
 fn patience() -> Duration {

@@ -1,0 +1,79 @@
+//! A server of one request, over a database in a file.
+
+use crate::runs::{Work, done};
+use club_core::ClubStore;
+use club_http::{Desk, Face};
+use club_values::Moment;
+use clubdesk_commands::Databases;
+use desk_server::{Fixed, Listening, serve_on};
+use std::io::{Read, Write};
+use std::net::{TcpListener, TcpStream};
+use std::test::Fail;
+use std::time::Duration;
+
+// A client that has sent this to a listener.
+fn client_of(rt: &HostRuntime, listener: &TcpListener, request: &str) -> Result<TcpStream, Fail> {
+    let mut client = TcpStream::connect(rt, listener.local_addr()?)?;
+    client.write_all(request.as_bytes())?;
+    Ok(client)
+}
+
+// Serves one request at noon of 2026-04-20.
+fn serve_at<S: ClubStore>(
+    rt: &HostRuntime,
+    listener: &TcpListener,
+    desk: &mut Desk<S>,
+) -> Result<(), Fail> {
+    let mut face = Face::new(rt.alloc())?;
+    let moment = Moment::read(b"2026-04-20T12:00").ok_or("moment")?;
+    let mut connections = Listening::new(listener, rt, Duration::from_secs(10));
+    serve_on(&mut connections, 1, &mut Fixed { moment }, &mut face, desk)?;
+    Ok(())
+}
+
+/// How a server leaves its database.
+#[derive(Clone, Copy)]
+pub enum Leaving {
+    /// It closes it.
+    Closes,
+    /// It drops it, as a server does that is killed.
+    Drops,
+}
+
+/// The same over a database that is opened for it, and left so.
+pub fn serve_over<D: Databases>(
+    rt: &HostRuntime,
+    databases: &mut D,
+    path: &str,
+    listener: &TcpListener,
+    leaving: Leaving,
+) -> Result<(), Fail> {
+    let mut desk = Desk::new(rt.alloc(), databases.open(path)?);
+    serve_at(rt, listener, &mut desk)?;
+    match leaving {
+        Leaving::Closes => databases.close(desk.into_store()),
+        Leaving::Drops => drop(desk),
+    }
+    Ok(())
+}
+
+/// The bytes of the reply to a request, by a server over the database in a file, which it leaves
+/// so.
+pub fn reply_by(
+    rt: &HostRuntime,
+    path: &str,
+    request: &str,
+    leaving: Leaving,
+) -> Result<Vec<u8>, Fail> {
+    let listener = TcpListener::bind(rt, "127.0.0.1:0")?;
+    let mut client = client_of(rt, &listener, request)?;
+    done(rt, Work::Serve(path, &listener, leaving))?;
+    let mut reply = Vec::new(rt.alloc());
+    client.read_to_end(&mut reply)?;
+    Ok(reply)
+}
+
+/// The bytes of the reply to a request, by a server over the database in a file, which it closes.
+pub fn reply_to(rt: &HostRuntime, path: &str, request: &str) -> Result<Vec<u8>, Fail> {
+    reply_by(rt, path, request, Leaving::Closes)
+}

@@ -1,0 +1,306 @@
+//! Runs of the server over a club in memory, by a clock of the test's. What clocks show was
+//! computed by a program of another language, from the zones' own database.
+
+use crate::callers::{Caller, Machine};
+use crate::memory::{InMemory, club_of, expect_in, expect_openings};
+use crate::runs::{Row, output_text, words_of};
+use club_http::WriteOutlet;
+use clubdesk_commands::run_with_clock;
+use desk_server::LogLines;
+use std::test::Fail;
+use test_kit::exchanges::{BOOK_7, BOOKED_7};
+
+/// Amy with quota 5 and 10,000 points, her key, and a court.
+pub(crate) static OFFICE: [Row; 4] = [
+    Row("add-member", "amy 5", "0 done\n"),
+    Row("credit", "amy 10000", "0 done\n"),
+    Row("add-facility", "court-1 court 4 200 8 22", "0 done\n"),
+    Row(
+        "add-key",
+        "amy-1 amy 00112233445566778899aabbccddeeff",
+        "0 AgEJY2x1Yi1kZXNrAglrZXk6YW15LTEAAAYgDsU-vMVpq3Ex5_BQk6D5VX6TimC0IfCk7Dn6nv7TIJk\n",
+    ),
+];
+
+/// What comes of the booking: how the run ends, the reply, and the sheet of the day afterwards.
+struct Outcome {
+    end: &'static str,
+    reply: &'static str,
+    sheet: Row<'static>,
+}
+
+const SERVED: Outcome = Outcome {
+    end: "0 ",
+    reply: BOOKED_7,
+    sheet: Row(
+        "sheet",
+        "2026-05-01",
+        "0 Day sheet 2026-05-01\n\
+        court-1                  18:00 amy-1                            7  3    600\n\
+        Total bookings 1, persons 3, charge 600\n",
+    ),
+};
+
+const NOTHING: Row<'static> = Row(
+    "sheet",
+    "2026-05-01",
+    "0 Day sheet 2026-05-01\nNo bookings.\n",
+);
+
+/// The slot has begun.
+const NOT_BOOKABLE: Outcome = Outcome {
+    end: "0 ",
+    reply: "HTTP/1.1 409 Conflict\r\nContent-Type: application/json\r\nContent-Length: 34\r\n\
+        Connection: close\r\n\r\n{\"fault\":16,\"text\":\"not bookable\"}",
+    sheet: NOTHING,
+};
+
+/// A limit is over, or the clock can't be read while it is reckoned, so the connection fails: no
+/// byte comes back.
+const CUT_OFF: Outcome = Outcome {
+    end: "0 ",
+    reply: "",
+    sheet: NOTHING,
+};
+
+/// The clock shows no moment: no byte comes back.
+const OUT_OF_RANGE: Outcome = Outcome {
+    end: "6 clock out of range",
+    reply: "",
+    sheet: NOTHING,
+};
+
+/// A run of the server for the booking: the second that the clock of the machine shows, if it can
+/// be read, the options of the server, what comes of it, and the log.
+struct Serving(Option<u64>, &'static str, &'static Outcome, &'static str);
+
+/// How a run ended, what came back, and the log.
+#[derive(Drop)]
+pub(crate) struct Ended {
+    pub end: String,
+    pub reply: Vec<u8>,
+    pub log: Vec<u8>,
+}
+
+// Runs the server on a line of words. It is the one function here that names the types of a run.
+pub(crate) fn served(
+    rt: &HostRuntime,
+    databases: &mut InMemory,
+    machine: &Machine,
+    requests: &[&str],
+    line: &str,
+) -> Result<Ended, Fail> {
+    let words = words_of(rt, line)?;
+    let mut nothing: &[u8] = b"";
+    let mut caller = Caller::new(rt, requests);
+    let mut log = Vec::new(rt.alloc());
+    let mut lines = LogLines::new(WriteOutlet::new(&mut log), machine);
+    let outcome = run_with_clock(
+        rt,
+        machine,
+        databases,
+        words.as_slice(),
+        &mut nothing,
+        &mut caller,
+        &mut lines,
+    );
+    Ok(Ended {
+        end: output_text(rt, &outcome, b"")?,
+        reply: caller.reply(),
+        log,
+    })
+}
+
+/// The microseconds that a connection takes, but where its server has a patience.
+const SPAN: u64 = 1_533;
+
+/// Those that it takes there.
+const LONG_SPAN: u64 = 4_000_000;
+
+// The span of a connection, by the options of its server.
+fn later_in(options: &str) -> u64 {
+    if options.contains("--patience") {
+        LONG_SPAN
+    } else {
+        SPAN
+    }
+}
+
+// Fails unless the run ended so.
+fn expect_ended(rt: &HostRuntime, serving: &Serving, ended: &Ended) -> Result<(), Fail> {
+    let Serving(_, options, outcome, log) = serving;
+    let reply = ended.reply.as_slice() == outcome.reply.as_bytes();
+    let logged = ended.log.as_slice() == log.as_bytes();
+    if reply && logged && ended.end.as_str() == outcome.end {
+        return Ok(());
+    }
+    let (end, log) = (&ended.end, str::from_utf8(&ended.log).unwrap_or("no text"));
+    Err(format!(in rt.alloc(); "{options}: {end}, reply {reply}, log {log}")?.into())
+}
+
+// The booking is served, or not, and then the sheet of the day is printed.
+fn expect_served(
+    rt: &HostRuntime,
+    databases: &mut InMemory,
+    serving: &Serving,
+) -> Result<(), Fail> {
+    let Serving(second, options, outcome, _) = serving;
+    let line = format!(in rt.alloc(); "clubdesk serve club --port 0 --count 1 {options}")?;
+    let machine = Machine::new(*second, later_in(options));
+    let ended = served(rt, databases, &machine, &[BOOK_7], line.as_str())?;
+    expect_ended(rt, serving, &ended)?;
+    expect_in(rt, databases, &outcome.sheet)
+}
+
+// The same over a new club, in six runs.
+fn serves(rt: &HostRuntime, serving: &Serving) -> Result<(), Fail> {
+    let mut databases = club_of(rt, &OFFICE)?;
+    expect_served(rt, &mut databases, serving)?;
+    expect_openings(&databases, 6, 6)
+}
+
+/// Whatever the machine's clock shows, where it can be read.
+static AT: [Serving; 6] = [
+    Serving(None, "--at 2026-04-20T12:00", &CUT_OFF, ""),
+    Serving(
+        None,
+        "--at 2026-04-20T12:00 --log",
+        &CUT_OFF,
+        "2026-04-20T12:00 - - - 0\n",
+    ),
+    Serving(
+        Some(1_777_658_400),
+        "--log --at 2026-05-01T17:59 --zone CET-1CEST,M3.5.0,M10.5.0/3",
+        &SERVED,
+        "2026-05-01T17:59 PUT /slots/court-1/2026-05-01/18/bookings/7 200 1533\n",
+    ),
+    Serving(
+        Some(1_777_658_399),
+        "--at 2026-05-01T18:00",
+        &NOT_BOOKABLE,
+        "",
+    ),
+    Serving(
+        Some(1_777_658_399),
+        "--at 2026-05-01T18:00 --log",
+        &NOT_BOOKABLE,
+        "2026-05-01T18:00 PUT /slots/court-1/2026-05-01/18/bookings/7 409 1533\n",
+    ),
+    Serving(Some(946_684_799), "--at 2026-04-20T12:00", &SERVED, ""),
+];
+
+#[test]
+fn serves_at_a_fixed_moment(rt: HostRuntime) -> Result<(), Fail> {
+    for serving in &AT {
+        serves(&rt, serving)?;
+    }
+    Ok(())
+}
+
+/// A request that is there after four seconds, with a patience of three, four and more.
+static PATIENT: [Serving; 4] = [
+    Serving(
+        Some(0),
+        "--at 2026-04-20T12:00 --log --patience 3",
+        &CUT_OFF,
+        "2026-04-20T12:00 - - - 4000000\n",
+    ),
+    Serving(
+        Some(0),
+        "--at 2026-04-20T12:00 --log --patience 4",
+        &CUT_OFF,
+        "2026-04-20T12:00 - - - 4000000\n",
+    ),
+    Serving(
+        Some(0),
+        "--patience 5 --at 2026-04-20T12:00 --log",
+        &SERVED,
+        "2026-04-20T12:00 PUT /slots/court-1/2026-05-01/18/bookings/7 200 4000000\n",
+    ),
+    Serving(
+        Some(0),
+        "--at 2026-04-20T12:00 --patience 3600",
+        &SERVED,
+        "",
+    ),
+];
+
+#[test]
+fn serves_within_its_patience(rt: HostRuntime) -> Result<(), Fail> {
+    for serving in &PATIENT {
+        serves(&rt, serving)?;
+    }
+    Ok(())
+}
+
+/// Around 18:00 of 2026-05-01 in three zones.
+static BY_THE_CLOCK: [Serving; 7] = [
+    Serving(
+        Some(1_777_658_399),
+        "--log",
+        &SERVED,
+        "2026-05-01T17:59 PUT /slots/court-1/2026-05-01/18/bookings/7 200 1533\n",
+    ),
+    Serving(
+        Some(1_777_658_400),
+        "--log",
+        &NOT_BOOKABLE,
+        "2026-05-01T18:00 PUT /slots/court-1/2026-05-01/18/bookings/7 409 1533\n",
+    ),
+    Serving(Some(1_777_658_399), "--zone UTC0", &SERVED, ""),
+    Serving(
+        Some(1_777_651_199),
+        "--zone CET-1CEST,M3.5.0,M10.5.0/3 --log",
+        &SERVED,
+        "2026-05-01T17:59 PUT /slots/court-1/2026-05-01/18/bookings/7 200 1533\n",
+    ),
+    Serving(
+        Some(1_777_651_200),
+        "--zone CET-1CEST,M3.5.0,M10.5.0/3 --log",
+        &NOT_BOOKABLE,
+        "2026-05-01T18:00 PUT /slots/court-1/2026-05-01/18/bookings/7 409 1533\n",
+    ),
+    Serving(
+        Some(1_777_651_200),
+        "--zone CET-1CEST,M3.5.0,M10.5.0/3",
+        &NOT_BOOKABLE,
+        "",
+    ),
+    Serving(
+        Some(1_777_672_799),
+        "--zone EST5EDT,M3.2.0,M11.1.0 --log",
+        &SERVED,
+        "2026-05-01T17:59 PUT /slots/court-1/2026-05-01/18/bookings/7 200 1533\n",
+    ),
+];
+
+#[test]
+fn serves_by_the_clock(rt: HostRuntime) -> Result<(), Fail> {
+    for serving in &BY_THE_CLOCK {
+        serves(&rt, serving)?;
+    }
+    Ok(())
+}
+
+/// Beside the years 2000 to 2099, and a clock that can't be read.
+static BESIDE: [Serving; 5] = [
+    Serving(Some(946_684_799), "--log", &OUT_OF_RANGE, "- - - - 1533\n"),
+    Serving(Some(4_102_444_800), "--zone UTC0", &OUT_OF_RANGE, ""),
+    Serving(
+        Some(4_102_441_200),
+        "--log --zone CET-1CEST,M3.5.0,M10.5.0/3",
+        &OUT_OF_RANGE,
+        "- - - - 1533\n",
+    ),
+    Serving(None, "--zone UTC0", &OUT_OF_RANGE, ""),
+    Serving(None, "--log", &OUT_OF_RANGE, "- - - - 0\n"),
+];
+
+// No byte comes back, and the club is unchanged.
+#[test]
+fn a_clock_out_of_range(rt: HostRuntime) -> Result<(), Fail> {
+    for serving in &BESIDE {
+        serves(&rt, serving)?;
+    }
+    Ok(())
+}

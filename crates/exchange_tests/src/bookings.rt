@@ -1,0 +1,256 @@
+//! Worked rows of bookings: what they cost, when and where they are taken, and what comes back.
+
+use crate::expect::expect_eq;
+use crate::front::plays_in_all_forms;
+use crate::messages::{
+    ACCOUNT, ACCOUNT_AFTER, ACCOUNT_BEFORE, Asked, BOOK_2, BOOK_7, BOOK_8, BOOKED_7, CANCEL_7,
+    CANCELLED_7, FREE, HttpReply, NO_GUESTS, NOT_VERIFIED, ONE_GUEST, PUT_2, PUT_7, Step, TAKEN,
+    TWO_GUESTS, VIEW,
+};
+use crate::passes::DI;
+use club_gate::Fault;
+use std::alloc::Global;
+use std::process::Abort;
+use test_kit::moments::{BEFORE_START, BEGUN, DAY_AHEAD, LATER, NOON, START};
+use test_kit::passes::{AMY, BOB, CY};
+use test_kit::roots::ROOT;
+use test_kit::{COURT_AT_18, Order};
+
+/// Ends the test unless the whole reply has so many bytes.
+fn has_length(rt: &(impl Abort + Alloc<A = Global>), returned: &HttpReply<'_>, len: usize) {
+    expect_eq(rt, &returned.text(rt).len(), &len);
+}
+
+// The known lengths of whole replies, in bytes.
+#[test]
+fn lengths_of_replies(rt: HostRuntime) {
+    has_length(&rt, &BOOKED_7, 133);
+    has_length(&rt, &NOT_VERIFIED, 159);
+}
+
+const CONFLICT: &str = "409 Conflict";
+
+/// Number 7 again, with one guest.
+const OTHER_7: Asked<'static> = Asked {
+    line: PUT_7,
+    body: ONE_GUEST,
+};
+
+const NUMBER_USED: HttpReply<'static> = HttpReply {
+    status: CONFLICT,
+    field: "",
+    len: 33,
+    body: "{\"fault\":13,\"text\":\"number used\"}",
+};
+
+static REPEATS: [Step; 10] = [
+    Step::Asks(NOON, &AMY, &BOOK_7, &BOOKED_7),
+    Step::Asks(BEGUN, &AMY, &BOOK_7, &BOOKED_7),
+    Step::Asks(NOON, &AMY, &OTHER_7, &NUMBER_USED),
+    Step::Asks(NOON, &AMY, &ACCOUNT, &ACCOUNT_AFTER),
+    Step::Asks(NOON, &AMY, &VIEW, &TAKEN),
+    Step::Asks(NOON, &AMY, &CANCEL_7, &CANCELLED_7),
+    Step::Asks(BEGUN, &AMY, &BOOK_7, &BOOKED_7),
+    Step::Asks(NOON, &AMY, &OTHER_7, &NUMBER_USED),
+    Step::Asks(NOON, &AMY, &ACCOUNT, &ACCOUNT_BEFORE),
+    Step::Asks(NOON, &AMY, &VIEW, &FREE),
+];
+
+#[test]
+fn repeats_a_booking(rt: HostRuntime) {
+    plays_in_all_forms(&rt, &REPEATS);
+}
+
+const BOOK_ROOM: Asked<'static> = Asked {
+    line: "PUT /slots/room-1/2026-05-01/18/bookings/8",
+    body: NO_GUESTS,
+};
+
+const ROOM_BOOKED: HttpReply<'static> = HttpReply {
+    status: "200 OK",
+    field: "",
+    len: 43,
+    body: "{\"booking\":\"amy-1/8\",\"charge\":601,\"left\":0}",
+};
+
+const CANCEL_ROOM: Asked<'static> = Asked {
+    line: "DELETE /slots/room-1/2026-05-01/18/bookings/8",
+    body: "",
+};
+
+const CANCEL_OTHER: Asked<'static> = Asked {
+    line: "DELETE /slots/room-1/2026-05-01/18/bookings/9",
+    body: "",
+};
+
+const NO_SUCH_BOOKING: HttpReply<'static> = HttpReply {
+    status: "404 Not Found",
+    field: "",
+    len: 37,
+    body: "{\"fault\":15,\"text\":\"no such booking\"}",
+};
+
+const ALL_BACK: HttpReply<'static> = HttpReply {
+    status: "200 OK",
+    field: "",
+    len: 34,
+    body: "{\"booking\":\"amy-1/8\",\"refund\":601}",
+};
+
+const HALF_BACK: HttpReply<'static> = HttpReply {
+    status: "200 OK",
+    field: "",
+    len: 34,
+    body: "{\"booking\":\"amy-1/8\",\"refund\":300}",
+};
+
+const SLOT_HAS_BEGUN: HttpReply<'static> = HttpReply {
+    status: CONFLICT,
+    field: "",
+    len: 36,
+    body: "{\"fault\":21,\"text\":\"slot has begun\"}",
+};
+
+/// The whole charge a day before the start, half of it a minute later, nothing from the start on.
+static REFUNDS: [[Step; 3]; 3] = [
+    [
+        Step::Asks(NOON, &AMY, &BOOK_ROOM, &ROOM_BOOKED),
+        Step::Asks(NOON, &AMY, &CANCEL_OTHER, &NO_SUCH_BOOKING),
+        Step::Asks(DAY_AHEAD, &AMY, &CANCEL_ROOM, &ALL_BACK),
+    ],
+    [
+        Step::Asks(NOON, &AMY, &BOOK_ROOM, &ROOM_BOOKED),
+        Step::Asks(NOON, &AMY, &CANCEL_OTHER, &NO_SUCH_BOOKING),
+        Step::Asks(LATER, &AMY, &CANCEL_ROOM, &HALF_BACK),
+    ],
+    [
+        Step::Asks(NOON, &AMY, &BOOK_ROOM, &ROOM_BOOKED),
+        Step::Asks(NOON, &AMY, &CANCEL_OTHER, &NO_SUCH_BOOKING),
+        Step::Asks(START, &AMY, &CANCEL_ROOM, &SLOT_HAS_BEGUN),
+    ],
+];
+
+#[test]
+fn refunds(rt: HostRuntime) {
+    for steps in &REFUNDS {
+        plays_in_all_forms(&rt, steps);
+    }
+}
+
+const ONE_LEFT: HttpReply<'static> = HttpReply {
+    status: "200 OK",
+    field: "",
+    len: 62,
+    body: "{\"member\":\"amy\",\"balance\":9099,\"quota\":5,\"open\":1,\"spent\":901}",
+};
+
+static TOTALS: [Step; 4] = [
+    Step::Asks(NOON, &AMY, &BOOK_7, &BOOKED_7),
+    Step::Asks(NOON, &AMY, &BOOK_ROOM, &ROOM_BOOKED),
+    Step::Asks(LATER, &AMY, &CANCEL_ROOM, &HALF_BACK),
+    Step::Asks(LATER, &AMY, &ACCOUNT, &ONE_LEFT),
+];
+
+#[test]
+fn sums_up(rt: HostRuntime) {
+    plays_in_all_forms(&rt, &TOTALS);
+}
+
+const BOOK_7_AT_21: Asked<'static> = Asked {
+    line: "PUT /slots/court-1/2026-05-01/21/bookings/7",
+    body: TWO_GUESTS,
+};
+
+const BOOK_7_AT_22: Asked<'static> = Asked {
+    line: "PUT /slots/court-1/2026-05-01/22/bookings/7",
+    body: TWO_GUESTS,
+};
+
+const NOT_BOOKABLE: HttpReply<'static> = HttpReply {
+    status: CONFLICT,
+    field: "",
+    len: 34,
+    body: "{\"fault\":16,\"text\":\"not bookable\"}",
+};
+
+/// No more than 60 days ahead, before the start, and in the hours of opening.
+static WINDOW: [[Step; 1]; 6] = [
+    [Step::Asks("2026-03-02T18:00", &AMY, &BOOK_7, &BOOKED_7)],
+    [Step::Asks("2026-03-02T17:59", &AMY, &BOOK_7, &NOT_BOOKABLE)],
+    [Step::Asks(BEFORE_START, &AMY, &BOOK_7, &BOOKED_7)],
+    [Step::Asks(START, &AMY, &BOOK_7, &NOT_BOOKABLE)],
+    [Step::Asks(NOON, &AMY, &BOOK_7_AT_21, &BOOKED_7)],
+    [Step::Asks(NOON, &AMY, &BOOK_7_AT_22, &NOT_BOOKABLE)],
+];
+
+#[test]
+fn books_within_the_window(rt: HostRuntime) {
+    for steps in &WINDOW {
+        plays_in_all_forms(&rt, steps);
+    }
+}
+
+const BOOK_2_FOR_TWO: Asked<'static> = Asked {
+    line: PUT_2,
+    body: ONE_GUEST,
+};
+
+const NO_PLACES: HttpReply<'static> = HttpReply {
+    status: CONFLICT,
+    field: "",
+    len: 31,
+    body: "{\"fault\":18,\"text\":\"no places\"}",
+};
+
+const QUOTA_REACHED: HttpReply<'static> = HttpReply {
+    status: CONFLICT,
+    field: "",
+    len: 35,
+    body: "{\"fault\":19,\"text\":\"quota reached\"}",
+};
+
+const BALANCE_TOO_LOW: HttpReply<'static> = HttpReply {
+    status: "402 Payment Required",
+    field: "",
+    len: 37,
+    body: "{\"fault\":20,\"text\":\"balance too low\"}",
+};
+
+static LIMITS: [Step; 9] = [
+    Step::Orders(Order::AddMember("cy", 1), None),
+    Step::Orders(Order::Credit("cy", 100), None),
+    Step::Orders(Order::AddKey("cy-1", "cy", ROOT), None),
+    Step::Orders(Order::AddMember("di", 0), None),
+    Step::Orders(Order::AddKey("di-1", "di", ROOT), None),
+    Step::Asks(NOON, &AMY, &BOOK_7, &BOOKED_7),
+    Step::Asks(NOON, &BOB, &BOOK_2_FOR_TWO, &NO_PLACES),
+    Step::Asks(NOON, &CY, &BOOK_2, &BALANCE_TOO_LOW),
+    Step::Asks(NOON, &DI, &BOOK_2, &QUOTA_REACHED),
+];
+
+#[test]
+fn minds_places_points_and_quota(rt: HostRuntime) {
+    plays_in_all_forms(&rt, &LIMITS);
+}
+
+const CLOSED: HttpReply<'static> = HttpReply {
+    status: CONFLICT,
+    field: "",
+    len: 33,
+    body: "{\"fault\":17,\"text\":\"slot closed\"}",
+};
+
+static CLOSES: [Step; 7] = [
+    Step::Asks(NOON, &AMY, &BOOK_7, &BOOKED_7),
+    Step::Orders(Order::CloseSlot(COURT_AT_18), Some(Fault::SlotInUse)),
+    Step::Asks(NOON, &AMY, &VIEW, &TAKEN),
+    Step::Asks(NOON, &AMY, &CANCEL_7, &CANCELLED_7),
+    Step::Orders(Order::CloseSlot(COURT_AT_18), None),
+    Step::Orders(Order::CloseSlot(COURT_AT_18), Some(Fault::Exists)),
+    Step::Asks(NOON, &AMY, &BOOK_8, &CLOSED),
+];
+
+#[test]
+fn closes_a_slot(rt: HostRuntime) {
+    plays_in_all_forms(&rt, &CLOSES);
+}

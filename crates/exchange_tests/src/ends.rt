@@ -1,0 +1,114 @@
+//! A reader that gives a request, and a writer that takes a reply, which may fail.
+
+ghost use Rattle.std.specs.Prelude.{◌≤◌, length};
+
+use club_http::MAX_REPLY_LEN;
+use std::io::{self, ErrorKind, Read, Write};
+
+/// More bytes than any request has.
+pub(crate) const WHOLE: usize = 65_536;
+
+/// Gives a request, at most so many bytes a call. Behind its end it gives none, or fails.
+#[derive(Drop)]
+pub(crate) struct Giver<'a> {
+    pub left: &'a [u8],
+    step: usize,
+    fails: bool,
+    pub calls: u64,
+}
+
+impl<'a> Giver<'a> {
+    /// These bytes, and then the input ends.
+    pub fn ending(bytes: &'a [u8]) -> Giver<'a> {
+        Giver {
+            left: bytes,
+            step: WHOLE,
+            fails: false,
+            calls: 0,
+        }
+    }
+
+    /// Fails where more is wanted than these bytes.
+    pub fn failing(bytes: &'a [u8], step: usize) -> Giver<'a> {
+        Giver {
+            left: bytes,
+            step,
+            fails: true,
+            calls: 0,
+        }
+    }
+}
+
+impl Read for Giver<'_> {
+    fn read(&mut self, room: &mut [u8]) -> io::Result<usize> {
+        self.calls = self.calls.saturating_add(1);
+        if self.left.is_empty() && self.fails {
+            return Err(io::Error::from(ErrorKind::ConnectionReset));
+        }
+        let n = self.step.min(room.len()).min(self.left.len());
+        let (front, rest) = self.left.split_at(n);
+        room[..n].copy_from_slice(front);
+        self.left = rest;
+        Ok(n)
+    }
+}
+
+/// Takes a reply, at most so many bytes a call. Where its limit is reached it fails, or takes none.
+#[derive(Drop)]
+pub(crate) struct Taker {
+    bytes: [u8; MAX_REPLY_LEN],
+    len: usize,
+    step: usize,
+    limit: usize,
+    stalls: bool,
+    pub calls: u64,
+    ghost within: { len ≤ 512 },
+}
+
+impl Taker {
+    pub fn new(step: usize, limit: usize, stalls: bool) -> Taker {
+        Taker {
+            bytes: [0; MAX_REPLY_LEN],
+            len: 0,
+            step,
+            limit,
+            stalls,
+            calls: 0,
+        }
+    }
+
+    /// Takes a whole reply in one call.
+    pub fn whole() -> Taker {
+        Taker::new(MAX_REPLY_LEN, MAX_REPLY_LEN, false)
+    }
+
+    /// Takes the first of these bytes that have room, and answers how many.
+    pub fn take(&mut self, bytes: &[u8]) -> usize
+        ensures { result ≤ length bytes.now }
+    {
+        let room = self.limit.min(MAX_REPLY_LEN).saturating_sub(self.len);
+        let n = self.step.min(room).min(bytes.len());
+        self.bytes[self.len..self.len + n].copy_from_slice(&bytes[..n]);
+        self.len += n;
+        n
+    }
+
+    pub fn written(&self) -> &[u8] {
+        &self.bytes[..self.len]
+    }
+}
+
+impl Write for Taker {
+    fn write(&mut self, bytes: &[u8]) -> io::Result<usize> {
+        self.calls = self.calls.saturating_add(1);
+        let n = self.take(bytes);
+        if n == 0 && !bytes.is_empty() && !self.stalls {
+            return Err(io::Error::from(ErrorKind::BrokenPipe));
+        }
+        Ok(n)
+    }
+
+    fn flush(&mut self) -> io::Result<()> {
+        Ok(())
+    }
+}

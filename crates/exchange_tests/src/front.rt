@@ -1,0 +1,168 @@
+//! A desk over the tables in memory behind its face.
+
+use crate::ends::{Giver, Taker};
+use crate::expect::{expect_eq, expect_output};
+use crate::messages::{Asked, HttpReply, Step};
+use crate::passes::text_in;
+use club_core::{ClubStore, Command};
+use club_gate::{Fault, OfficeReply};
+use club_http::{
+    AnswerFault, Desk, Face, Inlet, Outlet, ReadInlet, Responder, WriteOutlet, answer,
+};
+use club_store::Store;
+use club_values::Moment;
+use pass_forms::Form;
+use sqlite::MemStore;
+use std::alloc::Global;
+use std::process::Abort;
+use test_kit::{FIXTURE, Order};
+
+#[derive(Drop)]
+pub(crate) struct Front {
+    face: Face,
+    pub desk: Desk<Store<MemStore>>,
+}
+
+pub(crate) fn moment(rt: &impl Abort, text: &str) -> Moment {
+    Moment::read(text.as_bytes()).expect(rt, "a moment")
+}
+
+/// The desk of an empty club.
+fn empty_desk(rt: &(impl Abort + Alloc<A = Global>)) -> Desk<Store<MemStore>> {
+    let store = Store::open_in_memory(rt.alloc()).expect(rt, "a store");
+    Desk::new(rt.alloc(), store)
+}
+
+/// Why the office's command is refused; `None` where it is done.
+fn refusal<S: ClubStore>(desk: &mut Desk<S>, command: &Command) -> Option<Fault> {
+    match desk.office(command) {
+        OfficeReply::Refused(fault) => Some(fault),
+        _ => None,
+    }
+}
+
+/// Why the exchange fails; `None` where it doesn't.
+fn failure<D: Responder, R: Inlet, W: Outlet>(
+    face: &mut Face,
+    desk: &mut D,
+    moment: Moment,
+    reader: &mut R,
+    writer: &mut W,
+) -> Option<AnswerFault> {
+    answer(face, desk, moment, reader, writer).err()
+}
+
+impl Front {
+    fn empty(rt: &(impl Abort + Alloc<A = Global>)) -> Front {
+        Front {
+            face: Face::new(rt.alloc()).expect(rt, "a face"),
+            desk: empty_desk(rt),
+        }
+    }
+
+    /// The fixture.
+    pub fn opened(rt: &(impl Abort + Alloc<A = Global>)) -> Front {
+        let mut front = Front::empty(rt);
+        front.carries_out(rt, &FIXTURE);
+        front
+    }
+
+    /// Ends the test unless these orders are done.
+    fn carries_out(&mut self, rt: &impl Abort, orders: &[Order]) {
+        for order in orders {
+            self.refuses(rt, order, &None);
+        }
+    }
+
+    /// Ends the test unless the office's order is refused so; where it is `None`, done.
+    fn refuses(&mut self, rt: &impl Abort, order: &Order, fault: &Option<Fault>) {
+        let command = order.command().expect(rt, "an order");
+        expect_eq(rt, &refusal(&mut self.desk, &command), fault);
+    }
+
+    /// One exchange at a moment, and why it fails; `None` where it doesn't.
+    pub fn exchange(
+        &mut self,
+        rt: &impl Abort,
+        at: &str,
+        giver: &mut Giver<'_>,
+        taker: &mut Taker,
+    ) -> Option<AnswerFault> {
+        let mut reader = ReadInlet::new(giver);
+        let mut writer = WriteOutlet::new(taker);
+        let moment = moment(rt, at);
+        failure(
+            &mut self.face,
+            &mut self.desk,
+            moment,
+            &mut reader,
+            &mut writer,
+        )
+    }
+
+    /// The output for these bytes, after which the input ends.
+    pub fn written_to(&mut self, rt: &impl Abort, at: &str, bytes: &[u8]) -> Taker {
+        let mut giver = Giver::ending(bytes);
+        let mut taker = Taker::whole();
+        let fault = self.exchange(rt, at, &mut giver, &mut taker);
+        expect_eq(rt, &fault, &None);
+        taker
+    }
+
+    /// Fails the test unless these bytes get this reply at a moment.
+    pub fn expect_reply(
+        &mut self,
+        rt: &(impl Abort + Alloc<A = Global>),
+        at: &str,
+        bytes: &str,
+        returned: &HttpReply<'_>,
+    ) {
+        let want = returned.text(rt);
+        let taker = self.written_to(rt, at, bytes.as_bytes());
+        expect_output(rt, taker.written(), want.as_bytes(), bytes);
+    }
+
+    /// Fails the test unless the request gets this reply under a pass at a moment.
+    pub fn answers(
+        &mut self,
+        rt: &(impl Abort + Alloc<A = Global>),
+        at: &str,
+        pass: &str,
+        asked: &Asked<'_>,
+        returned: &HttpReply<'_>,
+    ) {
+        let bytes = asked.text(rt, pass);
+        self.expect_reply(rt, at, bytes.as_str(), returned);
+    }
+
+    fn play(&mut self, rt: &(impl Abort + Alloc<A = Global>), form: Form, step: &Step) {
+        match step {
+            Step::Asks(at, texts, asked, returned) => {
+                self.answers(rt, at, text_in(texts, form), asked, returned);
+            }
+            Step::Orders(order, fault) => self.refuses(rt, order, fault),
+        }
+    }
+
+    /// Plays these steps, with passes in this form; fails the test at the first that differs.
+    pub fn plays(&mut self, rt: &(impl Abort + Alloc<A = Global>), form: Form, steps: &[Step]) {
+        for step in steps {
+            self.play(rt, form, step);
+        }
+    }
+}
+
+pub(crate) static FORMS: [Form; 3] = [Form::V1, Form::V2, Form::Json];
+
+/// Plays these steps over a new fixture, once with passes in each form.
+pub(crate) fn plays_in_all_forms(rt: &(impl Abort + Alloc<A = Global>), steps: &[Step]) {
+    for form in &FORMS {
+        plays_in_form(rt, *form, steps);
+    }
+}
+
+/// Plays these steps over a new fixture, with passes in this form.
+pub(crate) fn plays_in_form(rt: &(impl Abort + Alloc<A = Global>), form: Form, steps: &[Step]) {
+    let mut front = Front::opened(rt);
+    front.plays(rt, form, steps);
+}

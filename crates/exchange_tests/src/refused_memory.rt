@@ -1,0 +1,178 @@
+//! Exchanges in which an allocation is refused. `tests/refused_memory_tests.sh` refuses each in
+//! turn, those of the fixture too. A test ends with out of memory if the refusal fell before or
+//! after what it is about.
+
+use crate::ends::Taker;
+use crate::expect::expect_output;
+use crate::front::{Front, moment, plays_in_form};
+use crate::messages::{
+    ACCOUNT, ACCOUNT_AFTER, Asked, BOOK_7, BOOKED_7, HttpReply, NOT_YET, PASS_MALFORMED, PUT_7,
+    Step, THIRD_PARTY_CAVEAT,
+};
+use crate::passes::{MALFORMED, THIRD_PARTY, text_in};
+use club_core::{ClubStore, Reply};
+use club_gate::{Event, EventReply};
+use club_http::{Desk, MAX_REPLY_LEN, Routes, reply_bytes, words_of};
+use pass_forms::Form;
+use std::alloc::Global;
+use std::process::Abort;
+use test_kit::exchanges;
+use test_kit::moments::NOON;
+use test_kit::passes::AMY;
+
+fn is_unavailable(taker: &Taker) -> bool {
+    taker.written() == exchanges::UNAVAILABLE.as_bytes()
+}
+
+/// The output for a request of amy's.
+fn written_to(
+    rt: &(impl Abort + Alloc<A = Global>),
+    front: &mut Front,
+    form: Form,
+    asked: &Asked<'_>,
+) -> Taker {
+    let bytes = asked.text(rt, text_in(&AMY, form));
+    front.written_to(rt, NOON, bytes.as_bytes())
+}
+
+/// Expects this reply; if the one refused allocation falls here, ends with out of memory.
+fn expect_reply_or_end(
+    rt: &(impl Abort + Alloc<A = Global>),
+    front: &mut Front,
+    form: Form,
+    asked: &Asked<'_>,
+    returned: &HttpReply<'_>,
+) {
+    let taker = written_to(rt, front, form, asked);
+    if is_unavailable(&taker) {
+        panic!(rt; "Memory");
+    }
+    let want = returned.text(rt);
+    expect_output(rt, taker.written(), want.as_bytes(), asked.line);
+}
+
+/// The booking is kept.
+fn booking_is_kept(rt: &(impl Abort + Alloc<A = Global>), front: &mut Front, form: Form) {
+    expect_reply_or_end(rt, front, form, &BOOK_7, &BOOKED_7);
+    expect_reply_or_end(rt, front, form, &ACCOUNT, &ACCOUNT_AFTER);
+}
+
+/// The first reply to the booking: the booking's, and then the booking is kept; or unavailable, and
+/// then nothing changed, and the booking is served when it comes again.
+fn is_booked_or_unavailable(
+    rt: &(impl Abort + Alloc<A = Global>),
+    front: &mut Front,
+    form: Form,
+    taker: &Taker,
+) {
+    if is_unavailable(taker) {
+        front.plays(rt, form, &NOT_YET);
+    } else {
+        expect_output(rt, taker.written(), exchanges::BOOKED_7.as_bytes(), PUT_7);
+        booking_is_kept(rt, front, form);
+    }
+}
+
+fn exchanges_the_booking(rt: &(impl Abort + Alloc<A = Global>), form: Form) {
+    let mut front = Front::opened(rt);
+    let taker = written_to(rt, &mut front, form, &BOOK_7);
+    is_booked_or_unavailable(rt, &mut front, form, &taker);
+}
+
+#[test]
+fn exchange_in_v1(rt: HostRuntime) {
+    exchanges_the_booking(&rt, Form::V1);
+}
+
+#[test]
+fn exchange_in_v2(rt: HostRuntime) {
+    exchanges_the_booking(&rt, Form::V2);
+}
+
+#[test]
+fn exchange_in_json(rt: HostRuntime) {
+    exchanges_the_booking(&rt, Form::Json);
+}
+
+/// The replies to these events; `None` if memory for them is refused.
+fn replies<S: ClubStore>(desk: &mut Desk<S>, events: &[Event<'_>]) -> Option<Vec<EventReply>> {
+    desk.run(events).ok()
+}
+
+/// The one reply of these.
+fn only(replies: &[EventReply]) -> Option<Reply> {
+    match replies {
+        [EventReply::Replied(reply)] => Some(*reply),
+        _ => None,
+    }
+}
+
+/// The text of a reply.
+fn text_of(reply: &Reply) -> Taker {
+    let mut room = [0; MAX_REPLY_LEN];
+    let len = reply_bytes(reply, &mut room);
+    let mut taker = Taker::whole();
+    taker.take(&room[..len]);
+    taker
+}
+
+/// The reply to a list of one request; `None` if memory for the replies is refused.
+fn written_in_a_list(
+    rt: &(impl Abort + Alloc<A = Global>),
+    front: &mut Front,
+    bytes: &[u8],
+) -> Option<Taker> {
+    let routes = Routes::new(rt.alloc()).expect(rt, "routes");
+    let Ok(words) = words_of(&routes, bytes) else {
+        panic!(rt; "Memory");
+    };
+    let moment = moment(rt, NOON);
+    match replies(&mut front.desk, &[Event::Asked { words, moment }]) {
+        Some(replies) => Some(text_of(&only(&replies).expect(rt, "one reply"))),
+        None => None,
+    }
+}
+
+/// The reply to a list of the booking alone.
+fn written_to_the_booking(
+    rt: &(impl Abort + Alloc<A = Global>),
+    front: &mut Front,
+    form: Form,
+) -> Option<Taker> {
+    let bytes = BOOK_7.text(rt, text_in(&AMY, form));
+    written_in_a_list(rt, front, bytes.as_bytes())
+}
+
+fn is_run(rt: &(impl Abort + Alloc<A = Global>), front: &mut Front, form: Form) {
+    match written_to_the_booking(rt, front, form) {
+        Some(taker) => is_booked_or_unavailable(rt, front, form, &taker),
+        None => front.plays(rt, form, &NOT_YET),
+    }
+}
+
+fn runs_the_booking(rt: &(impl Abort + Alloc<A = Global>), form: Form) {
+    let mut front = Front::opened(rt);
+    is_run(rt, &mut front, form);
+}
+
+#[test]
+fn run_in_v2(rt: HostRuntime) {
+    runs_the_booking(&rt, Form::V2);
+}
+
+#[test]
+fn run_in_json(rt: HostRuntime) {
+    runs_the_booking(&rt, Form::Json);
+}
+
+/// A text that is no pass gets its fault whichever allocation is refused, unless it is JSON.
+static FAULTS: [Step; 2] = [
+    Step::Asks(NOON, &MALFORMED, &ACCOUNT, &PASS_MALFORMED),
+    Step::Asks(NOON, &THIRD_PARTY, &ACCOUNT, &THIRD_PARTY_CAVEAT),
+];
+
+#[test]
+fn faults_of_bytes(rt: HostRuntime) {
+    plays_in_form(&rt, Form::V1, &FAULTS);
+    plays_in_form(&rt, Form::V2, &FAULTS);
+}

@@ -1,0 +1,95 @@
+//! A walk through the commands of `passtool`: prints each command line and its output. A pass that
+//! is printed is saved in a file, and the next commands read it from there.
+
+use passtool_commands::run;
+use std::alloc::Global;
+
+const ROOT: &str = "00112233445566778899aabbccddeeff";
+
+const OTHER_ROOT: &str = "ffeeddccbbaa99887766554433221100";
+
+/// Prints the walk: a new pass, narrowed, shown, converted and verified, and a caveat that isn't
+/// understood.
+pub(crate) fn print_walk(rt: &(impl Print + Alloc<A = Global>)) -> anyhow::Result<()> {
+    let pass = mint_pass(rt)?;
+    let words = [
+        "passtool",
+        "narrow",
+        "kind = court",
+        "until < 2026-05-01T18:00",
+    ];
+    let narrowed = step(
+        rt,
+        words.as_slice(),
+        " < pass | tee narrowed",
+        pass.as_str(),
+    )?;
+    let words = ["passtool", "show"];
+    step(rt, words.as_slice(), " < narrowed", narrowed.as_str())?;
+    let words = ["passtool", "convert", "--form", "json"];
+    let json = step(
+        rt,
+        words.as_slice(),
+        " < narrowed | tee json",
+        narrowed.as_str(),
+    )?;
+    for root in [ROOT, OTHER_ROOT] {
+        let words = ["passtool", "verify", "--root", root];
+        step(rt, words.as_slice(), " < json", json.as_str())?;
+    }
+    let words = ["passtool", "narrow", "shoe = red"];
+    step(rt, words.as_slice(), " < json", json.as_str())?;
+    Ok(())
+}
+
+fn mint_pass(rt: &(impl Print + Alloc<A = Global>)) -> anyhow::Result<String> {
+    let words = [
+        "passtool",
+        "mint",
+        "--root",
+        ROOT,
+        "--id",
+        "key:amy-1",
+        "--location",
+        "club-desk",
+    ];
+    step(rt, words.as_slice(), " | tee pass", "")
+}
+
+// Prints a command line and the output of its run, which it returns.
+fn step(
+    rt: &(impl Print + Alloc<A = Global>),
+    words: &[&str],
+    files: &str,
+    input: &str,
+) -> anyhow::Result<String> {
+    let line = command_line(rt.alloc(), words)?;
+    println!(rt; "$ {line}{files}")?;
+    let output = output_of(rt.alloc(), words, input)?;
+    print!(rt; "{output}")?;
+    Ok(output)
+}
+
+// The text that a run writes, or its line on standard error.
+fn output_of(alloc: Global, words: &[&str], input: &str) -> anyhow::Result<String> {
+    let mut written = Vec::new(alloc);
+    match run(alloc, words, &mut input.as_bytes(), &mut written) {
+        Ok(_) => Ok(String::from_utf8_lossy(alloc, written.as_slice())?),
+        Err(fault) => Ok(format!(in alloc; "{fault}\n")?),
+    }
+}
+
+// The words as a shell takes them, with quotes where a word has a space.
+fn command_line(alloc: Global, words: &[&str]) -> anyhow::Result<String> {
+    let mut line = String::new(alloc);
+    for (index, word) in words.iter().enumerate() {
+        if index > 0 {
+            line.push(' ')?;
+        }
+        let quote = if word.contains(' ') { "\"" } else { "" };
+        line.push_str(quote)?;
+        line.push_str(word)?;
+        line.push_str(quote)?;
+    }
+    Ok(line)
+}

@@ -1,0 +1,21 @@
+//! Tests of `passtool`'s commands.
+#![tactic(auto)]
+
+#[cfg(test)]
+mod bad_words;
+#[cfg(test)]
+mod doubles;
+#[cfg(test)]
+mod expect;
+#[cfg(test)]
+mod failing;
+#[cfg(test)]
+mod forms;
+#[cfg(test)]
+mod limits;
+#[cfg(test)]
+mod runs;
+#[cfg(test)]
+mod showing;
+#[cfg(test)]
+mod verifying;

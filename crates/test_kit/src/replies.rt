@@ -1,0 +1,91 @@
+//! Replies, as plain values.
+
+use crate::slots::COURT_AT_18;
+use club_core::{Refusal, Reply};
+use club_rows::BookingNumber;
+use club_values::{Kind, Name};
+
+/// A reply.
+#[derive(Clone, Copy)]
+pub enum PlainReply {
+    /// Of `court-1` at 18: the persons who booked, and whether it is closed.
+    SlotShown(u64, bool),
+    /// The key, the number, the charge, and the places that are left.
+    Booked(&'static str, u32, u32, u8),
+    /// The key, the number, and the refund.
+    Cancelled(&'static str, u32, u32),
+    /// Of amy, who has quota 5: the balance, her open bookings, and what the key has spent.
+    AccountShown(u32, u64, u64),
+    Refused(Refusal),
+}
+
+pub const BOOKED_7: PlainReply = PlainReply::Booked("amy-1", 7, 600, 1);
+
+pub const CANCELLED_7: PlainReply = PlainReply::Cancelled("amy-1", 7, 600);
+
+pub const ROOM_BOOKED: PlainReply = PlainReply::Booked("amy-1", 8, 601, 0);
+
+/// The room's booking is cancelled for half its price.
+pub const HALF_BACK: PlainReply = PlainReply::Cancelled("amy-1", 8, 300);
+
+/// Amy's account before any booking, and with number 7.
+pub const ACCOUNT_BEFORE: PlainReply = PlainReply::AccountShown(10_000, 0, 0);
+
+pub const ACCOUNT_AFTER: PlainReply = PlainReply::AccountShown(9_400, 1, 600);
+
+pub const NOT_VERIFIED: PlainReply = PlainReply::Refused(Refusal::NotVerified);
+
+pub const DENIED_1: PlainReply = PlainReply::Refused(Refusal::CaveatDenies(1));
+
+fn slot_shown(taken: u64, closed: bool) -> Option<Reply> {
+    Some(Reply::SlotShown {
+        slot: COURT_AT_18.slot()?,
+        kind: Kind::Court,
+        price: 200,
+        places: 4,
+        taken,
+        closed,
+    })
+}
+
+fn booked(key: &str, number: u32, charge: u32, left: u8) -> Option<Reply> {
+    Some(Reply::Booked {
+        key: Name::read(key.as_bytes())?,
+        number: BookingNumber::new(number)?,
+        charge,
+        left,
+    })
+}
+
+fn cancelled(key: &str, number: u32, refund: u32) -> Option<Reply> {
+    Some(Reply::Cancelled {
+        key: Name::read(key.as_bytes())?,
+        number: BookingNumber::new(number)?,
+        refund,
+    })
+}
+
+fn account_shown(balance: u32, open_count: u64, spent: u64) -> Option<Reply> {
+    Some(Reply::AccountShown {
+        member: Name::read(b"amy")?,
+        balance,
+        quota: 5,
+        open_count,
+        spent,
+    })
+}
+
+impl PlainReply {
+    /// The reply; `None` if a name or a number is out of its limits.
+    pub fn reply(&self) -> Option<Reply> {
+        match self {
+            PlainReply::SlotShown(taken, closed) => slot_shown(*taken, *closed),
+            PlainReply::Booked(key, number, charge, left) => booked(key, *number, *charge, *left),
+            PlainReply::Cancelled(key, number, refund) => cancelled(key, *number, *refund),
+            PlainReply::AccountShown(balance, open, spent) => {
+                account_shown(*balance, *open, *spent)
+            }
+            PlainReply::Refused(refusal) => Some(Reply::Refused(*refusal)),
+        }
+    }
+}

@@ -1,0 +1,62 @@
+//! Requests, as plain values.
+
+use crate::slots::{COURT_AT_18, PlainSlot, ROOM_AT_18};
+use club_core::Request;
+use club_rows::{BookingNumber, Guests};
+
+/// A request.
+#[derive(Clone, Copy)]
+pub enum PlainRequest {
+    View(PlainSlot),
+    /// A booking of a slot under a number, with so many guests.
+    Book(PlainSlot, u32, u8),
+    /// The cancellation of a slot's booking under a number.
+    Cancel(PlainSlot, u32),
+    Account,
+}
+
+pub const ACCOUNT: PlainRequest = PlainRequest::Account;
+
+/// Amy's booking of `court-1` at 18 under number 7, for three persons, and its cancellation.
+pub const BOOK_7: PlainRequest = PlainRequest::Book(COURT_AT_18, 7, 2);
+
+pub const CANCEL_7: PlainRequest = PlainRequest::Cancel(COURT_AT_18, 7);
+
+/// Her booking of `room-1` under number 8, and its cancellation.
+pub const BOOK_ROOM: PlainRequest = PlainRequest::Book(ROOM_AT_18, 8, 0);
+
+pub const CANCEL_ROOM: PlainRequest = PlainRequest::Cancel(ROOM_AT_18, 8);
+
+fn view(slot: &PlainSlot) -> Option<Request> {
+    let slot = slot.slot()?;
+    Some(Request::View { slot })
+}
+
+fn book(slot: &PlainSlot, number: u32, guests: u8) -> Option<Request> {
+    let slot = slot.slot()?;
+    let number = BookingNumber::new(number)?;
+    let guests = Guests::new(guests)?;
+    Some(Request::Book {
+        slot,
+        number,
+        guests,
+    })
+}
+
+fn cancel(slot: &PlainSlot, number: u32) -> Option<Request> {
+    let slot = slot.slot()?;
+    let number = BookingNumber::new(number)?;
+    Some(Request::Cancel { slot, number })
+}
+
+impl PlainRequest {
+    /// The request; `None` if a part is out of its limits.
+    pub fn request(&self) -> Option<Request> {
+        match self {
+            PlainRequest::View(slot) => view(slot),
+            PlainRequest::Book(slot, number, guests) => book(slot, *number, *guests),
+            PlainRequest::Cancel(slot, number) => cancel(slot, *number),
+            PlainRequest::Account => Some(Request::Account),
+        }
+    }
+}

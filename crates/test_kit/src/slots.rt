@@ -1,0 +1,39 @@
+//! Slots, as plain values.
+
+use club_values::{Day, Hour, Name, Slot};
+
+/// 2026-05-01, a Friday, in days counted from 1970-01-01.
+pub const FRIDAY: u16 = 20_574;
+
+/// A slot: its facility, its day counted from 1970-01-01, and its hour.
+#[derive(Clone, Copy)]
+pub struct PlainSlot {
+    pub facility: &'static str,
+    pub day: u16,
+    pub hour: u8,
+}
+
+/// `court-1` on that day at 18.
+pub const COURT_AT_18: PlainSlot = PlainSlot {
+    facility: "court-1",
+    day: FRIDAY,
+    hour: 18,
+};
+
+/// `room-1` on that day at 18.
+pub const ROOM_AT_18: PlainSlot = PlainSlot {
+    facility: "room-1",
+    day: FRIDAY,
+    hour: 18,
+};
+
+impl PlainSlot {
+    /// The slot; `None` if a part is out of its limits.
+    pub fn slot(&self) -> Option<Slot> {
+        Some(Slot {
+            facility: Name::read(self.facility.as_bytes())?,
+            day: Day::from_number(self.day)?,
+            hour: Hour::from_number(self.hour)?,
+        })
+    }
+}
