@@ -12,7 +12,7 @@ use passtool_commands::fill;
 use std::io::Read;
 
 /// More bytes than the longest root in hexadecimal and its line feed.
-const MOST_READ: usize = 130;
+const MAX_READ: usize = 130;
 
 /// Reads the root of a task that awaits one, in hexadecimal, of which one line feed at the end is
 /// no part. For any other task nothing is read.
@@ -59,7 +59,7 @@ pub(crate) fn with_root<'a, R: Read>(reader: &mut R, job: Job<'a>) -> Result<Job
 fn root_from<R: Read>(reader: &mut R) -> Result<Root, Fault>
     ensures { spec.TakesRoot (R.remaining reader.old) (R.remaining reader.new) result }
 {
-    let mut room = [0; MOST_READ];
+    let mut room = [0; MAX_READ];
     match fill(reader, &mut room) {
         Ok(count) => root_in(&room[..count]).ok_or(Fault::BadValue),
         Err(_) => Err(Fault::InputOutput),

@@ -13,7 +13,7 @@ use std::thread;
 use std::time::Duration;
 
 /// How often the program tries to open a file that another one has: for ten seconds.
-const MOST_OPENINGS: u32 = 10 * ATTEMPTS_A_SECOND;
+const MAX_OPENINGS: u32 = 10 * ATTEMPTS_A_SECOND;
 
 /// How often the program tries to begin a pause.
 const MOST_PAUSES: u32 = ATTEMPTS_A_SECOND / 10;
@@ -47,7 +47,7 @@ fn open_in_turn<A: Attempts<Gain = Result<FileClub, StoreFault>>>(
     rt: &HostRuntime,
     openings: &mut A,
 ) -> Result<FileClub, StoreFault> {
-    match gain(openings, rt, MOST_OPENINGS) {
+    match gain(openings, rt, MAX_OPENINGS) {
         Some(found) => found,
         None => Err(StoreFault::Storage),
     }

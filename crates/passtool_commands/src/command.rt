@@ -8,7 +8,7 @@ use crate::answer::{Answer, Fault, Outcome};
 use crate::application::make_application;
 use crate::caveats::Caveats;
 use crate::convert::convert;
-use crate::input::{MOST_READ, fill};
+use crate::input::{MAX_READ, fill};
 use crate::mint::Mint;
 use crate::narrow::narrow;
 use crate::options::{caveats_of, form_of, root_of, value_of};
@@ -147,7 +147,7 @@ impl<'a> Command<'a> {
         ensures silent { IfErr result (λ fault. fault ≢ Fault.InputOutput
             → writer.new ≡ writer.old) }
     {
-        let mut buffer = [0; MOST_READ];
+        let mut buffer = [0; MAX_READ];
         let count = self.read_input(reader, &mut buffer)?;
         let answer = self.answer(alloc, &buffer[..count])?;
         write_text(writer, answer.text())?;
@@ -155,7 +155,7 @@ impl<'a> Command<'a> {
     }
 
     // Reads the input, if the command has one, and returns the number of bytes read.
-    fn read_input<R: Read>(&self, reader: &mut R, buffer: &mut [u8; MOST_READ]) -> io::Result<usize>
+    fn read_input<R: Read>(&self, reader: &mut R, buffer: &mut [u8; MAX_READ]) -> io::Result<usize>
         ensures bytes { IfOk result (λ count. (count ≤ length buffer.new)
             × ReadsInput (spec.reads_input self.now) (R.remaining reader.old)
             (R.remaining reader.new) (take count buffer.new)) }

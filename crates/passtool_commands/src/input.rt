@@ -13,7 +13,7 @@ use std::alloc::Global;
 use std::io::{self, ErrorKind, Read};
 
 /// More bytes than the longest text of a pass and its line feed.
-pub const MOST_READ: usize = 8194;
+pub const MAX_READ: usize = 8194;
 
 /// Reads to the end of the input, or until the buffer is full, and returns the number of bytes
 /// read. A read that a signal interrupts is tried again.
