@@ -32,7 +32,7 @@ fn others_hold(rt: &impl Abort, club: &Club, slot: Option<Slot>, others: SlotUse
 /// The reply to an event on a part, with what others hold of its slot.
 fn reply_alone(rt: &impl Abort, part: &mut Club, event: &Event, others: SlotUse) -> EventReply {
     match event {
-        Event::PlainRequest { words, moment } => {
+        Event::Asked { words, moment } => {
             let reply = part.ask_alone(words, *moment, others);
             EventReply::Replied(reply.expect(rt, "memory"))
         }

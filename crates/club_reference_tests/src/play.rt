@@ -11,7 +11,7 @@ use test_kit::{FIXTURE, Order};
 /// The reply to an event by `ask` or `office`.
 fn reply_by_kind(rt: &impl Abort, club: &mut Club, event: &Event) -> EventReply {
     match event {
-        Event::PlainRequest { words, moment } => {
+        Event::Asked { words, moment } => {
             EventReply::Replied(club.ask(words, *moment).expect(rt, "memory"))
         }
         Event::Ordered(command) => EventReply::Answered(club.office(command).expect(rt, "memory")),
