@@ -50,7 +50,7 @@ returns-in-Ok-clause-again g c = λ club others represents left opened by opens.
     (All-weaker (MayBeLeft club others events returned) (IsOf club others events returned) (λ now may. inr may) ran.left ran.each) in
     let held = c.files_hold_one_of.ensures clubs left (record {
       clean = by.0;
-      numbered = c.into_store-store.ensures.numbered by.0;
+      numbers = c.into_store-store.ensures.numbered by.0;
       one_of = c.into_store-store.ensures.left last ran.left kept;
       files = by.1;
     }) in
