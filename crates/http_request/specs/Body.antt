@@ -4,6 +4,7 @@ use Rattle.std.specs.Str.{bytes_eq, is_utf8}
 use Rattle.serde_json.specs.Data.{Data, Members, no_members, member}
 use Rattle.serde_json.specs.Find.{get, as_number, as_object, as_u64}
 use Rattle.serde_json.specs.Read.{read}
+use Rattle.club_values.specs.Slot.{guests_limit}
 
 -- every name of the object is this one
 abbrev pub only_named : List ℕ → Members → Bool
@@ -17,12 +18,12 @@ has_only_name name value = unwrap_or (option_map (only_named name) (as_object va
 abbrev pub whole_number : Option Data → Option ℕ
 whole_number value = option_and_then as_u64 (option_and_then as_number value)
 
--- at most 49 guests (ours)
+-- so many guests, if a booking may have them
 abbrev pub few_guests : Option ℕ → Option ℕ
 few_guests None = None
-few_guests (Some n) = if nat_le n 49 then Some n else None
+few_guests (Some n) = if nat_le n guests_limit then Some n else None
 
--- an object with the one name `guests`, and a whole number of 0 to 49
+-- an object with the one name `guests`, and a whole number that is within the limit
 unfoldable pub guests_of_value : Data → Option ℕ
 guests_of_value value = if has_only_name (codes "guests") value then few_guests (whole_number (get (codes "guests") value)) else None
 

@@ -5,6 +5,7 @@ use Rattle.httparse.specs.Grammar.{RequestHead}
 use Rattle.httparse.specs.Spans.{name_and_value}
 use Rattle.http_request.specs.Head.{empty_line, IsPiece, IsHeadOf}
 use Rattle.http_request.specs.Length.{asked_length}
+use Rattle.http_request.specs.Limits.{max_head_len}
 
 -- the names and the values of a head's fields
 abbrev pub header_fields : RequestHead → List (List ℕ × List ℕ)
@@ -25,7 +26,7 @@ pub record IsFramed (bytes : List ℕ) (head : RequestHead) (body : List ℕ) : 
 
 -- no beginning of the bytes is a head's piece
 abbrev pub HasNoPiece : List ℕ → Type 0
-HasNoPiece bytes = (n : ℕ) → n ≤ length bytes → n ≤ 16384 → ends_with nat_eq (take n bytes) empty_line ≡ false
+HasNoPiece bytes = (n : ℕ) → n ≤ length bytes → n ≤ max_head_len → ends_with nat_eq (take n bytes) empty_line ≡ false
 
 -- the bytes begin with a piece that isn't a head, or whose body isn't allowed
 pub record IsRefusedHead (bytes : List ℕ) : Type 0 where
@@ -38,5 +39,5 @@ pub record IsRefusedHead (bytes : List ℕ) : Type 0 where
 -- the bytes begin with a whole request: its head and its body, or a head that is refused whatever follows
 pub data IsWhole (bytes : List ℕ) : Type 0 where
   has_frame : (head : RequestHead) (body : List ℕ) → IsFramed bytes head body → IsWhole bytes
-  endless : HasNoPiece bytes → 16384 ≤ length bytes → IsWhole bytes
+  endless : HasNoPiece bytes → max_head_len ≤ length bytes → IsWhole bytes
   bad_head : IsRefusedHead bytes → IsWhole bytes

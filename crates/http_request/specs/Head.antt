@@ -2,18 +2,19 @@
 use Rattle.std.specs.Prelude.{◌≡◌, ℕ, ◌<◌, ◌≤◌, true, false, List, [], length, take, nat_eq, codes}
 use Rattle.std.specs.List.{ends_with}
 use Rattle.httparse.specs.Grammar.{RequestHead, ReadsRequest}
+use Rattle.http_request.specs.Limits.{max_fields, max_head_len}
 
 -- the end of a line and an empty line
 abbrev pub empty_line : List ℕ
 empty_line = codes "\r\n\r\n"
 
--- the shortest beginning that ends with an empty line, of at most 16,384 bytes (ours)
+-- the shortest beginning that ends with an empty line, no longer than the longest head
 pub record IsPiece (piece : List ℕ) : Type 0 where
   pub ends : ends_with nat_eq piece empty_line ≡ true
   pub shortest : (n : ℕ) → n < length piece → ends_with nat_eq (take n piece) empty_line ≡ false
-  pub short : length piece ≤ 16384
+  pub short : length piece ≤ max_head_len
 
--- the piece is, whole, the head of a request (RFC 9112, as httparse reads it) with at most 32 fields (ours)
+-- the piece is, whole, the head of a request (RFC 9112, as httparse reads it), with no more than so many fields
 pub record IsHeadOf (piece : List ℕ) (head : RequestHead) : Type 0 where
   pub reads : ReadsRequest piece head []
-  pub few : length head.fields ≤ 32
+  pub few : length head.fields ≤ max_fields

@@ -5,11 +5,12 @@ use Rattle.std.specs.Char.{is_ascii_digit}
 use Rattle.std.specs.Str.{bytes_eq}
 use Rattle.std.specs.Str.Parse.{digits_value}
 use Rattle.http_request.specs.Fields.{values_of}
+use Rattle.http_request.specs.Limits.{max_body_len}
 
--- 1 to 4 digits, and at most 256 (ours)
+-- 1 to 4 digits, of a number up to the length of the longest body (ours)
 abbrev pub length_in : List ℕ → Option ℕ
 length_in value =
-    if nat_lt 0 (length value) && nat_le (length value) 4 && list_all is_ascii_digit value && nat_le (digits_value 10 value) 256
+    if nat_lt 0 (length value) && nat_le (length value) 4 && list_all is_ascii_digit value && nat_le (digits_value 10 value) max_body_len
     then Some (digits_value 10 value)
     else None
 

@@ -1,3 +1,4 @@
+pub mod Limits
 pub mod Head
 pub mod Fields
 pub mod Length

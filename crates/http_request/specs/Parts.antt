@@ -5,6 +5,7 @@ use Rattle.std.specs.Borrow.{Bor}
 use Rattle.std.specs.Char.{is_ascii_digit}
 use Rattle.std.specs.List.{list_all}
 use Rattle.std.specs.Str.Parse.{digits_value}
+use Rattle.club_rows.specs.Limits.{booking_number_limit}
 use Rattle.club_values.specs.declared.slot.Slot.{Slot}
 use Rattle.club_values.specs.computed.TextOf.{name_of_text, day_of_text, hour_of_text}
 
@@ -22,9 +23,9 @@ infixl 10 ◌>>=◌
 abbrev pub ◌>>=◌ : {A B : Type 0} → Option A → (A → Option B) → Option B
 o >>= f = option_and_then f o
 
--- the number of a booking: 1 to 999,999,999
+-- the number of a booking, from 1 to its limit
 abbrev pub within_limits : ℕ → Option ℕ
-within_limits n = if nat_le 1 n && nat_le n 999_999_999 then Some n else None
+within_limits n = if nat_le 1 n && nat_le n booking_number_limit then Some n else None
 
 -- decimal digits, at most nine, without leading zeros
 unfoldable pub number_of_text : List ℕ → Option ℕ

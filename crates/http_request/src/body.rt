@@ -12,11 +12,9 @@ ghost use Rattle.http_request.specs.Body as spec;
 
 use club_core::Refusal;
 use club_rows::Guests;
+use club_values::MAX_GUESTS;
 use serde_json::{Map, Value};
 use std::alloc::Global;
-
-/// The most guests of a booking.
-const MAX_GUESTS: u64 = 49;
 
 /// Whether the value is an object with no other name than `guests`.
 fn has_only_guests(value: &Value) -> bool
@@ -45,7 +43,7 @@ fn few_guests(number: Option<u64>) -> Option<Guests>
     ensures { result ≡ spec.few_guests number }
 {
     match number {
-        Some(number) if number <= MAX_GUESTS => Guests::new(number as u8),
+        Some(number) if number <= u64::from(MAX_GUESTS) => Guests::new(number as u8),
         _ => None,
     }
 }

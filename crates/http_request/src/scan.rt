@@ -4,13 +4,15 @@ ghost use Rattle.std.specs.Prelude.{◌<◌, ◌≤◌, ◌↔◌, [], length, t
 ghost use Rattle.std.specs.Bool.{OnFalse};
 ghost use Rattle.http_request.specs.Frame.{IsWhole};
 ghost use Rattle.http_request.specs.Front.{Covers};
+ghost use Rattle.http_request.specs.Limits.{max_request_len};
 
 use crate::front::{Front, front_of};
 use crate::head::{MAX_FIELDS, MAX_HEAD_LEN};
+use crate::length::MAX_BODY_LEN;
 use httparse::spans::{EMPTY_HEADER_SPAN, HeaderSpan};
 
 /// The most bytes of a request.
-pub const MAX_REQUEST_LEN: usize = 16_640;
+pub const MAX_REQUEST_LEN: usize = MAX_HEAD_LEN + MAX_BODY_LEN;
 
 /// A scan for the head of a request. It holds what the bytes begin with that it covers. The head is
 /// parsed once, when its end has arrived, and kept here.
@@ -51,7 +53,7 @@ impl HeadScan {
     pub fn is_whole(&self, bytes: &[u8]) -> bool
         requires { Covers self.now bytes.now }
         ensures whole { IsTrue result ↔ IsWhole bytes.now }
-        ensures room { OnFalse result (length bytes.now < 16640) }
+        ensures room { OnFalse result (length bytes.now < max_request_len) }
     {
         match self.front {
             Front::NoPiece => bytes.len() >= MAX_HEAD_LEN,
