@@ -1,13 +1,14 @@
 #!/bin/sh
-# Holds the pages against the repository: README.md, CONTRIBUTING.md and docs/.
+# Holds the pages against the repository: README.md, CONTRIBUTING.md, docs/, and the README.md of each crate.
 # - Each ```console block is run, the blocks of a page one after the other in a folder of its own, with bin/ on the path: a line
 #   that begins with `$ ` is a command, the lines behind it are what it prints, on standard output or standard error. Empty lines
 #   and spaces at the end of a line don't count, and another port may stand for 8080.
 # - Each ```rust, ```antt and ```text block is in a file of crates/, but for how far it is indented.
 # - Each link leads to a page, and to a heading of it. Each page of docs/ is in docs/INDEX.md.
-# - Each contract that docs/PROMISES.md names is there: the function in the section's crate, and its clause; each definition. So are
-#   the clauses of README's law.
-# - Each file that a page names is there, and each name `crate::..::name` or `Type::name` is defined.
+# - Each contract that docs/PROMISES.md names is there: the function in the section's crate, and its clause; each definition, and of
+#   `RECORD.FIELD` the field of that record. So are the clauses of README's law.
+# - Each file that a page names is there, in a crate's page also each of its own folders, and each name `crate::..::name` or
+#   `Type::name` is defined.
 # - docs/LAYERS.md has the layers and crates of crates.txt in their order, each with what it stands on; TRUST names each crate.
 # - docs/TOUR.md gives each answer as a path of three to six steps, each a file with a name that it defines.
 # - The logic that README.md and docs/TRUST.md name by its sum is this toolchain's, and bin/demo prints what tests/demo_tells.sh wants.
@@ -23,7 +24,7 @@ cd "$root" || exit 2
 runs=yes
 [ "${1-}" != -n ] || { runs=; shift; }
 whole=
-[ $# -gt 0 ] || { whole=yes; set -- README.md CONTRIBUTING.md docs/*.md; }
+[ $# -gt 0 ] || { whole=yes; set -- README.md CONTRIBUTING.md docs/*.md crates/*/README.md; }
 work=$(mktemp -d) || exit 2
 trap 'rm -rf "$work"' EXIT
 trap 'exit 2' INT TERM
@@ -133,7 +134,8 @@ follow_links() {
         done >>"$faults"
 }
 
-# What crates/ defines, one a line: CRATE FILE KIND NAME, and for a clause CRATE FILE clause FUNCTION LABEL.
+# What crates/ defines, one a line: CRATE FILE KIND NAME, for a clause CRATE FILE clause FUNCTION LABEL, and for a field of a record of
+# specs/ also CRATE FILE field RECORD NAME.
 index_names() {
     cat "$work/files" | tr ' ' '\n' | while read -r file; do
         crate=${file#crates/}
@@ -159,6 +161,9 @@ index_names() {
                 line = $0
                 sub(/^ *(abbrev |unfoldable )?(pub )?(record |data )?/, "", line)
                 split(line, words, " ")
+                if ($0 ~ /^ *(pub )?record /) record = words[1]
+                else if ($0 ~ /^[^ -]/) record = ""
+                else if ($0 ~ /^ +pub [A-Za-z_0-9]+ :/ && record != "") print at, "field", record, words[1]
                 if (words[2] == ":" || words[2] == "where" || $0 ~ /(record|data) /) print at, "item", words[1]
             }' "$file"
     done >"$work/index"
@@ -198,6 +203,7 @@ hold_promises() {
         function before(path,    parts, count) { count = split(path, parts, "::"); return count > 1 ? parts[count - 1] : "" }
         FILENAME == ARGV[1] {
             if ($3 == "clause") clauses[$1, $4, $5]
+            else if ($3 == "field") fields[$1, $4, $5]
             else if ($3 == "impl") impls[$1] = impls[$1] "\n" substr($0, index($0, " impl ") + 6)
             else { defined[$1, $4]; if ($3 == "fn") { functions[$1, $4]; file = $2; sub(/.*\//, "", file); sub(/\.rt$/, "", file); homes[$1, file, $4] } }
             next
@@ -208,7 +214,8 @@ hold_promises() {
             count = split($3, parts, ".")
             owner = before(parts[1])
             if (owner == "") owner = $1
-            for (p = 1; p <= count; p++) if (!((owner, last(parts[p])) in defined)) lacks("definition " $3)
+            if (!((owner, last(parts[1])) in defined)) lacks("definition " $3)
+            if (count > 1 && !((owner, last(parts[1]), parts[2]) in fields)) lacks("field " $3)
             next
         }
         $4 == "for" {
@@ -230,6 +237,9 @@ hold_names() {
     blocks "$1" sh | grep -oE '^(bin|tests|deploy)/[a-z_.]+' >"$work/scripts"
     cat "$work/words" "$work/scripts" | grep -E '^(crates|docs|tests|bin|deploy|man)/' | grep -vE '[*<]|NAME|CRATE|(^|/)out(/|$)' | while read -r path; do
         [ -e "${path%%:*}" ] || echo "$1: no file $path"
+    done >>"$faults"
+    grep -E '^(src|specs|proofs|must-fail|more-edits)/' "$work/words" | while read -r path; do
+        case $1 in crates/*) [ -e "${1%README.md}$path" ] || echo "$1: no file $path" ;; esac
     done >>"$faults"
     # Promises are named within their crate, and held above.
     [ "$1" != docs/PROMISES.md ] || return 0
