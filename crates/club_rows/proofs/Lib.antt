@@ -1,2 +1,1 @@
-pub mod RootLemmas
 pub mod ColumnLemmas

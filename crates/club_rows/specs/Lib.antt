@@ -1,5 +1,4 @@
 pub mod Limits
-pub mod RootInside
 pub mod Rows
 pub mod Key
 pub mod Facility

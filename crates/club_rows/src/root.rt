@@ -5,6 +5,7 @@ ghost use Rattle.std.specs.Cmp.Lexicographic.{pointwise, nat_list_eq_equiv};
 ghost use Rattle.std.specs.Cmp.{partial_equiv_from_equiv};
 ghost use Rattle.club_rows.specs.Limits.{IsRoot};
 
+use club_values::InlineBytes;
 use std::fmt;
 use std::marker::Model;
 
@@ -18,8 +19,7 @@ pub const MAX_ROOT_LEN: usize = 64;
 /// bytes.
 #[derive(Clone, Copy)]
 pub struct Root {
-    bytes: [u8; MAX_ROOT_LEN],
-    len: u8,
+    bytes: InlineBytes<MAX_ROOT_LEN>,
 }
 
 impl Model for Root {
@@ -27,20 +27,13 @@ impl Model for Root {
 
     ghost Value = { List ℕ };
 
-    ghost use Rattle.club_rows.specs.RootInside.{
-      root_bytes,
-      root_inside,
-      HoldsRoot,
-      inside_of-bytes_of,
-    };
+    ghost use Rattle.club_rows.specs.Limits.{IsRoot};
 
-    ghost view = { root_bytes };
+    ghost view = { λ root. root.bytes };
 
-    ghost invariant = { HoldsRoot };
+    ghost invariant = { λ root. IsRoot root.bytes };
 
-    ghost inverse = { root_inside };
-
-    ghost inverse_ok = { inside_of-bytes_of };
+    ghost inverse = { λ bytes. record { bytes = bytes } };
 }
 
 impl Root {
@@ -49,15 +42,11 @@ impl Root {
         ensures within { IsSome result ↔ IsRoot bytes.now }
         ensures value { IfSome result (λ root. root ≡ bytes.now) }
     {
-        if bytes.len() < MIN_ROOT_LEN || bytes.len() > MAX_ROOT_LEN {
+        if bytes.len() < MIN_ROOT_LEN {
             return None;
         }
-        let mut buffer = [0; MAX_ROOT_LEN];
-        buffer[..bytes.len()].copy_from_slice(bytes);
-        Some(Root {
-            bytes: buffer,
-            len: bytes.len() as u8,
-        })
+        let bytes = InlineBytes::new(bytes)?;
+        Some(Root { bytes })
     }
 
     /// The bytes of the root.
@@ -65,7 +54,7 @@ impl Root {
         ensures value { result.now ≡ self.now }
         ensures within { IsRoot result.now }
     {
-        &self.bytes[..self.len as usize]
+        self.bytes.as_bytes()
     }
 }
 

@@ -2,6 +2,7 @@ pub mod DigitLemmas
 pub mod DateTextLemmas
 pub mod DayLemmas
 pub mod MomentLemmas
+pub mod InlineBytesLemmas
 pub mod NameLemmas
 pub mod TestLemmas
 pub mod GuessLemmas

@@ -1,5 +1,5 @@
 pub mod Name
-pub mod NameInside
+pub mod InlineBytes
 pub mod Reading
 pub mod Digits
 pub mod Day

@@ -20,6 +20,7 @@ ghost use Rattle.club_values.specs.Reading.{Reads};
 ghost use Rattle.club_values.specs.computed.TextOf.{name_of_text};
 
 use crate::ascii::text_of;
+use crate::inline_bytes::InlineBytes;
 use std::cmp::Ordering;
 use std::fmt;
 use std::hash::{Hash, Hasher};
@@ -32,8 +33,7 @@ pub const MAX_NAME_LEN: usize = 24;
 /// first not `-`. Contracts see it as its bytes. Names are ordered by their bytes.
 #[derive(Clone, Copy)]
 pub struct Name {
-    bytes: [u8; MAX_NAME_LEN],
-    len: u8,
+    bytes: InlineBytes<MAX_NAME_LEN>,
 }
 
 impl Model for Name {
@@ -41,20 +41,13 @@ impl Model for Name {
 
     ghost Value = { List ℕ };
 
-    ghost use Rattle.club_values.specs.NameInside.{
-      name_bytes,
-      name_inside,
-      HoldsName,
-      inside_of-bytes_of,
-    };
+    ghost use Rattle.club_values.specs.Name.{IsName};
 
-    ghost view = { name_bytes };
+    ghost view = { λ name. name.bytes };
 
-    ghost invariant = { HoldsName };
+    ghost invariant = { λ name. IsName name.bytes };
 
-    ghost inverse = { name_inside };
-
-    ghost inverse_ok = { inside_of-bytes_of };
+    ghost inverse = { λ bytes. record { bytes = bytes } };
 }
 
 fn is_name_byte(byte: u8) -> bool
@@ -66,15 +59,12 @@ fn is_name_byte(byte: u8) -> bool
 fn name_in(text: &[u8]) -> Option<Name>
     ensures { Reads (λ name. IsName text.now × (name ≡ text.now)) result }
 {
-    if !Name::is_name(text) {
-        return None;
+    let bytes = InlineBytes::new(text)?;
+    if Name::is_name(text) {
+        Some(Name { bytes })
+    } else {
+        None
     }
-    let mut bytes = [0; MAX_NAME_LEN];
-    bytes[..text.len()].copy_from_slice(text);
-    Some(Name {
-        bytes,
-        len: text.len() as u8,
-    })
 }
 
 impl Name {
@@ -101,7 +91,7 @@ impl Name {
         ensures value { result.now ≡ self.now }
         ensures name { IsName result.now }
     {
-        &self.bytes[..self.len as usize]
+        self.bytes.as_bytes()
     }
 
     /// The name as text.

@@ -1,0 +1,59 @@
+//! Short strings of bytes, stored inline.
+
+ghost use Rattle.std.specs.Prelude.{◌≡◌, ◌≤◌, ◌↔◌, length, IsSome, IfSome};
+
+use std::marker::Model;
+
+/// At most `N` bytes, stored inline. Contracts see them as their list.
+#[derive(Clone, Copy)]
+pub struct InlineBytes<const N: usize> {
+    buffer: [u8; N],
+    len: usize,
+}
+
+impl<const N: usize> Model for InlineBytes<N> {
+    ghost use Rattle.std.specs.Prelude.{ℕ, List};
+
+    ghost Value = { List ℕ };
+
+    ghost use Rattle.club_values.specs.InlineBytes.{
+      stored_bytes,
+      IsPadded,
+      stored_inline,
+      stored_inline-stored_bytes,
+    };
+
+    ghost view = { stored_bytes };
+
+    ghost invariant = { IsPadded };
+
+    ghost inverse = { stored_inline N };
+
+    ghost inverse_ok = { stored_inline-stored_bytes };
+}
+
+impl<const N: usize> InlineBytes<N> {
+    /// These bytes; `None` if they are more than `N`.
+    pub fn new(bytes: &[u8]) -> Option<InlineBytes<N>>
+        ensures within { IsSome result ↔ (length bytes.now ≤ N) }
+        ensures value { IfSome result (λ stored. stored ≡ bytes.now) }
+    {
+        if bytes.len() > N {
+            return None;
+        }
+        let mut buffer = [0; N];
+        buffer[..bytes.len()].copy_from_slice(bytes);
+        Some(InlineBytes {
+            buffer,
+            len: bytes.len(),
+        })
+    }
+
+    /// The bytes.
+    pub fn as_bytes(&self) -> &[u8]
+        ensures value { result.now ≡ self.now }
+        ensures within { length result.now ≤ N }
+    {
+        &self.buffer[..self.len]
+    }
+}
