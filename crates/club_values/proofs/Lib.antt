@@ -5,5 +5,6 @@ pub mod MomentLemmas
 pub mod InlineBytesLemmas
 pub mod NameLemmas
 pub mod TestLemmas
+pub mod NumberLemmas
 pub mod GuessLemmas
 pub mod TextOfLemmas

@@ -1,7 +1,8 @@
 -- The functions `.._of_text` return exactly what the text spells.
 use Rattle.std.proofs.Common.{◌≡◌, ◌↔◌, ℕ, Bool, true, false, cond, List, [], Option, Some, None, refl, sym, ap, subst, ◌∙◌, Decides}
-use Rattle.std.specs.Prelude.{◌&&◌}
+use Rattle.std.specs.Prelude.{◌&&◌, not}
 use Rattle.std.specs.Str.{bytes_eq}
+use Rattle.std.specs.Str.Parse.{digits_value}
 use Rattle.std.proofs.lemmas.Bool.Decides.{Decides-like, Decides-and, Decides-ltb}
 use Rattle.std.proofs.lemmas.Slice.Eq.{bytes_eq-Decides}
 use Rattle.club_values.specs.Reading.{Reads}
@@ -10,6 +11,7 @@ use Rattle.club_values.specs.declared.kind.Kind.TheVariants.{Court, Boat, Room}
 use Rattle.club_values.specs.declared.action.Action.{Action}
 use Rattle.club_values.specs.declared.action.Action.TheVariants.{View, Book, Cancel, Account}
 use Rattle.club_values.specs.Name.{IsName}
+use Rattle.club_values.specs.Number.{are_few_digits, SpellsNumber}
 use Rattle.club_values.specs.Digits.{two_digits}
 use Rattle.club_values.specs.Day.{IsDay, SpellsDay, day_text}
 use Rattle.club_values.specs.Moment.{IsMoment, SpellsMoment, moment_text}
@@ -17,12 +19,13 @@ use Rattle.club_values.specs.Hour.{IsHour, SpellsHour}
 use Rattle.club_values.specs.Kind.{kind_text}
 use Rattle.club_values.specs.Action.{action_text}
 use Rattle.club_values.specs.computed.TextOf.{is_name, two_at, day_of, moment_of, candidate_kind, candidate_action, where_spelled, name_of_text, day_of_text}
-use Rattle.club_values.specs.computed.TextOf.{moment_of_text, hour_of_text, kind_of_text, action_of_text}
+use Rattle.club_values.specs.computed.TextOf.{decimal_of_text, moment_of_text, hour_of_text, kind_of_text, action_of_text}
 use Rattle.club_values.proofs.TestLemmas.{Decides-is_name, Decides-range}
+use Rattle.club_values.proofs.NumberLemmas.{leads_with_zero, Decides-number, value_of-number}
 use Rattle.club_values.proofs.GuessLemmas.{two_again, day_of-day_text, moment_of-moment_text}
 use Rattle.club_values.proofs.DayLemmas.{day_text-spells, spells-day_text}
 use Rattle.club_values.proofs.MomentLemmas.{moment_text-spells, spells-moment_text}
-use Rattle.club_values.specs.Laws.{ReadsNames, ReadsKinds, ReadsActions, ReadsDays, ReadsHours, ReadsMoments}
+use Rattle.club_values.specs.Laws.{ReadsNames, ReadsNumbers, ReadsKinds, ReadsActions, ReadsDays, ReadsHours, ReadsMoments}
 
 -- a value that is computed back from its text is returned exactly if the text spells it
 found : {A : Type 0} (Spells : A → Type 0) (guess : A) (test : Bool) → Decides test (Spells guess) → ((x : A) → Spells x → guess ≡ x) → (x : A) →
@@ -47,6 +50,11 @@ pub same_reading : {A : Type 0} (Spells : A → Type 0) (found r : Option A) →
 same_reading Spells found (Some x) agrees h = sym ((agrees x).1 h)
 same_reading Spells None None agrees h = refl
 same_reading Spells (Some y) None agrees h = absurd (h y ((agrees y).0 refl))
+
+-- so a parser that returns what such a function returns is a parser of the same values
+pub reads_by : {A : Type 0} (Spells : A → Type 0) (found r : Option A) → ((x : A) → (found ≡ Some x) ↔ Spells x) → r ≡ found → Reads Spells r
+reads_by Spells found (Some x) agrees e = (agrees x).0 (sym e)
+reads_by Spells found None agrees e = λ x s. let some = (agrees x).1 s in cc
 
 day_of-whole : (n : ℕ) → IsDay n → day_of (day_text n) ≡ n
 unfolding day_text
@@ -104,3 +112,15 @@ unfolding name_of_text
 reads_names text =
     found (λ name. IsName text × (name ≡ text)) text (is_name text)
     (Decides-like _ (λ is. (is, refl)) (λ both. both.0) (Decides-is_name text)) (λ name both. sym both.1)
+
+in_turn : (digits zero : Bool) (n : ℕ) → cond zero None (cond digits (Some n) None) ≡ cond (digits && not zero) (Some n) None
+in_turn true true n = refl
+in_turn true false n = refl
+in_turn false true n = refl
+in_turn false false n = refl
+
+pub reads_numbers : ReadsNumbers
+unfolding decimal_of_text
+reads_numbers text n =
+    rw (in_turn (are_few_digits text) (leads_with_zero text) (digits_value 10 text))
+    (found (SpellsNumber text) (digits_value 10 text) (are_few_digits text && not (leads_with_zero text)) (Decides-number text) (value_of-number text) n)

@@ -2,6 +2,7 @@ pub mod Name
 pub mod InlineBytes
 pub mod Reading
 pub mod Digits
+pub mod Number
 pub mod Day
 pub mod Weekday
 pub mod Hour

@@ -1,8 +1,21 @@
-//! Two decimal digits, parsed and written.
+//! Decimal digits, parsed and written.
 
 ghost use Rattle.std.specs.Prelude.{◌≡◌, ◌<◌, ◌++◌, [], ◌∷◌};
+ghost use Rattle.std.specs.Char.{is_ascii_digit};
+ghost use Rattle.std.specs.List.{list_all};
 ghost use Rattle.club_values.specs.Reading.{Reads};
 ghost use Rattle.club_values.specs.Digits as spec;
+ghost use Rattle.club_values.specs.Number as number;
+ghost use Rattle.club_values.specs.Number.{SpellsNumber};
+ghost use Rattle.club_values.specs.computed.TextOf.{decimal_of_text};
+
+use crate::ascii::text_of;
+
+/// The most digits of a number.
+const MAX_DIGITS: usize = 9;
+
+/// The greatest number of so many digits.
+pub const MAX_NUMBER: u32 = 999_999_999;
 
 /// The number that two decimal digits spell; `None` if either isn't a digit.
 pub fn read_two(tens: u8, ones: u8) -> Option<u8>
@@ -21,4 +34,45 @@ pub fn two_digits(n: u8) -> [u8; 2]
     ensures { result ≡ spec.two_digits n }
 {
     [b'0' + n / 10, b'0' + n % 10]
+}
+
+fn are_digits(text: &[u8]) -> bool
+    ensures { result ≡ list_all is_ascii_digit text.now }
+{
+    text.iter().all(|byte| byte.is_ascii_digit())
+}
+
+fn are_few_digits(text: &[u8]) -> bool
+    ensures { result ≡ number.are_few_digits text.now }
+{
+    !text.is_empty() && text.len() <= MAX_DIGITS && are_digits(text)
+}
+
+/// The number of 1 to 9 decimal digits, leading zeros allowed; `None` for any other text.
+pub fn read_digits(text: &[u8]) -> Option<u32>
+    ensures { result ≡ number.number_of_digits text.now }
+{
+    if !are_few_digits(text) {
+        return None;
+    }
+    text_of(text).parse().ok()
+}
+
+#[tactic(auto, unfolding(crate::specs::computed::TextOf::decimal_of_text))]
+fn number_in(text: &[u8]) -> Option<u32>
+    ensures { result ≡ decimal_of_text text.now }
+{
+    if text.len() > 1 && text[0] == b'0' {
+        return None;
+    }
+    read_digits(text)
+}
+
+/// The number of decimal digits without leading zeros, up to 999,999,999; `None` for any other
+/// text.
+pub fn read_number(text: &[u8]) -> Option<u32>
+    ensures spelled { Reads (SpellsNumber text.now) result }
+    ensures function { result ≡ decimal_of_text text.now }
+{
+    number_in(text)
 }

@@ -2,6 +2,7 @@
 
 ghost use Rattle.club_values.specs.Laws.{
   ReadsNames,
+  ReadsNumbers,
   ReadsKinds,
   ReadsActions,
   ReadsDays,
@@ -16,6 +17,11 @@ ghost use Rattle.club_values.specs.Laws.{
 /// `name_of_text` returns a name exactly if the text is a name, and the name is the text.
 pub fn reads_names()
     ensures { ReadsNames }
+{}
+
+/// `decimal_of_text` returns a number exactly if the text spells that number.
+pub fn reads_numbers()
+    ensures { ReadsNumbers }
 {}
 
 /// `kind_of_text` returns a kind exactly if the text spells that kind.

@@ -1,5 +1,4 @@
 pub mod PartLemmas
-pub mod NumberLemmas
 pub mod ChoiceLemmas
 pub mod LineLemmas
 pub mod FaultLemmas

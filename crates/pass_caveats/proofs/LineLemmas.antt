@@ -9,7 +9,7 @@ use Rattle.club_values.specs.declared.kind.Kind.{Kind as AKind}
 use Rattle.pass_caveats.specs.declared.actions.Actions.{Actions as SomeActions}
 use Rattle.pass_caveats.specs.declared.weekdays.Weekdays.{Weekdays as SomeWeekdays}
 use Rattle.club_values.specs.Reading.{Reads}
-use Rattle.pass_caveats.specs.Number.{SpellsNumber}
+use Rattle.club_values.specs.Number.{SpellsNumber}
 use Rattle.club_values.specs.Day.{SpellsDay, day_text}
 use Rattle.club_values.specs.Moment.{SpellsMoment}
 use Rattle.pass_caveats.specs.Caveat.{SpellsCaveat}

@@ -7,7 +7,7 @@ use Rattle.pass_caveats.specs.declared.caveat.Caveat.TheVariants.{Spend}
 use Rattle.pass_caveats.specs.declared.fault.CaveatFault.TheVariants.{Denied}
 use Rattle.pass_caveats.specs.Caveat.{IsCaveat, Permits}
 use Rattle.pass_caveats.specs.computed.CaveatOf.{caveat_of, first_fault_from, permits}
-use Rattle.pass_caveats.specs.Number.{number_limit}
+use Rattle.club_values.specs.Number.{number_limit}
 use Rattle.pass_caveats.specs.Spending.{after_spending}
 use Rattle.pass_caveats.proofs.CaveatOfLemmas.{understood-caveat_of}
 use Rattle.pass_caveats.proofs.DecisionLemmas.{Decides-permits}

@@ -11,7 +11,7 @@ use Rattle.club_values.specs.Moment.{IsMoment, moment_text}
 use Rattle.club_values.specs.Kind.{kind_text}
 use Rattle.club_values.specs.Slot.{guests_limit}
 use Rattle.pass_caveats.specs.Names.{AreNames}
-use Rattle.pass_caveats.specs.Number.{number_limit}
+use Rattle.club_values.specs.Number.{number_limit}
 use Rattle.pass_caveats.specs.Parts.{comma_list}
 use Rattle.club_values.specs.Weekday.{weekday_of}
 use Rattle.pass_caveats.specs.Actions.{has_action, action_texts}

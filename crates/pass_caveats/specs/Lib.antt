@@ -1,5 +1,4 @@
 pub mod Names
-pub mod Number
 pub mod Parts
 pub mod Actions
 pub mod Weekdays

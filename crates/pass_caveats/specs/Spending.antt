@@ -3,7 +3,7 @@ use Rattle.std.specs.Prelude.{◌≡◌, ℕ, ◌≤◌, List, map, Option}
 use Rattle.pass_caveats.specs.declared.ask.Ask.{Ask}
 use Rattle.pass_caveats.specs.declared.caveat.Caveat.{Caveat}
 use Rattle.pass_caveats.specs.computed.CaveatOf.{caveat_of, first_fault_of}
-use Rattle.pass_caveats.specs.Number.{number_limit}
+use Rattle.club_values.specs.Number.{number_limit}
 
 -- the same request of a key that has spent this much
 abbrev pub after_spending : ℕ → Ask → Ask

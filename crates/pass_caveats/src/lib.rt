@@ -10,7 +10,6 @@ pub mod laws;
 mod lines;
 mod names;
 mod parts;
-mod text;
 mod weekdays;
 
 pub use actions::Actions;

@@ -1,15 +1,23 @@
 //! A parser for each kind of line that a caveat may be.
 
+ghost use Rattle.std.specs.Prelude.{◌≡◌, ◌++◌, List, ℕ, MatchOption};
 ghost use Rattle.club_values.specs.Reading.{Reads};
 ghost use Rattle.pass_caveats.specs.Caveat.{SpellsCaveat};
 ghost use Rattle.pass_caveats.specs.declared.caveat.Caveat.TheVariants as caveats;
 
 use crate::actions::Actions;
 use crate::names::Names;
-use crate::text::{after, parse_number};
 use crate::weekdays::Weekdays;
-use club_values::digits::read_two;
+use club_values::digits::{read_number, read_two};
 use club_values::{Day, HOURS_A_DAY, Kind, MAX_GUESTS, Moment};
+
+/// What follows a word at the front of a text; `None` if the text doesn't begin with it.
+fn after<'a>(text: &'a [u8], word: &[u8]) -> Option<&'a [u8]>
+    ensures { MatchOption result ((rest : List ℕ) → ¬ (text.now ≡ word.now ++ rest))
+        (λ rest. text.now ≡ word.now ++ rest.now) }
+{
+    text.strip_prefix(word)
+}
 
 pub(crate) fn read_facility(text: &[u8]) -> Option<Names<'_>>
     ensures { Reads (λ names. SpellsCaveat text.now (caveats.Facility names)) result }
@@ -70,7 +78,7 @@ pub(crate) fn read_until(text: &[u8]) -> Option<Moment>
 pub(crate) fn read_guests(text: &[u8]) -> Option<u8>
     ensures { Reads (λ n. SpellsCaveat text.now (caveats.Guests n)) result }
 {
-    let guests = parse_number(after(text, b"guests <= ")?)?;
+    let guests = read_number(after(text, b"guests <= ")?)?;
     if guests <= u32::from(MAX_GUESTS) {
         Some(guests as u8)
     } else {
@@ -81,7 +89,7 @@ pub(crate) fn read_guests(text: &[u8]) -> Option<u8>
 pub(crate) fn read_spend(text: &[u8]) -> Option<u32>
     ensures { Reads (λ n. SpellsCaveat text.now (caveats.Spend n)) result }
 {
-    parse_number(after(text, b"spend <= ")?)
+    read_number(after(text, b"spend <= ")?)
 }
 
 pub(crate) fn read_actions(text: &[u8]) -> Option<Actions>

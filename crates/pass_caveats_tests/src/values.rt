@@ -6,7 +6,7 @@ use crate::calls::{
 };
 use crate::rows::{expect_eq, moment, slot};
 use club_values::ascii::text_of;
-use club_values::digits::{read_two, two_digits};
+use club_values::digits::{read_digits, read_number, read_two, two_digits};
 use club_values::{Day, Moment, Weekday};
 use std::process::Abort;
 
@@ -244,7 +244,7 @@ static TWO_DIGITS: [([u8; 2], Option<u8>); 4] = [
     ([b'7', b':'], None),
 ];
 
-fn read_digits(rt: &impl Abort, rows: &[([u8; 2], Option<u8>)]) {
+fn read_two_digits(rt: &impl Abort, rows: &[([u8; 2], Option<u8>)]) {
     for (text, want) in rows {
         expect_eq(rt, &read_two(text[0], text[1]), want, text);
     }
@@ -252,7 +252,32 @@ fn read_digits(rt: &impl Abort, rows: &[([u8; 2], Option<u8>)]) {
 
 #[test]
 fn digits_of_a_fixed_width(rt: HostRuntime) {
-    read_digits(&rt, &TWO_DIGITS);
+    read_two_digits(&rt, &TWO_DIGITS);
     expect_eq(&rt, &two_digits(7), b"07", &7);
     expect_eq(&rt, &text_of(b"07"), &"07", &"ASCII");
+}
+
+/// A text, its number without leading zeros, and with them.
+static NUMBERS: [(&str, Option<u32>, Option<u32>); 9] = [
+    ("0", Some(0), Some(0)),
+    ("7", Some(7), Some(7)),
+    ("00", None, Some(0)),
+    ("012", None, Some(12)),
+    ("999999999", Some(999_999_999), Some(999_999_999)),
+    ("1000000000", None, None),
+    ("", None, None),
+    ("+1", None, None),
+    ("1a", None, None),
+];
+
+fn read_numbers(rt: &impl Abort, rows: &[(&'static str, Option<u32>, Option<u32>)]) {
+    for (text, number, digits) in rows {
+        expect_eq(rt, &read_number(text.as_bytes()), number, text);
+        expect_eq(rt, &read_digits(text.as_bytes()), digits, text);
+    }
+}
+
+#[test]
+fn numbers(rt: HostRuntime) {
+    read_numbers(&rt, &NUMBERS);
 }

@@ -10,6 +10,7 @@ use Rattle.club_values.specs.declared.action.Action.{Action}
 use Rattle.club_values.specs.declared.action.Action.TheVariants.{View, Book, Cancel, Account}
 use Rattle.club_values.specs.Name.{is_name_byte, max_name_len}
 use Rattle.club_values.specs.Digits.{two_digits}
+use Rattle.club_values.specs.Number.{number_of_digits}
 use Rattle.club_values.specs.Day.{day_text, first_day, last_day}
 use Rattle.club_values.specs.Hour.{hours_a_day}
 use Rattle.club_values.specs.Moment.{moment_text, first_moment, last_moment, minutes_a_day, minutes_an_hour}
@@ -54,6 +55,10 @@ where_spelled text value spelled fits = if fits && bytes_eq text spelled then So
 
 unfoldable pub name_of_text : List ℕ → Option (List ℕ)
 name_of_text text = if is_name text then Some text else None
+
+-- digits without leading zeros
+unfoldable pub decimal_of_text : List ℕ → Option ℕ
+decimal_of_text text = if nat_lt 1 (length text) && slice_index text 0 == 48 then None else number_of_digits text
 
 unfoldable pub day_of_text : List ℕ → Option ℕ
 day_of_text text = where_spelled text (day_of text) (day_text (day_of text)) (is_in_range first_day last_day (day_of text))

@@ -24,7 +24,7 @@ use Rattle.club_values.specs.Moment.{first_moment, last_moment}
 use Rattle.club_values.specs.Action.{action_text}
 use Rattle.club_values.specs.Weekday.{weekdays, weekday_of}
 use Rattle.pass_caveats.specs.Names.{max_names}
-use Rattle.pass_caveats.specs.Number.{number_limit}
+use Rattle.club_values.specs.Number.{number_limit}
 use Rattle.pass_caveats.specs.Parts.{comma_parts, words_found}
 use Rattle.pass_caveats.specs.Actions.{all_actions, has_action, action_texts}
 use Rattle.pass_caveats.specs.Weekdays.{weekday_text, has_weekday, weekday_texts}

@@ -1,0 +1,25 @@
+-- Numbers of a few decimal digits.
+use Rattle.std.specs.Prelude.{◌≡◌, ℕ, ◌≤◌, ◌&&◌, Bool, List, length, nat_lt, nat_le, if◌then◌else◌, Option, Some, None}
+use Rattle.std.specs.Char.{is_ascii_digit}
+use Rattle.std.specs.Fmt.{decimal}
+use Rattle.std.specs.List.{list_all}
+use Rattle.std.specs.Str.Parse.{digits_value}
+
+-- the most digits of a number, and the greatest number (ours)
+abbrev pub max_digits : ℕ
+max_digits = 9
+
+abbrev pub number_limit : ℕ
+number_limit = 999_999_999
+
+abbrev pub are_few_digits : List ℕ → Bool
+are_few_digits text = nat_lt 0 (length text) && nat_le (length text) max_digits && list_all is_ascii_digit text
+
+-- the number of so many digits, leading zeros allowed; none for any other text
+abbrev pub number_of_digits : List ℕ → Option ℕ
+number_of_digits text = if are_few_digits text then Some (digits_value 10 text) else None
+
+-- decimal digits without leading zeros, as Rust writes a number
+pub record SpellsNumber (text : List ℕ) (n : ℕ) : Type 0 where
+  pub spelling : text ≡ decimal n
+  pub within : n ≤ number_limit
