@@ -1,11 +1,12 @@
 -- The limits of single values (ours).
 use Rattle.std.specs.Prelude.{ℕ, ◌-◌, ◌*◌, ◌≤◌, List, length}
 use Rattle.club_values.specs.Hour.{hours_a_day}
+use Rattle.club_values.specs.Number.{number_limit}
 use Rattle.club_values.specs.Slot.{guests_limit}
 
 -- the most points that a member is ever credited, and the most bookings that a member may have open
 abbrev pub credited_limit : ℕ
-credited_limit = 999_999_999
+credited_limit = number_limit
 
 abbrev pub quota_limit : ℕ
 quota_limit = 99
@@ -29,7 +30,7 @@ left_limit = places_limit - 1
 
 -- the greatest number of a booking
 abbrev pub booking_number_limit : ℕ
-booking_number_limit = 999_999_999
+booking_number_limit = number_limit
 
 abbrev pub IsBookingNumber : ℕ → Type 0
 IsBookingNumber n = (1 ≤ n) × (n ≤ booking_number_limit)

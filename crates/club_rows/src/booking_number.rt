@@ -3,10 +3,11 @@
 ghost use Rattle.std.specs.Prelude.{◌≡◌, ◌↔◌, IsSome, IfSome};
 ghost use Rattle.club_rows.specs.Limits.{IsBookingNumber};
 
+use club_values::digits::MAX_NUMBER;
 use std::marker::Model;
 
 /// The greatest number of a booking.
-pub const MAX_BOOKING_NUMBER: u32 = 999_999_999;
+pub const MAX_BOOKING_NUMBER: u32 = MAX_NUMBER;
 
 /// The number of a booking among those of its key, 1 to 999,999,999. Contracts see it as its
 /// number.

@@ -4,9 +4,10 @@ ghost use Rattle.club_values.specs.Reading.{Reads};
 
 use crate::columns::number_within;
 use club_values::Name;
+use club_values::digits::MAX_NUMBER;
 
 /// The most points that a member is ever credited.
-pub const MAX_CREDITED: u32 = 999_999_999;
+pub const MAX_CREDITED: u32 = MAX_NUMBER;
 
 /// The most bookings that a member may have open.
 pub const MAX_QUOTA: u32 = 99;
