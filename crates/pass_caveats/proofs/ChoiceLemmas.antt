@@ -9,7 +9,7 @@ use Rattle.std.proofs.lemmas.Bool.Decides.{Decides-by_and}
 use Rattle.std.proofs.lemmas.List.{length-map, append-nil}
 use Rattle.std.proofs.lemmas.List.Elements.{All-head, All-tail, All-nil, All-cons}
 use Rattle.std.proofs.lemmas.Slice.Eq.{bytes_eq-Decides}
-use Rattle.pass_caveats.specs.Parts.{comma_parts, comma_list, parts_left, is_next, after_next, words_found}
+use Rattle.pass_caveats.specs.Parts.{comma_parts, comma_list, parts_left, is_next, after_next, Skips, words_found}
 use Rattle.pass_caveats.proofs.PartLemmas.{HasNoComma, parts_of-joined, joined-parts_of, some_part, skip_takes}
 
 -- the words whose flag is set
@@ -106,7 +106,7 @@ Steps [] [] parts last = parts ≡ last
 Steps [] (word ∷ words) parts last = ⊥
 Steps (flag ∷ flags) [] parts last = ⊥
 Steps (flag ∷ flags) (word ∷ words) parts last =
-    (next : List (List ℕ)) × (flag ≡ is_next word parts) × (next ≡ after_next word parts) × Steps flags words next last
+    (next : List (List ℕ)) × Skips word parts flag next × Steps flags words next last
 
 front_of : (flag : Bool) (word : List ℕ) (front rest : List (List ℕ)) →
     cond flag (word ∷ (front ++ rest)) (front ++ rest) ≡ cond flag (word ∷ front) front ++ rest
@@ -118,14 +118,14 @@ steps_take [] [] parts last e = e
 steps_take [] (word ∷ words) parts last e = absurd e
 steps_take (flag ∷ flags) [] parts last e = absurd e
 steps_take (flag ∷ flags) (word ∷ words) parts last s =
-    skip_takes word parts s.0 flag s.1 s.2
-    ∙ (ap (λ (next : List (List ℕ)). cond flag (word ∷ next) next) (steps_take flags words s.0 last s.3) ∙ front_of flag word (chosen flags words) last)
+    skip_takes word parts s.0 flag s.1.next s.1.rest
+    ∙ (ap (λ (next : List (List ℕ)). cond flag (word ∷ next) next) (steps_take flags words s.0 last s.2) ∙ front_of flag word (chosen flags words) last)
 
 steps_leave : (flags : List Bool) (words parts last : List (List ℕ)) → Steps flags words parts last → last ≡ left_after words parts
 steps_leave [] [] parts last e = sym e
 steps_leave [] (word ∷ words) parts last e = absurd e
 steps_leave (flag ∷ flags) [] parts last e = absurd e
-steps_leave (flag ∷ flags) (word ∷ words) parts last s = rw s.2 at (steps_leave flags words s.0 last s.3)
+steps_leave (flag ∷ flags) (word ∷ words) parts last s = rw s.1.rest at (steps_leave flags words s.0 last s.2)
 
 plain_words : (words : List (List ℕ)) → are_plain words ≡ true → All HasNoComma words
 plain_words words e =

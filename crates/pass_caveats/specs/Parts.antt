@@ -1,5 +1,5 @@
 -- Lists with commas.
-use Rattle.std.specs.Prelude.{ℕ, ◌==◌, Bool, false, if◌then◌else◌, List, [], ◌∷◌, Option, Some, None}
+use Rattle.std.specs.Prelude.{◌≡◌, ℕ, ◌==◌, Bool, false, if◌then◌else◌, List, [], ◌∷◌, Option, Some, None}
 use Rattle.std.specs.List.{slice_split, join_with_byte}
 use Rattle.std.specs.Str.{bytes_eq}
 
@@ -25,6 +25,11 @@ is_next word (part ∷ parts) = bytes_eq part word
 abbrev pub after_next : List ℕ → List (List ℕ) → List (List ℕ)
 after_next word [] = []
 after_next word (part ∷ parts) = if bytes_eq part word then parts else part ∷ parts
+
+-- whether the word is the first part, and the parts that are left then
+pub record Skips (word : List ℕ) (parts : List (List ℕ)) (found : Bool) (left : List (List ℕ)) : Type 0 where
+  pub next : found ≡ is_next word parts
+  pub rest : left ≡ after_next word parts
 
 -- for each word whether it is among the parts, if the parts are in the words' order
 abbrev pub words_found : List (List ℕ) → List (List ℕ) → List Bool

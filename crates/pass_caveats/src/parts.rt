@@ -3,7 +3,7 @@
 ghost use Rattle.std.specs.Prelude.{◌≡◌, ◌↔◌, ◌∷◌, IsTrue, All, Contains, length};
 ghost use Rattle.std.specs.Option.{option_copied};
 ghost use Rattle.club_values.specs.Name.{IsName};
-ghost use Rattle.pass_caveats.specs.Parts.{comma_parts, parts_left, is_next, after_next};
+ghost use Rattle.pass_caveats.specs.Parts.{comma_parts, parts_left, Skips};
 
 use club_values::Name;
 
@@ -40,9 +40,8 @@ fn first_part(text: &[u8]) -> (&[u8], Option<&[u8]>)
 
 /// Whether the next part is the word, and what follows it; if it isn't, the whole rest.
 pub(crate) fn skip<'a>(rest: Option<&'a [u8]>, word: &[u8]) -> (bool, Option<&'a [u8]>)
-    ensures next { result.0 ≡ is_next word.now (parts_left (option_copied rest.entry)) }
-    ensures left { parts_left (option_copied result.1)
-        ≡ after_next word.now (parts_left (option_copied rest.entry)) }
+    ensures { Skips word.now (parts_left (option_copied rest.entry)) result.0
+        (parts_left (option_copied result.1)) }
 {
     let Some(text) = rest else {
         return (false, None);

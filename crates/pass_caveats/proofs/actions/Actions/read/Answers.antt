@@ -7,21 +7,13 @@ use Rattle.pass_caveats.proofs.actions.Actions.read.Goals as goal
 
 pub returns-then-is_some : goal.returns-then-is_some
 returns-then-is_some c =
-    let view = c.skip-view.ensures in
-    let book = c.skip-book.ensures in
-    let cancel = c.skip-cancel.ensures in
-    let account = c.skip-account.ensures in
     let some = something_left c.skip-account.result.1 (sym c.is_some.ensures ∙ c.if-is_some.true) in
     λ set h. no_choice action_text all_actions action_words
     (c.skip-view.result.0 ∷ c.skip-book.result.0 ∷ c.skip-cancel.result.0 ∷ c.skip-account.result.0 ∷ []) c.args.text.now _ some
-    (_, view.next, view.left, (_, book.next, book.left, (_, cancel.next, cancel.left, (_, account.next, account.left, refl)))) (has_action set) h.0 h.1
+    (_, c.skip-view.ensures, (_, c.skip-book.ensures, (_, c.skip-cancel.ensures, (_, c.skip-account.ensures, refl)))) (has_action set) h.0 h.1
 
 pub returns : goal.returns
 returns c =
-    let view = c.skip-view.ensures in
-    let book = c.skip-book.ensures in
-    let cancel = c.skip-cancel.ensures in
-    let account = c.skip-account.ensures in
     let end = nothing_left c.skip-account.result.1 (sym c.is_some.ensures ∙ c.if-is_some.false) in
     reads_choice (has_action _) action_text all_actions c.args.text.now
-    (_, view.next, view.left, (_, book.next, book.left, (_, cancel.next, cancel.left, (_, account.next, account.left, end))))
+    (_, c.skip-view.ensures, (_, c.skip-book.ensures, (_, c.skip-cancel.ensures, (_, c.skip-account.ensures, end))))
