@@ -1,32 +1,22 @@
 -- Lemmas on the words of a request line.
-use Rattle.std.proofs.Common.{◌≡◌, ◌≢◌, ℕ, ◌<◌, ◌≤◌, Bool, true, false}
-use Rattle.std.proofs.Common.{cond, List, ◌++◌, length, take, min, get_or, Some, None, refl, ap, sym, ◌∙◌, arith, inl, inr}
+use Rattle.std.proofs.Common.{◌≡◌, ◌≢◌, ℕ, ◌<◌, Bool, true, false}
+use Rattle.std.proofs.Common.{cond, List, length, take, min, get_or, Some, None, refl, ap, sym, ◌∙◌, arith, inl, inr}
 use Rattle.std.specs.Prelude.{◌&&◌}
 use Rattle.std.specs.List.{position_or_len}
-use Rattle.std.proofs.Math.Seq.{take-append_seam}
 use Rattle.std.proofs.lemmas.Bool.{cases_lt}
 use Rattle.std.proofs.lemmas.Bool.Decides.{nat_tests}
-use Rattle.std.proofs.lemmas.List.{length-take-le, take_all}
+use Rattle.std.proofs.lemmas.List.{take_all}
 use Rattle.std.proofs.lemmas.List.Sums.{position_or_len_is}
 use Rattle.desk_server.specs.RequestLine.{first_word, has_space, has_two_words, is_method, is_path, is_space, method_of, path_of, second_word}
 
-at_most : (request : List ℕ) (len : ℕ) → len ≡ min (length request) 96 → take len request ≡ take 96 request
+-- as many of the first bytes as are kept
+pub at_most : (request : List ℕ) (len : ℕ) → len ≡ min (length request) 96 → take len request ≡ take 96 request
 at_most request len few = elim (cases_lt (length request) 96) [
   | inl short ↦
       let all : len ≡ length request = grind (arith, nat_tests) in
       take_all len request (omega arith) ∙ sym (take_all 96 request (omega arith))
   | inr long ↦ let whole : len ≡ 96 = grind (arith, nat_tests) in ap (λ (n : ℕ). take n request) whole
 ]
-
--- the first 96 bytes, at the front of a buffer
-pub front_kept : (request part rest : List ℕ) (len : ℕ) → len ≡ min (length request) 96 → part ≡ take len request → take len (part ++ rest) ≡ take 96 request
-front_kept request part rest len few is =
-    let within : len ≤ length request = grind (arith, nat_tests) in
-    let long : length (take len request) ≡ len = length-take-le len request within in
-    ap (λ (p : List ℕ). take len (p ++ rest)) is
-    ∙ ap (λ (n : ℕ). take n (take len request ++ rest)) (sym long)
-    ∙ take-append_seam (take len request) rest
-    ∙ at_most request len few
 
 other_byte : (byte : ℕ) → byte ≢ 32 → is_space byte ≡ false
 other_byte byte h = grind (arith, nat_tests)

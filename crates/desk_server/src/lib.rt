@@ -6,7 +6,6 @@ mod connections;
 mod idle;
 pub mod laws;
 mod limit;
-mod line;
 mod log;
 mod moments;
 mod request_line;

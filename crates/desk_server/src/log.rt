@@ -4,11 +4,11 @@ ghost use Rattle.std.specs.Prelude.{◌≡◌, ◌≤◌, ◌+◌, ◌++◌, len
 ghost use Rattle.desk_server.specs.Log as spec;
 ghost use Rattle.desk_server.specs.RequestLine.{word_bytes};
 
-use crate::line::Line;
 use crate::request_line::RequestLine;
 use club_core::Reply;
 use club_http::{AnswerFault, Outlet, put_all};
 use club_values::Moment;
+use http_response::Line;
 use std::time::{Clock, Instant};
 
 /// The status of a reply that serves.
@@ -114,7 +114,7 @@ impl<'a, W: Outlet, C: Clock> Log for LogLines<'a, W, C> {
     fn note(&mut self, fate: &Fate) {
         let line = line_of(fate, self.microseconds());
         self.began = None;
-        let _ = put_all(&mut self.writer, line.bytes());
+        let _ = put_all(&mut self.writer, line.as_bytes());
     }
 }
 

@@ -6,6 +6,7 @@ ghost use Rattle.std.specs.Char.{is_ascii_uppercase};
 ghost use Rattle.std.specs.List.{after_first, before_first, list_all};
 ghost use Rattle.desk_server.specs.RequestLine as spec;
 
+use http_response::Line;
 use std::marker::Model;
 
 /// The most bytes that are kept. The desk's longest request line has 80: it cancels a booking at a
@@ -21,18 +22,17 @@ const MAX_METHOD_LEN: usize = 7;
 /// no pass is logged: the text of every pass has a capital letter or a brace in it.
 #[derive(Drop)]
 pub struct RequestLine {
-    bytes: [u8; MAX_KEPT],
-    len: usize,
+    kept: Line,
 }
 
 impl Model for RequestLine {
-    ghost use Rattle.std.specs.Prelude.{ℕ, ◌≤◌, List, take};
+    ghost use Rattle.std.specs.Prelude.{ℕ, ◌≤◌, List, length};
 
     ghost Value = { List ℕ };
 
-    ghost view = { λ line. take line.len line.bytes };
+    ghost view = { λ line. line.kept };
 
-    ghost invariant = { λ line. line.len ≤ 96 };
+    ghost invariant = { λ line. length line.kept ≤ 96 };
 }
 
 impl RequestLine {
@@ -44,9 +44,9 @@ impl RequestLine {
         ensures { result ≡ take 96 request.now }
     {
         let len = request.len().min(MAX_KEPT);
-        let mut bytes = [0; MAX_KEPT];
-        bytes[..len].copy_from_slice(&request[..len]);
-        RequestLine { bytes, len }
+        let mut kept = Line::new();
+        kept.push(&request[..len]);
+        RequestLine { kept }
     }
 
     /// The method, if it is 1 to 7 capital letters.
@@ -54,7 +54,7 @@ impl RequestLine {
         ensures word { word_bytes result ≡ method_of self.now }
         ensures len { IfSome result (λ word. length word.now ≤ 7) }
     {
-        method_in(self.kept())
+        method_in(self.kept.as_bytes())
     }
 
     /// The path, if it consists of small letters, digits, dashes and slashes.
@@ -62,14 +62,7 @@ impl RequestLine {
         ensures word { word_bytes result ≡ path_of self.now }
         ensures len { IfSome result (λ word. length word.now ≤ 96) }
     {
-        path_in(self.kept())
-    }
-
-    fn kept(&self) -> &[u8]
-        ensures bytes { result.now ≡ self.now }
-        ensures len { length result.now ≤ 96 }
-    {
-        &self.bytes[..self.len]
+        path_in(self.kept.as_bytes())
     }
 }
 

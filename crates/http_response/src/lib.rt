@@ -7,4 +7,5 @@ mod head;
 mod line;
 mod reply;
 
+pub use line::{Line, MAX_LINE_LEN};
 pub use reply::{MAX_REPLY_LEN, reply_bytes};

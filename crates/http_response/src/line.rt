@@ -3,12 +3,12 @@
 use itoa::Buffer;
 use std::marker::Model;
 
-/// The most bytes of a head, and of a body: half of a reply's each.
-const MAX_LINE_LEN: usize = 256;
+/// The most bytes of a line. A reply's head and its body have half of a reply each.
+pub const MAX_LINE_LEN: usize = 256;
 
 /// A text that grows by `push`. Contracts see it as the list of its bytes, at most 256.
 #[derive(Drop)]
-pub(crate) struct Line {
+pub struct Line {
     bytes: [u8; MAX_LINE_LEN],
     len: usize,
 }
@@ -28,7 +28,7 @@ impl Line {
     ghost use Rattle.std.specs.Fmt.{decimal};
 
     /// Makes an empty text.
-    pub(crate) fn new() -> Line
+    pub fn new() -> Line
         ensures { result ≡ [] }
     {
         Line {
@@ -38,7 +38,7 @@ impl Line {
     }
 
     /// Appends bytes.
-    pub(crate) fn push(&mut self, bytes: &[u8])
+    pub fn push(&mut self, bytes: &[u8])
         requires { length self.old + length bytes.now ≤ 256 }
         ensures bytes { self.new ≡ self.old ++ bytes.now }
         ensures len { length self.new ≡ length self.old + length bytes.now }
@@ -49,7 +49,7 @@ impl Line {
     }
 
     /// Appends the decimal digits of a number, at most 20.
-    pub(crate) fn push_number(&mut self, number: u64)
+    pub fn push_number(&mut self, number: u64)
         requires { length self.old + 20 ≤ 256 }
         ensures digits { self.new ≡ self.old ++ decimal number }
         ensures len { length self.new ≤ length self.old + 20 }
@@ -59,7 +59,7 @@ impl Line {
     }
 
     /// The bytes of the text.
-    pub(crate) fn as_bytes(&self) -> &[u8]
+    pub fn as_bytes(&self) -> &[u8]
         ensures value { result.now ≡ self.now }
         ensures fits { length result.now ≤ 256 }
     {
