@@ -3,4 +3,5 @@ pub mod Zone
 pub mod RequestLine
 pub mod Log
 pub mod Served
+pub mod Server
 pub mod Laws

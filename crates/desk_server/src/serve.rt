@@ -1,8 +1,8 @@
 //! The server.
 
-ghost use Rattle.std.specs.Prelude.{◌≡◌, length, None, OnErr, OnOk};
-ghost use Rattle.desk_server.specs.Served.{AreNoted, CountsOn, IsNoted, ServesOne, Serves, ServerSteps};
-ghost use Rattle.desk_server.specs.declared.log.Fate.{Fate};
+ghost use Rattle.std.specs.Prelude.{◌≡◌, None, OnErr, OnOk};
+ghost use Rattle.desk_server.specs.Served.{CountsOn, IsNoted, ServerSteps};
+ghost use Rattle.desk_server.specs.Server.{ServesLogged, ServesNext, ServesOn};
 ghost use Rattle.desk_server.specs.declared.log.Fate.TheVariants.{Unanswered};
 
 use crate::connections::{Connection, Connections};
@@ -46,10 +46,8 @@ pub fn serve_on<L: Connections, M: Moments, D: IdleHook>(
     face: &mut Face,
     desk: &mut D,
 ) -> Result<(), ClockOutOfRange>
-    ensures served { Serves M.gives D.answers D.idles L.Connection.ends count
-        moments.old desk.old (L.failures connections.old) result
-        moments.new desk.new (L.failures connections.new)
-        (λ fates. CountsOn (L.waited connections.old) (length fates) (L.waited connections.new)) }
+    ensures served { ServesOn L.Connections M.gives D.answers D.idles L.Connection.ends count
+        connections.old moments.old desk.old result connections.new moments.new desk.new }
     // The desk alone: it changed by an exchange for each accepted connection, and by the call of
     // its hook after it.
     ensures desk_steps { ServerSteps D.answers D.idles count
@@ -71,11 +69,9 @@ pub fn serve_logged<L: Connections, M: Moments, D: IdleHook, G: Log>(
     desk: &mut D,
     log: &mut G,
 ) -> Result<(), ClockOutOfRange>
-    ensures served { Serves M.gives D.answers D.idles L.Connection.ends count
-        moments.old desk.old (L.failures connections.old) result
-        moments.new desk.new (L.failures connections.new)
-        (λ fates. CountsOn (L.waited connections.old) (length fates) (L.waited connections.new)
-        × AreNoted G.begins G.notes log.old fates log.new) }
+    ensures served { ServesLogged L.Connections M.gives D.answers D.idles L.Connection.ends
+        G.begins G.notes count connections.old moments.old desk.old log.old result
+        connections.new moments.new desk.new log.new }
     ensures desk_steps { ServerSteps D.answers D.idles count
         desk.old (L.failures connections.old) result desk.new (L.failures connections.new) }
 {
@@ -97,10 +93,9 @@ fn serve_next<L: Connections, M: Moments, D: IdleHook, G: Log>(
     log: &mut G,
 ) -> Result<(), ClockOutOfRange>
     ensures waited { CountsOn (L.waited connections.old) 1 (L.waited connections.new) }
-    ensures served { OnOk result ((fate : Fate) × IsNoted G.begins G.notes log.old fate log.new
-        × ServesOne M.gives D.answers D.idles L.Connection.ends
-        moments.old desk.old (L.failures connections.old) fate
-        moments.new desk.new (L.failures connections.new)) }
+    ensures served { OnOk result (ServesNext L.Connections M.gives D.answers D.idles
+        L.Connection.ends G.begins G.notes connections.old moments.old desk.old log.old
+        connections.new moments.new desk.new log.new) }
     ensures no_moment { OnErr result (IsNoted G.begins G.notes log.old Unanswered log.new
         × M.gives moments.old None moments.new
         × (desk.new ≡ desk.old)
