@@ -8,4 +8,5 @@ pub mod MigrateLemmas
 pub mod IndexLemmas
 pub mod OpenLemmas
 pub mod ReadyLemmas
+pub mod StepLemmas
 pub mod PrepareLemmas

@@ -1,12 +1,12 @@
 -- What an opening finds, what it accepts as the tables of a club, and what it makes (ours).
-use Rattle.std.specs.Prelude.{◌≡◌, ◌≢◌, ◌⊎◌, ℕ, List, [], ◌∷◌, ◌++◌, map, All, Ok, IsTrue, false, codes}
+use Rattle.std.specs.Prelude.{◌≡◌, ◌≢◌, ◌⊎◌, ℕ, List, [], ◌∷◌, ◌++◌, map, All, Ok, Result, OnOk, OnErr, IfErr, IsTrue, false, codes}
 use Rattle.sqlite.specs.Order.{Row}
 use Rattle.sqlite.specs.Schema.{Schema}
 use Rattle.sqlite.specs.Change.{is_used}
 use Rattle.sqlite.specs.Store.{Ghosts}
 use Rattle.sqlite.specs.Effect.{Database, Reads}
 use Rattle.sqlite.specs.Listing.{understood}
-use Rattle.sqlite.specs.State.{State, HasCleanDisk}
+use Rattle.sqlite.specs.State.{State, HasCleanDisk, Survives}
 use Rattle.sqlite.specs.Held.{Held, state}
 use Rattle.sqlite_resolve.specs.declared.compiled.Compiled.{Compiled}
 use Rattle.club_tables.specs.declared.texts.TheConstants.{VERSION, KEY, MEMBER, FACILITY, SLOT, BOOKING, OLDER_ROOT, MAKE_DESK, MAKE_MEMBERS, MAKE_FACILITIES}
@@ -15,9 +15,15 @@ use Rattle.club_tables.specs.declared.texts.TheConstants.{MAKE_BOOKINGS_BY_KEY, 
 use Rattle.club_tables.specs.Columns.{HasValues, version_values}
 use Rattle.club_core.specs.declared.store.StoreFault.{StoreFault}
 use Rattle.club_core.specs.declared.store.StoreFault.TheVariants.{Memory, Storage}
-use Rattle.club_tables.specs.Transaction.{BoundStatement, Asked, Ran, IsKept, IsUnderstood}
+use Rattle.club_core.specs.Club.{Club}
+use Rattle.club_core.specs.Store.{KeepsClub}
+use Rattle.club_tables.specs.Tables.{Represents, RepresentsVersion1, RepresentsVersion2, IsFound}
+use Rattle.club_tables.specs.Transaction.{BoundStatement, Asked, Ran, IsIdle, IsKept, IsUnderstood, MayCommit}
 use Rattle.club_tables.specs.Fault.{FailsToAsk, FailsToPrepare, FailsToRun}
 use Rattle.club_tables.specs.Answers.{IsAfterReadings}
+
+abbrev pub version_text : List ℕ
+version_text = VERSION.now
 
 -- the statements that read a row by its key, over tables of version 1 and of version 2
 abbrev pub first_texts : List (List ℕ)
@@ -69,6 +75,18 @@ pub record HasNoDesk (schema : Schema) : Type 0 where
 abbrev pub YieldsRows : List ℕ → Database → List Row → Type 0
 YieldsRows sql db rows = (c : Compiled) × (understood db.schema sql ≡ Ok c) × Reads c.command db [] rows
 
+-- the rows of the version were read; tables of the version that they hold represent the club that was found
+pub record YieldsVersion {S : Type 0} (g : Ghosts S) (old new : Held S) (rows : List Row) : Type 0 where
+  pub asked : Asked g version_text [] old rows
+  pub answered : YieldsRows version_text (state g old).now rows
+  pub returned : (club : Club) (others : List Club) → IsFound (state g old) club others
+      → (RepresentsVersion2 (state g new) club others × (rows ≡ version_values 2 ∷ []))
+      ⊎ (RepresentsVersion1 (state g new) club others × (rows ≡ version_values 1 ∷ []))
+
+-- each text is a statement over the tables
+abbrev pub Understands : {S : Type 0} → Ghosts S → List (List ℕ) → Held S → Type 0
+Understands g texts held = All (IsUnderstood (state g held).committed.schema) texts
+
 -- tables of a version: one row holds the version, and each row can be read by its key
 pub record IsReady (version : ℕ) (texts : List (List ℕ)) (db : Database) : Type 0 where
   pub version_row : (row : Row) × YieldsRows VERSION.now db (row ∷ []) × HasValues row (version_values version)
@@ -89,7 +107,7 @@ pub record Upgrade (version : ℕ) (texts : List (List ℕ)) (statements : List 
 -- each text was a statement over the tables, and this whole batch ran over them
 abbrev pub HasRunOver : List (List ℕ) → List BoundStatement → {S : Type 0} → Ghosts S → Held S → Held S → Type 0
 HasRunOver texts statements {S} g old new =
-    (from : Held S) × IsTrue (state g old).is_open × (All (IsUnderstood (state g old).committed.schema) texts)
+    (from : Held S) × IsTrue (state g old).is_open × Understands g texts old
     × ((state g from).committed ≡ (state g old).committed)
     × ((state g from).now ≡ (state g old).committed) × Ran g statements from (state g new).committed
 
@@ -113,7 +131,7 @@ HasOrGetsIndex {S} g old new =
 -- each text, and that of the index, was a statement, and nothing was changed; or each text was one, and the index was made
 abbrev pub EnsuresIndex : {S : Type 0} → Ghosts S → Held S → Held S → Type 0
 EnsuresIndex g old new =
-    (IsKept (state g old) (state g new) × All (IsUnderstood (state g new).committed.schema) indexed_texts) ⊎ HasRunOver texts_by_key index_batch g old new
+    (IsKept (state g old) (state g new) × Understands g indexed_texts new) ⊎ HasRunOver texts_by_key index_batch g old new
 
 -- no version could be read, and the whole batch ran over what was there
 pub record MadeAll {S : Type 0} (g : Ghosts S) (old new : Held S) : Type 0 where
@@ -127,9 +145,6 @@ pub record MadeAll {S : Type 0} (g : Ghosts S) (old new : Held S) : Type 0 where
 abbrev pub AcceptsTables : {S : Type 0} → Ghosts S → Held S → Held S → Type 0
 AcceptsTables g old new =
     FoundReady 2 indexed_texts (state g old) (state g new) ⊎ (AddsIndex g old new ⊎ (Migrated g old new ⊎ MadeAll g old new))
-
-abbrev pub version_text : List ℕ
-version_text = VERSION.now
 
 -- the property holds of one of the texts
 abbrev pub OneOf : (List ℕ → Type 0) → List (List ℕ) → Type 0
@@ -156,3 +171,27 @@ pub record IsOpeningFault {S : Type 0} (g : Ghosts S) (old new : Held S) (fault 
   pub from : Held S
   pub after : IsAfterReadings g old from
   pub failure : FailsToTake g from new fault
+
+-- ---- a step of an opening
+
+-- it is so if the connection was idle, and is open
+abbrev pub WhenIdle : {S : Type 0} → Ghosts S → (Held S → Held S → Type 0) → Held S → Held S → Type 0
+WhenIdle g Done old new = IsTrue (state g new).is_open → IsIdle (state g old) → Done old new
+
+-- A step over tables that represent a club, by `Before`. If it succeeds, they represent the same club, with the index of the bookings, and what it
+-- did is `Done`. If it fails, they represent the club as before, and the fault is one of `Fails`. A crash may leave what it could leave before, or
+-- what a batch of an opening leaves.
+pub record Opens {S : Type 0} (g : Ghosts S) (Before : Held S → Club → List Club → Type 0) (Done : Held S → Held S → Type 0)
+    (Fails : Held S → Held S → StoreFault → Type 0) (old new : Held S) (result : Result (Unit {0}) StoreFault) : Type 0
+  where
+    pub opened : HasCleanDisk (state g new) → OnOk result ((club : Club) (others : List Club) → Before old club others → Represents (state g new) club others)
+    pub done : HasCleanDisk (state g new) → OnOk result (Done old new)
+    pub refused : HasCleanDisk (state g new) → OnErr result (KeepsClub Before old new)
+    pub fault : HasCleanDisk (state g new) → IfErr result (Fails old new)
+    pub survives : Survives (state g old) (state g new) (MayCommit g IsOpeningBatch old)
+
+-- a step that runs a whole batch
+abbrev pub RunsBatch : {S : Type 0} → Ghosts S → (Held S → Club → List Club → Type 0) → List BoundStatement → Held S → Held S
+    → Result (Unit {0}) StoreFault → Type 0
+RunsBatch g Before statements =
+    Opens g Before (λ old new. Ran g statements old (state g new).committed) (FailsToRun g statements)

@@ -3,12 +3,10 @@
 
 ghost use Rattle.std.specs.Prelude.{
   ◌≡◌,
-  ◌⊎◌,
   false,
   [],
   ◌∷◌,
   map,
-  All,
   IsTrue,
   IfOk,
   IfErr,
@@ -17,29 +15,22 @@ ghost use Rattle.std.specs.Prelude.{
 };
 ghost use Rattle.sqlite.specs.State.{HasCleanDisk, Survives};
 ghost use Rattle.sqlite.specs.Held.{state};
-ghost use Rattle.club_core.specs.Club.{Club};
-ghost use Rattle.club_core.specs.Store.{KeepsClub};
 ghost use Rattle.club_tables.specs.ReadsAndChanges.{version_1_in, version_2_in, found_in};
 ghost use Rattle.club_tables.specs.Columns.{version_values, HasValues};
-ghost use Rattle.club_tables.specs.Tables.{IsFound, Represents, RepresentsVersion1, RepresentsVersion2};
-ghost use Rattle.club_tables.specs.Transaction.{
-  Asked,
-  IsIdle,
-  IsKept,
-  IsUnderstood,
-  MayCommit,
-  Ran,
-};
-ghost use Rattle.club_tables.specs.Fault.{FailsToAsk, FailsToRun};
+ghost use Rattle.club_tables.specs.Transaction.{IsIdle, IsKept, IsUntouched};
+ghost use Rattle.club_tables.specs.Fault.{FailsToAsk};
 ghost use Rattle.club_tables.specs.Opening.{
-  FailsToPrepareOne,
   AcceptsTables,
-  YieldsRows,
-  IsOpeningFault,
-  HasMigrated,
   EnsuresIndex,
+  FailsToPrepareOne,
+  HasMigrated,
   HasOrGetsIndex,
-  IsOpeningBatch,
+  IsOpeningFault,
+  Opens,
+  RunsBatch,
+  Understands,
+  WhenIdle,
+  YieldsVersion,
   table_batch,
   migration,
   index_batch,
@@ -62,21 +53,11 @@ const FIRST_VERSION: u8 = 1;
 fn version<S: Alter>(conn: &mut Connection<S>) -> Result<Vec<Row>, StoreFault>
     requires { conn.old.in_transaction ≡ false }
     ensures idle { conn.new.in_transaction ≡ false }
-    ensures answered { HasCleanDisk (state S.Store conn.new) → IfOk result
-        (λ rows. YieldsRows version_text (state S.Store conn.old).now rows.items) }
-    ensures asked { HasCleanDisk (state S.Store conn.new) → IfOk result
-        (λ rows. Asked S.Store version_text [] conn.old rows.items) }
+    ensures ok { HasCleanDisk (state S.Store conn.new) → IfOk result
+        (λ rows. YieldsVersion S.Store conn.old conn.new rows.items) }
     ensures fault { HasCleanDisk (state S.Store conn.new) → IfErr result
         (FailsToAsk S.Store (version_text, []) conn.old conn.new) }
-    ensures same { IsKept (state S.Store conn.old) (state S.Store conn.new) }
-    ensures returned { HasCleanDisk (state S.Store conn.new) → IfOk result
-        (λ rows. (club : Club) (others : _) → IsFound (state S.Store conn.old) club others →
-        (RepresentsVersion2 (state S.Store conn.new) club others ×
-        (rows.items ≡ version_values 2 ∷ [])) ⊎
-        (RepresentsVersion1 (state S.Store conn.new) club others
-        × (rows.items ≡ version_values 1 ∷ []))) }
-    ensures kept { HasCleanDisk (state S.Store conn.new) → KeepsClub
-        (found_in S.Store) conn.old conn.new }
+    ensures kept { IsKept (state S.Store conn.old) (state S.Store conn.new) }
     ensures survives { Survives (state S.Store conn.old) (state S.Store conn.new) (λ _. ⊥) }
 {
     ask(conn, texts::VERSION, &[])
@@ -86,20 +67,8 @@ fn version<S: Alter>(conn: &mut Connection<S>) -> Result<Vec<Row>, StoreFault>
 fn make_tables<S: Alter>(conn: &mut Connection<S>) -> Result<(), StoreFault>
     requires { conn.old.in_transaction ≡ false }
     ensures idle { conn.new.in_transaction ≡ false }
-    ensures was_clean { HasCleanDisk (state S.Store conn.new)
-        → HasCleanDisk (state S.Store conn.old) }
-    ensures made { HasCleanDisk (state S.Store conn.new) → OnOk result
-        ((club : Club) (others : _) → IsFound (state S.Store conn.old) club others → Represents
-        (state S.Store conn.new) club others) }
-    ensures ran { HasCleanDisk (state S.Store conn.new) → OnOk result
-        (Ran S.Store table_batch conn.old (state S.Store conn.new).committed) }
-    ensures fault { HasCleanDisk (state S.Store conn.new) → IfErr result
-        (FailsToRun S.Store table_batch conn.old conn.new) }
-    ensures refused { HasCleanDisk (state S.Store conn.new) → OnErr result
-        (KeepsClub (found_in S.Store) conn.old conn.new) }
+    ensures opens { RunsBatch S.Store (found_in S.Store) table_batch conn.old conn.new result }
     ensures untouched { OnErr result (IsKept (state S.Store conn.old) (state S.Store conn.new)) }
-    ensures survives { Survives (state S.Store conn.old) (state S.Store conn.new)
-        (MayCommit S.Store IsOpeningBatch conn.old) }
 {
     run(
         conn,
@@ -165,12 +134,10 @@ fn is_version(rows: &[Row], version: u8) -> bool
 fn prepare_all<S: Alter>(conn: &mut Connection<S>, texts: &[&str]) -> Result<(), StoreFault>
     requires { conn.old.in_transaction ≡ false }
     ensures idle { conn.new.in_transaction ≡ false }
-    ensures same { IsIdle (state S.Store conn.old) → IsKept (state S.Store conn.old)
-        (state S.Store conn.new) }
+    ensures kept { IsUntouched (state S.Store conn.old) (state S.Store conn.new) }
     ensures understood { HasCleanDisk (state S.Store conn.new) → OnOk result
-        (IsTrue (state S.Store conn.new).is_open → IsIdle (state S.Store conn.old) → All
-        (IsUnderstood (state S.Store conn.new).committed.schema)
-        (map (λ text. text.now) texts.now)) }
+        (WhenIdle S.Store (λ _. Understands S.Store (map (λ text. text.now) texts.now))
+        conn.old conn.new) }
     ensures fault { HasCleanDisk (state S.Store conn.new) → IfErr result
         (FailsToPrepareOne S.Store (map (λ text. text.now) texts.now) conn.old conn.new) }
     ensures survives { Survives (state S.Store conn.old) (state S.Store conn.new) (λ _. ⊥) }
@@ -189,21 +156,8 @@ fn prepare_all<S: Alter>(conn: &mut Connection<S>, texts: &[&str]) -> Result<(),
 fn add_old_roots<S: Alter>(conn: &mut Connection<S>) -> Result<(), StoreFault>
     requires { conn.old.in_transaction ≡ false }
     ensures idle { conn.new.in_transaction ≡ false }
-    ensures was_clean { HasCleanDisk (state S.Store conn.new)
-        → HasCleanDisk (state S.Store conn.old) }
-    ensures migrated { HasCleanDisk (state S.Store conn.new) → OnOk result
-        ((club : Club) (others : _) → RepresentsVersion1 (state S.Store conn.old) club others
-        → Represents
-        (state S.Store conn.new) club others) }
-    ensures ran { HasCleanDisk (state S.Store conn.new) → OnOk result
-        (Ran S.Store migration conn.old (state S.Store conn.new).committed) }
-    ensures fault { HasCleanDisk (state S.Store conn.new) → IfErr result
-        (FailsToRun S.Store migration conn.old conn.new) }
-    ensures refused { HasCleanDisk (state S.Store conn.new) → OnErr result
-        (KeepsClub (version_1_in S.Store) conn.old conn.new) }
+    ensures opens { RunsBatch S.Store (version_1_in S.Store) migration conn.old conn.new result }
     ensures untouched { OnErr result (IsKept (state S.Store conn.old) (state S.Store conn.new)) }
-    ensures survives { Survives (state S.Store conn.old) (state S.Store conn.new)
-        (MayCommit S.Store IsOpeningBatch conn.old) }
 {
     run(
         conn,
@@ -229,22 +183,11 @@ fn add_old_roots<S: Alter>(conn: &mut Connection<S>) -> Result<(), StoreFault>
 fn migrate<S: Alter>(conn: &mut Connection<S>) -> Result<(), StoreFault>
     requires { conn.old.in_transaction ≡ false }
     ensures idle { conn.new.in_transaction ≡ false }
-    ensures was_clean { HasCleanDisk (state S.Store conn.new)
-        → HasCleanDisk (state S.Store conn.old) }
-    ensures migrated { HasCleanDisk (state S.Store conn.new) → OnOk result
-        (IsIdle (state S.Store conn.old) → (club : Club) (others : _) → RepresentsVersion1
-        (state S.Store conn.old) club others → Represents (state S.Store conn.new) club others) }
-    ensures ran { HasCleanDisk (state S.Store conn.new) → OnOk result
-        (IsIdle (state S.Store conn.old) → HasMigrated S.Store conn.old conn.new) }
-    ensures refused { HasCleanDisk (state S.Store conn.new) → OnErr result
-        (IsIdle (state S.Store conn.old) → KeepsClub (version_1_in S.Store) conn.old conn.new) }
+    ensures opens { Opens S.Store (version_1_in S.Store)
+        (λ from to. IsIdle (state S.Store from) → HasMigrated S.Store from to)
+        (IsOpeningFault S.Store) conn.old conn.new result }
     ensures untouched { OnErr result
-        (IsIdle (state S.Store conn.old) → IsKept (state S.Store conn.old)
-        (state S.Store conn.new)) }
-    ensures fault { HasCleanDisk (state S.Store conn.new) → IfErr result
-        (IsOpeningFault S.Store conn.old conn.new) }
-    ensures survives { Survives (state S.Store conn.old) (state S.Store conn.new)
-        (MayCommit S.Store IsOpeningBatch conn.old) }
+        (IsUntouched (state S.Store conn.old) (state S.Store conn.new)) }
 {
     match prepare_all(conn, &texts::FIRST_ROWS_BY_KEY) {
         Ok(()) => add_old_roots(conn),
@@ -256,21 +199,8 @@ fn migrate<S: Alter>(conn: &mut Connection<S>) -> Result<(), StoreFault>
 fn add_index<S: Alter>(conn: &mut Connection<S>) -> Result<(), StoreFault>
     requires { conn.old.in_transaction ≡ false }
     ensures idle { conn.new.in_transaction ≡ false }
-    ensures was_clean { HasCleanDisk (state S.Store conn.new)
-        → HasCleanDisk (state S.Store conn.old) }
-    ensures indexed { HasCleanDisk (state S.Store conn.new) → OnOk result
-        ((club : Club) (others : _) → RepresentsVersion2 (state S.Store conn.old) club others
-        → Represents
-        (state S.Store conn.new) club others) }
-    ensures ran { HasCleanDisk (state S.Store conn.new) → OnOk result
-        (Ran S.Store index_batch conn.old (state S.Store conn.new).committed) }
-    ensures fault { HasCleanDisk (state S.Store conn.new) → IfErr result
-        (FailsToRun S.Store index_batch conn.old conn.new) }
-    ensures refused { HasCleanDisk (state S.Store conn.new) → OnErr result
-        (KeepsClub (version_2_in S.Store) conn.old conn.new) }
+    ensures opens { RunsBatch S.Store (version_2_in S.Store) index_batch conn.old conn.new result }
     ensures untouched { OnErr result (IsKept (state S.Store conn.old) (state S.Store conn.new)) }
-    ensures survives { Survives (state S.Store conn.old) (state S.Store conn.new)
-        (MayCommit S.Store IsOpeningBatch conn.old) }
 {
     run(
         conn,
@@ -285,21 +215,9 @@ fn add_index<S: Alter>(conn: &mut Connection<S>) -> Result<(), StoreFault>
 fn ensure_index<S: Alter>(conn: &mut Connection<S>) -> Result<(), StoreFault>
     requires { conn.old.in_transaction ≡ false }
     ensures idle { conn.new.in_transaction ≡ false }
-    ensures was_clean { HasCleanDisk (state S.Store conn.new)
-        → HasCleanDisk (state S.Store conn.old) }
-    ensures indexed { HasCleanDisk (state S.Store conn.new) → OnOk result
-        ((club : Club) (others : _) → RepresentsVersion2 (state S.Store conn.old) club others
-        → Represents
-        (state S.Store conn.new) club others) }
-    ensures ensured { HasCleanDisk (state S.Store conn.new) → OnOk result
-        (HasOrGetsIndex S.Store conn.old conn.new) }
-    ensures fault { HasCleanDisk (state S.Store conn.new) → IfErr result
-        (IsOpeningFault S.Store conn.old conn.new) }
-    ensures refused { HasCleanDisk (state S.Store conn.new) → OnErr result
-        (KeepsClub (version_2_in S.Store) conn.old conn.new) }
+    ensures opens { Opens S.Store (version_2_in S.Store) (HasOrGetsIndex S.Store)
+        (IsOpeningFault S.Store) conn.old conn.new result }
     ensures untouched { OnErr result (IsKept (state S.Store conn.old) (state S.Store conn.new)) }
-    ensures survives { Survives (state S.Store conn.old) (state S.Store conn.new)
-        (MayCommit S.Store IsOpeningBatch conn.old) }
 {
     match prepare(conn, texts::DROP_BOOKINGS_BY_KEY) {
         Ok(()) => Ok(()),
@@ -314,23 +232,10 @@ fn ensure_index<S: Alter>(conn: &mut Connection<S>) -> Result<(), StoreFault>
 fn complete<S: Alter>(conn: &mut Connection<S>) -> Result<(), StoreFault>
     requires { conn.old.in_transaction ≡ false }
     ensures idle { conn.new.in_transaction ≡ false }
-    ensures was_clean { HasCleanDisk (state S.Store conn.new)
-        → HasCleanDisk (state S.Store conn.old) }
-    ensures indexed { HasCleanDisk (state S.Store conn.new) → OnOk result
-        (IsIdle (state S.Store conn.old) → (club : Club) (others : _) → RepresentsVersion2
-        (state S.Store conn.old) club others → Represents (state S.Store conn.new) club others) }
-    ensures ensured { HasCleanDisk (state S.Store conn.new) → OnOk result
-        (IsTrue (state S.Store conn.new).is_open → IsIdle (state S.Store conn.old) →
-        EnsuresIndex S.Store conn.old conn.new) }
-    ensures refused { HasCleanDisk (state S.Store conn.new) → OnErr result
-        (IsIdle (state S.Store conn.old) → KeepsClub (version_2_in S.Store) conn.old conn.new) }
+    ensures opens { Opens S.Store (version_2_in S.Store) (WhenIdle S.Store (EnsuresIndex S.Store))
+        (IsOpeningFault S.Store) conn.old conn.new result }
     ensures untouched { OnErr result
-        (IsIdle (state S.Store conn.old) → IsKept (state S.Store conn.old)
-        (state S.Store conn.new)) }
-    ensures fault { HasCleanDisk (state S.Store conn.new) → IfErr result
-        (IsOpeningFault S.Store conn.old conn.new) }
-    ensures survives { Survives (state S.Store conn.old) (state S.Store conn.new)
-        (MayCommit S.Store IsOpeningBatch conn.old) }
+        (IsUntouched (state S.Store conn.old) (state S.Store conn.new)) }
 {
     match prepare_all(conn, &texts::ROWS_BY_KEY) {
         Ok(()) => ensure_index(conn),
@@ -343,21 +248,9 @@ fn complete<S: Alter>(conn: &mut Connection<S>) -> Result<(), StoreFault>
 pub fn open_tables<S: Alter>(conn: &mut Connection<S>) -> Result<(), StoreFault>
     requires { conn.old.in_transaction ≡ false }
     ensures idle { conn.new.in_transaction ≡ false }
-    ensures was_clean { HasCleanDisk (state S.Store conn.new)
-        → HasCleanDisk (state S.Store conn.old) }
-    ensures opened { HasCleanDisk (state S.Store conn.new) → OnOk result
-        ((club : Club) (others : _) → IsFound (state S.Store conn.old) club others → Represents
-        (state S.Store conn.new) club others) }
-    ensures accepted { HasCleanDisk (state S.Store conn.new) → OnOk result
-        (IsTrue (state S.Store conn.new).is_open → IsIdle (state S.Store conn.old) →
-        AcceptsTables S.Store conn.old conn.new) }
-    ensures refused { HasCleanDisk (state S.Store conn.new) → OnErr result
-        (KeepsClub (found_in S.Store) conn.old conn.new) }
+    ensures opens { Opens S.Store (found_in S.Store) (WhenIdle S.Store (AcceptsTables S.Store))
+        (IsOpeningFault S.Store) conn.old conn.new result }
     ensures untouched { OnErr result (IsKept (state S.Store conn.old) (state S.Store conn.new)) }
-    ensures fault { HasCleanDisk (state S.Store conn.new) → IfErr result
-        (IsOpeningFault S.Store conn.old conn.new) }
-    ensures survives { Survives (state S.Store conn.old) (state S.Store conn.new)
-        (MayCommit S.Store IsOpeningBatch conn.old) }
 {
     let found = match version(conn) {
         Ok(found) => found,

@@ -1,18 +1,17 @@
 //! Runs a query, prepares a statement, and runs statements that write.
 
-ghost use Rattle.std.specs.Prelude.{◌≡◌, false, map, IfOk, IfErr, OnOk, OnErr, IsTrue};
+ghost use Rattle.std.specs.Prelude.{◌≡◌, false, map, IfOk, IfErr, OnOk};
 ghost use Rattle.sqlite.specs.Values.{bound};
 ghost use Rattle.sqlite.specs.State.{HasCleanDisk, Survives};
 ghost use Rattle.sqlite.specs.Held.{state};
 ghost use Rattle.club_tables.specs.Transaction.{
   Asked,
-  Ran,
   IsKept,
   IsUnderstood,
   fault_by,
   bound_statement,
 };
-ghost use Rattle.club_tables.specs.Fault.{FailsToAsk, FailsToPrepare, FailsToRun};
+ghost use Rattle.club_tables.specs.Fault.{Commits, FailsToAsk, FailsToPrepare};
 
 use club_core::StoreFault;
 use sqlite::types::ValueRef;
@@ -101,16 +100,8 @@ pub fn run<S: Alter>(
 ) -> Result<(), StoreFault>
     requires { conn.old.in_transaction ≡ false }
     ensures idle { conn.new.in_transaction ≡ false }
-    ensures ran { HasCleanDisk (state S.Store conn.new) → OnOk result
-        (IsTrue (state S.Store conn.new).is_open × Ran S.Store
-        (map bound_statement statements.now) conn.old (state S.Store conn.new).committed ×
-        ((state S.Store conn.new).now ≡ (state S.Store conn.new).committed)) }
-    ensures fault { HasCleanDisk (state S.Store conn.new) → IfErr result
-        (FailsToRun S.Store (map bound_statement statements.now) conn.old conn.new) }
-    ensures kept { OnErr result (IsKept (state S.Store conn.old) (state S.Store conn.new)) }
-    ensures survives { Survives (state S.Store conn.old) (state S.Store conn.new)
-        (λ trees. (db : _) × Ran S.Store (map bound_statement statements.now) conn.old db ×
-        (trees ≡ db.trees)) }
+    ensures commits { Commits S.Store (map bound_statement statements.now)
+        conn.old conn.new result }
 {
     let mut tx = conn.transaction();
     for statement in statements {

@@ -1,7 +1,7 @@
 -- The rows of the club after a cancellation, as they are stored.
 use Rattle.std.proofs.Common.{◌≡◌, ℕ, zero, suc, ◌+◌, ◌-◌, ◌≤◌, ◌<◌, ◌==◌, Bool, true, false, not, ◌&&◌, ◌||◌, cond, if◌then◌else◌, List, [], ◌∷◌, length, map}
-use Rattle.std.proofs.Common.{Some, Contains, IsTrue, refl, sym, ap, subst, ◌∙◌, arith}
-use Rattle.std.specs.Prelude.{filter, find, sum_by, IfSome, slice_index_or}
+use Rattle.std.proofs.Common.{Contains, refl, sym, ap, subst, ◌∙◌, arith}
+use Rattle.std.specs.Prelude.{filter, sum_by, slice_index_or}
 use Rattle.std.specs.List.{AllByRecursion}
 use Rattle.std.specs.Str.{bytes_eq}
 use Rattle.std.proofs.lemmas.Bool.{and_parts}
@@ -25,7 +25,7 @@ use Rattle.club_tables.proofs.lists.SlotRows.{put_slot, use_put, put_once}
 use Rattle.club_tables.proofs.changes.UpsertLemmas.{take_use}
 use Rattle.club_tables.proofs.lists.FindLemmas.{found}
 use Rattle.std.specs.Cmp.{unsigned_Decides}
-use Rattle.club_tables.proofs.lists.OwnerLemmas.{map_agree, IsAlone, none_changed, others_fail, picked_changed, same_name, owner_is}
+use Rattle.club_tables.proofs.lists.OwnerLemmas.{map_agree, IsAlone, picked_changed, same_name, owner_is}
 use Rattle.club_tables.proofs.changes.StoredLemmas.{recounted_use}
 
 -- ---- cancellations

@@ -1,5 +1,5 @@
 -- Which club is represented after statements that write, whether they succeed or fail.
-use Rattle.std.proofs.Common.{◌≡◌, ◌<◌, length, List, [], ◌∷◌, IsTrue, Result, Ok, Err, IfErr, OnOk, OnErr, inl, inr, refl, sym, subst, ◌∙◌, arith}
+use Rattle.std.proofs.Common.{◌≡◌, ◌<◌, length, List, [], ◌∷◌, IsTrue, Result, Ok, Err, OnOk, OnErr, inl, inr, refl, sym, subst, ◌∙◌, arith}
 use Rattle.std.specs.Prelude.{MatchResult}
 use Rattle.sqlite.specs.Store.{Ghosts}
 use Rattle.sqlite.specs.Effect.{Database}
@@ -17,7 +17,7 @@ use Rattle.club_tables.specs.Transaction.{BoundStatement, Ran, IsKept}
 use Rattle.club_tables.specs.Fault.{Commits, FailsToRun}
 use Rattle.club_tables.specs.ChangeStatements.{AreStatementsOf, statements_of}
 use Rattle.club_tables.proofs.opening.OpenLemmas.{IsSettled, settles}
-use Rattle.club_tables.proofs.crashes.RepresentsLemmas.{survives_same}
+use Rattle.club_tables.proofs.crashes.RepresentsLemmas.{on_err, survives_same}
 use Rattle.club_tables.proofs.queries.ReadLemmas.{at_once, fault_if}
 use Rattle.club_tables.proofs.crashes.SurviveLemmas.{kept_when_idle, may_commit, commits_nothing}
 
@@ -51,17 +51,6 @@ module _ {S : Type 0} (g : Ghosts S) (all : List BoundStatement) (some : 0 < len
       → IsSettled (state g new) → MatchResult r (λ _. Represents (state g new) next []) (λ _. Represents (state g new) club (next ∷ others))
   wrote (Ok done) ok err settled = written settled ok.0 ok.1 ok.2
   wrote (Err e) ok err settled = unwritten err
-
-on_err : {E : Type 0} {P Q : Type 0} (r : Result (Unit {0}) E) → OnErr r P → (P → Q) → OnErr r Q
-on_err (Ok done) p f = tt
-on_err (Err e) p f = f p
-
-pub commits_of : {S : Type 0} (g : Ghosts S) (all : List BoundStatement) (old new : Held S) (r : Result (Unit {0}) StoreFault)
-    → (HasCleanDisk (state g new) → OnOk r (IsTrue (state g new).is_open × Ran g all old (state g new).committed
-    × ((state g new).now ≡ (state g new).committed))) → OnErr r (IsKept (state g old) (state g new))
-    → Survives (state g old) (state g new) (λ trees. (db : Database) × Ran g all old db × (trees ≡ db.trees))
-    → (HasCleanDisk (state g new) → IfErr r (FailsToRun g all old new)) → Commits g all old new r
-commits_of g all old new r ran kept survives fault = record { ran = ran; kept = kept; survives = survives; fault = fault }
 
 -- statements that were run in a transaction of their own make the change
 pub makes : {S : Type 0} (g : Ghosts S) (change : Change) → 0 < length (statements_of change) → (old new : Held S) (r : Result (Unit {0}) StoreFault)

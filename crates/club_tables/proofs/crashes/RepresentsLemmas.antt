@@ -17,9 +17,9 @@ use Rattle.club_core.specs.Club.{Club}
 use Rattle.club_core.specs.Store.{KeepsClub}
 use Rattle.club_tables.specs.Schema.{club_schema}
 use Rattle.club_tables.specs.Columns.{key_values, booking_values}
-use Rattle.club_tables.specs.Tables.{HoldsClub, HoldsClubVersion1, HoldsClubVersion2, Holds, HoldsClubAnyVersion, RepresentsBy, Represents, keys_tree}
+use Rattle.club_tables.specs.Tables.{HoldsClub, HoldsClubVersion1, HoldsClubVersion2, Holds, RepresentsBy, Represents, keys_tree}
 use Rattle.club_tables.specs.Tables.{bookings_tree}
-use Rattle.club_tables.specs.ReadsAndChanges.{represents_in, version_1_in, version_2_in, found_in}
+use Rattle.club_tables.specs.ReadsAndChanges.{represents_in, version_1_in, version_2_in}
 use Rattle.club_tables.specs.Transaction.{Asked, IsKept, transaction_start}
 
 -- the state represents the same club, by whichever predicate a database holds it
@@ -87,10 +87,6 @@ on_err (Err e) p f = f p
 pub any_err : {A E : Type 0} {P : Type 0} (r : Result A E) → P → OnErr r P
 any_err (Ok x) p = tt
 any_err (Err e) p = p
-
-pub keeps_found : {S : Type 0} (g : Ghosts S) (old new : Held S) → IsKept (state g old) (state g new) → Survives (state g old) (state g new) (λ _. ⊥)
-    → KeepsClub (found_in g) old new
-keeps_found g old new kept quiet club others found = represents_on HoldsClubAnyVersion (state g old) (state g new) kept quiet club others found
 
 pub keeps_first : {S : Type 0} (g : Ghosts S) (old new : Held S) → IsKept (state g old) (state g new) → Survives (state g old) (state g new) (λ _. ⊥)
     → KeepsClub (version_1_in g) old new

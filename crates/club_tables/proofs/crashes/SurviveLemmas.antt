@@ -11,7 +11,10 @@ use Rattle.club_core.specs.declared.store.StoreFault.{StoreFault}
 use Rattle.club_tables.specs.Answers.{IsAfterReadings}
 use Rattle.club_tables.specs.Opening.{IsOpeningFault}
 
-survives_as : (old new : State) (P Q : Trees → Type 0) → Survives old new P → (HasCleanDisk new → (trees : Trees) → P trees → Q trees) → Survives old new Q
+pub was_clean : (old new : State) (P : Trees → Type 0) → Survives old new P → HasCleanDisk new → HasCleanDisk old
+was_clean old new P survives clean = omega (arith, survives.clean)
+
+pub survives_as : (old new : State) (P Q : Trees → Type 0) → Survives old new P → (HasCleanDisk new → (trees : Trees) → P trees → Q trees) → Survives old new Q
 survives_as old new P Q s leaves = record {
   clean = s.clean;
   shield = s.shield;
@@ -38,10 +41,10 @@ module _ {S : Type 0} (g : Ghosts S) where
       → Survives (state g old) (state g new) (MayCommit g AreStatements old)
   may_commit all AreStatements are old new survives =
       survives_as (state g old) (state g new) (λ trees. (db : Database) × Ran g all old db × (trees ≡ db.trees)) (MayCommit g AreStatements old) survives
-      (λ clean trees left. let earlier : HasCleanDisk (state g old) = omega (arith, survives.clean) in record {
+      (λ clean trees left. record {
         from = old;
         same = kept_when_idle (state g old);
-        clean = earlier;
+        clean = was_clean (state g old) (state g new) _ survives clean;
         statements = all;
         are = are;
         db = left.0;

@@ -1,10 +1,11 @@
--- What a query leaves unchanged in a transaction, whether it succeeds or fails.
-use Rattle.std.proofs.Common.{◌≡◌, ℕ, List, Option, Some, None, Err, IsTrue, true, inl, inr, ◌∙◌}
+-- What a call leaves unchanged in a transaction, whether it succeeds or fails.
+use Rattle.std.proofs.Common.{◌≡◌, ℕ, List, Option, Some, None, Err, IsTrue, true, true≢false, inl, inr, sym, ◌∙◌}
 use Rattle.sqlite.specs.Order.{Row}
 use Rattle.sqlite_schema.specs.declared.command.Returning.{Returning}
 use Rattle.sqlite_resolve.specs.declared.compiled.Compiled.{Compiled}
 use Rattle.sqlite.specs.declared.error.Error.{Error}
-use Rattle.sqlite.specs.State.{State, IsRolledBack, IsUnchanged, Shown, ShowsRows, FailsToQuery, FailsToShow, IsNotRun, IsTooLate, RunsCommand}
+use Rattle.sqlite.specs.State.{State, IsRolledBack, IsUnchanged, Shown, ShowsRows, FailsToQuery, FailsToShow, IsNotRun, IsTooLate, RunsCommand, ExecutesInside}
+use Rattle.sqlite.specs.Steps.{FailsToCommit}
 
 -- where the connection is open, it was, and has the same commit
 abbrev pub Keeps : State → State → Type 0
@@ -44,6 +45,11 @@ module _ (sql : List ℕ) (params : Row) (old new : State) where
   fails_keeps e (inl not_run) = not_run_keeps e not_run
   fails_keeps e (inr failed) = fails_to_show_keeps failed.0 _ e failed.0.returning failed.2
 
+  pub execute_keeps : (e : Error) → ExecutesInside 0 sql params old new (Err e) → Keeps old new
+  execute_keeps e (inl (failed, inl same)) = unchanged_keeps old new same
+  execute_keeps e (inl (failed, inr back)) = rolled_keeps old new back
+  execute_keeps e (inr (ends, is, same)) = unchanged_keeps old new same
+
   pub too_late_keeps : (e : Error) → IsTooLate sql params old new e → Keeps old new
   too_late_keeps e h = unchanged_keeps old new h.5
 
@@ -54,3 +60,9 @@ then_rolled old mid new kept back is_open =
     let was = kept (back.was_open is_open) in
     let undone = back.undone is_open in
     (was.0, undone.0 ∙ was.1, undone.1 ∙ was.1)
+
+-- a commit that fails
+pub commit_keeps : (old mid new : State) (e : Error) → Keeps old mid → IsTrue mid.in_transaction → FailsToCommit mid new e → IsTrue new.is_open
+    → IsTrue old.is_open × (new.now ≡ old.committed) × (new.committed ≡ old.committed)
+commit_keeps old mid new e kept inside (inl failed) is_open = then_rolled old mid new kept failed.3 is_open
+commit_keeps old mid new e kept inside (inr (is, outside, same)) is_open = absurd (true≢false (sym inside ∙ outside))

@@ -1,15 +1,19 @@
 -- Statements that are run in turn.
 use Rattle.std.proofs.Common.{◌≡◌, ℕ, ◌+◌, ◌<◌, ◌≤◌, List, [], ◌∷◌, ◌++◌, length, map, take, get_or, zero, suc, Ok, Err}
-use Rattle.std.proofs.Common.{inl, inr, refl, sym, subst, add-one, arith}
+use Rattle.std.proofs.Common.{IsTrue, inl, inr, refl, sym, subst, add-one, arith}
 use Rattle.std.proofs.Math.Seq.{take-suc, take_all}
-use Rattle.std.proofs.lemmas.List.{map-append}
+use Rattle.std.proofs.lemmas.List.{length-map, map-append}
 use Rattle.sqlite.specs.Store.{Ghosts}
-use Rattle.sqlite.specs.State.{Executes, ExecutesInside}
+use Rattle.sqlite.specs.Tree.{Trees}
+use Rattle.sqlite.specs.Effect.{Database}
+use Rattle.sqlite.specs.State.{HasCleanDisk, Survives, Executes, ExecutesInside}
 use Rattle.sqlite.specs.Steps.{FailsToCommit}
 use Rattle.sqlite.specs.Held.{Held, state}
 use Rattle.sqlite.specs.declared.error.Error.{Error}
+use Rattle.sqlite.proofs.StateLemmas.{survives_then}
+use Rattle.sqlite.proofs.Callers.{survives_begin}
 use Rattle.club_tables.specs.declared.transaction.Statement.{Statement}
-use Rattle.club_tables.specs.Transaction.{BoundStatement, bound_statement, RanInTurn}
+use Rattle.club_tables.specs.Transaction.{BoundStatement, bound_statement, Ran, RanInTurn, transaction_start}
 use Rattle.club_tables.specs.Fault.{FailsInTurn}
 
 module _ {S : Type 0} (g : Ghosts S) where
@@ -49,3 +53,21 @@ module _ {S : Type 0} (g : Ghosts S) where
       → FailsInTurn g all a c error
   fails_last [] a b c error before last = subst (λ h. FailsToCommit (state g h) (state g c) error) before last
   fails_last (statement ∷ all) a b c error before last = inr (before.0, before.1, before.2, fails_last all before.0 b c error before.3 last)
+
+  -- a commit after all of them, whether it succeeds or fails: a crash may leave what they leave
+  pub commit_survives : (statements : List Statement) (at : ℕ) (old mid new : Held S) → length statements ≤ at
+      → Survives (state g (transaction_start old)) (state g mid) (λ _. ⊥)
+      → (HasCleanDisk (state g mid) → RanInTurn g (map bound_statement (take at statements)) (transaction_start old) mid)
+      → (HasCleanDisk (state g mid) → 0 < at → IsTrue (state g old).is_open)
+      → Survives (state g mid) (state g new) (λ trees. trees ≡ (state g mid).now.trees)
+      → Survives (state g old) (state g new) (λ trees. (db : Database) × Ran g (map bound_statement statements) old db × (trees ≡ db.trees))
+  commit_survives statements at old mid new past begun ran was_open commit =
+      let all = map bound_statement statements in
+      let P = λ (trees : Trees). (db : Database) × Ran g all old db × (trees ≡ db.trees) in
+      let made = λ (clean : HasCleanDisk (state g new)) (trees : Trees) (is : trees ≡ (state g mid).now.trees).
+      let earlier : HasCleanDisk (state g mid) = omega (arith, commit.clean) in
+      let turn : RanInTurn g all (transaction_start old) mid = turn_all statements at (transaction_start old) mid past (ran earlier) in
+      let was = λ (some : 0 < length all). let more : 0 < length statements = subst (λ n. 0 < n) (length-map statements bound_statement) some in
+      was_open earlier (omega arith) in
+      let p : P trees = ((state g mid).now, record { last = mid; was_open = was; turns = turn; is = refl }, is) in p in
+      survives_then (state g old) (state g mid) (state g new) _ _ P (λ _ db none. absurd none) made (survives_begin g old (state g mid) _ begun) commit

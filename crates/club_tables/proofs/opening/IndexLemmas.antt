@@ -1,5 +1,5 @@
 -- The index of the bookings over tables of version 2 without it.
-use Rattle.std.proofs.Common.{◌≡◌, true≢false, List, [], ◌∷◌, IsTrue, inl, inr, refl, sym, ap, subst, ◌∙◌, arith}
+use Rattle.std.proofs.Common.{◌≡◌, true≢false, List, [], ◌∷◌, inl, inr, sym, ap, subst, ◌∙◌, arith}
 use Rattle.std.specs.Prelude.{is_ok}
 use Rattle.sqlite.specs.Store.{Ghosts}
 use Rattle.sqlite.specs.Effect.{Database}
@@ -7,18 +7,15 @@ use Rattle.sqlite.specs.Listing.{understood}
 use Rattle.sqlite.specs.State.{HasCleanDisk, Survives, ExecutesIn}
 use Rattle.sqlite.specs.Held.{Held, state}
 use Rattle.club_core.specs.Club.{Club}
-use Rattle.club_core.specs.Store.{KeepsClub}
 use Rattle.club_tables.specs.declared.texts.TheConstants.{MAKE_BOOKINGS_BY_KEY, DROP_BOOKINGS_BY_KEY}
 use Rattle.club_tables.specs.Schema.{bookings_by_key, unindexed_schema, club_schema}
 use Rattle.club_tables.specs.Columns.{version_values, member_values, facility_values, key_values, slot_values, booking_values, older_values}
 use Rattle.club_tables.specs.Opening.{index_batch}
 use Rattle.club_tables.specs.Stored.{Rows}
-use Rattle.club_tables.specs.Tables.{HoldsClub, HoldsClubUnindexed, HoldsClubVersion2, HoldsRowsWith, HoldsRows, Holds, Represents, RepresentsVersion2}
-use Rattle.club_tables.specs.ReadsAndChanges.{version_2_in}
+use Rattle.club_tables.specs.Tables.{HoldsClub, HoldsClubUnindexed, HoldsRowsWith, HoldsRows, Holds, Represents, RepresentsVersion2}
 use Rattle.club_tables.specs.Transaction.{Ran, IsKept, IsUnderstood, transaction_start}
 use Rattle.club_tables.proofs.statements.InsertLemmas.{indexes}
 use Rattle.club_tables.proofs.opening.MakesLemmas.{makes_bookings_by_key, bookings_made, indexes_again, drops_none}
-use Rattle.club_tables.proofs.opening.OpenLemmas.{IsSettled, settles}
 use Rattle.club_tables.proofs.crashes.RepresentsLemmas.{keeps_second}
 
 module _ {S : Type 0} (g : Ghosts S) (old : Held S) (db : Database) (ran : Ran g index_batch old db) where
@@ -55,54 +52,33 @@ module _ {S : Type 0} (g : Ghosts S) (old : Held S) (db : Database) (ran : Ran g
       let statement = ran.turns.2.1 in
       true≢false (sym (ap is_ok statement.is) ∙ ap (λ s. is_ok (understood s MAKE_BOOKINGS_BY_KEY.now)) has ∙ indexes_again)
 
-module _ {S : Type 0} (g : Ghosts S) (old new : Held S) where
-  -- the tables with the index hold the same club
-  holds_second : (db : Database) → Ran g index_batch old db → HasCleanDisk (state g old) → (club : Club) (others : List Club)
-      → RepresentsVersion2 (state g old) club others → HoldsClub db club
-  holds_second db ran clean club others second =
-      let is_open = ran.was_open (omega arith) in
-      let now = second.idle clean is_open in
-      elim (second.held clean is_open) [
-        | inl tables ↦ absurd (indexes_no_more g old db ran (ap (λ (d : Database). d.schema) now ∙ tables.holds_rows.schema))
-        | inr it ↦ indexed_tables g old db ran club (subst (λ (d : Database). HoldsClubUnindexed d club) (sym now) it)
-      ]
+-- the tables with the index hold the same club
+pub holds_second : {S : Type 0} (g : Ghosts S) (old : Held S) (db : Database) → Ran g index_batch old db → HasCleanDisk (state g old)
+    → (club : Club) (others : List Club) → RepresentsVersion2 (state g old) club others → HoldsClub db club
+holds_second g old db ran clean club others second =
+    let is_open = ran.was_open (omega arith) in
+    let now = second.idle clean is_open in
+    elim (second.held clean is_open) [
+      | inl tables ↦ absurd (indexes_no_more g old db ran (ap (λ (d : Database). d.schema) now ∙ tables.holds_rows.schema))
+      | inr it ↦ indexed_tables g old db ran club (subst (λ (d : Database). HoldsClubUnindexed d club) (sym now) it)
+    ]
 
-  pub indexed_represents : HasCleanDisk (state g old) → IsTrue (state g new).is_open → Ran g index_batch old (state g new).committed
-      → (state g new).now ≡ (state g new).committed → IsSettled (state g new)
-      → (club : Club) (others : List Club) → RepresentsVersion2 (state g old) club others → Represents (state g new) club others
-  indexed_represents clean is_open ran same settled club others second =
-      settles (state g new) club others (λ _ _. holds_second (state g new).committed ran clean club others second) (λ _. is_open) same settled
-
-  -- an index that is refused leaves the tables as they were, and a crash those or the ones with the index
-  pub refused_second : IsKept (state g old) (state g new) → Survives (state g old) (state g new) (λ trees. (db : Database) × Ran g index_batch old db
-      × (trees ≡ db.trees)) → KeepsClub (version_2_in g) old new
-  refused_second kept survives club others second =
-      let earlier = λ (clean : HasCleanDisk (state g new)). let e : HasCleanDisk (state g old) = omega (arith, survives.clean) in e in
-      record {
-        held = λ clean is_open. let k = kept clean is_open in subst (λ db. HoldsClubVersion2 db club) (sym k.2) (second.held (earlier clean) k.0);
-        idle = λ clean is_open. let k = kept clean is_open in k.1 ∙ sym k.2;
-        left = λ clean trees may. elim (survives.crash clean trees may) [
-          | inl was ↦ second.left (earlier clean) trees was
-          | inr made ↦ inl (made.0, sym made.2, inl (inl (holds_second made.0 made.1 (earlier clean) club others second)))
-        ];
-      }
-
-  -- the index is there where it can be named
-  pub named_represents : IsKept (state g old) (state g new) → Survives (state g old) (state g new) (λ _. ⊥)
-      → IsUnderstood (state g old).now.schema DROP_BOOKINGS_BY_KEY.now
-      → (club : Club) (others : List Club) → RepresentsVersion2 (state g old) club others → Represents (state g new) club others
-  named_represents kept quiet named club others second =
-      let next = keeps_second g old new kept quiet club others second in
-      let earlier = λ (clean : HasCleanDisk (state g new)). let e : HasCleanDisk (state g old) = omega (arith, quiet.clean) in e in
-      record {
-        held = λ clean is_open. elim (next.held clean is_open) [
-          | inl tables ↦ tables
-          | inr it ↦
-              let k = kept clean is_open in
-              let same : (state g old).now.schema ≡ unindexed_schema =
-              ap (λ (d : Database). d.schema) (second.idle (earlier clean) k.0 ∙ sym k.2) ∙ it.holds_rows.schema in
-              absurd (let none = ap (λ s. is_ok (understood s DROP_BOOKINGS_BY_KEY.now)) same ∙ drops_none in cc)
-        ];
-        idle = next.idle;
-        left = next.left;
-      }
+-- the index is there where it can be named
+pub named_represents : {S : Type 0} (g : Ghosts S) (old new : Held S) → IsKept (state g old) (state g new) → Survives (state g old) (state g new) (λ _. ⊥)
+    → IsUnderstood (state g old).now.schema DROP_BOOKINGS_BY_KEY.now
+    → (club : Club) (others : List Club) → RepresentsVersion2 (state g old) club others → Represents (state g new) club others
+named_represents g old new kept quiet named club others second =
+    let next = keeps_second g old new kept quiet club others second in
+    let earlier = λ (clean : HasCleanDisk (state g new)). let e : HasCleanDisk (state g old) = omega (arith, quiet.clean) in e in
+    record {
+      held = λ clean is_open. elim (next.held clean is_open) [
+        | inl tables ↦ tables
+        | inr it ↦
+            let k = kept clean is_open in
+            let same : (state g old).now.schema ≡ unindexed_schema =
+            ap (λ (d : Database). d.schema) (second.idle (earlier clean) k.0 ∙ sym k.2) ∙ it.holds_rows.schema in
+            absurd (let none = ap (λ s. is_ok (understood s DROP_BOOKINGS_BY_KEY.now)) same ∙ drops_none in cc)
+      ];
+      idle = next.idle;
+      left = next.left;
+    }

@@ -1,5 +1,5 @@
 -- The migration of tables of version 1.
-use Rattle.std.proofs.Common.{◌≡◌, ℕ, pos, true, List, [], ◌∷◌, IsTrue, inl, inr, refl, sym, ap, subst, ◌∙◌, arith}
+use Rattle.std.proofs.Common.{◌≡◌, ℕ, pos, true, List, [], ◌∷◌, refl, sym, ap, subst, ◌∙◌, arith}
 use Rattle.sqlite_tied.specs.Compute.{everything}
 use Rattle.sqlite_value.specs.declared.value.Value.TheVariants.{Int}
 use Rattle.sqlite.specs.Store.{Ghosts}
@@ -9,24 +9,21 @@ use Rattle.sqlite.specs.Table.{Table}
 use Rattle.sqlite.specs.Command.TheVariants.{Update}
 use Rattle.sqlite.specs.Effect.{Database}
 use Rattle.sqlite.specs.Listing.{understood}
-use Rattle.sqlite.specs.State.{HasCleanDisk, Survives}
+use Rattle.sqlite.specs.State.{HasCleanDisk}
 use Rattle.sqlite.specs.Held.{Held, state}
 use Rattle.sqlite.proofs.Callers.{IsPlain, command_of}
 use Rattle.club_core.specs.Club.{Club}
-use Rattle.club_core.specs.Store.{KeepsClub}
 use Rattle.club_tables.specs.declared.texts.TheConstants.{MAKE_OLD_ROOTS, MAKE_BOOKINGS_BY_KEY, SET_VERSION}
 use Rattle.club_tables.specs.Schema.{desk_table, old_roots_table, bookings_by_key, first_schema, unindexed_schema, club_schema}
 use Rattle.club_tables.specs.Columns.{version_values, member_values, facility_values, key_values, slot_values, booking_values}
 use Rattle.club_tables.specs.Opening.{migration}
 use Rattle.club_tables.specs.Statements.{select}
 use Rattle.club_tables.specs.Stored.{Rows}
-use Rattle.club_tables.specs.Tables.{HoldsClub, HoldsClubVersion1, HoldsRowsVersion1, HoldsRows, Holds, Represents, RepresentsVersion1, desk_tree}
-use Rattle.club_tables.specs.ReadsAndChanges.{version_1_in}
-use Rattle.club_tables.specs.Transaction.{Ran, IsKept, transaction_start}
+use Rattle.club_tables.specs.Tables.{HoldsClub, HoldsClubVersion1, HoldsRowsVersion1, HoldsRows, Holds, RepresentsVersion1, desk_tree}
+use Rattle.club_tables.specs.Transaction.{Ran, transaction_start}
 use Rattle.club_tables.proofs.changes.ChangeLemmas.{nothing_more}
 use Rattle.club_tables.proofs.statements.InsertLemmas.{creates, indexes, cast_int}
 use Rattle.club_tables.proofs.opening.MakesLemmas.{makes_old_roots, makes_bookings_by_key, bookings_made}
-use Rattle.club_tables.proofs.opening.OpenLemmas.{IsSettled, settles}
 use Rattle.club_tables.proofs.statements.ReplaceLemmas.{replaced}
 use Rattle.club_tables.proofs.lists.RowLemmas.{holds_none}
 use Rattle.club_tables.proofs.statements.UpdateLemmas.{updates}
@@ -88,30 +85,9 @@ module _ {S : Type 0} (g : Ghosts S) (old : Held S) (db : Database) (ran : Ran g
   migrated_tables club first =
       record { rows = first.rows; holds_rows = migrated_rows first.rows first.holds_rows; storage = first.storage; sound = first.sound }
 
-module _ {S : Type 0} (g : Ghosts S) (old new : Held S) where
-  -- the migrated tables hold the same club
-  holds_first : (db : Database) → Ran g migration old db → HasCleanDisk (state g old) → (club : Club) (others : List Club)
-      → RepresentsVersion1 (state g old) club others → HoldsClub db club
-  holds_first db ran clean club others first =
-      let is_open = ran.was_open (omega arith) in
-      migrated_tables g old db ran club (subst (λ (d : Database). HoldsClubVersion1 d club) (sym (first.idle clean is_open)) (first.held clean is_open))
-
-  pub migrated_represents : HasCleanDisk (state g old) → IsTrue (state g new).is_open → Ran g migration old (state g new).committed
-      → (state g new).now ≡ (state g new).committed → IsSettled (state g new)
-      → (club : Club) (others : List Club) → RepresentsVersion1 (state g old) club others → Represents (state g new) club others
-  migrated_represents clean is_open ran same settled club others first =
-      settles (state g new) club others (λ _ _. holds_first (state g new).committed ran clean club others first) (λ _. is_open) same settled
-
-  -- a migration that is refused leaves tables of version 1, and a crash those or the migrated ones
-  pub refused_first : IsKept (state g old) (state g new) → Survives (state g old) (state g new) (λ trees. (db : Database) × Ran g migration old db
-      × (trees ≡ db.trees)) → KeepsClub (version_1_in g) old new
-  refused_first kept survives club others first =
-      let earlier = λ (clean : HasCleanDisk (state g new)). let e : HasCleanDisk (state g old) = omega (arith, survives.clean) in e in
-      record {
-        held = λ clean is_open. let k = kept clean is_open in subst (λ db. HoldsClubVersion1 db club) (sym k.2) (first.held (earlier clean) k.0);
-        idle = λ clean is_open. let k = kept clean is_open in k.1 ∙ sym k.2;
-        left = λ clean trees may. elim (survives.crash clean trees may) [
-          | inl was ↦ first.left (earlier clean) trees was
-          | inr made ↦ inl (made.0, sym made.2, inl (inl (holds_first made.0 made.1 (earlier clean) club others first)))
-        ];
-      }
+-- the migrated tables hold the same club
+pub holds_first : {S : Type 0} (g : Ghosts S) (old : Held S) (db : Database) → Ran g migration old db → HasCleanDisk (state g old)
+    → (club : Club) (others : List Club) → RepresentsVersion1 (state g old) club others → HoldsClub db club
+holds_first g old db ran clean club others first =
+    let is_open = ran.was_open (omega arith) in
+    migrated_tables g old db ran club (subst (λ (d : Database). HoldsClubVersion1 d club) (sym (first.idle clean is_open)) (first.held clean is_open))

@@ -1,5 +1,5 @@
 -- What an opening finds, and what it makes.
-use Rattle.std.proofs.Common.{◌≡◌, ◌⊎◌, ℕ, List, [], ◌∷◌, IsTrue, true, false, true≢false, codes, inl, inr, refl, sym, subst, ap, ◌∙◌, arith}
+use Rattle.std.proofs.Common.{◌≡◌, ◌⊎◌, ℕ, List, [], ◌∷◌, Result, IsTrue, true, false, true≢false, codes, inl, inr, refl, sym, subst, ap, ◌∙◌, arith}
 use Rattle.std.specs.Prelude.{is_ok}
 use Rattle.sqlite_tied.specs.Compute.{everything}
 use Rattle.sqlite.specs.Order.{Row, column}
@@ -15,20 +15,21 @@ use Rattle.club_tables.specs.Statements.{select}
 use Rattle.sqlite.specs.Store.{Ghosts}
 use Rattle.sqlite.specs.Tree.{Trees}
 use Rattle.sqlite.specs.Effect.{Database}
-use Rattle.sqlite.specs.State.{State, HasCleanDisk, Survives, Shown}
+use Rattle.sqlite.specs.State.{State, HasCleanDisk, Shown}
 use Rattle.sqlite_trees.specs.declared.memory.MemStore.{MemStore}
 use Rattle.sqlite.specs.Steps.{over_memory, IsEmpty}
 use Rattle.sqlite.specs.Held.{Held, state}
 use Rattle.club_core.specs.Club.{Club, empty_club}
-use Rattle.club_core.specs.Store.{KeepsClub}
+use Rattle.club_core.specs.declared.store.StoreFault.{StoreFault}
 use Rattle.club_tables.specs.Schema.{club_schema, first_schema, unindexed_schema, no_schema}
-use Rattle.club_tables.specs.Tables.{HoldsClub, HoldsClubVersion2, HoldsClubAnyVersion, Holds, Represents, RepresentsVersion1, RepresentsVersion2, IsFound}
-use Rattle.club_tables.specs.Tables.{desk_tree}
-use Rattle.club_tables.specs.ReadsAndChanges.{found_in}
-use Rattle.club_tables.specs.Opening.{table_batch}
-use Rattle.club_tables.specs.Transaction.{Asked, Ran, IsKept}
+use Rattle.club_tables.specs.Tables.{HoldsClub, HoldsClubVersion2, HoldsClubAnyVersion, Holds, desk_tree}
+use Rattle.club_tables.specs.Tables.{RepresentsBy, Represents, RepresentsVersion1, RepresentsVersion2, IsFound}
+use Rattle.club_tables.specs.Opening.{IsOpeningBatch, RunsBatch, table_batch}
+use Rattle.club_tables.specs.Transaction.{BoundStatement, Asked, Ran, IsKept}
+use Rattle.club_tables.specs.Fault.{Commits}
 use Rattle.club_tables.proofs.statements.SelectLemmas.{selected, short_permutation}
-use Rattle.club_tables.proofs.crashes.RepresentsLemmas.{asked_open, reads_over}
+use Rattle.club_tables.proofs.crashes.RepresentsLemmas.{asked_open, reads_over, on_ok, on_err}
+use Rattle.club_tables.proofs.crashes.SurviveLemmas.{may_commit, was_clean}
 use Rattle.club_tables.proofs.opening.MakingLemmas.{made_tables, makes_no_more, makes_no_unindexed, makes_no_second}
 
 -- every crash leaves what was committed last
@@ -44,38 +45,48 @@ settles now club others held opens same settled = record {
   left = λ clean trees may. inl (now.committed, sym (settled (opens clean) trees may), inl (inl (held clean (opens clean))));
 }
 
-module _ {S : Type 0} (g : Ghosts S) (old new : Held S) where
-  -- what the batch leaves holds the club that was found
-  holds_found : (db : Database) → Ran g table_batch old db → HasCleanDisk (state g old) → (club : Club) (others : List Club) → IsFound (state g old) club others
-      → HoldsClub db club
-  holds_found db ran clean club others found =
-      let is_open = ran.was_open (omega arith) in
-      let now = found.idle clean is_open in
-      elim (found.held clean is_open) [
-        | inl (inl tables) ↦ absurd (makes_no_more g old db ran (ap (λ (d : Database). d.schema) now ∙ tables.holds_rows.schema))
-        | inl (inr unindexed) ↦ absurd (makes_no_unindexed g old db ran (ap (λ (d : Database). d.schema) now ∙ unindexed.holds_rows.schema))
-        | inr (inl first) ↦ absurd (makes_no_second g old db ran (ap (λ (d : Database). d.schema) now ∙ first.holds_rows.schema))
-        | inr (inr blank) ↦ subst (HoldsClub db) (sym blank.1) (made_tables g old db ran (ap (λ (d : Database). d.schema) now ∙ blank.0))
-      ]
+-- a batch that leaves the club that was there
+module _ {S : Type 0} (g : Ghosts S) (IsHeld : Database → Club → Type 0) (statements : List BoundStatement) (old new : Held S)
+    (holds : (db : Database) → Ran g statements old db → HasCleanDisk (state g old) → (club : Club) (others : List Club)
+    → RepresentsBy IsHeld (state g old) club others → HoldsClub db club) (result : Result (Unit {0}) StoreFault)
+    (commits : Commits g statements old new result) where
+  earlier : HasCleanDisk (state g new) → HasCleanDisk (state g old)
+  earlier = was_clean (state g old) (state g new) _ commits.survives
 
-  pub made_represents : HasCleanDisk (state g old) → IsTrue (state g new).is_open → Ran g table_batch old (state g new).committed
-      → (state g new).now ≡ (state g new).committed → IsSettled (state g new)
-      → (club : Club) (others : List Club) → IsFound (state g old) club others → Represents (state g new) club others
-  made_represents clean is_open ran same settled club others found =
-      settles (state g new) club others (λ _ _. holds_found (state g new).committed ran clean club others found) (λ _. is_open) same settled
+  -- where it is refused, the tables are as they were, and a crash leaves those or what the batch leaves
+  refused : IsKept (state g old) (state g new) → (club : Club) (others : List Club) → RepresentsBy IsHeld (state g old) club others
+      → RepresentsBy IsHeld (state g new) club others
+  refused kept club others before = record {
+    held = λ clean is_open. let k = kept clean is_open in subst (λ db. IsHeld db club) (sym k.2) (before.held (earlier clean) k.0);
+    idle = λ clean is_open. let k = kept clean is_open in k.1 ∙ sym k.2;
+    left = λ clean trees may. elim (commits.survives.crash clean trees may) [
+      | inl was ↦ before.left (earlier clean) trees was
+      | inr made ↦ inl (made.0, sym made.2, inl (inl (holds made.0 made.1 (earlier clean) club others before)))
+    ];
+  }
 
-  pub refused_found : IsKept (state g old) (state g new) → Survives (state g old) (state g new) (λ trees. (db : Database) × Ran g table_batch old db
-      × (trees ≡ db.trees)) → KeepsClub (found_in g) old new
-  refused_found kept survives club others found =
-      let earlier = λ (clean : HasCleanDisk (state g new)). let e : HasCleanDisk (state g old) = omega (arith, survives.clean) in e in
-      record {
-        held = λ clean is_open. let k = kept clean is_open in subst (λ db. HoldsClubAnyVersion db club) (sym k.2) (found.held (earlier clean) k.0);
-        idle = λ clean is_open. let k = kept clean is_open in k.1 ∙ sym k.2;
-        left = λ clean trees may. elim (survives.crash clean trees may) [
-          | inl was ↦ found.left (earlier clean) trees was
-          | inr made ↦ inl (made.0, sym made.2, inl (inl (holds_found made.0 made.1 (earlier clean) club others found)))
-        ];
-      }
+  pub runs_batch : IsOpeningBatch statements → IsSettled (state g new) → RunsBatch g (λ held. RepresentsBy IsHeld (state g held)) statements old new result
+  runs_batch are settled = record {
+    opened = λ clean. on_ok result (commits.ran clean) (λ ran club others before. settles (state g new) club others (λ _ _.
+        holds (state g new).committed ran.1 (earlier clean) club others before) (λ _. ran.0) ran.2 settled);
+    done = λ clean. on_ok result (commits.ran clean) (λ ran. ran.1);
+    refused = λ clean. on_err result commits.kept (λ kept club others before. refused kept club others before);
+    fault = commits.fault;
+    survives = may_commit g statements IsOpeningBatch are old new commits.survives;
+  }
+
+-- what the whole batch leaves holds the club that was found
+pub holds_found : {S : Type 0} (g : Ghosts S) (old : Held S) (db : Database) → Ran g table_batch old db → HasCleanDisk (state g old)
+    → (club : Club) (others : List Club) → IsFound (state g old) club others → HoldsClub db club
+holds_found g old db ran clean club others found =
+    let is_open = ran.was_open (omega arith) in
+    let now = found.idle clean is_open in
+    elim (found.held clean is_open) [
+      | inl (inl tables) ↦ absurd (makes_no_more g old db ran (ap (λ (d : Database). d.schema) now ∙ tables.holds_rows.schema))
+      | inl (inr unindexed) ↦ absurd (makes_no_unindexed g old db ran (ap (λ (d : Database). d.schema) now ∙ unindexed.holds_rows.schema))
+      | inr (inl first) ↦ absurd (makes_no_second g old db ran (ap (λ (d : Database). d.schema) now ∙ first.holds_rows.schema))
+      | inr (inr blank) ↦ subst (HoldsClub db) (sym blank.1) (made_tables g old db ran (ap (λ (d : Database). d.schema) now ∙ blank.0))
+    ]
 
 -- without tables there is no version
 no_version : is_ok (understood no_schema VERSION.now) ≡ false

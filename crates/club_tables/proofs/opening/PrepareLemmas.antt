@@ -1,20 +1,16 @@
 -- Statements that are prepared in turn.
 use Rattle.std.proofs.Common.{◌≡◌, ℕ, ◌+◌, ◌<◌, ◌≤◌, List, [], ◌∷◌, ◌++◌, length, map, take, get_or, zero, suc, All}
-use Rattle.std.proofs.Common.{Bor, inl, inr, refl, sym, subst, ◌∙◌, add-one, arith}
+use Rattle.std.proofs.Common.{Bor, inl, inr, sym, subst, ◌∙◌, add-one, arith}
 use Rattle.std.proofs.Math.Seq.{take-suc, take_all}
 use Rattle.std.proofs.lemmas.List.{map-append}
 use Rattle.std.proofs.lemmas.List.Elements.{All-push}
 use Rattle.sqlite.specs.Effect.{Database}
 use Rattle.sqlite.specs.State.{State, HasCleanDisk}
-use Rattle.club_tables.specs.Transaction.{IsKept, IsIdle}
+use Rattle.club_tables.specs.Transaction.{IsKept, IsUnderstood}
 use Rattle.club_tables.specs.Opening.{OneOf}
-use Rattle.club_tables.specs.Transaction.{IsUnderstood}
 
 abbrev pub text_at : Bor (List ℕ) → List ℕ
 text_at text = text.now
-
-pub kept_when_idle : (s : State) → IsIdle s → IsKept s s
-kept_when_idle s rest clean is_open = (is_open, rest is_open, refl)
 
 pub kept_then : (a b c : State) → (HasCleanDisk c → HasCleanDisk b) → IsKept a b → IsKept b c → IsKept a c
 kept_then a b c earlier first next clean is_open =

@@ -1,23 +1,11 @@
-use Rattle.std.proofs.Common.{inl, refl, arith}
-use Rattle.sqlite.specs.State.{HasCleanDisk}
-use Rattle.sqlite.specs.Held.{state}
-use Rattle.club_tables.proofs.crashes.RepresentsLemmas.{on_ok, on_err}
-use Rattle.club_tables.proofs.opening.OpenLemmas.{made_represents, refused_found}
-use Rattle.club_tables.specs.Opening.{IsOpeningBatch, table_batch}
-use Rattle.club_tables.proofs.crashes.SurviveLemmas.{may_commit}
+use Rattle.std.proofs.Common.{inl, refl}
+use Rattle.club_tables.specs.Opening.{table_batch}
+use Rattle.club_tables.specs.Tables.{HoldsClubAnyVersion}
+use Rattle.club_tables.proofs.opening.OpenLemmas.{holds_found, runs_batch}
 use Rattle.club_tables.proofs.open.make_tables.Goals as goal
 
-pub returns-clause-made : goal.returns-clause-made
-returns-clause-made g c clean =
+pub returns-clause-opens : goal.returns-clause-opens
+returns-clause-opens g c =
     let old = c.args.conn.now in
-    let new = c.run.new.conn in
-    let earlier : HasCleanDisk (state g.S.Store old) = omega (arith, c.run.ensures.survives.clean) in
-    on_ok c.run.result (c.run.ensures.ran clean) (λ ran. made_represents g.S.Store old new earlier ran.0 ran.1 ran.2 (λ is_open trees may.
-    g.met.S.Store.settled new.store trees is_open may))
-
-pub returns-clause-refused : goal.returns-clause-refused
-returns-clause-refused g c clean =
-    on_err c.run.result c.run.ensures.kept (λ kept. refused_found g.S.Store c.args.conn.now c.run.new.conn kept c.run.ensures.survives)
-
-pub returns-clause-survives : goal.returns-clause-survives
-returns-clause-survives g c = may_commit g.S.Store table_batch IsOpeningBatch (inl refl) c.args.conn.now c.run.new.conn c.run.ensures.survives
+    runs_batch g.S.Store HoldsClubAnyVersion table_batch old c.run.new.conn (holds_found g.S.Store old) c.run.result c.run.ensures.commits
+    (inl refl) (λ is_open trees may. g.met.S.Store.settled c.run.new.conn.store trees is_open may)

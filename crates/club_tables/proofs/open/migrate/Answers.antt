@@ -1,78 +1,51 @@
 use Rattle.std.proofs.Common.{[], ◌∷◌, All, inl, inr, refl, subst, arith}
 use Rattle.sqlite.specs.Effect.{Database}
-use Rattle.sqlite.specs.State.{HasCleanDisk}
-use Rattle.sqlite.specs.Held.{state}
+use Rattle.sqlite.specs.Held.{Held, state}
 use Rattle.club_tables.specs.declared.texts.TheConstants.{OLDER_ROOT}
 use Rattle.club_tables.specs.Fault.{FailsToPrepare, FailsToRun}
-use Rattle.club_tables.specs.Opening.{IsOpeningBatch, IsOpeningFault, first_texts, migration}
-use Rattle.club_tables.specs.Transaction.{IsUnderstood}
+use Rattle.club_tables.specs.Opening.{HasMigrated, IsOpeningFault, first_texts, migration}
+use Rattle.club_tables.specs.ReadsAndChanges.{version_1_in}
+use Rattle.club_tables.specs.Tables.{HoldsClubVersion1}
+use Rattle.club_tables.specs.Transaction.{IsIdle, IsUnderstood, Ran}
 use Rattle.club_tables.proofs.opening.PrepareLemmas.{kept_then, one_more}
-use Rattle.club_tables.proofs.queries.ReadLemmas.{fault_if}
-use Rattle.club_tables.proofs.crashes.RepresentsLemmas.{on_ok, on_err, keeps_first}
-use Rattle.club_tables.proofs.crashes.SurviveLemmas.{after_one, commits_after, commits_nothing}
+use Rattle.club_tables.proofs.opening.StepLemmas.{batch_failed, keeps_after, opens_after, opens_not}
+use Rattle.club_tables.proofs.crashes.RepresentsLemmas.{on_err}
+use Rattle.club_tables.proofs.crashes.SurviveLemmas.{was_clean}
 use Rattle.club_tables.proofs.open.migrate.Goals as goal
 
-pub returns-in-Ok-clause-migrated : goal.returns-in-Ok-clause-migrated
-returns-in-Ok-clause-migrated g c clean =
+pub returns-in-Ok-clause-opens : goal.returns-in-Ok-clause-opens
+returns-in-Ok-clause-opens g c =
     let old = c.args.conn.now in
     let mid = c.prepare_all.new.conn in
-    on_ok c.add_old_roots.result (c.add_old_roots.ensures.migrated clean) (λ migrated rest club others first.
-    migrated club others (keeps_first g.S.Store old mid (c.prepare_all.ensures.same rest) c.prepare_all.ensures.survives club others first))
-
-pub returns-in-Ok-clause-ran : goal.returns-in-Ok-clause-ran
-returns-in-Ok-clause-ran g c clean =
-    let mid = c.prepare_all.new.conn in
-    let earlier : HasCleanDisk (state g.S.Store mid) = c.add_old_roots.ensures.was_clean clean in
-    on_ok c.add_old_roots.result (c.add_old_roots.ensures.ran clean) (λ ran rest.
+    let kept = c.prepare_all.ensures.kept in
+    let quiet = c.prepare_all.ensures.survives in
+    opens_after g.S.Store old mid kept quiet (version_1_in g.S.Store) (version_1_in g.S.Store)
+    (λ (from to : Held _). IsIdle (state g.S.Store from) → HasMigrated g.S.Store from to)
+    (λ from to. Ran g.S.Store migration from (state g.S.Store to).committed) (FailsToRun g.S.Store migration)
+    c.add_old_roots.new.conn c.add_old_roots.result c.add_old_roots.ensures.opens
+    (keeps_after g.S.Store old mid kept quiet HoldsClubVersion1) (λ club others first. first)
+    (λ earlier clean ran rest.
     let is_open = ran.was_open (omega arith) in
-    let kept = c.prepare_all.ensures.same rest earlier is_open in
+    let same = kept rest earlier is_open in
     let known = c.in-Ok.ensures.understood earlier is_open rest in
-    (mid, kept.0, subst (λ (db : Database). All (IsUnderstood db.schema) first_texts) kept.2 known, kept.2, kept.1, ran))
-
-pub returns-in-Ok-clause-refused : goal.returns-in-Ok-clause-refused
-returns-in-Ok-clause-refused g c clean =
-    let old = c.args.conn.now in
-    let mid = c.prepare_all.new.conn in
-    on_err c.add_old_roots.result (c.add_old_roots.ensures.refused clean) (λ keeps rest club others first.
-    keeps club others (keeps_first g.S.Store old mid (c.prepare_all.ensures.same rest) c.prepare_all.ensures.survives club others first))
+    (mid, same.0, subst (λ (db : Database). All (IsUnderstood db.schema) first_texts) same.2 known, same.2, same.1, ran))
+    (batch_failed g.S.Store migration (inr (inl refl)) old mid c.add_old_roots.new.conn)
 
 pub returns-in-Ok-clause-untouched : goal.returns-in-Ok-clause-untouched
 returns-in-Ok-clause-untouched g c =
+    let mid = state g.S.Store c.prepare_all.new.conn in
+    let new = state g.S.Store c.add_old_roots.new.conn in
     on_err c.add_old_roots.result c.add_old_roots.ensures.untouched (λ kept rest.
-    kept_then (state g.S.Store c.args.conn.now) (state g.S.Store c.prepare_all.new.conn) (state g.S.Store c.add_old_roots.new.conn)
-    c.add_old_roots.ensures.was_clean (c.prepare_all.ensures.same rest) kept)
+    kept_then (state g.S.Store c.args.conn.now) mid new (was_clean mid new _ c.add_old_roots.ensures.opens.survives) (c.prepare_all.ensures.kept rest) kept)
 
-pub returns-in-Err-clause-refused : goal.returns-in-Err-clause-refused
-returns-in-Err-clause-refused g c clean rest club others first =
-    keeps_first g.S.Store c.args.conn.now c.prepare_all.new.conn (c.prepare_all.ensures.same rest) c.prepare_all.ensures.survives club others first
-
-pub returns-in-Ok-clause-survives : goal.returns-in-Ok-clause-survives
-returns-in-Ok-clause-survives g c =
-    commits_after g.S.Store IsOpeningBatch c.args.conn.now c.prepare_all.new.conn c.add_old_roots.new.conn c.prepare_all.ensures.same
-    c.prepare_all.ensures.survives c.add_old_roots.ensures.survives
-
-pub returns-in-Err-clause-survives : goal.returns-in-Err-clause-survives
-returns-in-Err-clause-survives g c = commits_nothing g.S.Store IsOpeningBatch c.args.conn.now c.prepare_all.new.conn c.prepare_all.ensures.survives
-
-pub returns-in-Ok-clause-fault : goal.returns-in-Ok-clause-fault
-returns-in-Ok-clause-fault g c clean =
-    let old = c.args.conn.now in
-    let mid = c.prepare_all.new.conn in
-    let new = c.add_old_roots.new.conn in
-    let earlier : HasCleanDisk (state g.S.Store mid) = c.add_old_roots.ensures.was_clean clean in
-    fault_if (FailsToRun g.S.Store migration mid new) (IsOpeningFault g.S.Store old new) c.add_old_roots.result (c.add_old_roots.ensures.fault clean)
-    (λ fault failed. record {
-      from = mid;
-      after = after_one g.S.Store old mid earlier c.prepare_all.ensures.same c.prepare_all.ensures.survives;
-      failure = inr (inl (migration, inr (inl refl), failed));
-    })
-
-pub returns-in-Err-clause-fault : goal.returns-in-Err-clause-fault
-returns-in-Err-clause-fault g c clean =
+pub returns-in-Err-clause-opens : goal.returns-in-Err-clause-opens
+returns-in-Err-clause-opens g c =
+    opens_not g.S.Store c.args.conn.now c.prepare_all.new.conn c.prepare_all.ensures.kept c.prepare_all.ensures.survives HoldsClubVersion1
+    (λ (from to : Held _). IsIdle (state g.S.Store from) → HasMigrated g.S.Store from to) (IsOpeningFault g.S.Store) c.in-Err.fault (λ clean.
     let it = c.in-Err.ensures.fault clean in
     record {
       from = it.from;
       after = it.after;
       failure = inr (inr (inl (one_more (λ text. FailsToPrepare g.S.Store text it.from c.prepare_all.new.conn c.in-Err.fault) first_texts (OLDER_ROOT.now ∷ [])
           it.failure)));
-    }
+    })

@@ -2,7 +2,8 @@ use Rattle.std.proofs.Common.{arith}
 use Rattle.sqlite.specs.State.{HasCleanDisk}
 use Rattle.sqlite.specs.Held.{state}
 use Rattle.club_tables.proofs.crashes.RepresentsLemmas.{survives_same, survives_none}
-use Rattle.club_tables.proofs.opening.PrepareLemmas.{kept_when_idle, kept_then, one_at, none_understood, one_understood, all_understood}
+use Rattle.club_tables.proofs.crashes.SurviveLemmas.{kept_when_idle}
+use Rattle.club_tables.proofs.opening.PrepareLemmas.{kept_then, one_at, none_understood, one_understood, all_understood}
 use Rattle.club_tables.specs.Fault.{FailsToPrepare}
 use Rattle.club_tables.proofs.open.prepare_all.Goals as goal
 
@@ -10,7 +11,7 @@ pub loop-text-init : goal.loop-text-init
 loop-text-init g c = record {
   idle = c.requires;
   survives = survives_same (state g.S.Store c.args.conn.now);
-  kept = λ rest. kept_when_idle (state g.S.Store c.args.conn.now) rest;
+  kept = kept_when_idle (state g.S.Store c.args.conn.now);
   known = λ rest clean is_open. none_understood (state g.S.Store c.args.conn.now).committed c.args.texts.now;
 }
 
@@ -32,8 +33,8 @@ loop-text-preserved g c =
           (c.in-Ok.ensures.understood clean);
     }
 
-pub returns-in-Err-clause-same : goal.returns-in-Err-clause-same
-returns-in-Err-clause-same g c rest =
+pub returns-in-Err-clause-kept : goal.returns-in-Err-clause-kept
+returns-in-Err-clause-kept g c rest =
     let was = c.loop-text.conn in
     let now = c.prepare.new.conn in
     let earlier = λ (clean : HasCleanDisk (state g.S.Store now)). let e : HasCleanDisk (state g.S.Store was) =

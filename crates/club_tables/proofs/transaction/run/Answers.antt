@@ -1,14 +1,14 @@
-use Rattle.std.proofs.Common.{rules, arith, ◌≡◌, ◌<◌, map, length, IsTrue, refl, subst, ◌∙◌}
-use Rattle.std.proofs.lemmas.List.{length-map}
-use Rattle.sqlite.specs.Tree.{Trees}
-use Rattle.sqlite.specs.Effect.{Database}
+use Rattle.std.proofs.Common.{rules, arith, ◌≡◌, map, Ok, Err, subst, ◌∙◌}
 use Rattle.sqlite.specs.State.{HasCleanDisk, Survives}
-use Rattle.sqlite.specs.Held.{Held, state}
+use Rattle.sqlite.specs.Held.{state}
 use Rattle.sqlite.proofs.StateLemmas.{survives_then}
 use Rattle.sqlite.proofs.Callers.{survives_begin}
-use Rattle.club_tables.specs.Transaction.{RanInTurn, Ran, transaction_start, bound_statement}
-use Rattle.club_tables.specs.Fault.{FailsInTurn, FailsToRun}
-use Rattle.club_tables.proofs.crashes.TurnLemmas.{turn_at, turn_all, fails_at, fails_last}
+use Rattle.club_tables.specs.Transaction.{RanInTurn, transaction_start, bound_statement}
+use Rattle.club_tables.specs.Fault.{Commits, FailsInTurn}
+use Rattle.club_tables.proofs.crashes.RepresentsLemmas.{survives_none}
+use Rattle.club_tables.proofs.crashes.SurviveLemmas.{survives_as}
+use Rattle.club_tables.proofs.crashes.TransactionLemmas.{Keeps, commit_keeps, execute_keeps, then_rolled}
+use Rattle.club_tables.proofs.crashes.TurnLemmas.{turn_at, turn_all, fails_at, fails_last, commit_survives}
 use Rattle.club_tables.proofs.transaction.run.Goals as goal
 
 pub loop-statement-preserved : goal.loop-statement-preserved
@@ -29,98 +29,91 @@ loop-statement-preserved g c =
       opened = λ clean some. (one clean).1.is_open;
     }
 
-pub returns-in-Ok-commit-clause-ran : goal.returns-in-Ok-commit-clause-ran
-returns-in-Ok-commit-clause-ran g c clean =
+pub returns-in-Ok-commit-clause-commits : goal.returns-in-Ok-commit-clause-commits
+returns-in-Ok-commit-clause-commits g c =
     let old = c.args.conn.now in
     let mid = c.loop-statement.tx.conn.now in
     let end = c.commit.new.self.0 in
     let same : end ≡ c.conn-2-1.given.0 = search rules in
-    let late : HasCleanDisk (state g.S.Store end) = search rules in
-    let earlier : HasCleanDisk (state g.S.Store mid) = omega (arith, c.commit.ensures.survives.clean) in
-    let all = map bound_statement c.args.statements.now in
-    let turn : RanInTurn g.S.Store all (transaction_start old) mid = turn_all g.S.Store c.args.statements.now c.loop-statement.statement-index
-    (transaction_start old) mid (omega arith)
-    (c.loop-statement.invariant.ran earlier) in
-    let ends = c.in-Ok-commit.ensures.ok late in
-    let was : IsTrue (state g.S.Store old).is_open = (c.loop-statement.invariant.inside earlier).2 ends.1.was_open in
-    let P = λ (h : Held g.row.S.Denot). IsTrue (state g.S.Store h).is_open × Ran g.S.Store all old (state g.S.Store h).committed
-    × ((state g.S.Store h).now ≡ (state g.S.Store h).committed) in
-    subst P same (ends.1.is_open, record { last = mid; was_open = λ _. was; turns = turn; is = ends.1.committed_is }, cc (ends.1.now_is, ends.1.committed_is))
+    let inv = c.loop-statement.invariant in
+    let statements = c.args.statements.now in
+    let all = map bound_statement statements in
+    let whole : Commits g.S.Store all old end (Ok tt) = record {
+      ran = λ clean.
+          let earlier : HasCleanDisk (state g.S.Store mid) = omega (arith, c.commit.ensures.survives.clean) in
+          let turn : RanInTurn g.S.Store all (transaction_start old) mid =
+          turn_all g.S.Store statements c.loop-statement.statement-index (transaction_start old) mid (omega arith) (inv.ran earlier) in
+          let ends = c.in-Ok-commit.ensures.ok clean in
+          let was = (inv.inside earlier).2 ends.1.was_open in
+          (ends.1.is_open, record { last = mid; was_open = λ _. was; turns = turn; is = ends.1.committed_is }, cc (ends.1.now_is, ends.1.committed_is));
+      kept = tt;
+      survives = commit_survives g.S.Store statements c.loop-statement.statement-index old mid end (omega arith) inv.survives inv.ran
+          (λ earlier some. (inv.inside earlier).2 (inv.opened earlier some)) c.commit.ensures.survives;
+      fault = λ clean. tt;
+    } in
+    subst (λ h. Commits g.S.Store all old h (Ok tt)) same whole
 
-pub returns-in-Ok-commit-clause-survives : goal.returns-in-Ok-commit-clause-survives
-returns-in-Ok-commit-clause-survives g c =
+pub returns-in-Err-commit-clause-commits : goal.returns-in-Err-commit-clause-commits
+returns-in-Err-commit-clause-commits g c =
     let old = c.args.conn.now in
     let mid = c.loop-statement.tx.conn.now in
     let end = c.commit.new.self.0 in
     let same : end ≡ c.conn-2-1.given.0 = search rules in
-    let all = map bound_statement c.args.statements.now in
-    let P = λ (trees : Trees). (db : Database) × Ran g.S.Store all old db × (trees ≡ db.trees) in
-    let made = λ (clean : HasCleanDisk (state g.S.Store end)) (db : Trees) (is : db ≡ (state g.S.Store mid).now.trees).
-    let earlier : HasCleanDisk (state g.S.Store mid) = omega (arith, c.commit.ensures.survives.clean) in
-    let turn : RanInTurn g.S.Store all (transaction_start old) mid = turn_all g.S.Store c.args.statements.now c.loop-statement.statement-index
-    (transaction_start old) mid (omega arith)
-    (c.loop-statement.invariant.ran earlier) in
-    let was = λ (some : 0 < length all). let more : 0 < length c.args.statements.now = subst
-    (λ n. 0 < n) (length-map c.args.statements.now bound_statement) some in
-    (c.loop-statement.invariant.inside earlier).2 (c.loop-statement.invariant.opened earlier (omega arith)) in
-    let p : P db = ((state g.S.Store mid).now, record { last = mid; was_open = was; turns = turn; is = refl }, is) in p in
-    let whole = survives_then (state g.S.Store old) (state g.S.Store mid) (state g.S.Store end) _ _ P (λ _ db none. absurd none) made
-    (survives_begin g.S.Store old (state g.S.Store mid) _ c.loop-statement.invariant.survives) c.commit.ensures.survives in
-    subst (λ h. Survives (state g.S.Store old) (state g.S.Store h) P) same whole
+    let inv = c.loop-statement.invariant in
+    let statements = c.args.statements.now in
+    let all = map bound_statement statements in
+    let error = c.in-Err-commit.error in
+    let whole : Commits g.S.Store all old end (Err c.fault_of-in-Err-commit.result) = record {
+      ran = λ clean. tt;
+      kept = λ clean is_open.
+          let earlier : HasCleanDisk (state g.S.Store mid) = omega (arith, c.commit.ensures.survives.clean) in
+          let inside = inv.inside earlier in
+          commit_keeps (state g.S.Store (transaction_start old)) (state g.S.Store mid) (state g.S.Store end) error (λ opened.
+          (inside.2 opened, inside.1)) inside.0 (c.in-Err-commit.ensures.err clean) is_open;
+      survives = commit_survives g.S.Store statements c.loop-statement.statement-index old mid end (omega arith) inv.survives inv.ran
+          (λ earlier some. (inv.inside earlier).2 (inv.opened earlier some)) c.commit.ensures.survives;
+      fault = λ clean.
+          let earlier : HasCleanDisk (state g.S.Store mid) = omega (arith, c.commit.ensures.survives.clean) in
+          let turn : RanInTurn g.S.Store all (transaction_start old) mid =
+          turn_all g.S.Store statements c.loop-statement.statement-index (transaction_start old) mid (omega arith) (inv.ran earlier) in
+          let failed : FailsInTurn g.S.Store all (transaction_start old) end error =
+          fails_last g.S.Store all (transaction_start old) mid end error turn (c.in-Err-commit.ensures.err clean) in
+          record { mid = end; error = error; failure = failed; fault_count = omega arith; fault_is = c.fault_of-in-Err-commit.ensures };
+    } in
+    subst (λ h. Commits g.S.Store all old h (Err c.fault_of-in-Err-commit.result)) same whole
 
-pub returns-in-Err-commit-clause-survives : goal.returns-in-Err-commit-clause-survives
-returns-in-Err-commit-clause-survives g c =
-    let old = c.args.conn.now in
-    let mid = c.loop-statement.tx.conn.now in
-    let end = c.commit.new.self.0 in
-    let same : end ≡ c.conn-2-1.given.0 = search rules in
-    let all = map bound_statement c.args.statements.now in
-    let P = λ (trees : Trees). (db : Database) × Ran g.S.Store all old db × (trees ≡ db.trees) in
-    let made = λ (clean : HasCleanDisk (state g.S.Store end)) (db : Trees) (is : db ≡ (state g.S.Store mid).now.trees).
-    let earlier : HasCleanDisk (state g.S.Store mid) = omega (arith, c.commit.ensures.survives.clean) in
-    let turn : RanInTurn g.S.Store all (transaction_start old) mid = turn_all g.S.Store c.args.statements.now c.loop-statement.statement-index
-    (transaction_start old) mid (omega arith)
-    (c.loop-statement.invariant.ran earlier) in
-    let was = λ (some : 0 < length all). let more : 0 < length c.args.statements.now = subst
-    (λ n. 0 < n) (length-map c.args.statements.now bound_statement) some in
-    (c.loop-statement.invariant.inside earlier).2 (c.loop-statement.invariant.opened earlier (omega arith)) in
-    let p : P db = ((state g.S.Store mid).now, record { last = mid; was_open = was; turns = turn; is = refl }, is) in p in
-    let whole = survives_then (state g.S.Store old) (state g.S.Store mid) (state g.S.Store end) _ _ P (λ _ db none. absurd none) made
-    (survives_begin g.S.Store old (state g.S.Store mid) _ c.loop-statement.invariant.survives) c.commit.ensures.survives in
-    subst (λ h. Survives (state g.S.Store old) (state g.S.Store h) P) same whole
-
-pub returns-in-Err-clause-fault : goal.returns-in-Err-clause-fault
-returns-in-Err-clause-fault g c clean =
+pub returns-in-Err-clause-commits : goal.returns-in-Err-clause-commits
+returns-in-Err-clause-commits g c =
     let old = c.args.conn.now in
     let was = c.loop-statement.tx.conn.now in
     let mid = c.execute.new.self.conn.now in
     let end = c.drop-tx.new.self.0 in
     let same : end ≡ c.conn-1.given.0 = search rules in
-    let late : HasCleanDisk (state g.S.Store end) = search rules in
-    let earlier : HasCleanDisk (state g.S.Store mid) = omega (arith, c.drop-tx.ensures.survives.clean) in
-    let first : HasCleanDisk (state g.S.Store was) = omega (arith, c.execute.ensures.survives.clean) in
-    let all = map bound_statement c.args.statements.now in
-    let failed : FailsInTurn g.S.Store all (transaction_start old) mid c.in-Err.error =
-    fails_at g.S.Store c.args.statements.now c.loop-statement.statement-index _ (transaction_start old) was mid c.in-Err.error c.loop-statement-test.true
-    (c.loop-statement.invariant.ran first) (c.in-Err.ensures.runs earlier (c.loop-statement.invariant.inside first).0) in
-    let fault : FailsToRun g.S.Store all old end c.fault_of.result =
-    record { mid = mid; error = c.in-Err.error; failure = failed; fault_count = c.drop-tx.ensures.survives.counts; fault_is = c.fault_of.ensures } in
-    subst (λ h. FailsToRun g.S.Store all old h c.fault_of.result) same fault
-
-pub returns-in-Err-commit-clause-fault : goal.returns-in-Err-commit-clause-fault
-returns-in-Err-commit-clause-fault g c clean =
-    let old = c.args.conn.now in
-    let was = c.loop-statement.tx.conn.now in
-    let end = c.commit.new.self.0 in
-    let same : end ≡ c.conn-2-1.given.0 = search rules in
-    let late : HasCleanDisk (state g.S.Store end) = search rules in
-    let earlier : HasCleanDisk (state g.S.Store was) = omega (arith, c.commit.ensures.survives.clean) in
-    let all = map bound_statement c.args.statements.now in
-    let turn : RanInTurn g.S.Store all (transaction_start old) was =
-    turn_all g.S.Store c.args.statements.now c.loop-statement.statement-index (transaction_start old) was (omega arith)
-    (c.loop-statement.invariant.ran earlier) in
-    let failed : FailsInTurn g.S.Store all (transaction_start old) end c.in-Err-commit.error =
-    fails_last g.S.Store all (transaction_start old) was end c.in-Err-commit.error turn (c.in-Err-commit.ensures.err late) in
-    let fault : FailsToRun g.S.Store all old end c.fault_of-in-Err-commit.result =
-    record { mid = end; error = c.in-Err-commit.error; failure = failed; fault_count = omega arith; fault_is = c.fault_of-in-Err-commit.ensures } in
-    subst (λ h. FailsToRun g.S.Store all old h c.fault_of-in-Err-commit.result) same fault
+    let inv = c.loop-statement.invariant in
+    let statements = c.args.statements.now in
+    let all = map bound_statement statements in
+    let error = c.in-Err.error in
+    let quiet : Survives (state g.S.Store old) (state g.S.Store end) (λ _. ⊥) =
+    survives_none (state g.S.Store old) (state g.S.Store was) (state g.S.Store end) (survives_begin g.S.Store old (state g.S.Store was) _ inv.survives)
+    (survives_none (state g.S.Store was) (state g.S.Store mid) (state g.S.Store end) c.execute.ensures.survives c.drop-tx.ensures.survives) in
+    let whole : Commits g.S.Store all old end (Err c.fault_of.result) = record {
+      ran = λ clean. tt;
+      kept = λ clean is_open.
+          let earlier : HasCleanDisk (state g.S.Store mid) = omega (arith, c.drop-tx.ensures.survives.clean) in
+          let first : HasCleanDisk (state g.S.Store was) = omega (arith, c.execute.ensures.survives.clean) in
+          let inside = inv.inside first in
+          let start = state g.S.Store (transaction_start old) in
+          let stays : Keeps start (state g.S.Store mid) = λ opened.
+          let k = execute_keeps _ _ (state g.S.Store was) (state g.S.Store mid) error (c.in-Err.ensures.runs earlier inside.0) opened in
+          (inside.2 k.0, k.1 ∙ inside.1) in
+          then_rolled start (state g.S.Store mid) (state g.S.Store end) stays (c.drop-tx.ensures.undone clean) is_open;
+      survives = survives_as (state g.S.Store old) (state g.S.Store end) (λ _. ⊥) _ quiet (λ _ _ none. absurd none);
+      fault = λ clean.
+          let earlier : HasCleanDisk (state g.S.Store mid) = omega (arith, c.drop-tx.ensures.survives.clean) in
+          let first : HasCleanDisk (state g.S.Store was) = omega (arith, c.execute.ensures.survives.clean) in
+          let failed : FailsInTurn g.S.Store all (transaction_start old) mid error =
+          fails_at g.S.Store statements c.loop-statement.statement-index _ (transaction_start old) was mid error c.loop-statement-test.true
+          (inv.ran first) (c.in-Err.ensures.runs earlier (inv.inside first).0) in
+          record { mid = mid; error = error; failure = failed; fault_count = c.drop-tx.ensures.survives.counts; fault_is = c.fault_of.ensures };
+    } in
+    subst (λ h. Commits g.S.Store all old h (Err c.fault_of.result)) same whole

@@ -1,12 +1,11 @@
 use Rattle.std.proofs.Common.{arith}
 use Rattle.club_core.specs.declared.change.Change.TheVariants.{InsertFacility}
 use Rattle.club_tables.proofs.changes.MadeLemmas.{facility_made}
-use Rattle.club_tables.proofs.changes.WriteLemmas.{commits_of, makes}
+use Rattle.club_tables.proofs.changes.WriteLemmas.{makes}
 use Rattle.club_tables.proofs.writes.insert_facility.Goals as goal
 
 pub returns-clause-commits : goal.returns-clause-commits
-returns-clause-commits g c = rw c.of_facility-values.ensures at (commits_of g.S.Store _ c.args.conn.now c.run.new.conn c.run.result c.run.ensures.ran
-    c.run.ensures.kept c.run.ensures.survives c.run.ensures.fault)
+returns-clause-commits g c = rw c.of_facility-values.ensures at c.run.ensures.commits
 
 pub returns-clause-makes : goal.returns-clause-makes
 returns-clause-makes g c =

@@ -2,7 +2,7 @@ use Rattle.std.proofs.Common.{◌≡◌, Option, Some, None, false, is_some, ref
 use Rattle.club_rows.specs.declared.key.OlderRoot.{OlderRoot}
 use Rattle.club_core.specs.declared.change.Change.TheVariants.{InsertKey}
 use Rattle.club_tables.proofs.changes.MadeLemmas.{key_made}
-use Rattle.club_tables.proofs.changes.WriteLemmas.{commits_of, makes, unmade}
+use Rattle.club_tables.proofs.changes.WriteLemmas.{makes, unmade}
 use Rattle.club_tables.proofs.writes.insert_key.Goals as goal
 
 not_older : (older : Option OlderRoot) → is_some older ≡ false → older ≡ None
@@ -10,8 +10,7 @@ not_older None none = refl
 not_older (Some older) none = absurd (cc)
 
 pub returns-clause-commits : goal.returns-clause-commits
-returns-clause-commits g c none = rw c.of_key-values.ensures at (commits_of g.S.Store _ c.args.conn.now c.run.new.conn c.run.result c.run.ensures.ran
-    c.run.ensures.kept c.run.ensures.survives c.run.ensures.fault)
+returns-clause-commits g c none = rw c.of_key-values.ensures at c.run.ensures.commits
 
 pub returns-clause-makes : goal.returns-clause-makes
 returns-clause-makes g c =

@@ -1,4 +1,4 @@
-use Rattle.std.proofs.Common.{◌≡◌, Bool, true, false, not, [], ◌∷◌, IsTrue, inl, inr, refl, sym, ap, ◌∙◌}
+use Rattle.std.proofs.Common.{◌≡◌, Bool, true, false, not, [], ◌∷◌, IsTrue, inl, inr, refl, sym, ap, ◌∙◌, arith}
 use Rattle.sqlite.specs.Effect.{Database}
 use Rattle.sqlite.specs.Held.{state}
 use Rattle.club_core.specs.Club.{empty_club}
@@ -7,11 +7,14 @@ use Rattle.club_store.proofs.CrashLemmas.{one_found, represents_one, the_one}
 use Rattle.club_store.proofs.ReadingLemmas.{opens_nothing}
 use Rattle.club_store.proofs.store.Store.adopt.Goals as goal
 
+pub returns-in-Ok-clause-was_clean : goal.returns-in-Ok-clause-was_clean
+returns-in-Ok-clause-was_clean g c clean = omega (arith, c.in-Ok.ensures.opens.survives.clean)
+
 pub returns-in-Ok-clause-again : goal.returns-in-Ok-clause-again
 returns-in-Ok-clause-again g c clean clubs on =
     let was = c.args.connection in
     represents_one (state g.S.Store was) on.opening on.live (λ is_open trees may.
-    g.met.S.Store.settled was.store trees is_open may) _ (c.in-Ok.ensures.opened clean) clubs on.left
+    g.met.S.Store.settled was.store trees is_open may) _ (c.in-Ok.ensures.opens.opened clean) clubs on.left
 
 pub returns-in-Ok-clause-empty : goal.returns-in-Ok-clause-empty
 returns-in-Ok-clause-empty g c clean empty =
@@ -22,11 +25,11 @@ returns-in-Ok-clause-empty g c clean empty =
       (empty.1 empty.0.is_open).1,
     )) in
     the_one _ empty_club (represents_one (state g.S.Store was) empty.0 empty.1 (λ is_open trees may.
-    g.met.S.Store.settled was.store trees is_open may) _ (c.in-Ok.ensures.opened clean)
+    g.met.S.Store.settled was.store trees is_open may) _ (c.in-Ok.ensures.opens.opened clean)
     (empty_club ∷ []) (inl ((state g.S.Store was).committed, refl, blank)))
 
 pub returns-in-Ok-clause-accepted : goal.returns-in-Ok-clause-accepted
-returns-in-Ok-clause-accepted g c clean is_open = c.in-Ok.ensures.accepted clean is_open (c.is_autocommit.ensures.settled c.if-not-is_autocommit.false)
+returns-in-Ok-clause-accepted g c clean is_open = c.in-Ok.ensures.opens.done clean is_open (c.is_autocommit.ensures.settled c.if-not-is_autocommit.false)
 
 pub returns-then-not-is_autocommit-clause-refused : goal.returns-then-not-is_autocommit-clause-refused
 returns-then-not-is_autocommit-clause-refused g c =
@@ -51,11 +54,11 @@ returns-in-Err-clause-refused g c =
     let was = c.args.connection in
     let left = c.in-Err.ensures in
     record {
-      clean = left.was_clean;
-      kept = left.refused;
+      clean = λ clean. omega (arith, left.opens.survives.clean);
+      kept = left.opens.refused;
       mode = still_idle _ _ _ c.is_autocommit.ensures.value c.if-not-is_autocommit.false left.idle;
       same_database = λ idle. left.untouched;
-      survives = left.survives;
+      survives = left.opens.survives;
       again = λ clean clubs on. one_found (state g.S.Store was) on.opening on.live (λ is_open trees may.
-          g.met.S.Store.settled was.store trees is_open may) _ (left.refused clean) clubs on.left;
+          g.met.S.Store.settled was.store trees is_open may) _ (left.opens.refused clean) clubs on.left;
     }

@@ -1,0 +1,61 @@
+-- Steps of an opening that follow a read.
+use Rattle.std.proofs.Common.{List, Result, Err, inl, inr}
+use Rattle.sqlite.specs.Store.{Ghosts}
+use Rattle.sqlite.specs.Effect.{Database}
+use Rattle.sqlite.specs.State.{HasCleanDisk, Survives}
+use Rattle.sqlite.specs.Held.{Held, state}
+use Rattle.club_core.specs.Club.{Club}
+use Rattle.club_core.specs.declared.store.StoreFault.{StoreFault}
+use Rattle.club_tables.specs.Answers.{IsAfterReadings}
+use Rattle.club_tables.specs.Fault.{FailsToRun}
+use Rattle.club_tables.specs.Opening.{IsOpeningBatch, IsOpeningFault, Opens}
+use Rattle.club_tables.specs.Tables.{RepresentsBy}
+use Rattle.club_tables.specs.Transaction.{BoundStatement, IsUntouched}
+use Rattle.club_tables.proofs.crashes.RepresentsLemmas.{on_ok, on_err, represents_on}
+use Rattle.club_tables.proofs.crashes.SurviveLemmas.{after_one, commits_after, commits_nothing, was_clean}
+use Rattle.club_tables.proofs.queries.ReadLemmas.{fault_if}
+
+-- a batch that is refused after a read
+pub batch_failed : {S : Type 0} (g : Ghosts S) (statements : List BoundStatement) → IsOpeningBatch statements → (old mid new : Held S) (fault : StoreFault)
+    → IsAfterReadings g old mid → FailsToRun g statements mid new fault → IsOpeningFault g old new fault
+batch_failed g statements are old mid new fault first failed = record { from = mid; after = first; failure = inr (inl (statements, are, failed)) }
+
+module _ {S : Type 0} (g : Ghosts S) (old mid : Held S) (untouched : IsUntouched (state g old) (state g mid))
+    (quiet : Survives (state g old) (state g mid) (λ _. ⊥)) where
+  -- the read leaves the club that was there
+  pub keeps_after : (IsHeld : Database → Club → Type 0) → HasCleanDisk (state g mid) → (club : Club) (others : List Club)
+      → RepresentsBy IsHeld (state g old) club others → RepresentsBy IsHeld (state g mid) club others
+  keeps_after IsHeld clean club others before =
+      represents_on IsHeld (state g old) (state g mid) (untouched (before.idle (was_clean (state g old) (state g mid) _ quiet clean))) quiet club others before
+
+  -- the read fails
+  pub opens_not : (IsHeld : Database → Club → Type 0) (Done : Held S → Held S → Type 0) (Fails : Held S → Held S → StoreFault → Type 0) (fault : StoreFault)
+      → (HasCleanDisk (state g mid) → Fails old mid fault)
+      → Opens g (λ held. RepresentsBy IsHeld (state g held)) Done Fails old mid (Err fault)
+  opens_not IsHeld Done Fails fault failed = record {
+    opened = λ clean. tt;
+    done = λ clean. tt;
+    refused = λ clean club others before. keeps_after IsHeld clean club others before;
+    fault = failed;
+    survives = commits_nothing g IsOpeningBatch old mid quiet;
+  }
+
+  -- a step follows the read
+  pub opens_after : (Before Between : Held S → Club → List Club → Type 0) (Done Next : Held S → Held S → Type 0)
+      (Fails : Held S → Held S → StoreFault → Type 0) (new : Held S) (result : Result (Unit {0}) StoreFault) → Opens g Between Next Fails mid new result
+      → (HasCleanDisk (state g mid) → (club : Club) (others : List Club) → Before old club others → Between mid club others)
+      → ((club : Club) (others : List Club) → Between new club others → Before new club others)
+      → (HasCleanDisk (state g mid) → HasCleanDisk (state g new) → Next mid new → Done old new)
+      → ((fault : StoreFault) → IsAfterReadings g old mid → Fails mid new fault → IsOpeningFault g old new fault)
+      → Opens g Before Done (IsOpeningFault g) old new result
+  opens_after Before Between Done Next Fails new result step into back done fails =
+      let earlier = was_clean (state g mid) (state g new) _ step.survives in
+      record {
+        opened = λ clean. on_ok result (step.opened clean) (λ opened club others before. opened club others (into (earlier clean) club others before));
+        done = λ clean. on_ok result (step.done clean) (done (earlier clean) clean);
+        refused = λ clean. on_err result (step.refused clean) (λ keeps club others before.
+            back club others (keeps club others (into (earlier clean) club others before)));
+        fault = λ clean. fault_if (Fails mid new) (IsOpeningFault g old new) result (step.fault clean) (λ fault failed.
+            fails fault (after_one g old mid (earlier clean) untouched quiet) failed);
+        survives = commits_after g IsOpeningBatch old mid new untouched quiet step.survives;
+      }
