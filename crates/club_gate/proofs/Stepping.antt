@@ -11,7 +11,6 @@ use Rattle.club_core.specs.declared.refusal.Refusal.TheVariants.{Unavailable}
 use Rattle.club_core.specs.declared.reply.Reply.{Reply}
 use Rattle.club_core.specs.declared.reply.Reply.TheVariants.{Refused}
 use Rattle.club_core.specs.declared.store.StoreFault.{StoreFault}
-use Rattle.club_core.specs.declared.store.StoreFault.TheVariants as store
 use Rattle.club_core.specs.declared.verdict.Verdict.{Verdict}
 use Rattle.club_core.specs.After.{after}
 use Rattle.club_core.specs.Answer.{verdict_in}
@@ -24,7 +23,7 @@ use Rattle.club_laws.specs.Failed.{ToMember, ToOffice, present_reply, is_unavail
 use Rattle.club_laws.specs.SoundRuns.{ChangesFit}
 use Rattle.club_gate.specs.declared.event.OfficeReply.TheVariants as replies
 use Rattle.club_gate.specs.Desk.{FitsIfAny, IsAnsweredBy, IsRefusedBy, change_by, others_after}
-use Rattle.club_gate.specs.Response.{answer_or_fault, fault_of_store, is_failure, reply_or_unavailable, office_reply_of, desk_presentation, unavailable}
+use Rattle.club_gate.specs.Response.{answer_or_fault, is_failure, reply_or_unavailable, office_reply_of, desk_presentation, unavailable}
 
 -- a command that is done is no failure
 done_is_no_failure : (command : Command) → is_failure (office_reply_of (done_answer command)) ≡ false
@@ -36,13 +35,9 @@ done_is_no_failure (RevokeKey name) = refl
 done_is_no_failure (RotateKey name root until) = refl
 done_is_no_failure (CloseSlot slot) = refl
 
-store_fails : (fault : StoreFault) → is_failure (replies.Refused (fault_of_store fault)) ≡ true
-store_fails store.Memory = refl
-store_fails store.Storage = refl
-
 answer_fails : (result : Result OfficeAnswer StoreFault) → IsErr result → is_failure (answer_or_fault result) ≡ true
 answer_fails (Ok answer) h = absurd (cc)
-answer_fails (Err fault) h = store_fails fault
+answer_fails (Err fault) h = refl
 
 reply_fails : (result : Result Reply StoreFault) → IsErr result → reply_or_unavailable result ≡ unavailable
 reply_fails (Ok reply) h = absurd (cc)

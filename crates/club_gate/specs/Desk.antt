@@ -3,6 +3,7 @@ use Rattle.std.specs.Prelude.{◌≡◌, ◌⊎◌, IsTrue, IsFalse, List, [], �
 use Rattle.club_core.specs.declared.change.Change.{Change}
 use Rattle.club_core.specs.declared.command.OfficeFault.{OfficeFault}
 use Rattle.club_core.specs.declared.store.StoreFault.{StoreFault}
+use Rattle.club_core.specs.declared.store.StoreFault.TheVariants.{Memory}
 use Rattle.club_core.specs.Answer.{verdict_in}
 use Rattle.club_core.specs.Club.{Club}
 use Rattle.club_core.specs.Office.{office_verdict}
@@ -12,8 +13,8 @@ use Rattle.club_laws.specs.Failed.{Response, present_reply, has_failed}
 use Rattle.club_gate.specs.declared.event.OfficeReply.{OfficeReply}
 use Rattle.club_gate.specs.declared.event.OfficeReply.TheVariants.{Refused}
 use Rattle.club_gate.specs.declared.fault.Fault.{Fault}
-use Rattle.club_gate.specs.declared.fault.Fault.TheVariants.{Memory}
-use Rattle.club_gate.specs.Response.{fault_of_store, desk_presentation}
+use Rattle.club_gate.specs.declared.fault.Fault.TheVariants as faults
+use Rattle.club_gate.specs.Response.{desk_presentation}
 
 -- true of whichever club the store represented before a call, if its disk is clean after the call
 abbrev pub OfItsClub : {S : Type 0} → (S → Type 0) → (S → Club → List Club → Type 0) → S → S → (Club → Type 0) → Type 0
@@ -65,9 +66,14 @@ FailsAt Fails old new club event fault = Fails None old fault new ⊎ Fails (cha
 -- If the office's reply is a fault of the store, the store failed with this very fault.
 abbrev pub NamesItsFault : {S : Type 0} → (Option Change → S → StoreFault → S → Type 0) → S → S → Club → Event → OfficeReply → Type 0
 NamesItsFault Fails old new club event reply =
-    (fault : StoreFault) → reply ≡ Refused (fault_of_store fault) → FailsAt Fails old new club event fault
+    (fault : StoreFault) → reply ≡ Refused (faults.Store fault) → FailsAt Fails old new club event fault
+
+-- memory or storage was refused
+abbrev pub IsStoreFault : Fault → Type 0
+IsStoreFault (faults.Store failure) = Unit {0}
+IsStoreFault (faults.Refused refusal) = ⊥
 
 -- Why there is no sheet: the store failed with this fault when it read the rows; or it read them, and there was no memory for the text.
 abbrev pub IsSheetFault : {S : Type 0} → (Option Change → S → StoreFault → S → Type 0) → S → S → Fault → Type 0
 IsSheetFault Fails old new fault =
-    ((refusal : StoreFault) × Fails None old refusal new × (fault ≡ fault_of_store refusal)) ⊎ ((fault ≡ Memory) × IsRead Fails old new)
+    ((failure : StoreFault) × Fails None old failure new × (fault ≡ faults.Store failure)) ⊎ ((fault ≡ faults.Store Memory) × IsRead Fails old new)

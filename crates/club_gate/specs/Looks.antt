@@ -10,19 +10,21 @@ use Rattle.club_values.specs.declared.slot.Slot.{Slot}
 use Rattle.club_rows.specs.declared.key.Key.{Key}
 use Rattle.club_rows.specs.declared.key.OlderRoot.{OlderRoot}
 use Rattle.club_core.specs.declared.change.Change.{Change}
+use Rattle.club_core.specs.declared.command.OfficeFault.TheVariants.{Unknown}
 use Rattle.club_core.specs.declared.reply.Reply.{Reply}
-use Rattle.club_core.specs.declared.reply.Reply.TheVariants.{AccountShown, Refused, SlotShown}
+use Rattle.club_core.specs.declared.reply.Reply.TheVariants.{AccountShown, SlotShown}
+use Rattle.club_core.specs.declared.reply.Reply.TheVariants as replies
 use Rattle.club_core.specs.declared.request.Request.TheVariants as asked
 use Rattle.club_core.specs.declared.store.StoreFault.{StoreFault}
+use Rattle.club_core.specs.declared.store.StoreFault.TheVariants.{Memory}
 use Rattle.club_core.specs.declared.view.View.{View}
 use Rattle.club_core.specs.Basis.{view_in}
 use Rattle.club_core.specs.Club.{Club}
 use Rattle.club_core.specs.Store.{IsRead}
 use Rattle.club_core.specs.Verdict.{account_verdict, view_verdict}
 use Rattle.club_gate.specs.Reading.{first_view, with_slot}
-use Rattle.club_gate.specs.Response.{fault_of_store}
 use Rattle.club_gate.specs.declared.fault.Fault.{Fault}
-use Rattle.club_gate.specs.declared.fault.Fault.TheVariants.{Unknown, Memory, Storage}
+use Rattle.club_gate.specs.declared.fault.Fault.TheVariants.{Refused, Store}
 
 -- each name with its value, in a line
 abbrev pub lines : List (List ℕ × List ℕ) → List ℕ
@@ -82,7 +84,7 @@ abbrev pub slot_view : Club → Slot → Key → View
 slot_view club slot key = with_slot club slot (first_view club key (asked.View slot))
 
 abbrev pub unless_refused : Reply → Option Reply
-unless_refused (Refused refusal) = None
+unless_refused (replies.Refused refusal) = None
 unless_refused reply = Some reply
 
 -- the reply to a view of a slot by a key; none where the facility is unknown
@@ -95,21 +97,19 @@ slot_look club slot key = option_map (λ reply. lines (named_values reply)) (slo
 
 -- why a look gives no text: there is nothing of the name; or memory or storage was refused
 abbrev pub IsUnshown : Option (List ℕ) → Fault → Type 0
-IsUnshown look Unknown = look ≡ None
-IsUnshown look Memory = Unit {0}
-IsUnshown look Storage = Unit {0}
+IsUnshown look (Refused Unknown) = look ≡ None
+IsUnshown look (Store failure) = Unit {0}
 IsUnshown look fault = ⊥
 
 -- the faults of a look
 abbrev pub IsLookFault : Fault → Type 0
-IsLookFault Unknown = Unit {0}
-IsLookFault Memory = Unit {0}
-IsLookFault Storage = Unit {0}
+IsLookFault (Refused Unknown) = Unit {0}
+IsLookFault (Store failure) = Unit {0}
 IsLookFault fault = ⊥
 
 -- A look's fault is that with which the store failed at a reading; or all was read, and there is nothing of the name, or there was no
 -- memory for the text.
 abbrev pub FailsLook : {S : Type 0} → (Option Change → S → StoreFault → S → Type 0) → S → S → Fault → Type 0
 FailsLook Fails old new fault =
-    ((refusal : StoreFault) × Fails None old refusal new × (fault ≡ fault_of_store refusal))
-    ⊎ (((fault ≡ Unknown) ⊎ (fault ≡ Memory)) × IsRead Fails old new)
+    ((failure : StoreFault) × Fails None old failure new × (fault ≡ Store failure))
+    ⊎ (((fault ≡ Refused Unknown) ⊎ (fault ≡ Store Memory)) × IsRead Fails old new)

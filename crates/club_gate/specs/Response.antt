@@ -1,11 +1,8 @@
 -- The desk's responses, and how the machine's replies become responses (ours).
 use Rattle.std.specs.Prelude.{ℕ, Bool, true, false, List, ◌++◌, codes, Result, Ok, Err}
-use Rattle.club_core.specs.declared.command.OfficeFault.{OfficeFault}
-use Rattle.club_core.specs.declared.command.OfficeFault.TheVariants as refusals
 use Rattle.club_core.specs.declared.event.OfficeAnswer.{OfficeAnswer}
 use Rattle.club_core.specs.declared.event.OfficeAnswer.TheVariants as answers
 use Rattle.club_core.specs.declared.store.StoreFault.{StoreFault}
-use Rattle.club_core.specs.declared.store.StoreFault.TheVariants as store
 use Rattle.club_core.specs.declared.refusal.Refusal.TheVariants.{Unavailable}
 use Rattle.club_core.specs.declared.reply.Reply.{Reply}
 use Rattle.club_core.specs.declared.reply.Reply.TheVariants as member_replies
@@ -21,27 +18,13 @@ use Rattle.club_gate.specs.declared.event.EventReply.TheVariants.{Replied, Answe
 use Rattle.club_gate.specs.declared.event.OfficeReply.{OfficeReply}
 use Rattle.club_gate.specs.declared.event.OfficeReply.TheVariants as replies
 use Rattle.club_gate.specs.declared.fault.Fault.{Fault}
-use Rattle.club_gate.specs.declared.fault.Fault.TheVariants.{Exists, Unknown, OutOfRange, SlotInUse, Memory, Storage}
+use Rattle.club_gate.specs.declared.fault.Fault.TheVariants as faults
 use Rattle.club_gate.specs.Minted.{minted_signature}
 use Rattle.club_gate.specs.DecodedPass.{decoded_words}
 
-abbrev pub fault_of_office : OfficeFault → Fault
-fault_of_office refusals.Exists = Exists
-fault_of_office refusals.Unknown = Unknown
-fault_of_office refusals.OutOfRange = OutOfRange
-fault_of_office refusals.SlotInUse = SlotInUse
-
-abbrev pub fault_of_store : StoreFault → Fault
-fault_of_store store.Memory = Memory
-fault_of_store store.Storage = Storage
-
 abbrev pub desk_fault_text : Fault → List ℕ
-desk_fault_text Exists = office_fault_text refusals.Exists
-desk_fault_text Unknown = office_fault_text refusals.Unknown
-desk_fault_text OutOfRange = office_fault_text refusals.OutOfRange
-desk_fault_text SlotInUse = office_fault_text refusals.SlotInUse
-desk_fault_text Memory = store_fault_text store.Memory
-desk_fault_text Storage = store_fault_text store.Storage
+desk_fault_text (faults.Refused fault) = office_fault_text fault
+desk_fault_text (faults.Store fault) = store_fault_text fault
 
 -- the text for debugging; it has no byte of a signature
 abbrev pub debug_text : OfficeReply → List ℕ
@@ -57,12 +40,11 @@ unavailable = member_replies.Refused Unavailable
 abbrev pub office_reply_of : OfficeAnswer → OfficeReply
 office_reply_of answers.Done = replies.Done
 office_reply_of (answers.NewKey name root) = replies.Key (minted_signature name root)
-office_reply_of (answers.NotDone fault) = replies.Refused (fault_of_office fault)
+office_reply_of (answers.NotDone fault) = replies.Refused (faults.Refused fault)
 
 -- whether the reply says that memory or storage was refused
 abbrev pub is_failure : OfficeReply → Bool
-is_failure (replies.Refused Memory) = true
-is_failure (replies.Refused Storage) = true
+is_failure (replies.Refused (faults.Store fault)) = true
 is_failure reply = false
 
 abbrev pub desk_presentation : Presentation OfficeReply
@@ -86,4 +68,4 @@ reply_or_unavailable (Err fault) = unavailable
 -- the reply to the office, if the store may have failed
 abbrev pub answer_or_fault : Result OfficeAnswer StoreFault → OfficeReply
 answer_or_fault (Ok answer) = office_reply_of answer
-answer_or_fault (Err fault) = replies.Refused (fault_of_store fault)
+answer_or_fault (Err fault) = replies.Refused (faults.Store fault)

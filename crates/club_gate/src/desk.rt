@@ -2,7 +2,6 @@
 
 ghost use Rattle.std.specs.Prelude.{
   ◌≡◌,
-  ◌⊎◌,
   ◌∷◌,
   List,
   Err,
@@ -25,11 +24,11 @@ ghost use Rattle.club_core.specs.Run.{after_change};
 ghost use Rattle.club_core.specs.Sheet.{IsSheet};
 ghost use Rattle.club_core.specs.Store.{KeepsClub, ReadsOrFails, Returns};
 ghost use Rattle.club_laws.specs.Failed.{ToMember, ToOffice};
-ghost use Rattle.club_gate.specs.declared.fault.Fault.TheVariants as faults;
 ghost use Rattle.club_gate.specs.Desk.{
   FailsAt,
   FitsIfAny,
   IsSheetFault,
+  IsStoreFault,
   NamesItsFault,
   OfItsClub,
   Steps,
@@ -251,9 +250,9 @@ impl<S: ClubStore> Desk<S> {
     /// Carries out a command of the office. When `office` returns, the change of a command that is
     /// done is stored. A refusal changes nothing.
     ///
-    /// `Refused` names the fault. `Memory` and `Storage` mean that these were refused, and never
-    /// anything else; if the store failed to write, it may recover to the changed club after a
-    /// crash. Any other fault names the rule that forbids the command.
+    /// `Refused` names the fault. `Fault::Store` means that memory or storage was refused, and
+    /// never anything else; if the store failed to write, it may recover to the changed club after
+    /// a crash. `Fault::Refused` names the rule that forbids the command.
     pub fn office(&mut self, command: &Command) -> OfficeReply
         ensures was_clean { S.disk_is_clean self.new → S.disk_is_clean self.old }
         ensures steps { S.disk_is_clean self.new → Steps S.represents self.old self.new
@@ -285,14 +284,13 @@ impl<S: ClubStore> Desk<S> {
     ///
     /// # Errors
     ///
-    /// `Memory` or `Storage`, if one of these was refused.
+    /// `Store`, if memory or storage was refused.
     pub fn sheet(&mut self, day: Day) -> Result<String, Fault>
         ensures was_clean { S.disk_is_clean self.new → S.disk_is_clean self.old }
         ensures kept { S.disk_is_clean self.new → KeepsClub S.represents self.old self.new }
         ensures returned { S.disk_is_clean self.new → Returns S.represents self.old result
             (λ club text. IsSheet club day (string_bytes text)) }
-        ensures faults { IfErr result
-            (λ fault. (fault ≡ faults.Memory) ⊎ (fault ≡ faults.Storage)) }
+        ensures faults { IfErr result IsStoreFault }
         ensures failed { S.disk_is_clean self.new → IfErr result
             (IsSheetFault S.fails self.old self.new) }
     {
@@ -302,7 +300,7 @@ impl<S: ClubStore> Desk<S> {
         };
         match sheet_text(self.alloc, day, &rows) {
             Ok(text) => Ok(text),
-            Err(_) => Err(Fault::Memory),
+            Err(_) => Err(Fault::Store(StoreFault::Memory)),
         }
     }
 }

@@ -52,7 +52,8 @@ pub enum EventReply {
 impl OfficeReply {
     ghost use Rattle.std.specs.Prelude.{◌≡◌};
     ghost use Rattle.club_gate.specs.declared.event.OfficeReply.TheVariants.{Refused};
-    ghost use Rattle.club_gate.specs.Response.{office_reply_of, fault_of_store};
+    ghost use Rattle.club_gate.specs.declared.fault.Fault.TheVariants.{Store};
+    ghost use Rattle.club_gate.specs.Response.{office_reply_of};
 
     /// Converts an answer of the rules.
     pub(crate) fn from_answer(answer: OfficeAnswer) -> OfficeReply
@@ -69,7 +70,7 @@ impl OfficeReply {
 
     /// Converts a fault of the store.
     pub(crate) fn from_store_fault(fault: StoreFault) -> OfficeReply
-        ensures { result ≡ Refused (fault_of_store fault) }
+        ensures { result ≡ Refused (Store fault) }
     {
         OfficeReply::Refused(Fault::from(fault))
     }

@@ -12,7 +12,7 @@ ghost use Rattle.club_gate.specs.Looks as spec;
 use crate::desk::Desk;
 use crate::fault::Fault;
 use club_core::laws::own_bookings_suffice;
-use club_core::{ClubStore, Reply, SlotUse, StoreFault, View, decide_account};
+use club_core::{ClubStore, OfficeFault, Reply, SlotUse, StoreFault, View, decide_account};
 use club_rows::Key;
 use club_values::{Kind, Moment, Name, Slot};
 use std::alloc::{AllocError, Global};
@@ -23,7 +23,7 @@ impl<S: ClubStore> Desk<S> {
     ///
     /// # Errors
     ///
-    /// `Unknown` where no key has the name; `Memory` or `Storage`, where these were refused.
+    /// `Refused(Unknown)` where no key has the name; `Store`, where memory or storage was refused.
     pub fn show_account(&mut self, key: &Name, moment: Moment) -> Result<String, Fault>
         ensures was_clean { S.disk_is_clean self.new → S.disk_is_clean self.old }
         ensures kept { S.disk_is_clean self.new → KeepsClub S.represents self.old self.new }
@@ -38,12 +38,12 @@ impl<S: ClubStore> Desk<S> {
     {
         let view = match self.account_view(key, moment) {
             Ok(Some(view)) => view,
-            Ok(None) => return Err(Fault::Unknown),
+            Ok(None) => return Err(Fault::Refused(OfficeFault::Unknown)),
             Err(fault) => return Err(Fault::from(fault)),
         };
         match account_text(self.alloc, &view) {
             Ok(text) => Ok(text),
-            Err(_) => Err(Fault::Memory),
+            Err(_) => Err(Fault::Store(StoreFault::Memory)),
         }
     }
 
@@ -51,7 +51,8 @@ impl<S: ClubStore> Desk<S> {
     ///
     /// # Errors
     ///
-    /// `Unknown` where there is no such facility; `Memory` or `Storage`, where these were refused.
+    /// `Refused(Unknown)` where there is no such facility; `Store`, where memory or storage was
+    /// refused.
     pub fn show_slot(&mut self, slot: &Slot) -> Result<String, Fault>
         ensures was_clean { S.disk_is_clean self.new → S.disk_is_clean self.old }
         ensures kept { S.disk_is_clean self.new → KeepsClub S.represents self.old self.new }
@@ -66,12 +67,12 @@ impl<S: ClubStore> Desk<S> {
     {
         let reply = match self.slot_reply(slot) {
             Ok(Some(reply)) => reply,
-            Ok(None) => return Err(Fault::Unknown),
+            Ok(None) => return Err(Fault::Refused(OfficeFault::Unknown)),
             Err(fault) => return Err(Fault::from(fault)),
         };
         match reply_text(self.alloc, &reply) {
             Ok(text) => Ok(text),
-            Err(_) => Err(Fault::Memory),
+            Err(_) => Err(Fault::Store(StoreFault::Memory)),
         }
     }
 

@@ -4,7 +4,7 @@ use crate::counter::{Counter, Step, opened, plays_in_all_forms, reply};
 use crate::expect::{expect_eq, expect_row};
 use crate::passes::{AMY, pass_of, text_of};
 use crate::values::{name, root};
-use club_core::Command;
+use club_core::{Command, OfficeFault};
 use club_gate::{Desk, Fault, OfficeReply};
 use club_values::Kind;
 use pass_forms::Form;
@@ -91,11 +91,11 @@ fn answers_more_keys_than_it_keeps(rt: HostRuntime) {
     expect_accounts(&rt, &mut counter);
 }
 
-const EXISTS: OfficeReply = OfficeReply::Refused(Fault::Exists);
+const EXISTS: OfficeReply = OfficeReply::Refused(Fault::Refused(OfficeFault::Exists));
 
-const UNKNOWN: OfficeReply = OfficeReply::Refused(Fault::Unknown);
+const UNKNOWN: OfficeReply = OfficeReply::Refused(Fault::Refused(OfficeFault::Unknown));
 
-const OUT_OF_RANGE: OfficeReply = OfficeReply::Refused(Fault::OutOfRange);
+const OUT_OF_RANGE: OfficeReply = OfficeReply::Refused(Fault::Refused(OfficeFault::OutOfRange));
 
 const TOO_MANY_PLACES: Order = Order::AddFacility("court-2", Kind::Court, 51, 200, 8, 22);
 

@@ -4,6 +4,7 @@ use crate::counter::{Counter, Step, opened};
 use crate::expect::expect_eq;
 use crate::passes::AMY;
 use crate::values::{at, name};
+use club_core::OfficeFault;
 use club_gate::Fault;
 use pass_forms::Form;
 use std::alloc::Global;
@@ -198,6 +199,6 @@ fn shows_nothing_unknown(rt: HostRuntime) {
     let mut counter = opened(&rt, Form::V2);
     for look in &UNKNOWN {
         let refused = look.shown(&rt, &mut counter).err();
-        expect_eq(&rt, &refused, &Some(Fault::Unknown));
+        expect_eq(&rt, &refused, &Some(Fault::Refused(OfficeFault::Unknown)));
     }
 }

@@ -5,7 +5,7 @@ use crate::expect::{expect_eq, expect_row};
 use crate::passes::AMY;
 use crate::refusing::Refusing;
 use crate::values::{name, root};
-use club_core::{ClubStore, Refusal, Reply, StoreFault};
+use club_core::{ClubStore, OfficeFault, Refusal, Reply, StoreFault};
 use club_gate::{Desk, Fault, OfficeReply, key_signature};
 use club_values::Day;
 use pass_forms::{Form, MAX_TEXT};
@@ -47,9 +47,9 @@ fn expect_unavailable(rt: &(impl Abort + Alloc<A = Global>), desk: &mut Desk<Ref
 const ADD_KEY: Order = Order::AddKey("amy-2", "amy", ROOT);
 
 /// A new key and the day sheet fail.
-fn expect_failures(rt: &impl Abort, desk: &mut Desk<Refusing>, expected: Fault) {
+fn expect_failures(rt: &impl Abort, desk: &mut Desk<Refusing>, fault: StoreFault) {
     let answer = desk.office(&ADD_KEY.command().expect(rt, "an order"));
-    expect_eq(rt, &answer, &OfficeReply::Refused(expected));
+    expect_eq(rt, &answer, &OfficeReply::Refused(Fault::Store(fault)));
     let day = Day::read(b"2026-05-01").expect(rt, "a day");
     expect_eq(rt, &desk.sheet(day).is_err(), &true);
 }
@@ -65,22 +65,17 @@ fn expect_untouched<S: ClubStore>(rt: &impl Abort, store: &mut S) {
 }
 
 /// If the store fails from this call on, every request and order fails and nothing is changed.
-fn expect_refusals(
-    rt: &(impl Abort + Alloc<A = Global>),
-    first: u32,
-    fault: StoreFault,
-    expected: Fault,
-) {
+fn expect_refusals(rt: &(impl Abort + Alloc<A = Global>), first: u32, fault: StoreFault) {
     let mut desk = refusing(rt, first, fault);
     expect_unavailable(rt, &mut desk);
-    expect_failures(rt, &mut desk, expected);
+    expect_failures(rt, &mut desk, fault);
     let mut store = desk.into_store().into_inner();
     expect_untouched(rt, &mut store);
 }
 
 #[test]
 fn reports_refused_memory(rt: HostRuntime) {
-    expect_refusals(&rt, 1, StoreFault::Memory, Fault::Memory);
+    expect_refusals(&rt, 1, StoreFault::Memory);
 }
 
 // A booking's first six calls read: the key, the record, the facility, the slot, the account, the
@@ -88,7 +83,7 @@ fn reports_refused_memory(rt: HostRuntime) {
 #[test]
 fn reports_refused_storage(rt: HostRuntime) {
     for first in 2..=7 {
-        expect_refusals(&rt, first, StoreFault::Storage, Fault::Storage);
+        expect_refusals(&rt, first, StoreFault::Storage);
     }
 }
 
@@ -117,12 +112,12 @@ fn signs_for_the_longest_name(rt: HostRuntime) {
 }
 
 static FAULTS: [(Fault, &str); 6] = [
-    (Fault::Exists, "exists"),
-    (Fault::Unknown, "unknown"),
-    (Fault::OutOfRange, "out of range"),
-    (Fault::SlotInUse, "slot in use"),
-    (Fault::Memory, "out of memory"),
-    (Fault::Storage, "storage failed"),
+    (Fault::Refused(OfficeFault::Exists), "exists"),
+    (Fault::Refused(OfficeFault::Unknown), "unknown"),
+    (Fault::Refused(OfficeFault::OutOfRange), "out of range"),
+    (Fault::Refused(OfficeFault::SlotInUse), "slot in use"),
+    (Fault::Store(StoreFault::Memory), "out of memory"),
+    (Fault::Store(StoreFault::Storage), "storage failed"),
 ];
 
 fn prints(rt: &(impl Abort + Alloc<A = Global>), row: usize, fault: Fault, want: &str) {

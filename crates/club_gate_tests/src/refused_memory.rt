@@ -7,7 +7,7 @@ use crate::expect::expect_eq;
 use crate::known;
 use crate::known::{SIGNED, SIGNED_ANEW};
 use crate::values::at;
-use club_core::{Refusal, Reply, StoreFault};
+use club_core::{OfficeFault, Refusal, Reply, StoreFault};
 use club_gate::{Desk, Event, EventReply, Fault, OfficeReply, Words};
 use club_store::Store;
 use club_values::Kind;
@@ -59,7 +59,7 @@ fn seen(rt: &impl Abort, desk: &mut MemoryDesk) -> [Reply; 3] {
 fn is_answered(rt: &impl Abort, desk: &mut MemoryDesk, order: &Order, answer: &OfficeReply) {
     let before = seen(rt, desk);
     let first = desk.office(&order.command().expect(rt, "an order"));
-    if first != OfficeReply::Refused(Fault::Memory) {
+    if first != OfficeReply::Refused(Fault::Store(StoreFault::Memory)) {
         expect_eq(rt, &first, answer);
         return;
     }
@@ -108,9 +108,12 @@ static ORDERS: [(Order, OfficeReply); 3] = [
 static REVOKED: [(Order, OfficeReply); 2] = [
     (
         Order::AddMember("amy", 5),
-        OfficeReply::Refused(Fault::Exists),
+        OfficeReply::Refused(Fault::Refused(OfficeFault::Exists)),
     ),
-    (Order::CloseSlot(AT_19), OfficeReply::Refused(Fault::Exists)),
+    (
+        Order::CloseSlot(AT_19),
+        OfficeReply::Refused(Fault::Refused(OfficeFault::Exists)),
+    ),
 ];
 
 #[test]

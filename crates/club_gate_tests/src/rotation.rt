@@ -5,6 +5,7 @@ use crate::expect::expect_eq;
 use crate::known::SIGNED_ANEW;
 use crate::passes::{AMY, Shown};
 use crate::values::at;
+use club_core::OfficeFault;
 use club_gate::{Fault, OfficeReply};
 use club_values::Moment;
 use std::process::Abort;
@@ -70,7 +71,7 @@ fn forgets_a_root_that_is_past(rt: HostRuntime) {
 pub(crate) static TWICE: [Step; 6] = [
     Step::IsAnswered(
         Order::RotateKey("amy-1", ROOT, LAST),
-        OfficeReply::Refused(Fault::Exists),
+        OfficeReply::Refused(Fault::Refused(OfficeFault::Exists)),
     ),
     Step::Orders(Order::RotateKey("amy-1", SECOND_ROOT, LAST)),
     Step::Orders(Order::RotateKey("amy-1", THIRD_ROOT, LAST)),

@@ -3,7 +3,7 @@
 use crate::counter::{Counter, Step, opened, plays_in_all_forms};
 use crate::expect::expect_eq;
 use crate::passes::{AMY, BOB, CY, FORMS, Shown};
-use club_core::Refusal;
+use club_core::{OfficeFault, Refusal};
 use club_gate::{Fault, OfficeReply};
 use club_values::Day;
 use pass_forms::Form;
@@ -242,11 +242,17 @@ const SLOT_CLOSED: PlainReply = PlainReply::Refused(Refusal::SlotClosed);
 
 pub(crate) static CLOSES: [Step; 7] = [
     Step::Asks(NOON, AMY, BOOK_7, BOOKED_7),
-    Step::IsAnswered(CLOSE, OfficeReply::Refused(Fault::SlotInUse)),
+    Step::IsAnswered(
+        CLOSE,
+        OfficeReply::Refused(Fault::Refused(OfficeFault::SlotInUse)),
+    ),
     Step::Asks(NOON, AMY, VIEW, PlainReply::SlotShown(3, false)),
     Step::Asks(NOON, AMY, CANCEL_7, CANCELLED_7),
     Step::IsAnswered(CLOSE, OfficeReply::Done),
-    Step::IsAnswered(CLOSE, OfficeReply::Refused(Fault::Exists)),
+    Step::IsAnswered(
+        CLOSE,
+        OfficeReply::Refused(Fault::Refused(OfficeFault::Exists)),
+    ),
     Step::Asks(NOON, AMY, BOOK_8, SLOT_CLOSED),
 ];
 

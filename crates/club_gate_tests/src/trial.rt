@@ -6,7 +6,7 @@ use crate::expect::expect_eq;
 use crate::reference_machine::{part_reply, reference_replies, reference_reply, shown};
 use crate::sent::{sent, texts_of};
 use crate::values::{at, name, push};
-use club_core::{ClubStore, OfficeAnswer, Reply, SlotUse};
+use club_core::{ClubStore, OfficeAnswer, OfficeFault, Reply, SlotUse};
 use club_gate::{Desk, EventReply, Fault};
 use club_reference::Club;
 use club_values::Kind;
@@ -123,7 +123,7 @@ fn expect_shown(
 ) {
     match (shown, lines_of(rt, reply)) {
         (Ok(shown), Some(want)) => expect_eq(rt, &shown.as_str(), &want.as_str()),
-        (Err(Fault::Unknown), None) => (),
+        (Err(Fault::Refused(OfficeFault::Unknown)), None) => (),
         _ => panic!(rt; "a look"),
     }
 }

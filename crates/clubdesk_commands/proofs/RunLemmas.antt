@@ -94,12 +94,9 @@ pub record EndsWell (Silent : Type 0) (result : Result Unit Fault) : Type 0 wher
   pub silent : IfErr result (λ fault. IsSilent fault → Silent)
 
 of_desk : (Silent : Type 0) (fault : DeskFault) (result : Result Unit Fault) → result ≡ Err (fault_of_desk fault) → Silent → EndsWell Silent result
-of_desk Silent desk.Exists result is silent = rw is (record { of_task = tt; silent = λ s. silent })
-of_desk Silent desk.Unknown result is silent = rw is (record { of_task = tt; silent = λ s. silent })
-of_desk Silent desk.OutOfRange result is silent = rw is (record { of_task = tt; silent = λ s. silent })
-of_desk Silent desk.SlotInUse result is silent = rw is (record { of_task = tt; silent = λ s. silent })
-of_desk Silent desk.Memory result is silent = rw is (record { of_task = tt; silent = λ s. silent })
-of_desk Silent desk.Storage result is silent = rw is (record { of_task = tt; silent = λ s. silent })
+of_desk Silent (desk.Refused refusal) result is silent = rw is (record { of_task = tt; silent = λ s. silent })
+of_desk Silent (desk.Store store.Memory) result is silent = rw is (record { of_task = tt; silent = λ s. silent })
+of_desk Silent (desk.Store store.Storage) result is silent = rw is (record { of_task = tt; silent = λ s. silent })
 
 text_ends : (written : Output) (text : List ℕ) (result : Result Unit Fault) → WritesText text written result → EndsWell written.no_change result
 text_ends written text (Ok done) h = record { of_task = tt; silent = tt }

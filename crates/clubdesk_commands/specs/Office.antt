@@ -1,7 +1,6 @@
 -- What the commands of the office do (ours).
 use Rattle.std.specs.Prelude.{◌≡◌, ℕ, List, ◌∷◌, [], ◌++◌, Result, Ok, Err}
 use Rattle.club_core.specs.declared.command.Command.{Command}
-use Rattle.club_core.specs.declared.command.OfficeFault.TheVariants as refusals
 use Rattle.club_core.specs.Club.{Club}
 use Rattle.club_core.specs.Run as machine
 use Rattle.club_core.specs.Sheet.{IsSheet}
@@ -17,17 +16,14 @@ use Rattle.pass_forms.specs.declared.form.Form.{Form}
 use Rattle.pass_forms.specs.declared.fault.FormFault.{FormFault}
 use Rattle.pass_json.specs.computed.AnyForm.{writing}
 use Rattle.clubdesk_commands.specs.declared.fault.Fault.{Fault}
-use Rattle.clubdesk_commands.specs.declared.fault.Fault.TheVariants.{Refused, Memory, Storage}
+use Rattle.clubdesk_commands.specs.declared.fault.Fault.TheVariants.{Refused, Memory}
+use Rattle.clubdesk_commands.specs.Fault.{fault_of_opening}
 use Rattle.clubdesk_commands.specs.Output.{Output, WritesText}
 
 -- the program's fault for a fault of the desk
 abbrev pub fault_of_desk : DeskFault → Fault
-fault_of_desk desk.Exists = Refused refusals.Exists
-fault_of_desk desk.Unknown = Refused refusals.Unknown
-fault_of_desk desk.OutOfRange = Refused refusals.OutOfRange
-fault_of_desk desk.SlotInUse = Refused refusals.SlotInUse
-fault_of_desk desk.Memory = Memory
-fault_of_desk desk.Storage = Storage
+fault_of_desk (desk.Refused refusal) = Refused refusal
+fault_of_desk (desk.Store failure) = fault_of_opening failure
 
 -- a refused order: the result is its fault, and nothing was written; otherwise the text was written
 abbrev pub PrintsReply : List ℕ → Output → Result Unit Fault → OfficeReply → Type 0

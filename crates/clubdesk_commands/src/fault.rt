@@ -108,12 +108,8 @@ impl From<club_gate::Fault> for Fault {
 
     fn from(returned: club_gate::Fault) -> Fault {
         match returned {
-            club_gate::Fault::Exists => Fault::Refused(OfficeFault::Exists),
-            club_gate::Fault::Unknown => Fault::Refused(OfficeFault::Unknown),
-            club_gate::Fault::OutOfRange => Fault::Refused(OfficeFault::OutOfRange),
-            club_gate::Fault::SlotInUse => Fault::Refused(OfficeFault::SlotInUse),
-            club_gate::Fault::Memory => Fault::Memory,
-            club_gate::Fault::Storage => Fault::Storage,
+            club_gate::Fault::Refused(refusal) => Fault::Refused(refusal),
+            club_gate::Fault::Store(failure) => Fault::from(failure),
         }
     }
 }

@@ -8,6 +8,7 @@ use crate::messages::{
     TWO_GUESTS, VIEW,
 };
 use crate::passes::DI;
+use club_core::OfficeFault;
 use club_gate::Fault;
 use std::alloc::Global;
 use std::process::Abort;
@@ -242,11 +243,17 @@ const CLOSED: HttpReply<'static> = HttpReply {
 
 static CLOSES: [Step; 7] = [
     Step::Asks(NOON, &AMY, &BOOK_7, &BOOKED_7),
-    Step::Orders(Order::CloseSlot(COURT_AT_18), Some(Fault::SlotInUse)),
+    Step::Orders(
+        Order::CloseSlot(COURT_AT_18),
+        Some(Fault::Refused(OfficeFault::SlotInUse)),
+    ),
     Step::Asks(NOON, &AMY, &VIEW, &TAKEN),
     Step::Asks(NOON, &AMY, &CANCEL_7, &CANCELLED_7),
     Step::Orders(Order::CloseSlot(COURT_AT_18), None),
-    Step::Orders(Order::CloseSlot(COURT_AT_18), Some(Fault::Exists)),
+    Step::Orders(
+        Order::CloseSlot(COURT_AT_18),
+        Some(Fault::Refused(OfficeFault::Exists)),
+    ),
     Step::Asks(NOON, &AMY, &BOOK_8, &CLOSED),
 ];
 

@@ -9,6 +9,7 @@ use crate::passes::{
     ALL_WEEK, AT_THE_COURT, CHANGED, FRIDAYS, NO_DAY, ODD, RENEWED, SPENDS_600, STRANGER,
     THIRD_PARTY, TUESDAY_FIRST, UNNAMED,
 };
+use club_core::OfficeFault;
 use club_gate::Fault;
 use test_kit::moments::{BEFORE_UNTIL, NOON, UNTIL};
 use test_kit::passes::AMY;
@@ -128,14 +129,14 @@ static ROTATES_AT_ONCE: [Step; 4] = [
     Step::Asks(NOON, &AMY, &ACCOUNT, &NOT_VERIFIED),
     Step::Orders(
         Order::RotateKey("amy-1", SECOND_ROOT, minutes::LAST),
-        Some(Fault::Exists),
+        Some(Fault::Refused(OfficeFault::Exists)),
     ),
 ];
 
 static ROTATES_TWICE: [Step; 4] = [
     Step::Orders(
         Order::RotateKey("amy-1", ROOT, minutes::LAST),
-        Some(Fault::Exists),
+        Some(Fault::Refused(OfficeFault::Exists)),
     ),
     Step::Orders(Order::RotateKey("amy-1", SECOND_ROOT, minutes::LAST), None),
     Step::Orders(Order::RotateKey("amy-1", THIRD_ROOT, minutes::LAST), None),
