@@ -1,5 +1,5 @@
 -- What an event leaves of the store below a desk (ours).
-use Rattle.std.specs.Prelude.{◌≡◌, ◌⊎◌, IsTrue, IsFalse, List, [], ◌∷◌, Option, Some, None, Result, Ok, Err}
+use Rattle.std.specs.Prelude.{◌≡◌, ◌⊎◌, IsTrue, IsFalse, List, [], ◌∷◌, MatchResult, Option, Some, None, Result, Ok, Err}
 use Rattle.club_core.specs.declared.change.Change.{Change}
 use Rattle.club_core.specs.declared.command.OfficeFault.{OfficeFault}
 use Rattle.club_core.specs.declared.store.StoreFault.{StoreFault}
@@ -7,7 +7,7 @@ use Rattle.club_core.specs.declared.store.StoreFault.TheVariants.{Memory}
 use Rattle.club_core.specs.Answer.{verdict_in}
 use Rattle.club_core.specs.Club.{Club}
 use Rattle.club_core.specs.Office.{office_verdict}
-use Rattle.club_core.specs.Run.{Event, Asked, Ordered, step}
+use Rattle.club_core.specs.Run.{Event, Asked, Ordered, after_change, step}
 use Rattle.club_core.specs.Store.{FitsClub, IsRead}
 use Rattle.club_laws.specs.Failed.{Response, present_reply, has_failed}
 use Rattle.club_gate.specs.declared.event.OfficeReply.{OfficeReply}
@@ -38,6 +38,13 @@ FitsIfAny (Some change) club = FitsClub change club
 abbrev pub others_after : Option Change → List Club → List Club
 others_after None others = others
 others_after (Some change) others = []
+
+-- The store represents the club after the change, if there is one; or it failed, and represents the same club, but may recover to the changed
+-- one after a crash.
+abbrev pub Settles : {S A E : Type 0} → (S → Club → List Club → Type 0) → S → Option Change → Result A E → Club → List Club → Type 0
+Settles Represents new change result club others = MatchResult result
+    (λ _. Represents new (after_change change club) (others_after change others))
+    (λ _. Represents new club (after_change change club ∷ others))
 
 -- An event was answered: its response is the machine's reply, and the store represents the club that follows.
 pub record IsAnsweredBy {S : Type 0} (Represents : S → Club → List Club → Type 0) (new : S) (club : Club) (others : List Club)

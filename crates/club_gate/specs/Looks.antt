@@ -1,6 +1,7 @@
 -- What a look at an account or at a slot shows (ours): a line for each value, its name before it.
-use Rattle.std.specs.Prelude.{◌≡◌, ◌⊎◌, ℕ, Bool, true, false, List, [], ◌∷◌, ◌++◌, codes, Option, Some, None, option_map}
+use Rattle.std.specs.Prelude.{◌≡◌, ◌⊎◌, ℕ, Bool, true, false, List, [], ◌∷◌, ◌++◌, codes, Option, Some, None, option_map, Result, Ok, Err, String}
 use Rattle.std.specs.Fmt.{decimal}
+use Rattle.std.specs.String.{string_bytes}
 use Rattle.club_values.specs.Day.{day_text}
 use Rattle.club_values.specs.Digits.{two_digits}
 use Rattle.club_values.specs.Kind.{kind_text}
@@ -100,6 +101,11 @@ abbrev pub IsUnshown : Option (List ℕ) → Fault → Type 0
 IsUnshown look (Refused Unknown) = look ≡ None
 IsUnshown look (Store failure) = Unit {0}
 IsUnshown look fault = ⊥
+
+-- what a look returns: its text, or why there is none
+abbrev pub ReturnsLook : {Z : Type 0} → Option (List ℕ) → Result (String Z) Fault → Type 0
+ReturnsLook look (Ok text) = look ≡ Some (string_bytes text)
+ReturnsLook look (Err fault) = IsUnshown look fault
 
 -- the faults of a look
 abbrev pub IsLookFault : Fault → Type 0

@@ -1,5 +1,6 @@
 -- What the desk reads of the club to answer a signed pass (ours).
 use Rattle.std.specs.Prelude.{ℕ, true, map, Option, Some, None, option_map, option_and_then, if◌then◌else◌}
+use Rattle.pass_caveats.specs.declared.ask.Ask.{Ask}
 use Rattle.pass_caveats.specs.declared.fault.CaveatFault.{CaveatFault}
 use Rattle.pass_caveats.specs.computed.CaveatOf.{caveat_of, first_fault_of}
 use Rattle.pass_caveats.specs.Spending.{after_spending}
@@ -54,11 +55,14 @@ last_view club (asked.Book slot number guests) moment view =
 last_view club (asked.Cancel slot number) moment view = Some view
 last_view club asked.Account moment view = option_map (with_spent club) (with_member club moment view)
 
--- the first caveat of a pass that refuses the request, with what the key has spent
+-- the first caveat of a pass that refuses the request, if the key has spent this much before
+abbrev pub fault_after : Plain → ℕ → Ask → Option CaveatFault
+fault_after pass spent ask = first_fault_of (map caveat_of pass.caveats) (after_spending spent ask)
+
+-- that caveat, for what the key has spent
 abbrev pub fault_read : Club → Key → Plain → Request → ℕ → Option CaveatFault
 fault_read club key pass request moment =
-    first_fault_of (map caveat_of pass.caveats)
-    (after_spending (spent_under key.name club.bookings) (ask_of (first_view club key request) request moment))
+    fault_after pass (spent_under key.name club.bookings) (ask_of (first_view club key request) request moment)
 
 abbrev pub answer_read : Club → Key → Request → ℕ → Option CaveatFault → Verdict
 answer_read club key request moment None =

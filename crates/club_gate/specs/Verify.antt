@@ -1,11 +1,12 @@
 -- The steps of the verifier (ours).
-use Rattle.std.specs.Prelude.{ℕ, not, List, [], ◌∷◌, ◌++◌, map, Option, Some, None, Result, Ok, Err}
+use Rattle.std.specs.Prelude.{◌≡◌, ℕ, ◌≤◌, not, List, [], ◌∷◌, ◌++◌, length, map, Option, Some, None, Result, Ok, Err}
 use Rattle.std.specs.Option.{option_and_then}
 use Rattle.pass_forms.specs.declared.fault.FormFault.{FormFault}
 use Rattle.pass_forms.specs.declared.fault.FormFault.TheVariants.{Memory}
 use Rattle.pass_forms.specs.declared.form.Form.{Form}
-use Rattle.pass_forms.specs.FieldSource.{PassField, caveat_field, signature_field}
+use Rattle.pass_forms.specs.FieldSource.{PassField, caveat_field, pass_fields, signature_field}
 use Rattle.pass_forms.specs.Pass.{Plain}
+use Rattle.pass_forms.specs.Reading.{max_caveats}
 use Rattle.pass_json.specs.computed.AnyForm.{reading_in_form}
 use Rattle.club_rows.specs.declared.key.Key.{Key}
 use Rattle.club_core.specs.declared.refusal.Refusal.{Refusal}
@@ -22,6 +23,10 @@ use Rattle.club_core.specs.computed.Pass.{is_signed_under}
 use Rattle.club_core.specs.Verdict.{refusal_verdict}
 use Rattle.club_gate.specs.Identifier.{key_name_in}
 use Rattle.club_gate.specs.DecodedPass.{fault_of, machine_pass, decoded_or_fault}
+
+-- true of the pass that has these fields, if it has at most 64 caveats
+abbrev pub OfItsPass : List PassField → (Plain → Type 0) → Type 0
+OfItsPass fields IsSo = (pass : Plain) → fields ≡ pass_fields pass → length pass.caveats ≤ max_caveats → IsSo pass
 
 -- the fields of a pass after its identifier
 abbrev pub fields_behind : Plain → List PassField

@@ -2,11 +2,9 @@
 
 ghost use Rattle.std.specs.Prelude.{
   ◌≡◌,
-  ◌∷◌,
   List,
   Err,
   IfErr,
-  MatchResult,
   None,
   Ok,
 };
@@ -20,7 +18,6 @@ ghost use Rattle.club_core.specs.Answer.{form_refusal};
 ghost use Rattle.club_core.specs.Club.{Club};
 ghost use Rattle.club_core.specs.Office.{order_view};
 ghost use Rattle.club_core.specs.Run as machine;
-ghost use Rattle.club_core.specs.Run.{after_change};
 ghost use Rattle.club_core.specs.Sheet.{IsSheet};
 ghost use Rattle.club_core.specs.Store.{KeepsClub, ReadsOrFails, Returns};
 ghost use Rattle.club_laws.specs.Failed.{ToMember, ToOffice};
@@ -31,8 +28,8 @@ ghost use Rattle.club_gate.specs.Desk.{
   IsStoreFault,
   NamesItsFault,
   OfItsClub,
+  Settles,
   Steps,
-  others_after,
 };
 ghost use Rattle.club_gate.specs.DecodedPass.{fault_of, decoded_words};
 ghost use Rattle.club_gate.specs.Served.{IsLawful, IsReadInPlace, RefusesByFormFault};
@@ -116,9 +113,7 @@ impl<S: ClubStore> Desk<S> {
         ensures settled { S.disk_is_clean self.new → (club : Club) (others : List Club)
             → S.represents self.old club others
             → FitsIfAny change club
-            → MatchResult result
-            (λ _. S.represents self.new (after_change change club) (others_after change others))
-            (λ _. S.represents self.new club (after_change change club ∷ others)) }
+            → Settles S.represents self.new change result club others }
         ensures nothing { change ≡ None → (result ≡ Ok tt) × (self.new ≡ self.old) }
         ensures failed { S.disk_is_clean self.new → IfErr result
             (λ fault. S.fails change self.old fault self.new) }

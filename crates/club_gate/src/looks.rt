@@ -1,12 +1,12 @@
 //! What the desk shows of a key's account and of a slot to whoever keeps its file.
 
-ghost use Rattle.std.specs.Prelude.{◌≡◌, ◌++◌, List, IfErr, IfOk, MatchResult, OnOk, Some};
+ghost use Rattle.std.specs.Prelude.{◌≡◌, ◌++◌, IfErr, IfOk, OnOk};
 ghost use Rattle.std.specs.String.{string_bytes};
 ghost use Rattle.club_rows.specs.declared.key.Key.{Key as KeyRow};
 ghost use Rattle.club_core.specs.declared.request.Request.TheVariants as asked;
 ghost use Rattle.club_core.specs.Basis.{view_in};
-ghost use Rattle.club_core.specs.Club.{Club};
 ghost use Rattle.club_core.specs.Store.{KeepsClub, ReadsOrFails, Returns};
+ghost use Rattle.club_gate.specs.Desk.{OfItsClub};
 ghost use Rattle.club_gate.specs.Looks as spec;
 
 use crate::desk::Desk;
@@ -27,11 +27,8 @@ impl<S: ClubStore> Desk<S> {
     pub fn show_account(&mut self, key: &Name, moment: Moment) -> Result<String, Fault>
         ensures was_clean { S.disk_is_clean self.new → S.disk_is_clean self.old }
         ensures kept { S.disk_is_clean self.new → KeepsClub S.represents self.old self.new }
-        ensures shown { S.disk_is_clean self.new → (club : Club) (others : List Club)
-            → S.represents self.old club others
-            → MatchResult result
-            (λ text. spec.account_look club key.now moment ≡ Some (string_bytes text))
-            (spec.IsUnshown (spec.account_look club key.now moment)) }
+        ensures shown { OfItsClub S.disk_is_clean S.represents self.old self.new
+            (λ club. spec.ReturnsLook (spec.account_look club key.now moment) result) }
         ensures faults { IfErr result spec.IsLookFault }
         ensures failed { S.disk_is_clean self.new → IfErr result
             (spec.FailsLook S.fails self.old self.new) }
@@ -56,11 +53,8 @@ impl<S: ClubStore> Desk<S> {
     pub fn show_slot(&mut self, slot: &Slot) -> Result<String, Fault>
         ensures was_clean { S.disk_is_clean self.new → S.disk_is_clean self.old }
         ensures kept { S.disk_is_clean self.new → KeepsClub S.represents self.old self.new }
-        ensures shown { S.disk_is_clean self.new → (club : Club) (others : List Club) (key : KeyRow)
-            → S.represents self.old club others
-            → MatchResult result
-            (λ text. spec.slot_look club slot.now key ≡ Some (string_bytes text))
-            (spec.IsUnshown (spec.slot_look club slot.now key)) }
+        ensures shown { OfItsClub S.disk_is_clean S.represents self.old self.new (λ club.
+            (key : KeyRow) → spec.ReturnsLook (spec.slot_look club slot.now key) result) }
         ensures faults { IfErr result spec.IsLookFault }
         ensures failed { S.disk_is_clean self.new → IfErr result
             (spec.FailsLook S.fails self.old self.new) }

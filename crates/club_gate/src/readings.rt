@@ -1,15 +1,11 @@
 //! What the desk reads of the club to answer a signed pass: only what the caveats and the decision
 //! depend on.
 
-ghost use Rattle.std.specs.Prelude.{◌≡◌, ◌≤◌, length, map, option_map};
-ghost use Rattle.pass_caveats.specs.computed.CaveatOf.{caveat_of, first_fault_of};
-ghost use Rattle.pass_caveats.specs.Spending.{after_spending};
-ghost use Rattle.pass_forms.specs.FieldSource.{pass_fields};
-ghost use Rattle.pass_forms.specs.Pass.{Plain};
-ghost use Rattle.pass_forms.specs.Reading.{max_caveats};
+ghost use Rattle.std.specs.Prelude.{◌≡◌, option_map};
 ghost use Rattle.club_core.specs.Store.{KeepsClub, ReadsOrFails, Returns};
 ghost use Rattle.club_core.specs.Sums.{spent_under};
 ghost use Rattle.club_gate.specs.Reading as read;
+ghost use Rattle.club_gate.specs.Verify.{OfItsPass};
 
 use crate::desk::Desk;
 use crate::walk::{depends_on_spent, fault_after};
@@ -50,12 +46,9 @@ impl<S: ClubStore> Desk<S> {
     ) -> Result<Option<CaveatFault>, StoreFault>
         ensures was_clean { S.disk_is_clean self.new → S.disk_is_clean self.old }
         ensures kept { S.disk_is_clean self.new → KeepsClub S.represents self.old self.new }
-        ensures found { S.disk_is_clean self.new → (pass : Plain)
-            → F.left source.now ≡ pass_fields pass
-            → length pass.caveats ≤ max_caveats
-            → Returns S.represents self.old result
-            (λ club fault. fault ≡ first_fault_of (map caveat_of pass.caveats)
-            (after_spending (spent_under key.now club.bookings) ask.now)) }
+        ensures found { S.disk_is_clean self.new → OfItsPass (F.left source.now)
+            (λ pass. Returns S.represents self.old result (λ club fault.
+            fault ≡ read.fault_after pass (spent_under key.now club.bookings) ask.now)) }
     {
         if !depends_on_spent(source, ask) {
             return Ok(fault_after(source, ask, 0));

@@ -5,20 +5,17 @@
 ghost use Rattle.std.specs.Prelude.{
   ◌≡◌,
   ◌≢◌,
-  ◌≤◌,
   IfOk,
   IsSomeAnd,
   None,
   Some,
   Ok,
   Err,
-  length,
 };
 ghost use Rattle.pass_forms.specs.declared.fault.FormFault.{FormFault as FaultOfForm};
 ghost use Rattle.pass_forms.specs.declared.form.Form.TheVariants.{Json};
 ghost use Rattle.pass_forms.specs.FieldSource.{pass_fields};
 ghost use Rattle.pass_forms.specs.Pass.{Plain};
-ghost use Rattle.pass_forms.specs.Reading.{max_caveats};
 ghost use Rattle.pass_json.specs.computed.AnyForm.{reading, reading_in_form};
 ghost use Rattle.club_core.specs.Answer.{form_refusal, verdict_in};
 ghost use Rattle.club_core.specs.Store.{KeepsClub, Returns};
@@ -27,6 +24,7 @@ ghost use Rattle.club_laws.specs.SingleRequest.{words_with};
 ghost use Rattle.club_gate.specs.DecodedPass.{fault_of, machine_pass, decoded_words};
 ghost use Rattle.club_gate.specs.Served.{IsReadInPlace};
 ghost use Rattle.club_gate.specs.Verify.{
+  OfItsPass,
   answer_to_fault,
   fields_behind,
   key_in,
@@ -174,11 +172,9 @@ impl<S: ClubStore> Desk<S> {
     ) -> Result<Verdict, StoreFault>
         ensures was_clean { S.disk_is_clean self.new → S.disk_is_clean self.old }
         ensures kept { S.disk_is_clean self.new → KeepsClub S.represents self.old self.new }
-        ensures found { S.disk_is_clean self.new → (pass : Plain)
-            → F.left source.now ≡ pass_fields pass
-            → length pass.caveats ≤ max_caveats
-            → Returns S.represents self.old result
-            (λ club verdict. verdict ≡ verdict_read club key.now pass request.now moment) }
+        ensures found { S.disk_is_clean self.new → OfItsPass (F.left source.now)
+            (λ pass. Returns S.represents self.old result
+            (λ club verdict. verdict ≡ verdict_read club key.now pass request.now moment)) }
     {
         let view = self.first_view(key, request)?;
         let fault = self.caveat_fault(source, &key.name, &view.ask(request, moment))?;
@@ -199,11 +195,9 @@ impl<S: ClubStore> Desk<S> {
     ) -> Result<Verdict, StoreFault>
         ensures was_clean { S.disk_is_clean self.new → S.disk_is_clean self.old }
         ensures kept { S.disk_is_clean self.new → KeepsClub S.represents self.old self.new }
-        ensures returned { S.disk_is_clean self.new → (pass : Plain)
-            → F.left source.now ≡ pass_fields pass
-            → length pass.caveats ≤ max_caveats
-            → Returns S.represents self.old result (λ club verdict. verdict
-            ≡ verdict_in club (words_with (machine_pass pass) request.now) moment) }
+        ensures returned { S.disk_is_clean self.new → OfItsPass (F.left source.now)
+            (λ pass. Returns S.represents self.old result (λ club verdict.
+            verdict ≡ verdict_in club (words_with (machine_pass pass) request.now) moment)) }
     {
         views_decide();
         own_bookings_suffice();

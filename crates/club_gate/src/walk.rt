@@ -1,13 +1,11 @@
 //! Scans of the fields of a pass: one for its signature, and one for its caveats.
 
-ghost use Rattle.std.specs.Prelude.{◌≡◌, ℕ, ◌≤◌, false, fold, length, map};
+ghost use Rattle.std.specs.Prelude.{◌≡◌, ℕ, false, fold, map};
 ghost use Rattle.pass_caveats.specs.computed.CaveatOf.{caveat_of, first_fault_of};
-ghost use Rattle.pass_caveats.specs.Spending.{after_spending};
-ghost use Rattle.pass_forms.specs.FieldSource.{pass_fields};
 ghost use Rattle.pass_forms.specs.Pass.{Plain};
-ghost use Rattle.pass_forms.specs.Reading.{max_caveats};
 ghost use Rattle.club_gate.specs.Signing.{signing_with, is_one_of};
-ghost use Rattle.club_gate.specs.Verify.{fields_behind};
+ghost use Rattle.club_gate.specs.Reading as read;
+ghost use Rattle.club_gate.specs.Verify.{OfItsPass, fields_behind};
 
 use crate::signing::Signing;
 use pass_caveats::laws::{limits_no_more, owes_nothing};
@@ -33,9 +31,8 @@ pub(crate) fn is_signed<'a, F: FieldSource<'a>>(source: &mut F, signing: Signing
 
 /// The first caveat of a pass that isn't understood or denies the request; `None` if all allow it.
 fn first_fault<'a, F: FieldSource<'a>>(source: &mut F, ask: &Ask) -> Option<CaveatFault>
-    ensures { (pass : Plain) → F.left source.old ≡ pass_fields pass
-        → length pass.caveats ≤ max_caveats
-        → result ≡ first_fault_of (map caveat_of pass.caveats) ask.now }
+    ensures { OfItsPass (F.left source.old)
+        (λ pass. result ≡ first_fault_of (map caveat_of pass.caveats) ask.now) }
 {
     let mut number: usize = 1;
     while let Some(field) = source.next() {
@@ -56,9 +53,7 @@ pub(crate) fn fault_after<'a, F: FieldSource<'a> + Drop>(
     ask: &Ask,
     spent: u64,
 ) -> Option<CaveatFault>
-    ensures { (pass : Plain) → F.left source.now ≡ pass_fields pass
-        → length pass.caveats ≤ max_caveats
-        → result ≡ first_fault_of (map caveat_of pass.caveats) (after_spending spent ask.now) }
+    ensures { OfItsPass (F.left source.now) (λ pass. result ≡ read.fault_after pass spent ask.now) }
 {
     let mut source = source.again();
     first_fault(&mut source, &Ask { spent, ..*ask })
@@ -68,11 +63,8 @@ pub(crate) fn fault_after<'a, F: FieldSource<'a> + Drop>(
 /// request costs something, and a key that has spent more than any limit is refused otherwise than
 /// one that has spent nothing.
 pub(crate) fn depends_on_spent<'a, F: FieldSource<'a> + Drop>(source: &F, ask: &Ask) -> bool
-    ensures { (pass : Plain) → F.left source.now ≡ pass_fields pass
-        → length pass.caveats ≤ max_caveats
-        → result ≡ false
-        → (spent : ℕ) → first_fault_of (map caveat_of pass.caveats) (after_spending spent ask.now)
-        ≡ first_fault_of (map caveat_of pass.caveats) (after_spending 0 ask.now) }
+    ensures { OfItsPass (F.left source.now) (λ pass. result ≡ false → (spent : ℕ)
+        → read.fault_after pass spent ask.now ≡ read.fault_after pass 0 ask.now) }
 {
     owes_nothing();
     limits_no_more();

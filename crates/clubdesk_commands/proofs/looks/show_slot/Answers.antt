@@ -6,7 +6,7 @@ pub returns-in-Ok : goal.returns-in-Ok
 returns-in-Ok g c = record {
   kept = c.in-Ok.ensures.kept;
   shown = Ok (string_bytes c.in-Ok.text);
-  is = λ was_clean club others represents key. c.in-Ok.ensures.shown was_clean club others key represents;
+  is = c.in-Ok.ensures.shown;
   gives = rw c.as_str.ensures.value at c.written.ensures;
 }
 
@@ -14,6 +14,6 @@ pub returns-in-Err : goal.returns-in-Err
 returns-in-Err g c = record {
   kept = c.in-Err.ensures.kept;
   shown = Err c.in-Err.fault;
-  is = λ was_clean club others represents key. c.in-Err.ensures.shown was_clean club others key represents;
+  is = c.in-Err.ensures.shown;
   gives = (ap Err c.from.ensures, refl);
 }
