@@ -16,12 +16,12 @@ pub record Replies {Desk : Type 0} (Answers : AnswerRelation Desk) (before after
   -- it is also the reply to all that the reader would give until its end
   pub to_all : IfSome before (λ all. IsReplied Answers all old reply new)
 
--- what an exchange did: it wrote the text of the reply, or nothing, or a beginning of that text
+-- what an exchange did: it wrote the text of the desk's reply, or didn't ask the desk, or wrote a beginning of that text
 abbrev pub Exchanges :
     (Reply → Type 0) → Type 0 → (List ℕ → Type 0) → Result Reply AnswerFault → Type 0
-Exchanges Decides Nothing Writes (Ok reply) = Decides reply × Writes (reply_text reply)
-Exchanges Decides Nothing Writes (Err Read) = Nothing
-Exchanges Decides Nothing Writes (Err (Write n)) =
+Exchanges Decides Unasked Writes (Ok reply) = Decides reply × Writes (reply_text reply)
+Exchanges Decides Unasked Writes (Err Read) = Unasked
+Exchanges Decides Unasked Writes (Err (Write n)) =
     (reply : Reply) × Decides reply × (n < length (reply_text reply)) × Writes (take n (reply_text reply))
 
 -- the reader's failures after an exchange

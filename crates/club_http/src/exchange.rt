@@ -1,6 +1,6 @@
 //! One exchange: a request in, a reply out.
 
-ghost use Rattle.std.specs.Prelude.{◌≡◌};
+ghost use Rattle.std.specs.Prelude.{◌≡◌, Err};
 ghost use Rattle.std.specs.Io.KnownBytes.{Appends};
 ghost use Rattle.club_http.specs.Calls.{ReadsNoFurther};
 ghost use Rattle.club_http.specs.Received.{IsCutOff};
@@ -37,11 +37,12 @@ pub fn answer<D: Responder, R: Inlet, W: Outlet>(
     ensures exchanged { Exchanges
         (λ reply. Replies (D.answers moment) (R.to_come reader.old) (R.to_come reader.new)
         face.new desk.old reply desk.new)
-        (IsCutOff (R.to_come reader.old) (R.to_come reader.new) face.new
-        × (desk.new ≡ desk.old)
-        × (writer.new ≡ writer.old))
+        (desk.new ≡ desk.old)
         (Appends (W.taken writer.old) (W.taken writer.new))
         result }
+    ensures cut_off { result ≡ Err AnswerFault.Read
+        → IsCutOff (R.to_come reader.old) (R.to_come reader.new) face.new
+        × (writer.new ≡ writer.old) }
     ensures calls { ReadsNoFurther R.fills reader.old face.new reader.new }
     ensures reads { R.failures reader.new ≡ reader_failures (R.failures reader.old) result }
     ensures writes { W.failures writer.new ≡ writer_failures (W.failures writer.old) result }

@@ -1,6 +1,6 @@
 //! The face of the desk: the routes and the buffer that its exchanges share.
 
-ghost use Rattle.std.specs.Prelude.{◌≡◌, [], IfOk, MatchOption};
+ghost use Rattle.std.specs.Prelude.{◌≡◌, [], IfNone, IfOk, IfSome};
 ghost use Rattle.http_request.specs.Front.{Covers};
 ghost use Rattle.club_http.specs.Calls.{ReadsNoFurther};
 ghost use Rattle.club_http.specs.Ends.{read_failures};
@@ -87,11 +87,10 @@ impl Face {
         moment: Moment,
         reader: &mut R,
     ) -> Option<Reply>
-        ensures replied { MatchOption result
-            (IsCutOff (R.to_come reader.old) (R.to_come reader.new) self.new
-            × (desk.new ≡ desk.old))
-            (λ reply. Replies (D.answers moment) (R.to_come reader.old) (R.to_come reader.new)
-            self.new desk.old reply desk.new) }
+        ensures replied { IfSome result (λ reply. Replies (D.answers moment)
+            (R.to_come reader.old) (R.to_come reader.new) self.new desk.old reply desk.new) }
+        ensures cut_off { IfNone result (IsCutOff (R.to_come reader.old) (R.to_come reader.new)
+            self.new × (desk.new ≡ desk.old)) }
         ensures calls { ReadsNoFurther R.fills reader.old self.new reader.new }
         ensures counted { R.failures reader.new ≡ read_failures (R.failures reader.old) result }
     {

@@ -1,6 +1,6 @@
 //! Reads a request from an inlet.
 
-ghost use Rattle.std.specs.Prelude.{◌≡◌, ◌≤◌, [], length, take, MatchResult, Ok, Err};
+ghost use Rattle.std.specs.Prelude.{◌≡◌, ◌≤◌, [], length, take, IfErr, IfOk, MatchResult};
 ghost use Rattle.http_request.specs.Front.{Covers};
 ghost use Rattle.club_http.specs.Calls.{ReadsNoFurther};
 ghost use Rattle.club_http.specs.Ends.{one_more};
@@ -23,10 +23,9 @@ pub(crate) fn receive<R: Inlet>(
 ) -> Result<usize, usize>
     requires space { length room.old ≡ 16640 }
     requires begins { Covers scan.old [] }
-    ensures received { MatchResult result
-        (λ n. (n ≤ 16640) × Covers scan.new (take n room.new)
-        × Receives (R.to_come reader.old) (R.to_come reader.new) (take n room.new))
-        (λ n. (n ≤ 16640)
+    ensures received { IfOk result (λ n. (n ≤ 16640) × Covers scan.new (take n room.new)
+        × Receives (R.to_come reader.old) (R.to_come reader.new) (take n room.new)) }
+    ensures cut_off { IfErr result (λ n. (n ≤ 16640)
         × IsCutOff (R.to_come reader.old) (R.to_come reader.new) (take n room.new)) }
     ensures calls { MatchResult result
         (λ n. ReadsNoFurther R.fills reader.old (take n room.new) reader.new)

@@ -18,13 +18,13 @@ counts_more waited i now new so_far more fits = let before : now ≡ waited + i 
     omega arith
 
 -- the part of an exchange's contract that is about the desk
-pub exchanged : {Desk : Type 0} (Answers : AnswerRelation Desk) (before after : Option (List ℕ)) (bytes : List ℕ) (old new : Desk) (Cut Silent : Type 0)
+pub exchanged : {Desk : Type 0} (Answers : AnswerRelation Desk) (before after : Option (List ℕ)) (bytes : List ℕ) (old new : Desk)
     (Writes : List ℕ → Type 0) (outcome : Result Reply AnswerFault)
-    → Exchanges (λ reply. Replies Answers before after bytes old reply new) (Cut × (new ≡ old) × Silent) Writes outcome
+    → Exchanges (λ reply. Replies Answers before after bytes old reply new) (new ≡ old) Writes outcome
     → IsExchanged Answers bytes old outcome new
-exchanged Answers before after bytes old new Cut Silent Writes (Ok reply) (decides, written) = (decides.reply_is, tt)
-exchanged Answers before after bytes old new Cut Silent Writes (Err Read) (cut, same, silent) = same
-exchanged Answers before after bytes old new Cut Silent Writes (Err (Write n)) (reply, decides, fewer, written) = (reply, decides.reply_is, fewer, tt)
+exchanged Answers before after bytes old new Writes (Ok reply) (decides, written) = (decides.reply_is, tt)
+exchanged Answers before after bytes old new Writes (Err Read) same = same
+exchanged Answers before after bytes old new Writes (Err (Write n)) (reply, decides, fewer, written) = (reply, decides.reply_is, fewer, tt)
 
 -- the length of a list with one more item
 pub length_more : (fates : List Fate) (fate : Fate) → length (fates ++ fate ∷ []) ≡ length fates + 1

@@ -3,7 +3,7 @@ use Rattle.std.specs.Prelude.{◌≡◌, ◌⊎◌, List, [], Contains}
 use Rattle.sqlite_disk.specs.declared.Disk as disk
 use Rattle.sqlite.specs.declared.FileStore.{FileStore}
 use Rattle.sqlite.specs.FileStore as file
-use Rattle.sqlite.specs.Files.{over_files}
+use Rattle.sqlite.specs.Files.{file_state, over_files}
 use Rattle.sqlite.specs.Held.{Held}
 use Rattle.sqlite.specs.Recovery.{Image}
 use Rattle.sqlite.specs.State.{State}
@@ -11,6 +11,7 @@ use Rattle.sqlite.specs.View.{IsClean}
 use Rattle.club_core.specs.Club.{Club}
 use Rattle.club_core.specs.Run as machine
 use Rattle.club_laws.specs.RunsWithFailures.{RepeatsServedReplies}
+use Rattle.club_store.specs.Crash.{CrashLeaves}
 use Rattle.club_store.specs.Opening.{OpensFrom}
 use Rattle.club_tables.specs.Tables.{Represents}
 use Rattle.club_tables.specs.ReadsAndChanges.{sound_in}
@@ -22,6 +23,12 @@ pub record RecoversOne (state : State) (clubs : List Club) (events : List machin
   pub among : Contains clubs club
   pub represents : Represents state club []
   pub again : RepeatsServedReplies club events returned
+
+-- A store that is opened on what a crash left of another one's files, where that could recover to these clubs, recovers exactly one of them.
+abbrev pub SurvivesCrash : {D E : Type 0} {d : disk.Ghosts D} {e : disk.Ghosts E} → FileStore D d → Held (FileStore E e) → List Club
+    → List machine.Event → List DeskResponse → Type 0
+SurvivesCrash before after clubs events returned =
+    (left : Image) → CrashLeaves before clubs left → OpensFrom left after → ∥ RecoversOne (file_state after) clubs events returned ∥₁
 
 -- a crash may leave this image of a store's file and log
 abbrev pub CrashMayLeave : {D : Type 0} {d : disk.Ghosts D} → FileStore D d → Image → Type 0

@@ -2,17 +2,14 @@
 
 ghost use Rattle.std.specs.Prelude.{List, All, IfOk};
 ghost use Rattle.sqlite.specs.FileStore as file;
-ghost use Rattle.sqlite.specs.Files.{file_state, over_files};
-ghost use Rattle.sqlite.specs.Recovery.{Image};
+ghost use Rattle.sqlite.specs.Files.{over_files};
 ghost use Rattle.sqlite.specs.View.{IsClean};
 ghost use Rattle.club_core.specs.Club.{Club};
 ghost use Rattle.club_core.specs.Run as machine;
 ghost use Rattle.club_laws.specs.RunsWithFailures.{RepeatsServedReplies};
-ghost use Rattle.club_store.specs.Crash.{CrashLeaves};
-ghost use Rattle.club_store.specs.Opening.{OpensFrom};
 ghost use Rattle.club_tables.specs.ReadsAndChanges.{sound_in};
 ghost use Rattle.club_gate.specs.Runs.{IsAnsweredRun, DeskResponse, machine_events, responses_of};
-ghost use Rattle.desk_theorem.specs.Crash.{OpensAgain, RecoversOne};
+ghost use Rattle.desk_theorem.specs.Crash.{OpensAgain, SurvivesCrash};
 
 use club_core::StoreFault;
 use club_gate::{Desk, Event, EventReply};
@@ -29,11 +26,8 @@ pub fn served_survives_a_crash<D: Disk, Q: Start>(
     after: &Store<FileStore<FileFrom<Q>>>,
 )
     ensures { (clubs : List Club) (events : List machine.Event) (returned : List DeskResponse)
-        (left : Image)
         → All (λ club. RepeatsServedReplies club events returned) clubs
-        → CrashLeaves before.now clubs left
-        → OpensFrom left after.now
-        → ∥ RecoversOne (file_state after.now) clubs events returned ∥₁ }
+        → SurvivesCrash before.now after.now clubs events returned }
 {
     one_club_recovered(before, after);
 }

@@ -27,8 +27,8 @@ returns-clause-received g c = let inv = c.loop-reader.invariant in (
   },
 )
 
-pub returns-in-None-clause-received : goal.returns-in-None-clause-received
-returns-in-None-clause-received g c =
+pub returns-in-None-clause-cut_off : goal.returns-in-None-clause-cut_off
+returns-in-None-clause-cut_off g c =
     let inv = c.loop-reader.invariant in
     let len = c.loop-reader.len in
     let room = c.loop-reader.room in

@@ -28,5 +28,5 @@ one_of state (club ∷ clubs) events returned again (inr h) =
     record { club = rest.club; among = Contains-append_right (club ∷ []) clubs rest.club rest.among; represents = rest.represents; again = rest.again }
 
 pub returns : goal.returns
-returns g c = λ clubs events returned left again crash opened.
+returns g c = λ clubs events returned again left crash opened.
     ∥∥₁_map (c.one_club_recovered.ensures clubs left crash opened) (one_of (file_state c.args.after.now) clubs events returned again)
