@@ -21,7 +21,6 @@ use Rattle.club_core.specs.Pass.{Words}
 use Rattle.club_core.specs.Run.{Asked, Ordered, after_change, done_answer, order_outcome}
 use Rattle.club_laws.specs.Failed.{ToMember, ToOffice, present_reply, is_unavailable, NeverUnavailable}
 use Rattle.club_laws.specs.SoundRuns.{ChangesFit}
-use Rattle.club_gate.specs.declared.event.OfficeReply.TheVariants as replies
 use Rattle.club_gate.specs.Desk.{FitsIfAny, IsAnsweredBy, IsRefusedBy, change_by, others_after}
 use Rattle.club_gate.specs.Response.{answer_or_fault, is_failure, reply_or_unavailable, office_reply_of, desk_presentation, unavailable}
 

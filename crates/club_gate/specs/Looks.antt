@@ -1,5 +1,5 @@
 -- What a look at an account or at a slot shows (ours): a line for each value, its name before it.
-use Rattle.std.specs.Prelude.{◌≡◌, ◌⊎◌, ℕ, Bool, true, false, List, [], ◌∷◌, ◌++◌, codes, Option, Some, None, option_map, Result, Ok, Err, String}
+use Rattle.std.specs.Prelude.{◌≡◌, ◌⊎◌, ℕ, Bool, true, false, List, [], ◌∷◌, ◌++◌, codes, IfErr, Option, Some, None, option_map, Result, Ok, Err, String}
 use Rattle.std.specs.Fmt.{decimal}
 use Rattle.std.specs.String.{string_bytes}
 use Rattle.club_values.specs.Day.{day_text}
@@ -21,8 +21,9 @@ use Rattle.club_core.specs.declared.store.StoreFault.TheVariants.{Memory}
 use Rattle.club_core.specs.declared.view.View.{View}
 use Rattle.club_core.specs.Basis.{view_in}
 use Rattle.club_core.specs.Club.{Club}
-use Rattle.club_core.specs.Store.{IsRead}
+use Rattle.club_core.specs.Store.{IsRead, KeepsClub}
 use Rattle.club_core.specs.Verdict.{account_verdict, view_verdict}
+use Rattle.club_gate.specs.Desk.{OfItsClub}
 use Rattle.club_gate.specs.Reading.{first_view, with_slot}
 use Rattle.club_gate.specs.declared.fault.Fault.{Fault}
 use Rattle.club_gate.specs.declared.fault.Fault.TheVariants.{Refused, Store}
@@ -119,3 +120,12 @@ abbrev pub FailsLook : {S : Type 0} → (Option Change → S → StoreFault → 
 FailsLook Fails old new fault =
     ((failure : StoreFault) × Fails None old failure new × (fault ≡ Store failure))
     ⊎ (((fault ≡ Refused Unknown) ⊎ (fault ≡ Store Memory)) × IsRead Fails old new)
+
+-- A look at the club: it changes nothing, and this is so of the club and what the look returns.
+pub record LooksAtClub {S A : Type 0} (IsClean : S → Type 0) (Represents : S → Club → List Club → Type 0)
+    (Fails : Option Change → S → StoreFault → S → Type 0) (old new : S) (result : Result A Fault) (IsSo : Club → Type 0) : Type 0 where
+  pub was_clean : IsClean new → IsClean old
+  pub kept : IsClean new → KeepsClub Represents old new
+  pub shown : OfItsClub IsClean Represents old new IsSo
+  pub faults : IfErr result IsLookFault
+  pub failure : IsClean new → IfErr result (FailsLook Fails old new)

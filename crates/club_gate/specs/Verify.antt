@@ -1,5 +1,5 @@
 -- The steps of the verifier (ours).
-use Rattle.std.specs.Prelude.{◌≡◌, ℕ, ◌≤◌, not, List, [], ◌∷◌, ◌++◌, length, map, Option, Some, None, Result, Ok, Err}
+use Rattle.std.specs.Prelude.{◌≡◌, ℕ, ◌≤◌, not, List, [], ◌∷◌, ◌++◌, length, map, IfOk, Option, Some, None, Result, Ok, Err}
 use Rattle.std.specs.Option.{option_and_then}
 use Rattle.pass_forms.specs.declared.fault.FormFault.{FormFault}
 use Rattle.pass_forms.specs.declared.fault.FormFault.TheVariants.{Memory}
@@ -61,3 +61,10 @@ words_in_form form bytes request = record { pass = decoded_or_fault (reading_in_
 abbrev pub answer_to_fault : FormFault → Result Verdict StoreFault
 answer_to_fault Memory = Err store.Memory
 answer_to_fault fault = Ok (refusal_verdict (form_refusal (fault_of fault)))
+
+-- The verdict on a text with this fault: the store wasn't called, and there is no change. A text that is read in place is always refused by its
+-- fault.
+pub record RefusesText {S : Type 0} (old new : S) (IsInPlace : Type 0) (fault : FormFault) (result : Result Verdict StoreFault) : Type 0 where
+  pub same_store : new ≡ old
+  pub no_change : IfOk result (λ verdict. verdict.change ≡ None)
+  pub in_place : IsInPlace → result ≡ Ok (refusal_verdict (form_refusal (fault_of fault)))

@@ -28,6 +28,7 @@ ghost use Rattle.club_gate.specs.Desk.{
   IsStoreFault,
   NamesItsFault,
   OfItsClub,
+  ReadsStore,
   Settles,
   Steps,
 };
@@ -147,9 +148,7 @@ impl<S: ClubStore> Desk<S> {
 
     /// Reads the rows that a command of the office depends on.
     fn order_view(&mut self, command: &Command) -> Result<OrderView, StoreFault>
-        ensures was_clean { S.disk_is_clean self.new → S.disk_is_clean self.old }
-        ensures kept { S.disk_is_clean self.new → KeepsClub S.represents self.old self.new }
-        ensures returned { S.disk_is_clean self.new → Returns S.represents self.old result
+        ensures reads { ReadsStore S.disk_is_clean S.represents self.old self.new result
             (λ club view. view ≡ order_view club command.now) }
         ensures failed { S.disk_is_clean self.new → ReadsOrFails S.fails self.old self.new result }
     {
@@ -289,13 +288,7 @@ impl<S: ClubStore> Desk<S> {
         ensures failed { S.disk_is_clean self.new → IfErr result
             (IsSheetFault S.fails self.old self.new) }
     {
-        let rows = match self.store.day(day) {
-            Ok(rows) => rows,
-            Err(fault) => return Err(Fault::from(fault)),
-        };
-        match sheet_text(self.alloc, day, &rows) {
-            Ok(text) => Ok(text),
-            Err(_) => Err(Fault::Store(StoreFault::Memory)),
-        }
+        let rows = self.store.day(day)?;
+        Ok(sheet_text(self.alloc, day, &rows)?)
     }
 }

@@ -1,6 +1,7 @@
 //! Why a call of the desk is refused or fails.
 
 use club_core::{OfficeFault, StoreFault};
+use std::alloc::AllocError;
 use std::error::Error;
 use std::fmt;
 
@@ -48,5 +49,17 @@ impl From<StoreFault> for Fault {
 
     fn from(failure: StoreFault) -> Fault {
         Fault::Store(failure)
+    }
+}
+
+impl From<AllocError> for Fault {
+    ghost use Rattle.std.specs.Prelude.{◌≡◌};
+    ghost use Rattle.club_core.specs.declared.store.StoreFault.TheVariants.{Memory};
+    ghost use Rattle.club_gate.specs.declared.fault.Fault.TheVariants.{Store};
+
+    ghost from_gives = { λ _ fault. fault ≡ Store Memory };
+
+    fn from(_error: AllocError) -> Fault {
+        Fault::Store(StoreFault::Memory)
     }
 }

@@ -1,12 +1,12 @@
 //! What the desk shows of a key's account and of a slot to whoever keeps its file.
 
-ghost use Rattle.std.specs.Prelude.{◌≡◌, ◌++◌, IfErr, IfOk, OnOk};
+ghost use Rattle.std.specs.Prelude.{◌≡◌, ◌++◌, IfOk, OnOk};
 ghost use Rattle.std.specs.String.{string_bytes};
 ghost use Rattle.club_rows.specs.declared.key.Key.{Key as KeyRow};
 ghost use Rattle.club_core.specs.declared.request.Request.TheVariants as asked;
 ghost use Rattle.club_core.specs.Basis.{view_in};
-ghost use Rattle.club_core.specs.Store.{KeepsClub, ReadsOrFails, Returns};
-ghost use Rattle.club_gate.specs.Desk.{OfItsClub};
+ghost use Rattle.club_core.specs.Store.{ReadsOrFails};
+ghost use Rattle.club_gate.specs.Desk.{ReadsStore};
 ghost use Rattle.club_gate.specs.Looks as spec;
 
 use crate::desk::Desk;
@@ -25,23 +25,13 @@ impl<S: ClubStore> Desk<S> {
     ///
     /// `Refused(Unknown)` where no key has the name; `Store`, where memory or storage was refused.
     pub fn show_account(&mut self, key: &Name, moment: Moment) -> Result<String, Fault>
-        ensures was_clean { S.disk_is_clean self.new → S.disk_is_clean self.old }
-        ensures kept { S.disk_is_clean self.new → KeepsClub S.represents self.old self.new }
-        ensures shown { OfItsClub S.disk_is_clean S.represents self.old self.new
+        ensures { spec.LooksAtClub S.disk_is_clean S.represents S.fails self.old self.new result
             (λ club. spec.ReturnsLook (spec.account_look club key.now moment) result) }
-        ensures faults { IfErr result spec.IsLookFault }
-        ensures failed { S.disk_is_clean self.new → IfErr result
-            (spec.FailsLook S.fails self.old self.new) }
     {
-        let view = match self.account_view(key, moment) {
-            Ok(Some(view)) => view,
-            Ok(None) => return Err(Fault::Refused(OfficeFault::Unknown)),
-            Err(fault) => return Err(Fault::from(fault)),
+        let Some(view) = self.account_view(key, moment)? else {
+            return Err(Fault::Refused(OfficeFault::Unknown));
         };
-        match account_text(self.alloc, &view) {
-            Ok(text) => Ok(text),
-            Err(_) => Err(Fault::Store(StoreFault::Memory)),
-        }
+        Ok(account_text(self.alloc, &view)?)
     }
 
     /// What every key is shown of a slot: a line a value. The rows stay as they are.
@@ -51,30 +41,18 @@ impl<S: ClubStore> Desk<S> {
     /// `Refused(Unknown)` where there is no such facility; `Store`, where memory or storage was
     /// refused.
     pub fn show_slot(&mut self, slot: &Slot) -> Result<String, Fault>
-        ensures was_clean { S.disk_is_clean self.new → S.disk_is_clean self.old }
-        ensures kept { S.disk_is_clean self.new → KeepsClub S.represents self.old self.new }
-        ensures shown { OfItsClub S.disk_is_clean S.represents self.old self.new (λ club.
-            (key : KeyRow) → spec.ReturnsLook (spec.slot_look club slot.now key) result) }
-        ensures faults { IfErr result spec.IsLookFault }
-        ensures failed { S.disk_is_clean self.new → IfErr result
-            (spec.FailsLook S.fails self.old self.new) }
+        ensures { spec.LooksAtClub S.disk_is_clean S.represents S.fails self.old self.new result
+            (λ club. (key : KeyRow) → spec.ReturnsLook (spec.slot_look club slot.now key) result) }
     {
-        let reply = match self.slot_reply(slot) {
-            Ok(Some(reply)) => reply,
-            Ok(None) => return Err(Fault::Refused(OfficeFault::Unknown)),
-            Err(fault) => return Err(Fault::from(fault)),
+        let Some(reply) = self.slot_reply(slot)? else {
+            return Err(Fault::Refused(OfficeFault::Unknown));
         };
-        match reply_text(self.alloc, &reply) {
-            Ok(text) => Ok(text),
-            Err(_) => Err(Fault::Store(StoreFault::Memory)),
-        }
+        Ok(reply_text(self.alloc, &reply)?)
     }
 
     // What a key sees of its account; `None` where there is no key of the name.
     fn account_view(&mut self, key: &Name, moment: Moment) -> Result<Option<View>, StoreFault>
-        ensures was_clean { S.disk_is_clean self.new → S.disk_is_clean self.old }
-        ensures kept { S.disk_is_clean self.new → KeepsClub S.represents self.old self.new }
-        ensures found { S.disk_is_clean self.new → Returns S.represents self.old result
+        ensures reads { ReadsStore S.disk_is_clean S.represents self.old self.new result
             (λ club view. view ≡ view_in club key.now asked.Account moment) }
         ensures failed { S.disk_is_clean self.new → ReadsOrFails S.fails self.old self.new result }
     {
@@ -87,11 +65,8 @@ impl<S: ClubStore> Desk<S> {
 
     // The reply to a view of a slot, whoever asks; `None` where the facility is unknown.
     fn slot_reply(&mut self, slot: &Slot) -> Result<Option<Reply>, StoreFault>
-        ensures was_clean { S.disk_is_clean self.new → S.disk_is_clean self.old }
-        ensures kept { S.disk_is_clean self.new → KeepsClub S.represents self.old self.new }
-        ensures found { S.disk_is_clean self.new → (key : KeyRow)
-            → Returns S.represents self.old result
-            (λ club reply. reply ≡ spec.slot_reply club slot.now key) }
+        ensures reads { ReadsStore S.disk_is_clean S.represents self.old self.new result
+            (λ club reply. (key : KeyRow) → reply ≡ spec.slot_reply club slot.now key) }
         ensures failed { S.disk_is_clean self.new → ReadsOrFails S.fails self.old self.new result }
     {
         let Some(facility) = self.store.facility(&slot.facility)? else {

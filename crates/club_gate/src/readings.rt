@@ -2,8 +2,9 @@
 //! depend on.
 
 ghost use Rattle.std.specs.Prelude.{◌≡◌, option_map};
-ghost use Rattle.club_core.specs.Store.{KeepsClub, ReadsOrFails, Returns};
+ghost use Rattle.club_core.specs.Store.{ReadsOrFails};
 ghost use Rattle.club_core.specs.Sums.{spent_under};
+ghost use Rattle.club_gate.specs.Desk.{ReadsStore};
 ghost use Rattle.club_gate.specs.Reading as read;
 ghost use Rattle.club_gate.specs.Verify.{OfItsPass};
 
@@ -19,9 +20,7 @@ impl<S: ClubStore> Desk<S> {
     /// Reads what caveats depend on, except what the key has spent: the facility, and the booking
     /// that has the number that is asked for.
     pub(crate) fn first_view(&mut self, key: &Key, request: &Request) -> Result<View, StoreFault>
-        ensures was_clean { S.disk_is_clean self.new → S.disk_is_clean self.old }
-        ensures kept { S.disk_is_clean self.new → KeepsClub S.represents self.old self.new }
-        ensures found { S.disk_is_clean self.new → Returns S.represents self.old result
+        ensures { ReadsStore S.disk_is_clean S.represents self.old self.new result
             (λ club view. view ≡ read.first_view club key.now request.now) }
     {
         let mut view = View::of_key(key);
@@ -44,10 +43,8 @@ impl<S: ClubStore> Desk<S> {
         key: &Name,
         ask: &Ask,
     ) -> Result<Option<CaveatFault>, StoreFault>
-        ensures was_clean { S.disk_is_clean self.new → S.disk_is_clean self.old }
-        ensures kept { S.disk_is_clean self.new → KeepsClub S.represents self.old self.new }
-        ensures found { S.disk_is_clean self.new → OfItsPass (F.left source.now)
-            (λ pass. Returns S.represents self.old result (λ club fault.
+        ensures { ReadsStore S.disk_is_clean S.represents self.old self.new result
+            (λ club fault. OfItsPass (F.left source.now) (λ pass.
             fault ≡ read.fault_after pass (spent_under key.now club.bookings) ask.now)) }
     {
         if !depends_on_spent(source, ask) {
@@ -59,9 +56,7 @@ impl<S: ClubStore> Desk<S> {
 
     /// Adds the state of a slot to the view.
     fn with_slot(&mut self, view: View, slot: &Slot) -> Result<View, StoreFault>
-        ensures was_clean { S.disk_is_clean self.new → S.disk_is_clean self.old }
-        ensures kept { S.disk_is_clean self.new → KeepsClub S.represents self.old self.new }
-        ensures found { S.disk_is_clean self.new → Returns S.represents self.old result
+        ensures { ReadsStore S.disk_is_clean S.represents self.old self.new result
             (λ club found. found ≡ read.with_slot club slot.now view) }
     {
         let SlotUse { taken, closed } = self.store.slot(slot)?;
@@ -75,9 +70,7 @@ impl<S: ClubStore> Desk<S> {
     /// Adds the row, the balance and the open bookings of the key's member; `None` if the club has
     /// no such member.
     fn with_member(&mut self, view: View, moment: Moment) -> Result<Option<View>, StoreFault>
-        ensures was_clean { S.disk_is_clean self.new → S.disk_is_clean self.old }
-        ensures kept { S.disk_is_clean self.new → KeepsClub S.represents self.old self.new }
-        ensures found { S.disk_is_clean self.new → Returns S.represents self.old result
+        ensures reads { ReadsStore S.disk_is_clean S.represents self.old self.new result
             (λ club found. found ≡ read.with_member club moment view) }
         ensures failed { S.disk_is_clean self.new → ReadsOrFails S.fails self.old self.new result }
     {
@@ -101,11 +94,9 @@ impl<S: ClubStore> Desk<S> {
         slot: &Slot,
         moment: Moment,
     ) -> Result<Option<View>, StoreFault>
-        ensures was_clean { S.disk_is_clean self.new → S.disk_is_clean self.old }
-        ensures kept { S.disk_is_clean self.new → KeepsClub S.represents self.old self.new }
-        ensures found { S.disk_is_clean self.new → Returns S.represents self.old result
-            (λ club found. found
-            ≡ read.with_member club moment (read.with_slot club slot.now view)) }
+        ensures { ReadsStore S.disk_is_clean S.represents self.old self.new result
+            (λ club found.
+            found ≡ read.with_member club moment (read.with_slot club slot.now view)) }
     {
         let view = self.with_slot(view, slot)?;
         self.with_member(view, moment)
@@ -117,11 +108,9 @@ impl<S: ClubStore> Desk<S> {
         view: View,
         moment: Moment,
     ) -> Result<Option<View>, StoreFault>
-        ensures was_clean { S.disk_is_clean self.new → S.disk_is_clean self.old }
-        ensures kept { S.disk_is_clean self.new → KeepsClub S.represents self.old self.new }
-        ensures found { S.disk_is_clean self.new → Returns S.represents self.old result
-            (λ club found. found ≡ option_map (read.with_spent club)
-            (read.with_member club moment view)) }
+        ensures reads { ReadsStore S.disk_is_clean S.represents self.old self.new result
+            (λ club found.
+            found ≡ option_map (read.with_spent club) (read.with_member club moment view)) }
         ensures failed { S.disk_is_clean self.new → ReadsOrFails S.fails self.old self.new result }
     {
         let Some(view) = self.with_member(view, moment)? else {
@@ -138,9 +127,7 @@ impl<S: ClubStore> Desk<S> {
         request: &Request,
         moment: Moment,
     ) -> Result<Option<View>, StoreFault>
-        ensures was_clean { S.disk_is_clean self.new → S.disk_is_clean self.old }
-        ensures kept { S.disk_is_clean self.new → KeepsClub S.represents self.old self.new }
-        ensures found { S.disk_is_clean self.new → Returns S.represents self.old result
+        ensures { ReadsStore S.disk_is_clean S.represents self.old self.new result
             (λ club found. found ≡ read.last_view club request.now moment view) }
     {
         match request {

@@ -17,14 +17,14 @@ ghost use Rattle.pass_forms.specs.declared.form.Form.TheVariants.{Json};
 ghost use Rattle.pass_forms.specs.FieldSource.{pass_fields};
 ghost use Rattle.pass_forms.specs.Pass.{Plain};
 ghost use Rattle.pass_json.specs.computed.AnyForm.{reading, reading_in_form};
-ghost use Rattle.club_core.specs.Answer.{form_refusal, verdict_in};
-ghost use Rattle.club_core.specs.Store.{KeepsClub, Returns};
-ghost use Rattle.club_core.specs.Verdict.{refusal_verdict};
+ghost use Rattle.club_core.specs.Answer.{verdict_in};
 ghost use Rattle.club_laws.specs.SingleRequest.{words_with};
-ghost use Rattle.club_gate.specs.DecodedPass.{fault_of, machine_pass, decoded_words};
+ghost use Rattle.club_gate.specs.Desk.{ReadsStore};
+ghost use Rattle.club_gate.specs.DecodedPass.{machine_pass, decoded_words};
 ghost use Rattle.club_gate.specs.Served.{IsReadInPlace};
 ghost use Rattle.club_gate.specs.Verify.{
   OfItsPass,
+  RefusesText,
   answer_to_fault,
   fields_behind,
   key_in,
@@ -106,9 +106,7 @@ fn verdict_of_fault(fault: FormFault) -> Result<Verdict, StoreFault>
 impl<S: ClubStore> Desk<S> {
     /// Reads the row of the key that an identifier names; `None` if it names no key of the club.
     fn key_row(&mut self, identifier: &[u8]) -> Result<Option<Key>, StoreFault>
-        ensures was_clean { S.disk_is_clean self.new → S.disk_is_clean self.old }
-        ensures kept { S.disk_is_clean self.new → KeepsClub S.represents self.old self.new }
-        ensures found { S.disk_is_clean self.new → Returns S.represents self.old result
+        ensures { ReadsStore S.disk_is_clean S.represents self.old self.new result
             (λ club key. key ≡ key_in club identifier.now) }
     {
         match key_name_in(identifier) {
@@ -125,12 +123,9 @@ impl<S: ClubStore> Desk<S> {
         source: &mut F,
         moment: Moment,
     ) -> Result<Result<Key, Refusal>, StoreFault>
-        ensures was_clean { S.disk_is_clean self.new → S.disk_is_clean self.old }
-        ensures kept { S.disk_is_clean self.new → KeepsClub S.represents self.old self.new }
-        ensures found { S.disk_is_clean self.new → (pass : Plain)
-            → F.left source.old ≡ pass_fields pass
-            → Returns S.represents self.old result
-            (λ club signer. signer ≡ signer_in club pass moment) }
+        ensures { ReadsStore S.disk_is_clean S.represents self.old self.new result
+            (λ club signer. (pass : Plain) → F.left source.old ≡ pass_fields pass
+            → signer ≡ signer_in club pass moment) }
     {
         let Some(identifier) = identifier_from(source) else {
             return Ok(Err(Refusal::NotVerified));
@@ -150,12 +145,9 @@ impl<S: ClubStore> Desk<S> {
         source: &F,
         moment: Moment,
     ) -> Result<Result<Key, Refusal>, StoreFault>
-        ensures was_clean { S.disk_is_clean self.new → S.disk_is_clean self.old }
-        ensures kept { S.disk_is_clean self.new → KeepsClub S.represents self.old self.new }
-        ensures found { S.disk_is_clean self.new → (pass : Plain)
-            → F.left source.now ≡ pass_fields pass
-            → Returns S.represents self.old result
-            (λ club signer. signer ≡ signer_in club pass moment) }
+        ensures { ReadsStore S.disk_is_clean S.represents self.old self.new result
+            (λ club signer. (pass : Plain) → F.left source.now ≡ pass_fields pass
+            → signer ≡ signer_in club pass moment) }
     {
         let mut fields = source.again();
         self.signer_of_fields(&mut fields, moment)
@@ -170,11 +162,9 @@ impl<S: ClubStore> Desk<S> {
         request: &Request,
         moment: Moment,
     ) -> Result<Verdict, StoreFault>
-        ensures was_clean { S.disk_is_clean self.new → S.disk_is_clean self.old }
-        ensures kept { S.disk_is_clean self.new → KeepsClub S.represents self.old self.new }
-        ensures found { S.disk_is_clean self.new → OfItsPass (F.left source.now)
-            (λ pass. Returns S.represents self.old result
-            (λ club verdict. verdict ≡ verdict_read club key.now pass request.now moment)) }
+        ensures { ReadsStore S.disk_is_clean S.represents self.old self.new result
+            (λ club verdict. OfItsPass (F.left source.now) (λ pass.
+            verdict ≡ verdict_read club key.now pass request.now moment)) }
     {
         let view = self.first_view(key, request)?;
         let fault = self.caveat_fault(source, &key.name, &view.ask(request, moment))?;
@@ -193,10 +183,8 @@ impl<S: ClubStore> Desk<S> {
         request: &Request,
         moment: Moment,
     ) -> Result<Verdict, StoreFault>
-        ensures was_clean { S.disk_is_clean self.new → S.disk_is_clean self.old }
-        ensures kept { S.disk_is_clean self.new → KeepsClub S.represents self.old self.new }
-        ensures returned { S.disk_is_clean self.new → OfItsPass (F.left source.now)
-            (λ pass. Returns S.represents self.old result (λ club verdict.
+        ensures { ReadsStore S.disk_is_clean S.represents self.old self.new result
+            (λ club verdict. OfItsPass (F.left source.now) (λ pass.
             verdict ≡ verdict_in club (words_with (machine_pass pass) request.now) moment)) }
     {
         views_decide();
@@ -217,18 +205,11 @@ impl<S: ClubStore> Desk<S> {
         request: &Request,
         moment: Moment,
     ) -> Result<Verdict, StoreFault>
-        ensures was_clean { S.disk_is_clean self.new → S.disk_is_clean self.old }
-        ensures kept { S.disk_is_clean self.new → KeepsClub S.represents self.old self.new }
-        ensures returned { S.disk_is_clean self.new
-            → Returns S.represents self.old result (λ club verdict.
+        ensures reads { ReadsStore S.disk_is_clean S.represents self.old self.new result
+            (λ club verdict.
             verdict ≡ verdict_in club (words_in_form form bytes.now request.now) moment) }
-        ensures untouched { (fault : FaultOfForm) → reading_in_form form bytes.now ≡ Err fault
-            → self.new ≡ self.old }
-        ensures unchanged { (fault : FaultOfForm) → reading_in_form form bytes.now ≡ Err fault
-            → IfOk result (λ verdict. verdict.change ≡ None) }
-        ensures in_place { (fault : FaultOfForm) → form ≢ Json
-            → reading_in_form form bytes.now ≡ Err fault
-            → result ≡ Ok (refusal_verdict (form_refusal (fault_of fault))) }
+        ensures refused { (fault : FaultOfForm) → reading_in_form form bytes.now ≡ Err fault
+            → RefusesText self.old self.new (form ≢ Json) fault result }
     {
         reads_v1_exactly();
         reads_v2_exactly();
@@ -255,18 +236,11 @@ impl<S: ClubStore> Desk<S> {
         words: &SentWords,
         moment: Moment,
     ) -> Result<Verdict, StoreFault>
-        ensures was_clean { S.disk_is_clean self.new → S.disk_is_clean self.old }
-        ensures kept { S.disk_is_clean self.new → KeepsClub S.represents self.old self.new }
-        ensures returned { S.disk_is_clean self.new → Returns S.represents self.old result
-            (λ club verdict. verdict ≡ verdict_in club
-            (decoded_words words.now.pass.now words.now.request) moment) }
-        ensures untouched { (fault : FaultOfForm) → reading words.now.pass.now ≡ Err fault
-            → self.new ≡ self.old }
-        ensures unchanged { (fault : FaultOfForm) → reading words.now.pass.now ≡ Err fault
-            → IfOk result (λ verdict. verdict.change ≡ None) }
-        ensures in_place { (fault : FaultOfForm) → IsReadInPlace words.now.pass.now
-            → reading words.now.pass.now ≡ Err fault
-            → result ≡ Ok (refusal_verdict (form_refusal (fault_of fault))) }
+        ensures reads { ReadsStore S.disk_is_clean S.represents self.old self.new result
+            (λ club verdict. verdict
+            ≡ verdict_in club (decoded_words words.now.pass.now words.now.request) moment) }
+        ensures refused { (fault : FaultOfForm) → reading words.now.pass.now ≡ Err fault
+            → RefusesText self.old self.new (IsReadInPlace words.now.pass.now) fault result }
     {
         reads_what_is_wrapped();
         refuses_what_wraps_nothing();

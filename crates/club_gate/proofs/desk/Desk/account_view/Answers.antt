@@ -1,4 +1,4 @@
-use Rattle.std.proofs.Common.{◌∙◌, sym, ap}
+use Rattle.std.proofs.Common.{◌∙◌, sym, ap, rules}
 use Rattle.std.specs.Prelude.{option_map}
 use Rattle.std.proofs.lemmas.List.Elements.{All-head}
 use Rattle.std.proofs.lemmas.Result.{IfOk-weaker}
@@ -8,15 +8,19 @@ use Rattle.club_gate.specs.Reading.{with_member, with_spent}
 use Rattle.club_gate.proofs.Reading.{account_seen}
 use Rattle.club_gate.proofs.desk.Desk.account_view.Goals as goal
 
-pub returns-clause-found : goal.returns-clause-found
-returns-clause-found g c = λ was_clean club others represents.
-    let before = c.with_sums.ensures.was_clean was_clean in
-    let inside = rw (← c.self.view_is) at represents in
-    let row = c.in_ok-key.ensures.returned before club others inside in
-    let sound = All-head IsSound club others (g.met.S.ClubStore.sound c.self.inside.store club others inside) in
-    let seen = account_seen c.own_bookings_suffice.ensures club c.args.key.now c.in-Some.key c.args.moment sound (sym row ∙ c.in-Some.is) in
-    IfOk-weaker c.with_sums.result _ _
-    (λ found e.
-    e
-    ∙ (ap (λ (view : View). option_map (with_spent club) (with_member club c.args.moment view)) c.of_key.ensures ∙ seen))
-    (c.with_sums.ensures.found was_clean club others (c.key.ensures.kept before club others inside))
+pub returns-clause-reads : goal.returns-clause-reads
+returns-clause-reads g c = record {
+  was_clean = search rules;
+  kept = search rules;
+  returns = λ was_clean club others represents.
+      let before = c.with_sums.ensures.reads.was_clean was_clean in
+      let inside = rw (← c.self.view_is) at represents in
+      let row = c.in_ok-key.ensures.returned before club others inside in
+      let sound = All-head IsSound club others (g.met.S.ClubStore.sound c.self.inside.store club others inside) in
+      let seen = account_seen c.own_bookings_suffice.ensures club c.args.key.now c.in-Some.key c.args.moment sound (sym row ∙ c.in-Some.is) in
+      IfOk-weaker c.with_sums.result _ _
+      (λ found e.
+      e
+      ∙ (ap (λ (view : View). option_map (with_spent club) (with_member club c.args.moment view)) c.of_key.ensures ∙ seen))
+      (c.with_sums.ensures.reads.returns was_clean club others (c.key.ensures.kept before club others inside));
+}

@@ -1,4 +1,4 @@
-use Rattle.std.proofs.Common.{inl, inr}
+use Rattle.std.proofs.Common.{inl, inr, ◌∙◌}
 use Rattle.std.proofs.lemmas.List.Elements.{All-head}
 use Rattle.club_core.specs.Club.{IsSound}
 use Rattle.club_gate.specs.DecodedPass.{decoded_words}
@@ -10,20 +10,31 @@ returns-in_err-settle-clause-steps g c = λ was_clean club others represents.
     let before = c.settle.ensures.was_clean was_clean in
     let words = decoded_words c.args.words.now.pass.now c.args.words.now.request in
     let verdict = c.in_ok-verdict.verdict in
-    let decided = c.in_ok-verdict.ensures.returned before club others represents in
+    let decided = c.in_ok-verdict.ensures.reads.returns before club others represents in
     let sound = All-head IsSound club others (g.met.S.ClubStore.sound c.args.self.now club others represents) in
     let fits = ask_fits c.changes_fit.ensures club words c.args.moment verdict sound c.within.ensures decided in
     inr (ask_failed g.S.ClubStore.represents c.settle.new.self club others words c.args.moment verdict c.from_residual-in_err-settle.result
     c.from_residual-in_err-settle.ensures.0 decided
-    (c.in_err-settle.ensures.settled was_clean club others (c.verdict.ensures.kept before club others represents) fits))
+    (c.in_err-settle.ensures.settled was_clean club others (c.verdict.ensures.reads.kept before club others represents) fits))
 
 pub returns-clause-steps : goal.returns-clause-steps
 returns-clause-steps g c = λ was_clean club others represents.
     let before = c.settle.ensures.was_clean was_clean in
     let words = decoded_words c.args.words.now.pass.now c.args.words.now.request in
     let verdict = c.in_ok-verdict.verdict in
-    let decided = c.in_ok-verdict.ensures.returned before club others represents in
+    let decided = c.in_ok-verdict.ensures.reads.returns before club others represents in
     let sound = All-head IsSound club others (g.met.S.ClubStore.sound c.args.self.now club others represents) in
     let fits = ask_fits c.changes_fit.ensures club words c.args.moment verdict sound c.within.ensures decided in
     inl (ask_done g.S.ClubStore.represents c.settle.new.self club others c.never_unavailable.ensures words c.args.moment verdict decided
-    (c.in_ok-settle.ensures.settled was_clean club others (c.verdict.ensures.kept before club others represents) fits))
+    (c.in_ok-settle.ensures.settled was_clean club others (c.verdict.ensures.reads.kept before club others represents) fits))
+
+pub returns-in_err-verdict-clause-untouched : goal.returns-in_err-verdict-clause-untouched
+returns-in_err-verdict-clause-untouched g c = λ fault e. (c.verdict.ensures.refused fault e).same_store
+
+pub returns-in_err-settle-clause-untouched : goal.returns-in_err-settle-clause-untouched
+returns-in_err-settle-clause-untouched g c = λ fault e.
+    (c.settle.ensures.nothing (c.in_ok-verdict.ensures.refused fault e).no_change).1 ∙ (c.verdict.ensures.refused fault e).same_store
+
+pub returns-clause-untouched : goal.returns-clause-untouched
+returns-clause-untouched g c = λ fault e.
+    (c.settle.ensures.nothing (c.in_ok-verdict.ensures.refused fault e).no_change).1 ∙ (c.verdict.ensures.refused fault e).same_store

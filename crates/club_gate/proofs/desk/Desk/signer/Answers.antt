@@ -1,6 +1,12 @@
 use Rattle.std.proofs.Common.{◌∙◌}
+use Rattle.std.proofs.lemmas.Result.{IfOk-weaker}
 use Rattle.club_gate.proofs.desk.Desk.signer.Goals as goal
 
-pub returns-clause-found : goal.returns-clause-found
-returns-clause-found g c = λ was_clean pass fields club others represents.
-    c.signer_of_fields.ensures.found was_clean pass (c.again-fields.ensures ∙ fields) club others represents
+pub returns : goal.returns
+returns g c = record {
+  was_clean = c.signer_of_fields.ensures.was_clean;
+  kept = c.signer_of_fields.ensures.kept;
+  returns = λ was_clean club others represents.
+      IfOk-weaker c.signer_of_fields.result _ _ (λ signer found pass fields. found pass (c.again-fields.ensures ∙ fields))
+      (c.signer_of_fields.ensures.returns was_clean club others represents);
+}
