@@ -1,11 +1,11 @@
 //! Passes on the command line: runs `passtool_commands` on the process's arguments, standard input
-//! and
-//! standard output.
+//! and standard output.
 #![tactic(auto)]
 
 ghost use Rattle.std.specs.Prelude.{IfErr};
 ghost use Rattle.passtool_commands.specs.Fault.{IsNotText};
 
+use command_line::report;
 pub use passtool_commands::run;
 use passtool_commands::{Fault, Outcome, not_text};
 use std::process::ExitCode;
@@ -15,8 +15,7 @@ fn main(rt: HostRuntime) -> ExitCode {
     let status = match run_here(&rt) {
         Ok(outcome) => outcome.status(),
         Err(fault) => {
-            // If standard error fails too, there is nowhere to report it.
-            let _ = report(&rt, &fault);
+            report(&rt, &fault, matches!(&fault, Fault::Words(_)));
             fault.status()
         }
     };
@@ -41,13 +40,5 @@ fn given_words(rt: &HostRuntime) -> Result<Vec<String>, Fault>
         Ok(words) => Ok(words.collect(rt.alloc())?),
         Err(error) if error.kind() == io::ErrorKind::OutOfMemory => Err(Fault::Memory),
         Err(_) => Err(not_text(rt.alloc())),
-    }
-}
-
-// Prints the line of a fault; the text of `clap` ends its lines itself.
-fn report(rt: &impl Eprint, fault: &Fault) -> io::Result<()> {
-    match fault {
-        Fault::Words(text) => eprint!(rt; "{text}"),
-        _ => eprintln!(rt; "{fault}"),
     }
 }

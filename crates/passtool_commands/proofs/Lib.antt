@@ -1,7 +1,3 @@
-pub mod RootLemmas
-pub mod InputLemmas
-pub mod OutputLemmas
-pub mod AppLemmas
 pub mod OptionLemmas
 pub mod NarrowLemmas
 pub mod ShownLemmas

@@ -9,11 +9,11 @@ use Rattle.clap.specs.Simple.{built, entered, help_shape, names_of}
 use Rattle.clap.specs.Walk.{Names, Walk, nothing_held, rows_after, walk, walk_from, walked}
 use Rattle.clap.specs.declared.parser.matches.ValueSource.TheVariants.{DefaultValue}
 use Rattle.clap.proofs.OnLiterals.{clap_on_literals}
+use Rattle.command_line.specs.FormName.{form_name, form_named}
 use Rattle.pass_forms.specs.declared.form.Form.{Form}
 use Rattle.pass_forms.specs.declared.form.Form.TheVariants.{V1, V2, Json}
 use Rattle.passtool_commands.specs.Application.{application, refusals, subcommand}
 use Rattle.passtool_commands.specs.Laws.{MintTakesDefaults, MintTakesItsParts, NarrowTakesItsCaveats}
-use Rattle.passtool_commands.specs.FormName.{form_name, form_named}
 use Rattle.passtool_commands.specs.Words.{asked_command, asked_by, is_understood, checked_caveats}
 use Rattle.passtool_commands.specs.declared.command.Command.{Command}
 use Rattle.passtool_commands.proofs.CaveatWalk.{at_command, caveats_clear, given, rows_are, words_kept, words_pass}

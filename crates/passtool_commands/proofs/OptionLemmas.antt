@@ -1,25 +1,14 @@
 -- Lemmas on what clap found of a command's options.
 use Rattle.std.proofs.lemmas.List.{length-map}
 use Rattle.std.specs.List.{position, prefix_len}
-use Rattle.std.proofs.Common.{◌≡◌, ◌∙◌, ◌+◌, Bool, cond, not, List, [], ◌∷◌, map, Option, Some, None, option_map, unwrap_or, ap, refl}
+use Rattle.std.proofs.Common.{◌≡◌, ◌∙◌, ◌+◌, Bool, cond, not, List, [], ◌∷◌, map, Option, option_map, unwrap_or, ap, refl}
 use Rattle.std.specs.Borrow.{Bor}
-use Rattle.clap.specs.Words.{Text, first_value, matched_of, raw_values, rows_of}
-use Rattle.clap.proofs.WalkLemmas.{first_value-rows, raw_values-rows}
+use Rattle.clap.specs.Words.{Text, matched_of, raw_values, rows_of}
+use Rattle.clap.proofs.WalkLemmas.{raw_values-rows}
 use Rattle.clap.specs.declared.parser.matches.Found.{Found}
-use Rattle.passtool_commands.specs.Words.{value_in, argument_values}
+use Rattle.passtool_commands.specs.Words.{argument_values}
 
--- the value of an option as the code reads it
-pub value_read : (options : Found) (id : Text) (given : Option (Bor Text)) (text default : Bor Text)
-    → option_map (λ s. s.now) given ≡ first_value options id → text ≡ unwrap_or given default → default.now ≡ []
-    → text.now ≡ value_in id (rows_of options)
-value_read options id given text default first is empty =
-    ap (λ (s : Bor Text). s.now) is ∙ now_of given ∙ ap (λ o. unwrap_or o []) (first ∙ first_value-rows options id)
-  where
-    now_of : (o : Option (Bor Text)) → (unwrap_or o default).now ≡ unwrap_or (option_map (λ s. s.now) o) []
-    now_of None = empty
-    now_of (Some s) = refl
-
--- and the values of an argument
+-- the values of an argument as the code reads them
 pub values_read : (options : Found) (id : Text) (given : Option (List Text)) → given ≡ option_map raw_values (matched_of options id)
     → unwrap_or given [] ≡ argument_values id (rows_of options)
 values_read options id given is = ap (λ o. unwrap_or o []) (is ∙ raw_values-rows options id)

@@ -1,7 +1,7 @@
 -- What a command answers is what it performs.
 use Rattle.std.proofs.Common.{◌≡◌, ◌∙◌, ℕ, List, Option, Ok, Err, refl, ap, ap₂, subst, sym}
 use Rattle.std.specs.Io.KnownBytes.{Appends}
-use Rattle.passtool_commands.specs.Output.{AppendsFront}
+use Rattle.command_line.specs.Output.{AppendsFront}
 use Rattle.std.specs.Result.{result_map_both}
 use Rattle.pass_forms.specs.Reading.{UnlessMemory}
 use Rattle.pass_forms.specs.declared.fault.FormFault.{FormFault}

@@ -1,6 +1,6 @@
 -- The words of each command as clap reads them.
 use Rattle.std.proofs.Common.{◌≡◌, ℕ, true, false, eqb, List, [], ◌∷◌, Option, Some, None, Result, Ok, Err, unwrap_or, option_map, inl, inr, refl, ap, codes}
-use Rattle.std.proofs.Common.{arith}
+use Rattle.std.proofs.Common.{arith, length}
 use Rattle.std.proofs.lemmas.Bool.{cases_eq}
 use Rattle.std.proofs.lemmas.Bool.Decides.{nat_tests}
 use Rattle.clap.specs.Words.{Row, Text, first_of}
@@ -8,17 +8,16 @@ use Rattle.clap.specs.Faults.{flag_word_fault}
 use Rattle.clap.specs.Walk.{walked_from, word_met}
 use Rattle.clap.specs.Lexer.{long_of, short_of, strip_byte}
 use Rattle.clap.proofs.OnLiterals.{clap_on_literals}
+use Rattle.command_line.specs.Root.{root_among, root_of}
 use Rattle.hex.specs.Hex.{decode_of, is_hex_digit}
 use Rattle.hex.specs.declared.error.FromHexError.{FromHexError}
 use Rattle.hex.proofs.HexLemmas.{decode_of-ok}
 use Rattle.pass_forms.specs.declared.form.Form.TheVariants.{V1, V2, Json}
 use Rattle.passtool_commands.specs.Application.{application, refusals, subcommand}
 use Rattle.passtool_commands.specs.Laws.{ConvertTakesItsForm, ShowTakesNothing, VerifyTakesItsRoot}
-use Rattle.passtool_commands.specs.Root.{root_among, root_of}
 use Rattle.passtool_commands.specs.Words.{asked_command, asked_by, command_of}
 use Rattle.passtool_commands.specs.declared.command.Command.{Command}
 use Rattle.passtool_commands.specs.declared.command.Command.TheVariants.{Verify}
-use Rattle.passtool_commands.proofs.RootLemmas.{none_by_length}
 
 -- words that clap reads ask for the command that it found
 pub asked_is : (words : List Text) (found : Option (Text × List Row)) (command : Command) → refusals words ≡ [] → subcommand words ≡ found
@@ -71,6 +70,17 @@ digit_first first rest root h = go (decode_of (first ∷ rest)) refl
     go (Ok bytes) same = (decode_of-ok (first ∷ rest) bytes same).1 0 0 (omega arith)
     go (Err e) same = let bad : root_among (Err e) ≡ Some root = rw same at h in cc
 
+no_digit_no_root : (root : Text) → root_of [] ≡ Some root → ⊥
+unfolding root_of
+no_digit_no_root root h = go (decode_of []) refl h
+  where
+    go : (r : Result (List ℕ) FromHexError) → decode_of [] ≡ r → root_among r ≡ Some root → ⊥
+    go (Ok bytes) same is =
+        let none : length bytes ≡ 0 = omega (arith, (decode_of-ok [] bytes same).2) in
+        let bad : root_among (Ok bytes) ≡ None = grind (arith, nat_tests) in
+        cc
+    go (Err e) same is = cc
+
 asked_for : (found : Option (Text × List Row)) (text root : Text) → option_map named_root found ≡ Some (codes "verify", Some text)
     → root_of text ≡ Some root → asked_by found ≡ Ok (Verify root)
 asked_for None text root h is = cc
@@ -81,7 +91,7 @@ asked_for (Some p) text root h is =
     rw (name, given, is) refl
 
 pub verify_takes_its_root : VerifyTakesItsRoot
-verify_takes_its_root name [] root is = let none = none_by_length [] (inl refl) in cc
+verify_takes_its_root name [] root is = absurd (no_digit_no_root root is)
 verify_takes_its_root name (first ∷ rest) root is =
     let dash = no_dash first (digit_first first rest root is) in
     asked_is _ _ _ (nothing_against name first rest dash) refl (asked_for _ (first ∷ rest) root (found_root name first rest dash) is)

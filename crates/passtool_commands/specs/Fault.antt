@@ -3,6 +3,8 @@ use Rattle.std.specs.Prelude.{◌≡◌, ℕ, List, ◌++◌, Option, Some, None
 use Rattle.std.specs.Fmt.{decimal}
 use Rattle.clap.specs.Words.{kind_of}
 use Rattle.clap.specs.declared.error.kind.ErrorKind.TheVariants as kind
+use Rattle.command_line.specs.declared.errors.WordsFault.{WordsFault}
+use Rattle.command_line.specs.declared.errors.WordsFault.TheVariants as words
 use Rattle.passtool_commands.specs.declared.answer.Fault.{Fault}
 use Rattle.passtool_commands.specs.declared.answer.Fault.TheVariants.{Words, TooLong, Malformed, ThirdParty}
 use Rattle.passtool_commands.specs.declared.answer.Fault.TheVariants.{TooMany, Memory, CaveatNotUnderstood, BadRoot, InputOutput}
@@ -45,6 +47,11 @@ of_form form.Malformed = Malformed
 of_form form.ThirdParty = ThirdParty
 of_form form.TooMany = TooMany
 of_form form.Memory = Memory
+
+-- the fault of refused arguments
+abbrev pub of_words : WordsFault → Fault
+of_words (words.Refused error) = Words error
+of_words words.Memory = Memory
 
 -- the faults of arguments that aren't UTF-8
 abbrev pub IsNotText : Fault → Type 0

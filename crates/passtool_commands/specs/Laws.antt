@@ -1,39 +1,21 @@
 -- Laws of the definitions.
-use Rattle.std.specs.Prelude.{◌≡◌, ◌↔◌, ◌⊎◌, ℕ, List, [], ◌∷◌, ◌++◌, Some, Ok, true, false, codes, IsSomeAnd}
+use Rattle.std.specs.Prelude.{◌≡◌, ◌↔◌, ℕ, List, [], ◌∷◌, ◌++◌, Some, Ok, true, codes}
 use Rattle.std.specs.List.{list_all}
-use Rattle.clap.specs.Words.{App, Shape, Text, built, fault_of, subcommand_of}
+use Rattle.clap.specs.Words.{Text}
 use Rattle.pass_forms.specs.declared.form.Form.{Form}
 use Rattle.pass_forms.specs.declared.form.Form.TheVariants.{V2}
 use Rattle.pass_forms.specs.Pass.{IsSigned, Plain}
 use Rattle.passtool_commands.specs.Answer.{command_answer, narrowing, new_pass, pass_in}
 use Rattle.passtool_commands.specs.Application.{refusals, subcommand}
-use Rattle.passtool_commands.specs.FormName.{form_name}
+use Rattle.command_line.specs.FormName.{form_name}
 use Rattle.passtool_commands.specs.Minting.{Minting}
-use Rattle.passtool_commands.specs.Root.{root_of}
+use Rattle.command_line.specs.Root.{root_of}
 use Rattle.passtool_commands.specs.Shown.{with_line_feed}
 use Rattle.passtool_commands.specs.Words.{FindsCommand, asked_command, is_understood}
 use Rattle.passtool_commands.specs.declared.answer.Outcome.TheVariants.{Done}
 use Rattle.passtool_commands.specs.declared.command.Command.TheVariants.{Mint, Show, Narrow, Convert, Verify}
 
 -- ---- arguments
-
--- The commands of an application as clap builds it. One of them must be named, and clap's own `help` comes last.
-pub record HasCommands (app : App) (commands : List Shape) (help : Shape) : Type 0 where
-  pub helps : (built app).top.disable_help_subcommand ≡ false
-  pub needs : (built app).top.subcommand_required ≡ true
-  pub all : (built app).subs ≡ commands ++ help ∷ []
-  pub help_name : help.name ≡ codes "help"
-  pub bare : help.aliases ≡ []
-
--- the name of one of them
-abbrev pub IsNameAmong : List Shape → Text → Type 0
-IsNameAmong [] name = ⊥
-IsNameAmong (command ∷ commands) name = (name ≡ command.name) ⊎ IsNameAmong commands name
-
--- Arguments that clap accepts for any such application name one of its commands other than `help`.
-abbrev pub WordsEnterACommand : Type 0
-WordsEnterACommand = (app : App) (commands : List Shape) (help : Shape) → HasCommands app commands help → (words : List Text)
-    → fault_of app words ≡ [] → IsSomeAnd (subcommand_of app words) (λ found. IsNameAmong commands found.0)
 
 -- Arguments that clap accepts name a command.
 abbrev pub WordsNameACommand : Type 0

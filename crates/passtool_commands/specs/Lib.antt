@@ -1,9 +1,5 @@
 pub mod Application
-pub mod Root
 pub mod Minting
-pub mod FormName
-pub mod Input
-pub mod Output
 pub mod Fault
 pub mod Shown
 pub mod Answer

@@ -6,7 +6,7 @@ use Rattle.std.specs.Io.KnownBytes.{Appends, Keeps}
 use Rattle.clap.specs.Words.{Text}
 use Rattle.passtool_commands.specs.Answer.{ReadsBack, OutcomeText, command_answer, reads_input}
 use Rattle.passtool_commands.specs.Fault.{of_form}
-use Rattle.passtool_commands.specs.Input.{ReadsAtMost}
+use Rattle.command_line.specs.Input.{ReadsAtMost}
 use Rattle.passtool_commands.specs.Words.{AsksText, IsFaultOf, asked_command}
 use Rattle.passtool_commands.specs.declared.answer.Fault.{Fault}
 use Rattle.passtool_commands.specs.declared.answer.Fault.TheVariants.{Words, TooLong, Malformed, ThirdParty, TooMany, Memory, BadRoot, CaveatNotUnderstood}

@@ -5,7 +5,7 @@ use Rattle.std.specs.List.{flat_map}
 use Rattle.hex.specs.Hex.{encode_lower}
 use Rattle.pass_forms.specs.declared.form.Form.{Form}
 use Rattle.pass_forms.specs.Pass.{Plain}
-use Rattle.passtool_commands.specs.FormName.{form_name}
+use Rattle.command_line.specs.FormName.{form_name}
 
 -- a text with the line feed that ends it
 abbrev pub with_line_feed : List ℕ → List ℕ

@@ -1,19 +1,19 @@
 -- What the arguments ask for (ours).
-use Rattle.std.specs.Prelude.{◌≡◌, ◌≢◌, ◌⊎◌, ℕ, ◌+◌, Bool, not, IsSomeAnd, if◌then◌else◌, List, [], Option, Some, None, is_some, Result, Ok, Err, codes}
+use Rattle.std.specs.Prelude.{◌≡◌, ◌⊎◌, ℕ, ◌+◌, Bool, not, IsSomeAnd, if◌then◌else◌, List, [], Option, Some, None, is_some, Result, Ok, Err, codes}
 use Rattle.std.specs.Prelude.{position}
 use Rattle.std.specs.Prelude.{unwrap_or}
 use Rattle.std.specs.Option.{ok_or}
 use Rattle.std.specs.Result.{result_ok}
 use Rattle.std.specs.Str.{bytes_eq}
-use Rattle.clap.specs.Words.{IsAmong, Row, Text, all_of, first_of, kind_of}
-use Rattle.clap.specs.declared.error.kind.ErrorKind.{ErrorKind}
+use Rattle.clap.specs.Words.{Row, Text, all_of, kind_of}
 use Rattle.clap.specs.declared.error.kind.ErrorKind.TheVariants as kind
 use Rattle.clap.specs.Walk.{is_empty}
+use Rattle.command_line.specs.FormName.{form_named}
+use Rattle.command_line.specs.Root.{root_of}
+use Rattle.command_line.specs.Words.{HasText, IsRefusedAs, is_set, value_in}
 use Rattle.pass_caveats.specs.computed.CaveatOf.{caveat_of}
 use Rattle.pass_forms.specs.declared.form.Form.{Form}
 use Rattle.passtool_commands.specs.Application.{refusals, subcommand}
-use Rattle.passtool_commands.specs.FormName.{form_named}
-use Rattle.passtool_commands.specs.Root.{root_of}
 use Rattle.passtool_commands.specs.declared.answer.Fault.{Fault}
 use Rattle.passtool_commands.specs.declared.answer.Fault.TheVariants.{Words, BadRoot, CaveatNotUnderstood, Memory}
 use Rattle.passtool_commands.specs.declared.command.Command.{Command}
@@ -34,10 +34,6 @@ infixl 10 ◌>>=◌
 abbrev pub ◌>>=◌ : {A B : Type 0} → Result A ArgumentRefusal → (A → Result B ArgumentRefusal) → Result B ArgumentRefusal
 Ok x >>= f = f x
 Err refusal >>= f = Err refusal
-
--- the value of an option, empty if it was left out
-abbrev pub value_in : Text → List Row → Text
-value_in id rows = unwrap_or (first_of id rows) []
 
 -- the values of an argument that may be used again and again
 abbrev pub argument_values : Text → List Row → List Text
@@ -64,9 +60,9 @@ mint_of rows = do
     caveats = caveats_in rows;
   }))
 
--- `--any` was given, which clap represents by the text `true`
+-- `--any` was given
 abbrev pub takes_any : List Row → Bool
-takes_any rows = bytes_eq (value_in (codes "any") rows) (codes "true")
+takes_any rows = is_set (codes "any") rows
 
 -- the text is a caveat of the language
 abbrev pub is_understood : Text → Bool
@@ -131,11 +127,7 @@ asked_command words = if is_empty (refusals words) then result_ok (command_of wo
 
 -- arguments that ask for a text: help, or the version
 abbrev pub AsksText : List Text → Type 0
-AsksText words = IsAmong kind.DisplayHelp (refusals words) ⊎ IsAmong kind.DisplayVersion (refusals words)
-
--- the kind of an error that isn't such a text
-abbrev pub IsNoText : ErrorKind → Type 0
-IsNoText of_kind = (of_kind ≢ kind.DisplayHelp) × (of_kind ≢ kind.DisplayVersion)
+AsksText words = HasText (refusals words)
 
 -- A call returns what is asked for, or the fault that applies, or out of memory in place of either.
 abbrev pub AnswersAsked : {A : Type 0} → Result A ArgumentRefusal → Result A Fault → Type 0
@@ -148,7 +140,7 @@ AnswersAsked expected (Err _) = ⊥
 
 -- The fault of the arguments: clap decides first.
 abbrev pub IsFaultOf : List Text → Fault → Type 0
-IsFaultOf words (Words error) = (IsAmong (kind_of error) (refusals words) × IsNoText (kind_of error))
+IsFaultOf words (Words error) = IsRefusedAs (refusals words) (kind_of error)
     ⊎ ((refusals words ≡ []) × (command_of words ≡ Err bad_form) × (kind_of error ≡ kind.InvalidValue))
 IsFaultOf words BadRoot = (refusals words ≡ []) × (command_of words ≡ Err bad_root)
 IsFaultOf words (CaveatNotUnderstood number) =

@@ -3,6 +3,7 @@
 ghost use Rattle.std.specs.Prelude.{◌≡◌};
 ghost use Rattle.std.specs.String.{string_bytes};
 
+use command_line::WordsFault;
 use pass_forms::FormFault;
 use std::alloc::AllocError;
 use std::marker::Model;
@@ -154,6 +155,20 @@ impl From<io::Error> for Fault {
 
     fn from(_error: io::Error) -> Fault {
         Fault::InputOutput
+    }
+}
+
+impl From<WordsFault> for Fault {
+    ghost use Rattle.std.specs.Prelude.{◌≡◌};
+    ghost use Rattle.passtool_commands.specs.Fault.{of_words};
+
+    ghost from_gives = { λ returned fault. fault ≡ of_words returned };
+
+    fn from(returned: WordsFault) -> Fault {
+        match returned {
+            WordsFault::Refused(error) => Fault::Words(error),
+            WordsFault::Memory => Fault::Memory,
+        }
     }
 }
 

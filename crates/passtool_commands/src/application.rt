@@ -1,17 +1,18 @@
 //! The commands and their options, with their help texts.
 
-ghost use Rattle.std.specs.Prelude.{◌≡◌, IfOk, IsOkAnd, false};
-ghost use Rattle.clap.specs.Words.{AddsSubcommand, app_of, rule_of};
+ghost use Rattle.std.specs.Prelude.{◌≡◌, IfOk, false};
+ghost use Rattle.clap.specs.Words.{app_of, rule_of};
+ghost use Rattle.command_line.specs.Application.{IsMade};
 ghost use Rattle.passtool_commands.specs.Application as spec;
 ghost use Rattle.passtool_commands.specs.Fault.{IsNotText};
 
 use crate::answer::Fault;
-use crate::errors::text_error;
 use clap::{Arg, ArgAction, Command};
+use command_line::{
+    make_flag, make_form, make_form_or_v2, make_option, make_program, new_command, text_fault,
+    with_argument, with_command,
+};
 use std::alloc::{AllocError, Global};
-
-/// The version of both programs, which `--version` prints.
-pub const VERSION: &str = "0.1.0";
 
 const LOCATION_HELP: &str =
     "A hint at who made the pass; not signed, not checked; empty where it is left out";
@@ -61,90 +62,61 @@ pub fn make_application<'a>(alloc: Global) -> Result<Command<'a>, AllocError>
 pub fn not_text(alloc: Global) -> Fault
     ensures { IsNotText result }
 {
-    let Ok(application) = make_application(alloc) else {
-        return Fault::Memory;
-    };
-    match text_error(application) {
-        Ok(error) => Fault::Words(error),
-        Err(_) => Fault::Memory,
-    }
+    Fault::from(text_fault(make_application(alloc)))
 }
 
 // The program before its commands.
 fn make_top<'a>(alloc: Global) -> Command<'a>
     ensures { app_of result ≡ spec.top }
 {
-    Command::new(alloc, "passtool")
-        .version(VERSION)
-        .about("Passes on the command line")
-        .after_long_help(STATUSES)
-        .subcommand_required(true)
-}
-
-/// The program with one more command, or the command's error.
-///
-/// # Errors
-///
-/// `AllocError` if an allocation fails, here or in the command.
-pub fn with_command<'a>(
-    app: Command<'a>,
-    command: Result<Command<'a>, AllocError>,
-) -> Result<Command<'a>, AllocError>
-    ensures { IfOk result (λ made.
-        IsOkAnd command.entry (λ added. AddsSubcommand app.entry added made)) }
-{
-    app.subcommand(command?)
+    make_program(alloc, "passtool", "Passes on the command line", STATUSES)
 }
 
 fn make_mint<'a>(alloc: Global) -> Result<Command<'a>, AllocError>
-    ensures { IfOk result (spec.IsMade spec.mint_command) }
+    ensures { IfOk result (IsMade spec.mint_command) }
 {
-    Command::new(alloc, "mint")
-        .about("Prints a new pass, signed under a root; reads no input")
-        .after_help(
-            "Example:\n  passtool mint --root 00ff --id key:amy-1 --form v1 \"kind = court\"",
-        )
-        .arg(make_root(alloc))?
-        .arg(make_option(alloc, "id", "ID", "The identifier").required(true))?
-        .arg(make_option(alloc, "location", "LOCATION", LOCATION_HELP))?
-        .arg(make_form(alloc).default_value("v2"))?
-        .arg(make_caveats(alloc))
+    let about = "Prints a new pass, signed under a root; reads no input";
+    let help = "Example:\n  passtool mint --root 00ff --id key:amy-1 --form v1 \"kind = court\"";
+    let command = new_command(alloc, "mint", about, help);
+    let command = with_argument(command, make_root(alloc))?;
+    let command = with_argument(command, make_id(alloc))?;
+    let location = make_option(alloc, "location", "LOCATION", LOCATION_HELP);
+    let command = with_argument(command, location)?;
+    let command = with_argument(command, make_form_or_v2(alloc))?;
+    with_argument(command, make_caveats(alloc))
 }
 
 fn make_show<'a>(alloc: Global) -> Command<'a>
-    ensures { spec.IsMade spec.show_command result }
+    ensures { IsMade spec.show_command result }
 {
-    Command::new(alloc, "show")
-        .about("Prints the fields of the pass on standard input, one a line")
-        .after_help("Example:\n  passtool show < pass")
+    let about = "Prints the fields of the pass on standard input, one a line";
+    new_command(alloc, "show", about, "Example:\n  passtool show < pass")
 }
 
 fn make_narrow<'a>(alloc: Global) -> Result<Command<'a>, AllocError>
-    ensures { IfOk result (spec.IsMade spec.narrow_command) }
+    ensures { IfOk result (IsMade spec.narrow_command) }
 {
-    Command::new(alloc, "narrow")
-        .about("Prints the pass on standard input with caveats added, in the form it came in")
-        .after_help(NARROW_HELP)
-        .arg(make_any(alloc))?
-        .arg(make_caveats(alloc).required(true))
+    let about = "Prints the pass on standard input with caveats added, in the form it came in";
+    let command = new_command(alloc, "narrow", about, NARROW_HELP);
+    let command = with_argument(command, make_any(alloc))?;
+    with_argument(command, make_required_caveats(alloc))
 }
 
 fn make_convert<'a>(alloc: Global) -> Result<Command<'a>, AllocError>
-    ensures { IfOk result (spec.IsMade spec.convert_command) }
+    ensures { IfOk result (IsMade spec.convert_command) }
 {
-    Command::new(alloc, "convert")
-        .about("Prints the pass on standard input in a form")
-        .after_help("Example:\n  passtool convert --form json < pass")
-        .arg(make_form(alloc).required(true))
+    let about = "Prints the pass on standard input in a form";
+    let help = "Example:\n  passtool convert --form json < pass";
+    let command = new_command(alloc, "convert", about, help);
+    with_argument(command, make_required_form(alloc))
 }
 
 fn make_verify<'a>(alloc: Global) -> Result<Command<'a>, AllocError>
-    ensures { IfOk result (spec.IsMade spec.verify_command) }
+    ensures { IfOk result (IsMade spec.verify_command) }
 {
-    Command::new(alloc, "verify")
-        .about("Tells whether the pass on standard input is signed under a root")
-        .after_help(VERIFY_HELP)
-        .arg(make_root(alloc))
+    let about = "Tells whether the pass on standard input is signed under a root";
+    let command = new_command(alloc, "verify", about, VERIFY_HELP);
+    with_argument(command, make_root(alloc))
 }
 
 fn make_root<'a>(alloc: Global) -> Arg<'a>
@@ -155,32 +127,26 @@ fn make_root<'a>(alloc: Global) -> Arg<'a>
     make_option(alloc, "root", "ROOT", help).required(true)
 }
 
-fn make_form<'a>(alloc: Global) -> Arg<'a>
-    ensures rule { rule_of result ≡ spec.form_option }
+fn make_id<'a>(alloc: Global) -> Arg<'a>
+    ensures rule { rule_of result ≡ spec.id_option }
     ensures local { result.global ≡ false }
 {
-    make_option(alloc, "form", "FORM", "v1, v2 or json")
+    make_option(alloc, "id", "ID", "The identifier").required(true)
 }
 
-// `--NAME VALUE`
-fn make_option<'a>(alloc: Global, name: &'a str, value: &'a str, help: &'a str) -> Arg<'a>
-    ensures rule { rule_of result ≡ spec.option_named name.entry.now }
+fn make_required_form<'a>(alloc: Global) -> Arg<'a>
+    ensures rule { rule_of result ≡ spec.required_form }
     ensures local { result.global ≡ false }
 {
-    Arg::new(alloc, name)
-        .long(name)
-        .value_name(value)
-        .help(help)
+    make_form(alloc).required(true)
 }
 
 fn make_any<'a>(alloc: Global) -> Arg<'a>
     ensures rule { rule_of result ≡ spec.any_flag }
     ensures local { result.global ≡ false }
 {
-    Arg::new(alloc, "any")
-        .long("any")
-        .action(ArgAction::SetTrue)
-        .help("Takes any caveats, not only those that the desk understands")
+    let help = "Takes any caveats, not only those that the desk understands";
+    make_flag(alloc, "any", help)
 }
 
 fn make_caveats<'a>(alloc: Global) -> Arg<'a>
@@ -191,4 +157,11 @@ fn make_caveats<'a>(alloc: Global) -> Arg<'a>
         .value_name("CAVEAT")
         .action(ArgAction::Append)
         .help("Caveats to add, in this order; behind -- they may begin with a dash")
+}
+
+fn make_required_caveats<'a>(alloc: Global) -> Arg<'a>
+    ensures rule { rule_of result ≡ spec.required_caveats }
+    ensures local { result.global ≡ false }
+{
+    make_caveats(alloc).required(true)
 }

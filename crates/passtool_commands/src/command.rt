@@ -8,16 +8,15 @@ use crate::answer::{Answer, Fault, Outcome};
 use crate::application::make_application;
 use crate::caveats::Caveats;
 use crate::convert::convert;
-use crate::input::{MAX_READ, fill};
+use crate::input::MAX_READ;
+use crate::laws::words_name_a_command;
 use crate::mint::Mint;
 use crate::narrow::narrow;
-use crate::options::{caveats_of, form_of, root_of, value_of};
-use crate::output::write_text;
-use crate::root::Root;
+use crate::options::{caveats_of, form_of, root_of};
 use crate::show::show;
 use crate::verify::verify;
 use clap::ArgMatches;
-use clap::error::ErrorKind;
+use command_line::{Parsed, Root, fill, is_set, parse, value_of, write_text};
 use pass_forms::{Form, FormFault};
 use std::alloc::Global;
 use std::convert::AsStr;
@@ -53,21 +52,15 @@ impl<'a> Request<'a> {
     pub fn from_words<S: AsStr>(alloc: Global, words: &'a [S]) -> Result<Request<'a>, Fault>
         ensures { ReadsWords (map S.text words.entry.now) result }
     {
-        let application = match make_application(alloc) {
-            Ok(application) => application,
-            Err(_) => return Err(Fault::Memory),
-        };
-        match application.try_get_matches_from(words) {
-            Ok(matches) => match Command::from_matches(alloc, &matches) {
+        // By this law the arguments that are accepted name a command.
+        words_name_a_command();
+        match parse(make_application(alloc), words) {
+            Ok(Parsed::Matches(matches)) => match Command::from_matches(alloc, &matches) {
                 Ok(command) => Ok(Request::Perform(command)),
                 Err(fault) => Err(fault),
             },
-            Err(error) => match error.kind() {
-                ErrorKind::DisplayHelp => Ok(Request::ShowText(error)),
-                ErrorKind::DisplayVersion => Ok(Request::ShowText(error)),
-                ErrorKind::OutOfMemory => Err(Fault::Memory),
-                _ => Err(Fault::Words(error)),
-            },
+            Ok(Parsed::ShowText(text)) => Ok(Request::ShowText(text)),
+            Err(fault) => Err(Fault::from(fault)),
         }
     }
 }
@@ -108,8 +101,7 @@ impl<'a> Command<'a> {
         ensures { AnswersAsked (narrow_of (rows_of (found_of options.now))) result }
     {
         let caveats = caveats_of(alloc, options)?;
-        // Clap represents a flag by a text.
-        let checked_caveats = checked_caveats(caveats, value_of(options, "any") == "true")?;
+        let checked_caveats = checked_caveats(caveats, is_set(options, "any"))?;
         Ok(Command::Narrow(checked_caveats))
     }
 

@@ -1,57 +1,16 @@
 //! Reading the input.
 
-ghost use Rattle.std.specs.Prelude.{◌≡◌, ◌+◌, ◌<◌, ◌≤◌, take, drop, length, IfOk, OnErr};
-ghost use Rattle.std.specs.Io.KnownBytes.{Consumes, IsAtEnd, Keeps};
-ghost use Rattle.std.specs.Io.BufRead.{strip_last};
+ghost use Rattle.std.specs.Prelude.{◌≡◌, ◌≤◌, length, IfOk};
 ghost use Rattle.pass_forms.specs.Reading.{UnlessMemory, max_caveats};
 ghost use Rattle.passtool_commands.specs.Answer.{pass_in};
-ghost use Rattle.passtool_commands.specs.Input.{ReadsAtMost};
 
+use command_line::without_line_feed;
 use pass_forms::{Form, FormFault, Pass};
 use pass_json::read_any;
 use std::alloc::Global;
-use std::io::{self, ErrorKind, Read};
 
 /// More bytes than the longest text of a pass and its line feed.
 pub const MAX_READ: usize = 8194;
-
-/// Reads to the end of the input, or until the buffer is full, and returns the number of bytes
-/// read. A read that a signal interrupts is tried again.
-pub fn fill<R: Read>(reader: &mut R, buffer: &mut [u8]) -> io::Result<usize>
-    ensures { IfOk result (λ count. (count ≤ length buffer.new)
-        × ReadsAtMost (length buffer.new) (R.remaining reader.old) (R.remaining reader.new)
-        (take count buffer.new)) }
-{
-    let mut filled = 0;
-    'filling: for _ in 0..u64::MAX {
-        if filled == buffer.len() {
-            return Ok(filled);
-        }
-        match read_after(reader, buffer, filled) {
-            Ok(0) => return Ok(filled),
-            Ok(count) => filled += count,
-            Err(error) => {
-                if error.kind() != ErrorKind::Interrupted {
-                    return Err(error);
-                }
-            }
-        }
-    }
-    Err(io::Error::from(ErrorKind::TimedOut))
-}
-
-// Reads once, into the buffer after the first `filled` bytes.
-fn read_after<R: Read>(reader: &mut R, buffer: &mut [u8], filled: usize) -> io::Result<usize>
-    requires { filled < length buffer.old }
-    ensures front { take filled buffer.new ≡ take filled buffer.old }
-    ensures fits { IfOk result (λ count. filled + count ≤ length buffer.new) }
-    ensures bytes { IfOk result (λ count. Consumes (R.remaining reader.old)
-        (R.remaining reader.new) (take count (drop filled buffer.new))) }
-    ensures end { IfOk result (λ count. count ≡ 0 → IsAtEnd (R.remaining reader.new)) }
-    ensures err { OnErr result (Keeps (R.remaining reader.old) (R.remaining reader.new)) }
-{
-    reader.read(&mut buffer[filled..])
-}
 
 /// The form and the pass of the input, without one line feed at its end.
 pub fn read_pass(alloc: Global, bytes: &[u8]) -> Result<(Form, Pass), FormFault>
@@ -59,14 +18,4 @@ pub fn read_pass(alloc: Global, bytes: &[u8]) -> Result<(Form, Pass), FormFault>
     ensures few { IfOk result (λ read. length read.1.caveats ≤ max_caveats) }
 {
     read_any(alloc, without_line_feed(bytes))
-}
-
-// The bytes without one line feed at their end.
-fn without_line_feed(bytes: &[u8]) -> &[u8]
-    ensures { result.now ≡ strip_last 10 bytes.now }
-{
-    match bytes {
-        [front @ .., b'\n'] => front,
-        _ => bytes,
-    }
 }

@@ -10,19 +10,17 @@ ghost use Rattle.passtool_commands.specs.Laws.{
   ShowTakesNothing,
   VerifyTakesItsRoot,
   VerifyDecidesSigned,
-  WordsEnterACommand,
   WordsNameACommand,
 };
 
-/// Arguments that `clap` accepts for an application that needs a command name one of its commands.
-pub fn words_enter_a_command()
-    ensures { WordsEnterACommand }
-{}
+use command_line::laws::words_enter_a_command;
 
 /// Arguments that `clap` accepts name a command of the program.
 pub fn words_name_a_command()
     ensures { WordsNameACommand }
-{}
+{
+    words_enter_a_command();
+}
 
 /// `mint` with all its options and any number of caveats asks for the pass of these, the caveats in
 /// their order.

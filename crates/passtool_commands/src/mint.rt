@@ -8,7 +8,7 @@ use crate::answer::Answer;
 use crate::caveats::Caveats;
 use crate::narrow::narrowed_pass;
 use crate::output::written;
-use crate::root::Root;
+use command_line::Root;
 use pass_forms::{Form, FormFault, Pass};
 use std::alloc::{AllocError, Global};
 use std::marker::Model;

@@ -2,24 +2,15 @@
 
 ghost use Rattle.std.specs.Prelude.{◌≡◌, IfOk};
 ghost use Rattle.clap.specs.Words.{found_of, rows_of};
-ghost use Rattle.passtool_commands.specs.Words.{AnswersAsked, caveats_in, form_or_refusal, root_in, value_in};
+ghost use Rattle.passtool_commands.specs.Words.{AnswersAsked, caveats_in, form_or_refusal, root_in};
 
 use crate::answer::Fault;
 use crate::application::make_application;
 use crate::caveats::Caveats;
-use crate::errors::form_error;
-use crate::form_names::form_named;
-use crate::root::Root;
 use clap::ArgMatches;
+use command_line::{Root, form_fault, form_named, value_of};
 use pass_forms::Form;
 use std::alloc::{AllocError, Global};
-
-/// The value of an option; empty if it was left out.
-pub fn value_of<'a>(options: &ArgMatches<'a>, id: &str) -> &'a str
-    ensures { result.now ≡ value_in id.now (rows_of (found_of options.now)) }
-{
-    options.get_str(id).unwrap_or("")
-}
 
 /// The root that `--root` spells.
 pub fn root_of(options: &ArgMatches<'_>) -> Result<Root, Fault>
@@ -38,10 +29,7 @@ pub fn form_of(alloc: Global, options: &ArgMatches<'_>) -> Result<Form, Fault>
     let name = value_of(options, "form");
     match form_named(name) {
         Some(form) => Ok(form),
-        None => {
-            let application = make_application(alloc)?;
-            Err(Fault::Words(form_error(alloc, application, name)?))
-        }
+        None => Err(Fault::from(form_fault(alloc, make_application(alloc), name))),
     }
 }
 

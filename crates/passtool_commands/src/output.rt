@@ -1,16 +1,13 @@
 //! Writing the answer.
 
-ghost use Rattle.std.specs.Prelude.{◌≡◌, ◌+◌, ◌≤◌, IfOk, Ok, OnErr, OnOk, drop, length, take};
-ghost use Rattle.std.specs.Io.KnownBytes.{Appends, Keeps};
+ghost use Rattle.std.specs.Prelude.{◌≡◌, IfOk, Ok};
 ghost use Rattle.pass_forms.specs.Reading.{UnlessMemory};
 ghost use Rattle.passtool_commands.specs.Answer as spec;
-ghost use Rattle.passtool_commands.specs.Output.{AppendsFront};
 
 use crate::answer::{Answer, Outcome};
 use pass_forms::{Form, FormFault, Pass};
 use pass_json::write_any;
 use std::alloc::Global;
-use std::io::{self, ErrorKind, Write};
 
 /// A pass in a form, with a line feed at the end.
 pub fn written(alloc: Global, form: Form, pass: &Pass) -> Result<Answer, FormFault>
@@ -20,53 +17,4 @@ pub fn written(alloc: Global, form: Form, pass: &Pass) -> Result<Answer, FormFau
     let mut text = write_any(alloc, form, pass)?;
     text.push('\n')?;
     Ok(Answer::new(Outcome::Done, text))
-}
-
-/// Writes a text and flushes the writer. A write that a signal interrupts is tried again.
-///
-/// # Errors
-///
-/// The writer's error. A beginning of the text, or all of it, may have been written by then.
-pub fn write_text<W: Write>(writer: &mut W, text: &str) -> io::Result<()>
-    ensures ok { OnOk result (Appends (W.contents writer.old) (W.contents writer.new) text.now) }
-    ensures err { OnErr result
-        (AppendsFront (W.contents writer.old) (W.contents writer.new) text.now) }
-{
-    write_bytes(writer, text.as_bytes())?;
-    writer.flush()
-}
-
-// Writes until all bytes are taken. Unlike `write_all`, its contract states what an error leaves.
-fn write_bytes<W: Write>(writer: &mut W, bytes: &[u8]) -> io::Result<()>
-    ensures ok { OnOk result (Appends (W.contents writer.old) (W.contents writer.new) bytes.now) }
-    ensures err { OnErr result
-        (AppendsFront (W.contents writer.old) (W.contents writer.new) bytes.now) }
-{
-    let mut written = 0;
-    'writing: for _ in 0..u64::MAX {
-        if written == bytes.len() {
-            return Ok(());
-        }
-        match write_after(writer, bytes, written) {
-            Ok(0) => return Err(io::Error::from(ErrorKind::WriteZero)),
-            Ok(count) => written += count,
-            Err(error) => {
-                if error.kind() != ErrorKind::Interrupted {
-                    return Err(error);
-                }
-            }
-        }
-    }
-    Err(io::Error::from(ErrorKind::TimedOut))
-}
-
-// Writes once, from the bytes after the first `written` bytes.
-fn write_after<W: Write>(writer: &mut W, bytes: &[u8], written: usize) -> io::Result<usize>
-    requires { written ≤ length bytes.now }
-    ensures fits { IfOk result (λ count. written + count ≤ length bytes.now) }
-    ensures ok { IfOk result (λ count. Appends (W.contents writer.old) (W.contents writer.new)
-        (take count (drop written bytes.now))) }
-    ensures err { OnErr result (Keeps (W.contents writer.old) (W.contents writer.new)) }
-{
-    writer.write(&bytes[written..])
 }

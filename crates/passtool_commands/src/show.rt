@@ -7,8 +7,8 @@ ghost use Rattle.passtool_commands.specs.Answer.{shown_of};
 ghost use Rattle.passtool_commands.specs.Shown as spec;
 
 use crate::answer::{Answer, Outcome};
-use crate::form_names::form_name;
 use crate::input::read_pass;
+use command_line::form_name;
 use pass_forms::{Form, FormFault, Pass};
 use std::alloc::{AllocError, Global};
 

@@ -6,7 +6,7 @@ ghost use Rattle.passtool_commands.specs.Answer as spec;
 
 use crate::answer::{Answer, Outcome};
 use crate::input::read_pass;
-use crate::root::Root;
+use command_line::Root;
 use pass_forms::FormFault;
 use std::alloc::{AllocError, Global};
 

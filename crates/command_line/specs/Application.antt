@@ -1,0 +1,43 @@
+-- The parts of a program with its commands, as `clap` reads them (ours).
+use Rattle.std.specs.Prelude.{◌≡◌, [], ◌∷◌, Some, true, false, codes}
+use Rattle.clap.specs.Words.{App, Rule, Shape, Text, app_of, new_app, new_rule}
+use Rattle.clap.specs.Simple.{on_top}
+use Rattle.clap.specs.declared.builder.command.Command.{Command}
+use Rattle.clap.specs.declared.builder.command.Command.TheViews.{out-Command}
+use Rattle.clap.specs.declared.builder.action.ArgAction.TheVariants.{SetTrue}
+
+-- `--NAME VALUE`
+abbrev pub option_named : Text → Rule
+option_named name = record (new_rule name) { long = Some name; value_names = 1 }
+
+-- `--NAME`
+abbrev pub flag_named : Text → Rule
+flag_named name = record (new_rule name) { long = Some name; action = Some SetTrue }
+
+abbrev pub as_required : Rule → Rule
+as_required rule = record rule { required = true }
+
+-- with a value in place of an option that is left out
+abbrev pub with_default : Text → Rule → Rule
+with_default value rule = record rule { defaults = value ∷ [] }
+
+-- `--form FORM`
+abbrev pub form_option : Rule
+form_option = option_named (codes "form")
+
+-- the same, with V2 as the default
+abbrev pub form_or_v2 : Rule
+form_or_v2 = with_default (codes "v2") form_option
+
+-- it has a version, and a command must be named
+abbrev pub as_program : Shape → Shape
+as_program top = record top { has_version = true; subcommand_required = true }
+
+-- a program of this name without its commands
+abbrev pub program_named : Text → App
+program_named name = on_top as_program (new_app name)
+
+-- the command is of this application, and none of its options is global
+pub record IsMade (app : App) (made : Command) : Type 0 where
+  pub app_is : app_of made ≡ app
+  pub local : (out-Command made).has_globals ≡ false

@@ -1,0 +1,42 @@
+-- What `clap` makes of the arguments of an application (ours).
+use Rattle.std.specs.Prelude.{◌≡◌, ◌≢◌, ◌⊎◌, Bool, List, [], Result, Ok, Err, codes, unwrap_or}
+use Rattle.std.specs.Str.{bytes_eq}
+use Rattle.clap.specs.Words.{App, IsAmong, Kinds, Row, Text, fault_of, first_of, kind_of, subcommand_of, subcommand_rows_of}
+use Rattle.clap.specs.declared.error.kind.ErrorKind.{ErrorKind}
+use Rattle.clap.specs.declared.error.kind.ErrorKind.TheVariants as kind
+use Rattle.command_line.specs.declared.errors.WordsFault.{WordsFault}
+use Rattle.command_line.specs.declared.errors.WordsFault.TheVariants.{Refused, Memory}
+use Rattle.command_line.specs.declared.words.Parsed.{Parsed}
+use Rattle.command_line.specs.declared.words.Parsed.TheVariants.{Matches, ShowText}
+
+-- the value of an option, empty if it was left out
+abbrev pub value_in : Text → List Row → Text
+value_in id rows = unwrap_or (first_of id rows) []
+
+-- a flag was given, which clap represents by the text `true`
+abbrev pub is_set : Text → List Row → Bool
+is_set id rows = bytes_eq (value_in id rows) (codes "true")
+
+-- arguments that ask for a text: help, or the version
+abbrev pub HasText : Kinds → Type 0
+HasText kinds = IsAmong kind.DisplayHelp kinds ⊎ IsAmong kind.DisplayVersion kinds
+
+-- the kind of an error that isn't such a text
+abbrev pub IsNoText : ErrorKind → Type 0
+IsNoText of_kind = (of_kind ≢ kind.DisplayHelp) × (of_kind ≢ kind.DisplayVersion)
+
+-- the kind of an error that clap may return for the arguments
+abbrev pub IsRefusedAs : Kinds → ErrorKind → Type 0
+IsRefusedAs kinds of_kind = IsAmong of_kind kinds × IsNoText of_kind
+
+-- What parsing arguments may give: clap accepts them and finds a command, or they ask for a text, or clap refuses them.
+abbrev pub IsParsed : App → List Text → Result Parsed WordsFault → Type 0
+IsParsed app words (Ok (ShowText text)) = HasText (fault_of app words)
+IsParsed app words (Ok (Matches matches)) = (fault_of app words ≡ []) × (subcommand_rows_of matches ≡ subcommand_of app words)
+IsParsed app words (Err (Refused error)) = IsRefusedAs (fault_of app words) (kind_of error)
+IsParsed app words (Err Memory) = Unit {0}
+
+-- an error of this kind, or out of memory
+abbrev pub IsOfKind : ErrorKind → WordsFault → Type 0
+IsOfKind of_kind (Refused error) = kind_of error ≡ of_kind
+IsOfKind of_kind Memory = Unit {0}

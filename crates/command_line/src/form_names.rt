@@ -1,0 +1,29 @@
+//! The forms by their names.
+
+ghost use Rattle.std.specs.Prelude.{◌≡◌};
+ghost use Rattle.command_line.specs.FormName as spec;
+
+use pass_forms::Form;
+
+/// The name of a form: `v1`, `v2` or `json`.
+pub fn form_name(form: Form) -> &'static str
+    ensures { result.now ≡ spec.form_name form }
+{
+    match form {
+        Form::V1 => "v1",
+        Form::V2 => "v2",
+        Form::Json => "json",
+    }
+}
+
+/// The form of this name; `None` for any other text.
+pub fn form_named(name: &str) -> Option<Form>
+    ensures { result ≡ spec.form_named name.now }
+{
+    match name {
+        "v1" => Some(Form::V1),
+        "v2" => Some(Form::V2),
+        "json" => Some(Form::Json),
+        _ => None,
+    }
+}

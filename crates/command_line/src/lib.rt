@@ -1,0 +1,24 @@
+//! What both command-line programs share: how a command line is built and parsed, roots and forms
+//! as their arguments spell them, input within a limit, and whole texts as output.
+#![tactic(auto)]
+
+mod errors;
+mod form_names;
+mod input;
+pub mod laws;
+mod options;
+mod output;
+mod process;
+mod root;
+mod tree;
+mod words;
+
+pub use errors::{WordsFault, form_fault, text_fault, words_fault};
+pub use form_names::{form_name, form_named};
+pub use input::{fill, without_line_feed};
+pub use options::{is_set, make_flag, make_form, make_form_or_v2, make_option, value_of};
+pub use output::write_text;
+pub use process::report;
+pub use root::Root;
+pub use tree::{make_program, new_command, with_argument, with_command};
+pub use words::{Parsed, parse};

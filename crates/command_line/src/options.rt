@@ -1,0 +1,61 @@
+//! Options: how they are made, and what `clap` found of them.
+
+ghost use Rattle.std.specs.Prelude.{◌≡◌, false};
+ghost use Rattle.clap.specs.Words.{found_of, rows_of, rule_of};
+ghost use Rattle.command_line.specs.Application as spec;
+ghost use Rattle.command_line.specs.Words.{is_set, value_in};
+
+use clap::{Arg, ArgAction, ArgMatches};
+use std::alloc::Global;
+
+/// `--NAME VALUE`
+pub fn make_option<'a>(alloc: Global, name: &'a str, value: &'a str, help: &'a str) -> Arg<'a>
+    ensures rule { rule_of result ≡ spec.option_named name.entry.now }
+    ensures local { result.global ≡ false }
+{
+    Arg::new(alloc, name)
+        .long(name)
+        .value_name(value)
+        .help(help)
+}
+
+/// `--NAME`
+pub fn make_flag<'a>(alloc: Global, name: &'a str, help: &'a str) -> Arg<'a>
+    ensures rule { rule_of result ≡ spec.flag_named name.entry.now }
+    ensures local { result.global ≡ false }
+{
+    Arg::new(alloc, name)
+        .long(name)
+        .action(ArgAction::SetTrue)
+        .help(help)
+}
+
+/// `--form FORM`
+pub fn make_form<'a>(alloc: Global) -> Arg<'a>
+    ensures rule { rule_of result ≡ spec.form_option }
+    ensures local { result.global ≡ false }
+{
+    make_option(alloc, "form", "FORM", "v1, v2 or json")
+}
+
+/// `--form FORM`, V2 by default
+pub fn make_form_or_v2<'a>(alloc: Global) -> Arg<'a>
+    ensures rule { rule_of result ≡ spec.form_or_v2 }
+    ensures local { result.global ≡ false }
+{
+    make_form(alloc).default_value("v2")
+}
+
+/// The value of an option; empty if it was left out.
+pub fn value_of<'a>(options: &ArgMatches<'a>, id: &str) -> &'a str
+    ensures { result.now ≡ value_in id.now (rows_of (found_of options.now)) }
+{
+    options.get_str(id).unwrap_or("")
+}
+
+/// Whether a flag was given, which `clap` represents by the text `true`.
+pub fn is_set(options: &ArgMatches<'_>, id: &str) -> bool
+    ensures { result ≡ is_set id.now (rows_of (found_of options.now)) }
+{
+    value_of(options, id) == "true"
+}

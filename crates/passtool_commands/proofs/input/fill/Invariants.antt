@@ -1,7 +1,0 @@
-use Rattle.std.proofs.Common.{◌≤◌, take, length}
-use Rattle.std.specs.Io.KnownBytes.{Consumes}
-use Rattle.passtool_commands.proofs.input.fill.Given as goal
-
-abbrev pub invariant-filling : goal.invariant-filling
-invariant-filling g l = (l.filled ≤ length l.buffer)
-    × Consumes (g.R.Read.remaining l.initial.reader) (g.R.Read.remaining l.reader) (take l.filled l.buffer)

@@ -1,8 +1,0 @@
--- What was written so far is the front of the bytes.
-use Rattle.std.proofs.Common.{◌≤◌, take, length}
-use Rattle.std.specs.Io.KnownBytes.{Appends}
-use Rattle.passtool_commands.proofs.output.write_bytes.Given as goal
-
-abbrev pub invariant-writing : goal.invariant-writing
-invariant-writing g l = (l.written ≤ length l.bytes)
-    × Appends (g.W.Write.contents l.initial.writer) (g.W.Write.contents l.writer) (take l.written l.bytes)
