@@ -3,7 +3,7 @@ use Rattle.std.proofs.Common.{◌≡◌, ◌∙◌, inl, inr, List, [], ◌∷�
 use Rattle.std.specs.List.{slice_index_or}
 use Rattle.clap.specs.Words.{Row, Shape, Text, built}
 use Rattle.clap.specs.Simple.{help_shape}
-use Rattle.passtool_commands.specs.Laws.{HasCommands, IsNameAmong, WordsEnterACommand}
+use Rattle.command_line.specs.Laws.{HasCommands, IsNameAmong, WordsEnterACommand}
 use Rattle.clubdesk_commands.specs.Application.{application, refusals, subcommand}
 use Rattle.clubdesk_commands.specs.Words.{FindsCommand, IsCommandName}
 

@@ -1,7 +1,7 @@
 -- What a server writes and serves, by how it ends.
 use Rattle.std.proofs.Common.{◌≡◌, ◌∙◌, ℕ, List, [], ◌∷◌, ◌++◌, Option, Some, None, Result, Ok, Err, inl, inr, refl}
 use Rattle.std.specs.Io.KnownBytes.{Appends}
-use Rattle.passtool_commands.specs.Output.{AppendsFront}
+use Rattle.command_line.specs.Output.{AppendsFront}
 use Rattle.club_http.specs.Replied.{AnswerRelation}
 use Rattle.desk_server.specs.Served.{AreNoted, AreServed, Ends, Idles, ServesOne, IsStopped, Notes, GivesMoment}
 use Rattle.desk_server.specs.Served as served

@@ -10,7 +10,7 @@ use Rattle.std.proofs.lemmas.Str.Parse.{IsNumeralModel, numerals_by_value, digit
 use Rattle.hex.specs.Hex.{decode_of}
 use Rattle.hex.specs.declared.error.FromHexError.{FromHexError}
 use Rattle.club_rows.specs.Limits.{IsRoot}
-use Rattle.passtool_commands.specs.Root.{root_of as root_of_any_length, root_among as any_root_among, has_root_length as any_has_root_length}
+use Rattle.command_line.specs.Root.{root_of as root_of_any_length, root_among as any_root_among, has_root_length as any_has_root_length}
 use Rattle.clubdesk_commands.specs.Values.{are_digits, has_key_root_length, parse_number, key_root_among, key_root_of}
 
 -- ---- numbers

@@ -7,7 +7,7 @@ use Rattle.clap.proofs.OnLiterals.{clap_on_literals}
 use Rattle.jiff_tz.proofs.OnLiterals.{jiff_tz_on_literals}
 use Rattle.pass_forms.specs.declared.form.Form.{Form}
 use Rattle.pass_forms.specs.declared.form.Form.TheVariants.{V1, V2, Json}
-use Rattle.passtool_commands.specs.FormName.{form_name, form_named}
+use Rattle.command_line.specs.FormName.{form_name, form_named}
 use Rattle.clubdesk_commands.specs.Application.{application, log_flag, refusals, root_flag, subcommand, word_named}
 use Rattle.clubdesk_commands.specs.JobModel.{JobModel}
 use Rattle.clubdesk_commands.specs.Laws.{AddMemberTakesItsParts, CreditTakesItsParts, AddFacilityTakesItsParts, AddKeyTakesItsParts, AddKeyTakesV2}

@@ -1,59 +1,50 @@
 -- Lemmas on what the words ask for.
-use Rattle.std.proofs.Common.{◌≡◌, ◌∙◌, List, [], Option, Some, None, option_map, Result, Err, true, codes, inl, inr, refl, sym, ap, subst}
-use Rattle.clap.specs.Words.{App, HasKind, HasMatchesOf, IsAmong, Row, Text, fault_of, is_simple, is_simple_and_free, kind_of, subcommand_rows_of}
+use Rattle.std.proofs.Common.{◌≡◌, ◌∙◌, List, [], Option, Some, None, option_map, Result, Ok, Err, true, codes, inl, inr, refl, sym, ap, subst}
+use Rattle.clap.specs.Words.{Row, Text, is_simple_and_free, subcommand_rows_of}
 use Rattle.clap.proofs.OnLiterals.{clap_on_literals}
 use Rattle.clap.specs.declared.error.Error.{Error}
 use Rattle.clap.specs.declared.error.kind.ErrorKind.{ErrorKind}
 use Rattle.clap.specs.declared.error.kind.ErrorKind.TheVariants as kind
 use Rattle.clap.specs.declared.parser.matches.ArgMatches.{ArgMatches}
+use Rattle.command_line.specs.Words.{IsOfKind, IsParsed}
+use Rattle.command_line.specs.declared.errors.WordsFault.{WordsFault}
+use Rattle.command_line.specs.declared.errors.WordsFault.TheVariants as clap_fault
+use Rattle.command_line.specs.declared.words.Parsed.TheVariants.{Matches, ShowText}
+use Rattle.pass_forms.specs.declared.form.Form.{Form}
 use Rattle.clubdesk_commands.specs.Application.{application, refusals, subcommand}
-use Rattle.clubdesk_commands.specs.Words.{AnswersAsked, AnswersForm, IsFaultOf, ArgumentRefusal, bad_form, bad_value}
+use Rattle.clubdesk_commands.specs.Fault.{IsNotText, of_words}
+use Rattle.clubdesk_commands.specs.Words.{AnswersAsked, AnswersForm, AsksText, IsFaultOf, IsWordsFault, ArgumentRefusal, bad_form, bad_value}
 use Rattle.clubdesk_commands.specs.Words.{job_of_match, job_of_words, over_file, task_named, with_form_value, word_in}
 use Rattle.clubdesk_commands.specs.declared.task.Task.{Task}
-use Rattle.pass_forms.specs.declared.form.Form.{Form}
 use Rattle.clubdesk_commands.specs.declared.fault.Fault.{Fault}
 use Rattle.clubdesk_commands.specs.declared.fault.Fault.TheVariants.{Refused, Words, BadValue, Memory, Storage, ClockOutOfRange, InputOutput}
 use Rattle.clubdesk_commands.specs.JobModel.{JobModel}
 
--- clap gives the matches of the application as a function of the words
-pub application_is_simple : is_simple application ≡ true
-unfolding clap_on_literals application
-application_is_simple = refl
-
--- and the kinds of its faults
+-- clap gives the matches of the application, and the kinds of its faults, as a function of the words
 pub application_is_free : is_simple_and_free application ≡ true
 unfolding clap_on_literals application
 application_is_free = refl
 
--- what clap found of the words is what the definitions say
-pub subcommand_found : (a : App) (words : List Text) (m : ArgMatches) → a ≡ application → HasMatchesOf a words m
-    → subcommand_rows_of m ≡ subcommand words
-unfolding subcommand
-subcommand_found a words m same found = (subst (λ b. HasMatchesOf b words m) same found application_is_simple).1
+-- what clap found of the words, as the definitions say it
+pub words_read : (words : List Text) (found : ArgMatches) → IsParsed application words (Ok (Matches found))
+    → (refusals words ≡ []) × (subcommand_rows_of found ≡ subcommand words)
+unfolding refusals subcommand
+words_read words found is = is
 
--- and so is the command
+pub text_asked : (words : List Text) (text : Error) → IsParsed application words (Ok (ShowText text)) → AsksText words
+unfolding refusals
+text_asked words text is = is
+
+pub words_refused : (words : List Text) (fault : WordsFault) → IsParsed application words (Err fault) → IsFaultOf words (of_words fault)
+unfolding refusals
+words_refused words (clap_fault.Refused error) is = inl is
+words_refused words clap_fault.Memory is = tt
+
+-- and the command
 pub command_found : (words : List Text) (found : Option (Text × List Row)) (command : Result JobModel ArgumentRefusal)
     → found ≡ subcommand words → command ≡ job_of_match found → job_of_words words ≡ command
 unfolding job_of_words
 command_found words found command same is = ap job_of_match (sym same) ∙ sym is
-
--- a parse comes to an end only where the words give no fault
-pub nothing_refused : (a : App) (words : List Text) → a ≡ application
-    → (is_simple_and_free a ≡ true → fault_of a words ≡ []) → refusals words ≡ []
-unfolding refusals
-nothing_refused a words same clear =
-    subst (λ b. is_simple_and_free b ≡ true → fault_of b words ≡ []) same clear application_is_free
-
--- and its error has a kind among those that the words give, but for out of memory
-pub refused_by : (a : App) (words : List Text) (e : Error) (k : ErrorKind) → a ≡ application
-    → (is_simple_and_free a ≡ true → HasKind (fault_of a words) e) → k ≡ kind_of e → (k ≡ kind.OutOfMemory → ⊥)
-    → IsAmong (kind_of e) (refusals words)
-unfolding refusals
-refused_by a words e k same has is other =
-    elim (subst (λ b. is_simple_and_free b ≡ true → HasKind (fault_of b words) e) same has application_is_free) [
-      | inl memory ↦ absurd (other (is ∙ memory))
-      | inr among ↦ among
-    ]
 
 -- a fault of the command that was found is one of the words
 pub faulted : (words : List Text) (found : Option (Text × List Row)) (fault : Fault) → refusals words ≡ [] → found ≡ subcommand words
@@ -105,3 +96,18 @@ found_is name_of rows_of (Some found) name rows named has =
     let same : name ≡ name_of found = cc in
     let alike : rows ≡ rows_of found = cc in
     rw (same, alike) refl
+
+-- a fault of the words that clap doesn't find itself
+pub fault_of_kind : (of_kind : ErrorKind) (fault : WordsFault) → IsOfKind of_kind fault → IsWordsFault of_kind (of_words fault)
+fault_of_kind of_kind (clap_fault.Refused error) is = is
+fault_of_kind of_kind clap_fault.Memory is = tt
+
+-- a name that is no form's
+pub no_form : (expected : Option Form) (fault : WordsFault) → expected ≡ None → IsOfKind kind.InvalidValue fault → AnswersForm expected (Err (of_words fault))
+no_form expected (clap_fault.Refused error) none of_kind = (none, of_kind)
+no_form expected clap_fault.Memory none of_kind = tt
+
+-- words that aren't UTF-8
+pub text_refused : (fault : WordsFault) → IsOfKind kind.ValueValidation fault → IsNotText (of_words fault)
+text_refused (clap_fault.Refused error) of_kind = of_kind
+text_refused clap_fault.Memory of_kind = tt

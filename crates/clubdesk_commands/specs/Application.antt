@@ -1,11 +1,8 @@
 -- The program's commands and options, as `clap` reads them (ours).
-use Rattle.std.specs.Prelude.{◌≡◌, List, [], ◌∷◌, Option, Some, true, false, codes}
-use Rattle.clap.specs.Words.{App, Kinds, Row, Rule, Shape, Text, app_of, fault_of, new_app, new_rule}
+use Rattle.std.specs.Prelude.{List, [], ◌∷◌, Option, true, false, codes}
+use Rattle.clap.specs.Words.{App, Kinds, Row, Rule, Text, fault_of, new_app, new_rule}
 use Rattle.clap.specs.Words.{subcommand_of, with_rule, with_subcommand}
-use Rattle.clap.specs.Simple.{on_top}
-use Rattle.clap.specs.declared.builder.command.Command.{Command}
-use Rattle.clap.specs.declared.builder.command.Command.TheViews.{out-Command}
-use Rattle.clap.specs.declared.builder.action.ArgAction.TheVariants.{SetTrue}
+use Rattle.command_line.specs.Application.{as_required, flag_named, form_or_v2, option_named, program_named, with_default}
 
 -- a required word, known by its place
 abbrev pub word_named : Text → Rule
@@ -19,34 +16,19 @@ with_words app (name ∷ names) = with_words (with_rule app (word_named name)) n
 abbrev pub command_of_words : Text → List Text → App
 command_of_words name words = with_words (new_app name) words
 
--- `--NAME VALUE`
-abbrev pub option_named : Text → Rule
-option_named name = record (new_rule name) { long = Some name; value_names = 1 }
-
-abbrev pub required_rule : Rule → Rule
-required_rule rule = record rule { required = true }
-
 -- a word that may be left out
 abbrev pub optional_word : Text → Rule
 optional_word name = record (word_named name) { required = false }
-
--- with a value in place of an option that is left out
-abbrev pub with_default : Text → Rule → Rule
-with_default value rule = record rule { defaults = value ∷ [] }
-
--- `[--form FORM]`, V2 by default
-abbrev pub form_option_or_v2 : Rule
-form_option_or_v2 = with_default (codes "v2") (option_named (codes "form"))
 
 -- `[--zone RULE]`, UTC by default
 abbrev pub zone_option : Rule
 zone_option = with_default (codes "UTC0") (option_named (codes "zone"))
 
 abbrev pub port_option : Rule
-port_option = required_rule (option_named (codes "port"))
+port_option = as_required (option_named (codes "port"))
 
 abbrev pub count_option : Rule
-count_option = required_rule (option_named (codes "count"))
+count_option = as_required (option_named (codes "count"))
 
 abbrev pub at_option : Rule
 at_option = option_named (codes "at")
@@ -57,11 +39,11 @@ patience_option = with_default (codes "10") (option_named (codes "patience"))
 
 -- `--root-stdin`
 abbrev pub root_flag : Rule
-root_flag = record (new_rule (codes "root-stdin")) { long = Some (codes "root-stdin"); action = Some SetTrue }
+root_flag = flag_named (codes "root-stdin")
 
 -- `--log`
 abbrev pub log_flag : Rule
-log_flag = record (new_rule (codes "log")) { long = Some (codes "log"); action = Some SetTrue }
+log_flag = flag_named (codes "log")
 
 abbrev pub add_member_command : App
 add_member_command = command_of_words (codes "add-member") (codes "FILE" ∷ codes "NAME" ∷ codes "QUOTA" ∷ [])
@@ -78,7 +60,7 @@ add_facility_command =
 abbrev pub add_key_command : App
 add_key_command =
     with_rule (with_rule (with_rule (command_of_words (codes "add-key") (codes "FILE" ∷ codes "KEY" ∷ codes "MEMBER" ∷ []))
-    (optional_word (codes "ROOT"))) root_flag) form_option_or_v2
+    (optional_word (codes "ROOT"))) root_flag) form_or_v2
 
 abbrev pub revoke_key_command : App
 revoke_key_command = command_of_words (codes "revoke-key") (codes "FILE" ∷ codes "KEY" ∷ [])
@@ -87,7 +69,7 @@ revoke_key_command = command_of_words (codes "revoke-key") (codes "FILE" ∷ cod
 abbrev pub rotate_key_command : App
 rotate_key_command =
     with_rule (with_rule (with_rule (command_of_words (codes "rotate-key") (codes "FILE" ∷ codes "KEY" ∷ codes "ROOT" ∷ []))
-    (optional_word (codes "MOMENT"))) root_flag) form_option_or_v2
+    (optional_word (codes "MOMENT"))) root_flag) form_or_v2
 
 abbrev pub close_slot_command : App
 close_slot_command =
@@ -118,13 +100,9 @@ abbrev pub with_commands : App → List App → App
 with_commands app [] = app
 with_commands app (command ∷ commands) = with_commands (with_subcommand app command.top) commands
 
--- it has a version, and a command must be named
-abbrev pub as_program : Shape → Shape
-as_program top = record top { has_version = true; subcommand_required = true }
-
 -- the program before its commands
 abbrev pub top : App
-top = on_top as_program (new_app (codes "clubdesk"))
+top = program_named (codes "clubdesk")
 
 -- `clubdesk COMMAND`
 unfoldable pub application : App
@@ -132,11 +110,6 @@ application =
     with_commands top
     (add_member_command ∷ credit_command ∷ add_facility_command ∷ add_key_command ∷ revoke_key_command
     ∷ rotate_key_command ∷ close_slot_command ∷ sheet_command ∷ serve_command ∷ pause_command ∷ show_account_command ∷ show_slot_command ∷ [])
-
--- the command is of this application, and none of its options is global
-pub record IsMade (app : App) (made : Command) : Type 0 where
-  pub app_is : app_of made ≡ app
-  pub local : (out-Command made).has_globals ≡ false
 
 -- the kinds of error that clap may return for the words, the program's name first; none if it accepts them
 unfoldable pub refusals : List Text → Kinds

@@ -2,6 +2,8 @@
 use Rattle.std.specs.Prelude.{◌≡◌, ℕ, List, ◌++◌, Option, Some, None, codes}
 use Rattle.clap.specs.Words.{kind_of}
 use Rattle.clap.specs.declared.error.kind.ErrorKind.TheVariants as kind
+use Rattle.command_line.specs.declared.errors.WordsFault.{WordsFault}
+use Rattle.command_line.specs.declared.errors.WordsFault.TheVariants as words
 use Rattle.club_core.specs.Faults.{office_fault_text}
 use Rattle.club_core.specs.declared.store.StoreFault.{StoreFault}
 use Rattle.club_core.specs.declared.store.StoreFault.TheVariants as store
@@ -16,6 +18,11 @@ fault_status Memory = 4
 fault_status Storage = 5
 fault_status ClockOutOfRange = 6
 fault_status InputOutput = 7
+
+-- the fault of refused words
+abbrev pub of_words : WordsFault → Fault
+of_words (words.Refused error) = Words error
+of_words words.Memory = Memory
 
 -- the program's fault for a database that can't be opened
 abbrev pub fault_of_opening : StoreFault → Fault

@@ -2,7 +2,7 @@
 use Rattle.std.specs.Prelude.{◌≡◌, ◌⊎◌, ℕ, Bool, true, false, List, Option, Some, None, Result, Ok, Err, if◌then◌else◌}
 use Rattle.std.specs.Io.BufRead.{strip_last}
 use Rattle.std.specs.Str.{is_utf8}
-use Rattle.passtool_commands.specs.Input.{ReadsAtMost}
+use Rattle.command_line.specs.Input.{ReadsAtMost}
 use Rattle.clubdesk_commands.specs.JobModel.{JobModel}
 use Rattle.clubdesk_commands.specs.Values.{key_root_of}
 use Rattle.clubdesk_commands.specs.declared.fault.Fault.{Fault}

@@ -6,7 +6,7 @@ use Rattle.club_values.specs.declared.kind.Kind.{Kind}
 use Rattle.club_core.specs.declared.command.Command.TheVariants as order
 use Rattle.pass_forms.specs.declared.form.Form.{Form}
 use Rattle.pass_forms.specs.declared.form.Form.TheVariants.{V2}
-use Rattle.passtool_commands.specs.FormName.{form_name}
+use Rattle.command_line.specs.FormName.{form_name}
 use Rattle.clubdesk_commands.specs.Values.{count_of, parse_number, patience_of, pause_seconds, port_of, key_root_of}
 use Rattle.desk_server.specs.Zone.{zone_of}
 use Rattle.clubdesk_commands.specs.Words.{asked_job}

@@ -1,7 +1,7 @@
 -- What was written (ours).
 use Rattle.std.specs.Prelude.{◌≡◌, ℕ, List, Option, Result, Ok, Err}
 use Rattle.std.specs.Io.KnownBytes.{Appends}
-use Rattle.passtool_commands.specs.Output.{AppendsFront}
+use Rattle.command_line.specs.Output.{AppendsFront}
 use Rattle.clubdesk_commands.specs.declared.fault.Fault.{Fault}
 use Rattle.clubdesk_commands.specs.declared.fault.Fault.TheVariants.{InputOutput}
 

@@ -1,19 +1,19 @@
 -- What the words ask for (ours).
-use Rattle.std.specs.Prelude.{◌≡◌, ◌≢◌, ◌⊎◌, ℕ, Bool, true, false, IsSomeAnd, if◌then◌else◌, List}
+use Rattle.std.specs.Prelude.{◌≡◌, ◌⊎◌, ℕ, Bool, true, false, IsSomeAnd, if◌then◌else◌, List}
 use Rattle.std.specs.Prelude.{[], Option, Some, None, option_map, option_and_then, Result, Ok, Err, codes}
 use Rattle.std.specs.Borrow.{Bor}
 use Rattle.std.specs.Option.{ok_or, unwrap_or}
 use Rattle.std.specs.Result.{result_ok}
 use Rattle.std.specs.Str.{bytes_eq}
-use Rattle.clap.specs.Words.{IsAmong, Row, Text, first_of, kind_of}
+use Rattle.clap.specs.Words.{Row, Text, first_of, kind_of}
 use Rattle.clap.specs.declared.error.kind.ErrorKind.{ErrorKind}
 use Rattle.clap.specs.declared.error.kind.ErrorKind.TheVariants as kind
 use Rattle.clap.specs.Walk.{is_empty}
+use Rattle.command_line.specs.FormName.{form_named}
+use Rattle.command_line.specs.Words.{HasText, IsRefusedAs, is_set, value_in}
 use Rattle.club_values.specs.computed.TextOf.{name_of_text, kind_of_text, day_of_text, hour_of_text, moment_of_text}
 use Rattle.club_core.specs.declared.command.Command.TheVariants as order
 use Rattle.pass_forms.specs.declared.form.Form.{Form}
-use Rattle.passtool_commands.specs.FormName.{form_named}
-use Rattle.passtool_commands.specs.Words.{value_in}
 use Rattle.clubdesk_commands.specs.Application.{refusals, subcommand}
 use Rattle.clubdesk_commands.specs.JobModel.{JobModel}
 use Rattle.clubdesk_commands.specs.Values.{count_of, parse_number, patience_of, pause_seconds, port_of, key_root_of}
@@ -51,10 +51,6 @@ name_value id rows = name_of_text (word_in id rows)
 
 abbrev pub number_value : Text → List Row → Option ℕ
 number_value id rows = parse_number (word_in id rows)
-
--- a flag is set: clap gives it the text `true`
-abbrev pub is_set : Text → List Row → Bool
-is_set id rows = bytes_eq (value_in id rows) (codes "true")
 
 -- ---- the commands, each from the values that its words spell
 
@@ -244,11 +240,7 @@ asked_job words = if is_empty (refusals words) then result_ok (job_of_words word
 
 -- words that ask for a text: help, or the version
 abbrev pub AsksText : List Text → Type 0
-AsksText words = IsAmong kind.DisplayHelp (refusals words) ⊎ IsAmong kind.DisplayVersion (refusals words)
-
--- the kind of a fault that is no such text
-abbrev pub IsNoText : ErrorKind → Type 0
-IsNoText of_kind = (of_kind ≢ kind.DisplayHelp) × (of_kind ≢ kind.DisplayVersion)
+AsksText words = HasText (refusals words)
 
 -- the kind of the error that words get for a refusal, if it is one of the words
 abbrev pub error_kind : ArgumentRefusal → Option ErrorKind
@@ -289,7 +281,7 @@ AnswersRoot expected (Err fault) = AnswersAsked {A = Option Text} expected (Err 
 
 -- The fault of the words: clap decides first, then whether a root is given once, then a form, then the other values.
 abbrev pub IsFaultOf : List Text → Fault → Type 0
-IsFaultOf words (Words error) = (IsAmong (kind_of error) (refusals words) × IsNoText (kind_of error))
+IsFaultOf words (Words error) = IsRefusedAs (refusals words) (kind_of error)
     ⊎ ((refusals words ≡ []) × HasRefusalOfKind (kind_of error) (job_of_words words))
 IsFaultOf words BadValue = (refusals words ≡ []) × (job_of_words words ≡ Err bad_value)
 IsFaultOf words Memory = Unit {0}

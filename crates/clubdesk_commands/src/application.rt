@@ -2,12 +2,16 @@
 
 ghost use Rattle.std.specs.Prelude.{◌≡◌, ◌∷◌, [], IfOk, false, map};
 ghost use Rattle.clap.specs.Words.{App, app_of, rule_of};
+ghost use Rattle.command_line.specs.Application.{IsMade};
 ghost use Rattle.clubdesk_commands.specs.Application as spec;
 ghost use Rattle.clubdesk_commands.specs.Fault.{IsNotText};
 
 use crate::fault::Fault;
-use clap::{Arg, ArgAction, Command};
-use passtool_commands::{VERSION, text_error, with_command};
+use clap::{Arg, Command};
+use command_line::{
+    make_flag, make_form_or_v2, make_option, make_program, new_command, text_fault, with_argument,
+    with_command,
+};
 use std::alloc::{AllocError, Global};
 
 const STATUSES: &str = "Exit status:
@@ -111,24 +115,15 @@ pub fn make_application<'a>(alloc: Global) -> Result<Command<'a>, AllocError>
 pub fn not_text(alloc: Global) -> Fault
     ensures { IsNotText result }
 {
-    let Ok(application) = make_application(alloc) else {
-        return Fault::Memory;
-    };
-    match text_error(application) {
-        Ok(error) => Fault::Words(error),
-        Err(_) => Fault::Memory,
-    }
+    Fault::from(text_fault(make_application(alloc)))
 }
 
 // The program before its commands.
 fn make_top<'a>(alloc: Global) -> Command<'a>
     ensures { app_of result ≡ spec.top }
 {
-    Command::new(alloc, "clubdesk")
-        .version(VERSION)
-        .about("The desk of a club: its office, its day sheet and its server")
-        .after_long_help(STATUSES)
-        .subcommand_required(true)
+    let about = "The desk of a club: its office, its day sheet and its server";
+    make_program(alloc, "clubdesk", about, STATUSES)
 }
 
 // The commands on members and facilities.
@@ -173,7 +168,7 @@ fn with_looks<'a>(alloc: Global, app: Command<'a>) -> Result<Command<'a>, AllocE
 }
 
 fn make_add_member<'a>(alloc: Global) -> Result<Command<'a>, AllocError>
-    ensures { IfOk result (spec.IsMade spec.add_member_command) }
+    ensures { IfOk result (IsMade spec.add_member_command) }
 {
     make_command(
         alloc,
@@ -185,7 +180,7 @@ fn make_add_member<'a>(alloc: Global) -> Result<Command<'a>, AllocError>
 }
 
 fn make_credit<'a>(alloc: Global) -> Result<Command<'a>, AllocError>
-    ensures { IfOk result (spec.IsMade spec.credit_command) }
+    ensures { IfOk result (IsMade spec.credit_command) }
 {
     make_command(
         alloc,
@@ -197,7 +192,7 @@ fn make_credit<'a>(alloc: Global) -> Result<Command<'a>, AllocError>
 }
 
 fn make_add_facility<'a>(alloc: Global) -> Result<Command<'a>, AllocError>
-    ensures { IfOk result (spec.IsMade spec.add_facility_command) }
+    ensures { IfOk result (IsMade spec.add_facility_command) }
 {
     let words = ["FILE", "NAME", "KIND", "PLACES", "PRICE", "OPENS", "SHUTS"];
     make_command(
@@ -210,22 +205,22 @@ fn make_add_facility<'a>(alloc: Global) -> Result<Command<'a>, AllocError>
 }
 
 fn make_add_key<'a>(alloc: Global) -> Result<Command<'a>, AllocError>
-    ensures { IfOk result (spec.IsMade spec.add_key_command) }
+    ensures { IfOk result (IsMade spec.add_key_command) }
 {
-    make_command(
+    let command = make_command(
         alloc,
         "add-key",
         "Adds a key of a member",
         ADD_KEY_HELP,
         &["FILE", "KEY", "MEMBER"],
-    )?
-    .arg(make_optional_word(alloc, "ROOT"))?
-    .arg(make_root_flag(alloc))?
-    .arg(make_form(alloc))
+    )?;
+    let command = with_argument(command, make_optional_word(alloc, "ROOT"))?;
+    let command = with_argument(command, make_root_flag(alloc))?;
+    with_argument(command, make_form_or_v2(alloc))
 }
 
 fn make_revoke_key<'a>(alloc: Global) -> Result<Command<'a>, AllocError>
-    ensures { IfOk result (spec.IsMade spec.revoke_key_command) }
+    ensures { IfOk result (IsMade spec.revoke_key_command) }
 {
     make_command(
         alloc,
@@ -237,22 +232,22 @@ fn make_revoke_key<'a>(alloc: Global) -> Result<Command<'a>, AllocError>
 }
 
 fn make_rotate_key<'a>(alloc: Global) -> Result<Command<'a>, AllocError>
-    ensures { IfOk result (spec.IsMade spec.rotate_key_command) }
+    ensures { IfOk result (IsMade spec.rotate_key_command) }
 {
-    make_command(
+    let command = make_command(
         alloc,
         "rotate-key",
         "Gives a key a new root",
         ROTATE_KEY_HELP,
         &["FILE", "KEY", "ROOT"],
-    )?
-    .arg(make_optional_word(alloc, "MOMENT"))?
-    .arg(make_root_flag(alloc))?
-    .arg(make_form(alloc))
+    )?;
+    let command = with_argument(command, make_optional_word(alloc, "MOMENT"))?;
+    let command = with_argument(command, make_root_flag(alloc))?;
+    with_argument(command, make_form_or_v2(alloc))
 }
 
 fn make_close_slot<'a>(alloc: Global) -> Result<Command<'a>, AllocError>
-    ensures { IfOk result (spec.IsMade spec.close_slot_command) }
+    ensures { IfOk result (IsMade spec.close_slot_command) }
 {
     make_command(
         alloc,
@@ -264,7 +259,7 @@ fn make_close_slot<'a>(alloc: Global) -> Result<Command<'a>, AllocError>
 }
 
 fn make_sheet<'a>(alloc: Global) -> Result<Command<'a>, AllocError>
-    ensures { IfOk result (spec.IsMade spec.sheet_command) }
+    ensures { IfOk result (IsMade spec.sheet_command) }
 {
     make_command(
         alloc,
@@ -276,39 +271,34 @@ fn make_sheet<'a>(alloc: Global) -> Result<Command<'a>, AllocError>
 }
 
 fn make_serve<'a>(alloc: Global) -> Result<Command<'a>, AllocError>
-    ensures { IfOk result (spec.IsMade spec.serve_command) }
+    ensures { IfOk result (IsMade spec.serve_command) }
 {
-    make_command(
-        alloc,
-        "serve",
-        "Serves requests over HTTP",
-        SERVE_HELP,
-        &["FILE"],
-    )?
-    .arg(make_port(alloc))?
-    .arg(make_count(alloc))?
-    .arg(make_zone(alloc))?
-    .arg(make_at(alloc))?
-    .arg(make_patience(alloc))?
-    .arg(make_log(alloc))
+    let about = "Serves requests over HTTP";
+    let command = make_command(alloc, "serve", about, SERVE_HELP, &["FILE"])?;
+    let command = with_argument(command, make_port(alloc))?;
+    let command = with_argument(command, make_count(alloc))?;
+    let command = with_argument(command, make_zone(alloc))?;
+    let command = with_argument(command, make_at(alloc))?;
+    let command = with_argument(command, make_patience(alloc))?;
+    with_argument(command, make_log(alloc))
 }
 
 fn make_show_account<'a>(alloc: Global) -> Result<Command<'a>, AllocError>
-    ensures { IfOk result (spec.IsMade spec.show_account_command) }
+    ensures { IfOk result (IsMade spec.show_account_command) }
 {
-    make_command(
+    let command = make_command(
         alloc,
         "show-account",
         "Shows the account of a key",
         SHOW_ACCOUNT_HELP,
         &["FILE", "KEY"],
-    )?
-    .arg(make_zone(alloc))?
-    .arg(make_at(alloc))
+    )?;
+    let command = with_argument(command, make_zone(alloc))?;
+    with_argument(command, make_at(alloc))
 }
 
 fn make_show_slot<'a>(alloc: Global) -> Result<Command<'a>, AllocError>
-    ensures { IfOk result (spec.IsMade spec.show_slot_command) }
+    ensures { IfOk result (IsMade spec.show_slot_command) }
 {
     make_command(
         alloc,
@@ -320,7 +310,7 @@ fn make_show_slot<'a>(alloc: Global) -> Result<Command<'a>, AllocError>
 }
 
 fn make_pause<'a>(alloc: Global) -> Result<Command<'a>, AllocError>
-    ensures { IfOk result (spec.IsMade spec.pause_command) }
+    ensures { IfOk result (IsMade spec.pause_command) }
 {
     make_command(
         alloc,
@@ -339,10 +329,10 @@ fn make_command<'a>(
     help: &'a str,
     words: &[&'a str],
 ) -> Result<Command<'a>, AllocError>
-    ensures { IfOk result (spec.IsMade
+    ensures { IfOk result (IsMade
         (spec.command_of_words name.entry.now (map (λ word. word.now) words.now))) }
 {
-    let named = Command::new(alloc, name).about(about).after_help(help);
+    let named = new_command(alloc, name, about, help);
     with_words(alloc, named, words)
 }
 
@@ -352,11 +342,11 @@ fn with_words<'a>(
     mut command: Command<'a>,
     words: &[&'a str],
 ) -> Result<Command<'a>, AllocError>
-    ensures { (app : App) → spec.IsMade app command.entry → IfOk result
-        (spec.IsMade (spec.with_words app (map (λ word. word.now) words.now))) }
+    ensures { (app : App) → IsMade app command.entry → IfOk result
+        (IsMade (spec.with_words app (map (λ word. word.now) words.now))) }
 {
     for word in words {
-        command = command.arg(make_word(alloc, word))?;
+        command = with_argument(command, make_word(alloc, word))?;
     }
     Ok(command)
 }
@@ -373,17 +363,6 @@ fn make_optional_word<'a>(alloc: Global, name: &'a str) -> Arg<'a>
     ensures local { result.global ≡ false }
 {
     Arg::new(alloc, name).value_name(name)
-}
-
-// `--NAME VALUE`
-fn make_option<'a>(alloc: Global, name: &'a str, value: &'a str, help: &'a str) -> Arg<'a>
-    ensures rule { rule_of result ≡ spec.option_named name.entry.now }
-    ensures local { result.global ≡ false }
-{
-    Arg::new(alloc, name)
-        .long(name)
-        .value_name(value)
-        .help(help)
 }
 
 fn make_port<'a>(alloc: Global) -> Arg<'a>
@@ -427,25 +406,14 @@ fn make_log<'a>(alloc: Global) -> Arg<'a>
     ensures rule { rule_of result ≡ spec.log_flag }
     ensures local { result.global ≡ false }
 {
-    Arg::new(alloc, "log")
-        .long("log")
-        .action(ArgAction::SetTrue)
-        .help("Tells each connection in a line on standard error")
+    let help = "Tells each connection in a line on standard error";
+    make_flag(alloc, "log", help)
 }
 
 fn make_root_flag<'a>(alloc: Global) -> Arg<'a>
     ensures rule { rule_of result ≡ spec.root_flag }
     ensures local { result.global ≡ false }
 {
-    Arg::new(alloc, "root-stdin")
-        .long("root-stdin")
-        .action(ArgAction::SetTrue)
-        .help("Reads ROOT from standard input, in place of the word")
-}
-
-fn make_form<'a>(alloc: Global) -> Arg<'a>
-    ensures rule { rule_of result ≡ spec.form_option_or_v2 }
-    ensures local { result.global ≡ false }
-{
-    make_option(alloc, "form", "FORM", "v1, v2 or json").default_value("v2")
+    let help = "Reads ROOT from standard input, in place of the word";
+    make_flag(alloc, "root-stdin", help)
 }

@@ -5,15 +5,15 @@ ghost use Rattle.clap.specs.Words.{found_of, rows_of};
 ghost use Rattle.clubdesk_commands.specs.Words as spec;
 
 use crate::clock::Clock;
-use crate::options::{given, is_set, moment_word, name_of, number_at};
+use crate::options::{given, moment_word, name_of, number_at};
 use crate::task::{Service, Task};
 use crate::values::{count_of, patience_of, pause_seconds, port_of, root_of};
 use clap::ArgMatches;
 use club_core::Command;
 use club_values::{Day, Hour, Kind, Moment, Slot};
+use command_line::{is_set, value_of};
 use desk_server::Zone;
 use pass_forms::Form;
-use passtool_commands::value_of;
 
 /// `add-member FILE NAME QUOTA`
 pub fn add_member<'a>(words: &ArgMatches<'a>) -> Option<Task<'a>>

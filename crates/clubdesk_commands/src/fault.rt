@@ -1,6 +1,7 @@
 //! Why a command failed, with the exit status and the line.
 
 use club_core::{OfficeFault, StoreFault};
+use command_line::WordsFault;
 use std::alloc::AllocError;
 use std::{error, fmt, io};
 
@@ -82,6 +83,20 @@ impl From<io::Error> for Fault {
 
     fn from(_error: io::Error) -> Fault {
         Fault::InputOutput
+    }
+}
+
+impl From<WordsFault> for Fault {
+    ghost use Rattle.std.specs.Prelude.{◌≡◌};
+    ghost use Rattle.clubdesk_commands.specs.Fault.{of_words};
+
+    ghost from_gives = { λ returned fault. fault ≡ of_words returned };
+
+    fn from(returned: WordsFault) -> Fault {
+        match returned {
+            WordsFault::Refused(error) => Fault::Words(error),
+            WordsFault::Memory => Fault::Memory,
+        }
     }
 }
 

@@ -1,14 +1,13 @@
 //! A key's root from the input.
 
 ghost use Rattle.std.specs.Prelude.{◌≡◌, false};
-ghost use Rattle.std.specs.Io.BufRead.{strip_last};
 ghost use Rattle.clubdesk_commands.specs.Input as spec;
 
 use crate::fault::Fault;
 use crate::task::{Job, Task};
 use crate::values::root_of;
 use club_rows::Root;
-use passtool_commands::fill;
+use command_line::{fill, without_line_feed};
 use std::io::Read;
 
 /// More bytes than the longest root in hexadecimal and its line feed.
@@ -73,15 +72,5 @@ fn root_in(bytes: &[u8]) -> Option<Root>
     match str::from_utf8(without_line_feed(bytes)) {
         Ok(text) => root_of(text),
         Err(_) => None,
-    }
-}
-
-// The bytes without one line feed at their end.
-fn without_line_feed(bytes: &[u8]) -> &[u8]
-    ensures { result.now ≡ strip_last 10 bytes.now }
-{
-    match bytes {
-        [front @ .., b'\n'] => front,
-        _ => bytes,
     }
 }

@@ -11,9 +11,9 @@ use club_core::{ClubStore, Command};
 use club_gate::{Desk, OfficeReply, key_signature, minted};
 use club_rows::Root;
 use club_values::{Day, Name};
+use command_line::write_text;
 use pass_forms::Form;
 use pass_json::write_any;
-use passtool_commands::write_text;
 use std::alloc::Global;
 use std::io::Write;
 

@@ -2,12 +2,12 @@
 
 ghost use Rattle.std.specs.Prelude.{◌≡◌, IfOk, codes, option_map};
 ghost use Rattle.clap.specs.Words.{first_of, found_of, rows_of};
+ghost use Rattle.command_line.specs.Words.{is_set};
 ghost use Rattle.clubdesk_commands.specs.Words.{
   AnswersForm,
   AnswersRoot,
   IsWordsFault,
   form_in,
-  is_set,
   moment_word_in,
   name_value,
   number_value,
@@ -21,8 +21,8 @@ use crate::values::parse_number;
 use clap::ArgMatches;
 use clap::error::ErrorKind;
 use club_values::Name;
+use command_line::{form_fault, form_named, is_set, value_of, words_fault};
 use pass_forms::Form;
-use passtool_commands::{form_error, form_named, value_of};
 use std::alloc::Global;
 
 /// The value of a word, parsed as a name.
@@ -82,12 +82,12 @@ pub fn root_word<'a>(
         (is_set (codes "root-stdin") (rows_of (found_of words.now)))) result }
 {
     match (word, is_set(words, "root-stdin")) {
-        (Some(_), true) => Err(words_fault(
+        (Some(_), true) => Err(argument_fault(
             alloc,
             ErrorKind::ArgumentConflict,
             "the argument '<ROOT>' cannot be used with '--root-stdin'",
         )),
-        (None, false) => Err(words_fault(
+        (None, false) => Err(argument_fault(
             alloc,
             ErrorKind::MissingRequiredArgument,
             "one of these is required: <ROOT>, --root-stdin",
@@ -97,23 +97,10 @@ pub fn root_word<'a>(
 }
 
 // A fault of the words that clap doesn't find itself.
-fn words_fault(alloc: Global, kind: ErrorKind, message: &str) -> Fault
+fn argument_fault(alloc: Global, kind: ErrorKind, message: &str) -> Fault
     ensures { IsWordsFault kind result }
 {
-    let Ok(mut application) = make_application(alloc) else {
-        return Fault::Memory;
-    };
-    match application.error(kind, message) {
-        Ok(error) => Fault::Words(error),
-        Err(_) => Fault::Memory,
-    }
-}
-
-/// Whether a flag is there: clap gives it the text `true`.
-pub fn is_set(words: &ArgMatches<'_>, id: &str) -> bool
-    ensures { result ≡ is_set id.now (rows_of (found_of words.now)) }
-{
-    value_of(words, id) == "true"
+    Fault::from(words_fault(make_application(alloc), kind, message))
 }
 
 /// The form that `--form` names.
@@ -127,9 +114,6 @@ pub fn form_of(alloc: Global, words: &ArgMatches<'_>) -> Result<Form, Fault>
     let name = value_of(words, "form");
     match form_named(name) {
         Some(form) => Ok(form),
-        None => {
-            let application = make_application(alloc)?;
-            Err(Fault::Words(form_error(alloc, application, name)?))
-        }
+        None => Err(Fault::from(form_fault(alloc, make_application(alloc), name))),
     }
 }

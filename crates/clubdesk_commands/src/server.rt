@@ -10,11 +10,11 @@ use crate::clock::Clock;
 use crate::fault::Fault;
 use crate::task::Service;
 use club_http::Face;
+use command_line::write_text;
 use desk_server::{
     ClockIn, ClockOutOfRange, Connections, Fixed, IdleHook, Listening, Log, Moments, Unlogged,
     serve_logged,
 };
-use passtool_commands::write_text;
 use std::alloc::{AllocError, Global};
 use std::io::Write;
 use std::net::TcpListener;

@@ -78,6 +78,6 @@ pub fn patience_of(text: &str) -> Option<u32>
 pub fn root_of(text: &str) -> Option<Root>
     ensures { result ≡ spec.key_root_of text.now }
 {
-    let root = passtool_commands::Root::from_hex(text)?;
+    let root = command_line::Root::from_hex(text)?;
     Root::new(root.as_slice())
 }

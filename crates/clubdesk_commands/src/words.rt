@@ -20,9 +20,8 @@ use crate::fault::Fault;
 use crate::options::{form_of, given, root_word, rotation_word};
 use crate::task::{Job, Task};
 use clap::ArgMatches;
-use clap::error::ErrorKind;
-use passtool_commands::laws::words_enter_a_command;
-use passtool_commands::value_of;
+use command_line::laws::words_enter_a_command;
+use command_line::{Parsed, parse, value_of};
 use std::alloc::Global;
 use std::convert::AsStr;
 
@@ -48,21 +47,13 @@ pub fn command_of<'a, S: AsStr>(alloc: Global, words: &'a [S]) -> Result<Asked<'
 {
     // By this law the words that are read name a command.
     words_enter_a_command();
-    let application = match make_application(alloc) {
-        Ok(application) => application,
-        Err(_) => return Err(Fault::Memory),
-    };
-    match application.try_get_matches_from(words) {
-        Ok(matches) => match job_from(alloc, &matches) {
+    match parse(make_application(alloc), words) {
+        Ok(Parsed::Matches(matches)) => match job_from(alloc, &matches) {
             Ok(job) => Ok(Asked::Perform(job)),
             Err(fault) => Err(fault),
         },
-        Err(error) => match error.kind() {
-            ErrorKind::DisplayHelp => Ok(Asked::ShowText(error)),
-            ErrorKind::DisplayVersion => Ok(Asked::ShowText(error)),
-            ErrorKind::OutOfMemory => Err(Fault::Memory),
-            _ => Err(Fault::Words(error)),
-        },
+        Ok(Parsed::ShowText(text)) => Ok(Asked::ShowText(text)),
+        Err(fault) => Err(Fault::from(fault)),
     }
 }
 

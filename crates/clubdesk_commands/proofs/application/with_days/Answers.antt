@@ -1,11 +1,9 @@
 use Rattle.std.proofs.Common.{refl}
-use Rattle.std.proofs.lemmas.Result.{IfOk-weaker}
-use Rattle.clubdesk_commands.proofs.AppLemmas.{command_added}
 use Rattle.clubdesk_commands.proofs.application.with_days.Goals as goal
 
 pub returns : goal.returns
 returns c =
-    let one = command_added _ _ _ _ _ refl c.make_close_slot.ensures c.in_ok-app.ensures in
-    let two = command_added _ _ _ _ _ one c.make_sheet.ensures c.in_ok-app-2.ensures in
-    let three = command_added _ _ _ _ _ two c.make_serve.ensures c.in_ok-app-3.ensures in
-    IfOk-weaker c.with_command-4.result _ _ (λ made added. command_added _ _ _ _ _ three c.make_pause.ensures added) c.with_command-4.ensures
+    let one = c.in_ok-app.ensures.made _ _ refl c.make_close_slot.ensures in
+    let two = c.in_ok-app-2.ensures.made _ _ one c.make_sheet.ensures in
+    let three = c.in_ok-app-3.ensures.made _ _ two c.make_serve.ensures in
+    c.with_command-4.ensures.made _ _ three c.make_pause.ensures

@@ -1,10 +1,8 @@
 use Rattle.std.proofs.Common.{refl}
-use Rattle.std.proofs.lemmas.Result.{IfOk-weaker}
-use Rattle.clubdesk_commands.proofs.AppLemmas.{command_added}
 use Rattle.clubdesk_commands.proofs.application.with_keys.Goals as goal
 
 pub returns : goal.returns
 returns c =
-    let one = command_added _ _ _ _ _ refl c.make_add_key.ensures c.in_ok-app.ensures in
-    let two = command_added _ _ _ _ _ one c.make_revoke_key.ensures c.in_ok-app-2.ensures in
-    IfOk-weaker c.with_command-3.result _ _ (λ made added. command_added _ _ _ _ _ two c.make_rotate_key.ensures added) c.with_command-3.ensures
+    let one = c.in_ok-app.ensures.made _ _ refl c.make_add_key.ensures in
+    let two = c.in_ok-app-2.ensures.made _ _ one c.make_revoke_key.ensures in
+    c.with_command-3.ensures.made _ _ two c.make_rotate_key.ensures

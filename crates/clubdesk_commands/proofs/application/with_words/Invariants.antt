@@ -1,7 +1,7 @@
 -- The words that are left make the command whole, whatever it was before.
 use Rattle.std.proofs.Common.{drop}
 use Rattle.clap.specs.Words.{App}
-use Rattle.clubdesk_commands.specs.Application.{IsMade}
+use Rattle.command_line.specs.Application.{IsMade}
 use Rattle.clubdesk_commands.proofs.AppLemmas.{IsOnTheWay}
 use Rattle.clubdesk_commands.proofs.application.with_words.Given as goal
 
