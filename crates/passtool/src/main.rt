@@ -8,6 +8,7 @@ ghost use Rattle.passtool_commands.specs.Fault.{IsNotText};
 use command_line::report;
 pub use passtool_commands::run;
 use passtool_commands::{Fault, Outcome, not_text};
+use std::alloc::AllocError;
 use std::process::ExitCode;
 use std::{env, io};
 
@@ -38,7 +39,7 @@ fn given_words(rt: &HostRuntime) -> Result<Vec<String>, Fault>
 {
     match env::args(rt) {
         Ok(words) => Ok(words.collect(rt.alloc())?),
-        Err(error) if error.kind() == io::ErrorKind::OutOfMemory => Err(Fault::Memory),
+        Err(error) if error.kind() == io::ErrorKind::OutOfMemory => Err(Fault::from(AllocError)),
         Err(_) => Err(not_text(rt.alloc())),
     }
 }

@@ -7,8 +7,8 @@ use Rattle.pass_forms.specs.Reading.{UnlessMemory}
 use Rattle.pass_forms.specs.declared.fault.FormFault.{FormFault}
 use Rattle.pass_forms.specs.declared.fault.FormFault.TheVariants.{TooLong, Malformed, ThirdParty, TooMany, Memory}
 use Rattle.passtool_commands.specs.Answer.{ReadsBack, OutcomeText, command_answer, reads_input}
-use Rattle.passtool_commands.specs.Fault.{of_form}
 use Rattle.passtool_commands.specs.Run.{WritesFront, Performs, ReadsInput, Writes}
+use Rattle.passtool_commands.specs.declared.answer.Fault.TheVariants.{Pass}
 use Rattle.passtool_commands.specs.declared.answer.Outcome.{Outcome}
 use Rattle.passtool_commands.specs.declared.command.Command.{Command}
 
@@ -21,7 +21,7 @@ module _ (command : Command) (left left' held held' : Option (List ℕ)) (bytes 
         record {
           bytes = bytes;
           reads = reads;
-          answers = ap (result_map_both (λ ending. ending) of_form) (is ∙ ap Ok pair);
+          answers = ap (result_map_both (λ ending. ending) Pass) (is ∙ ap Ok pair);
           reads_back = subst (ReadsBack command bytes) (sym text_is) reads_back;
           appends = appends;
         }
@@ -40,9 +40,9 @@ module _ (command : Command) (left left' held held' : Option (List ℕ)) (bytes 
     }
 
   pub failed : (fault : FormFault) → UnlessMemory (λ answer. command_answer command bytes ≡ answer) (Err fault)
-      → Performs command left left' held held' (Err (of_form fault))
-  failed TooLong is = (bytes, reads, ap (result_map_both (λ ending. ending) of_form) is)
-  failed Malformed is = (bytes, reads, ap (result_map_both (λ ending. ending) of_form) is)
-  failed ThirdParty is = (bytes, reads, ap (result_map_both (λ ending. ending) of_form) is)
-  failed TooMany is = (bytes, reads, ap (result_map_both (λ ending. ending) of_form) is)
+      → Performs command left left' held held' (Err (Pass fault))
+  failed TooLong is = (bytes, reads, ap (result_map_both (λ ending. ending) Pass) is)
+  failed Malformed is = (bytes, reads, ap (result_map_both (λ ending. ending) Pass) is)
+  failed ThirdParty is = (bytes, reads, ap (result_map_both (λ ending. ending) Pass) is)
+  failed TooMany is = (bytes, reads, ap (result_map_both (λ ending. ending) Pass) is)
   failed Memory is = tt

@@ -9,13 +9,13 @@ use Rattle.command_line.specs.Words.{IsOfKind, IsParsed}
 use Rattle.command_line.specs.declared.errors.WordsFault.{WordsFault}
 use Rattle.command_line.specs.declared.errors.WordsFault.TheVariants as clap_fault
 use Rattle.command_line.specs.declared.words.Parsed.TheVariants.{Matches, ShowText}
+use Rattle.pass_forms.specs.declared.fault.FormFault.TheVariants.{TooLong, Malformed, ThirdParty, TooMany, Memory}
 use Rattle.pass_forms.specs.declared.form.Form.{Form}
 use Rattle.passtool_commands.specs.Application.{application, refusals, subcommand}
 use Rattle.passtool_commands.specs.Fault.{IsNotText, of_words}
 use Rattle.passtool_commands.specs.Words.{AnswersAsked, AsksText, IsFaultOf, ArgumentRefusal, asked_by, bad_form, command_of}
 use Rattle.passtool_commands.specs.declared.answer.Fault.{Fault}
-use Rattle.passtool_commands.specs.declared.answer.Fault.TheVariants.{Words, TooLong, Malformed, ThirdParty, TooMany, Memory, CaveatNotUnderstood, BadRoot}
-use Rattle.passtool_commands.specs.declared.answer.Fault.TheVariants.{InputOutput}
+use Rattle.passtool_commands.specs.declared.answer.Fault.TheVariants.{Words, Pass, CaveatNotUnderstood, BadRoot, InputOutput}
 use Rattle.passtool_commands.specs.declared.command.Command.{Command}
 
 -- clap gives the matches of the application, and the kinds of its faults, as a function of the words
@@ -50,11 +50,11 @@ pub faulted : (words : List Text) (found : Option (Text × List Row)) (fault : F
 faulted words found (Words error) clear same h = inr (clear, command_found words found _ same (sym h.0), h.1)
 faulted words found BadRoot clear same h = (clear, command_found words found _ same (sym h))
 faulted words found (CaveatNotUnderstood number) clear same h = (clear, command_found words found _ same (sym h))
-faulted words found Memory clear same h = tt
-faulted words found TooLong clear same h = absurd h
-faulted words found Malformed clear same h = absurd h
-faulted words found ThirdParty clear same h = absurd h
-faulted words found TooMany clear same h = absurd h
+faulted words found (Pass Memory) clear same h = tt
+faulted words found (Pass TooLong) clear same h = absurd h
+faulted words found (Pass Malformed) clear same h = absurd h
+faulted words found (Pass ThirdParty) clear same h = absurd h
+faulted words found (Pass TooMany) clear same h = absurd h
 faulted words found InputOutput clear same h = absurd h
 
 -- a name that is no form's

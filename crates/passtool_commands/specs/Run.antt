@@ -4,20 +4,19 @@ use Rattle.std.specs.Result.{result_map_both}
 use Rattle.std.specs.Io.{StartsWith}
 use Rattle.std.specs.Io.KnownBytes.{Appends, Keeps}
 use Rattle.clap.specs.Words.{Text}
+use Rattle.pass_forms.specs.declared.fault.FormFault.TheVariants.{Memory}
 use Rattle.passtool_commands.specs.Answer.{ReadsBack, OutcomeText, command_answer, reads_input}
-use Rattle.passtool_commands.specs.Fault.{of_form}
 use Rattle.command_line.specs.Input.{ReadsAtMost}
 use Rattle.passtool_commands.specs.Words.{AsksText, IsFaultOf, asked_command}
 use Rattle.passtool_commands.specs.declared.answer.Fault.{Fault}
-use Rattle.passtool_commands.specs.declared.answer.Fault.TheVariants.{Words, TooLong, Malformed, ThirdParty, TooMany, Memory, BadRoot, CaveatNotUnderstood}
-use Rattle.passtool_commands.specs.declared.answer.Fault.TheVariants.{InputOutput}
+use Rattle.passtool_commands.specs.declared.answer.Fault.TheVariants.{Words, Pass, BadRoot, CaveatNotUnderstood, InputOutput}
 use Rattle.passtool_commands.specs.declared.answer.Outcome.{Outcome}
 use Rattle.passtool_commands.specs.declared.answer.Outcome.TheVariants.{Done, NotSigned}
 use Rattle.passtool_commands.specs.declared.command.Command.{Command}
 
 -- the answer of a command to its input, or the program's fault
 abbrev pub IsAnswer : Command → List ℕ → Result OutcomeText Fault → Type 0
-IsAnswer command bytes answer = result_map_both (λ ending. ending) of_form (command_answer command bytes) ≡ answer
+IsAnswer command bytes answer = result_map_both (λ ending. ending) Pass (command_answer command bytes) ≡ answer
 
 -- a command's input: at most the first 8,194 bytes that the reader had left, or nothing
 abbrev pub ReadsInput : Bool → Option (List ℕ) → Option (List ℕ) → List ℕ → Type 0
@@ -44,7 +43,7 @@ pub record WritesFront (command : Command) (left left' held held' : Option (List
 abbrev pub Performs : Command → Option (List ℕ) → Option (List ℕ) → Option (List ℕ)
     → Option (List ℕ) → Result Outcome Fault → Type 0
 Performs command left left' held held' (Ok outcome) = (text : List ℕ) × Writes command left left' held held' (outcome, text) text
-Performs command left left' held held' (Err Memory) = Unit {0}
+Performs command left left' held held' (Err (Pass Memory)) = Unit {0}
 Performs command left left' held held' (Err InputOutput) = Keeps held held' ⊎ WritesFront command left left' held held'
 Performs command left left' held held' (Err fault) =
     (bytes : List ℕ) × ReadsInput (reads_input command) left left' bytes × IsAnswer command bytes (Err fault)
@@ -61,9 +60,6 @@ AnswersWords words (Ok Done) = IsSome (asked_command words) ⊎ AsksText words
 AnswersWords words (Err (Words error)) = IsFaultOf words (Words error)
 AnswersWords words (Err BadRoot) = IsFaultOf words BadRoot
 AnswersWords words (Err (CaveatNotUnderstood number)) = IsFaultOf words (CaveatNotUnderstood number)
-AnswersWords words (Err Memory) = Unit {0}
+AnswersWords words (Err (Pass Memory)) = Unit {0}
+AnswersWords words (Err (Pass fault)) = IsSome (asked_command words)
 AnswersWords words (Err InputOutput) = IsSome (asked_command words) ⊎ AsksText words
-AnswersWords words (Err TooLong) = IsSome (asked_command words)
-AnswersWords words (Err Malformed) = IsSome (asked_command words)
-AnswersWords words (Err ThirdParty) = IsSome (asked_command words)
-AnswersWords words (Err TooMany) = IsSome (asked_command words)

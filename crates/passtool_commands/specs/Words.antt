@@ -12,10 +12,11 @@ use Rattle.command_line.specs.FormName.{form_named}
 use Rattle.command_line.specs.Root.{root_of}
 use Rattle.command_line.specs.Words.{HasText, IsRefusedAs, is_set, value_in}
 use Rattle.pass_caveats.specs.computed.CaveatOf.{caveat_of}
+use Rattle.pass_forms.specs.declared.fault.FormFault.TheVariants.{Memory}
 use Rattle.pass_forms.specs.declared.form.Form.{Form}
 use Rattle.passtool_commands.specs.Application.{refusals, subcommand}
 use Rattle.passtool_commands.specs.declared.answer.Fault.{Fault}
-use Rattle.passtool_commands.specs.declared.answer.Fault.TheVariants.{Words, BadRoot, CaveatNotUnderstood, Memory}
+use Rattle.passtool_commands.specs.declared.answer.Fault.TheVariants.{Words, BadRoot, CaveatNotUnderstood, Pass}
 use Rattle.passtool_commands.specs.declared.command.Command.{Command}
 use Rattle.passtool_commands.specs.declared.command.Command.TheVariants.{Mint, Show, Narrow, Convert, Verify}
 use Rattle.passtool_commands.specs.declared.command.Request.{Request}
@@ -135,7 +136,7 @@ AnswersAsked expected (Ok answer) = expected ≡ Ok answer
 AnswersAsked expected (Err (Words error)) = (expected ≡ Err bad_form) × (kind_of error ≡ kind.InvalidValue)
 AnswersAsked expected (Err BadRoot) = expected ≡ Err bad_root
 AnswersAsked expected (Err (CaveatNotUnderstood number)) = expected ≡ Err (not_understood number)
-AnswersAsked expected (Err Memory) = Unit {0}
+AnswersAsked expected (Err (Pass Memory)) = Unit {0}
 AnswersAsked expected (Err _) = ⊥
 
 -- The fault of the arguments: clap decides first.
@@ -145,7 +146,7 @@ IsFaultOf words (Words error) = IsRefusedAs (refusals words) (kind_of error)
 IsFaultOf words BadRoot = (refusals words ≡ []) × (command_of words ≡ Err bad_root)
 IsFaultOf words (CaveatNotUnderstood number) =
     (refusals words ≡ []) × (command_of words ≡ Err (not_understood number))
-IsFaultOf words Memory = Unit {0}
+IsFaultOf words (Pass Memory) = Unit {0}
 IsFaultOf words _ = ⊥
 
 -- the results of parsing the arguments

@@ -2,6 +2,7 @@
 
 ghost use Rattle.std.specs.Prelude.{◌≡◌};
 ghost use Rattle.std.specs.String.{string_bytes};
+ghost use Rattle.passtool_commands.specs.Fault.{form_number};
 
 use command_line::WordsFault;
 use pass_forms::FormFault;
@@ -78,16 +79,8 @@ impl Answer {
 pub enum Fault {
     /// `clap` refused the arguments, or `--form` names none of the three forms.
     Words(clap::Error),
-    /// The text of the pass has more than 8,192 bytes.
-    TooLong,
-    /// The text isn't a pass.
-    Malformed,
-    /// The pass has a third-party caveat.
-    ThirdParty,
-    /// The pass has more than 64 caveats.
-    TooMany,
-    /// Memory ran out.
-    Memory,
+    /// The text isn't a pass, or the pass can't be narrowed or written, or memory ran out.
+    Pass(FormFault),
     /// The caveat of this number, counted from 1, isn't understood.
     CaveatNotUnderstood(usize),
     /// The root isn't 1 to 64 bytes in hexadecimal.
@@ -105,8 +98,8 @@ impl Fault {
     {
         match self {
             Fault::Words(_) => 2,
-            Fault::TooLong | Fault::Malformed | Fault::ThirdParty | Fault::TooMany => 3,
-            Fault::Memory => 4,
+            Fault::Pass(FormFault::Memory) => 4,
+            Fault::Pass(_) => 3,
             Fault::CaveatNotUnderstood(_) => 5,
             Fault::BadRoot => 6,
             Fault::InputOutput => 7,
@@ -122,11 +115,10 @@ impl fmt::Display for Fault {
     fn fmt<W: fmt::Write>(&self, f: &mut fmt::Formatter<W>) -> fmt::Result {
         match self {
             Fault::Words(error) => write!(f, "{error}"),
-            Fault::TooLong => f.write_str("fault 1: too long"),
-            Fault::Malformed => f.write_str("fault 2: malformed"),
-            Fault::ThirdParty => f.write_str("fault 3: third-party caveat"),
-            Fault::TooMany => f.write_str("fault 4: too many caveats"),
-            Fault::Memory => f.write_str("out of memory"),
+            Fault::Pass(fault) => match fault_number(*fault) {
+                Some(number) => write!(f, "fault {number}: {fault}"),
+                None => write!(f, "{fault}"),
+            },
             Fault::CaveatNotUnderstood(number) => write!(f, "caveat {number} not understood"),
             Fault::BadRoot => f.write_str("bad root"),
             Fault::InputOutput => f.write_str("input or output failed"),
@@ -134,16 +126,30 @@ impl fmt::Display for Fault {
     }
 }
 
+// The number of a pass's fault in its line, from 1 to 4.
+fn fault_number(fault: FormFault) -> Option<u8>
+    ensures { result ≡ form_number fault }
+{
+    match fault {
+        FormFault::TooLong => Some(1),
+        FormFault::Malformed => Some(2),
+        FormFault::ThirdParty => Some(3),
+        FormFault::TooMany => Some(4),
+        FormFault::Memory => None,
+    }
+}
+
 impl error::Error for Fault {}
 
 impl From<AllocError> for Fault {
     ghost use Rattle.std.specs.Prelude.{◌≡◌};
-    ghost use Rattle.passtool_commands.specs.declared.answer.Fault.TheVariants.{Memory};
+    ghost use Rattle.pass_forms.specs.declared.fault.FormFault.TheVariants.{Memory};
+    ghost use Rattle.passtool_commands.specs.declared.answer.Fault.TheVariants.{Pass};
 
-    ghost from_gives = { λ _ fault. fault ≡ Memory };
+    ghost from_gives = { λ _ fault. fault ≡ Pass Memory };
 
     fn from(_error: AllocError) -> Fault {
-        Fault::Memory
+        Fault::Pass(FormFault::Memory)
     }
 }
 
@@ -167,24 +173,18 @@ impl From<WordsFault> for Fault {
     fn from(returned: WordsFault) -> Fault {
         match returned {
             WordsFault::Refused(error) => Fault::Words(error),
-            WordsFault::Memory => Fault::Memory,
+            WordsFault::Memory => Fault::Pass(FormFault::Memory),
         }
     }
 }
 
 impl From<FormFault> for Fault {
     ghost use Rattle.std.specs.Prelude.{◌≡◌};
-    ghost use Rattle.passtool_commands.specs.Fault.{of_form};
+    ghost use Rattle.passtool_commands.specs.declared.answer.Fault.TheVariants.{Pass};
 
-    ghost from_gives = { λ form fault. fault ≡ of_form form };
+    ghost from_gives = { λ returned fault. fault ≡ Pass returned };
 
-    fn from(form: FormFault) -> Fault {
-        match form {
-            FormFault::TooLong => Fault::TooLong,
-            FormFault::Malformed => Fault::Malformed,
-            FormFault::ThirdParty => Fault::ThirdParty,
-            FormFault::TooMany => Fault::TooMany,
-            FormFault::Memory => Fault::Memory,
-        }
+    fn from(returned: FormFault) -> Fault {
+        Fault::Pass(returned)
     }
 }

@@ -20,10 +20,10 @@ use std::io::{Read, Write};
 /// # Errors
 ///
 /// Of the arguments: `Words` if `clap` refuses them or the form is unknown, `BadRoot`, and
-/// `CaveatNotUnderstood` with the number of the caveat among those given. Of the pass: `TooLong`,
-/// `Malformed`, `ThirdParty` and `TooMany`. `Memory` only if an allocation fails. After these
-/// nothing was written. `InputOutput` if the reader or the writer failed: nothing was written, or a
-/// beginning of the answer to the whole input, or of help or the version.
+/// `CaveatNotUnderstood` with the number of the caveat among those given. `Pass` with the fault of
+/// the pass, or with `Memory` only if an allocation fails. After these nothing was written.
+/// `InputOutput` if the reader or the writer failed: nothing was written, or a beginning of the
+/// answer to the whole input, or of help or the version.
 pub fn run<S: AsStr, R: Read, W: Write>(
     alloc: Global,
     words: &[S],
