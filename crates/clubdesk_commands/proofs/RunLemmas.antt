@@ -1,5 +1,5 @@
 -- How a run ends, and when it writes nothing.
-use Rattle.std.proofs.Common.{◌≡◌, ◌⊎◌, List, [], ◌∷◌, false, Some, None, Result, Ok, Err, inl, inr, refl, ℕ, Bool, arith, codes}
+use Rattle.std.proofs.Common.{◌≡◌, ◌⊎◌, List, [], ◌∷◌, false, Some, None, Result, Ok, Err, inl, inr, refl, subst, ℕ, Bool, arith, codes}
 use Rattle.std.proofs.lemmas.Bool.Decides.{nat_tests}
 use Rattle.std.specs.Prelude.{IsSome, IfErr}
 use Rattle.clap.specs.Words.{IsAmong, Kinds, Text}
@@ -85,6 +85,12 @@ run_words words (Perform job) (Err Memory) reads ends = tt
 run_words words (Perform job) (Err Storage) reads ends = some_is words job (some_asked words job reads.0 reads.1)
 run_words words (Perform job) (Err ClockOutOfRange) reads ends = some_is words job (some_asked words job reads.0 reads.1)
 run_words words (Perform job) (Err InputOutput) reads ends = inl (some_is words job (some_asked words job reads.0 reads.1))
+
+-- help and the version fail only by the writer
+pub text_is_silent : (Same : Type 0) (result : Result Unit Fault) → IfErr result (λ fault. fault ≡ InputOutput)
+    → IfErr result (λ fault. IsSilent fault → Same)
+text_is_silent Same (Ok done) of_writer = tt
+text_is_silent Same (Err fault) of_writer = λ silent. absurd (subst IsSilent of_writer silent)
 
 -- ---- the faults of a task
 

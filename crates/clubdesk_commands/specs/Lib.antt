@@ -11,3 +11,4 @@ pub mod AtNeed
 pub mod DeskAtNeed
 pub mod Input
 pub mod Run
+pub mod ByTraits

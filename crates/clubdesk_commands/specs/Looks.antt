@@ -7,6 +7,7 @@ use Rattle.club_core.specs.Store.{KeepsClub}
 use Rattle.club_gate.specs.Looks.{IsUnshown, account_look, slot_look}
 use Rattle.club_gate.specs.declared.fault.Fault.{Fault as DeskFault}
 use Rattle.desk_server.specs.Zone.{IsShown}
+use Rattle.clubdesk_commands.specs.Office.{PrintsSheet}
 use Rattle.clubdesk_commands.specs.Output.{Output}
 use Rattle.clubdesk_commands.specs.declared.clock.Clock.{Clock}
 use Rattle.clubdesk_commands.specs.declared.clock.Clock.TheVariants.{Fixed, InZone}
@@ -48,3 +49,9 @@ pub record StopsLook {S : Type 0} (old new : S) (written : Output) (result : Res
 pub data LooksByClock (clock : Clock) (Stopped : Type 0) (Looked : ℕ → Type 0) : Type 0 where
   at_moment : (moment : ℕ) → IsMomentOf clock (Some moment) → Looked moment → LooksByClock clock Stopped Looked
   at_none : IsMomentOf clock None → Stopped → LooksByClock clock Stopped Looked
+
+-- An account is looked at, at a moment of the clock, and what the desk shows of it is written.
+abbrev pub IsAccountShown : {S : Type 0} → (S → Type 0) → (S → Club → List Club → Type 0) → List ℕ → Clock → Output → Result Unit Fault → S → S → Type 0
+IsAccountShown Clean Represents key clock written result old new =
+    LooksByClock clock (StopsLook old new written result)
+    (λ moment. Looks Clean Represents old new (ShowsAccount key moment) (PrintsSheet written result))

@@ -15,6 +15,16 @@ pub record Output : Type 1 where
 abbrev pub output : {W : Type 0} → (W → Option (List ℕ)) → W → W → Output
 output contents old new = record { before = contents old; after = contents new; no_change = new ≡ old }
 
+-- a reader before and after: the bytes that it has left, if they are known, and the statement that it is unchanged
+pub record Input : Type 1 where
+  pub before : Option (List ℕ)
+  pub after : Option (List ℕ)
+  pub no_change : Type 0
+
+-- the input of a reader whose trait knows its bytes
+abbrev pub input : {R : Type 0} → (R → Option (List ℕ)) → R → R → Input
+input remaining old new = record { before = remaining old; after = remaining new; no_change = new ≡ old }
+
 -- the whole text was written, or, if the writer failed, a prefix of it
 abbrev pub WritesText : List ℕ → Output → Result Unit Fault → Type 0
 WritesText text written (Ok done) = Appends written.before written.after text

@@ -16,7 +16,7 @@ use Rattle.clubdesk_commands.specs.AtNeed.{Access, AnswersAtNeed, Closing, Gives
 use Rattle.clubdesk_commands.specs.JobModel.{JobModel}
 use Rattle.clubdesk_commands.specs.Office.{IsOrdered, IsPassOrdered, IsSheetPrinted, PrintsReply, PrintsSheet, pass_text}
 use Rattle.clubdesk_commands.specs.Input.{IsWholeInput, TakesRoot, asks_root, awaits_root}
-use Rattle.clubdesk_commands.specs.Looks.{IsMomentOf, Looks, LooksByClock, ShowsAccount, ShowsSlot, StopsLook}
+use Rattle.clubdesk_commands.specs.Looks.{IsAccountShown, IsMomentOf, Looks, ShowsSlot}
 use Rattle.clubdesk_commands.specs.Fault.{fault_of_opening}
 use Rattle.clubdesk_commands.specs.Output.{Output, WritesText}
 use Rattle.clubdesk_commands.specs.Words.{AsksText, IsFaultOf, asked_job}
@@ -112,9 +112,7 @@ Does Clean Represents (Serve service) written result old new = ⊥
 Does Clean Represents (Pause seconds) written result old new = ⊥
 Does Clean Represents (AddKeyByInput name member form) written result old new = ⊥
 Does Clean Represents (RotateKeyByInput name until form) written result old new = ⊥
-Does Clean Represents (ShowAccount key clock) written result old new =
-    LooksByClock clock (StopsLook old new written result)
-    (λ moment. Looks Clean Represents old new (ShowsAccount key moment) (PrintsSheet written result))
+Does Clean Represents (ShowAccount key clock) written result old new = IsAccountShown Clean Represents key clock written result old new
 Does Clean Represents (ShowSlot slot) written result old new = Looks Clean Represents old new (ShowsSlot slot) (PrintsSheet written result)
 
 -- a task of the office

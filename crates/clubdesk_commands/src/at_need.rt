@@ -23,6 +23,9 @@ pub struct DeskAtNeed<'a, D: Databases> {
 }
 
 impl<'a, D: Databases> DeskAtNeed<'a, D> {
+    ghost use Rattle.clubdesk_commands.specs.ByTraits.{AnswersOver};
+    ghost use Rattle.clubdesk_commands.specs.DeskAtNeed.{access_of};
+
     /// A desk over the database of this name; `place` has the desk while the database is open.
     pub fn new(
         alloc: Global,
@@ -50,11 +53,8 @@ impl<'a, D: Databases> DeskAtNeed<'a, D> {
         ensures same_databases { self.new.databases.ghost_name ≡ self.old.databases.ghost_name }
         ensures same_place { self.new.place.ghost_name ≡ self.old.place.ghost_name }
         ensures file { self.new.file.now ≡ self.old.file.now }
-        ensures answered { AnswersAtNeed D.opens
-            (AnswersBy D.Store.disk_is_clean D.Store.represents)
-            self.old.file.now moment words.now.pass.now words.now.request
-            (access self.old.databases.now self.old.place.now) result
-            (access self.new.databases.now self.new.place.now) }
+        ensures answered { AnswersOver D.Databases D.Store.ClubStore self.old.file.now moment
+            words.now.pass.now words.now.request (access_of self.old) result (access_of self.new) }
     {
         match self.databases.reopen(self.file) {
             Ok(store) => {

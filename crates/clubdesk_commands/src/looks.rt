@@ -29,11 +29,8 @@ pub fn show_account<S: ClubStore, C: time::Clock, W: Write>(
     clock: Clock<'_>,
     writer: &mut W,
 ) -> Result<(), Fault>
-    ensures { spec.LooksByClock clock.entry
-        (spec.StopsLook desk.old desk.new (output W.contents writer.old writer.new) result)
-        (λ moment. spec.Looks S.disk_is_clean S.represents desk.old desk.new
-        (spec.ShowsAccount key.now moment)
-        (PrintsSheet (output W.contents writer.old writer.new) result)) }
+    ensures { spec.IsAccountShown S.disk_is_clean S.represents key.now clock.entry
+        (output W.contents writer.old writer.new) result desk.old desk.new }
 {
     match moment_of(machine, clock) {
         Some(moment) => show_account_at(desk, key, moment, writer),

@@ -1,9 +1,9 @@
 //! A run of the program, over words, a reader and writers.
 
-ghost use Rattle.std.specs.Prelude.{◌≡◌, None, IfErr, false, [], map};
-ghost use Rattle.desk_server.specs.Served.{AreNoted};
-ghost use Rattle.clubdesk_commands.specs.Input.{asks_root, awaits_root};
-ghost use Rattle.clubdesk_commands.specs.Output.{output};
+ghost use Rattle.std.specs.Prelude.{◌≡◌, IfErr, false, [], map};
+ghost use Rattle.clubdesk_commands.specs.ByTraits.{PerformsOver, Runs, log_change};
+ghost use Rattle.clubdesk_commands.specs.Input.{awaits_root};
+ghost use Rattle.clubdesk_commands.specs.Output.{input, output};
 ghost use Rattle.clubdesk_commands.specs.Run as spec;
 ghost use Rattle.clubdesk_commands.specs.Words.{asked_job};
 
@@ -48,20 +48,10 @@ pub fn run<D: Databases, S: AsStr, R: Read, W: Write, G: Log>(
 ) -> Result<(), Fault>
     // The fault of the words, or what they ask for.
     ensures words { spec.AnswersWords (map S.text words.now) result }
-    // Where they ask for a task, it was done at the database of the name that they give.
-    ensures command { spec.PerformsAsked D.opens D.closes D.finds_wish D.Store.disk_is_clean
-        D.Store.represents (asked_job (map S.text words.now))
-        (R.remaining reader.old) (R.remaining reader.new) databases.old databases.new
-        (output W.contents writer.old writer.new)
-        (λ fates. AreNoted G.begins G.notes log.old fates log.new) result }
-    // Where they ask for none, no database was opened.
-    ensures not_opened { asked_job (map S.text words.now) ≡ None → databases.new ≡ databases.old }
-    ensures silent { IfErr result (λ fault. spec.IsSilent fault → writer.new ≡ writer.old) }
-    ensures unlogged { spec.asks_log (asked_job (map S.text words.now)) ≡ false
-        → log.new ≡ log.old }
-    // Only a root that `--root-stdin` asks for is read.
-    ensures unread { asks_root (asked_job (map S.text words.now)) ≡ false
-        → reader.new ≡ reader.old }
+    // What it did, by the task that they ask for, if any.
+    ensures runs { Runs D.Databases D.Store.ClubStore (asked_job (map S.text words.now))
+        (input R.remaining reader.old reader.new) databases.old databases.new
+        (output W.contents writer.old writer.new) (log_change G.Log log.old log.new) result }
 {
     run_with_clock(rt, rt, databases, words, reader, writer, log)
 }
@@ -83,20 +73,10 @@ pub fn run_with_clock<C: Clock, D: Databases, S: AsStr, R: Read, W: Write, G: Lo
 ) -> Result<(), Fault>
     // The fault of the words, or what they ask for.
     ensures words { spec.AnswersWords (map S.text words.now) result }
-    // Where they ask for a task, it was done at the database of the name that they give.
-    ensures command { spec.PerformsAsked D.opens D.closes D.finds_wish D.Store.disk_is_clean
-        D.Store.represents (asked_job (map S.text words.now))
-        (R.remaining reader.old) (R.remaining reader.new) databases.old databases.new
-        (output W.contents writer.old writer.new)
-        (λ fates. AreNoted G.begins G.notes log.old fates log.new) result }
-    // Where they ask for none, no database was opened.
-    ensures not_opened { asked_job (map S.text words.now) ≡ None → databases.new ≡ databases.old }
-    ensures silent { IfErr result (λ fault. spec.IsSilent fault → writer.new ≡ writer.old) }
-    ensures unlogged { spec.asks_log (asked_job (map S.text words.now)) ≡ false
-        → log.new ≡ log.old }
-    // Only a root that `--root-stdin` asks for is read.
-    ensures unread { asks_root (asked_job (map S.text words.now)) ≡ false
-        → reader.new ≡ reader.old }
+    // What it did, by the task that they ask for, if any.
+    ensures runs { Runs D.Databases D.Store.ClubStore (asked_job (map S.text words.now))
+        (input R.remaining reader.old reader.new) databases.old databases.new
+        (output W.contents writer.old writer.new) (log_change G.Log log.old log.new) result }
 {
     match command_of(rt.alloc(), words) {
         Ok(asked) => answer(rt, machine, databases, asked, reader, writer, log),
@@ -115,15 +95,9 @@ fn answer<C: Clock, D: Databases, R: Read, W: Write, G: Log>(
     log: &mut G,
 ) -> Result<(), Fault>
     ensures ends { spec.EndsFor asked.entry result }
-    ensures command { spec.PerformsAsked D.opens D.closes D.finds_wish D.Store.disk_is_clean
-        D.Store.represents (spec.job_of asked.entry)
-        (R.remaining reader.old) (R.remaining reader.new) databases.old databases.new
-        (output W.contents writer.old writer.new)
-        (λ fates. AreNoted G.begins G.notes log.old fates log.new) result }
-    ensures not_opened { spec.job_of asked.entry ≡ None → databases.new ≡ databases.old }
-    ensures silent { IfErr result (λ fault. spec.IsSilent fault → writer.new ≡ writer.old) }
-    ensures unlogged { spec.asks_log (spec.job_of asked.entry) ≡ false → log.new ≡ log.old }
-    ensures unread { asks_root (spec.job_of asked.entry) ≡ false → reader.new ≡ reader.old }
+    ensures runs { Runs D.Databases D.Store.ClubStore (spec.job_of asked.entry)
+        (input R.remaining reader.old reader.new) databases.old databases.new
+        (output W.contents writer.old writer.new) (log_change G.Log log.old log.new) result }
 {
     match asked {
         Asked::ShowText(text) => show(&text, writer),
@@ -144,11 +118,9 @@ fn perform<C: Clock, D: Databases, W: Write, G: Log>(
     log: &mut G,
 ) -> Result<(), Fault>
     requires { awaits_root job.task ≡ false }
-    ensures done { spec.Performs D.opens D.closes D.finds_wish D.Store.disk_is_clean
-        D.Store.represents
-        job.entry databases.old databases.new
-        (output W.contents writer.old writer.new)
-        (λ fates. AreNoted G.begins G.notes log.old fates log.new) result }
+    ensures done { PerformsOver D.Databases D.Store.ClubStore job.entry
+        databases.old databases.new (output W.contents writer.old writer.new)
+        (log_change G.Log log.old log.new).notes result }
     ensures of_task { IfErr result spec.IsOfTask }
     ensures silent { IfErr result (λ fault. spec.IsSilent fault → writer.new ≡ writer.old) }
     ensures unlogged { spec.logs job.entry.task ≡ false → log.new ≡ log.old }
@@ -171,7 +143,7 @@ fn work<C: Clock, D: Databases, W: Write>(
     writer: &mut W,
 ) -> Result<(), Fault>
     requires { spec.IsOffice task }
-    ensures { spec.Performs D.opens D.closes D.finds_wish D.Store.disk_is_clean D.Store.represents
+    ensures { PerformsOver D.Databases D.Store.ClubStore
         (record { file = file.now; task = task.entry }) databases.old databases.new
         (output W.contents writer.old writer.new) (λ fates. fates ≡ []) result }
 {

@@ -1,9 +1,8 @@
 //! Tasks at a file that other programs open too.
 
 ghost use Rattle.std.specs.Prelude.{◌≡◌, false, []};
-ghost use Rattle.club_http.specs.Desk.{AnswersBy};
-ghost use Rattle.desk_server.specs.Served.{AreNoted};
-ghost use Rattle.clubdesk_commands.specs.AtNeed.{AnswersAtNeed, GivesWay, access};
+ghost use Rattle.clubdesk_commands.specs.ByTraits.{PerformsOver, ServesOver, log_change};
+ghost use Rattle.clubdesk_commands.specs.DeskAtNeed.{access_of};
 ghost use Rattle.clubdesk_commands.specs.Output.{output};
 ghost use Rattle.clubdesk_commands.specs.Run as spec;
 ghost use Rattle.clubdesk_commands.specs.declared.task.Task.TheVariants.{Pause, Serve};
@@ -34,11 +33,9 @@ pub fn serve_file<C: Clock, D: Databases, W: Write, G: Log>(
     writer: &mut W,
     log: &mut G,
 ) -> Result<(), Fault>
-    ensures done { spec.Performs D.opens D.closes D.finds_wish D.Store.disk_is_clean
-        D.Store.represents
+    ensures done { PerformsOver D.Databases D.Store.ClubStore
         (record { file = file.now; task = Serve service.entry }) databases.old databases.new
-        (output W.contents writer.old writer.new)
-        (λ fates. AreNoted G.begins G.notes log.old fates log.new) result }
+        (output W.contents writer.old writer.new) (log_change G.Log log.old log.new).notes result }
     ensures unlogged { service.entry.log ≡ false → log.new ≡ log.old }
 {
     match databases.open(file) {
@@ -64,13 +61,8 @@ fn serve_at_need<C: Clock, D: Databases, W: Write, G: Log>(
 ) -> Result<(), Fault>
     ensures same_databases { desk.new.databases.ghost_name ≡ desk.old.databases.ghost_name }
     ensures same_place { desk.new.place.ghost_name ≡ desk.old.place.ghost_name }
-    ensures served { spec.RunsServer
-        (AnswersAtNeed D.opens
-        (AnswersBy D.Store.disk_is_clean D.Store.represents) desk.old.file.now)
-        (GivesWay D.closes D.finds_wish desk.old.file.now) service.entry
-        (access desk.old.databases.now desk.old.place.now)
-        (access desk.new.databases.now desk.new.place.now)
-        (λ fates. AreNoted G.begins G.notes log.old fates log.new) result }
+    ensures served { ServesOver D.Databases D.Store.ClubStore desk.old.file.now service.entry
+        (access_of desk.old) (access_of desk.new) (log_change G.Log log.old log.new).notes result }
     ensures announced { spec.Announces service.entry.port
         (output W.contents writer.old writer.new) result }
     ensures unlogged { service.entry.log ≡ false → log.new ≡ log.old }
@@ -92,7 +84,7 @@ pub fn pause<D: Databases, W: Write>(
     seconds: u32,
     writer: &mut W,
 ) -> Result<(), Fault>
-    ensures { spec.Performs D.opens D.closes D.finds_wish D.Store.disk_is_clean D.Store.represents
+    ensures { PerformsOver D.Databases D.Store.ClubStore
         (record { file = file.now; task = Pause seconds }) databases.old databases.new
         (output W.contents writer.old writer.new) (λ fates. fates ≡ []) result }
 {
