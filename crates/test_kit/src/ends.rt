@@ -20,6 +20,13 @@ pub struct Output {
     pub text: String,
 }
 
+impl Output {
+    /// Whether a run ended with this status, and its text begins so.
+    pub fn begins(&self, status: u8, front: &str) -> bool {
+        self.status == status && self.text.as_str().starts_with(front)
+    }
+}
+
 /// Whether a text is this line.
 fn is_line(text: &str, line: &str) -> bool {
     match text.strip_suffix('\n') {
@@ -35,7 +42,7 @@ impl End {
         match self {
             End::Writes(line) => output.status == 0 && is_line(text, line),
             End::Prints(status, whole) => output.status == *status && text == *whole,
-            End::Begins(status, front) => output.status == *status && text.starts_with(front),
+            End::Begins(status, front) => output.begins(*status, front),
         }
     }
 }

@@ -9,19 +9,36 @@ pub struct PassTexts {
     pub json: &'static str,
 }
 
-/// The passes of `amy-1`, `bob-1` and `cy-1`.
+/// The pass of `amy-1` in each form. In V2 it has 79 characters.
+pub const AMY_V1: &str =
+    "MDAxN2xvY2F0aW9uIGNsdWItZGVzawowMDE5aWRlbnRpZmllciBrZXk6YW15LTEKMDAyZnNpZ25hdHVyZSAOxT68xWmrcT\
+    Hn8FCToPlVfpOKYLQh8KTsOfqe_tMgmQo";
+
+pub const AMY_V2: &str =
+    "AgEJY2x1Yi1kZXNrAglrZXk6YW15LTEAAAYgDsU-vMVpq3Ex5_BQk6D5VX6TimC0IfCk7Dn6nv7TIJk";
+
+pub const AMY_JSON: &str =
+    "{\"c\":[],\"i\":\"key:amy-1\",\"l\":\"club-desk\",\"s64\":\"DsU-vMVpq3Ex5_BQk6D5VX6Tim\
+    C0IfCk7Dn6nv7TIJk\",\"v\":2}";
+
+/// Those of `bob-1` and `cy-1` in V2.
+pub const BOB_V2: &str =
+    "AgEJY2x1Yi1kZXNrAglrZXk6Ym9iLTEAAAYg8McQ9g9QU63VDji91jYCIscN9G1Hs83nqsNV5o3a3ms";
+
+pub const CY_V2: &str =
+    "AgEJY2x1Yi1kZXNrAghrZXk6Y3ktMQAABiBQUl_Y8NwlBoAbD-j8qC6tL_B-cCI8grbMgQLK2YfSUQ";
+
+/// The passes of `amy-1`, `bob-1` and `cy-1` in all forms.
 pub const AMY: PassTexts = PassTexts {
-    v1: "MDAxN2xvY2F0aW9uIGNsdWItZGVzawowMDE5aWRlbnRpZmllciBrZXk6YW15LTEKMDAyZnNpZ25hdHVyZSAOxT68xW\
-        mrcTHn8FCToPlVfpOKYLQh8KTsOfqe_tMgmQo",
-    v2: "AgEJY2x1Yi1kZXNrAglrZXk6YW15LTEAAAYgDsU-vMVpq3Ex5_BQk6D5VX6TimC0IfCk7Dn6nv7TIJk",
-    json: "{\"c\":[],\"i\":\"key:amy-1\",\"l\":\"club-desk\",\"s64\":\"DsU-vMVpq3Ex5_BQk6D5VX6TimC0\
-        IfCk7Dn6nv7TIJk\",\"v\":2}",
+    v1: AMY_V1,
+    v2: AMY_V2,
+    json: AMY_JSON,
 };
 
 pub const BOB: PassTexts = PassTexts {
     v1: "MDAxN2xvY2F0aW9uIGNsdWItZGVzawowMDE5aWRlbnRpZmllciBrZXk6Ym9iLTEKMDAyZnNpZ25hdHVyZSDwxxD2D1\
         BTrdUOOL3WNgIixw30bUezzeeqw1Xmjdreawo",
-    v2: "AgEJY2x1Yi1kZXNrAglrZXk6Ym9iLTEAAAYg8McQ9g9QU63VDji91jYCIscN9G1Hs83nqsNV5o3a3ms",
+    v2: BOB_V2,
     json: "{\"c\":[],\"i\":\"key:bob-1\",\"l\":\"club-desk\",\"s64\":\"8McQ9g9QU63VDji91jYCIscN9G1H\
         s83nqsNV5o3a3ms\",\"v\":2}",
 };
@@ -29,7 +46,7 @@ pub const BOB: PassTexts = PassTexts {
 pub const CY: PassTexts = PassTexts {
     v1: "MDAxN2xvY2F0aW9uIGNsdWItZGVzawowMDE4aWRlbnRpZmllciBrZXk6Y3ktMQowMDJmc2lnbmF0dXJlIFBSX9jw3C\
         UGgBsP6PyoLq0v8H5wIjyCtsyBAsrZh9JRCg",
-    v2: "AgEJY2x1Yi1kZXNrAghrZXk6Y3ktMQAABiBQUl_Y8NwlBoAbD-j8qC6tL_B-cCI8grbMgQLK2YfSUQ",
+    v2: CY_V2,
     json: "{\"c\":[],\"i\":\"key:cy-1\",\"l\":\"club-desk\",\"s64\":\"UFJf2PDcJQaAGw_o_KgurS_wfnAiP\
         IK2zIECytmH0lE\",\"v\":2}",
 };

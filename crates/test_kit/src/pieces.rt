@@ -1,0 +1,22 @@
+//! Long texts, made of pieces.
+
+use std::alloc::{AllocError, Global};
+
+/// Some text, so many times.
+pub type Piece = (usize, &'static str);
+
+fn append(text: &mut String, piece: &Piece) -> Result<(), AllocError> {
+    for _ in 0..piece.0 {
+        text.push_str(piece.1)?;
+    }
+    Ok(())
+}
+
+/// The pieces, one behind the other.
+pub fn joined(alloc: Global, pieces: &[Piece]) -> Result<String, AllocError> {
+    let mut text = String::new(alloc);
+    for piece in pieces {
+        append(&mut text, piece)?;
+    }
+    Ok(text)
+}
