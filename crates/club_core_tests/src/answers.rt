@@ -2,20 +2,22 @@
 
 use crate::exchange::{Expected, Shown};
 use crate::expect::expect_row;
-use crate::fixture::{AFTER_7, AT_19, FRESH, Seen};
+use crate::fixture::{AFTER_7, FRESH, Seen};
 use crate::values::moment;
 use club_core::{FormFault, Refusal, Verdict, Words};
 use club_values::Moment;
 use std::alloc::Global;
 use std::process::Abort;
 use std::test::*;
+use test_kit::lists::NO_PASSES;
 use test_kit::moments::NOON;
-use test_kit::requests::{ACCOUNT, BOOK_7, CANCEL_7};
+use test_kit::requests::{ACCOUNT, BOOK_7, BOOK_7_ALONE, BOOK_8_AT_19, CANCEL_7};
 use test_kit::roots::{ROOT, SECOND_ROOT};
-use test_kit::{BOOKING_7, COURT_AT_18, PlainBooking, PlainRequest};
+use test_kit::{BOOKING_7, COURT_AT_19, PlainBooking, PlainRequest};
 
 /// The pass, its key's view (`None` if the club has no such key), the request, the moment, and the
 /// expected answer.
+#[derive(Clone, Copy)]
 struct Row(Shown, Option<Seen>, PlainRequest, &'static str, Expected);
 
 /// The answer to words by their key's view.
@@ -43,11 +45,9 @@ fn check_rows(rt: &(impl Abort + Alloc<A = Global>), rows: &[Row]) {
 
 const SPENDS_600: Shown = Shown::Pass(ROOT, &["spend <= 600"]);
 
-const BOOK_8_AT_19: PlainRequest = PlainRequest::Book(AT_19, 8, 0);
-
 const BOOKING_8: PlainBooking = PlainBooking {
     number: 8,
-    slot: AT_19,
+    slot: COURT_AT_19,
     guests: 0,
     charge: 200,
     left: 3,
@@ -113,8 +113,6 @@ fn verifies(rt: HostRuntime) {
 
 const ODD: Shown = Shown::Pass(ROOT, &["guests <= 0", "shoe = red"]);
 
-const BOOK_7_ALONE: PlainRequest = PlainRequest::Book(COURT_AT_18, 7, 0);
-
 const NOT_UNDERSTOOD_2: Expected = Expected::Refused(Refusal::CaveatNotUnderstood(2));
 
 static CAVEATS: [Row; 3] = [
@@ -128,30 +126,20 @@ fn caveats_by_their_positions(rt: HostRuntime) {
     check_rows(&rt, &CAVEATS);
 }
 
-const TOO_LONG: Shown = Shown::NoPass(FormFault::TooLong);
-
-const MALFORMED: Shown = Shown::NoPass(FormFault::Malformed);
-
-const THIRD_PARTY: Shown = Shown::NoPass(FormFault::ThirdParty);
-
-const TOO_MANY: Shown = Shown::NoPass(FormFault::TooMany);
-
-const PASS_TOO_LONG: Expected = Expected::Refused(Refusal::PassTooLong);
-
-const PASS_MALFORMED: Expected = Expected::Refused(Refusal::PassMalformed);
-
-const THIRD_PARTY_CAVEAT: Expected = Expected::Refused(Refusal::ThirdPartyCaveat);
-
-const TOO_MANY_CAVEATS: Expected = Expected::Refused(Refusal::TooManyCaveats);
-
-static NO_PASSES: [Row; 4] = [
-    Row(TOO_LONG, None, ACCOUNT, NOON, PASS_TOO_LONG),
-    Row(MALFORMED, None, ACCOUNT, NOON, PASS_MALFORMED),
-    Row(THIRD_PARTY, None, ACCOUNT, NOON, THIRD_PARTY_CAVEAT),
-    Row(TOO_MANY, None, ACCOUNT, NOON, TOO_MANY_CAVEATS),
-];
+/// Ends the test unless a text that is no pass for this fault is refused so.
+fn is_refused(
+    rt: &(impl Abort + Alloc<A = Global>),
+    number: usize,
+    fault: FormFault,
+    refusal: Refusal,
+) {
+    let (shown, outcome) = (Shown::NoPass(fault), Expected::Refused(refusal));
+    check_row(rt, number, &Row(shown, None, ACCOUNT, NOON, outcome));
+}
 
 #[test]
 fn what_is_no_pass(rt: HostRuntime) {
-    check_rows(&rt, &NO_PASSES);
+    for (number, (fault, refusal)) in NO_PASSES.iter().enumerate() {
+        is_refused(&rt, number, *fault, *refusal);
+    }
 }

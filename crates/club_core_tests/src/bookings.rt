@@ -1,17 +1,18 @@
 //! Decisions of bookings by their keys' views.
 
 use crate::decisions::{Row, check_rows};
-use crate::exchange::Expected;
-use crate::fixture::{AFTER_7, AT_19, FRESH, Seen};
+use crate::exchange::{Expected, NO_SUCH_FACILITY, NUMBER_USED, SLOT_HAS_BEGUN};
+use crate::fixture::{AFTER_7, FRESH, Seen};
 use club_core::Refusal;
 use std::test::*;
 use test_kit::moments::{BEFORE_START, BEGUN, NOON, START};
-use test_kit::requests::{BOOK_7, CANCEL_7};
-use test_kit::{
-    BOOKING_7, COURT, COURT_AT_18, PlainBooking, PlainFacility, PlainRequest, PlainSlot,
+use test_kit::requests::{
+    BOOK_2, BOOK_2_FOR_TWO, BOOK_7, BOOK_7_ALONE, BOOK_7_FOR_TWO, BOOK_8, CANCEL_7, CANCEL_7_AT_19,
 };
-
-const NUMBER_USED: Expected = Expected::Refused(Refusal::NumberUsed);
+use test_kit::{
+    BOOKING_7, COURT, COURT_AT_7, COURT_AT_8, COURT_AT_18, COURT_AT_19, COURT_AT_21, COURT_AT_22,
+    PlainBooking, PlainFacility, PlainRequest,
+};
 
 /// Booking 7 once it is cancelled.
 const CANCELLED_7: PlainBooking = PlainBooking {
@@ -31,29 +32,19 @@ const CANCELLED_AND_FULL: Seen = Seen {
     ..FRESH
 };
 
-/// The number 7 with other guests, and in another hour.
-const OTHER_GUESTS: PlainRequest = PlainRequest::Book(COURT_AT_18, 7, 1);
+/// The number 7 in another hour.
+const OTHER_HOUR: PlainRequest = PlainRequest::Book(COURT_AT_19, 7, 2);
 
-const OTHER_HOUR: PlainRequest = PlainRequest::Book(AT_19, 7, 2);
+const REPEATS_7: Expected = Expected::Repeats(BOOKING_7);
 
 static REPEATS: [Row; 8] = [
     Row(FRESH, BOOK_7, NOON, Expected::Books(BOOKING_7)),
-    Row(AFTER_7, BOOK_7, BEGUN, Expected::Repeats(BOOKING_7)),
-    Row(AFTER_7, OTHER_GUESTS, BEGUN, NUMBER_USED),
-    Row(CANCELLED, BOOK_7, BEGUN, Expected::Repeats(BOOKING_7)),
-    Row(
-        CANCELLED_AND_FULL,
-        BOOK_7,
-        START,
-        Expected::Repeats(BOOKING_7),
-    ),
-    Row(
-        CANCELLED_AND_FULL,
-        BOOK_7,
-        NOON,
-        Expected::Repeats(BOOKING_7),
-    ),
-    Row(CANCELLED_AND_FULL, OTHER_GUESTS, NOON, NUMBER_USED),
+    Row(AFTER_7, BOOK_7, BEGUN, REPEATS_7),
+    Row(AFTER_7, BOOK_7_FOR_TWO, BEGUN, NUMBER_USED),
+    Row(CANCELLED, BOOK_7, BEGUN, REPEATS_7),
+    Row(CANCELLED_AND_FULL, BOOK_7, START, REPEATS_7),
+    Row(CANCELLED_AND_FULL, BOOK_7, NOON, REPEATS_7),
+    Row(CANCELLED_AND_FULL, BOOK_7_FOR_TWO, NOON, NUMBER_USED),
     Row(CANCELLED_AND_FULL, OTHER_HOUR, NOON, NUMBER_USED),
 ];
 
@@ -61,8 +52,6 @@ static REPEATS: [Row; 8] = [
 fn a_booking_and_its_repeats(rt: HostRuntime) {
     check_rows(&rt, &REPEATS);
 }
-
-const BOOK_ALONE: PlainRequest = PlainRequest::Book(COURT_AT_18, 7, 0);
 
 const ALONE: PlainBooking = PlainBooking {
     guests: 0,
@@ -133,38 +122,18 @@ const CLOSED: Seen = Seen {
 };
 
 static BOOKINGS: [Row; 12] = [
-    Row(THREE_TAKEN, BOOK_ALONE, NOON, Expected::Books(LAST_PLACE)),
-    Row(THREE_TAKEN, OTHER_GUESTS, NOON, NO_PLACES),
+    Row(THREE_TAKEN, BOOK_7_ALONE, NOON, Expected::Books(LAST_PLACE)),
+    Row(THREE_TAKEN, BOOK_7_FOR_TWO, NOON, NO_PLACES),
     Row(POINTS_600, BOOK_7, NOON, Expected::Books(BOOKING_7)),
     Row(POINTS_599, BOOK_7, NOON, BALANCE_TOO_LOW),
-    Row(NOTHING_LEFT, BOOK_ALONE, NOON, SLOT_CLOSED),
-    Row(FULL, BOOK_ALONE, NOON, NO_PLACES),
-    Row(FIVE_OPEN, BOOK_ALONE, NOON, QUOTA_REACHED),
-    Row(FOUR_OPEN, BOOK_ALONE, NOON, BALANCE_TOO_LOW),
-    Row(
-        THREE_TAKEN,
-        PlainRequest::Book(COURT_AT_18, 2, 1),
-        NOON,
-        NO_PLACES,
-    ),
-    Row(
-        QUOTA_1,
-        PlainRequest::Book(COURT_AT_18, 2, 0),
-        NOON,
-        BALANCE_TOO_LOW,
-    ),
-    Row(
-        QUOTA_0,
-        PlainRequest::Book(COURT_AT_18, 2, 0),
-        NOON,
-        QUOTA_REACHED,
-    ),
-    Row(
-        CLOSED,
-        PlainRequest::Book(COURT_AT_18, 8, 0),
-        NOON,
-        SLOT_CLOSED,
-    ),
+    Row(NOTHING_LEFT, BOOK_7_ALONE, NOON, SLOT_CLOSED),
+    Row(FULL, BOOK_7_ALONE, NOON, NO_PLACES),
+    Row(FIVE_OPEN, BOOK_7_ALONE, NOON, QUOTA_REACHED),
+    Row(FOUR_OPEN, BOOK_7_ALONE, NOON, BALANCE_TOO_LOW),
+    Row(THREE_TAKEN, BOOK_2_FOR_TWO, NOON, NO_PLACES),
+    Row(QUOTA_1, BOOK_2, NOON, BALANCE_TOO_LOW),
+    Row(QUOTA_0, BOOK_2, NOON, QUOTA_REACHED),
+    Row(CLOSED, BOOK_8, NOON, SLOT_CLOSED),
 ];
 
 #[test]
@@ -185,17 +154,13 @@ const RECORDED: Seen = Seen {
 
 const NOT_BOOKABLE: Expected = Expected::Refused(Refusal::NotBookable);
 
-const NO_SUCH_FACILITY: Expected = Expected::Refused(Refusal::NoSuchFacility);
-
-const SLOT_HAS_BEGUN: Expected = Expected::Refused(Refusal::SlotHasBegun);
-
 /// The first refusal that applies.
 static ORDER: [Row; 6] = [
-    Row(NOTHING_LEFT, BOOK_ALONE, NOON, SLOT_CLOSED),
-    Row(NOTHING_LEFT, BOOK_ALONE, START, NOT_BOOKABLE),
-    Row(UNKNOWN, BOOK_ALONE, START, NO_SUCH_FACILITY),
-    Row(RECORDED, BOOK_ALONE, START, NUMBER_USED),
-    Row(RECORDED, PlainRequest::Cancel(AT_19, 7), START, NUMBER_USED),
+    Row(NOTHING_LEFT, BOOK_7_ALONE, NOON, SLOT_CLOSED),
+    Row(NOTHING_LEFT, BOOK_7_ALONE, START, NOT_BOOKABLE),
+    Row(UNKNOWN, BOOK_7_ALONE, START, NO_SUCH_FACILITY),
+    Row(RECORDED, BOOK_7_ALONE, START, NUMBER_USED),
+    Row(RECORDED, CANCEL_7_AT_19, START, NUMBER_USED),
     Row(RECORDED, CANCEL_7, START, SLOT_HAS_BEGUN),
 ];
 
@@ -204,61 +169,37 @@ fn order_of_refusals(rt: HostRuntime) {
     check_rows(&rt, &ORDER);
 }
 
-const AT_7: PlainSlot = PlainSlot {
-    hour: 7,
-    ..COURT_AT_18
-};
+/// Number 7 before the first hour that is open, in it, in the last one and after it.
+const BOOK_AT_7: PlainRequest = PlainRequest::Book(COURT_AT_7, 7, 0);
 
-const AT_8: PlainSlot = PlainSlot {
-    hour: 8,
-    ..COURT_AT_18
-};
+const BOOK_AT_8: PlainRequest = PlainRequest::Book(COURT_AT_8, 7, 0);
 
-const AT_21: PlainSlot = PlainSlot {
-    hour: 21,
-    ..COURT_AT_18
-};
+const BOOK_AT_21: PlainRequest = PlainRequest::Book(COURT_AT_21, 7, 0);
 
-const AT_22: PlainSlot = PlainSlot {
-    hour: 22,
-    ..COURT_AT_18
-};
+const BOOK_AT_22: PlainRequest = PlainRequest::Book(COURT_AT_22, 7, 0);
 
 const EARLIEST: PlainBooking = PlainBooking {
-    slot: AT_8,
+    slot: COURT_AT_8,
     ..ALONE
 };
 
 const LATEST: PlainBooking = PlainBooking {
-    slot: AT_21,
+    slot: COURT_AT_21,
     ..ALONE
 };
 
+const BOOKS_ALONE: Expected = Expected::Books(ALONE);
+
 /// At most 60 days ahead, before the start, and within the opening hours.
 static WINDOW: [Row; 8] = [
-    Row(
-        FRESH,
-        BOOK_ALONE,
-        "2026-03-02T18:00",
-        Expected::Books(ALONE),
-    ),
-    Row(FRESH, BOOK_ALONE, "2026-03-02T17:59", NOT_BOOKABLE),
-    Row(FRESH, BOOK_ALONE, BEFORE_START, Expected::Books(ALONE)),
-    Row(FRESH, BOOK_ALONE, START, NOT_BOOKABLE),
-    Row(FRESH, PlainRequest::Book(AT_7, 7, 0), NOON, NOT_BOOKABLE),
-    Row(
-        FRESH,
-        PlainRequest::Book(AT_8, 7, 0),
-        NOON,
-        Expected::Books(EARLIEST),
-    ),
-    Row(
-        FRESH,
-        PlainRequest::Book(AT_21, 7, 0),
-        NOON,
-        Expected::Books(LATEST),
-    ),
-    Row(FRESH, PlainRequest::Book(AT_22, 7, 0), NOON, NOT_BOOKABLE),
+    Row(FRESH, BOOK_7_ALONE, "2026-03-02T18:00", BOOKS_ALONE),
+    Row(FRESH, BOOK_7_ALONE, "2026-03-02T17:59", NOT_BOOKABLE),
+    Row(FRESH, BOOK_7_ALONE, BEFORE_START, BOOKS_ALONE),
+    Row(FRESH, BOOK_7_ALONE, START, NOT_BOOKABLE),
+    Row(FRESH, BOOK_AT_7, NOON, NOT_BOOKABLE),
+    Row(FRESH, BOOK_AT_8, NOON, Expected::Books(EARLIEST)),
+    Row(FRESH, BOOK_AT_21, NOON, Expected::Books(LATEST)),
+    Row(FRESH, BOOK_AT_22, NOON, NOT_BOOKABLE),
 ];
 
 #[test]

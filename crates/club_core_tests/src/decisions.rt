@@ -1,8 +1,8 @@
 //! Decisions of requests by their keys' views.
 
-use crate::exchange::{Expected, Shown};
+use crate::exchange::{Expected, NO_SUCH_FACILITY, NUMBER_USED, SLOT_HAS_BEGUN, Shown};
 use crate::expect::expect_row;
-use crate::fixture::{AFTER_7, AT_19, FRESH, Seen, key};
+use crate::fixture::{AFTER_7, FRESH, Seen, key};
 use crate::values::moment;
 use club_core::{
     Refusal, Request, Verdict, View, answer, decide, decide_account, decide_book, decide_cancel,
@@ -14,11 +14,11 @@ use std::alloc::Global;
 use std::process::Abort;
 use std::test::*;
 use test_kit::moments::{BEFORE_START, DAY_AHEAD, LATER, NOON, START};
-use test_kit::requests::{ACCOUNT, BOOK_7, CANCEL_7, CANCEL_ROOM};
-use test_kit::roots::ROOT;
-use test_kit::{
-    BOOKING_7, BOOKING_8, COURT_AT_18, PlainBooking, PlainRequest, PlainSlot, ROOM, ROOM_AT_18,
+use test_kit::requests::{
+    ACCOUNT, BOOK_7, CANCEL_7, CANCEL_7_AT_19, CANCEL_OTHER, CANCEL_ROOM, VIEW,
 };
+use test_kit::roots::ROOT;
+use test_kit::{BOOKING_7, BOOKING_8, COURT_AT_18, PlainBooking, PlainRequest, PlainSlot, ROOM};
 
 /// The view of `amy-1`, a request under its pass without caveats, the moment, and the expected
 /// answer.
@@ -110,66 +110,31 @@ const HALF_BACK: Seen = Seen {
 
 const NO_SUCH_BOOKING: Expected = Expected::Refused(Refusal::NoSuchBooking);
 
-const NO_SUCH_FACILITY: Expected = Expected::Refused(Refusal::NoSuchFacility);
+/// The cancellation of the room's booking and of the odd one, for all points and for half of them.
+const ROOM_FOR_ALL: Expected = Expected::Cancels(BOOKING_8, 601);
 
-const NUMBER_USED: Expected = Expected::Refused(Refusal::NumberUsed);
+const ROOM_FOR_HALF: Expected = Expected::Cancels(BOOKING_8, 300);
 
-const SLOT_HAS_BEGUN: Expected = Expected::Refused(Refusal::SlotHasBegun);
+const ODD_FOR_ALL: Expected = Expected::Cancels(ODD_BOOKED, 601);
+
+const ODD_FOR_HALF: Expected = Expected::Cancels(ODD_BOOKED, 300);
+
+const HALF_AGAIN: Expected = Expected::RepeatsCancelled(7, 300);
 
 /// The whole charge a day before the start, half of it a minute later, nothing from the start on.
 static CANCELLATIONS: [Row; 12] = [
-    Row(
-        ROOM_TAKEN,
-        CANCEL_ROOM,
-        DAY_AHEAD,
-        Expected::Cancels(BOOKING_8, 601),
-    ),
-    Row(
-        ROOM_TAKEN,
-        CANCEL_ROOM,
-        LATER,
-        Expected::Cancels(BOOKING_8, 300),
-    ),
+    Row(ROOM_TAKEN, CANCEL_ROOM, DAY_AHEAD, ROOM_FOR_ALL),
+    Row(ROOM_TAKEN, CANCEL_ROOM, LATER, ROOM_FOR_HALF),
     Row(ROOM_TAKEN, CANCEL_ROOM, START, SLOT_HAS_BEGUN),
-    Row(
-        FRESH,
-        PlainRequest::Cancel(ROOM_AT_18, 9),
-        NOON,
-        NO_SUCH_BOOKING,
-    ),
+    Row(FRESH, CANCEL_OTHER, NOON, NO_SUCH_BOOKING),
     Row(FRESH, CANCEL_7, NOON, NO_SUCH_BOOKING),
     Row(NOWHERE, CANCEL_7, NOON, NO_SUCH_FACILITY),
-    Row(
-        ODD_CHARGE,
-        CANCEL_7,
-        DAY_AHEAD,
-        Expected::Cancels(ODD_BOOKED, 601),
-    ),
-    Row(
-        ODD_CHARGE,
-        CANCEL_7,
-        LATER,
-        Expected::Cancels(ODD_BOOKED, 300),
-    ),
-    Row(
-        ODD_CHARGE,
-        CANCEL_7,
-        BEFORE_START,
-        Expected::Cancels(ODD_BOOKED, 300),
-    ),
+    Row(ODD_CHARGE, CANCEL_7, DAY_AHEAD, ODD_FOR_ALL),
+    Row(ODD_CHARGE, CANCEL_7, LATER, ODD_FOR_HALF),
+    Row(ODD_CHARGE, CANCEL_7, BEFORE_START, ODD_FOR_HALF),
     Row(ODD_CHARGE, CANCEL_7, START, SLOT_HAS_BEGUN),
-    Row(
-        ODD_CHARGE,
-        PlainRequest::Cancel(AT_19, 7),
-        START,
-        NUMBER_USED,
-    ),
-    Row(
-        HALF_BACK,
-        CANCEL_7,
-        START,
-        Expected::RepeatsCancelled(7, 300),
-    ),
+    Row(ODD_CHARGE, CANCEL_7_AT_19, START, NUMBER_USED),
+    Row(HALF_BACK, CANCEL_7, START, HALF_AGAIN),
 ];
 
 #[test]
@@ -190,25 +155,12 @@ const NO_BOOKING: Seen = Seen {
 
 const ACCOUNT_AFTER: Expected = Expected::Account(9_400, 1, 600);
 
+const THREE_TAKEN: Expected = Expected::Taken(3);
+
 static SHOWN: [Row; 5] = [
-    Row(
-        AFTER_7,
-        PlainRequest::View(COURT_AT_18),
-        NOON,
-        Expected::Taken(3),
-    ),
-    Row(
-        NO_BOOKING,
-        PlainRequest::View(COURT_AT_18),
-        START,
-        Expected::Taken(3),
-    ),
-    Row(
-        NO_COURT,
-        PlainRequest::View(COURT_AT_18),
-        START,
-        NO_SUCH_FACILITY,
-    ),
+    Row(AFTER_7, VIEW, NOON, THREE_TAKEN),
+    Row(NO_BOOKING, VIEW, START, THREE_TAKEN),
+    Row(NO_COURT, VIEW, START, NO_SUCH_FACILITY),
     Row(AFTER_7, ACCOUNT, NOON, ACCOUNT_AFTER),
     Row(NO_BOOKING, ACCOUNT, START, ACCOUNT_AFTER),
 ];

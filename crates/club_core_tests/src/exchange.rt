@@ -36,6 +36,13 @@ pub(crate) enum Expected {
     Refused(Refusal),
 }
 
+/// Refusals that several calls give.
+pub(crate) const NUMBER_USED: Expected = Expected::Refused(Refusal::NumberUsed);
+
+pub(crate) const NO_SUCH_FACILITY: Expected = Expected::Refused(Refusal::NoSuchFacility);
+
+pub(crate) const SLOT_HAS_BEGUN: Expected = Expected::Refused(Refusal::SlotHasBegun);
+
 fn unnamed(alloc: Global) -> Pass {
     Pass {
         key: None,

@@ -6,12 +6,7 @@ use club_core::View;
 use club_rows::{Booking, Facility, Key};
 use std::process::Abort;
 use test_kit::roots::ROOT;
-use test_kit::{BOOKING_7, COURT, COURT_AT_18, PlainBooking, PlainFacility, PlainSlot, amy};
-
-pub(crate) const AT_19: PlainSlot = PlainSlot {
-    hour: 19,
-    ..COURT_AT_18
-};
+use test_kit::{BOOKING_7, COURT, PlainBooking, PlainFacility, amy};
 
 /// The view of `amy-1`.
 #[derive(Clone, Copy)]

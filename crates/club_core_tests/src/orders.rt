@@ -8,18 +8,23 @@ use club_values::Kind;
 use std::process::Abort;
 use std::test::*;
 use test_kit::roots::{ROOT, SECOND_ROOT};
-use test_kit::{COURT, COURT_AT_18, Order, PlainSlot, minutes};
+use test_kit::{COURT, COURT_AT_18, COURT_AT_22, Order, minutes};
 
 /// The view of an order, the order, and its expected result.
+#[derive(Clone, Copy)]
 struct Row(Known, Order, Made);
+
+fn is_decided(rt: &impl Abort, number: usize, row: &Row) {
+    let Row(known, order, made) = row;
+    let command = order.command().expect(rt, "an order");
+    let decided = decide_order(&known.view(rt), &command);
+    expect_row(rt, number, &decided, &made.change(rt));
+}
 
 /// Ends the test unless each order gives its expected result.
 fn are_decided(rt: &impl Abort, rows: &[Row]) {
     for (number, row) in rows.iter().enumerate() {
-        let Row(known, order, made) = row;
-        let command = order.command().expect(rt, "an order");
-        let decided = decide_order(&known.view(rt), &command);
-        expect_row(rt, number, &decided, &made.change(rt));
+        is_decided(rt, number, row);
     }
 }
 
@@ -55,54 +60,36 @@ fn members_and_credits(rt: HostRuntime) {
     are_decided(&rt, &CREDITS);
 }
 
-const ODD_PRICE: Order = Order::AddFacility("court-1", Kind::Court, 4, 10_000, 8, 22);
-
 const COURT_1: Made = Made::Facility(4, 200, 8, 22);
 
 const LARGEST: Made = Made::Facility(50, 9_999, 0, 24);
 
-static FACILITIES: [Row; 8] = [
-    Row(
-        EVERYTHING,
-        Order::AddFacility("court-1", Kind::Court, 0, 200, 8, 22),
-        OUT_OF_RANGE,
-    ),
-    Row(
-        EVERYTHING,
-        Order::AddFacility("court-1", Kind::Court, 51, 200, 8, 22),
-        OUT_OF_RANGE,
-    ),
-    Row(EVERYTHING, ODD_PRICE, OUT_OF_RANGE),
-    Row(
-        EVERYTHING,
-        Order::AddFacility("court-1", Kind::Court, 4, 200, 8, 8),
-        OUT_OF_RANGE,
-    ),
-    Row(
-        EVERYTHING,
-        Order::AddFacility("court-1", Kind::Court, 4, 200, 8, 25),
-        OUT_OF_RANGE,
-    ),
-    Row(
-        EVERYTHING,
-        Order::AddFacility("court-1", Kind::Court, 4, 200, 8, 22),
-        EXISTS,
-    ),
-    Row(
-        NOTHING,
-        Order::AddFacility("court-1", Kind::Court, 4, 200, 8, 22),
-        COURT_1,
-    ),
-    Row(
-        NOTHING,
-        Order::AddFacility("court-1", Kind::Court, 50, 9_999, 0, 24),
-        LARGEST,
-    ),
+/// The view of an order for `court-1`, its places, its price, the hours at which it opens and
+/// shuts, and the order's expected result.
+struct CourtRow(Known, u32, u32, u32, u32, Made);
+
+static FACILITIES: [CourtRow; 8] = [
+    CourtRow(EVERYTHING, 0, 200, 8, 22, OUT_OF_RANGE),
+    CourtRow(EVERYTHING, 51, 200, 8, 22, OUT_OF_RANGE),
+    CourtRow(EVERYTHING, 4, 10_000, 8, 22, OUT_OF_RANGE),
+    CourtRow(EVERYTHING, 4, 200, 8, 8, OUT_OF_RANGE),
+    CourtRow(EVERYTHING, 4, 200, 8, 25, OUT_OF_RANGE),
+    CourtRow(EVERYTHING, 4, 200, 8, 22, EXISTS),
+    CourtRow(NOTHING, 4, 200, 8, 22, COURT_1),
+    CourtRow(NOTHING, 50, 9_999, 0, 24, LARGEST),
 ];
+
+fn is_court_decided(rt: &impl Abort, number: usize, row: &CourtRow) {
+    let CourtRow(known, places, price, opens, shuts, made) = row;
+    let order = Order::AddFacility("court-1", Kind::Court, *places, *price, *opens, *shuts);
+    is_decided(rt, number, &Row(*known, order, *made));
+}
 
 #[test]
 fn facilities(rt: HostRuntime) {
-    are_decided(&rt, &FACILITIES);
+    for (number, row) in FACILITIES.iter().enumerate() {
+        is_court_decided(&rt, number, row);
+    }
 }
 
 const NO_MEMBER: Known = Known {
@@ -134,38 +121,23 @@ fn keys_and_revocations(rt: HostRuntime) {
     are_decided(&rt, &KEYS);
 }
 
+const ROTATE: Order = Order::RotateKey("amy-1", SECOND_ROOT, minutes::UNTIL);
+
+const ROTATE_TO_ITS_ROOT: Order = Order::RotateKey("amy-1", ROOT, minutes::UNTIL);
+
+const ROTATED: Made = Made::Rotated(SECOND_ROOT);
+
 static ROTATIONS: [Row; 4] = [
-    Row(
-        NOTHING,
-        Order::RotateKey("amy-1", SECOND_ROOT, minutes::UNTIL),
-        UNKNOWN,
-    ),
-    Row(
-        EVERYTHING,
-        Order::RotateKey("amy-1", ROOT, minutes::UNTIL),
-        EXISTS,
-    ),
-    Row(
-        EVERYTHING,
-        Order::RotateKey("amy-1", SECOND_ROOT, minutes::UNTIL),
-        Made::Rotated(SECOND_ROOT),
-    ),
-    Row(
-        REVOKED,
-        Order::RotateKey("amy-1", SECOND_ROOT, minutes::UNTIL),
-        Made::Rotated(SECOND_ROOT),
-    ),
+    Row(NOTHING, ROTATE, UNKNOWN),
+    Row(EVERYTHING, ROTATE_TO_ITS_ROOT, EXISTS),
+    Row(EVERYTHING, ROTATE, ROTATED),
+    Row(REVOKED, ROTATE, ROTATED),
 ];
 
 #[test]
 fn rotations(rt: HostRuntime) {
     are_decided(&rt, &ROTATIONS);
 }
-
-const AT_22: PlainSlot = PlainSlot {
-    hour: 22,
-    ..COURT_AT_18
-};
 
 const NOWHERE: Known = Known {
     taken: 3,
@@ -186,8 +158,12 @@ const BOOKED: Known = Known {
 const FREE: Known = Known { taken: 0, ..BOOKED };
 
 static CLOSINGS: [Row; 5] = [
-    Row(NOWHERE, Order::CloseSlot(AT_22), UNKNOWN),
-    Row(CLOSED_AND_BOOKED, Order::CloseSlot(AT_22), OUT_OF_RANGE),
+    Row(NOWHERE, Order::CloseSlot(COURT_AT_22), UNKNOWN),
+    Row(
+        CLOSED_AND_BOOKED,
+        Order::CloseSlot(COURT_AT_22),
+        OUT_OF_RANGE,
+    ),
     Row(CLOSED_AND_BOOKED, Order::CloseSlot(COURT_AT_18), EXISTS),
     Row(BOOKED, Order::CloseSlot(COURT_AT_18), IN_USE),
     Row(
@@ -206,10 +182,7 @@ fn closed_slots(rt: HostRuntime) {
 static DONE: [(Order, Option<&[u8]>); 3] = [
     (Order::RevokeKey("amy-1"), None),
     (Order::AddKey("amy-1", "amy", ROOT), Some(ROOT)),
-    (
-        Order::RotateKey("amy-1", SECOND_ROOT, minutes::UNTIL),
-        Some(SECOND_ROOT),
-    ),
+    (ROTATE, Some(SECOND_ROOT)),
 ];
 
 fn answer(rt: &impl Abort, bytes: &Option<&[u8]>) -> OfficeAnswer {
