@@ -2,102 +2,39 @@
 
 use crate::answers::Answer;
 use crate::messages::{AMY, AMY_CHANGED, BOB, Shown, Step};
-use crate::play::plays_by_each_call;
+use crate::play::{plays_by_each_call, plays_list};
 use club_core::{FormFault, OfficeFault, Refusal};
 use std::alloc::Global;
 use std::process::Abort;
 use std::test::*;
-use test_kit::moments::{BEGUN, DAY_AHEAD, LATER, NOON, START};
+use test_kit::lists::{CAVEATS, NO_PASSES, REFUNDS, REPEATS, SPENDS, WINDOW};
+use test_kit::moments::NOON;
 use test_kit::replies::{
-    ACCOUNT_AFTER, BOOKED_7, CANCELLED_7, DENIED_1, HALF_BACK, NOT_VERIFIED, ROOM_BOOKED,
+    BALANCE_TOO_LOW, BOOKED_7, CANCELLED_7, FILLED_BY_2, KEY_REVOKED, NO_PLACES, NOT_VERIFIED,
+    QUOTA_REACHED, SLOT_CLOSED,
 };
-use test_kit::requests::{ACCOUNT, BOOK_7, BOOK_ROOM, CANCEL_7, CANCEL_ROOM};
+use test_kit::requests::{ACCOUNT, BOOK_1, BOOK_2, BOOK_2_FOR_TWO, BOOK_7, BOOK_8, CANCEL_7, VIEW};
 use test_kit::roots::ROOT;
-use test_kit::{COURT_AT_18, FRIDAY, Order, PlainReply, PlainRequest, PlainSlot, ROOM_AT_18};
-
-const NUMBER_USED: PlainReply = PlainReply::Refused(Refusal::NumberUsed);
-
-static REPEATS: [Step; 6] = [
-    Step::Asks(NOON, AMY, BOOK_7, BOOKED_7),
-    Step::Asks(BEGUN, AMY, BOOK_7, BOOKED_7),
-    Step::Asks(
-        NOON,
-        AMY,
-        PlainRequest::Book(COURT_AT_18, 7, 1),
-        NUMBER_USED,
-    ),
-    Step::Asks(NOON, AMY, ACCOUNT, ACCOUNT_AFTER),
-    Step::Asks(NOON, AMY, CANCEL_7, CANCELLED_7),
-    Step::Asks(BEGUN, AMY, BOOK_7, BOOKED_7),
-];
+use test_kit::{COURT_AT_18, FRIDAY, Order, PlainReply, PlainRequest, PlainSlot};
 
 #[test]
 fn books_repeats_and_cancels(rt: HostRuntime) {
-    plays_by_each_call(&rt, &REPEATS);
+    plays_list(&rt, &REPEATS);
 }
-
-const SPENDS_600: Shown = Shown::Pass("amy-1", ROOT, &["spend <= 600"]);
-
-const BOOK_8_AT_19: PlainRequest = PlainRequest::Book(
-    PlainSlot {
-        hour: 19,
-        ..COURT_AT_18
-    },
-    8,
-    0,
-);
-
-const BOOKED_8: PlainReply = PlainReply::Booked("amy-1", 8, 200, 3);
-
-static SPENDS: [Step; 4] = [
-    Step::Asks(NOON, SPENDS_600, BOOK_7, BOOKED_7),
-    Step::Asks(NOON, SPENDS_600, BOOK_8_AT_19, DENIED_1),
-    Step::Asks(NOON, SPENDS_600, CANCEL_7, CANCELLED_7),
-    Step::Asks(NOON, SPENDS_600, BOOK_8_AT_19, BOOKED_8),
-];
 
 #[test]
 fn keeps_a_spend_limit(rt: HostRuntime) {
-    plays_by_each_call(&rt, &SPENDS);
+    plays_list(&rt, &SPENDS);
 }
-
-const CANCEL_OTHER: PlainRequest = PlainRequest::Cancel(ROOM_AT_18, 9);
-
-const NO_SUCH_BOOKING: PlainReply = PlainReply::Refused(Refusal::NoSuchBooking);
-
-const ALL_BACK: PlainReply = PlainReply::Cancelled("amy-1", 8, 601);
-
-const SLOT_HAS_BEGUN: PlainReply = PlainReply::Refused(Refusal::SlotHasBegun);
-
-/// The whole charge a day before the start, half of it a minute later, nothing from the start on.
-static REFUNDS: [[Step; 3]; 3] = [
-    [
-        Step::Asks(NOON, AMY, BOOK_ROOM, ROOM_BOOKED),
-        Step::Asks(NOON, AMY, CANCEL_OTHER, NO_SUCH_BOOKING),
-        Step::Asks(DAY_AHEAD, AMY, CANCEL_ROOM, ALL_BACK),
-    ],
-    [
-        Step::Asks(NOON, AMY, BOOK_ROOM, ROOM_BOOKED),
-        Step::Asks(NOON, AMY, CANCEL_OTHER, NO_SUCH_BOOKING),
-        Step::Asks(LATER, AMY, CANCEL_ROOM, HALF_BACK),
-    ],
-    [
-        Step::Asks(NOON, AMY, BOOK_ROOM, ROOM_BOOKED),
-        Step::Asks(NOON, AMY, CANCEL_OTHER, NO_SUCH_BOOKING),
-        Step::Asks(START, AMY, CANCEL_ROOM, SLOT_HAS_BEGUN),
-    ],
-];
 
 #[test]
 fn refunds(rt: HostRuntime) {
-    for steps in &REFUNDS {
-        plays_by_each_call(&rt, steps);
+    for list in &REFUNDS {
+        plays_list(&rt, list);
     }
 }
 
 const STRANGER: Shown = Shown::Pass("zed-1", ROOT, &[]);
-
-const KEY_REVOKED: PlainReply = PlainReply::Refused(Refusal::KeyRevoked);
 
 static VERIFIES: [Step; 6] = [
     Step::Asks(NOON, STRANGER, ACCOUNT, NOT_VERIFIED),
@@ -113,60 +50,15 @@ fn verifies(rt: HostRuntime) {
     plays_by_each_call(&rt, &VERIFIES);
 }
 
-const AT_THE_COURT: Shown = Shown::Pass("amy-1", ROOT, &["facility = court-1"]);
-
-const ODD: Shown = Shown::Pass("amy-1", ROOT, &["guests <= 0", "shoe = red"]);
-
-const BOOK_7_ALONE: PlainRequest = PlainRequest::Book(COURT_AT_18, 7, 0);
-
-const NOT_UNDERSTOOD_2: PlainReply = PlainReply::Refused(Refusal::CaveatNotUnderstood(2));
-
-static CAVEATS: [Step; 3] = [
-    Step::Asks(NOON, AT_THE_COURT, ACCOUNT, DENIED_1),
-    Step::Asks(NOON, ODD, BOOK_7, DENIED_1),
-    Step::Asks(NOON, ODD, BOOK_7_ALONE, NOT_UNDERSTOOD_2),
-];
-
 #[test]
 fn tests_caveats(rt: HostRuntime) {
-    plays_by_each_call(&rt, &CAVEATS);
+    plays_list(&rt, &CAVEATS);
 }
-
-/// In the last hour that is open, and in the first that isn't.
-const BOOK_7_AT_21: PlainRequest = PlainRequest::Book(
-    PlainSlot {
-        hour: 21,
-        ..COURT_AT_18
-    },
-    7,
-    2,
-);
-
-const BOOK_7_AT_22: PlainRequest = PlainRequest::Book(
-    PlainSlot {
-        hour: 22,
-        ..COURT_AT_18
-    },
-    7,
-    2,
-);
-
-const NOT_BOOKABLE: PlainReply = PlainReply::Refused(Refusal::NotBookable);
-
-/// No more than 60 days ahead, before the start, and in the hours of opening.
-static WINDOW: [[Step; 1]; 6] = [
-    [Step::Asks("2026-03-02T18:00", AMY, BOOK_7, BOOKED_7)],
-    [Step::Asks("2026-03-02T17:59", AMY, BOOK_7, NOT_BOOKABLE)],
-    [Step::Asks("2026-05-01T17:59", AMY, BOOK_7, BOOKED_7)],
-    [Step::Asks(START, AMY, BOOK_7, NOT_BOOKABLE)],
-    [Step::Asks(NOON, AMY, BOOK_7_AT_21, BOOKED_7)],
-    [Step::Asks(NOON, AMY, BOOK_7_AT_22, NOT_BOOKABLE)],
-];
 
 #[test]
 fn books_within_the_window(rt: HostRuntime) {
-    for steps in &WINDOW {
-        plays_by_each_call(&rt, steps);
+    for step in &WINDOW {
+        plays_list(&rt, &[*step]);
     }
 }
 
@@ -178,14 +70,6 @@ const NEW_CY: Answer = Answer::NewKey("cy-1", ROOT);
 
 const NEW_DI: Answer = Answer::NewKey("di-1", ROOT);
 
-const BOOK_1: PlainRequest = PlainRequest::Book(COURT_AT_18, 1, 0);
-
-const BOOK_2: PlainRequest = PlainRequest::Book(COURT_AT_18, 2, 0);
-
-const BOOK_2_FOR_TWO: PlainRequest = PlainRequest::Book(COURT_AT_18, 2, 1);
-
-const LAST_BOOKED: PlainReply = PlainReply::Booked("bob-1", 2, 200, 0);
-
 static LIMITS: [Step; 10] = [
     Step::Orders(Order::AddMember("cy", 1), Answer::Done),
     Step::Orders(Order::Credit("cy", 100), Answer::Done),
@@ -193,20 +77,10 @@ static LIMITS: [Step; 10] = [
     Step::Orders(Order::AddMember("di", 0), Answer::Done),
     Step::Orders(Order::AddKey("di-1", "di", ROOT), NEW_DI),
     Step::Asks(NOON, AMY, BOOK_7, BOOKED_7),
-    Step::Asks(
-        NOON,
-        BOB,
-        BOOK_2_FOR_TWO,
-        PlainReply::Refused(Refusal::NoPlaces),
-    ),
-    Step::Asks(
-        NOON,
-        CY,
-        BOOK_1,
-        PlainReply::Refused(Refusal::BalanceTooLow),
-    ),
-    Step::Asks(NOON, DI, BOOK_1, PlainReply::Refused(Refusal::QuotaReached)),
-    Step::Asks(NOON, BOB, BOOK_2, LAST_BOOKED),
+    Step::Asks(NOON, BOB, BOOK_2_FOR_TWO, NO_PLACES),
+    Step::Asks(NOON, CY, BOOK_1, BALANCE_TOO_LOW),
+    Step::Asks(NOON, DI, BOOK_1, QUOTA_REACHED),
+    Step::Asks(NOON, BOB, BOOK_2, FILLED_BY_2),
 ];
 
 #[test]
@@ -218,19 +92,12 @@ const IN_USE: Answer = Answer::NotDone(OfficeFault::SlotInUse);
 
 const CLOSED_BEFORE: Answer = Answer::NotDone(OfficeFault::Exists);
 
-const BOOK_8: PlainRequest = PlainRequest::Book(COURT_AT_18, 8, 0);
-
-const SLOT_CLOSED: PlainReply = PlainReply::Refused(Refusal::SlotClosed);
+const TAKEN: PlainReply = PlainReply::SlotShown(3, false);
 
 static CLOSES: [Step; 7] = [
     Step::Asks(NOON, AMY, BOOK_7, BOOKED_7),
     Step::Orders(Order::CloseSlot(COURT_AT_18), IN_USE),
-    Step::Asks(
-        NOON,
-        BOB,
-        PlainRequest::View(COURT_AT_18),
-        PlainReply::SlotShown(3, false),
-    ),
+    Step::Asks(NOON, BOB, VIEW, TAKEN),
     Step::Asks(NOON, AMY, CANCEL_7, CANCELLED_7),
     Step::Orders(Order::CloseSlot(COURT_AT_18), Answer::Done),
     Step::Orders(Order::CloseSlot(COURT_AT_18), CLOSED_BEFORE),
@@ -242,32 +109,17 @@ fn closes_a_slot(rt: HostRuntime) {
     plays_by_each_call(&rt, &CLOSES);
 }
 
-const TOO_LONG: Shown = Shown::NoPass(FormFault::TooLong);
-
-const MALFORMED: Shown = Shown::NoPass(FormFault::Malformed);
-
-const THIRD_PARTY: Shown = Shown::NoPass(FormFault::ThirdParty);
-
-const TOO_MANY: Shown = Shown::NoPass(FormFault::TooMany);
-
-const PASS_TOO_LONG: PlainReply = PlainReply::Refused(Refusal::PassTooLong);
-
-const PASS_MALFORMED: PlainReply = PlainReply::Refused(Refusal::PassMalformed);
-
-const THIRD_PARTY_CAVEAT: PlainReply = PlainReply::Refused(Refusal::ThirdPartyCaveat);
-
-const TOO_MANY_CAVEATS: PlainReply = PlainReply::Refused(Refusal::TooManyCaveats);
-
-static NO_PASSES: [Step; 4] = [
-    Step::Asks(NOON, TOO_LONG, ACCOUNT, PASS_TOO_LONG),
-    Step::Asks(NOON, MALFORMED, ACCOUNT, PASS_MALFORMED),
-    Step::Asks(NOON, THIRD_PARTY, ACCOUNT, THIRD_PARTY_CAVEAT),
-    Step::Asks(NOON, TOO_MANY, ACCOUNT, TOO_MANY_CAVEATS),
-];
+/// Ends the test unless a text that is no pass for this fault is refused so.
+fn is_refused(rt: &(impl Abort + Alloc<A = Global>), fault: FormFault, refusal: Refusal) {
+    let (shown, refused) = (Shown::NoPass(fault), PlainReply::Refused(refusal));
+    plays_by_each_call(rt, &[Step::Asks(NOON, shown, ACCOUNT, refused)]);
+}
 
 #[test]
 fn refuses_what_is_no_pass(rt: HostRuntime) {
-    plays_by_each_call(&rt, &NO_PASSES);
+    for (fault, refusal) in &NO_PASSES {
+        is_refused(&rt, *fault, *refusal);
+    }
 }
 
 /// A booking of a place of `court-1`, the account, and the cancellation.

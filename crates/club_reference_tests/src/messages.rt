@@ -6,7 +6,7 @@ use club_values::{Moment, Name};
 use std::alloc::Global;
 use std::process::Abort;
 use test_kit::roots::{ROOT, SECOND_ROOT};
-use test_kit::{Order, PlainReply, PlainRequest, signed_pass};
+use test_kit::{Order, PlainPass, PlainReply, PlainRequest, PlainStep, signed_pass};
 
 /// The pass of a request.
 #[derive(Clone, Copy)]
@@ -57,6 +57,12 @@ impl Shown {
 }
 
 impl Step {
+    /// The step of a worked list.
+    pub fn of(step: &PlainStep) -> Step {
+        let PlainStep(at, PlainPass(key, caveats), asked, reply) = *step;
+        Step::Asks(at, Shown::Pass(key, ROOT, caveats), asked, reply)
+    }
+
     /// The moment of a request; `the office` for an order.
     pub fn at(&self) -> &'static str {
         match self {

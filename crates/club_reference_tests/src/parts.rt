@@ -11,10 +11,12 @@ use std::alloc::Global;
 use std::process::Abort;
 use std::test::*;
 use test_kit::moments::NOON;
-use test_kit::replies::{ACCOUNT_AFTER, ACCOUNT_BEFORE, BOOKED_7, CANCELLED_7, NOT_VERIFIED};
-use test_kit::requests::{ACCOUNT, BOOK_7, CANCEL_7};
+use test_kit::replies::{
+    ACCOUNT_AFTER, ACCOUNT_BEFORE, BOOKED_2, BOOKED_7, CANCELLED_7, FILLED_BY_7, NOT_VERIFIED,
+};
+use test_kit::requests::{ACCOUNT, BOOK_2, BOOK_7, CANCEL_7};
 use test_kit::roots::{ROOT, SECOND_ROOT};
-use test_kit::{COURT_AT_18, Order, PlainReply, PlainRequest, minutes};
+use test_kit::{COURT_AT_18, Order, minutes};
 
 fn amy(rt: &impl Abort) -> Name {
     Name::read(b"amy").expect(rt, "a name")
@@ -63,16 +65,7 @@ const ONE_PLACE: SlotUse = SlotUse {
     closed: false,
 };
 
-const BOOK_2: PlainRequest = PlainRequest::Book(COURT_AT_18, 2, 0);
-
-static BOB_BOOKS: [Step; 1] = [Step::Asks(
-    NOON,
-    BOB,
-    BOOK_2,
-    PlainReply::Booked("bob-1", 2, 200, 3),
-)];
-
-const FILLED_BY_7: PlainReply = PlainReply::Booked("amy-1", 7, 600, 0);
+static BOB_BOOKS: [Step; 1] = [Step::Asks(NOON, BOB, BOOK_2, BOOKED_2)];
 
 /// Amy's replies if another member holds a place of the slot.
 static BESIDE_BOB: [Step; 3] = [

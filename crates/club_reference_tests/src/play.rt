@@ -6,7 +6,7 @@ use club_core::{Event, EventReply, OfficeAnswer};
 use club_reference::Club;
 use std::alloc::Global;
 use std::process::Abort;
-use test_kit::{FIXTURE, Order};
+use test_kit::{FIXTURE, Order, PlainStep};
 
 /// The reply to an event by `ask` or `office`.
 fn reply_by_kind(rt: &impl Abort, club: &mut Club, event: &Event) -> EventReply {
@@ -77,4 +77,13 @@ pub(crate) fn plays_by_each_call(rt: &(impl Abort + Alloc<A = Global>), steps: &
     plays(rt, &mut opened(rt), steps);
     plays_events(rt, &mut opened(rt), steps);
     plays_at_once(rt, &mut opened(rt), steps);
+}
+
+/// The same of a worked list.
+pub(crate) fn plays_list(rt: &(impl Abort + Alloc<A = Global>), list: &[PlainStep]) {
+    let mut steps = Vec::new(rt.alloc());
+    for step in list {
+        steps.push(Step::of(step)).expect(rt, "memory");
+    }
+    plays_by_each_call(rt, &steps);
 }

@@ -3,13 +3,13 @@
 use crate::answers::Answer;
 use crate::messages::{AMY, AMY_CHANGED, Shown, Step};
 use crate::play::plays_by_each_call;
-use club_core::{OfficeFault, Refusal};
+use club_core::OfficeFault;
 use std::test::*;
 use test_kit::moments::{BEFORE_UNTIL, NOON, UNTIL};
-use test_kit::replies::{ACCOUNT_AFTER, ACCOUNT_BEFORE, BOOKED_7, NOT_VERIFIED};
+use test_kit::replies::{ACCOUNT_AFTER, ACCOUNT_BEFORE, BOOKED_7, KEY_REVOKED, NOT_VERIFIED};
 use test_kit::requests::{ACCOUNT, BOOK_7};
 use test_kit::roots::{ROOT, SECOND_ROOT, THIRD_ROOT};
-use test_kit::{Order, PlainReply, minutes};
+use test_kit::{Order, minutes};
 
 /// Amy's pass under her key's second root, and under its third.
 const RENEWED: Shown = AMY_CHANGED;
@@ -89,8 +89,6 @@ static NO_ROTATIONS: [Step; 2] = [
 fn refuses_a_rotation(rt: HostRuntime) {
     plays_by_each_call(&rt, &NO_ROTATIONS);
 }
-
-const KEY_REVOKED: PlainReply = PlainReply::Refused(Refusal::KeyRevoked);
 
 /// A revoked key stays revoked, under its older root and its new one.
 static ROTATES_REVOKED: [Step; 4] = [
