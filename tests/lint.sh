@@ -22,7 +22,7 @@ export LC_ALL
 twins() {
     cat <<'TWINS'
 ◌>>=◌: the bind of `do`, which each kind of result has
-header_at caveat_at optional_at signature_at wide_at: the readings of V1 and V2 say the same of two layouts
+header_at caveat_at optional_at wide_at: the readings of V1 and V2 say the same of two layouts
 application top subcommand refusals: both programs hand such a tree of commands to clap
 ArgumentRefusal IsCommandName FindsCommand: which commands clap may find, and why arguments ask for none, in both programs
 ReadsWords AnswersAsked AnswersWords AsksText IsFaultOf of_words: what both programs make of their arguments

@@ -48,7 +48,7 @@ use key_cache::KeptKeys;
 use pass_forms::laws::{reads_v1_exactly, reads_v2_exactly};
 use pass_forms::{Field, FieldSource, Form, FormFault, MAX_BYTES, V1Fields, V2Fields, unwrap_text};
 use pass_json::laws::{reads_what_is_wrapped, refuses_what_wraps_nothing};
-use pass_json::{JsonFields, read_json};
+use pass_json::read_json;
 
 /// Takes the location and the identifier of a pass from its source, and returns the identifier.
 fn identifier_from<'a, F: FieldSource<'a>>(source: &mut F) -> Option<&'a [u8]>
@@ -223,7 +223,7 @@ impl<S: ClubStore> Desk<S> {
                 Err(fault) => verdict_of_fault(fault),
             },
             Form::Json => match read_json(self.alloc, bytes) {
-                Ok(pass) => self.verdict_of(&JsonFields::over(&pass), request, moment),
+                Ok(pass) => self.verdict_of(&pass.fields(), request, moment),
                 Err(fault) => verdict_of_fault(fault),
             },
         }

@@ -1,12 +1,13 @@
 -- From one wide pass at most for each text to the one reading of it.
-use Rattle.std.proofs.Common.{◌≡◌, ℕ, ◌<◌, ◌≤◌, Bool, true, false, cond, ltb, ◌||◌, List, [], ◌∷◌, length, map, Option, Some, None, Result, Ok, Err, refl, sym}
-use Rattle.std.proofs.Common.{ap, subst, ◌∙◌, arith, ◌⊎◌, inl, inr}
+use Rattle.std.proofs.Common.{◌≡◌, ◌↔◌, ℕ, ◌<◌, ◌≤◌, Bool, true, false, cond, ltb, ◌||◌, List, [], ◌∷◌, length, map, Option, Some, None, Result}
+use Rattle.std.proofs.Common.{Ok, Err, refl, sym, ap, subst, ◌∙◌, arith, ◌⊎◌, inl, inr}
 use Rattle.std.specs.Prelude.{is_some}
 use Rattle.std.specs.List.{list_any}
 use Rattle.std.proofs.lemmas.List.{length-map}
 use Rattle.std.proofs.lemmas.Bool.{ltb-true, ltb-false, le-ltb, lt-ltb}
 use Rattle.pass_forms.specs.declared.fault.FormFault.{FormFault}
 use Rattle.pass_forms.specs.declared.fault.FormFault.TheVariants.{TooLong, Malformed, ThirdParty, TooMany, Memory}
+use Rattle.pass_forms.specs.Laws.{ComputesSpelled, OnePassEach}
 use Rattle.pass_forms.specs.Pass.{Plain, WideCaveat, WidePass, is_third_party, has_third_party, widened_caveat, as_wide_pass, first_party_caveat, first_party}
 use Rattle.pass_forms.proofs.Digits.{some_is}
 use Rattle.pass_forms.specs.Reading.{max_text_len, max_caveats, IsReadAs}
@@ -56,14 +57,8 @@ no_third_party (caveat ∷ caveats) = no_third_party caveats
 -- ---- the computing answer is the relation's
 
 -- What is computed is exactly what is spelled.
-pub record Computes (Spelled : WidePass → Type 0) (computed : Option WidePass) : Type 0 where
-  pub takes : (wide : WidePass) → computed ≡ Some wide → Spelled wide
-  pub again : (wide : WidePass) → Spelled wide → computed ≡ Some wide
-
--- Nothing else is spelled.
-pub one_spelled : (Spelled : WidePass → Type 0) (computed : Option WidePass) (one other : WidePass) → Computes Spelled computed → Spelled one → Spelled other →
-    one ≡ other
-one_spelled Spelled computed one other exact h k = some_is one other (sym (exact.again one h) ∙ exact.again other k)
+abbrev pub Computes : (WidePass → Type 0) → Option WidePass → Type 0
+Computes Spelled computed = (wide : WidePass) → Spelled wide ↔ (computed ≡ Some wide)
 
 checked_by : (len : ℕ) (Spelled : WidePass → Type 0) (wide : WidePass) (third many : Bool) → has_third_party wide ≡ third →
     ltb max_caveats (length wide.caveats) ≡ many → len ≤ max_text_len → Spelled wide →
@@ -75,16 +70,16 @@ checked_by len Spelled wide false false et em within spelling =
 
 pub checked_if_any_is : (len : ℕ) (Spelled : WidePass → Type 0) (computed : Option WidePass) → Computes Spelled computed → len ≤ max_text_len →
     IsReadAs len Spelled (checked_if_any computed)
-checked_if_any_is len Spelled None exact within = (within, λ wide spelling. let e = exact.again wide spelling in absurd cc)
+checked_if_any_is len Spelled None exact within = (within, λ wide spelling. let e = (exact wide).0 spelling in absurd cc)
 checked_if_any_is len Spelled (Some wide) exact within =
-    checked_by len Spelled wide (has_third_party wide) (ltb max_caveats (length wide.caveats)) refl refl within (exact.takes wide refl)
+    checked_by len Spelled wide (has_third_party wide) (ltb max_caveats (length wide.caveats)) refl refl within ((exact wide).1 refl)
 
 reading_by : (len : ℕ) (Spelled : WidePass → Type 0) (computed : Option WidePass) (long : Bool) → ltb max_text_len len ≡ long → Computes Spelled computed →
     IsReadAs len Spelled (cond long (Err TooLong) (checked_if_any computed))
 reading_by len Spelled computed true e exact = ltb-true _ _ e
 reading_by len Spelled computed false e exact = checked_if_any_is len Spelled computed exact (ltb-false _ _ e)
 
-pub reading_is : (len : ℕ) (Spelled : WidePass → Type 0) (computed : Option WidePass) → Computes Spelled computed →
+reading_is : (len : ℕ) (Spelled : WidePass → Type 0) (computed : Option WidePass) → Computes Spelled computed →
     IsReadAs len Spelled (reading_of len computed)
 reading_is len Spelled computed exact = reading_by len Spelled computed (ltb max_text_len len) refl exact
 
@@ -96,13 +91,13 @@ pub checked_determined : (len : ℕ) (Spelled : WidePass → Type 0) (computed :
     len ≤ max_text_len → IsReadAs len Spelled answer → checked_if_any computed ≡ answer
 checked_determined len Spelled computed (Err TooLong) exact within h = absurd (omega arith)
 checked_determined len Spelled computed (Err Malformed) exact within h =
-    let none : computed ≡ None = nothing_computed computed (λ wide e. h.1 wide (exact.takes wide e)) in
+    let none : computed ≡ None = nothing_computed computed (λ wide e. h.1 wide ((exact wide).1 e)) in
     rw none refl
-checked_determined len Spelled computed (Err ThirdParty) exact within h = rw (exact.again h.1 h.2, h.3) refl
-checked_determined len Spelled computed (Err TooMany) exact within h = rw (exact.again h.1 h.2, h.3, lt-ltb _ _ h.4) refl
+checked_determined len Spelled computed (Err ThirdParty) exact within h = rw ((exact h.1).0 h.2, h.3) refl
+checked_determined len Spelled computed (Err TooMany) exact within h = rw ((exact h.1).0 h.2, h.3, lt-ltb _ _ h.4) refl
 checked_determined len Spelled computed (Ok pass) exact within h =
     let few : ltb max_caveats (length (map widened_caveat pass.caveats)) ≡ false = le-ltb _ _ (omega (arith, h.2, length-map pass.caveats widened_caveat)) in
-    rw (exact.again (as_wide_pass pass) h.1, no_third_party pass.caveats, few) (ap (λ (p : Plain). Ok p) (first_party-widened pass))
+    rw ((exact (as_wide_pass pass)).0 h.1, no_third_party pass.caveats, few) (ap (λ (p : Plain). Ok p) (first_party-widened pass))
 checked_determined len Spelled computed (Err Memory) exact within h = absurd h
 
 -- Where an answer isn't too long, the text is within the limit.
@@ -115,7 +110,7 @@ within_limit len Spelled (Err TooMany) h = inr h.0
 within_limit len Spelled (Ok pass) h = inr h.0
 within_limit len Spelled (Err Memory) h = absurd h
 
-pub reading_determined : (len : ℕ) (Spelled : WidePass → Type 0) (computed : Option WidePass) (answer : Result Plain FormFault) → Computes Spelled computed →
+reading_determined : (len : ℕ) (Spelled : WidePass → Type 0) (computed : Option WidePass) (answer : Result Plain FormFault) → Computes Spelled computed →
     IsReadAs len Spelled answer → reading_of len computed ≡ answer
 reading_determined len Spelled computed answer exact h =
     elim (within_limit len Spelled answer h) [
@@ -124,3 +119,14 @@ reading_determined len Spelled computed answer exact h =
           rw (lt-ltb _ _ too_long) (sym long)
       | inr within ↦ rw (le-ltb _ _ within) (checked_determined len Spelled computed answer exact within h)
     ]
+
+-- The relation allows exactly one result.
+pub exactly : (len : ℕ) (Spelled : WidePass → Type 0) (computed : Option WidePass) → Computes Spelled computed → (answer : Result Plain FormFault) →
+    IsReadAs len Spelled answer ↔ (reading_of len computed ≡ answer)
+exactly len Spelled computed exact answer =
+    (reading_determined len Spelled computed answer exact, λ e. subst (IsReadAs len Spelled) e (reading_is len Spelled computed exact))
+
+-- ---- of a form whose computed wide pass is the one that bytes spell
+
+pub one_each : (Spells : List ℕ → WidePass → Type 0) (wide_at : List ℕ → Option WidePass) → ComputesSpelled Spells wide_at → OnePassEach Spells
+one_each Spells wide_at exact bytes one other h k = some_is one other (sym ((exact bytes one).0 h) ∙ (exact bytes other).0 k)

@@ -13,9 +13,7 @@ pub mod WholePass
 pub mod WholeV1
 pub mod Fields
 pub mod WholeV2
-pub mod V2Exact
 pub mod Checking
-pub mod V1Exact
 pub mod Collecting
 pub mod TextExact
 pub mod PutVarints

@@ -35,17 +35,11 @@ same_bytes wide_at text form other bytes wide wraps h =
 
 computes_in : (wide_at : Reader) (text : List ℕ) (form : Form) (bytes : List ℕ) → Wraps text form bytes →
     Computes (SpellsIn wide_at text form) (wide_at form bytes)
-computes_in wide_at text form bytes wraps = record {
-  takes = λ wide e. (bytes, wraps, e);
-  again = λ wide h. (same_bytes wide_at text form form bytes wide wraps h).1;
-}
+computes_in wide_at text form bytes wraps wide = (λ h. (same_bytes wide_at text form form bytes wide wraps h).1, λ e. (bytes, wraps, e))
 
 computes_any : (wide_at : Reader) (text : List ℕ) (form : Form) (bytes : List ℕ) → Wraps text form bytes →
     Computes (SpellsAny wide_at text) (wide_at form bytes)
-computes_any wide_at text form bytes wraps = record {
-  takes = λ wide e. (form, (bytes, wraps, e));
-  again = λ wide h. (same_bytes wide_at text form h.0 bytes wide wraps h.1).1;
-}
+computes_any wide_at text form bytes wraps wide = (λ h. (same_bytes wide_at text form h.0 bytes wide wraps h.1).1, λ e. (form, (bytes, wraps, e)))
 
 in_form_is : (wide_at : Reader) (text : List ℕ) (form : Form) (answer : Result Plain FormFault) → IsReadAs (length text) (SpellsIn wide_at text form) answer →
     IsReadAs (length text) (SpellsAny wide_at text) answer → IsTextReading (Spells wide_at) text (in_form form answer)

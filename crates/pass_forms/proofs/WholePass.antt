@@ -1,11 +1,14 @@
 -- From the parts that were found one after another to the whole pass.
-use Rattle.std.proofs.Common.{◌≡◌, ℕ, Bool, List, length, map, Option, Some, option_map, refl, ap, ◌∙◌}
+use Rattle.std.proofs.Common.{◌≡◌, ℕ, Bool, true, false, ◌&&◌, eqb, List, [], length, map, Option, Some, None, option_map, refl, ap, subst, ◌∙◌}
+use Rattle.std.proofs.lemmas.Bool.{eqb-true}
+use Rattle.std.proofs.lemmas.List.{nil_from_length}
 use Rattle.pass_forms.specs.computed.Caveats.{caveats_at, scan_summary, whole_at, Counts}
 use Rattle.pass_forms.specs.FieldSource.{pass_fields}
-use Rattle.pass_forms.specs.computed.Parts.{◌>>=◌}
+use Rattle.pass_forms.specs.computed.Parts.{◌>>=◌, last_signature}
 use Rattle.pass_forms.specs.Pass.{WideCaveat, WidePass, first_party_caveat}
 use Rattle.pass_forms.proofs.Digits.{bind_some, some_is}
 use Rattle.pass_forms.proofs.CaveatRuns.{Reader, as_many}
+use Rattle.pass_forms.proofs.Packets.{guard_some}
 
 -- What was learned of the parts is what is learned of the pass.
 pub gone_over_whole : (header_at : List ℕ → Option (List ℕ × List ℕ × List ℕ)) (caveat_at : Reader) (footer_at : List ℕ → Option (List ℕ))
@@ -57,3 +60,19 @@ pub whole_again : (header_at : List ℕ → Option (List ℕ × List ℕ × List
     whole_at header_at caveat_at footer_at bytes ≡ Some (made header caveats signature)
 unfolding whole_at
 whole_again header_at caveat_at footer_at bytes header caveats rest signature h c s = rw (h, c, s) refl
+
+-- ---- the signature
+
+pub both_true : (a b : Bool) → (a && b) ≡ true → (a ≡ true) × (b ≡ true)
+both_true true b e = (refl, e)
+both_true false b e = absurd cc
+
+-- The signature that was found is the whole last part.
+pub last_takes : (found : Option (List ℕ × List ℕ)) (signature : List ℕ) → (found >>= last_signature) ≡ Some signature →
+    (found ≡ Some (signature, [])) × (length signature ≡ 32)
+last_takes None signature e = absurd cc
+last_takes (Some (part, rest)) signature e =
+    let g = guard_some (eqb (length part) 32 && eqb (length rest) 0) part signature e in
+    let lens = both_true (eqb (length part) 32) (eqb (length rest) 0) g.0 in
+    let nothing : rest ≡ [] = nil_from_length rest (eqb-true (length rest) 0 lens.1) in
+    (cc (nothing, g.1), subst (λ (x : List ℕ). length x ≡ 32) g.1 (eqb-true (length part) 32 lens.0))

@@ -1,35 +1,26 @@
 -- A pass that is read from packets is the pass that they spell, and a pass that is spelled is read.
-use Rattle.std.proofs.Common.{◌≡◌, ℕ, ◌≤◌, Bool, true, false, cond, eqb, ◌&&◌, List, [], ◌++◌, length, Some, None, refl, sym, ap, subst, ◌∙◌, arith}
+use Rattle.std.proofs.Common.{◌≡◌, ℕ, ◌≤◌, List, [], ◌++◌, length, Some, None, refl, sym, ap, subst, ◌∙◌, arith}
 use Rattle.std.specs.List.{flat_map}
-use Rattle.std.proofs.lemmas.Bool.{eqb-true}
-use Rattle.std.proofs.lemmas.List.{append-nil, nil_from_length, length-append}
+use Rattle.std.proofs.lemmas.List.{append-nil, length-append}
 use Rattle.pass_forms.specs.Pass.{WidePass}
 use Rattle.pass_forms.specs.V1.{packet, location_key, identifier_key, caveat_key, verifier_id_key, caveat_location_key, signature_key, caveat_packets}
 use Rattle.pass_forms.specs.V1.{packets_of, FitsPacket, FitsCaveat, FitsPackets, SpellsV1}
 use Rattle.pass_forms.specs.computed.Parts.{◌>>=◌}
-use Rattle.pass_forms.specs.computed.V1Reading.{packet_at, header_at, caveat_at, signature_at, wide_at}
+use Rattle.pass_forms.specs.computed.V1Reading.{packet_at, header_at, caveat_at, signature_at, wide_at, reading_v1}
 use Rattle.pass_forms.specs.computed.Caveats.{caveats_at}
-use Rattle.pass_forms.proofs.WholePass.{made, whole_parts, whole_again}
+use Rattle.pass_forms.specs.Laws.{ComputesSpelled, ReadsExactly}
+use Rattle.pass_forms.proofs.Checking.{exactly}
+use Rattle.pass_forms.proofs.WholePass.{last_takes, made, whole_parts, whole_again}
 use Rattle.pass_forms.proofs.Digits.{bind_some, some_is}
-use Rattle.pass_forms.proofs.Packets.{packet_takes, packet_again, packet_other, guard_some}
+use Rattle.pass_forms.proofs.Packets.{packet_takes, packet_again, packet_other}
 use Rattle.pass_forms.proofs.CaveatPackets.{EndsCaveat, exact_caveats, caveat_has_bytes}
 use Rattle.pass_forms.proofs.CaveatTexts.{caveats_take, caveats_again, caveats_fit}
-
-pub both_true : (a b : Bool) → (a && b) ≡ true → (a ≡ true) × (b ≡ true)
-both_true true b e = (refl, e)
-both_true false b e = absurd cc
 
 signature_takes : (bytes signature : List ℕ) → signature_at bytes ≡ Some signature → (bytes ≡ packet signature_key signature) × (length signature ≡ 32)
 unfolding signature_at
 signature_takes bytes signature e =
-    let s = bind_some (packet_at signature_key bytes) (λ s. cond (eqb (length s.0) 32 && eqb (length s.1) 0) (Some s.0) None) signature e in
-    let t = packet_takes signature_key bytes s.0.0 s.0.1 s.1 in
-    let g = guard_some (eqb (length s.0.0) 32 && eqb (length s.0.1) 0) s.0.0 signature s.2 in
-    let lens = both_true (eqb (length s.0.0) 32) (eqb (length s.0.1) 0) g.0 in
-    let nothing : s.0.1 ≡ [] = nil_from_length s.0.1 (eqb-true (length s.0.1) 0 lens.1) in
-    let parts : bytes ≡ packet signature_key s.0.0 =
-    t.0 ∙ ap (λ (x : List ℕ). packet signature_key s.0.0 ++ x) nothing ∙ append-nil (packet signature_key s.0.0) in
-    subst (λ (x : List ℕ). (bytes ≡ packet signature_key x) × (length x ≡ 32)) g.1 (parts, eqb-true (length s.0.0) 32 lens.0)
+    let s = last_takes (packet_at signature_key bytes) signature e in
+    ((packet_takes signature_key bytes signature [] s.0).0 ∙ append-nil (packet signature_key signature), s.1)
 
 -- A signature of 32 bytes fits a packet, and is neither a caveat nor a part of one.
 signature_fits : (signature : List ℕ) → length signature ≡ 32 → FitsPacket signature_key signature
@@ -78,7 +69,7 @@ unfolding header_at
 header_again location identifier rest fl fi =
     rw (packet_again location_key location (packet identifier_key identifier ++ rest) fl, packet_again identifier_key identifier rest fi) refl
 
-pub wide_takes : (bytes : List ℕ) (wide : WidePass) → wide_at bytes ≡ Some wide → SpellsV1 bytes wide
+wide_takes : (bytes : List ℕ) (wide : WidePass) → wide_at bytes ≡ Some wide → SpellsV1 bytes wide
 wide_takes bytes wide e =
     let p = whole_parts header_at caveat_at signature_at bytes wide e in
     let read = caveats_at caveat_at (length p.header.2) p.header.2 in
@@ -92,7 +83,7 @@ wide_takes bytes wide e =
     let spelling : SpellsV1 bytes (made p.header read.0 p.signature) = record { packets = parts; fits = fits } in
     subst (λ (w : WidePass). SpellsV1 bytes w) p.whole spelling
 
-pub wide_again : (bytes : List ℕ) (wide : WidePass) → SpellsV1 bytes wide → wide_at bytes ≡ Some wide
+wide_again : (bytes : List ℕ) (wide : WidePass) → SpellsV1 bytes wide → wide_at bytes ≡ Some wide
 wide_again bytes wide spelling =
     let fits = spelling.fits in
     let last = packet signature_key wide.signature in
@@ -105,3 +96,10 @@ wide_again bytes wide spelling =
     (signature_ends wide.signature fits.signature) (signature_is_no_caveat wide.signature fits.signature) in
     whole_again header_at caveat_at signature_at bytes (wide.location, wide.identifier, caveats) wide.caveats last wide.signature h c
     (signature_again wide.signature fits.signature)
+
+pub computes_v1 : ComputesSpelled SpellsV1 wide_at
+computes_v1 bytes wide = (wide_again bytes wide, wide_takes bytes wide)
+
+pub reads_v1 : ReadsExactly SpellsV1 reading_v1
+unfolding reading_v1
+reads_v1 bytes = exactly (length bytes) (SpellsV1 bytes) (wide_at bytes) (computes_v1 bytes)

@@ -1,21 +1,21 @@
 -- A pass that is read from sections is the pass that they spell, and a pass that is spelled is read.
-use Rattle.std.proofs.Common.{◌≡◌, ℕ, ◌≤◌, cond, eqb, ◌&&◌, List, [], ◌∷◌, ◌++◌, length, Option, Some, None, refl, sym, ap, subst, ◌∙◌, append_assoc, arith}
+use Rattle.std.proofs.Common.{◌≡◌, ℕ, ◌≤◌, List, [], ◌∷◌, ◌++◌, length, Option, Some, None, refl, sym, ap, subst, ◌∙◌, append_assoc, arith}
 use Rattle.std.specs.Prelude.{unwrap_or}
 use Rattle.std.specs.List.{flat_map, AllByRecursion}
-use Rattle.std.proofs.lemmas.Bool.{eqb-true}
-use Rattle.std.proofs.lemmas.List.{append-nil, nil_from_length, length-append}
+use Rattle.std.proofs.lemmas.List.{append-nil, length-append}
 use Rattle.pass_forms.specs.computed.Caveats.{caveats_at}
-use Rattle.pass_forms.specs.computed.Parts.{◌>>=◌, after_prefix}
+use Rattle.pass_forms.specs.computed.Parts.{◌>>=◌, after_prefix, last_signature}
 use Rattle.pass_forms.specs.Pass.{WideCaveat, WidePass}
 use Rattle.pass_forms.specs.V2.{field, optional_field, location_type, identifier_type, verifier_id_type, signature_type, end_of_section, caveat_section}
 use Rattle.pass_forms.specs.V2.{sections, SpellsV2}
-use Rattle.pass_forms.specs.computed.V2Reading.{field_at, optional_at, caveat_at, signature_at, header_at, footer_at, wide_at}
+use Rattle.pass_forms.specs.computed.V2Reading.{field_at, optional_at, caveat_at, header_at, footer_at, wide_at, reading_v2}
 use Rattle.pass_forms.proofs.CaveatTexts.{Exact, caveats_take, caveats_again, caveats_fit}
 use Rattle.pass_forms.proofs.Digits.{bind_some, some_is}
 use Rattle.pass_forms.proofs.Fields.{field_takes, field_again, optional_takes, optional_again}
-use Rattle.pass_forms.proofs.Packets.{guard_some, after_prefix_takes}
-use Rattle.pass_forms.proofs.WholePass.{made, whole_parts, whole_again}
-use Rattle.pass_forms.proofs.WholeV1.{both_true}
+use Rattle.pass_forms.proofs.Packets.{after_prefix_takes}
+use Rattle.pass_forms.specs.Laws.{ComputesSpelled, ReadsExactly}
+use Rattle.pass_forms.proofs.Checking.{exactly}
+use Rattle.pass_forms.proofs.WholePass.{last_takes, made, whole_parts, whole_again}
 
 -- ---- caveats
 
@@ -79,36 +79,22 @@ caveat_has_bytes caveat =
 
 -- ---- the signature
 
-signature_takes : (bytes signature : List ℕ) → signature_at bytes ≡ Some signature → (bytes ≡ field signature_type signature) × (length signature ≡ 32)
-unfolding signature_at
-signature_takes bytes signature e =
-    let s = bind_some (field_at signature_type bytes) (λ s. cond (eqb (length s.0) 32 && eqb (length s.1) 0) (Some s.0) None) signature e in
-    let t = field_takes signature_type bytes s.0.0 s.0.1 s.1 in
-    let g = guard_some (eqb (length s.0.0) 32 && eqb (length s.0.1) 0) s.0.0 signature s.2 in
-    let lens = both_true (eqb (length s.0.0) 32) (eqb (length s.0.1) 0) g.0 in
-    let nothing : s.0.1 ≡ [] = nil_from_length s.0.1 (eqb-true (length s.0.1) 0 lens.1) in
-    let parts : bytes ≡ field signature_type s.0.0 =
-    t ∙ ap (λ (x : List ℕ). field signature_type s.0.0 ++ x) nothing ∙ append-nil (field signature_type s.0.0) in
-    subst (λ (x : List ℕ). (bytes ≡ field signature_type x) × (length x ≡ 32)) g.1 (parts, eqb-true (length s.0.0) 32 lens.0)
-
-signature_again : (signature : List ℕ) → length signature ≡ 32 → signature_at (field signature_type signature) ≡ Some signature
-unfolding signature_at
-signature_again signature len =
-    let read : field_at signature_type (field signature_type signature) ≡ Some (signature, []) =
-    ap (field_at signature_type) (sym (append-nil (field signature_type signature))) ∙ field_again signature_type signature [] in
-    rw (read, len) refl
-
 footer_takes : (bytes signature : List ℕ) → footer_at bytes ≡ Some signature →
     (bytes ≡ end_of_section ++ field signature_type signature) × (length signature ≡ 32)
 unfolding footer_at
 footer_takes bytes signature e =
-    let r = bind_some (after_prefix end_of_section bytes) signature_at signature e in
-    let s = signature_takes r.0 signature r.2 in
-    (after_prefix_takes end_of_section bytes r.0 r.1 ∙ ap (λ (x : List ℕ). end_of_section ++ x) s.0, s.1)
+    let r = bind_some (after_prefix end_of_section bytes) (λ rest. field_at signature_type rest >>= last_signature) signature e in
+    let s = last_takes (field_at signature_type r.0) signature r.2 in
+    let is_field : r.0 ≡ field signature_type signature =
+    field_takes signature_type r.0 signature [] s.0 ∙ append-nil (field signature_type signature) in
+    (after_prefix_takes end_of_section bytes r.0 r.1 ∙ ap (λ (x : List ℕ). end_of_section ++ x) is_field, s.1)
 
 footer_again : (signature : List ℕ) → length signature ≡ 32 → footer_at (end_of_section ++ field signature_type signature) ≡ Some signature
 unfolding footer_at
-footer_again signature len = signature_again signature len
+footer_again signature len =
+    let read : field_at signature_type (field signature_type signature) ≡ Some (signature, []) =
+    ap (field_at signature_type) (sym (append-nil (field signature_type signature))) ∙ field_again signature_type signature [] in
+    rw (read, len) refl
 
 -- The end of the caveats is no caveat.
 end_is_no_caveat : (rest : List ℕ) → caveat_at (end_of_section ++ rest) ≡ None
@@ -157,7 +143,7 @@ header_again location identifier rest =
     let i = field_again identifier_type identifier (end_of_section ++ rest) in
     rw (l, i) refl
 
-pub wide_takes : (bytes : List ℕ) (wide : WidePass) → wide_at bytes ≡ Some wide → SpellsV2 bytes wide
+wide_takes : (bytes : List ℕ) (wide : WidePass) → wide_at bytes ≡ Some wide → SpellsV2 bytes wide
 wide_takes bytes wide e =
     let p = whole_parts header_at caveat_at footer_at bytes wide e in
     let read = caveats_at caveat_at (length p.header.2) p.header.2 in
@@ -175,7 +161,7 @@ all_fit : (caveats : List WideCaveat) → AllByRecursion (λ _. Unit {0}) caveat
 all_fit [] = tt
 all_fit (caveat ∷ caveats) = (tt, all_fit caveats)
 
-pub wide_again : (bytes : List ℕ) (wide : WidePass) → SpellsV2 bytes wide → wide_at bytes ≡ Some wide
+wide_again : (bytes : List ℕ) (wide : WidePass) → SpellsV2 bytes wide → wide_at bytes ≡ Some wide
 wide_again bytes wide spelling =
     let last = end_of_section ++ field signature_type wide.signature in
     let caveats = flat_map caveat_section wide.caveats ++ last in
@@ -188,3 +174,10 @@ wide_again bytes wide spelling =
     whole_again header_at caveat_at footer_at bytes (unwrap_or spelling.location [], wide.identifier, caveats) wide.caveats last wide.signature h c
     (footer_again wide.signature spelling.signature)
     ∙ ap (λ (l : List ℕ). Some (made (l, wide.identifier, caveats) wide.caveats wide.signature)) spelling.is_location
+
+pub computes_v2 : ComputesSpelled SpellsV2 wide_at
+computes_v2 bytes wide = (wide_again bytes wide, wide_takes bytes wide)
+
+pub reads_v2 : ReadsExactly SpellsV2 reading_v2
+unfolding reading_v2
+reads_v2 bytes = exactly (length bytes) (SpellsV2 bytes) (wide_at bytes) (computes_v2 bytes)

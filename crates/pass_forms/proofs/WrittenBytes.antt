@@ -14,7 +14,7 @@ use Rattle.pass_forms.specs.V2.{caveat_section, end_of_section, field, identifie
 use Rattle.pass_forms.specs.Writing.{HasBytes, nonempty_location, v1_bytes, v2_bytes}
 use Rattle.pass_forms.proofs.Base64Bytes.{append_is_bytes, nil_is_bytes}
 use Rattle.pass_forms.proofs.PutVarints.{varint_of_one, varint_of_two}
-use Rattle.pass_forms.proofs.WholeV1.{both_true}
+use Rattle.pass_forms.proofs.WholePass.{both_true}
 
 one_more : (byte : ℕ) (bytes : List ℕ) → byte < 256 → IsBytes bytes → IsBytes (byte ∷ bytes)
 one_more byte bytes h others zero = h

@@ -1,5 +1,7 @@
 -- The base64 text of a pass, in either form of its bytes.
 use Rattle.std.proofs.Common.{◌≡◌, ◌↔◌, ℕ, ◌≤◌, List, length, Some, Result, Ok, refl, arith}
+use Rattle.std.specs.Prelude.{IfErr, IfOk, MatchResult}
+use Rattle.std.proofs.lemmas.Result.{IfErr-weaker, IfOk-weaker, MatchResult-from_both}
 use Rattle.base64.specs.GeneralPurpose.{IsBytes}
 use Rattle.pass_forms.specs.declared.fault.FormFault.{FormFault}
 use Rattle.pass_forms.specs.declared.fault.FormFault.TheVariants.{TooLong, Malformed, ThirdParty, TooMany, Memory}
@@ -7,10 +9,10 @@ use Rattle.pass_forms.specs.declared.form.Form.{Form}
 use Rattle.pass_forms.specs.Envelope.{form_of}
 use Rattle.pass_forms.specs.Pass.{Plain, WidePass, as_wide_pass}
 use Rattle.pass_forms.specs.Putting.{FitsBuffer, RefusesBytes, WritesBytes, buffer_len}
-use Rattle.pass_forms.specs.Reading.{IsReadAs}
-use Rattle.pass_forms.specs.Writing.{IsReadBack, IsWriteFault, IsTextBy, IsWritableText, in_base64}
+use Rattle.pass_forms.specs.Laws.{ReadsExactly}
+use Rattle.pass_forms.specs.Writing.{FailsAs, IsReadBack, IsWriteFault, IsTextBy, IsWritableText, in_base64}
 use Rattle.pass_forms.specs.computed.Writing.{writing_of}
-use Rattle.pass_forms.proofs.WrittenTexts.{bytes_fit, text_fits, text_too_long, unwraps, written_by, written_parts}
+use Rattle.pass_forms.proofs.WrittenTexts.{bytes_fit, fails, text_fits, text_too_long, unwraps, writes, written_by, written_parts}
 
 -- A form: the bytes of a pass, which bytes spell a pass, and how they are read.
 pub record BytesForm : Type 1 where
@@ -20,7 +22,7 @@ pub record BytesForm : Type 1 where
   pub reading : List ℕ → Result Plain FormFault
   pub spells : (pass : Plain) → length (bytes_of pass) ≤ buffer_len → length pass.signature ≡ 32 → Spells (bytes_of pass) (as_wide_pass pass)
   pub has_form : (pass : Plain) → Spells (bytes_of pass) (as_wide_pass pass) → form_of (bytes_of pass) ≡ Some form
-  pub determined : (bytes : List ℕ) (answer : Result Plain FormFault) → IsReadAs (length bytes) (Spells bytes) answer → reading bytes ≡ answer
+  pub reads_exactly : ReadsExactly Spells reading
 
 abbrev pub IsTextIn : BytesForm → Plain → List ℕ → Type 0
 IsTextIn f pass text = IsTextBy f.bytes_of f.Spells pass text
@@ -57,8 +59,26 @@ reads_back f pass text are written =
     let short : length (f.bytes_of pass) ≤ buffer_len = fits_buffer f pass text written in
     record {
       content = rw encoding (unwraps f.form (f.bytes_of pass) are short (f.has_form pass spelling));
-      read = f.determined (f.bytes_of pass) (Ok pass) (omega arith, spelling, written.few);
+      read = (f.reads_exactly (f.bytes_of pass) (Ok pass)).0 (omega arith, spelling, written.few);
     }
+
+-- what a writer of this form promises of its result, a text or a fault
+pub record Promises (f : BytesForm) (pass : Plain) (A : Type 0) (bytes : A → List ℕ) (result : Result A FormFault) : Type 0 where
+  pub ok : IfOk result (λ text. IsWritableText (IsTextIn f) pass (bytes text))
+  pub err : IfErr result (IsWriteFault (IsTextIn f) pass)
+  pub read_back : IfOk result (λ text. IsReadBack f.reading f.form (f.bytes_of pass) pass (bytes text))
+  pub computed : MatchResult result (λ text. writing_of (f.bytes_of pass) pass ≡ Ok (bytes text)) (FailsAs (writing_of (f.bytes_of pass) pass))
+
+pub keeps_promises : (f : BytesForm) (pass : Plain) (A : Type 0) (bytes : A → List ℕ) (result : Result A FormFault) →
+    IfOk result (λ text. WritesBytes (f.bytes_of pass) pass (bytes text)) → IfErr result (RefusesBytes (f.bytes_of pass) pass) →
+    Promises f pass A bytes result
+keeps_promises f pass A bytes result written refused = record {
+  ok = IfOk-weaker result _ _ (λ text w. is_written f pass _ w) written;
+  err = IfErr-weaker result _ _ (λ fault r. is_refused f pass fault r) refused;
+  read_back = IfOk-weaker result _ _ (λ text w. reads_back f pass _ w.buffer.are_bytes (is_written f pass _ w)) written;
+  computed = MatchResult-from_both result _ _ (IfOk-weaker result _ _ (λ text w. writes (f.bytes_of pass) pass _ w) written)
+      (IfErr-weaker result _ _ (λ fault r. fails (f.bytes_of pass) pass fault r) refused);
+}
 
 pub exact : (f : BytesForm) (pass : Plain) (text : List ℕ) → length pass.signature ≡ 32 →
     (writing_of (f.bytes_of pass) pass ≡ Ok text) ↔ IsWritableText (IsTextIn f) pass text

@@ -14,7 +14,7 @@ use Rattle.pass_forms.specs.Writing.{HasBytes, IsReadBack, IsV1Text, IsWritableT
 use Rattle.pass_forms.specs.computed.Writing.{writing_v1}
 use Rattle.pass_forms.proofs.Packets.{length-packet}
 use Rattle.pass_forms.specs.computed.V1Reading.{reading_v1}
-use Rattle.pass_forms.proofs.V1Exact.{reading_v1_determined}
+use Rattle.pass_forms.proofs.WholeV1.{reads_v1}
 use Rattle.pass_forms.proofs.WrittenBytes.{v1_is_bytes}
 use Rattle.pass_forms.proofs.WrittenForm.{BytesForm, exact, reads_back}
 
@@ -66,7 +66,7 @@ v1_form = record {
   reading = reading_v1;
   spells = spells_v1;
   has_form = λ pass spelling. form_v1 pass spelling.fits.location;
-  determined = reading_v1_determined;
+  reads_exactly = reads_v1;
 }
 
 -- The law: bytes that are written of bytes are bytes.

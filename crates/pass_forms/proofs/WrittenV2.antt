@@ -8,7 +8,7 @@ use Rattle.pass_forms.specs.V2.{SpellsV2}
 use Rattle.pass_forms.specs.Writing.{HasBytes, IsReadBack, IsV2Text, IsWritableText, nonempty_location, v2_bytes}
 use Rattle.pass_forms.specs.computed.Writing.{writing_v2}
 use Rattle.pass_forms.specs.computed.V2Reading.{reading_v2}
-use Rattle.pass_forms.proofs.V2Exact.{reading_v2_determined}
+use Rattle.pass_forms.proofs.WholeV2.{reads_v2}
 use Rattle.pass_forms.proofs.WrittenBytes.{v2_is_bytes}
 use Rattle.pass_forms.proofs.WrittenForm.{BytesForm, exact, fits_buffer, reads_back}
 
@@ -32,7 +32,7 @@ v2_form = record {
   reading = reading_v2;
   spells = λ pass fits len. spells_v2 pass len;
   has_form = λ pass spelling. form_v2 pass;
-  determined = reading_v2_determined;
+  reads_exactly = reads_v2;
 }
 
 -- The law: bytes that are written of bytes are bytes.

@@ -1,11 +1,5 @@
 //! The fields of a pass, read one after the other.
 
-ghost use Rattle.std.specs.Prelude.{◌≡◌, IfOk};
-ghost use Rattle.pass_forms.specs.FieldSource.{no_fields, with_fields};
-
-use crate::Pass;
-use std::alloc::{AllocError, Global};
-
 /// One field of a pass. Its bytes are a slice of the input.
 #[derive(Clone, Copy, Debug, Drop, PartialEq, Eq)]
 pub enum Field<'a> {
@@ -37,19 +31,4 @@ pub trait FieldSource<'a> {
     /// memory either.
     fn again(&self) -> Self
         ensures { left result ≡ left self.now };
-}
-
-/// Copies the fields of a source into a pass, with capacity for `caveat_count` caveats.
-pub fn collect<'a, S: FieldSource<'a>>(
-    alloc: Global,
-    caveat_count: usize,
-    source: &mut S,
-) -> Result<Pass, AllocError>
-    ensures { IfOk result (λ pass. pass ≡ with_fields no_fields (S.left source.old)) }
-{
-    let mut pass = Pass::with_capacity_for(alloc, caveat_count)?;
-    while let Some(field) = source.next() {
-        pass.set(alloc, field)?;
-    }
-    Ok(pass)
 }

@@ -1,19 +1,21 @@
 //! The common part of both readers. A first scan over the whole pass finds each fault; its fields
 //! are read afterwards. Nothing here allocates memory.
 
-ghost use Rattle.std.specs.Prelude.{◌≡◌, [], ◌∷◌, Option, option_map, length, IfNone, IfSome};
+ghost use Rattle.std.specs.Prelude.{◌≡◌, [], ◌∷◌, IfNone, IfSome, length, option_map};
 ghost use Rattle.pass_forms.specs.computed.Caveats.{
   caveats_at,
+  identifiers_at,
   scan_summary,
-  identifiers_in,
-  to_come,
   whole_at,
   Counts,
 };
-ghost use Rattle.pass_forms.specs.FieldSource.{opening_of, opening_by, as_field};
 ghost use Rattle.pass_forms.specs.computed.Reading.{reading_of};
+ghost use Rattle.pass_forms.specs.FieldSource.{opening_of};
+ghost use Rattle.pass_forms.specs.Reading.{IsReadAs, OrOutOfMemory};
 
-use crate::{Field, FormFault, MAX_CAVEATS, MAX_TEXT};
+use crate::{Field, FieldSource, FormFault, MAX_CAVEATS, MAX_TEXT, Pass};
+use std::alloc::{AllocError, Global};
+use std::marker::{Model, PhantomData};
 
 /// The header at the front of some bytes, and the bytes after it.
 #[derive(Drop)]
@@ -34,31 +36,55 @@ pub struct Caveat<'a> {
 /// `count` caveats at the front of some bytes.
 #[derive(Clone, Copy)]
 pub struct Caveats<'a> {
-    pub count: usize,
-    pub bytes: &'a [u8],
+    count: usize,
+    bytes: &'a [u8],
 }
 
-/// The fields of a pass that are left. Fields that were returned are `None`.
-#[derive(Clone, Copy)]
-pub struct Walk<'a> {
-    pub location: Option<&'a [u8]>,
-    pub identifier: Option<&'a [u8]>,
-    pub caveats: Caveats<'a>,
-    pub signature: Option<[u8; 32]>,
+/// The fields that are left of a pass in this layout. Fields that were returned are `None`.
+/// Contracts see them as a list.
+#[derive(Drop)]
+pub struct Fields<'a, L: Layout> {
+    location: Option<&'a [u8]>,
+    identifier: Option<&'a [u8]>,
+    caveats: Caveats<'a>,
+    signature: Option<[u8; 32]>,
+    layout: PhantomData<L>,
+}
+
+impl<'a, L: Layout> Model for Fields<'a, L> {
+    ghost use Rattle.std.specs.Prelude.{List};
+    ghost use Rattle.pass_forms.specs.FieldSource.{PassField, those_left};
+    ghost use Rattle.pass_forms.specs.computed.Caveats.{identifiers_at};
+
+    ghost Value = { List PassField };
+
+    ghost view = { λ fields. those_left (λ bytes. bytes.now) fields.location fields.identifier
+        (identifiers_at L.caveat_at fields.caveats.count fields.caveats.bytes.now)
+        fields.signature };
 }
 
 // The result of a scan over the bytes.
 #[derive(Drop)]
-struct ScanResult<'a> {
-    fields: Walk<'a>,
+struct ScanResult<'a, L: Layout> {
+    fields: Fields<'a, L>,
+    caveat_count: usize,
     third_party: bool,
 }
 
 /// How a pass is laid out as bytes: a header, the caveats, and a footer that holds the signature.
-pub trait Layout {
-    ghost use Rattle.std.specs.Prelude.{◌≡◌, ℕ, List, Option, option_map};
-    ghost use Rattle.pass_forms.specs.computed.Caveats.{summary};
-    ghost use Rattle.pass_forms.specs.Pass.{WideCaveat};
+pub trait Layout: Copy {
+    ghost use Rattle.std.specs.Prelude.{◌≡◌, ℕ, List, Option, Result, length, option_map};
+    ghost use Rattle.pass_forms.specs.declared.fault.FormFault.{FormFault as FaultOfForm};
+    ghost use Rattle.pass_forms.specs.computed.Caveats.{summary, whole_at};
+    ghost use Rattle.pass_forms.specs.computed.Reading.{reading_of};
+    ghost use Rattle.pass_forms.specs.Laws.{ReadsExactly};
+    ghost use Rattle.pass_forms.specs.Pass.{Plain, WideCaveat, WidePass};
+
+    // the wide passes that bytes spell
+    ghost Spells: { List ℕ → WidePass → Type 0 };
+
+    // the result of reading bytes
+    ghost reading: { List ℕ → Result Plain FaultOfForm };
 
     // the location, the identifier, and the bytes after them
     ghost header_at: { List ℕ → Option (List ℕ × List ℕ × List ℕ) };
@@ -84,6 +110,12 @@ pub trait Layout {
     /// The signature, if the bytes are a footer.
     fn footer(bytes: &[u8]) -> Option<[u8; 32]>
         ensures { result ≡ footer_at bytes.now };
+
+    /// Law: the relation allows exactly one result for bytes, the one that these parts compute.
+    fn reads_exactly()
+        ensures spelling { ReadsExactly Spells reading }
+        ensures computed { (bytes : List ℕ) → reading bytes
+            ≡ reading_of (length bytes) (whole_at header_at caveat_at footer_at bytes) };
 }
 
 // The number of caveats, whether any is a third party's, and the bytes after them.
@@ -116,17 +148,16 @@ fn skip_caveats<L: Layout>(bytes: &[u8]) -> Skipped<'_>
 }
 
 // Scans a whole pass.
-#[tactic(auto, unfolding(crate::specs::computed::Caveats::to_come, crate::specs::computed::Caveats::whole_at))]
-fn scan_pass<L: Layout>(bytes: &[u8]) -> Option<ScanResult<'_>>
-    ensures { option_map (λ pass.
-        (to_come L.caveat_at pass.fields, pass.fields.caveats.count, pass.third_party)) result
+#[tactic(auto, unfolding(crate::specs::computed::Caveats::whole_at))]
+fn scan_pass<L: Layout>(bytes: &[u8]) -> Option<ScanResult<'_, L>>
+    ensures { option_map (λ pass. (pass.fields, pass.caveat_count, pass.third_party)) result
         ≡ option_map scan_summary (whole_at L.header_at L.caveat_at L.footer_at bytes.now) }
 {
     let header = L::first_header(bytes)?;
     let skipped = skip_caveats::<L>(header.rest);
     let signature = L::footer(skipped.rest)?;
     Some(ScanResult {
-        fields: Walk {
+        fields: Fields {
             location: Some(header.location),
             identifier: Some(header.identifier),
             caveats: Caveats {
@@ -134,16 +165,16 @@ fn scan_pass<L: Layout>(bytes: &[u8]) -> Option<ScanResult<'_>>
                 bytes: header.rest,
             },
             signature: Some(signature),
+            layout: PhantomData,
         },
+        caveat_count: skipped.count,
         third_party: skipped.third_party,
     })
 }
 
-/// The fields of the pass that the bytes spell in this layout, or the first fault that applies. It
-/// scans all of the bytes before the first field is returned.
-pub fn open<L: Layout>(bytes: &[u8]) -> Result<Walk<'_>, FormFault>
-    ensures { opening_by (to_come L.caveat_at) result
-        ≡ opening_of (reading_of (length bytes.now)
+// The fields of the pass, or the first fault that applies.
+fn checked_fields<L: Layout>(bytes: &[u8]) -> Result<Fields<'_, L>, FormFault>
+    ensures { result ≡ opening_of (reading_of (length bytes.now)
         (whole_at L.header_at L.caveat_at L.footer_at bytes.now)) }
 {
     if bytes.len() > MAX_TEXT {
@@ -155,7 +186,7 @@ pub fn open<L: Layout>(bytes: &[u8]) -> Result<Walk<'_>, FormFault>
     if pass.third_party {
         return Err(FormFault::ThirdParty);
     }
-    if pass.fields.caveats.count > MAX_CAVEATS {
+    if pass.caveat_count > MAX_CAVEATS {
         return Err(FormFault::TooMany);
     }
     Ok(pass.fields)
@@ -165,11 +196,11 @@ impl<'a> Caveats<'a> {
     // Removes the first caveat and returns its identifier.
     fn next<L: Layout>(&mut self) -> Option<&'a [u8]>
         ensures some { IfSome result
-            (λ caveat. identifiers_in L.caveat_at self.old ≡ caveat.now
-            ∷ identifiers_in L.caveat_at self.new) }
+            (λ caveat. identifiers_at L.caveat_at self.old.count self.old.bytes.now ≡ caveat.now
+            ∷ identifiers_at L.caveat_at self.new.count self.new.bytes.now) }
         ensures none { IfNone result
-            ((identifiers_in L.caveat_at self.old ≡ [])
-            × (identifiers_in L.caveat_at self.new ≡ [])) }
+            ((identifiers_at L.caveat_at self.old.count self.old.bytes.now ≡ [])
+            × (identifiers_at L.caveat_at self.new.count self.new.bytes.now ≡ [])) }
     {
         self.count = self.count.checked_sub(1)?;
         let first = L::first_caveat(self.bytes)?;
@@ -178,16 +209,10 @@ impl<'a> Caveats<'a> {
     }
 }
 
-impl<'a> Walk<'a> {
-    /// Returns the next field, or `None` if none is left.
-    #[tactic(auto, unfolding(crate::specs::computed::Caveats::to_come))]
-    pub fn next<L: Layout>(&mut self) -> Option<Field<'a>>
-        ensures some { IfSome result
-            (λ field. to_come L.caveat_at self.old ≡ as_field field
-            ∷ to_come L.caveat_at self.new) }
-        ensures none { IfNone result
-            ((to_come L.caveat_at self.old ≡ []) × (to_come L.caveat_at self.new ≡ [])) }
-    {
+impl<'a, L: Layout> FieldSource<'a> for Fields<'a, L> {
+    ghost left = { λ fields. fields };
+
+    fn next(&mut self) -> Option<Field<'a>> {
         if let Some(location) = self.location.take() {
             return Some(Field::Location(location));
         }
@@ -200,4 +225,59 @@ impl<'a> Walk<'a> {
         let signature = self.signature.take()?;
         Some(Field::Signature(signature))
     }
+
+    fn again(&self) -> Fields<'a, L> {
+        Fields {
+            location: self.location,
+            identifier: self.identifier,
+            caveats: self.caveats,
+            signature: self.signature,
+            layout: PhantomData,
+        }
+    }
+}
+
+impl<'a, L: Layout> Fields<'a, L> {
+    ghost use Rattle.std.specs.Prelude.{◌≡◌, length, IfOk};
+    ghost use Rattle.pass_forms.specs.FieldSource.{IsOpening, no_fields, opening_of, with_fields};
+    ghost use Rattle.pass_forms.specs.Reading.{IsReadAs};
+
+    /// Checks all of the bytes before the first field is returned. They are without base64. No
+    /// memory is allocated: each field is a slice of the bytes.
+    ///
+    /// # Errors
+    ///
+    /// The first that applies: `TooLong` for more than 8,192 bytes, `Malformed` if the bytes spell
+    /// no pass, `ThirdParty` if a caveat is a third party's, `TooMany` for more than 64 caveats.
+    pub fn open(bytes: &'a [u8]) -> Result<Fields<'a, L>, FormFault>
+        // The fields of the pass that the bytes spell.
+        ensures spelling { IsOpening (IsReadAs (length bytes.now) (L.Spells bytes.now)) result }
+        // The same, computed.
+        ensures computed { result ≡ opening_of (L.reading bytes.now) }
+    {
+        L::reads_exactly();
+        checked_fields::<L>(bytes)
+    }
+
+    // Copies the fields that are left into a pass.
+    fn into_pass(mut self, alloc: Global) -> Result<Pass, AllocError>
+        ensures { IfOk result (λ pass. pass ≡ with_fields no_fields self.entry) }
+    {
+        let mut pass = Pass::with_capacity_for(alloc, self.caveats.count)?;
+        while let Some(field) = self.next() {
+            pass.set(alloc, field)?;
+        }
+        Ok(pass)
+    }
+}
+
+/// Reads the pass that the bytes spell in this layout. Memory runs out only for a pass that passed
+/// all checks.
+pub fn read<L: Layout>(alloc: Global, bytes: &[u8]) -> Result<Pass, FormFault>
+    ensures spelling { OrOutOfMemory (IsReadAs (length bytes.now) (L.Spells bytes.now)) result }
+    ensures computed { OrOutOfMemory (λ answer. L.reading bytes.now ≡ answer) result }
+{
+    L::reads_exactly();
+    let fields = Fields::<L>::open(bytes)?;
+    Ok(fields.into_pass(alloc)?)
 }

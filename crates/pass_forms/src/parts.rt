@@ -1,4 +1,4 @@
-//! Prefixes and suffixes of bytes.
+//! Parts at the front and at the end of bytes.
 
 ghost use Rattle.std.specs.Prelude.{◌≡◌, option_map};
 ghost use Rattle.pass_forms.specs.computed.Parts as spec;
@@ -15,4 +15,14 @@ pub fn before_suffix<'a>(suffix: &[u8], bytes: &'a [u8]) -> Option<&'a [u8]>
     ensures { option_map (λ rest. rest.now) result ≡ spec.before_suffix suffix.now bytes.now }
 {
     bytes.strip_suffix(suffix)
+}
+
+/// The signature, if it is 32 bytes with nothing after them.
+pub fn last_signature(signature: &[u8], rest: &[u8]) -> Option<[u8; 32]>
+    ensures { result ≡ spec.last_signature (signature.now, rest.now) }
+{
+    if !rest.is_empty() {
+        return None;
+    }
+    <[u8; 32]>::try_from(signature).ok()
 }

@@ -7,7 +7,7 @@ ghost use Rattle.pass_forms.specs.Pass.{IsSigned};
 ghost use Rattle.pass_forms.specs.Reading.{max_caveats};
 ghost use Rattle.pass_forms.specs.Writing.{IsNarrowingFault, with_caveat};
 
-use crate::{Field, FormFault};
+use crate::{Field, FormFault, PassFields};
 use pass_mac::{Chain, same};
 use std::alloc::{AllocError, Global};
 use std::marker::Model;
@@ -55,7 +55,7 @@ impl Model for Pass {
 
 impl Pass {
     ghost use Rattle.std.specs.Prelude.{◌≡◌, ◌↔◌, length, map, IfOk, IsTrue, OnOk};
-    ghost use Rattle.pass_forms.specs.FieldSource.{no_fields, as_field, with_field};
+    ghost use Rattle.pass_forms.specs.FieldSource.{as_field, no_fields, pass_fields, with_field};
     ghost use Rattle.pass_forms.specs.Pass.{IsSigned, minted_pass};
     ghost use Rattle.pass_forms.specs.computed.Pass.{is_signed};
 
@@ -174,6 +174,18 @@ impl Pass {
         ensures len { length self.now.signature ≡ 32 }
     {
         &self.signature
+    }
+
+    /// All fields of the pass. No memory is allocated: each field is a slice of the pass.
+    pub fn fields(&self) -> PassFields<'_>
+        ensures { result ≡ pass_fields self.now }
+    {
+        PassFields {
+            location: Some(self.location()),
+            identifier: Some(self.identifier()),
+            caveats: self.caveats(),
+            signature: Some(self.signature),
+        }
     }
 
     /// Whether the signature is that of the identifier and the caveats under this root, of any

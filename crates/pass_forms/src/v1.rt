@@ -5,12 +5,11 @@ ghost use Rattle.pass_forms.specs.Reading.{IsReadAs, OrOutOfMemory};
 ghost use Rattle.pass_forms.specs.V1.{SpellsV1};
 ghost use Rattle.pass_forms.specs.computed.V1Reading as reading;
 
-use crate::field_source::collect;
-use crate::layout::{self, Caveat, Header, Layout, Walk};
-use crate::parts::{after_prefix, before_suffix};
-use crate::{Field, FieldSource, FormFault, Pass};
+use crate::laws::reads_v1_exactly;
+use crate::layout::{self, Caveat, Fields, Header, Layout};
+use crate::parts::{after_prefix, before_suffix, last_signature};
+use crate::{FormFault, Pass};
 use std::alloc::Global;
-use std::marker::Model;
 
 pub const LOCATION: &[u8] = b"location ";
 
@@ -86,10 +85,16 @@ fn optional_packet<'a>(key: &[u8], bytes: &'a [u8]) -> (bool, &'a [u8])
 }
 
 // The layout of V1: packets, one after the other.
+#[derive(Clone, Copy)]
 pub struct Packets;
 
 impl Layout for Packets {
+    ghost use Rattle.pass_forms.specs.V1.{SpellsV1};
     ghost use Rattle.pass_forms.specs.computed.V1Reading as reading;
+
+    ghost Spells = { SpellsV1 };
+
+    ghost reading = { reading.reading_v1 };
 
     ghost header_at = { reading.header_at };
 
@@ -123,69 +128,17 @@ impl Layout for Packets {
     #[tactic(auto, unfolding(crate::specs::computed::V1Reading::signature_at))]
     fn footer(bytes: &[u8]) -> Option<[u8; 32]> {
         let (signature, rest) = first_packet(SIGNATURE, bytes)?;
-        if !rest.is_empty() {
-            return None;
-        }
-        <[u8; 32]>::try_from(signature).ok()
+        last_signature(signature, rest)
     }
-}
 
-/// The fields of the pass that the packets of V1 spell. Contracts see them as the list of the
-/// fields that are left.
-#[derive(Drop)]
-pub struct V1Fields<'a> {
-    walk: Walk<'a>,
-}
-
-impl<'a> Model for V1Fields<'a> {
-    ghost use Rattle.std.specs.Prelude.{List};
-    ghost use Rattle.pass_forms.specs.FieldSource.{PassField};
-
-    ghost Value = { List PassField };
-
-    ghost use Rattle.pass_forms.specs.computed.Caveats.{to_come};
-    ghost use Rattle.pass_forms.specs.computed.V1Reading.{caveat_at};
-
-    ghost view = { λ fields. to_come caveat_at fields.walk };
-}
-
-impl<'a> V1Fields<'a> {
-    ghost use Rattle.std.specs.Prelude.{◌≡◌, length};
-    ghost use Rattle.pass_forms.specs.FieldSource.{IsOpening, opening_of};
-    ghost use Rattle.pass_forms.specs.Reading.{IsReadAs};
-    ghost use Rattle.pass_forms.specs.V1.{SpellsV1};
-    ghost use Rattle.pass_forms.specs.computed.V1Reading.{reading_v1};
-
-    /// Checks all of the bytes before the first field is returned. They are libmacaroons' packets,
-    /// without base64. No memory is allocated: each field is a slice of the bytes.
-    ///
-    /// # Errors
-    ///
-    /// The first that applies: `TooLong` for more than 8,192 bytes, `Malformed` if the bytes spell
-    /// no pass, `ThirdParty` if a caveat is a third party's, `TooMany` for more than 64 caveats.
     #[tactic(auto, unfolding(crate::specs::computed::V1Reading::reading_v1))]
-    pub fn open(bytes: &'a [u8]) -> Result<V1Fields<'a>, FormFault>
-        // The fields of the pass that the bytes spell.
-        ensures spelling { IsOpening (IsReadAs (length bytes.now) (SpellsV1 bytes.now)) result }
-        // The same, computed.
-        ensures computed { result ≡ opening_of (reading_v1 bytes.now) }
-    {
-        let walk = layout::open::<Packets>(bytes)?;
-        Ok(V1Fields { walk })
+    fn reads_exactly() {
+        reads_v1_exactly();
     }
 }
 
-impl<'a> FieldSource<'a> for V1Fields<'a> {
-    ghost left = { λ fields. fields };
-
-    fn next(&mut self) -> Option<Field<'a>> {
-        self.walk.next::<Packets>()
-    }
-
-    fn again(&self) -> V1Fields<'a> {
-        V1Fields { walk: self.walk }
-    }
-}
+/// The fields of the pass that the packets of V1 spell.
+pub type V1Fields<'a> = Fields<'a, Packets>;
 
 /// Reads a pass from V1: all of the bytes, libmacaroons' packets without base64.
 ///
@@ -200,7 +153,5 @@ pub fn read_v1(alloc: Global, bytes: &[u8]) -> Result<Pass, FormFault>
     // The same, computed.
     ensures computed { OrOutOfMemory (λ answer. reading.reading_v1 bytes.now ≡ answer) result }
 {
-    let mut fields = V1Fields::open(bytes)?;
-    let caveat_count = fields.walk.caveats.count;
-    Ok(collect(alloc, caveat_count, &mut fields)?)
+    layout::read::<Packets>(alloc, bytes)
 }

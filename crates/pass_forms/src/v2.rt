@@ -17,12 +17,11 @@ ghost use Rattle.pass_forms.specs.Reading.{IsReadAs, OrOutOfMemory};
 ghost use Rattle.pass_forms.specs.V2.{SpellsV2};
 ghost use Rattle.pass_forms.specs.computed.V2Reading as reading;
 
-use crate::field_source::collect;
-use crate::layout::{self, Caveat, Header, Layout, Walk};
-use crate::parts::after_prefix;
-use crate::{Field, FieldSource, FormFault, Pass};
+use crate::laws::reads_v2_exactly;
+use crate::layout::{self, Caveat, Fields, Header, Layout};
+use crate::parts::{after_prefix, last_signature};
+use crate::{FormFault, Pass};
 use std::alloc::Global;
-use std::marker::Model;
 
 pub const VERSION: &[u8] = &[2];
 
@@ -87,23 +86,17 @@ fn optional_field<'a>(kind: u8, bytes: &'a [u8]) -> (Option<&'a [u8]>, &'a [u8])
     }
 }
 
-// The signature's field, which nothing follows.
-#[tactic(auto, unfolding(crate::specs::computed::V2Reading::signature_at))]
-fn signature(bytes: &[u8]) -> Option<[u8; 32]>
-    ensures { result ≡ reading.signature_at bytes.now }
-{
-    let (signature, rest) = first_field(SIGNATURE, bytes)?;
-    if !rest.is_empty() {
-        return None;
-    }
-    <[u8; 32]>::try_from(signature).ok()
-}
-
 // The layout of V2: sections of fields.
+#[derive(Clone, Copy)]
 pub struct Sections;
 
 impl Layout for Sections {
+    ghost use Rattle.pass_forms.specs.V2.{SpellsV2};
     ghost use Rattle.pass_forms.specs.computed.V2Reading as reading;
+
+    ghost Spells = { SpellsV2 };
+
+    ghost reading = { reading.reading_v2 };
 
     ghost header_at = { reading.header_at };
 
@@ -139,67 +132,20 @@ impl Layout for Sections {
 
     #[tactic(auto, unfolding(crate::specs::computed::V2Reading::footer_at))]
     fn footer(bytes: &[u8]) -> Option<[u8; 32]> {
-        signature(after_prefix(END_OF_SECTION, bytes)?)
+        let rest = after_prefix(END_OF_SECTION, bytes)?;
+        let (signature, rest) = first_field(SIGNATURE, rest)?;
+        last_signature(signature, rest)
     }
-}
 
-/// The fields of the pass that the bytes of V2 spell. Contracts see them as the list of the fields
-/// that are left.
-#[derive(Drop)]
-pub struct V2Fields<'a> {
-    walk: Walk<'a>,
-}
-
-impl<'a> Model for V2Fields<'a> {
-    ghost use Rattle.std.specs.Prelude.{List};
-    ghost use Rattle.pass_forms.specs.FieldSource.{PassField};
-
-    ghost Value = { List PassField };
-
-    ghost use Rattle.pass_forms.specs.computed.Caveats.{to_come};
-    ghost use Rattle.pass_forms.specs.computed.V2Reading.{caveat_at};
-
-    ghost view = { λ fields. to_come caveat_at fields.walk };
-}
-
-impl<'a> V2Fields<'a> {
-    ghost use Rattle.std.specs.Prelude.{◌≡◌, length};
-    ghost use Rattle.pass_forms.specs.FieldSource.{IsOpening, opening_of};
-    ghost use Rattle.pass_forms.specs.Reading.{IsReadAs};
-    ghost use Rattle.pass_forms.specs.V2.{SpellsV2};
-    ghost use Rattle.pass_forms.specs.computed.V2Reading.{reading_v2};
-
-    /// Checks all of the bytes before the first field is returned. They are libmacaroons' binary
-    /// form, without base64. Each number must have its shortest spelling (ours). No memory is
-    /// allocated: each field is a slice of the bytes.
-    ///
-    /// # Errors
-    ///
-    /// The first that applies: `TooLong` for more than 8,192 bytes, `Malformed` if the bytes spell
-    /// no pass, `ThirdParty` if a caveat is a third party's, `TooMany` for more than 64 caveats.
     #[tactic(auto, unfolding(crate::specs::computed::V2Reading::reading_v2))]
-    pub fn open(bytes: &'a [u8]) -> Result<V2Fields<'a>, FormFault>
-        // The fields of the pass that the bytes spell.
-        ensures spelling { IsOpening (IsReadAs (length bytes.now) (SpellsV2 bytes.now)) result }
-        // The same, computed.
-        ensures computed { result ≡ opening_of (reading_v2 bytes.now) }
-    {
-        let walk = layout::open::<Sections>(bytes)?;
-        Ok(V2Fields { walk })
+    fn reads_exactly() {
+        reads_v2_exactly();
     }
 }
 
-impl<'a> FieldSource<'a> for V2Fields<'a> {
-    ghost left = { λ fields. fields };
-
-    fn next(&mut self) -> Option<Field<'a>> {
-        self.walk.next::<Sections>()
-    }
-
-    fn again(&self) -> V2Fields<'a> {
-        V2Fields { walk: self.walk }
-    }
-}
+/// The fields of the pass that the bytes of V2 spell. Each number must have its shortest spelling
+/// (ours).
+pub type V2Fields<'a> = Fields<'a, Sections>;
 
 /// Reads a pass from V2: all of the bytes, libmacaroons' binary form without base64. Each number
 /// must have its shortest spelling (ours).
@@ -215,7 +161,5 @@ pub fn read_v2(alloc: Global, bytes: &[u8]) -> Result<Pass, FormFault>
     // The same, computed.
     ensures computed { OrOutOfMemory (λ answer. reading.reading_v2 bytes.now ≡ answer) result }
 {
-    let mut fields = V2Fields::open(bytes)?;
-    let caveat_count = fields.walk.caveats.count;
-    Ok(collect(alloc, caveat_count, &mut fields)?)
+    layout::read::<Sections>(alloc, bytes)
 }

@@ -2,7 +2,8 @@
 //! in a fraction of the time.
 
 use pass_forms::{
-    Field, FieldSource, Form, FormFault, MAX_BYTES, Pass, PassParts, Unwrapped, V1Fields, V2Fields,
+    Field, FieldSource, Form, FormFault, MAX_BYTES, Pass, PassFields, PassParts, Unwrapped,
+    V1Fields, V2Fields,
 };
 use pass_mac::Chain;
 use std::alloc::{AllocError, Global};
@@ -58,6 +59,10 @@ pub(crate) fn open_v1(bytes: &[u8]) -> Result<V1Fields<'_>, FormFault> {
 
 pub(crate) fn open_v2(bytes: &[u8]) -> Result<V2Fields<'_>, FormFault> {
     V2Fields::open(bytes)
+}
+
+pub(crate) fn fields_of(pass: &Pass) -> PassFields<'_> {
+    pass.fields()
 }
 
 pub(crate) fn next<'a, S: FieldSource<'a>>(fields: &mut S) -> Option<Field<'a>> {

@@ -1,8 +1,8 @@
 //! Passes that are read from V1 and V2, all at once and field by field.
 
-use crate::calls::{again, next, open_v1, open_v2, read};
+use crate::calls::{again, fields_of, next, open_v1, open_v2, read};
 use crate::rows::{Fields, Piece, expect_eq, expect_pass, joined};
-use pass_forms::{Field, FieldSource, Form, FormFault};
+use pass_forms::{Field, FieldSource, Form, FormFault, Pass};
 use std::process::Abort;
 
 /// A pass in pieces, and what it says.
@@ -52,11 +52,16 @@ fn walks<'a>(rt: &impl Abort, form: Form, bytes: &'a [u8], want: &Fields<'a>) {
     }
 }
 
+fn walks_in_memory<'a>(rt: &impl Abort, pass: &'a Pass, want: &Fields<'a>) {
+    expect_fields_twice(rt, &mut fields_of(pass), want);
+}
+
 fn is_read(rt: &(impl Abort + AllocGlobal), form: Form, row: &Read) {
     let bytes = joined(rt, row.pieces);
     walks(rt, form, &bytes, &row.fields);
     let pass = read(rt.alloc(), form, &bytes).expect(rt, "a pass");
     expect_pass(rt, &pass, &row.fields);
+    walks_in_memory(rt, &pass, &row.fields);
 }
 
 pub(crate) fn are_read(rt: &(impl Abort + AllocGlobal), form: Form, rows: &[Read]) {

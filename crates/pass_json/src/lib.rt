@@ -3,7 +3,6 @@
 
 mod any;
 mod field;
-mod fields;
 pub mod laws;
 mod names;
 mod object;
@@ -11,6 +10,5 @@ mod read;
 mod write;
 
 pub use any::{read_any, write_any};
-pub use fields::JsonFields;
 pub use read::read_json;
 pub use write::write_json;

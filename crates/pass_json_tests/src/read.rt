@@ -1,12 +1,9 @@
-//! Passes that are read from JSON, whole and field by field.
+//! Passes that are read from JSON.
 
 use crate::any::EXAMPLE_JSON;
-use crate::calls::{again, fields_of, is_signed, next, read_json};
-use crate::rows::{
-    Fields, KEYID_FIELDS, KNOWN_FIELDS, Piece, SIGNATURE, expect_eq, expect_pass, joined,
-};
-use pass_forms::{Field, FormFault, Pass};
-use pass_json::JsonFields;
+use crate::calls::{is_signed, read_json};
+use crate::rows::{Fields, KEYID_FIELDS, KNOWN_FIELDS, Piece, expect_eq, expect_pass, joined};
+use pass_forms::FormFault;
 use std::process::Abort;
 
 // The pass of libmacaroons' README.
@@ -28,41 +25,10 @@ struct Read {
     fields: Fields<'static>,
 }
 
-fn expect_next<'a>(rt: &impl Abort, fields: &mut JsonFields<'a>, want: Option<Field<'a>>) {
-    expect_eq(rt, &next(fields), &want, &"the next field");
-}
-
-// The signature, and then none, however often one is asked for.
-fn ends<'a>(rt: &impl Abort, fields: &mut JsonFields<'a>, want: &Fields<'a>) {
-    expect_next(rt, fields, Some(Field::Signature(*want.signature)));
-    expect_next(rt, fields, None);
-    expect_next(rt, fields, None);
-}
-
-// The fields come in their order, all caveats among them.
-fn expect_fields<'a>(rt: &impl Abort, fields: &mut JsonFields<'a>, want: &Fields<'a>) {
-    expect_next(rt, fields, Some(Field::Location(want.location)));
-    expect_next(rt, fields, Some(Field::Identifier(want.identifier)));
-    for caveat in want.caveats {
-        expect_next(rt, fields, Some(Field::Caveat(caveat)));
-    }
-    ends(rt, fields, want);
-}
-
-// The fields come twice: from a source, and from a second one that was made before the first was
-// read.
-fn expect_fields_twice<'a>(rt: &impl Abort, pass: &'a Pass, want: &Fields<'a>) {
-    let mut fields = fields_of(pass);
-    let mut others = again(&fields);
-    expect_fields(rt, &mut fields, want);
-    expect_fields(rt, &mut others, want);
-}
-
 fn is_read(rt: &(impl Abort + AllocGlobal), row: &Read) {
     let text = joined(rt, row.pieces);
     let pass = read_json(rt.alloc(), text.as_bytes()).expect(rt, "a pass");
     expect_pass(rt, &pass, &row.fields);
-    expect_fields_twice(rt, &pass, &row.fields);
 }
 
 fn are_read(rt: &(impl Abort + AllocGlobal), rows: &[Read]) {
@@ -104,10 +70,8 @@ static READ: [Read; 5] = [
             "{\"c\":[{\"i\":\"test = caveat\"},{\"i\":\"\"}],\"i\":\"we used our secret key\",\"l\":\"http://mybank/\",\"s64\":\"GXusegRK8zMyhluSZuJtSTvdZopmDkTYjOGpmMI9vWc\",\"v\":2}",
         )],
         fields: Fields {
-            location: b"http://mybank/",
-            identifier: b"we used our secret key",
             caveats: &[b"test = caveat", b""],
-            signature: b"\x19\x7b\xac\x7a\x04\x4a\xf3\x33\x32\x86\x5b\x92\x66\xe2\x6d\x49\x3b\xdd\x66\x8a\x66\x0e\x44\xd8\x8c\xe1\xa9\x98\xc2\x3d\xbd\x67",
+            ..KNOWN_FIELDS
         },
     },
     // A signature that is text.
@@ -117,10 +81,8 @@ static READ: [Read; 5] = [
             "{\"v\":2,\"i\":\"keyid\",\"s\":\"0123456789abcdef0123456789abcdef\"}",
         )],
         fields: Fields {
-            location: b"",
-            identifier: b"keyid",
-            caveats: &[],
             signature: b"0123456789abcdef0123456789abcdef",
+            ..KEYID_FIELDS
         },
     },
 ];
@@ -158,10 +120,8 @@ static AT_THE_LIMITS: [Read; 3] = [
             (1, OPEN_SHORT),
         ],
         fields: Fields {
-            location: b"",
-            identifier: b"keyid",
             caveats: &[GUESTS; 64],
-            signature: SIGNATURE,
+            ..KEYID_FIELDS
         },
     },
 ];

@@ -61,12 +61,15 @@ pub(crate) const KEYID_FIELDS: Fields<'static> = Fields {
     signature: SIGNATURE,
 };
 
-/// The pass says this, and has so many caveats.
+/// The pass says this.
 pub(crate) fn expect_pass(rt: &impl Abort, pass: &Pass, want: &Fields<'_>) {
     let outcome = (pass.location(), pass.identifier(), pass.signature());
     let wanted = (want.location, want.identifier, want.signature);
     expect_eq(rt, &outcome, &wanted, &"location, identifier, signature");
     expect_eq(rt, &pass.caveats().len(), &want.caveats.len(), &"caveats");
+    for (caveat, wanted) in pass.caveats().iter().zip(want.caveats.iter()) {
+        expect_eq(rt, &caveat.as_slice(), wanted, &"a caveat");
+    }
 }
 
 fn empty_caveats(rt: &(impl Abort + AllocGlobal), count: usize) -> Vec<Vec<u8>> {

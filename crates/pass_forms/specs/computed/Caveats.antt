@@ -2,9 +2,7 @@
 -- with the bytes after it.
 use Rattle.std.specs.Prelude.{◌≡◌, ℕ, Bool, zero, suc, List, [], ◌∷◌, length, map, Option, Some, None}
 use Rattle.std.specs.List.{list_any}
-use Rattle.pass_forms.specs.declared.layout.Caveats.{Caveats}
-use Rattle.pass_forms.specs.declared.layout.Walk.{Walk}
-use Rattle.pass_forms.specs.FieldSource.{PassField, pass_fields, those_left}
+use Rattle.pass_forms.specs.FieldSource.{PassField, pass_fields}
 use Rattle.pass_forms.specs.computed.Parts.{◌>>=◌}
 use Rattle.pass_forms.specs.Pass.{WideCaveat, WidePass, has_third_party, is_third_party, first_party, first_party_caveat}
 
@@ -49,11 +47,6 @@ whole_at header_at caveat_at footer_at bytes = do
 abbrev pub scan_summary : WidePass → List PassField × ℕ × Bool
 scan_summary wide = (pass_fields (first_party wide), length wide.caveats, has_third_party wide)
 
--- the identifiers of the caveats that aren't read yet
-abbrev pub identifiers_in : (List ℕ → Option (WideCaveat × List ℕ)) → Caveats → List (List ℕ)
-identifiers_in caveat_at caveats = map first_party_caveat (caveats_at caveat_at caveats.count caveats.bytes.now).0
-
--- the fields that are left
-unfoldable pub to_come : (List ℕ → Option (WideCaveat × List ℕ)) → Walk → List PassField
-to_come caveat_at walk =
-    those_left (λ bytes. bytes.now) walk.location walk.identifier (identifiers_in caveat_at walk.caveats) walk.signature
+-- the identifiers of at most this number of caveats at the front
+abbrev pub identifiers_at : (List ℕ → Option (WideCaveat × List ℕ)) → ℕ → List ℕ → List (List ℕ)
+identifiers_at caveat_at count bytes = map first_party_caveat (caveats_at caveat_at count bytes).0

@@ -1,5 +1,5 @@
 -- Reading from the front of bytes: a part, and the bytes after it.
-use Rattle.std.specs.Prelude.{ℕ, ◌-◌, nat_eq, if◌then◌else◌, List, length, take, drop, Option, Some, None}
+use Rattle.std.specs.Prelude.{ℕ, ◌-◌, ◌==◌, ◌&&◌, nat_eq, if◌then◌else◌, List, length, take, drop, Option, Some, None}
 use Rattle.std.specs.Cmp.Lexicographic.{pointwise}
 
 infixl 10 ◌>>=◌
@@ -19,3 +19,7 @@ before_suffix suffix bytes =
 abbrev pub found_or_none : List ℕ → Option (List ℕ × List ℕ) → Option (List ℕ) × List ℕ
 found_or_none bytes None = (None, bytes)
 found_or_none bytes (Some found) = (Some found.0, found.1)
+
+-- the signature, if the last part is 32 bytes with nothing after them
+abbrev pub last_signature : List ℕ × List ℕ → Option (List ℕ)
+last_signature part = if length part.0 == 32 && length part.1 == 0 then Some part.0 else None

@@ -1,8 +1,8 @@
 -- V1, parsed from the front: each function returns a value and the bytes after it.
-use Rattle.std.specs.Prelude.{ℕ, ◌+◌, ◌-◌, ◌*◌, nat_le, ◌==◌, ◌&&◌, if◌then◌else◌, List, [], ◌∷◌, length, take, drop, Option, Some, None, Result}
+use Rattle.std.specs.Prelude.{ℕ, ◌+◌, ◌-◌, ◌*◌, nat_le, ◌&&◌, if◌then◌else◌, List, [], ◌∷◌, length, take, drop, Option, Some, None, Result}
 use Rattle.pass_forms.specs.declared.fault.FormFault.{FormFault}
 use Rattle.pass_forms.specs.computed.Caveats.{whole_at}
-use Rattle.pass_forms.specs.computed.Parts.{◌>>=◌, after_prefix, before_suffix, found_or_none}
+use Rattle.pass_forms.specs.computed.Parts.{◌>>=◌, after_prefix, before_suffix, found_or_none, last_signature}
 use Rattle.pass_forms.specs.Pass.{Plain, WideCaveat, WidePass}
 use Rattle.pass_forms.specs.computed.Reading.{reading_of}
 use Rattle.pass_forms.specs.V1.{location_key, identifier_key, caveat_key, verifier_id_key, caveat_location_key, signature_key}
@@ -42,11 +42,9 @@ caveat_at bytes = do
       let location = optional_at caveat_location_key verifier_id.1 in
       Some (record { identifier = identifier.0; verifier_id = verifier_id.0; location = location.0 }, location.1)
 
--- the signature's packet, 32 bytes with nothing after them
+-- the signature's packet, the last one
 unfoldable pub signature_at : List ℕ → Option (List ℕ)
-signature_at bytes = do
-  signature ← packet_at signature_key bytes
-  if length signature.0 == 32 && length signature.1 == 0 then Some signature.0 else None
+signature_at bytes = packet_at signature_key bytes >>= last_signature
 
 -- the location, the identifier, and the bytes after them
 unfoldable pub header_at : List ℕ → Option (List ℕ × List ℕ × List ℕ)

@@ -1,9 +1,9 @@
 -- V2, parsed from the front: each function returns a value and the bytes after it.
-use Rattle.std.specs.Prelude.{ℕ, ◌+◌, ◌-◌, ◌*◌, nat_lt, nat_le, ◌==◌, ◌&&◌, if◌then◌else◌, List, [], ◌∷◌, length, take, drop, Option, Some, None, Result}
+use Rattle.std.specs.Prelude.{ℕ, ◌+◌, ◌-◌, ◌*◌, nat_lt, nat_le, ◌==◌, if◌then◌else◌, List, [], ◌∷◌, length, take, drop, Option, Some, None, Result}
 use Rattle.std.specs.Prelude.{unwrap_or}
 use Rattle.pass_forms.specs.declared.fault.FormFault.{FormFault}
 use Rattle.pass_forms.specs.computed.Caveats.{whole_at}
-use Rattle.pass_forms.specs.computed.Parts.{◌>>=◌, after_prefix, found_or_none}
+use Rattle.pass_forms.specs.computed.Parts.{◌>>=◌, after_prefix, found_or_none, last_signature}
 use Rattle.pass_forms.specs.Pass.{Plain, WideCaveat, WidePass}
 use Rattle.pass_forms.specs.computed.Reading.{reading_of}
 use Rattle.pass_forms.specs.V2.{location_type, identifier_type, verifier_id_type, signature_type, end_of_section}
@@ -45,12 +45,6 @@ caveat_at bytes = do
     rest,
   )
 
--- the signature's field, 32 bytes with nothing after them
-unfoldable pub signature_at : List ℕ → Option (List ℕ)
-signature_at bytes = do
-  signature ← field_at signature_type bytes
-  if length signature.0 == 32 && length signature.1 == 0 then Some signature.0 else None
-
 -- the header: the location, the identifier, and the bytes after it
 unfoldable pub header_at : List ℕ → Option (List ℕ × List ℕ × List ℕ)
 header_at bytes = do
@@ -59,11 +53,12 @@ header_at bytes = do
   rest ← after_prefix end_of_section identifier.1
   Some (unwrap_or (optional_at location_type first).0 [], identifier.0, rest)
 
--- the footer: the end of the caveats' sections, and the signature
+-- the footer: the end of the caveats' sections, and the signature's field
 unfoldable pub footer_at : List ℕ → Option (List ℕ)
 footer_at bytes = do
   rest ← after_prefix end_of_section bytes
-  signature_at rest
+  signature ← field_at signature_type rest
+  last_signature signature
 
 -- the whole pass
 abbrev pub wide_at : List ℕ → Option WidePass

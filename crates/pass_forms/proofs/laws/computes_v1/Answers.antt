@@ -1,5 +1,5 @@
-use Rattle.pass_forms.proofs.WholeV1.{wide_again, wide_takes}
+use Rattle.pass_forms.proofs.WholeV1.{computes_v1}
 use Rattle.pass_forms.proofs.laws.computes_v1.Goals as goal
 
 pub returns : goal.returns
-returns c bytes wide = (wide_again bytes wide, wide_takes bytes wide)
+returns c = computes_v1

@@ -1,5 +1,8 @@
-use Rattle.pass_forms.proofs.V1Exact.{one_v1}
+use Rattle.pass_forms.specs.V1.{SpellsV1}
+use Rattle.pass_forms.specs.computed.V1Reading.{wide_at}
+use Rattle.pass_forms.proofs.Checking.{one_each}
+use Rattle.pass_forms.proofs.WholeV1.{computes_v1}
 use Rattle.pass_forms.proofs.laws.one_pass_for_each_v1.Goals as goal
 
 pub returns : goal.returns
-returns c = one_v1
+returns c = one_each SpellsV1 wide_at computes_v1

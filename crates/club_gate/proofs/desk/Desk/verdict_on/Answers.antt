@@ -40,6 +40,6 @@ returns-in-Ok-read_json-clause-reads g c = record {
       let pass = c.in-Ok-read_json.pass in
       let found = ap (λ (f : Form). reading_in_form f bytes) c.in-Json.is ∙ c.in-Ok-read_json.ensures.computed in
       verdict_by_bytes club c.args.request.now c.args.moment c.args.form bytes pass c.verdict_of-in-Ok-read_json.result found
-      (IfOk-weaker c.verdict_of-in-Ok-read_json.result _ _ (λ verdict answered. answered pass c.over.ensures c.in-Ok-read_json.ensures.spelling.2)
+      (IfOk-weaker c.verdict_of-in-Ok-read_json.result _ _ (λ verdict answered. answered pass c.fields.ensures c.in-Ok-read_json.ensures.spelling.2)
       (c.verdict_of-in-Ok-read_json.ensures.returns was_clean club others represents));
 }

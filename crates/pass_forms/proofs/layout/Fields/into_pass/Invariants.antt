@@ -1,10 +1,10 @@
 -- The fields so far and those still to come make the whole pass.
 use Rattle.std.proofs.Common.{◌≡◌, length}
 use Rattle.pass_forms.specs.FieldSource.{with_fields}
-use Rattle.pass_forms.proofs.field_source.collect.Given as goal
+use Rattle.pass_forms.proofs.layout.Fields.into_pass.Given as goal
 
 abbrev pub invariant-loop-field : goal.invariant-loop-field
-invariant-loop-field g l = with_fields l.pass (g.S.FieldSource.left l.source) ≡ with_fields l.initial.pass (g.S.FieldSource.left l.initial.source)
+invariant-loop-field g l = with_fields l.pass l.self ≡ with_fields l.initial.pass l.initial.self
 
 abbrev pub decreases-loop-field : goal.decreases-loop-field
-decreases-loop-field g l = length (g.S.FieldSource.left l.source)
+decreases-loop-field g l = length l.self

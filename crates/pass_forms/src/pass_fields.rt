@@ -1,19 +1,19 @@
 //! The fields of a pass in memory, one after the other.
 
-use pass_forms::{Field, FieldSource, Pass};
+use crate::{Field, FieldSource};
 use std::marker::Model;
 
 /// The fields of a pass, without a copy. Contracts see them as the list of the fields that are
 /// left.
 #[derive(Drop)]
-pub struct JsonFields<'a> {
-    location: Option<&'a [u8]>,
-    identifier: Option<&'a [u8]>,
-    caveats: &'a [Vec<u8>],
-    signature: Option<[u8; 32]>,
+pub struct PassFields<'a> {
+    pub(crate) location: Option<&'a [u8]>,
+    pub(crate) identifier: Option<&'a [u8]>,
+    pub(crate) caveats: &'a [Vec<u8>],
+    pub(crate) signature: Option<[u8; 32]>,
 }
 
-impl<'a> Model for JsonFields<'a> {
+impl<'a> Model for PassFields<'a> {
     ghost use Rattle.std.specs.Prelude.{List, map};
     ghost use Rattle.pass_forms.specs.FieldSource.{PassField, those_left};
 
@@ -23,24 +23,7 @@ impl<'a> Model for JsonFields<'a> {
         (map (λ caveat. caveat.items) fields.caveats.now) fields.signature };
 }
 
-impl<'a> JsonFields<'a> {
-    ghost use Rattle.std.specs.Prelude.{◌≡◌};
-    ghost use Rattle.pass_forms.specs.FieldSource.{pass_fields};
-
-    /// All fields of a pass in memory. No memory is allocated: each field is a slice of the pass.
-    pub fn over(pass: &'a Pass) -> JsonFields<'a>
-        ensures { result ≡ pass_fields pass.now }
-    {
-        JsonFields {
-            location: Some(pass.location()),
-            identifier: Some(pass.identifier()),
-            caveats: pass.caveats(),
-            signature: Some(*pass.signature()),
-        }
-    }
-}
-
-impl<'a> FieldSource<'a> for JsonFields<'a> {
+impl<'a> FieldSource<'a> for PassFields<'a> {
     ghost left = { λ fields. fields };
 
     fn next(&mut self) -> Option<Field<'a>> {
@@ -58,8 +41,8 @@ impl<'a> FieldSource<'a> for JsonFields<'a> {
         Some(Field::Signature(signature))
     }
 
-    fn again(&self) -> JsonFields<'a> {
-        JsonFields {
+    fn again(&self) -> PassFields<'a> {
+        PassFields {
             location: self.location,
             identifier: self.identifier,
             caveats: self.caveats,

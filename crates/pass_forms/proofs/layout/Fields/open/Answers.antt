@@ -1,0 +1,14 @@
+use Rattle.std.proofs.Common.{◌∙◌, length, refl, ap, sym}
+use Rattle.pass_forms.specs.FieldSource.{opening_of}
+use Rattle.pass_forms.specs.Reading.{IsReadAs}
+use Rattle.pass_forms.proofs.Collecting.{opens}
+use Rattle.pass_forms.proofs.layout.Fields.open.Goals as goal
+
+pub returns-clause-computed : goal.returns-clause-computed
+returns-clause-computed g c = c.checked_fields.ensures ∙ ap opening_of (sym (c.reads_exactly.ensures.computed c.args.bytes.now))
+
+pub returns-clause-spelling : goal.returns-clause-spelling
+returns-clause-spelling g c =
+    let bytes = c.args.bytes.now in
+    let reading = g.L.Layout.reading bytes in
+    opens (IsReadAs (length bytes) (g.L.Layout.Spells bytes)) reading _ ((c.reads_exactly.ensures.spelling bytes reading).1 refl) (returns-clause-computed g c)
