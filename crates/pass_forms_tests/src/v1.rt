@@ -23,6 +23,13 @@ const AFTER: Piece = (
 const SIGNATURE: &[u8; 32] =
     b"\x19\x7b\xac\x7a\x04\x4a\xf3\x33\x32\x86\x5b\x92\x66\xe2\x6d\x49\x3b\xdd\x66\x8a\x66\x0e\x44\xd8\x8c\xe1\xa9\x98\xc2\x3d\xbd\x67";
 
+const KNOWN_FIELDS: Fields<'static> = Fields {
+    location: b"http://mybank/",
+    identifier: b"we used our secret key",
+    caveats: &[b"test = caveat"],
+    signature: SIGNATURE,
+};
+
 const ROOT: &[u8] = b"this is our super secret key; only we should know it";
 
 static KNOWN: [Piece; 3] = [BEFORE, CAVEAT, AFTER];
@@ -32,31 +39,22 @@ const X: &[u8] = b"x";
 static READ: [Read; 4] = [
     Read {
         pieces: &[BEFORE, CAVEAT, AFTER],
-        fields: Fields {
-            location: b"http://mybank/",
-            identifier: b"we used our secret key",
-            caveats: &[b"test = caveat"],
-            signature: SIGNATURE,
-        },
+        fields: KNOWN_FIELDS,
     },
     // The length of a packet rules, so its data may look like a packet.
     Read {
         pieces: &[BEFORE, (1, b"0014cid x\n000acid y\n"), AFTER],
         fields: Fields {
-            location: b"http://mybank/",
-            identifier: b"we used our secret key",
             caveats: &[b"x\n000acid y"],
-            signature: SIGNATURE,
+            ..KNOWN_FIELDS
         },
     },
     // The most caveats.
     Read {
         pieces: &[BEFORE, (64, b"000acid x\n"), AFTER],
         fields: Fields {
-            location: b"http://mybank/",
-            identifier: b"we used our secret key",
             caveats: &[X; 64],
-            signature: SIGNATURE,
+            ..KNOWN_FIELDS
         },
     },
     // An empty location is a location; every packet is there, and a caveat may be empty too.

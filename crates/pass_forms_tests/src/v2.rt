@@ -17,6 +17,13 @@ const AFTER: Piece = (
 const SIGNATURE: &[u8; 32] =
     b"\x7c\xde\xe7\x92\x51\x1c\x5b\xc6\xf5\x28\x48\x58\x05\xdf\xe9\xb2\x4e\x78\x5e\x28\xe2\xa9\x93\x01\xf9\xd7\x11\xc6\x09\xe3\x8e\xf7";
 
+const KEYID_FIELDS: Fields<'static> = Fields {
+    location: b"",
+    identifier: b"keyid",
+    caveats: &[],
+    signature: SIGNATURE,
+};
+
 static KNOWN: [Piece; 2] = [HEADER, AFTER];
 
 const GUESTS: &[u8] = b"guests <= 1";
@@ -26,76 +33,54 @@ static READ: [Read; 8] = [
         pieces: &[HEADER, AFTER],
         fields: Fields {
             location: b"http://example.org/",
-            identifier: b"keyid",
-            caveats: &[],
-            signature: SIGNATURE,
+            ..KEYID_FIELDS
         },
     },
     // The caveats are between the identifier and the signature.
     Read {
         pieces: &[KEYID, (1, b"\x02\x01x\x00\x02\x00\x00"), AFTER],
         fields: Fields {
-            location: b"",
-            identifier: b"keyid",
             caveats: &[b"x", b""],
-            signature: SIGNATURE,
+            ..KEYID_FIELDS
         },
     },
     // The header's location may be empty, which is the same as left out.
     Read {
         pieces: &[(1, b"\x02\x01\x00\x02\x05keyid\x00"), AFTER],
-        fields: Fields {
-            location: b"",
-            identifier: b"keyid",
-            caveats: &[],
-            signature: SIGNATURE,
-        },
+        fields: KEYID_FIELDS,
     },
     Read {
         pieces: &[KEYID, AFTER],
-        fields: Fields {
-            location: b"",
-            identifier: b"keyid",
-            caveats: &[],
-            signature: SIGNATURE,
-        },
+        fields: KEYID_FIELDS,
     },
     // A length of 127 takes one byte, of 128 and 200 two.
     Read {
         pieces: &[(1, b"\x02\x02\x7f"), (127, b"x"), (1, b"\x00"), AFTER],
         fields: Fields {
-            location: b"",
             identifier: &[b'x'; 127],
-            caveats: &[],
-            signature: SIGNATURE,
+            ..KEYID_FIELDS
         },
     },
     Read {
         pieces: &[(1, b"\x02\x02\x80\x01"), (128, b"x"), (1, b"\x00"), AFTER],
         fields: Fields {
-            location: b"",
             identifier: &[b'x'; 128],
-            caveats: &[],
-            signature: SIGNATURE,
+            ..KEYID_FIELDS
         },
     },
     Read {
         pieces: &[(1, b"\x02\x02\xc8\x01"), (200, b"x"), (1, b"\x00"), AFTER],
         fields: Fields {
-            location: b"",
             identifier: &[b'x'; 200],
-            caveats: &[],
-            signature: SIGNATURE,
+            ..KEYID_FIELDS
         },
     },
     // The most caveats.
     Read {
         pieces: &[KEYID, (64, b"\x02\x0bguests <= 1\x00"), AFTER],
         fields: Fields {
-            location: b"",
-            identifier: b"keyid",
             caveats: &[GUESTS; 64],
-            signature: SIGNATURE,
+            ..KEYID_FIELDS
         },
     },
 ];
