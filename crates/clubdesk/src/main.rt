@@ -8,6 +8,7 @@ ghost use Rattle.clubdesk_commands.specs.Fault.{IsNotText};
 use club_http::WriteOutlet;
 use clubdesk_commands::{Fault, not_text, run};
 use clubdesk_files::Files;
+use command_line::report;
 use desk_server::LogLines;
 use std::process::ExitCode;
 use std::{env, io};
@@ -16,8 +17,7 @@ fn main(rt: HostRuntime) -> ExitCode {
     let status = match run_here(&rt) {
         Ok(()) => 0,
         Err(fault) => {
-            // A failure of standard error can't be reported.
-            let _ = report(&rt, &fault);
+            report(&rt, &fault, matches!(&fault, Fault::Words(_)));
             fault.status()
         }
     };
@@ -46,13 +46,5 @@ fn given_words(rt: &HostRuntime) -> Result<Vec<String>, Fault>
         Ok(words) => Ok(words.collect(rt.alloc())?),
         Err(error) if error.kind() == io::ErrorKind::OutOfMemory => Err(Fault::Memory),
         Err(_) => Err(not_text(rt.alloc())),
-    }
-}
-
-// Prints the line of a fault; the text of `clap` ends its lines itself.
-fn report(rt: &impl Eprint, fault: &Fault) -> io::Result<()> {
-    match fault {
-        Fault::Words(text) => eprint!(rt; "{text}"),
-        _ => eprintln!(rt; "{fault}"),
     }
 }
