@@ -1,6 +1,7 @@
 -- The calls by which a reader gives a request (ours).
 use Rattle.std.specs.Prelude.{◌⊎◌, ℕ, ◌<◌, ◌≤◌, List, [], ◌++◌, length, take, Option, Some, None}
 use Rattle.http_request.specs.Frame.{IsWhole}
+use Rattle.http_request.specs.Limits.{max_request_len}
 
 -- what a call does: the reader before, how many bytes it returns, what the buffer holds, and the reader after
 abbrev pub Call : Type 0 → Type 1
@@ -21,7 +22,7 @@ pub record EndsWithNone {Reader : Type 0} (Fills : Call Reader) (old : Reader) (
   pub not_whole : ¬ (IsWhole bytes)
   pub none : Fills mid (Some 0) room new ⊎ Fills mid None room new
 
--- at most 16,640 bytes were read; no call was made once the request was whole, nor after one that gave none
+-- No more bytes were read than a request may have. No call was made once the request was whole, nor after one that gave none
 pub record ReadsNoFurther {Reader : Type 0} (Fills : Call Reader) (old : Reader) (bytes : List ℕ) (new : Reader) : Type 0 where
-  pub within : length bytes ≤ 16640
+  pub within : length bytes ≤ max_request_len
   pub calls : Gives Fills old bytes new ⊎ EndsWithNone Fills old bytes new

@@ -2,15 +2,16 @@
 use Rattle.std.specs.Prelude.{ℕ, ◌≤◌, ◌⊎◌, List, length, Option}
 use Rattle.std.specs.Io.KnownBytes.{Consumes, IsAtEnd}
 use Rattle.http_request.specs.Frame.{IsWhole}
+use Rattle.http_request.specs.Limits.{max_request_len}
 
 -- the bytes arrived, at most as many as a request may have; they begin with a whole request, or are the whole input
 pub record Receives (old new : Option (List ℕ)) (bytes : List ℕ) : Type 0 where
   pub came : Consumes old new bytes
-  pub within : length bytes ≤ 16640
+  pub within : length bytes ≤ max_request_len
   pub ends : IsWhole bytes ⊎ IsAtEnd new
 
 -- the bytes that arrived before the reader failed don't begin with a whole request
 pub record IsCutOff (old new : Option (List ℕ)) (bytes : List ℕ) : Type 0 where
   pub came : Consumes old new bytes
-  pub within : length bytes ≤ 16640
+  pub within : length bytes ≤ max_request_len
   pub cut : ¬ (IsWhole bytes)

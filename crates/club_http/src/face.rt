@@ -29,12 +29,14 @@ pub struct Face {
 
 impl Model for Face {
     ghost use Rattle.std.specs.Prelude.{◌≡◌, ℕ, ◌≤◌, List, take, vec_len};
+    ghost use Rattle.http_request.specs.Limits.{max_request_len};
 
     ghost Value = { List ℕ };
 
     ghost view = { λ face. take face.len face.buffer.items };
 
-    ghost invariant = { λ face. (vec_len face.buffer ≡ 16640) × (face.len ≤ 16640) };
+    ghost invariant = { λ face. (vec_len face.buffer ≡ max_request_len)
+        × (face.len ≤ max_request_len) };
 }
 
 /// The reply to the bytes of a request. The scan covers them.

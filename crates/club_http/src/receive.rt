@@ -2,6 +2,7 @@
 
 ghost use Rattle.std.specs.Prelude.{◌≡◌, ◌≤◌, [], length, take, IfErr, IfOk, MatchResult};
 ghost use Rattle.http_request.specs.Front.{Covers};
+ghost use Rattle.http_request.specs.Limits.{max_request_len};
 ghost use Rattle.club_http.specs.Calls.{ReadsNoFurther};
 ghost use Rattle.club_http.specs.Ends.{one_more};
 ghost use Rattle.club_http.specs.Received.{Receives, IsCutOff};
@@ -21,11 +22,11 @@ pub(crate) fn receive<R: Inlet>(
     room: &mut [u8],
     scan: &mut HeadScan,
 ) -> Result<usize, usize>
-    requires space { length room.old ≡ 16640 }
+    requires space { length room.old ≡ max_request_len }
     requires begins { Covers scan.old [] }
-    ensures received { IfOk result (λ n. (n ≤ 16640) × Covers scan.new (take n room.new)
+    ensures received { IfOk result (λ n. (n ≤ max_request_len) × Covers scan.new (take n room.new)
         × Receives (R.to_come reader.old) (R.to_come reader.new) (take n room.new)) }
-    ensures cut_off { IfErr result (λ n. (n ≤ 16640)
+    ensures cut_off { IfErr result (λ n. (n ≤ max_request_len)
         × IsCutOff (R.to_come reader.old) (R.to_come reader.new) (take n room.new)) }
     ensures calls { MatchResult result
         (λ n. ReadsNoFurther R.fills reader.old (take n room.new) reader.new)
