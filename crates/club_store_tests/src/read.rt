@@ -3,12 +3,7 @@
 use crate::rows::{AMY_1, DAY};
 use crate::tables::{Expected, Step, Tables};
 use std::test::*;
-use test_kit::{BOOKING_7, COURT, COURT_AT_18, PlainSlot};
-
-const COURT_AT_19: PlainSlot = PlainSlot {
-    hour: 19,
-    ..COURT_AT_18
-};
+use test_kit::{BOOKING_7, COURT, COURT_AT_18, COURT_AT_19};
 
 static MEMBERS: [Step; 2] = [
     Step::Expects(Expected::Member("amy", Some((10_000, 600)))),

@@ -4,7 +4,7 @@
 
 use crate::expect::expect_eq;
 use crate::steps::{Step, plays};
-use crate::versions::{MIGRATED, NOBODY, OLDER_ROOTS, database, fill, runs, version};
+use crate::versions::{MIGRATED, NOBODY, database, fill, runs, version};
 use club_core::StoreFault;
 use club_store::Store;
 use sqlite::{Alter, Connection, FileFrom, FileStore, MemStore, Unknown};
@@ -12,6 +12,7 @@ use std::alloc::Global;
 use std::process::Abort;
 use std::test::Fail;
 use std::{env, fs, process};
+use test_kit::version_1::OLDER_ROOTS;
 
 /// What a database holds before it is opened.
 #[derive(Clone, Copy)]

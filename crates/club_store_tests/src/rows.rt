@@ -31,10 +31,8 @@ pub(crate) const AMY_1: Kept = Kept {
 };
 
 pub(crate) const REVOKED: Kept = Kept {
-    name: "amy-1",
-    root: ROOT,
-    older: None,
     revoked: true,
+    ..AMY_1
 };
 
 /// The room's booking, cancelled.

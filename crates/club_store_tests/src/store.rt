@@ -5,27 +5,8 @@ use crate::steps::{Asked, Shown, Step, empty, plays, plays_again, with_bookings,
 use crate::write::Write;
 use std::test::*;
 use test_kit::{
-    BOOKING_7, BOOKING_8, COURT_AT_18, FRIDAY, PlainBooking, PlainSlot, ROOM, ROOM_AT_18,
-};
-
-const COURT_AT_9: PlainSlot = PlainSlot {
-    hour: 9,
-    ..COURT_AT_18
-};
-
-const ROOM_AT_9: PlainSlot = PlainSlot {
-    hour: 9,
-    ..ROOM_AT_18
-};
-
-const COURT_AT_10: PlainSlot = PlainSlot {
-    hour: 10,
-    ..COURT_AT_18
-};
-
-const ROOM_AT_10: PlainSlot = PlainSlot {
-    hour: 10,
-    ..ROOM_AT_18
+    BOOKING_7, BOOKING_8, COURT_AT_9, COURT_AT_10, COURT_AT_18, FRIDAY, PlainBooking, PlainSlot,
+    ROOM, ROOM_AT_9, ROOM_AT_10, ROOM_AT_18,
 };
 
 static UNKNOWN: [Step; 1] = [Step::Shows(Shown::Member(None))];

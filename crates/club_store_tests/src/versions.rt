@@ -13,85 +13,7 @@ use std::process::Abort;
 use std::test::*;
 use test_kit::BOOKING_7;
 use test_kit::roots::{ROOT, SECOND_ROOT, THIRD_ROOT};
-
-const DESK: &str = "CREATE TABLE desk (version INTEGER NOT NULL) STRICT";
-
-const FACILITIES: &str = "CREATE TABLE facilities (\
-    name TEXT NOT NULL PRIMARY KEY, \
-    kind TEXT NOT NULL, \
-    places INTEGER NOT NULL CHECK (places BETWEEN 1 AND 50), \
-    price INTEGER NOT NULL CHECK (price BETWEEN 0 AND 9999), \
-    opens INTEGER NOT NULL CHECK (opens BETWEEN 0 AND 23), \
-    shuts INTEGER NOT NULL CHECK (shuts BETWEEN 1 AND 24)\
-) STRICT";
-
-const KEYS: &str = "CREATE TABLE keys (\
-    name TEXT NOT NULL PRIMARY KEY, \
-    member TEXT NOT NULL REFERENCES members (name), \
-    root BLOB NOT NULL, \
-    revoked INTEGER NOT NULL CHECK (revoked BETWEEN 0 AND 1)\
-) STRICT";
-
-const BOOKINGS: &str = "CREATE TABLE bookings (\
-    pass_key TEXT NOT NULL REFERENCES keys (name), \
-    number INTEGER NOT NULL CHECK (number BETWEEN 1 AND 999999999), \
-    facility TEXT NOT NULL REFERENCES facilities (name), \
-    day INTEGER NOT NULL CHECK (day BETWEEN 10957 AND 47481), \
-    hour INTEGER NOT NULL CHECK (hour BETWEEN 0 AND 23), \
-    guests INTEGER NOT NULL CHECK (guests BETWEEN 0 AND 49), \
-    charge INTEGER NOT NULL CHECK (charge BETWEEN 0 AND 499950), \
-    remains INTEGER NOT NULL CHECK (remains BETWEEN 0 AND 49), \
-    cancelled INTEGER NOT NULL CHECK (cancelled BETWEEN 0 AND 1), \
-    refund INTEGER NOT NULL CHECK (refund BETWEEN 0 AND 499950), \
-    PRIMARY KEY (pass_key, number)\
-) STRICT";
-
-/// The tables of version 1.
-static TABLES: [&str; 8] = [
-    DESK,
-    "CREATE TABLE members (\
-        name TEXT NOT NULL PRIMARY KEY, \
-        credited INTEGER NOT NULL CHECK (credited BETWEEN 0 AND 999999999), \
-        quota INTEGER NOT NULL CHECK (quota BETWEEN 0 AND 99), \
-        used INTEGER NOT NULL CHECK (used BETWEEN 0 AND 999999999)\
-    ) STRICT",
-    FACILITIES,
-    KEYS,
-    "CREATE TABLE slots (\
-        facility TEXT NOT NULL REFERENCES facilities (name), \
-        day INTEGER NOT NULL CHECK (day BETWEEN 10957 AND 47481), \
-        hour INTEGER NOT NULL CHECK (hour BETWEEN 0 AND 23), \
-        closed INTEGER NOT NULL CHECK (closed BETWEEN 0 AND 1), \
-        taken INTEGER NOT NULL, \
-        PRIMARY KEY (facility, day, hour)\
-    ) STRICT",
-    BOOKINGS,
-    "CREATE INDEX keys_by_member ON keys (member)",
-    "INSERT INTO desk (version) VALUES (1)",
-];
-
-/// What makes tables of version 1 those of version 2, without the index of the bookings.
-pub(crate) static OLDER_ROOTS: [&str; 2] = [
-    "CREATE TABLE old_roots (\
-        pass_key TEXT NOT NULL PRIMARY KEY REFERENCES keys (name), \
-        root BLOB NOT NULL, \
-        until INTEGER NOT NULL CHECK (until BETWEEN 15778080 AND 68374079)\
-    ) STRICT",
-    "UPDATE desk SET version = 2",
-];
-
-/// Booking 7 was charged 600 for three persons; booking 8 was charged 601 and is cancelled with a
-/// refund of 300.
-static ROWS: [&str; 8] = [
-    "INSERT INTO members VALUES ('amy', 10000, 5, 901)",
-    "INSERT INTO facilities VALUES ('court-1', 'court', 4, 200, 8, 22)",
-    "INSERT INTO facilities VALUES ('room-1', 'room', 1, 601, 8, 22)",
-    "INSERT INTO keys VALUES ('amy-1', 'amy', X'00112233445566778899AABBCCDDEEFF', 0)",
-    "INSERT INTO slots VALUES ('court-1', 20574, 18, 0, 3)",
-    "INSERT INTO slots VALUES ('room-1', 20574, 18, 0, 0)",
-    "INSERT INTO bookings VALUES ('amy-1', 7, 'court-1', 20574, 18, 2, 600, 1, 0, 0)",
-    "INSERT INTO bookings VALUES ('amy-1', 8, 'room-1', 20574, 18, 0, 601, 0, 1, 300)",
-];
+use test_kit::version_1::{DESK, OLDER_ROOTS, STATEMENTS, WITHOUT_TOTALS};
 
 /// Runs these statements.
 pub(crate) fn runs<S: Alter>(rt: &impl Abort, connection: &mut Connection<S>, texts: &[&str]) {
@@ -102,8 +24,7 @@ pub(crate) fn runs<S: Alter>(rt: &impl Abort, connection: &mut Connection<S>, te
 
 /// Makes the tables of version 1, and their rows.
 pub(crate) fn fill<S: Alter>(rt: &impl Abort, connection: &mut Connection<S>) {
-    runs(rt, connection, &TABLES);
-    runs(rt, connection, &ROWS);
+    runs(rt, connection, &STATEMENTS);
 }
 
 pub(crate) fn database(rt: &(impl Abort + Alloc<A = Global>)) -> Connection<MemStore> {
@@ -228,6 +149,7 @@ fn replaces_a_root(rt: HostRuntime) {
 }
 
 /// The statements of a database that is no club's, and the version that it has.
+#[derive(Clone, Copy)]
 struct Other {
     texts: &'static [&'static str],
     version: Option<i64>,
@@ -282,32 +204,6 @@ static UNINDEXED: [Other; 2] = [
     },
 ];
 
-/// Tables of version 1 as they were before they held what a member has used and what is taken of a
-/// slot.
-static WITHOUT_TOTALS: Other = Other {
-    texts: &[
-        DESK,
-        "CREATE TABLE members (\
-            name TEXT NOT NULL PRIMARY KEY, \
-            credited INTEGER NOT NULL CHECK (credited BETWEEN 0 AND 999999999), \
-            quota INTEGER NOT NULL CHECK (quota BETWEEN 0 AND 99)\
-        ) STRICT",
-        FACILITIES,
-        KEYS,
-        "CREATE TABLE slots (\
-            facility TEXT NOT NULL REFERENCES facilities (name), \
-            day INTEGER NOT NULL CHECK (day BETWEEN 10957 AND 47481), \
-            hour INTEGER NOT NULL CHECK (hour BETWEEN 0 AND 23), \
-            closed INTEGER NOT NULL CHECK (closed BETWEEN 0 AND 1), \
-            PRIMARY KEY (facility, day, hour)\
-        ) STRICT",
-        BOOKINGS,
-        "INSERT INTO desk (version) VALUES (1)",
-        "INSERT INTO members VALUES ('amy', 10000, 5)",
-    ],
-    version: Some(1),
-};
-
 /// The version of a database, where it has one.
 pub(crate) fn version<S: Alter>(connection: &mut Connection<S>) -> Option<i64> {
     let row = connection.query_row("SELECT version FROM desk", &[]).ok()?;
@@ -336,7 +232,11 @@ fn refuses_other_databases(rt: HostRuntime) {
 
 #[test]
 fn refuses_tables_without_totals(rt: HostRuntime) {
-    is_refused(&rt, database(&rt), &WITHOUT_TOTALS);
+    let other = Other {
+        texts: &WITHOUT_TOTALS,
+        version: Some(1),
+    };
+    is_refused(&rt, database(&rt), &other);
 }
 
 /// Another version is left as it was.

@@ -1,26 +1,16 @@
 //! Tests of the changes: the rows that each leaves.
 
-use crate::rows::{DAY, Kept, Older};
+use crate::rows::{AMY_1, DAY, Kept, Older, REVOKED};
 use crate::tables::{Expected, Step, Tables};
 use crate::write::Write;
 use std::test::*;
 use test_kit::roots::{ROOT, SECOND_ROOT};
-use test_kit::{BOOKING_7, COURT_AT_18, PlainBooking, PlainSlot};
-
-const COURT_AT_19: PlainSlot = PlainSlot {
-    hour: 19,
-    ..COURT_AT_18
-};
+use test_kit::{BOOKING_7, COURT_AT_18, COURT_AT_19, PlainBooking};
 
 /// The court's booking, cancelled for half its price.
 const CANCELLED_7: PlainBooking = PlainBooking {
-    key: "amy-1",
-    number: 7,
-    slot: COURT_AT_18,
-    guests: 2,
-    charge: 600,
-    left: 1,
     refund: Some(300),
+    ..BOOKING_7
 };
 
 /// The refund goes back to the member and the key, and the places to the slot.
@@ -55,17 +45,13 @@ fn closed_slots(rt: HostRuntime) {
 const OLDER: Older = Older(ROOT, "2026-04-25T00:00");
 
 const ROTATED: Kept = Kept {
-    name: "amy-1",
     root: SECOND_ROOT,
-    older: None,
-    revoked: false,
+    ..AMY_1
 };
 
 const ROTATED_AND_REVOKED: Kept = Kept {
-    name: "amy-1",
     root: SECOND_ROOT,
-    older: None,
-    revoked: true,
+    ..REVOKED
 };
 
 /// An older root has a row in a table of its own.
