@@ -1,23 +1,23 @@
 //! With ample memory and storage every call answers, and none fails for lack of them.
 
 use crate::at_once;
-use crate::caveats::{CAVEATS, SPENDS, WEEKDAYS};
-use crate::counter::{Step, plays_in_all_forms};
+use crate::caveats::WEEKDAYS;
+use crate::counter::{plays_in_all_forms, plays_list_in_all_forms};
 use crate::law::{answers_behind_lists, books_from_nothing};
 use crate::ledger::TOTALS;
 use crate::lists::play_lists;
 use crate::rotation::{FOR_A_WHILE, PAST, TWICE};
-use crate::rows::{
-    ALONE, BESIDE_BOB, CLOSES, LIMITS, REFUNDS, REPEATS, VERIFIES, WINDOW, expect_sheets,
-};
+use crate::rows::{ALONE, BESIDE_BOB, CLOSES, LIMITS, VERIFIES, expect_sheets};
 use crate::texts::expect_text;
 use std::alloc::Global;
 use std::process::Abort;
 use std::test::*;
+use test_kit::PlainStep;
+use test_kit::lists::{CAVEATS, REFUNDS, REPEATS, SPENDS, WINDOW};
 
 /// The worked rows of bookings and cancellations, each in every form of a pass.
 fn play_bookings(rt: &(impl Abort + Alloc<A = Global>)) {
-    plays_in_all_forms(rt, &REPEATS);
+    plays_list_in_all_forms(rt, &REPEATS);
     plays_in_all_forms(rt, &ALONE);
     plays_in_all_forms(rt, &BESIDE_BOB);
     plays_in_all_forms(rt, &LIMITS);
@@ -28,23 +28,23 @@ fn play_bookings(rt: &(impl Abort + Alloc<A = Global>)) {
 /// Those of passes, their caveats and their keys' roots.
 fn play_passes(rt: &(impl Abort + Alloc<A = Global>)) {
     plays_in_all_forms(rt, &VERIFIES);
-    plays_in_all_forms(rt, &SPENDS);
-    plays_in_all_forms(rt, &CAVEATS);
+    plays_list_in_all_forms(rt, &SPENDS);
+    plays_list_in_all_forms(rt, &CAVEATS);
     plays_in_all_forms(rt, &WEEKDAYS);
     plays_in_all_forms(rt, &FOR_A_WHILE);
     plays_in_all_forms(rt, &PAST);
     plays_in_all_forms(rt, &TWICE);
 }
 
-fn play_each(rt: &(impl Abort + Alloc<A = Global>), rows: &[Step]) {
-    for step in rows {
-        plays_in_all_forms(rt, &[*step]);
+fn play_each(rt: &(impl Abort + Alloc<A = Global>), list: &[PlainStep]) {
+    for step in list {
+        plays_list_in_all_forms(rt, &[*step]);
     }
 }
 
 fn play_refunds(rt: &(impl Abort + Alloc<A = Global>)) {
-    for steps in &REFUNDS {
-        plays_in_all_forms(rt, steps);
+    for list in &REFUNDS {
+        plays_list_in_all_forms(rt, list);
     }
 }
 

@@ -2,17 +2,17 @@
 
 use crate::counter::{MemoryDesk, empty_desk};
 use crate::happens::{Happens, events, expect_replies};
-use crate::known;
-use crate::known::{BOB_SIGNED, BOB_SIGNED_AGAIN, BOBS, CY_SIGNED, CYS, SIGNED};
+use crate::known::{BOB_SIGNED, BOB_SIGNED_AGAIN, CY_SIGNED, SIGNED};
 use crate::values::push;
 use club_gate::OfficeReply;
 use club_values::Kind;
 use std::alloc::Global;
 use std::process::Abort;
-use test_kit::replies::{ACCOUNT_AFTER, BOOKED_7, CANCELLED_7};
-use test_kit::requests::{ACCOUNT, BOOK_7, CANCEL_7};
+use test_kit::passes::{AMY_JSON, AMY_V1, AMY_V2, BOB_V2, CY_V2};
+use test_kit::replies::{ACCOUNT_AFTER, BOOKED_2, BOOKED_7, CANCELLED_7, FILLED_BY_7};
+use test_kit::requests::{ACCOUNT, BOOK_2, BOOK_7, CANCEL_7};
 use test_kit::roots::ROOT;
-use test_kit::{COURT_AT_18, FRIDAY, Order, PlainReply, PlainRequest, PlainSlot};
+use test_kit::{FRIDAY, Order, PlainReply, PlainRequest, PlainSlot};
 
 const DONE: OfficeReply = OfficeReply::Done;
 
@@ -45,19 +45,19 @@ struct List {
 /// In each form of her pass.
 static LISTS: [List; 3] = [
     List {
-        books: Happens::Asked(known::V1, BOOK_7, BOOKED_7),
-        asks: Happens::Asked(known::V1, ACCOUNT, ACCOUNT_AFTER),
-        cancels: Happens::Asked(known::V1, CANCEL_7, CANCELLED_7),
+        books: Happens::Asked(AMY_V1, BOOK_7, BOOKED_7),
+        asks: Happens::Asked(AMY_V1, ACCOUNT, ACCOUNT_AFTER),
+        cancels: Happens::Asked(AMY_V1, CANCEL_7, CANCELLED_7),
     },
     List {
-        books: Happens::Asked(known::V2, BOOK_7, BOOKED_7),
-        asks: Happens::Asked(known::V2, ACCOUNT, ACCOUNT_AFTER),
-        cancels: Happens::Asked(known::V2, CANCEL_7, CANCELLED_7),
+        books: Happens::Asked(AMY_V2, BOOK_7, BOOKED_7),
+        asks: Happens::Asked(AMY_V2, ACCOUNT, ACCOUNT_AFTER),
+        cancels: Happens::Asked(AMY_V2, CANCEL_7, CANCELLED_7),
     },
     List {
-        books: Happens::Asked(known::JSON, BOOK_7, BOOKED_7),
-        asks: Happens::Asked(known::JSON, ACCOUNT, ACCOUNT_AFTER),
-        cancels: Happens::Asked(known::JSON, CANCEL_7, CANCELLED_7),
+        books: Happens::Asked(AMY_JSON, BOOK_7, BOOKED_7),
+        asks: Happens::Asked(AMY_JSON, ACCOUNT, ACCOUNT_AFTER),
+        cancels: Happens::Asked(AMY_JSON, CANCEL_7, CANCELLED_7),
     },
 ];
 
@@ -101,7 +101,7 @@ fn cys(day: u16, hour: u8, number: u32) -> Happens {
         hour,
     };
     let booked = PlainReply::Booked("cy-1", number, 400, 2);
-    Happens::Asked(CYS, PlainRequest::Book(slot, number, 1), booked)
+    Happens::Asked(CY_V2, PlainRequest::Book(slot, number, 1), booked)
 }
 
 /// Ten bookings of cy's on a day, from this number on.
@@ -125,18 +125,12 @@ fn among_others(rt: &(impl Abort + Alloc<A = Global>), list: &List) -> Vec<Happe
     rows
 }
 
-const BOOK_2: PlainRequest = PlainRequest::Book(COURT_AT_18, 2, 0);
-
-const BOOKED_2: PlainReply = PlainReply::Booked("bob-1", 2, 200, 3);
-
-/// Amy's booking if bob has a place of the slot.
-const BOOKED_LAST: PlainReply = PlainReply::Booked("amy-1", 7, 600, 0);
-
+/// Amy's list if bob has a place of the slot.
 static BESIDE_BOB: [Happens; 4] = [
-    Happens::Asked(BOBS, BOOK_2, BOOKED_2),
-    Happens::Asked(known::V2, BOOK_7, BOOKED_LAST),
-    Happens::Asked(known::V2, ACCOUNT, ACCOUNT_AFTER),
-    Happens::Asked(known::V2, CANCEL_7, CANCELLED_7),
+    Happens::Asked(BOB_V2, BOOK_2, BOOKED_2),
+    Happens::Asked(AMY_V2, BOOK_7, FILLED_BY_7),
+    Happens::Asked(AMY_V2, ACCOUNT, ACCOUNT_AFTER),
+    Happens::Asked(AMY_V2, CANCEL_7, CANCELLED_7),
 ];
 
 /// With ample memory a run of amy's list answers, alone and among others, and doesn't fail.

@@ -1,57 +1,23 @@
 //! The worked rows of caveats, each in every form of a pass.
 
-use crate::counter::{Step, plays_in_all_forms};
+use crate::counter::{Step, plays_in_all_forms, plays_list_in_all_forms};
 use crate::passes::Shown;
-use club_core::Refusal;
 use std::test::*;
+use test_kit::lists::{CAVEATS, SPENDS};
 use test_kit::minutes::NOON;
-use test_kit::replies::{BOOKED_7, CANCELLED_7, DENIED_1};
-use test_kit::requests::{ACCOUNT, BOOK_7, CANCEL_7};
+use test_kit::replies::{BOOKED_7, DENIED_1, NOT_UNDERSTOOD_1};
+use test_kit::requests::{ACCOUNT, BOOK_7};
 use test_kit::roots::ROOT;
-use test_kit::{COURT_AT_18, FRIDAY, PlainReply, PlainRequest, PlainSlot};
-
-const SPENDS_600: Shown = Shown::Of("amy-1", ROOT, &["spend <= 600"]);
-
-const BOOK_8_AT_19: PlainRequest = PlainRequest::Book(
-    PlainSlot {
-        hour: 19,
-        ..COURT_AT_18
-    },
-    8,
-    0,
-);
-
-const BOOKED_8: PlainReply = PlainReply::Booked("amy-1", 8, 200, 3);
-
-pub(crate) static SPENDS: [Step; 4] = [
-    Step::Asks(NOON, SPENDS_600, BOOK_7, BOOKED_7),
-    Step::Asks(NOON, SPENDS_600, BOOK_8_AT_19, DENIED_1),
-    Step::Asks(NOON, SPENDS_600, CANCEL_7, CANCELLED_7),
-    Step::Asks(NOON, SPENDS_600, BOOK_8_AT_19, BOOKED_8),
-];
+use test_kit::{COURT_AT_18, FRIDAY, PlainRequest, PlainSlot};
 
 #[test]
 fn keeps_a_spend_limit(rt: HostRuntime) {
-    plays_in_all_forms(&rt, &SPENDS);
+    plays_list_in_all_forms(&rt, &SPENDS);
 }
-
-const AT_THE_COURT: Shown = Shown::Of("amy-1", ROOT, &["facility = court-1"]);
-
-const ODD: Shown = Shown::Of("amy-1", ROOT, &["guests <= 0", "shoe = red"]);
-
-const BOOK_7_ALONE: PlainRequest = PlainRequest::Book(COURT_AT_18, 7, 0);
-
-const NOT_UNDERSTOOD_2: PlainReply = PlainReply::Refused(Refusal::CaveatNotUnderstood(2));
-
-pub(crate) static CAVEATS: [Step; 3] = [
-    Step::Asks(NOON, AT_THE_COURT, ACCOUNT, DENIED_1),
-    Step::Asks(NOON, ODD, BOOK_7, DENIED_1),
-    Step::Asks(NOON, ODD, BOOK_7_ALONE, NOT_UNDERSTOOD_2),
-];
 
 #[test]
 fn tests_caveats(rt: HostRuntime) {
-    plays_in_all_forms(&rt, &CAVEATS);
+    plays_list_in_all_forms(&rt, &CAVEATS);
 }
 
 const FRIDAYS: Shown = Shown::Of("amy-1", ROOT, &["weekday = fri"]);
@@ -75,8 +41,6 @@ const A_DAY_LATER: PlainSlot = PlainSlot {
 };
 
 const BOOK_8_A_DAY_LATER: PlainRequest = PlainRequest::Book(A_DAY_LATER, 8, 0);
-
-const NOT_UNDERSTOOD_1: PlainReply = PlainReply::Refused(Refusal::CaveatNotUnderstood(1));
 
 /// The slot's day is a Friday.
 pub(crate) static WEEKDAYS: [Step; 8] = [

@@ -6,11 +6,13 @@ use crate::values::at;
 use club_core::{ClubStore, Reply};
 use club_gate::{Desk, OfficeReply, Words};
 use club_store::Store;
+use club_values::Moment;
 use pass_forms::Form;
 use sqlite::MemStore;
 use std::alloc::Global;
 use std::process::Abort;
-use test_kit::{FIXTURE, Order, PlainReply, PlainRequest};
+use test_kit::roots::ROOT;
+use test_kit::{FIXTURE, Order, PlainPass, PlainReply, PlainRequest, PlainStep};
 
 pub(crate) type MemoryDesk = Desk<Store<MemStore>>;
 
@@ -30,6 +32,15 @@ pub(crate) enum Step {
     Orders(Order),
     /// An order of the office, and its answer.
     IsAnswered(Order, OfficeReply),
+}
+
+impl Step {
+    /// The step of a worked list.
+    fn of(rt: &impl Abort, step: &PlainStep) -> Step {
+        let PlainStep(at, PlainPass(key, caveats), asked, reply) = *step;
+        let moment = Moment::read(at.as_bytes()).expect(rt, "a moment");
+        Step::Asks(moment.number(), Shown::Of(key, ROOT, caveats), asked, reply)
+    }
 }
 
 /// A desk over the tables of an empty club.
@@ -102,6 +113,13 @@ impl Counter {
             self.play(rt, row, step);
         }
     }
+
+    /// The same of a worked list.
+    fn plays_list(&mut self, rt: &(impl Abort + Alloc<A = Global>), list: &[PlainStep]) {
+        for (row, step) in list.iter().enumerate() {
+            self.play(rt, row, &Step::of(rt, step));
+        }
+    }
 }
 
 /// Ends the test unless a desk of the fixture gives the replies of these steps, in each form.
@@ -109,5 +127,13 @@ pub(crate) fn plays_in_all_forms(rt: &(impl Abort + Alloc<A = Global>), steps: &
     for form in &FORMS {
         let mut counter = opened(rt, *form);
         counter.plays(rt, steps);
+    }
+}
+
+/// The same of a worked list.
+pub(crate) fn plays_list_in_all_forms(rt: &(impl Abort + Alloc<A = Global>), list: &[PlainStep]) {
+    for form in &FORMS {
+        let mut counter = opened(rt, *form);
+        counter.plays_list(rt, list);
     }
 }

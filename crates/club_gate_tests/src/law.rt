@@ -2,7 +2,6 @@
 
 use crate::expect::expect_eq;
 use crate::happens::{Happens, events, expect_replies};
-use crate::known;
 use crate::known::SIGNED;
 use crate::values::at;
 use club_core::Request;
@@ -16,6 +15,7 @@ use std::alloc::Global;
 use std::process::Abort;
 use std::test::*;
 use test_kit::minutes::NOON;
+use test_kit::passes::{AMY_JSON, AMY_V1, AMY_V2};
 use test_kit::replies::{ACCOUNT_AFTER, BOOKED_7, NOT_VERIFIED};
 use test_kit::requests::{ACCOUNT, BOOK_7};
 use test_kit::roots::ROOT;
@@ -31,10 +31,10 @@ static BOOKS: [Happens; 8] = [
         OfficeReply::Done,
     ),
     Happens::Ordered(Order::AddKey("amy-1", "amy", ROOT), SIGNED),
-    Happens::Asked(known::V2, BOOK_7, BOOKED_7),
-    Happens::Asked(known::V1, BOOK_7, BOOKED_7),
-    Happens::Asked(known::JSON, BOOK_7, BOOKED_7),
-    Happens::Asked(known::V1, ACCOUNT, ACCOUNT_AFTER),
+    Happens::Asked(AMY_V2, BOOK_7, BOOKED_7),
+    Happens::Asked(AMY_V1, BOOK_7, BOOKED_7),
+    Happens::Asked(AMY_JSON, BOOK_7, BOOKED_7),
+    Happens::Asked(AMY_V1, ACCOUNT, ACCOUNT_AFTER),
 ];
 
 pub(crate) fn books_from_nothing(rt: &(impl Abort + Alloc<A = Global>)) {
@@ -51,7 +51,7 @@ fn books_once_in_three_forms(rt: HostRuntime) {
 /// Ends the test unless a request for the account after these events gets this reply.
 fn expect_reply_after(rt: &(impl Abort + Alloc<A = Global>), rows: &[Happens], want: &PlainReply) {
     let words = Words {
-        pass: known::V1.as_bytes(),
+        pass: AMY_V1.as_bytes(),
         request: Request::Account,
     };
     let events = events(rt, rows);

@@ -15,7 +15,7 @@ use test_kit::minutes::{NOON, START};
 use test_kit::replies::{ACCOUNT_BEFORE, BOOKED_7, HALF_BACK, ROOM_BOOKED};
 use test_kit::requests::{ACCOUNT, BOOK_7, BOOK_ROOM, CANCEL_ROOM};
 use test_kit::roots::ROOT;
-use test_kit::{COURT_AT_18, Order, PlainReply, PlainSlot};
+use test_kit::{COURT_AT_18, COURT_AT_22, Order, PlainReply, PlainSlot};
 
 const ONE_LEFT: PlainReply = PlainReply::AccountShown(9_099, 1, 901);
 
@@ -101,10 +101,7 @@ const TOO_MANY_PLACES: Order = Order::AddFacility("court-2", Kind::Court, 51, 20
 
 const NEVER_OPEN: Order = Order::AddFacility("court-2", Kind::Court, 4, 200, 22, 22);
 
-const CLOSE_AT_22: Order = Order::CloseSlot(PlainSlot {
-    hour: 22,
-    ..COURT_AT_18
-});
+const CLOSE_AT_22: Order = Order::CloseSlot(COURT_AT_22);
 
 const CLOSE_ELSEWHERE: Order = Order::CloseSlot(PlainSlot {
     facility: "court-2",

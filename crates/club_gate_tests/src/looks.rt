@@ -14,7 +14,7 @@ use test_kit::minutes::{NOON, START};
 use test_kit::replies::{BOOKED_7, CANCELLED_7};
 use test_kit::requests::{BOOK_7, CANCEL_7};
 use test_kit::roots::SECOND_ROOT;
-use test_kit::{COURT_AT_18, Order, PlainSlot, ROOM_AT_18};
+use test_kit::{COURT_AT_18, Order, PlainSlot, ROOM_AT_23};
 
 /// What is looked at.
 #[derive(Clone, Copy)]
@@ -42,90 +42,34 @@ struct Row {
     looks: &'static [(Look, &'static str)],
 }
 
-const BOB: &str = "\
-member bob
-balance 10000
-quota 5
-open 0
-spent 0
-revoked no
-older root none
-";
+const BOB: &str =
+    "member bob\nbalance 10000\nquota 5\nopen 0\nspent 0\nrevoked no\nolder root none\n";
 
-const AMY_BOOKED: &str = "\
-member amy
-balance 9400
-quota 5
-open 1
-spent 600
-revoked no
-older root none
-";
+const AMY_BOOKED: &str =
+    "member amy\nbalance 9400\nquota 5\nopen 1\nspent 600\nrevoked no\nolder root none\n";
 
 // The slot has begun, so it is open no more.
-const AMY_BEGUN: &str = "\
-member amy
-balance 9400
-quota 5
-open 0
-spent 600
-revoked no
-older root none
-";
+const AMY_BEGUN: &str =
+    "member amy\nbalance 9400\nquota 5\nopen 0\nspent 600\nrevoked no\nolder root none\n";
 
-const AMY_ROTATED: &str = "\
-member amy
-balance 9400
-quota 5
-open 1
-spent 600
-revoked no
-older root until 2026-05-01T17:59
-";
+const AMY_ROTATED: &str = "member amy\nbalance 9400\nquota 5\nopen 1\nspent 600\nrevoked no\n\
+    older root until 2026-05-01T17:59\n";
 
-const AMY_REVOKED: &str = "\
-member amy
-balance 10000
-quota 5
-open 0
-spent 0
-revoked yes
-older root until 2026-05-01T17:59
-";
+const AMY_REVOKED: &str = "member amy\nbalance 10000\nquota 5\nopen 0\nspent 0\nrevoked yes\n\
+    older root until 2026-05-01T17:59\n";
 
-const COURT_TAKEN: &str = "\
-facility court-1
-day 2026-05-01
-hour 18
-kind court
-price 200
-places 4
-taken 3
-closed no
-";
+const COURT_TAKEN: &str =
+    "facility court-1\nday 2026-05-01\nhour 18\nkind court\nprice 200\nplaces 4\ntaken 3\n\
+    closed no\n";
 
-const COURT_CLOSED: &str = "\
-facility court-1
-day 2026-05-01
-hour 18
-kind court
-price 200
-places 4
-taken 0
-closed yes
-";
+const COURT_CLOSED: &str =
+    "facility court-1\nday 2026-05-01\nhour 18\nkind court\nprice 200\nplaces 4\ntaken 0\n\
+    closed yes\n";
 
 // Out of opening: it is shown too.
-const ROOM_AT_NINE: &str = "\
-facility room-1
-day 2026-05-01
-hour 23
-kind room
-price 601
-places 1
-taken 0
-closed no
-";
+const ROOM_SHUT: &str =
+    "facility room-1\nday 2026-05-01\nhour 23\nkind room\nprice 601\nplaces 1\ntaken 0\n\
+    closed no\n";
 
 static ROWS: [Row; 5] = [
     Row {
@@ -154,13 +98,7 @@ static ROWS: [Row; 5] = [
         step: Step::Orders(Order::CloseSlot(COURT_AT_18)),
         looks: &[
             (Look::Slot(COURT_AT_18), COURT_CLOSED),
-            (
-                Look::Slot(PlainSlot {
-                    hour: 23,
-                    ..ROOM_AT_18
-                }),
-                ROOM_AT_NINE,
-            ),
+            (Look::Slot(ROOM_AT_23), ROOM_SHUT),
         ],
     },
 ];

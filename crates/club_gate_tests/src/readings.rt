@@ -3,47 +3,20 @@
 use crate::counter::{carry_out, opened, reply};
 use crate::expect::{expect_eq, expect_row};
 use crate::passes::{AMY, BOB, FORMS, Shown};
-use club_core::{Change, ClubStore, MemberAccount, Refusal, SlotUse, StoreFault};
+use crate::refusing::{Calls, NONE, Refusing};
 use club_gate::Desk;
-use club_rows::{Booking, BookingNumber, Facility, Key, Member};
-use club_store::Store;
-use club_values::{Day, Moment, Name, Slot};
 use pass_forms::Form;
-use sqlite::MemStore;
 use std::alloc::Global;
 use std::process::Abort;
 use std::test::*;
 use test_kit::minutes::NOON;
-use test_kit::replies::{ACCOUNT_BEFORE, BOOKED_7, CANCELLED_7, DENIED_1, NOT_VERIFIED};
-use test_kit::requests::{ACCOUNT, BOOK_7, CANCEL_7};
-use test_kit::roots::{ROOT, SECOND_ROOT};
-use test_kit::{COURT_AT_18, FRIDAY, Order, PlainReply, PlainRequest, PlainSlot};
-
-/// How often each thing was asked of a store: a key's row, a record under a number, a facility, the
-/// state of a slot, a member's account, its open bookings, what a key has spent; and how often
-/// anything else, as a change.
-#[derive(Clone, Copy, Debug, PartialEq, Eq)]
-struct Calls {
-    keys: u32,
-    records: u32,
-    facilities: u32,
-    slots: u32,
-    accounts: u32,
-    open_counts: u32,
-    spent: u32,
-    others: u32,
-}
-
-const NONE: Calls = Calls {
-    keys: 0,
-    records: 0,
-    facilities: 0,
-    slots: 0,
-    accounts: 0,
-    open_counts: 0,
-    spent: 0,
-    others: 0,
+use test_kit::replies::{
+    ACCOUNT_AFTER, ACCOUNT_BEFORE, BOOKED_7, CANCELLED_7, DENIED_1, KEY_REVOKED, NO_SUCH_BOOKING,
+    NO_SUCH_FACILITY, NOT_VERIFIED,
 };
+use test_kit::requests::{ACCOUNT, BOOK_7, BOOK_8, CANCEL_7, VIEW};
+use test_kit::roots::{ROOT, SECOND_ROOT};
+use test_kit::{FRIDAY, Order, PlainReply, PlainRequest, PlainSlot};
 
 const KEY: Calls = Calls { keys: 1, ..NONE };
 
@@ -89,85 +62,8 @@ const SUMS: Calls = Calls {
     ..KEY
 };
 
-/// Tables in memory that count the calls. Their contracts promise nothing.
-#[derive(Drop)]
-struct Counting {
-    store: Store<MemStore>,
-    calls: Calls,
-}
-
-fn count(calls: &mut u32) {
-    *calls = calls.saturating_add(1);
-}
-
-impl ClubStore for Counting {
-    ghost represents = { λ store club others. ⊥ };
-
-    ghost disk_is_clean = { λ store. ⊥ };
-
-    ghost fails = { λ wish old fault new. ⊥ };
-
-    ghost sound = { λ store club others represents. absurd represents };
-
-    ghost widens = { λ store club other others represents sound. represents };
-
-    fn key(&mut self, name: &Name) -> Result<Option<Key>, StoreFault> {
-        count(&mut self.calls.keys);
-        self.store.key(name)
-    }
-
-    fn member(&mut self, name: &Name) -> Result<Option<Member>, StoreFault> {
-        count(&mut self.calls.others);
-        self.store.member(name)
-    }
-
-    fn facility(&mut self, name: &Name) -> Result<Option<Facility>, StoreFault> {
-        count(&mut self.calls.facilities);
-        self.store.facility(name)
-    }
-
-    fn slot(&mut self, slot: &Slot) -> Result<SlotUse, StoreFault> {
-        count(&mut self.calls.slots);
-        self.store.slot(slot)
-    }
-
-    fn booking(
-        &mut self,
-        key: &Name,
-        number: BookingNumber,
-    ) -> Result<Option<Booking>, StoreFault> {
-        count(&mut self.calls.records);
-        self.store.booking(key, number)
-    }
-
-    fn account(&mut self, member: &Name) -> Result<Option<MemberAccount>, StoreFault> {
-        count(&mut self.calls.accounts);
-        self.store.account(member)
-    }
-
-    fn open_count(&mut self, member: &Name, moment: Moment) -> Result<u64, StoreFault> {
-        count(&mut self.calls.open_counts);
-        self.store.open_count(member, moment)
-    }
-
-    fn spent(&mut self, key: &Name) -> Result<u64, StoreFault> {
-        count(&mut self.calls.spent);
-        self.store.spent(key)
-    }
-
-    fn day(&mut self, day: Day) -> Result<Vec<Booking>, StoreFault> {
-        count(&mut self.calls.others);
-        self.store.day(day)
-    }
-
-    fn apply(&mut self, change: &Change) -> Result<(), StoreFault> {
-        count(&mut self.calls.others);
-        self.store.apply(change)
-    }
-}
-
 /// The fixture, in which bob's key is revoked, after number 7 was booked or before.
-fn counted_fixture(rt: &(impl Abort + Alloc<A = Global>), is_booked: bool) -> Counting {
+fn counted_fixture(rt: &(impl Abort + Alloc<A = Global>), is_booked: bool) -> Refusing {
     let mut desk = opened(rt, Form::V2).desk;
     carry_out(rt, &mut desk, &Order::RevokeKey("bob-1"));
     if is_booked {
@@ -175,10 +71,7 @@ fn counted_fixture(rt: &(impl Abort + Alloc<A = Global>), is_booked: bool) -> Co
         let returned = reply(rt, &mut desk, NOON, text.as_bytes(), &BOOK_7);
         expect_eq(rt, &returned, &BOOKED_7.reply().expect(rt, "a reply"));
     }
-    Counting {
-        store: desk.into_store(),
-        calls: NONE,
-    }
+    Refusing::never(desk.into_store())
 }
 
 /// A pass, a request under it, the reply, and the calls of the store.
@@ -200,6 +93,8 @@ const NOWHERE: PlainSlot = PlainSlot {
     hour: 18,
 };
 
+const BOOK_NOWHERE: PlainRequest = PlainRequest::Book(NOWHERE, 7, 2);
+
 // Before a signature is compared, and for a revoked key, the key's row is read and nothing else.
 static REFUSED: [Row; 5] = [
     // The identifier is no key's.
@@ -212,17 +107,12 @@ static REFUSED: [Row; 5] = [
         NOT_VERIFIED,
         KEY,
     ),
-    (BOB, BOOK_7, PlainReply::Refused(Refusal::KeyRevoked), KEY),
+    (BOB, BOOK_7, KEY_REVOKED, KEY),
 ];
 
 // Number 7 isn't booked.
 static FIRST: [Row; 10] = [
-    (
-        AMY,
-        PlainRequest::View(COURT_AT_18),
-        PlainReply::SlotShown(0, false),
-        SLOT,
-    ),
+    (AMY, VIEW, PlainReply::SlotShown(0, false), SLOT),
     (AMY, ACCOUNT, ACCOUNT_BEFORE, SUMS),
     (AMY, BOOK_7, BOOKED_7, BOOKING),
     (BOOKS_AT_18, BOOK_7, BOOKED_7, BOOKING),
@@ -231,18 +121,8 @@ static FIRST: [Row; 10] = [
     (VIEWS, BOOK_7, DENIED_1, RECORD),
     (VIEWS_THEN_SPENDS, BOOK_7, DENIED_1, RECORD),
     (VIEWS, ACCOUNT, DENIED_1, KEY),
-    (
-        AMY,
-        CANCEL_7,
-        PlainReply::Refused(Refusal::NoSuchBooking),
-        RECORD,
-    ),
-    (
-        AMY,
-        PlainRequest::Book(NOWHERE, 7, 2),
-        PlainReply::Refused(Refusal::NoSuchFacility),
-        RECORD,
-    ),
+    (AMY, CANCEL_7, NO_SUCH_BOOKING, RECORD),
+    (AMY, BOOK_NOWHERE, NO_SUCH_FACILITY, RECORD),
 ];
 
 // Number 7 is booked, for 600 points.
@@ -252,14 +132,9 @@ static AGAIN: [Row; 6] = [
     (SPENDS_700, BOOK_7, BOOKED_7, RECORD),
     (AMY, CANCEL_7, CANCELLED_7, CANCELLATION),
     (SPENDS_700, CANCEL_7, CANCELLED_7, CANCELLATION),
-    (AMY, ACCOUNT, PlainReply::AccountShown(9_400, 1, 600), SUMS),
+    (AMY, ACCOUNT, ACCOUNT_AFTER, SUMS),
     // Number 8 would come to 800 points.
-    (
-        SPENDS_700,
-        PlainRequest::Book(COURT_AT_18, 8, 0),
-        DENIED_1,
-        OVER_THE_LIMIT,
-    ),
+    (SPENDS_700, BOOK_8, DENIED_1, OVER_THE_LIMIT),
 ];
 
 fn reads(
@@ -279,7 +154,7 @@ fn reads(
         &answered,
         &expected.reply().expect(rt, "a reply"),
     );
-    expect_row(rt, place, &desk.into_store().calls, calls);
+    expect_row(rt, place, &desk.into_store().asked, calls);
 }
 
 fn reads_each(rt: &(impl Abort + Alloc<A = Global>), is_booked: bool, rows: &[Row]) {

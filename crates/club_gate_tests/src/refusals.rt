@@ -3,7 +3,7 @@
 use crate::counter::{opened, reply};
 use crate::expect::{expect_eq, expect_row};
 use crate::passes::AMY;
-use crate::refusing::Refusing;
+use crate::refusing::{NONE, Refusing};
 use crate::values::{name, root};
 use club_core::{ClubStore, OfficeFault, Refusal, Reply, StoreFault};
 use club_gate::{Desk, Fault, OfficeReply, key_signature};
@@ -30,6 +30,7 @@ fn refusing(
 ) -> Desk<Refusing> {
     let store = Refusing {
         store: opened(rt, Form::V2).desk.into_store(),
+        asked: NONE,
         calls: 0,
         first,
         fault,

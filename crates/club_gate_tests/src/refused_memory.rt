@@ -4,7 +4,6 @@
 
 use crate::counter::{MemoryDesk, reply};
 use crate::expect::expect_eq;
-use crate::known;
 use crate::known::{SIGNED, SIGNED_ANEW};
 use crate::values::at;
 use club_core::{OfficeFault, Refusal, Reply, StoreFault};
@@ -16,10 +15,11 @@ use std::alloc::Global;
 use std::process::Abort;
 use std::test::*;
 use test_kit::minutes::{NOON, START};
+use test_kit::passes::{AMY_JSON, AMY_V1, AMY_V2};
 use test_kit::replies::{ACCOUNT_AFTER, ACCOUNT_BEFORE, BOOKED_7};
-use test_kit::requests::{ACCOUNT, BOOK_7};
+use test_kit::requests::{ACCOUNT, BOOK_7, VIEW};
 use test_kit::roots::{ROOT, SECOND_ROOT};
-use test_kit::{COURT_AT_18, Order, PlainReply, PlainRequest, PlainSlot};
+use test_kit::{COURT_AT_19, Order, PlainReply, PlainRequest, PlainSlot};
 
 fn new_store(rt: &(impl Abort + Alloc<A = Global>)) -> Store<MemStore> {
     match Store::open_in_memory(rt.alloc()) {
@@ -39,18 +39,14 @@ fn replied(rt: &impl Abort, desk: &mut MemoryDesk, pass: &str, asked: &PlainRequ
     reply(rt, desk, NOON, pass.as_bytes(), asked)
 }
 
-/// `court-1` on 2026-05-01 at 19.
-const AT_19: PlainSlot = PlainSlot {
-    hour: 19,
-    ..COURT_AT_18
-};
+const AT_19: PlainSlot = COURT_AT_19;
 
 /// What amy's key sees of the club: her account, and two slots.
 fn seen(rt: &impl Abort, desk: &mut MemoryDesk) -> [Reply; 3] {
     [
-        replied(rt, desk, known::V2, &ACCOUNT),
-        replied(rt, desk, known::V2, &PlainRequest::View(COURT_AT_18)),
-        replied(rt, desk, known::V2, &PlainRequest::View(AT_19)),
+        replied(rt, desk, AMY_V2, &ACCOUNT),
+        replied(rt, desk, AMY_V2, &VIEW),
+        replied(rt, desk, AMY_V2, &PlainRequest::View(AT_19)),
     ]
 }
 
@@ -119,7 +115,7 @@ static REVOKED: [(Order, OfficeReply); 2] = [
 #[test]
 fn orders(rt: HostRuntime) {
     let mut desk = desk(&rt);
-    let account = replied(&rt, &mut desk, known::V2, &ACCOUNT);
+    let account = replied(&rt, &mut desk, AMY_V2, &ACCOUNT);
     expect_eq(
         &rt,
         &account,
@@ -127,7 +123,7 @@ fn orders(rt: HostRuntime) {
     );
     are_answered(&rt, &mut desk, &ORDERS);
     are_answered(&rt, &mut desk, &REVOKED);
-    let account = replied(&rt, &mut desk, known::V2, &ACCOUNT);
+    let account = replied(&rt, &mut desk, AMY_V2, &ACCOUNT);
     expect_eq(&rt, &account, &Reply::Refused(Refusal::KeyRevoked));
 }
 
@@ -156,13 +152,7 @@ fn is_booked(rt: &impl Abort, desk: &mut MemoryDesk, pass: &str) {
 fn is_booked_or_unavailable(rt: &impl Abort, desk: &mut MemoryDesk, pass: &str, first: &Reply) {
     if *first == UNAVAILABLE {
         expect_replied(rt, desk, pass, &ACCOUNT, &ACCOUNT_BEFORE);
-        expect_replied(
-            rt,
-            desk,
-            pass,
-            &PlainRequest::View(COURT_AT_18),
-            &PlainReply::SlotShown(0, false),
-        );
+        expect_replied(rt, desk, pass, &VIEW, &PlainReply::SlotShown(0, false));
     } else {
         expect_eq(rt, first, &BOOKED_7.reply().expect(rt, "a reply"));
     }
@@ -177,17 +167,17 @@ fn ask(rt: &(impl Abort + Alloc<A = Global>), pass: &str) {
 
 #[test]
 fn ask_in_v1(rt: HostRuntime) {
-    ask(&rt, known::V1);
+    ask(&rt, AMY_V1);
 }
 
 #[test]
 fn ask_in_v2(rt: HostRuntime) {
-    ask(&rt, known::V2);
+    ask(&rt, AMY_V2);
 }
 
 #[test]
 fn ask_in_json(rt: HostRuntime) {
-    ask(&rt, known::JSON);
+    ask(&rt, AMY_JSON);
 }
 
 /// The one reply of these.
@@ -219,15 +209,15 @@ fn run(rt: &(impl Abort + Alloc<A = Global>), pass: &str) {
 
 #[test]
 fn run_in_v1(rt: HostRuntime) {
-    run(&rt, known::V1);
+    run(&rt, AMY_V1);
 }
 
 #[test]
 fn run_in_v2(rt: HostRuntime) {
-    run(&rt, known::V2);
+    run(&rt, AMY_V2);
 }
 
 #[test]
 fn run_in_json(rt: HostRuntime) {
-    run(&rt, known::JSON);
+    run(&rt, AMY_JSON);
 }

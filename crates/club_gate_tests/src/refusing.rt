@@ -1,4 +1,5 @@
-//! A store that counts its calls, and fails from one of them on. Its contracts promise nothing.
+//! A store that counts its calls, by what they ask for, and may fail from one of them on. Its
+//! contracts promise nothing.
 
 use club_core::{Change, ClubStore, MemberAccount, SlotUse, StoreFault};
 use club_rows::{Booking, BookingNumber, Facility, Key, Member};
@@ -6,20 +7,64 @@ use club_store::Store;
 use club_values::{Day, Moment, Name, Slot};
 use sqlite::MemStore;
 
-/// Tables in memory, the number of calls so far, the first call that fails, and its fault.
+/// How often each thing was asked of a store: a key's row, a record under a number, a facility, the
+/// state of a slot, a member's account, its open bookings, what a key has spent; and how often
+/// anything else, as a change.
+#[derive(Clone, Copy, Debug, PartialEq, Eq)]
+pub(crate) struct Calls {
+    pub keys: u32,
+    pub records: u32,
+    pub facilities: u32,
+    pub slots: u32,
+    pub accounts: u32,
+    pub open_counts: u32,
+    pub spent: u32,
+    pub others: u32,
+}
+
+pub(crate) const NONE: Calls = Calls {
+    keys: 0,
+    records: 0,
+    facilities: 0,
+    slots: 0,
+    accounts: 0,
+    open_counts: 0,
+    spent: 0,
+    others: 0,
+};
+
+/// Tables in memory, what was asked of them, the number of calls so far, the first call that fails,
+/// and its fault.
 #[derive(Drop)]
 pub(crate) struct Refusing {
     pub store: Store<MemStore>,
+    pub asked: Calls,
     pub calls: u32,
     pub first: u32,
     pub fault: StoreFault,
 }
 
+fn count(calls: &mut u32) {
+    *calls = calls.saturating_add(1);
+}
+
 impl Refusing {
+    /// Tables of which no call fails.
+    pub fn never(store: Store<MemStore>) -> Refusing {
+        Refusing {
+            store,
+            asked: NONE,
+            calls: 0,
+            first: u32::MAX,
+            fault: StoreFault::Storage,
+        }
+    }
+
     /// The tables, as they are.
     pub fn into_inner(self) -> Store<MemStore> {
         let Refusing {
             store,
+            asked: _,
             calls: _,
             first: _,
             fault: _,
@@ -28,7 +73,7 @@ impl Refusing {
     }
 
     fn called(&mut self) -> Result<(), StoreFault> {
-        self.calls = self.calls.saturating_add(1);
+        count(&mut self.calls);
         if self.calls >= self.first {
             return Err(self.fault);
         }
@@ -48,21 +93,25 @@ impl ClubStore for Refusing {
     ghost widens = { λ store club other others represents sound. represents };
 
     fn key(&mut self, name: &Name) -> Result<Option<Key>, StoreFault> {
+        count(&mut self.asked.keys);
         self.called()?;
         self.store.key(name)
     }
 
     fn member(&mut self, name: &Name) -> Result<Option<Member>, StoreFault> {
+        count(&mut self.asked.others);
         self.called()?;
         self.store.member(name)
     }
 
     fn facility(&mut self, name: &Name) -> Result<Option<Facility>, StoreFault> {
+        count(&mut self.asked.facilities);
         self.called()?;
         self.store.facility(name)
     }
 
     fn slot(&mut self, slot: &Slot) -> Result<SlotUse, StoreFault> {
+        count(&mut self.asked.slots);
         self.called()?;
         self.store.slot(slot)
     }
@@ -72,31 +121,37 @@ impl ClubStore for Refusing {
         key: &Name,
         number: BookingNumber,
     ) -> Result<Option<Booking>, StoreFault> {
+        count(&mut self.asked.records);
         self.called()?;
         self.store.booking(key, number)
     }
 
     fn account(&mut self, member: &Name) -> Result<Option<MemberAccount>, StoreFault> {
+        count(&mut self.asked.accounts);
         self.called()?;
         self.store.account(member)
     }
 
     fn open_count(&mut self, member: &Name, moment: Moment) -> Result<u64, StoreFault> {
+        count(&mut self.asked.open_counts);
         self.called()?;
         self.store.open_count(member, moment)
     }
 
     fn spent(&mut self, key: &Name) -> Result<u64, StoreFault> {
+        count(&mut self.asked.spent);
         self.called()?;
         self.store.spent(key)
     }
 
     fn day(&mut self, day: Day) -> Result<Vec<Booking>, StoreFault> {
+        count(&mut self.asked.others);
         self.called()?;
         self.store.day(day)
     }
 
     fn apply(&mut self, change: &Change) -> Result<(), StoreFault> {
+        count(&mut self.asked.others);
         self.called()?;
         self.store.apply(change)
     }

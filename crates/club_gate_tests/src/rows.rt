@@ -1,83 +1,38 @@
 //! The worked rows of the desk, each in every form of a pass.
 
-use crate::counter::{Counter, Step, opened, plays_in_all_forms};
+use crate::counter::{Counter, Step, opened, plays_in_all_forms, plays_list_in_all_forms};
 use crate::expect::expect_eq;
 use crate::passes::{AMY, BOB, CY, FORMS, Shown};
-use club_core::{OfficeFault, Refusal};
+use club_core::OfficeFault;
 use club_gate::{Fault, OfficeReply};
 use club_values::Day;
 use pass_forms::Form;
 use std::alloc::Global;
 use std::process::Abort;
 use std::test::*;
-use test_kit::minutes::{NOON, START};
+use test_kit::lists::{REFUNDS, REPEATS, WINDOW};
+use test_kit::minutes::NOON;
 use test_kit::replies::{
-    ACCOUNT_AFTER, ACCOUNT_BEFORE, BOOKED_7, CANCELLED_7, HALF_BACK, NOT_VERIFIED, ROOM_BOOKED,
+    ACCOUNT_AFTER, BALANCE_TOO_LOW, BOOKED_2, BOOKED_7, CANCELLED_7, FILLED_BY_2, FILLED_BY_7,
+    KEY_REVOKED, NO_PLACES, NOT_VERIFIED, QUOTA_REACHED, SLOT_CLOSED,
 };
-use test_kit::requests::{ACCOUNT, BOOK_7, BOOK_ROOM, CANCEL_7, CANCEL_ROOM};
+use test_kit::requests::{ACCOUNT, BOOK_1, BOOK_2, BOOK_2_FOR_TWO, BOOK_7, BOOK_8, CANCEL_7, VIEW};
 use test_kit::roots::ROOT;
-use test_kit::{COURT_AT_18, FRIDAY, Order, PlainReply, PlainRequest, PlainSlot, ROOM_AT_18};
-
-const VIEW: PlainRequest = PlainRequest::View(COURT_AT_18);
-
-const BOOK_7_FOR_TWO: PlainRequest = PlainRequest::Book(COURT_AT_18, 7, 1);
-
-const NUMBER_USED: PlainReply = PlainReply::Refused(Refusal::NumberUsed);
-
-/// A repeat gets the same reply, also when the slot has begun and after the cancellation.
-pub(crate) static REPEATS: [Step; 8] = [
-    Step::Asks(NOON, AMY, BOOK_7, BOOKED_7),
-    Step::Asks(START + 30, AMY, BOOK_7, BOOKED_7),
-    Step::Asks(NOON, AMY, BOOK_7_FOR_TWO, NUMBER_USED),
-    Step::Asks(NOON, AMY, ACCOUNT, ACCOUNT_AFTER),
-    Step::Asks(NOON, AMY, CANCEL_7, CANCELLED_7),
-    Step::Asks(START + 30, AMY, BOOK_7, BOOKED_7),
-    Step::Asks(NOON, AMY, ACCOUNT, ACCOUNT_BEFORE),
-    Step::Asks(NOON, BOB, VIEW, PlainReply::SlotShown(0, false)),
-];
+use test_kit::{COURT_AT_18, FRIDAY, Order, PlainReply, PlainRequest, PlainSlot};
 
 #[test]
 fn repeats_a_booking(rt: HostRuntime) {
-    plays_in_all_forms(&rt, &REPEATS);
+    plays_list_in_all_forms(&rt, &REPEATS);
 }
-
-const CANCEL_OTHER: PlainRequest = PlainRequest::Cancel(ROOM_AT_18, 9);
-
-const NO_SUCH_BOOKING: PlainReply = PlainReply::Refused(Refusal::NoSuchBooking);
-
-const ALL_BACK: PlainReply = PlainReply::Cancelled("amy-1", 8, 601);
-
-const SLOT_HAS_BEGUN: PlainReply = PlainReply::Refused(Refusal::SlotHasBegun);
-
-/// The whole charge a day before the start, half of it a minute later, nothing from the start on.
-pub(crate) static REFUNDS: [[Step; 3]; 3] = [
-    [
-        Step::Asks(NOON, AMY, BOOK_ROOM, ROOM_BOOKED),
-        Step::Asks(NOON, AMY, CANCEL_OTHER, NO_SUCH_BOOKING),
-        Step::Asks(START - 1440, AMY, CANCEL_ROOM, ALL_BACK),
-    ],
-    [
-        Step::Asks(NOON, AMY, BOOK_ROOM, ROOM_BOOKED),
-        Step::Asks(NOON, AMY, CANCEL_OTHER, NO_SUCH_BOOKING),
-        Step::Asks(START - 1439, AMY, CANCEL_ROOM, HALF_BACK),
-    ],
-    [
-        Step::Asks(NOON, AMY, BOOK_ROOM, ROOM_BOOKED),
-        Step::Asks(NOON, AMY, CANCEL_OTHER, NO_SUCH_BOOKING),
-        Step::Asks(START, AMY, CANCEL_ROOM, SLOT_HAS_BEGUN),
-    ],
-];
 
 #[test]
 fn refunds(rt: HostRuntime) {
-    for steps in &REFUNDS {
-        plays_in_all_forms(&rt, steps);
+    for list in &REFUNDS {
+        plays_list_in_all_forms(&rt, list);
     }
 }
 
 const STRANGER: Shown = Shown::Of("zed-1", ROOT, &[]);
-
-const KEY_REVOKED: PlainReply = PlainReply::Refused(Refusal::KeyRevoked);
 
 pub(crate) static VERIFIES: [Step; 6] = [
     Step::Asks(NOON, STRANGER, ACCOUNT, NOT_VERIFIED),
@@ -92,12 +47,6 @@ pub(crate) static VERIFIES: [Step; 6] = [
 fn verifies(rt: HostRuntime) {
     plays_in_all_forms(&rt, &VERIFIES);
 }
-
-const BOOK_2: PlainRequest = PlainRequest::Book(COURT_AT_18, 2, 0);
-
-const BOOKED_2: PlainReply = PlainReply::Booked("bob-1", 2, 200, 3);
-
-const FILLED_BY_7: PlainReply = PlainReply::Booked("amy-1", 7, 600, 0);
 
 /// Amy's replies, whatever others do in other slots.
 pub(crate) static ALONE: [Step; 3] = [
@@ -168,54 +117,14 @@ fn answers_amy_the_same_whatever_others_do(rt: HostRuntime) {
     }
 }
 
-const BOOK_7_AT_21: PlainRequest = PlainRequest::Book(
-    PlainSlot {
-        hour: 21,
-        ..COURT_AT_18
-    },
-    7,
-    2,
-);
-
-const BOOK_7_AT_22: PlainRequest = PlainRequest::Book(
-    PlainSlot {
-        hour: 22,
-        ..COURT_AT_18
-    },
-    7,
-    2,
-);
-
-const NOT_BOOKABLE: PlainReply = PlainReply::Refused(Refusal::NotBookable);
-
-/// No more than 86,400 minutes ahead, before the start, and in the hours of opening.
-pub(crate) static WINDOW: [Step; 6] = [
-    Step::Asks(START - 86_400, AMY, BOOK_7, BOOKED_7),
-    Step::Asks(START - 86_401, AMY, BOOK_7, NOT_BOOKABLE),
-    Step::Asks(START - 1, AMY, BOOK_7, BOOKED_7),
-    Step::Asks(START, AMY, BOOK_7, NOT_BOOKABLE),
-    Step::Asks(NOON, AMY, BOOK_7_AT_21, BOOKED_7),
-    Step::Asks(NOON, AMY, BOOK_7_AT_22, NOT_BOOKABLE),
-];
-
 #[test]
 fn books_within_the_window(rt: HostRuntime) {
     for step in &WINDOW {
-        plays_in_all_forms(&rt, &[*step]);
+        plays_list_in_all_forms(&rt, &[*step]);
     }
 }
 
 const DI: Shown = Shown::Of("di-1", ROOT, &[]);
-
-const BOOK_1: PlainRequest = PlainRequest::Book(COURT_AT_18, 1, 0);
-
-const BOOK_2_FOR_TWO: PlainRequest = PlainRequest::Book(COURT_AT_18, 2, 1);
-
-const NO_PLACES: PlainReply = PlainReply::Refused(Refusal::NoPlaces);
-
-const BALANCE_TOO_LOW: PlainReply = PlainReply::Refused(Refusal::BalanceTooLow);
-
-const QUOTA_REACHED: PlainReply = PlainReply::Refused(Refusal::QuotaReached);
 
 pub(crate) static LIMITS: [Step; 9] = [
     Step::Orders(Order::AddMember("cy", 1)),
@@ -235,10 +144,6 @@ fn minds_places_points_and_quota(rt: HostRuntime) {
 }
 
 const CLOSE: Order = Order::CloseSlot(COURT_AT_18);
-
-const BOOK_8: PlainRequest = PlainRequest::Book(COURT_AT_18, 8, 0);
-
-const SLOT_CLOSED: PlainReply = PlainReply::Refused(Refusal::SlotClosed);
 
 pub(crate) static CLOSES: [Step; 7] = [
     Step::Asks(NOON, AMY, BOOK_7, BOOKED_7),
@@ -260,8 +165,6 @@ pub(crate) static CLOSES: [Step; 7] = [
 fn closes_a_slot(rt: HostRuntime) {
     plays_in_all_forms(&rt, &CLOSES);
 }
-
-const FILLED_BY_2: PlainReply = PlainReply::Booked("bob-1", 2, 200, 0);
 
 static FILLED: [Step; 2] = [
     Step::Asks(NOON, AMY, BOOK_7, BOOKED_7),

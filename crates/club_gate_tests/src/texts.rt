@@ -2,7 +2,6 @@
 
 use crate::counter::{Counter, Step, empty_desk, opened, reply};
 use crate::expect::{expect_eq, expect_row};
-use crate::known;
 use crate::known::SIGNED;
 use crate::passes::text_of;
 use crate::values::name;
@@ -13,7 +12,7 @@ use std::alloc::Global;
 use std::process::Abort;
 use std::test::*;
 use test_kit::minutes::NOON;
-use test_kit::passes::AMY_1_SIGNATURE;
+use test_kit::passes::{AMY_1_SIGNATURE, AMY_V2};
 use test_kit::requests::ACCOUNT;
 use test_kit::roots::ROOT;
 use test_kit::{Order, PlainReply};
@@ -28,7 +27,7 @@ pub(crate) fn expect_text(rt: &(impl Abort + Alloc<A = Global>)) {
     let name = name(rt, b"amy-1");
     let pass = minted(rt.alloc(), &name, AMY_1_SIGNATURE).expect(rt, "memory");
     let text = text_of(rt, Form::V2, &pass);
-    expect_eq(rt, &text.as_str(), &known::V2);
+    expect_eq(rt, &text.as_str(), &AMY_V2);
     expect_eq(rt, &text.len(), &79);
 }
 
@@ -51,7 +50,7 @@ fn mints_the_pass_of_a_key(rt: HostRuntime) {
         &rt,
         &mut counter,
         0,
-        known::V2,
+        AMY_V2,
         &PlainReply::AccountShown(0, 0, 0)
             .reply()
             .expect(&rt, "a reply"),
