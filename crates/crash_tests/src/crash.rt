@@ -5,12 +5,12 @@ use crate::events::{Event, FIXTURE};
 use crate::expect::{append, expect_case, push, text};
 use crate::reference_club::{Version, lines_of, replies};
 use crate::texts::FAILURES;
-use crate::version_1::{OLDER_ROOTS, STATEMENTS};
 use crate::work::{Work, done};
 use club_reference::Club;
 use sqlite::Files;
 use std::alloc::Global;
 use std::process::Abort;
+use test_kit::version_1::{OLDER_ROOTS, STATEMENTS};
 
 /// The files before the task.
 #[derive(Clone, Copy)]

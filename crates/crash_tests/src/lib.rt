@@ -23,6 +23,4 @@ mod tasks;
 #[cfg(test)]
 mod texts;
 #[cfg(test)]
-mod version_1;
-#[cfg(test)]
 mod work;

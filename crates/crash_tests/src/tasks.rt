@@ -10,7 +10,7 @@ use test_kit::exchanges::{
 };
 use test_kit::moments::{LATER, NOON};
 use test_kit::roots::{ROOT, SECOND_ROOT};
-use test_kit::{COURT_AT_18, Order, PlainSlot, minutes};
+use test_kit::{COURT_AT_19, Order, minutes};
 
 /// By `Desk::ask`.
 static BOOKS: Trial = Trial {
@@ -80,10 +80,7 @@ fn adds_a_key_whole_or_not_at_all(rt: HostRuntime) {
 }
 
 /// While the slot before it is booked.
-const CLOSE_AT_19: Event = Event::Orders(Order::CloseSlot(PlainSlot {
-    hour: 19,
-    ..COURT_AT_18
-}));
+const CLOSE_AT_19: Event = Event::Orders(Order::CloseSlot(COURT_AT_19));
 
 static CLOSES: Trial = Trial {
     beginning: Beginning::Made(&[Event::Asks(NOON, BOOK_7)]),
@@ -129,20 +126,27 @@ fn makes_all_tables_or_none(rt: HostRuntime) {
     MAKES_TABLES.holds(&rt);
 }
 
+/// Two bookings, of which the second is cancelled; and requests that show them.
+const BOOKED_TWICE: &[Event] = &[
+    Event::Asks(NOON, BOOK_7),
+    Event::Asks(NOON, BOOK_8),
+    Event::Asks(LATER, CANCEL_8),
+];
+
+const SHOWS_BOTH: &[Event] = &[
+    Event::Asks(NOON, BOOK_7),
+    Event::Asks(NOON, BOOK_8),
+    Event::Asks(NOON, ACCOUNT),
+];
+
+const BOTH_SHOWN: &[&str] = &[BOOKED_7, BOOKED_8, BALANCE_9099];
+
 static MIGRATES: Trial = Trial {
-    beginning: Beginning::First(&[
-        Event::Asks(NOON, BOOK_7),
-        Event::Asks(NOON, BOOK_8),
-        Event::Asks(LATER, CANCEL_8),
-    ]),
+    beginning: Beginning::First(BOOKED_TWICE),
     task: &[],
-    again: &[
-        Event::Asks(NOON, BOOK_7),
-        Event::Asks(NOON, BOOK_8),
-        Event::Asks(NOON, ACCOUNT),
-    ],
-    first: &[BOOKED_7, BOOKED_8, BALANCE_9099],
-    repeated: &[BOOKED_7, BOOKED_8, BALANCE_9099],
+    again: SHOWS_BOTH,
+    first: BOTH_SHOWN,
+    repeated: BOTH_SHOWN,
     calls: [52, 56],
 };
 
@@ -152,19 +156,11 @@ fn migrates_whole_or_not_at_all(rt: HostRuntime) {
 }
 
 static ADDS_THE_INDEX: Trial = Trial {
-    beginning: Beginning::Unindexed(&[
-        Event::Asks(NOON, BOOK_7),
-        Event::Asks(NOON, BOOK_8),
-        Event::Asks(LATER, CANCEL_8),
-    ]),
+    beginning: Beginning::Unindexed(BOOKED_TWICE),
     task: &[],
-    again: &[
-        Event::Asks(NOON, BOOK_7),
-        Event::Asks(NOON, BOOK_8),
-        Event::Asks(NOON, ACCOUNT),
-    ],
-    first: &[BOOKED_7, BOOKED_8, BALANCE_9099],
-    repeated: &[BOOKED_7, BOOKED_8, BALANCE_9099],
+    again: SHOWS_BOTH,
+    first: BOTH_SHOWN,
+    repeated: BOTH_SHOWN,
     calls: [46, 59],
 };
 

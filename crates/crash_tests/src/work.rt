@@ -92,19 +92,6 @@ pub(crate) fn worked<S: Alter + Drop>(
     }
 }
 
-fn connected<D: Disk + Drop>(
-    alloc: Global,
-    files: Files<D>,
-) -> Result<Connection<FileStore<D>>, Files<D>> {
-    if !files.may_be_used() {
-        return Err(files);
-    }
-    match Connection::open_files(alloc, files, Options::new(7)) {
-        Ok(connection) => Ok(connection),
-        Err((_, left)) => Err(left.into_files()),
-    }
-}
-
 fn closed<D: Disk + Drop>(connection: Connection<FileStore<D>>) -> Files<D> {
     match connection.close_files() {
         Ok(files) => files,
@@ -120,11 +107,14 @@ pub(crate) fn done(
     files: Files<Stops>,
     work: Work,
 ) -> (Option<Vec<String>>, Files<Stops>) {
-    match connected(rt.alloc(), files) {
+    if !files.may_be_used() {
+        return (None, files);
+    }
+    match Connection::open_files(rt.alloc(), files, Options::new(7)) {
         Ok(connection) => {
             let (lines, connection) = worked(rt, connection, work);
             (lines, closed(connection))
         }
-        Err(files) => (None, files),
+        Err((_, left)) => (None, left.into_files()),
     }
 }
