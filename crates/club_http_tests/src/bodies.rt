@@ -1,10 +1,11 @@
 //! Bookings: whole, cut short, and with odd bodies.
 
 use crate::asked::{BAD_REQUEST, PASS, Want, asked, asked_in_two, asks, book, carries, is_whole};
-use crate::rows::{Piece, expect_row, joined};
+use crate::rows::{expect_row, joined};
 use club_core::Refusal;
 use http_request::{Routes, words_of};
 use std::process::Abort;
+use test_kit::Piece;
 
 const BOOKING: &str = "PUT /slots/court-1/2026-05-01/18/bookings/7 HTTP/1.1\r\nHost: club\r\n\
     Authorization: Bearer AgEJ\r\nContent-Length: 12\r\n\r\n{\"guests\":2}";

@@ -1,8 +1,9 @@
 //! Heads of requests: where they end, their line and their fields.
 
 use crate::asked::{BAD_REQUEST, NO_PASS, PASS, Want, ask, asks, carries, is_whole};
-use crate::rows::{Piece, expect_row, joined};
+use crate::rows::{expect_row, joined};
 use std::process::Abort;
+use test_kit::Piece;
 
 // The pieces of what has come, and whether it begins with a whole request.
 type Whole = (&'static [Piece], bool);

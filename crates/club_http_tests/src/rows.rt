@@ -3,7 +3,7 @@
 use club_values::{Moment, Name, Slot};
 use std::fmt::Debug;
 use std::process::Abort;
-use test_kit::{COURT_AT_18, PlainSlot};
+use test_kit::{COURT_AT_18, Piece, PlainSlot};
 
 /// Ends the test of this row unless the values are equal.
 pub(crate) fn expect_row<T: PartialEq + Debug>(
@@ -15,22 +15,9 @@ pub(crate) fn expect_row<T: PartialEq + Debug>(
     assert_eq!(rt; returned, want, "{row:?}");
 }
 
-/// Some text, so many times.
-pub(crate) type Piece = (usize, &'static str);
-
-fn append(rt: &impl Abort, text: &mut String, piece: &Piece) {
-    for _ in 0..piece.0 {
-        text.push_str(piece.1).expect(rt, "memory");
-    }
-}
-
 /// The pieces, one behind the other.
 pub(crate) fn joined(rt: &(impl Abort + AllocGlobal), pieces: &[Piece]) -> String {
-    let mut text = String::new(rt.alloc());
-    for piece in pieces {
-        append(rt, &mut text, piece);
-    }
-    text
+    test_kit::joined(rt.alloc(), pieces).expect(rt, "memory")
 }
 
 pub(crate) fn name(rt: &impl Abort, text: &[u8]) -> Name {

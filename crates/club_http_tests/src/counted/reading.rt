@@ -4,9 +4,10 @@ use super::doubles::Pieces;
 use super::{BOOKING, ExchangeResult, IS_BAD, returns};
 use crate::bodies::LONGEST;
 use crate::expect::expect_eq;
-use crate::rows::{Piece, joined};
+use crate::rows::joined;
 use std::alloc::Global;
 use std::process::Abort;
+use test_kit::Piece;
 
 /// How a text is read of a reader that fails at the call behind its end: at most so many bytes come
 /// in a call, so many calls are made, and so many bytes stay with the reader.
