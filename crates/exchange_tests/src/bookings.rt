@@ -32,17 +32,13 @@ fn lengths_of_replies(rt: HostRuntime) {
 const CONFLICT: &str = "409 Conflict";
 
 /// Number 7 again, with one guest.
-const OTHER_7: Asked<'static> = Asked {
-    line: PUT_7,
-    body: ONE_GUEST,
-};
+const OTHER_7: Asked<'static> = Asked(PUT_7, ONE_GUEST);
 
-const NUMBER_USED: HttpReply<'static> = HttpReply {
-    status: CONFLICT,
-    field: "",
-    len: 33,
-    body: "{\"fault\":13,\"text\":\"number used\"}",
-};
+const NUMBER_USED: HttpReply<'static> = HttpReply::Refused(
+    CONFLICT,
+    33,
+    "{\"fault\":13,\"text\":\"number used\"}",
+);
 
 static REPEATS: [Step; 10] = [
     Step::Asks(NOON, &AMY, &BOOK_7, &BOOKED_7),
@@ -62,55 +58,32 @@ fn repeats_a_booking(rt: HostRuntime) {
     plays_in_all_forms(&rt, &REPEATS);
 }
 
-const BOOK_ROOM: Asked<'static> = Asked {
-    line: "PUT /slots/room-1/2026-05-01/18/bookings/8",
-    body: NO_GUESTS,
-};
+const BOOK_ROOM: Asked<'static> = Asked("PUT /slots/room-1/2026-05-01/18/bookings/8", NO_GUESTS);
 
-const ROOM_BOOKED: HttpReply<'static> = HttpReply {
-    status: "200 OK",
-    field: "",
-    len: 43,
-    body: "{\"booking\":\"amy-1/8\",\"charge\":601,\"left\":0}",
-};
+const ROOM_BOOKED: HttpReply<'static> = HttpReply::Ok(
+    43,
+    "{\"booking\":\"amy-1/8\",\"charge\":601,\"left\":0}",
+);
 
-const CANCEL_ROOM: Asked<'static> = Asked {
-    line: "DELETE /slots/room-1/2026-05-01/18/bookings/8",
-    body: "",
-};
+const CANCEL_ROOM: Asked<'static> = Asked("DELETE /slots/room-1/2026-05-01/18/bookings/8", "");
 
-const CANCEL_OTHER: Asked<'static> = Asked {
-    line: "DELETE /slots/room-1/2026-05-01/18/bookings/9",
-    body: "",
-};
+const CANCEL_OTHER: Asked<'static> = Asked("DELETE /slots/room-1/2026-05-01/18/bookings/9", "");
 
-const NO_SUCH_BOOKING: HttpReply<'static> = HttpReply {
-    status: "404 Not Found",
-    field: "",
-    len: 37,
-    body: "{\"fault\":15,\"text\":\"no such booking\"}",
-};
+const NO_SUCH_BOOKING: HttpReply<'static> = HttpReply::Refused(
+    "404 Not Found",
+    37,
+    "{\"fault\":15,\"text\":\"no such booking\"}",
+);
 
-const ALL_BACK: HttpReply<'static> = HttpReply {
-    status: "200 OK",
-    field: "",
-    len: 34,
-    body: "{\"booking\":\"amy-1/8\",\"refund\":601}",
-};
+const ALL_BACK: HttpReply<'static> = HttpReply::Ok(34, "{\"booking\":\"amy-1/8\",\"refund\":601}");
 
-const HALF_BACK: HttpReply<'static> = HttpReply {
-    status: "200 OK",
-    field: "",
-    len: 34,
-    body: "{\"booking\":\"amy-1/8\",\"refund\":300}",
-};
+const HALF_BACK: HttpReply<'static> = HttpReply::Ok(34, "{\"booking\":\"amy-1/8\",\"refund\":300}");
 
-const SLOT_HAS_BEGUN: HttpReply<'static> = HttpReply {
-    status: CONFLICT,
-    field: "",
-    len: 36,
-    body: "{\"fault\":21,\"text\":\"slot has begun\"}",
-};
+const SLOT_HAS_BEGUN: HttpReply<'static> = HttpReply::Refused(
+    CONFLICT,
+    36,
+    "{\"fault\":21,\"text\":\"slot has begun\"}",
+);
 
 /// The whole charge a day before the start, half of it a minute later, nothing from the start on.
 static REFUNDS: [[Step; 3]; 3] = [
@@ -138,12 +111,10 @@ fn refunds(rt: HostRuntime) {
     }
 }
 
-const ONE_LEFT: HttpReply<'static> = HttpReply {
-    status: "200 OK",
-    field: "",
-    len: 62,
-    body: "{\"member\":\"amy\",\"balance\":9099,\"quota\":5,\"open\":1,\"spent\":901}",
-};
+const ONE_LEFT: HttpReply<'static> = HttpReply::Ok(
+    62,
+    "{\"member\":\"amy\",\"balance\":9099,\"quota\":5,\"open\":1,\"spent\":901}",
+);
 
 static TOTALS: [Step; 4] = [
     Step::Asks(NOON, &AMY, &BOOK_7, &BOOKED_7),
@@ -157,22 +128,21 @@ fn sums_up(rt: HostRuntime) {
     plays_in_all_forms(&rt, &TOTALS);
 }
 
-const BOOK_7_AT_21: Asked<'static> = Asked {
-    line: "PUT /slots/court-1/2026-05-01/21/bookings/7",
-    body: TWO_GUESTS,
-};
+const BOOK_7_AT_21: Asked<'static> = Asked(
+    "PUT /slots/court-1/2026-05-01/21/bookings/7",
+    TWO_GUESTS,
+);
 
-const BOOK_7_AT_22: Asked<'static> = Asked {
-    line: "PUT /slots/court-1/2026-05-01/22/bookings/7",
-    body: TWO_GUESTS,
-};
+const BOOK_7_AT_22: Asked<'static> = Asked(
+    "PUT /slots/court-1/2026-05-01/22/bookings/7",
+    TWO_GUESTS,
+);
 
-const NOT_BOOKABLE: HttpReply<'static> = HttpReply {
-    status: CONFLICT,
-    field: "",
-    len: 34,
-    body: "{\"fault\":16,\"text\":\"not bookable\"}",
-};
+const NOT_BOOKABLE: HttpReply<'static> = HttpReply::Refused(
+    CONFLICT,
+    34,
+    "{\"fault\":16,\"text\":\"not bookable\"}",
+);
 
 /// No more than 60 days ahead, before the start, and in the hours of opening.
 static WINDOW: [[Step; 1]; 6] = [
@@ -191,31 +161,25 @@ fn books_within_the_window(rt: HostRuntime) {
     }
 }
 
-const BOOK_2_FOR_TWO: Asked<'static> = Asked {
-    line: PUT_2,
-    body: ONE_GUEST,
-};
+const BOOK_2_FOR_TWO: Asked<'static> = Asked(PUT_2, ONE_GUEST);
 
-const NO_PLACES: HttpReply<'static> = HttpReply {
-    status: CONFLICT,
-    field: "",
-    len: 31,
-    body: "{\"fault\":18,\"text\":\"no places\"}",
-};
+const NO_PLACES: HttpReply<'static> = HttpReply::Refused(
+    CONFLICT,
+    31,
+    "{\"fault\":18,\"text\":\"no places\"}",
+);
 
-const QUOTA_REACHED: HttpReply<'static> = HttpReply {
-    status: CONFLICT,
-    field: "",
-    len: 35,
-    body: "{\"fault\":19,\"text\":\"quota reached\"}",
-};
+const QUOTA_REACHED: HttpReply<'static> = HttpReply::Refused(
+    CONFLICT,
+    35,
+    "{\"fault\":19,\"text\":\"quota reached\"}",
+);
 
-const BALANCE_TOO_LOW: HttpReply<'static> = HttpReply {
-    status: "402 Payment Required",
-    field: "",
-    len: 37,
-    body: "{\"fault\":20,\"text\":\"balance too low\"}",
-};
+const BALANCE_TOO_LOW: HttpReply<'static> = HttpReply::Refused(
+    "402 Payment Required",
+    37,
+    "{\"fault\":20,\"text\":\"balance too low\"}",
+);
 
 static LIMITS: [Step; 9] = [
     Step::Orders(Order::AddMember("cy", 1), None),
@@ -234,12 +198,11 @@ fn minds_places_points_and_quota(rt: HostRuntime) {
     plays_in_all_forms(&rt, &LIMITS);
 }
 
-const CLOSED: HttpReply<'static> = HttpReply {
-    status: CONFLICT,
-    field: "",
-    len: 33,
-    body: "{\"fault\":17,\"text\":\"slot closed\"}",
-};
+const CLOSED: HttpReply<'static> = HttpReply::Refused(
+    CONFLICT,
+    33,
+    "{\"fault\":17,\"text\":\"slot closed\"}",
+);
 
 static CLOSES: [Step; 7] = [
     Step::Asks(NOON, &AMY, &BOOK_7, &BOOKED_7),

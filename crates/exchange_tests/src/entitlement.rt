@@ -16,12 +16,11 @@ use test_kit::passes::AMY;
 use test_kit::roots::{ROOT, SECOND_ROOT, THIRD_ROOT};
 use test_kit::{Order, minutes};
 
-const KEY_REVOKED: HttpReply<'static> = HttpReply {
-    status: "403 Forbidden",
-    field: "",
-    len: 33,
-    body: "{\"fault\":10,\"text\":\"key revoked\"}",
-};
+const KEY_REVOKED: HttpReply<'static> = HttpReply::Refused(
+    "403 Forbidden",
+    33,
+    "{\"fault\":10,\"text\":\"key revoked\"}",
+);
 
 static VERIFIES: [Step; 6] = [
     Step::Asks(NOON, &STRANGER, &ACCOUNT, &NOT_VERIFIED),
@@ -37,17 +36,15 @@ fn verifies(rt: HostRuntime) {
     plays_in_all_forms(&rt, &VERIFIES);
 }
 
-const BOOK_8_AT_19: Asked<'static> = Asked {
-    line: "PUT /slots/court-1/2026-05-01/19/bookings/8",
-    body: NO_GUESTS,
-};
+const BOOK_8_AT_19: Asked<'static> = Asked(
+    "PUT /slots/court-1/2026-05-01/19/bookings/8",
+    NO_GUESTS,
+);
 
-const BOOKED_8: HttpReply<'static> = HttpReply {
-    status: "200 OK",
-    field: "",
-    len: 43,
-    body: "{\"booking\":\"amy-1/8\",\"charge\":200,\"left\":3}",
-};
+const BOOKED_8: HttpReply<'static> = HttpReply::Ok(
+    43,
+    "{\"booking\":\"amy-1/8\",\"charge\":200,\"left\":3}",
+);
 
 static SPENDS: [Step; 4] = [
     Step::Asks(NOON, &SPENDS_600, &BOOK_7, &BOOKED_7),
@@ -62,17 +59,19 @@ fn keeps_a_spend_limit(rt: HostRuntime) {
 }
 
 /// Number 7 without guests.
-const BOOK_7_ALONE: Asked<'static> = Asked {
-    line: PUT_7,
-    body: NO_GUESTS,
-};
+const BOOK_7_ALONE: Asked<'static> = Asked(PUT_7, NO_GUESTS);
 
-const NOT_UNDERSTOOD_2: HttpReply<'static> = HttpReply {
-    status: "403 Forbidden",
-    field: "",
-    len: 54,
-    body: "{\"fault\":11,\"text\":\"caveat not understood\",\"caveat\":2}",
-};
+const NOT_UNDERSTOOD_1: HttpReply<'static> = HttpReply::Refused(
+    "403 Forbidden",
+    54,
+    "{\"fault\":11,\"text\":\"caveat not understood\",\"caveat\":1}",
+);
+
+const NOT_UNDERSTOOD_2: HttpReply<'static> = HttpReply::Refused(
+    "403 Forbidden",
+    54,
+    "{\"fault\":11,\"text\":\"caveat not understood\",\"caveat\":2}",
+);
 
 static CAVEATS: [Step; 4] = [
     Step::Asks(NOON, &AT_THE_COURT, &ACCOUNT, &DENIED_1),
@@ -87,17 +86,10 @@ fn tests_caveats(rt: HostRuntime) {
 }
 
 /// A Saturday.
-const BOOK_8_A_DAY_LATER: Asked<'static> = Asked {
-    line: "PUT /slots/court-1/2026-05-02/18/bookings/8",
-    body: NO_GUESTS,
-};
-
-const NOT_UNDERSTOOD_1: HttpReply<'static> = HttpReply {
-    status: "403 Forbidden",
-    field: "",
-    len: 54,
-    body: "{\"fault\":11,\"text\":\"caveat not understood\",\"caveat\":1}",
-};
+const BOOK_8_A_DAY_LATER: Asked<'static> = Asked(
+    "PUT /slots/court-1/2026-05-02/18/bookings/8",
+    NO_GUESTS,
+);
 
 /// The slot's day is a Friday.
 static WEEKDAYS: [Step; 5] = [

@@ -9,18 +9,17 @@ use test_kit::passes::{AMY, PassTexts};
 
 /// A request: its line without the version, and its body.
 #[derive(Clone, Copy)]
-pub(crate) struct Asked<'a> {
-    pub line: &'a str,
-    pub body: &'a str,
-}
+pub(crate) struct Asked<'a>(pub &'a str, pub &'a str);
 
-/// A reply: its status and phrase, the field that goes with them, and its body of so many bytes.
+/// A reply.
 #[derive(Clone, Copy)]
-pub(crate) struct HttpReply<'a> {
-    pub status: &'a str,
-    pub field: &'a str,
-    pub len: usize,
-    pub body: &'a str,
+pub(crate) enum HttpReply<'a> {
+    /// With status 200, and a body of so many bytes.
+    Ok(usize, &'a str),
+    /// With this status and phrase, and a body of so many bytes.
+    Refused(&'a str, usize, &'a str),
+    /// With this status and phrase, the field that goes with them, and a body of so many bytes.
+    RefusedWith(&'a str, &'a str, usize, &'a str),
 }
 
 /// A step of a worked row.
@@ -34,7 +33,7 @@ pub(crate) enum Step {
 impl Asked<'_> {
     /// The bytes of the request with a pass.
     pub fn text(&self, rt: &(impl Abort + Alloc<A = Global>), pass: &str) -> String {
-        let (line, body) = (self.line, self.body);
+        let Asked(line, body) = *self;
         let len = body.len();
         let text = format!(in rt.alloc();
             "{line} HTTP/1.1\r\nHost: club\r\nAuthorization: Bearer {pass}\r\n\
@@ -47,8 +46,11 @@ impl Asked<'_> {
 impl HttpReply<'_> {
     /// The bytes of the reply.
     pub fn text(&self, rt: &(impl Abort + Alloc<A = Global>)) -> String {
-        let (status, field) = (self.status, self.field);
-        let (len, body) = (self.len, self.body);
+        let (status, field, len, body) = match *self {
+            HttpReply::Ok(len, body) => ("200 OK", "", len, body),
+            HttpReply::Refused(status, len, body) => (status, "", len, body),
+            HttpReply::RefusedWith(status, field, len, body) => (status, field, len, body),
+        };
         let text = format!(in rt.alloc();
             "HTTP/1.1 {status}\r\nContent-Type: application/json\r\nContent-Length: {len}\r\n\
                 {field}Connection: close\r\n\r\n{body}"
@@ -57,16 +59,10 @@ impl HttpReply<'_> {
     }
 }
 
-pub(crate) const ACCOUNT: Asked<'static> = Asked {
-    line: "GET /account",
-    body: "",
-};
+pub(crate) const ACCOUNT: Asked<'static> = Asked("GET /account", "");
 
 /// The slot of `court-1` on 2026-05-01 at 18.
-pub(crate) const VIEW: Asked<'static> = Asked {
-    line: "GET /slots/court-1/2026-05-01/18",
-    body: "",
-};
+pub(crate) const VIEW: Asked<'static> = Asked("GET /slots/court-1/2026-05-01/18", "");
 
 /// Bookings of that slot, under number 7.
 pub(crate) const PUT_7: &str = "PUT /slots/court-1/2026-05-01/18/bookings/7";
@@ -77,109 +73,87 @@ pub(crate) const ONE_GUEST: &str = "{\"guests\":1}";
 
 pub(crate) const TWO_GUESTS: &str = "{\"guests\":2}";
 
-pub(crate) const BOOK_7: Asked<'static> = Asked {
-    line: PUT_7,
-    body: TWO_GUESTS,
-};
+pub(crate) const BOOK_7: Asked<'static> = Asked(PUT_7, TWO_GUESTS);
 
-pub(crate) const CANCEL_7: Asked<'static> = Asked {
-    line: "DELETE /slots/court-1/2026-05-01/18/bookings/7",
-    body: "",
-};
+pub(crate) const CANCEL_7: Asked<'static> = Asked(
+    "DELETE /slots/court-1/2026-05-01/18/bookings/7",
+    "",
+);
 
 /// Bookings of that slot under number 2.
 pub(crate) const PUT_2: &str = "PUT /slots/court-1/2026-05-01/18/bookings/2";
 
-pub(crate) const BOOK_2: Asked<'static> = Asked {
-    line: PUT_2,
-    body: NO_GUESTS,
-};
+pub(crate) const BOOK_2: Asked<'static> = Asked(PUT_2, NO_GUESTS);
 
-pub(crate) const BOOK_8: Asked<'static> = Asked {
-    line: "PUT /slots/court-1/2026-05-01/18/bookings/8",
-    body: NO_GUESTS,
-};
+pub(crate) const BOOK_8: Asked<'static> = Asked(
+    "PUT /slots/court-1/2026-05-01/18/bookings/8",
+    NO_GUESTS,
+);
 
-pub(crate) const BOOKED_7: HttpReply<'static> = HttpReply {
-    status: "200 OK",
-    field: "",
-    len: 43,
-    body: "{\"booking\":\"amy-1/7\",\"charge\":600,\"left\":1}",
-};
+pub(crate) const BOOKED_7: HttpReply<'static> = HttpReply::Ok(
+    43,
+    "{\"booking\":\"amy-1/7\",\"charge\":600,\"left\":1}",
+);
 
-pub(crate) const CANCELLED_7: HttpReply<'static> = HttpReply {
-    status: "200 OK",
-    field: "",
-    len: 34,
-    body: "{\"booking\":\"amy-1/7\",\"refund\":600}",
-};
+pub(crate) const CANCELLED_7: HttpReply<'static> = HttpReply::Ok(
+    34,
+    "{\"booking\":\"amy-1/7\",\"refund\":600}",
+);
 
 /// The slot while nobody booked it, and with that booking.
-pub(crate) const FREE: HttpReply<'static> = HttpReply {
-    status: "200 OK",
-    field: "",
-    len: 114,
-    body: "{\"facility\":\"court-1\",\"day\":\"2026-05-01\",\"hour\":18,\"kind\":\"court\",\
+pub(crate) const FREE: HttpReply<'static> = HttpReply::Ok(
+    114,
+    "{\"facility\":\"court-1\",\"day\":\"2026-05-01\",\"hour\":18,\"kind\":\"court\",\
         \"price\":200,\"places\":4,\"taken\":0,\"closed\":false}",
-};
+);
 
-pub(crate) const TAKEN: HttpReply<'static> = HttpReply {
-    status: "200 OK",
-    field: "",
-    len: 114,
-    body: "{\"facility\":\"court-1\",\"day\":\"2026-05-01\",\"hour\":18,\"kind\":\"court\",\
+pub(crate) const TAKEN: HttpReply<'static> = HttpReply::Ok(
+    114,
+    "{\"facility\":\"court-1\",\"day\":\"2026-05-01\",\"hour\":18,\"kind\":\"court\",\
         \"price\":200,\"places\":4,\"taken\":3,\"closed\":false}",
-};
+);
 
 /// Amy's account before any booking, and with that booking.
-pub(crate) const ACCOUNT_BEFORE: HttpReply<'static> = HttpReply {
-    status: "200 OK",
-    field: "",
-    len: 61,
-    body: "{\"member\":\"amy\",\"balance\":10000,\"quota\":5,\"open\":0,\"spent\":0}",
-};
+pub(crate) const ACCOUNT_BEFORE: HttpReply<'static> = HttpReply::Ok(
+    61,
+    "{\"member\":\"amy\",\"balance\":10000,\"quota\":5,\"open\":0,\"spent\":0}",
+);
 
-pub(crate) const ACCOUNT_AFTER: HttpReply<'static> = HttpReply {
-    status: "200 OK",
-    field: "",
-    len: 62,
-    body: "{\"member\":\"amy\",\"balance\":9400,\"quota\":5,\"open\":1,\"spent\":600}",
-};
+pub(crate) const ACCOUNT_AFTER: HttpReply<'static> = HttpReply::Ok(
+    62,
+    "{\"member\":\"amy\",\"balance\":9400,\"quota\":5,\"open\":1,\"spent\":600}",
+);
 
-pub(crate) const BAD_REQUEST: HttpReply<'static> = HttpReply {
-    status: "400 Bad Request",
-    field: "",
-    len: 32,
-    body: "{\"fault\":1,\"text\":\"bad request\"}",
-};
+pub(crate) const BAD_REQUEST: HttpReply<'static> = HttpReply::Refused(
+    "400 Bad Request",
+    32,
+    "{\"fault\":1,\"text\":\"bad request\"}",
+);
 
-pub(crate) const PASS_MALFORMED: HttpReply<'static> = HttpReply {
-    status: "400 Bad Request",
-    field: "",
-    len: 35,
-    body: "{\"fault\":6,\"text\":\"pass malformed\"}",
-};
+pub(crate) const PASS_MALFORMED: HttpReply<'static> = HttpReply::Refused(
+    "400 Bad Request",
+    35,
+    "{\"fault\":6,\"text\":\"pass malformed\"}",
+);
 
-pub(crate) const THIRD_PARTY_CAVEAT: HttpReply<'static> = HttpReply {
-    status: "400 Bad Request",
-    field: "",
-    len: 39,
-    body: "{\"fault\":7,\"text\":\"third-party caveat\"}",
-};
+pub(crate) const THIRD_PARTY_CAVEAT: HttpReply<'static> = HttpReply::Refused(
+    "400 Bad Request",
+    39,
+    "{\"fault\":7,\"text\":\"third-party caveat\"}",
+);
 
-pub(crate) const NOT_VERIFIED: HttpReply<'static> = HttpReply {
-    status: "401 Unauthorized",
-    field: "WWW-Authenticate: Bearer\r\n",
-    len: 33,
-    body: "{\"fault\":9,\"text\":\"not verified\"}",
-};
+pub(crate) const NOT_VERIFIED: HttpReply<'static> = HttpReply::RefusedWith(
+    "401 Unauthorized",
+    "WWW-Authenticate: Bearer\r\n",
+    33,
+    "{\"fault\":9,\"text\":\"not verified\"}",
+);
 
-pub(crate) const DENIED_1: HttpReply<'static> = HttpReply {
-    status: "403 Forbidden",
-    field: "",
-    len: 46,
-    body: "{\"fault\":12,\"text\":\"caveat denies\",\"caveat\":1}",
-};
+pub(crate) const DENIED_1: HttpReply<'static> = HttpReply::Refused(
+    "403 Forbidden",
+    46,
+    "{\"fault\":12,\"text\":\"caveat denies\",\"caveat\":1}",
+);
 
 /// Nobody has booked, and then amy does.
 pub(crate) static NOT_YET: [Step; 4] = [

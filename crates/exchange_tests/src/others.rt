@@ -14,19 +14,15 @@ use test_kit::moments::NOON;
 use test_kit::passes::{AMY, BOB, CY};
 use test_kit::roots::ROOT;
 
-const BOOKED_2: HttpReply<'static> = HttpReply {
-    status: "200 OK",
-    field: "",
-    len: 43,
-    body: "{\"booking\":\"bob-1/2\",\"charge\":200,\"left\":3}",
-};
+const BOOKED_2: HttpReply<'static> = HttpReply::Ok(
+    43,
+    "{\"booking\":\"bob-1/2\",\"charge\":200,\"left\":3}",
+);
 
-const FILLED_BY_7: HttpReply<'static> = HttpReply {
-    status: "200 OK",
-    field: "",
-    len: 43,
-    body: "{\"booking\":\"amy-1/7\",\"charge\":600,\"left\":0}",
-};
+const FILLED_BY_7: HttpReply<'static> = HttpReply::Ok(
+    43,
+    "{\"booking\":\"amy-1/7\",\"charge\":600,\"left\":0}",
+);
 
 /// The replies to amy, whatever others do in other slots.
 static ALONE: [Step; 3] = [
@@ -78,16 +74,8 @@ fn cy_books(
 ) {
     let line = line_of(rt, day, hour, number);
     let body = booked_by_cy(rt, number);
-    let asked = Asked {
-        line: line.as_str(),
-        body: NO_GUESTS,
-    };
-    let returned = HttpReply {
-        status: "200 OK",
-        field: "",
-        len: 43,
-        body: body.as_str(),
-    };
+    let asked = Asked(line.as_str(), NO_GUESTS);
+    let returned = HttpReply::Ok(43, body.as_str());
     front.answers(rt, NOON, text_in(&CY, form), &asked, &returned);
 }
 

@@ -48,7 +48,7 @@ fn expect_reply_or_end(
         panic!(rt; "Memory");
     }
     let want = returned.text(rt);
-    expect_output(rt, taker.written(), want.as_bytes(), asked.line);
+    expect_output(rt, taker.written(), want.as_bytes(), asked.0);
 }
 
 /// The booking is kept.
