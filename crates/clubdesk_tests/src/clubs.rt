@@ -4,19 +4,12 @@
 
 use crate::runs::{ROOM, Row, ended_at, expect_output, expect_rows, new_path, remove};
 use crate::served::reply_to;
+use crate::servers::OFFICE;
 use std::fs;
 use std::test::Fail;
 
-static OFFICE: [Row; 6] = [
-    Row("add-member", "amy 5", "0 done\n"),
-    Row("credit", "amy 10000", "0 done\n"),
+static BESIDE_AMY: [Row; 2] = [
     Row("add-member", "bea 5", "0 done\n"),
-    Row("add-facility", "court-1 court 4 200 8 22", "0 done\n"),
-    Row(
-        "add-key",
-        "amy-1 amy 00112233445566778899aabbccddeeff",
-        "0 AgEJY2x1Yi1kZXNrAglrZXk6YW15LTEAAAYgDsU-vMVpq3Ex5_BQk6D5VX6TimC0IfCk7Dn6nv7TIJk\n",
-    ),
     Row("close-slot", "court-1 2026-05-01 19", "0 done\n"),
 ];
 
@@ -49,6 +42,7 @@ const BOOKING: &str =
 // Makes the club, and gives the bytes of its file.
 fn club(rt: &HostRuntime, path: &str) -> Result<Vec<u8>, Fail> {
     expect_rows(rt, path, &OFFICE)?;
+    expect_rows(rt, path, &BESIDE_AMY)?;
     for _ in 0..9 {
         expect_rows(rt, path, &MILLION)?;
     }

@@ -2,24 +2,17 @@
 
 use crate::runs::{Row, expect_rows, log_of, new_path, remove};
 use crate::served::{Leaving, reply_by, reply_to};
+use crate::servers::OFFICE;
 use std::test::Fail;
 use std::{env, fs};
 use test_kit::exchanges::{BOOK_7, BOOKED_7};
 
-// Amy and bob with 10,000 points each, a court and a room, and a key for each of them. The passes
-// were computed by a program of another language.
-static OFFICE: [Row; 8] = [
-    Row("add-member", "amy 5", "0 done\n"),
+// Bob with as many points as amy, a room, and a key of bob's. Its pass was computed by a program of
+// another language.
+static BESIDE_AMY: [Row; 4] = [
     Row("add-member", "bob 5", "0 done\n"),
-    Row("credit", "amy 10000", "0 done\n"),
     Row("credit", "bob 10000", "0 done\n"),
-    Row("add-facility", "court-1 court 4 200 8 22", "0 done\n"),
     Row("add-facility", "room-1 room 1 601 8 22", "0 done\n"),
-    Row(
-        "add-key",
-        "amy-1 amy 00112233445566778899aabbccddeeff",
-        "0 AgEJY2x1Yi1kZXNrAglrZXk6YW15LTEAAAYgDsU-vMVpq3Ex5_BQk6D5VX6TimC0IfCk7Dn6nv7TIJk\n",
-    ),
     Row(
         "add-key",
         "bob-1 bob ffeeddccbbaa99887766554433221100",
@@ -76,6 +69,7 @@ fn expect_replies(rt: &HostRuntime, path: &str, rows: &[(&str, &str)]) -> Result
 fn a_day_in_a_file(rt: HostRuntime) -> Result<(), Fail> {
     let path = new_path(&rt, "day")?;
     expect_rows(&rt, path.as_str(), &OFFICE)?;
+    expect_rows(&rt, path.as_str(), &BESIDE_AMY)?;
     expect_replies(&rt, path.as_str(), &BOOKINGS)?;
     expect_rows(&rt, path.as_str(), &SHEETS)?;
     remove(&rt, path.as_str());
@@ -116,10 +110,7 @@ fn a_booking_in_the_log_alone(rt: HostRuntime) -> Result<(), Fail> {
     Ok(())
 }
 
-static NEW: [Row; 7] = [
-    Row("add-member", "amy 5", "0 done\n"),
-    Row("credit", "amy 10000", "0 done\n"),
-    Row("add-facility", "court-1 court 4 200 8 22", "0 done\n"),
+static AGAIN: [Row; 4] = [
     Row("add-member", "amy 5", "1 refused: exists"),
     Row("credit", "amy 0", "1 refused: out of range"),
     Row(
@@ -138,7 +129,8 @@ static NEW: [Row; 7] = [
 #[test]
 fn a_new_file(rt: HostRuntime) -> Result<(), Fail> {
     let path = new_path(&rt, "new")?;
-    expect_rows(&rt, path.as_str(), &NEW)?;
+    expect_rows(&rt, path.as_str(), &OFFICE)?;
+    expect_rows(&rt, path.as_str(), &AGAIN)?;
     remove(&rt, path.as_str());
     Ok(())
 }
