@@ -1,7 +1,7 @@
 //! Words that are refused before the input is read, and help.
 
 use crate::doubles::no_input;
-use crate::expect::{expect_end, expect_eq, expect_front, expect_part};
+use crate::expect::{expect_end, expect_eq};
 use crate::runs::{
     MALFORMED, ROOT, Words, expect, expect_all_unread, expect_unread, output_of, output_of_fault,
 };
@@ -40,7 +40,7 @@ static OTHER_FORMS: [&str; 6] = ["", "v3", "V1", "JSON", "v1 ", "binary"];
 fn expect_other_form(rt: &(impl Abort + AllocGlobal), words: &[&str], form: &str) {
     let output = output_of(rt, words, &mut no_input());
     let line = form_line(rt.alloc(), form).expect(rt, "memory");
-    expect_front(rt, &output, 2, line.as_str());
+    assert!(rt; output.begins(2, line.as_str()), "{output:?}");
 }
 
 #[test]
@@ -135,7 +135,7 @@ static HELP: [(Words, Words); 8] = [
 
 fn expect_parts(rt: &impl Abort, text: &str, parts: &[&str]) {
     for part in parts {
-        expect_part(rt, text, part);
+        assert!(rt; text.contains(part), "{text}");
     }
 }
 

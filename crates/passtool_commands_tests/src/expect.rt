@@ -10,18 +10,7 @@ pub(crate) fn expect_eq<T: PartialEq + Debug>(rt: &impl Abort, returned: &T, wan
     assert_eq!(rt; returned, want);
 }
 
-/// Ends the test unless this is part of the text.
-pub(crate) fn expect_part(rt: &impl Abort, text: &str, part: &str) {
-    assert!(rt; text.contains(part), "{text}");
-}
-
 /// Ends the test unless a run ended so.
 pub(crate) fn expect_end(rt: &impl Abort, output: &Output, end: &End) {
     assert!(rt; end.fits(output), "{output:?}, and not {end:?}");
-}
-
-/// Ends the test unless a run ended with this status and a text that begins with `front`.
-pub(crate) fn expect_front(rt: &impl Abort, output: &Output, status: u8, front: &str) {
-    assert!(rt; output.text.as_str().starts_with(front), "{output:?}");
-    expect_eq(rt, &output.status, &status);
 }
