@@ -112,16 +112,6 @@ fn weekdays(rt: HostRuntime) {
     are_weekdays(&rt, &WEEKDAYS);
 }
 
-/// The moment has this text and this number; its number gives the moment again, and so do its day
-/// and minute.
-fn is_moment(rt: &impl Abort, moment: Moment, text: &str, number: u32) {
-    expect_eq(rt, &moment.number(), &number, &text);
-    expect_eq(rt, &moment.text().as_slice(), &text.as_bytes(), &text);
-    expect_eq(rt, &moment_numbered(number), &Some(moment), &text);
-    let again = moment_at(moment.day(), moment.minute_of_day());
-    expect_eq(rt, &again, &Some(moment), &text);
-}
-
 static MOMENTS: [(&str, Option<u32>); 9] = [
     ("2000-01-01T00:00", Some(15_778_080)),
     ("2026-05-01T18:00", Some(29_627_640)),
@@ -134,6 +124,18 @@ static MOMENTS: [(&str, Option<u32>); 9] = [
     ("2026-", None),
 ];
 
+static NO_MOMENTS: [u32; 2] = [15_778_079, 68_374_080];
+
+/// The moment has this text and this number; its number gives the moment again, and so do its day
+/// and minute.
+fn is_moment(rt: &impl Abort, moment: Moment, text: &str, number: u32) {
+    expect_eq(rt, &moment.number(), &number, &text);
+    expect_eq(rt, &moment.text().as_slice(), &text.as_bytes(), &text);
+    expect_eq(rt, &moment_numbered(number), &Some(moment), &text);
+    let again = moment_at(moment.day(), moment.minute_of_day());
+    expect_eq(rt, &again, &Some(moment), &text);
+}
+
 fn are_moments(rt: &impl Abort, rows: &[(&'static str, Option<u32>)]) {
     for (text, want) in rows {
         let moment = read_moment(text.as_bytes());
@@ -143,8 +145,6 @@ fn are_moments(rt: &impl Abort, rows: &[(&'static str, Option<u32>)]) {
         }
     }
 }
-
-static NO_MOMENTS: [u32; 2] = [15_778_079, 68_374_080];
 
 fn are_no_moments(rt: &impl Abort, numbers: &[u32]) {
     for number in numbers {
