@@ -11,10 +11,9 @@ use crate::memory::{Kept, exchanges};
 use crate::rate::{nanos_each, rate};
 use crate::sent::{ROWS, Requests, Sent};
 use anyhow::{Result, anyhow};
-use club_core::Request;
+use club_core::{ClubStore, Request};
 use club_http::{Desk, Face, MAX_REPLY_LEN, Routes};
-use club_store::Store;
-use sqlite::MemStore;
+use std::alloc::Global;
 use std::rt::Clock;
 use std::time::Duration;
 
@@ -27,7 +26,7 @@ const HEAD: &str = "asked for  a second | ns whole    words httparse     desk   
 pub(crate) fn compare(rt: &HostRuntime, count: u16) -> Result<()> {
     println!(rt; "{HEAD}")?;
     let requests = Requests::new(rt.alloc(), count)?;
-    let mut bench = Bench::new(rt)?;
+    let mut bench = Bench::new(rt.alloc(), in_memory(rt)?, in_memory(rt)?)?;
     for &(name, wish) in &ROWS {
         bench.print_row(rt, name, requests.of(wish))?;
     }
@@ -36,20 +35,20 @@ pub(crate) fn compare(rt: &HostRuntime, count: u16) -> Result<()> {
 
 /// What is measured: whole exchanges with one desk, and the parts with another one.
 #[derive(Drop)]
-struct Bench {
+struct Bench<S: ClubStore> {
     face: Face,
     routes: Routes,
-    whole: Desk<Store<MemStore>>,
-    part: Desk<Store<MemStore>>,
+    whole: Desk<S>,
+    part: Desk<S>,
 }
 
-impl Bench {
-    fn new(rt: &impl AllocGlobal) -> Result<Bench> {
+impl<S: ClubStore + Drop> Bench<S> {
+    fn new(alloc: Global, whole: Desk<S>, part: Desk<S>) -> Result<Bench<S>> {
         Ok(Bench {
-            face: Face::new(rt.alloc())?,
-            routes: Routes::new(rt.alloc())?,
-            whole: in_memory(rt)?,
-            part: in_memory(rt)?,
+            face: Face::new(alloc)?,
+            routes: Routes::new(alloc)?,
+            whole,
+            part,
         })
     }
 

@@ -8,7 +8,6 @@
 mod choice;
 mod club;
 mod desk;
-mod files;
 mod http;
 mod known;
 mod memory;
@@ -19,7 +18,6 @@ mod wish;
 
 use anyhow::Result;
 use choice::Choice;
-use files::{Files, OnDisk};
 use std::env;
 
 const USAGE: &str = "\
@@ -30,18 +28,18 @@ usage: club_bench store memory|FILE COUNT [ROWS ..]
 fn main(rt: HostRuntime) -> Result<()> {
     let words: Vec<String> = env::args(&rt)?.collect(rt.alloc())?;
     match Choice::read(rt.alloc(), words.as_slice())? {
-        Some(choice) => run(&rt, &OnDisk, &choice),
+        Some(choice) => run(&rt, &choice),
         None => Ok(println!(rt; "{USAGE}")?),
     }
 }
 
-fn run<F: Files>(rt: &HostRuntime, files: &F, choice: &Choice<'_>) -> Result<()> {
+fn run(rt: &HostRuntime, choice: &Choice<'_>) -> Result<()> {
     match choice {
         Choice::Store {
             place,
             count,
             sizes,
-        } => store::compare(rt, files, place, *count, sizes),
+        } => store::compare(rt, place, *count, sizes),
         Choice::Desk { count } => desk::compare(rt, *count),
         Choice::Http { count } => http::compare(rt, *count),
     }

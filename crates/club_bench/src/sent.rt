@@ -90,15 +90,20 @@ fn text(
 }
 
 fn booking(alloc: Global, slot: &Slot, number: u16, pass: &str) -> Result<String, AllocError> {
+    let path = booking_path(alloc, slot, number)?;
+    format!(in alloc;
+        "PUT {path} HTTP/1.1\r\n\
+        {FIELDS}Authorization: Bearer {pass}\r\n{BODY_FIELDS}\r\n{{\"guests\":1}}"
+    )
+}
+
+fn booking_path(alloc: Global, slot: &Slot, number: u16) -> Result<String, AllocError> {
     let Slot {
         facility,
         day,
         hour,
     } = *slot;
-    format!(in alloc;
-        "PUT /slots/{facility}/{day}/{hour}/bookings/{number} HTTP/1.1\r\n\
-        {FIELDS}Authorization: Bearer {pass}\r\n{BODY_FIELDS}\r\n{{\"guests\":1}}"
-    )
+    format!(in alloc; "/slots/{facility}/{day}/{hour}/bookings/{number}")
 }
 
 fn account(alloc: Global, pass: &str) -> Result<String, AllocError> {

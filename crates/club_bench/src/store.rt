@@ -7,11 +7,13 @@
 //! COUNT 0 made.
 
 mod club;
+mod file;
 mod times;
 
-use crate::files::Files;
 use anyhow::Result;
+use club_core::ClubStore;
 use club_store::Store;
+use file::in_file;
 use times::{Times, measure};
 
 /// How many bookings are in the table before the time is taken.
@@ -23,68 +25,46 @@ const HEAD: &str = "    rows                 view     booking        both       
 
 /// Prints each size's times, and the last size beside the first. Where no size is given, `ROWS` has
 /// them.
-pub(crate) fn compare<F: Files>(
-    rt: &HostRuntime,
-    files: &F,
-    place: &str,
-    count: u32,
-    sizes: &[u32],
-) -> Result<()> {
+pub(crate) fn compare(rt: &HostRuntime, place: &str, count: u32, sizes: &[u32]) -> Result<()> {
     println!(rt; "microseconds, in {place}")?;
     println!(rt; "{HEAD}")?;
     if sizes.is_empty() {
-        print_sizes(rt, files, place, count, &ROWS)
+        print_sizes(rt, place, count, &ROWS)
     } else {
-        print_sizes(rt, files, place, count, sizes)
+        print_sizes(rt, place, count, sizes)
     }
 }
 
-fn print_sizes<F: Files>(
-    rt: &HostRuntime,
-    files: &F,
-    place: &str,
-    count: u32,
-    sizes: &[u32],
-) -> Result<()> {
+fn print_sizes(rt: &HostRuntime, place: &str, count: u32, sizes: &[u32]) -> Result<()> {
     let mut first = None;
     for &rows in sizes {
-        let summary = measured_times(rt, files, place, rows, count)?.summary()?;
+        let summary = measured_times(rt, place, rows, count)?.summary()?;
         summary.print(rt, rows, *first.get_or_insert(summary))?;
     }
     Ok(())
 }
 
-fn measured_times<F: Files>(
-    rt: &HostRuntime,
-    files: &F,
-    place: &str,
-    rows: u32,
-    count: u32,
-) -> Result<Times> {
+fn measured_times(rt: &HostRuntime, place: &str, rows: u32, count: u32) -> Result<Times> {
     if place == MEMORY {
         in_memory(rt, rows, count)
     } else {
-        in_file(rt, files, place, rows, count)
+        let path = format!(in rt.alloc(); "{place}{rows}")?;
+        in_file(rt, path.as_str(), rows, count)
     }
 }
 
 fn in_memory(rt: &HostRuntime, rows: u32, count: u32) -> Result<Times> {
     let mut store = Store::open_in_memory(rt.alloc())?;
-    club::fill(&mut store, rows)?;
-    measure(rt, &mut store, rows, count)
+    times_over(rt, &mut store, rows, count)
 }
 
-fn in_file<F: Files>(
+// Fills the club first if it is empty.
+fn times_over<S: ClubStore>(
     rt: &HostRuntime,
-    files: &F,
-    path: &str,
+    store: &mut S,
     rows: u32,
     count: u32,
 ) -> Result<Times> {
-    let path = format!(in rt.alloc(); "{path}{rows}")?;
-    let mut store = files.open(rt, path.as_str())?;
-    club::fill(&mut store, rows)?;
-    let times = measure(rt, &mut store, rows, count)?;
-    files.close(store)?;
-    Ok(times)
+    club::fill(store, rows)?;
+    measure(rt, store, rows, count)
 }

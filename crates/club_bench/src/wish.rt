@@ -38,7 +38,7 @@ fn slot_at(index: u16) -> Option<Slot> {
     slot_from_columns(COURT, day, i64::from(hour))
 }
 
-// A minute before a slot begins, so that few bookings of a member are still to come.
-fn minute_before(slot: &Slot) -> Option<Moment> {
+/// A minute before a slot begins. A booking that is made then leaves few of its member to come.
+pub(crate) fn minute_before(slot: &Slot) -> Option<Moment> {
     Moment::from_number(slot.start().saturating_sub(1))
 }

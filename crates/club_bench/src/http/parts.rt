@@ -53,13 +53,17 @@ pub(crate) fn replies<S: ClubStore>(
 ) -> Result<Duration> {
     let start = Instant::now(rt)?;
     for (each, request) in sent.iter().zip(asked) {
-        let words = Words {
-            pass: each.pass.as_bytes(),
-            request: *request,
-        };
-        replies.push(desk.ask(each.moment, &words))?;
+        replies.push(reply(desk, each, *request))?;
     }
     Ok(start.elapsed(rt)?)
+}
+
+fn reply<S: ClubStore>(desk: &mut Desk<S>, sent: &Sent, request: Request) -> Reply {
+    let words = Words {
+        pass: sent.pass.as_bytes(),
+        request,
+    };
+    desk.ask(sent.moment, &words)
 }
 
 /// The texts of the replies. The last one is at the front of the room.

@@ -1,12 +1,11 @@
 //! A club whose members book in turn, two after another in the same slot.
 
 use crate::known::known;
+use crate::wish::minute_before;
 use anyhow::Result;
 use club_core::{Change, ClubStore, View};
-use club_rows::{
-    Booking, BookingNumber, Facility, FacilityColumns, Guests, Key, Member, Root, slot_from_columns,
-};
-use club_values::{Moment, Name, Slot};
+use club_rows::{Booking, BookingNumber, Facility, Guests, Key, Member, Root, slot_from_columns};
+use club_values::{Kind, Moment, Name, Slot};
 
 /// How many members there are, each with one key.
 const KEYS: u32 = 1_000;
@@ -82,10 +81,10 @@ pub(crate) fn is_view(view: &View, index: u32) -> bool {
 }
 
 fn court() -> Option<Facility> {
-    Facility::from_columns(&FacilityColumns {
-        name: COURT,
-        kind: b"court",
-        places: i64::from(PLACES),
+    Some(Facility {
+        name: Name::read(COURT)?,
+        kind: Kind::Court,
+        places: PLACES,
         price: 1,
         opens: 8,
         shuts: 22,
@@ -149,8 +148,7 @@ pub(crate) fn insertion(index: u32) -> Option<Change> {
 
 /// When the booking of this index is made: a minute before a slot begins.
 pub(crate) fn moment(index: u32) -> Option<Moment> {
-    let next = slot(index.saturating_sub(BOOKED_AHEAD))?;
-    Moment::from_number(next.start().saturating_sub(1))
+    minute_before(&slot(index.saturating_sub(BOOKED_AHEAD))?)
 }
 
 // The persons who are in its slot already.
