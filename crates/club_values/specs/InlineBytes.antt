@@ -9,17 +9,17 @@ module _ {n : ℕ} where
   stored_bytes a = take a.len a.buffer
 
 -- the bytes, and zeros behind them
-abbrev pub padded : ℕ → List ℕ → List ℕ
-padded n bytes = bytes ++ replicate (n - length bytes) 0
+abbrev pub with_padding : ℕ → List ℕ → List ℕ
+with_padding n bytes = bytes ++ replicate (n - length bytes) 0
 
 abbrev pub stored_inline : (n : ℕ) → List ℕ → Inside n
-stored_inline n bytes = record { buffer = padded n bytes; len = length bytes }
+stored_inline n bytes = record { buffer = with_padding n bytes; len = length bytes }
 
 module _ {n : ℕ} where
   pub record IsPadded (a : Inside n) : Type 0 where
     pub short : a.len ≤ n
     pub within : a.len ≤ length a.buffer
-    pub spare : a.buffer ≡ padded n (stored_bytes a)
+    pub spare : a.buffer ≡ with_padding n (stored_bytes a)
 
   pub stored_inline-stored_bytes : (a : Inside n) → IsPadded a → stored_inline n (stored_bytes a) ≡ a
   stored_inline-stored_bytes a h =

@@ -1,5 +1,5 @@
 //! The common part of both readers. A first scan over the whole pass finds each fault; its fields
-//! are read afterwards. Nothing here allocates memory.
+//! are read afterwards. Only the copy into a pass allocates memory.
 
 ghost use Rattle.std.specs.Prelude.{◌≡◌, [], ◌∷◌, IfNone, IfSome, length, option_map};
 ghost use Rattle.pass_forms.specs.computed.Caveats.{
