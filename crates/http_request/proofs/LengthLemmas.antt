@@ -1,15 +1,14 @@
 -- No body has more than 256 bytes.
-use Rattle.std.proofs.Common.{◌≡◌, ℕ, ◌-◌, ◌<◌, ◌≤◌, ◌&&◌, ◌||◌, refl, Bool, true, false, cond, eqb, leb, ltb, List, [], ◌∷◌, length, Option, Some, None}
+use Rattle.std.proofs.Common.{◌≡◌, ℕ, ◌-◌, ◌<◌, ◌≤◌, ◌||◌, refl, Bool, true, false, cond, eqb, leb, List, [], ◌∷◌, length, Option, Some, None}
 use Rattle.std.proofs.Common.{arith, rules, tests, codes, take}
 use Rattle.std.proofs.lemmas.List.{length-take-le}
-use Rattle.std.specs.Char.{is_ascii_digit}
-use Rattle.std.specs.List.{list_all}
+use Rattle.std.specs.Prelude.{option_and_then}
 use Rattle.std.specs.Str.{bytes_eq}
-use Rattle.std.specs.Str.Parse.{digits_value}
 use Rattle.httparse.specs.declared.spans.HeaderSpan.{HeaderSpan}
+use Rattle.club_values.specs.Number.{number_of_digits}
 use Rattle.http_request.specs.declared.front.Head.{Head}
 use Rattle.http_request.specs.Fields.{values_of}
-use Rattle.http_request.specs.Length.{length_in, declared_length, where_allowed, unless_coded, asked_length}
+use Rattle.http_request.specs.Length.{body_length, length_in, declared_length, where_allowed, unless_coded, asked_length}
 use Rattle.http_request.specs.Frame.{header_fields}
 use Rattle.http_request.specs.Front.{IsHeadAt}
 
@@ -17,18 +16,20 @@ some_of : (test : Bool) (a n : ℕ) → cond test (Some a) None ≡ Some n → (
 some_of true a n e = (refl, cc)
 some_of false a n e = absurd cc
 
-both_true : (a b : Bool) → (a && b) ≡ true → b ≡ true
-both_true true b e = e
-both_true false b e = absurd cc
+few_of : (found : Option ℕ) (n : ℕ) → option_and_then body_length found ≡ Some n → n ≤ 256
+few_of None n e = absurd cc
+few_of (Some m) n e =
+    let is = some_of (leb m 256) m n e in
+    let small : leb m 256 ≡ true = is.0 in
+    let le : m ≤ 256 = search (rules, tests) in
+    omega (arith, is.1)
+
+few_in : (short : Bool) (found : Option ℕ) (n : ℕ) → cond short (option_and_then body_length found) None ≡ Some n → n ≤ 256
+few_in true found n e = few_of found n e
+few_in false found n e = absurd cc
 
 few_digits : (value : List ℕ) (n : ℕ) → length_in value ≡ Some n → n ≤ 256
-few_digits value n e =
-    let is = some_of (ltb 0 (length value) && leb (length value) 4 && list_all is_ascii_digit value
-    && leb (digits_value 10 value) 256) (digits_value 10 value) n e in
-    let small : leb (digits_value 10 value) 256 ≡ true = both_true (ltb 0 (length value) && leb (length value) 4
-    && list_all is_ascii_digit value) (leb (digits_value 10 value) 256) is.0 in
-    let le : digits_value 10 value ≤ 256 = search (rules, tests) in
-    omega (arith, is.1)
+few_digits value n e = few_in (leb (length value) 4) (number_of_digits value) n e
 
 few_declared : (values : List (List ℕ)) (n : ℕ) → declared_length values ≡ Some n → n ≤ 256
 few_declared [] n e = let zero : 0 ≡ n = cc in omega arith

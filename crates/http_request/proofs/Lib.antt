@@ -1,7 +1,6 @@
 mod Pieces
 mod ScanLemmas
 mod FieldValues
-mod DigitLemmas
 mod Segments
 mod Places
 mod FrontLemmas

@@ -4,7 +4,7 @@ use Rattle.std.proofs.Common.{Bool, true, false, cond, ◌==◌, append-nil, cod
 use Rattle.std.specs.Prelude.{IsSome, option_map}
 use Rattle.std.proofs.lemmas.Bool.Decides.{nat_tests}
 use Rattle.std.specs.Str.{bytes_eq}
-use Rattle.club_values.specs.computed.TextOf.{name_of_text, day_of_text, hour_of_text}
+use Rattle.club_values.specs.computed.TextOf.{name_of_text, day_of_text, hour_of_text, decimal_of_text}
 use Rattle.matchit.specs.Rows.{RowsOf, param_token}
 use Rattle.matchit.specs.Seek.{has_slash, seek, first, own, step, param_step}
 use Rattle.http_request.specs.declared.path.Place.{Place}
@@ -117,7 +117,7 @@ some_hour [] value e = cc
 some_hour (b ∷ text) value e = omega arith
 
 some_number : (text : List ℕ) (value : ℕ) → number_of_text text ≡ Some value → 0 < length text
-unfolding number_of_text
+unfolding number_of_text decimal_of_text
 some_number [] value e = cc
 some_number (b ∷ text) value e = omega arith
 

@@ -1,18 +1,17 @@
 -- How many bytes a body has (RFC 9112, section 6.2).
-use Rattle.std.specs.Prelude.{ℕ, ◌==◌, ◌&&◌, ◌||◌, List, [], ◌∷◌, length, nat_lt, nat_le, codes, if◌then◌else◌, Option, Some, None}
-use Rattle.std.specs.List.{list_all}
-use Rattle.std.specs.Char.{is_ascii_digit}
+use Rattle.std.specs.Prelude.{ℕ, ◌==◌, ◌||◌, List, [], ◌∷◌, length, nat_le, codes, if◌then◌else◌, Option, Some, None, option_and_then}
 use Rattle.std.specs.Str.{bytes_eq}
-use Rattle.std.specs.Str.Parse.{digits_value}
+use Rattle.club_values.specs.Number.{number_of_digits}
 use Rattle.http_request.specs.Fields.{values_of}
 use Rattle.http_request.specs.Limits.{max_body_len}
 
+-- the length, if it is at most that of the longest body
+abbrev pub body_length : ℕ → Option ℕ
+body_length n = if nat_le n max_body_len then Some n else None
+
 -- 1 to 4 digits, of a number up to the length of the longest body (ours)
 abbrev pub length_in : List ℕ → Option ℕ
-length_in value =
-    if nat_lt 0 (length value) && nat_le (length value) 4 && list_all is_ascii_digit value && nat_le (digits_value 10 value) max_body_len
-    then Some (digits_value 10 value)
-    else None
+length_in value = if nat_le (length value) 4 then option_and_then body_length (number_of_digits value) else None
 
 -- no field means no body; two fields are refused
 abbrev pub declared_length : List (List ℕ) → Option ℕ

@@ -1,13 +1,10 @@
 -- The parts of a path, and the values that they spell.
-use Rattle.std.specs.Prelude.{◌≡◌, ℕ, ◌==◌, ◌&&◌, not, List, [], ◌∷◌, ◌++◌, length, slice_index, nat_lt, nat_le, if◌then◌else◌, Option, Some, None}
+use Rattle.std.specs.Prelude.{◌≡◌, ℕ, ◌==◌, ◌&&◌, List, [], ◌∷◌, ◌++◌, nat_le, if◌then◌else◌, Option, Some, None}
 use Rattle.std.specs.Prelude.{option_and_then}
 use Rattle.std.specs.Borrow.{Bor}
-use Rattle.std.specs.Char.{is_ascii_digit}
-use Rattle.std.specs.List.{list_all}
-use Rattle.std.specs.Str.Parse.{digits_value}
 use Rattle.club_rows.specs.Limits.{booking_number_limit}
 use Rattle.club_values.specs.declared.slot.Slot.{Slot}
-use Rattle.club_values.specs.computed.TextOf.{name_of_text, day_of_text, hour_of_text}
+use Rattle.club_values.specs.computed.TextOf.{name_of_text, day_of_text, hour_of_text, decimal_of_text}
 
 -- bytes in front of the first part
 abbrev pub with_front : List ℕ → List (List ℕ) → List (List ℕ)
@@ -29,10 +26,7 @@ within_limits n = if nat_le 1 n && nat_le n booking_number_limit then Some n els
 
 -- decimal digits, at most nine, without leading zeros
 unfoldable pub number_of_text : List ℕ → Option ℕ
-number_of_text text =
-    if nat_lt 0 (length text) && nat_le (length text) 9 && list_all is_ascii_digit text && not (slice_index text 0 == 48)
-    then within_limits (digits_value 10 text)
-    else None
+number_of_text text = decimal_of_text text >>= within_limits
 
 unfoldable pub slot_of_parts : List ℕ → List ℕ → List ℕ → Option Slot
 slot_of_parts facility day hour = do

@@ -4,8 +4,8 @@ ghost use Rattle.std.specs.Prelude.{◌≡◌, length, map, All};
 ghost use Rattle.httparse.specs.Spans.{IsHeaderWithin, header_bytes};
 ghost use Rattle.http_request.specs.Length as spec;
 
-use crate::digits::{are_digits, parse_number};
 use crate::fields::{Values, values_of};
+use club_values::digits::read_digits;
 use httparse::spans::HeaderSpan;
 
 /// The most bytes of a body.
@@ -18,10 +18,10 @@ const MAX_DIGITS: usize = 4;
 fn length_in(value: &[u8]) -> Option<usize>
     ensures { result ≡ spec.length_in value.now }
 {
-    if value.is_empty() || value.len() > MAX_DIGITS || !are_digits(value) {
+    if value.len() > MAX_DIGITS {
         return None;
     }
-    let len = parse_number(value) as usize;
+    let len = read_digits(value)? as usize;
     if len <= MAX_BODY_LEN { Some(len) } else { None }
 }
 

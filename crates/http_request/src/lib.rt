@@ -2,7 +2,6 @@
 #![tactic(auto)]
 
 mod body;
-mod digits;
 mod fields;
 mod front;
 mod head;

@@ -4,12 +4,9 @@ ghost use Rattle.std.specs.Prelude.{◌≡◌, ◌∷◌, [], MatchOption};
 ghost use Rattle.http_request.specs.Parts.{segments, number_of_text, slot_of_parts, BeginsWith, following_parts};
 ghost use Rattle.http_request.specs.Path as spec;
 
-use crate::digits::{are_digits, parse_number};
 use club_rows::BookingNumber;
+use club_values::digits::read_number;
 use club_values::{Day, Hour, Name, Slot};
-
-/// The most digits of a booking's number.
-const MAX_NUMBER_DIGITS: usize = 9;
 
 /// What a path names.
 #[derive(Clone, Copy, Debug, PartialEq, Eq)]
@@ -33,13 +30,10 @@ fn next_part(path: &[u8]) -> (&[u8], Option<&[u8]>)
 
 /// Parses a booking number: decimal digits without leading zeros.
 #[tactic(auto, unfolding(crate::specs::Parts::number_of_text))]
-fn read_number(text: &[u8]) -> Option<BookingNumber>
+fn read_booking_number(text: &[u8]) -> Option<BookingNumber>
     ensures { result ≡ number_of_text text.now }
 {
-    if text.is_empty() || text.len() > MAX_NUMBER_DIGITS || !are_digits(text) || text[0] == b'0' {
-        return None;
-    }
-    BookingNumber::new(parse_number(text))
+    BookingNumber::new(read_number(text)?)
 }
 
 #[tactic(auto, unfolding(crate::specs::Parts::slot_of_parts))]
@@ -71,7 +65,7 @@ fn at_slot(slot: Slot, rest: Option<&[u8]>) -> Option<Place>
     if word != b"bookings".as_slice() {
         return None;
     }
-    let number = read_number(number)?;
+    let number = read_booking_number(number)?;
     Some(Place::BookingPlace(slot, number))
 }
 
