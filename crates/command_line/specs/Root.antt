@@ -4,8 +4,12 @@ use Rattle.std.specs.Prelude.{if◌then◌else◌}
 use Rattle.hex.specs.Hex.{decode_of}
 use Rattle.hex.specs.declared.error.FromHexError.{FromHexError}
 
+-- the most bytes of a root
+abbrev pub max_root_bytes : ℕ
+max_root_bytes = 64
+
 abbrev pub has_root_length : List ℕ → Option (List ℕ)
-has_root_length bytes = if nat_le 1 (length bytes) && nat_le (length bytes) 64 then Some bytes else None
+has_root_length bytes = if nat_le 1 (length bytes) && nat_le (length bytes) max_root_bytes then Some bytes else None
 
 abbrev pub root_among : Result (List ℕ) FromHexError → Option (List ℕ)
 root_among (Ok bytes) = has_root_length bytes

@@ -5,21 +5,25 @@ ghost use Rattle.command_line.specs.Root.{root_of};
 
 use std::marker::Model;
 
+/// The most bytes of a root.
+const MAX_ROOT_LEN: usize = 64;
+
 /// A root of 1 to 64 bytes, stored inline.
 #[derive(Drop)]
 pub struct Root {
-    bytes: [u8; 64],
+    bytes: [u8; MAX_ROOT_LEN],
     len: usize,
 }
 
 impl Model for Root {
     ghost use Rattle.std.specs.Prelude.{ℕ, List, ◌≤◌, take};
+    ghost use Rattle.command_line.specs.Root.{max_root_bytes};
 
     ghost Value = { List ℕ };
 
     ghost view = { λ root. take root.len root.bytes };
 
-    ghost invariant = { λ root. (1 ≤ root.len) × (root.len ≤ 64) };
+    ghost invariant = { λ root. (1 ≤ root.len) × (root.len ≤ max_root_bytes) };
 }
 
 impl Root {
@@ -28,10 +32,10 @@ impl Root {
         ensures { result ≡ root_of text.now }
     {
         let len = text.len() / 2;
-        if len == 0 || len > 64 {
+        if len == 0 || len > MAX_ROOT_LEN {
             return None;
         }
-        let mut bytes = [0; 64];
+        let mut bytes = [0; MAX_ROOT_LEN];
         match hex::decode_to_slice(text, &mut bytes[..len]) {
             Ok(()) => Some(Root { bytes, len }),
             Err(_) => None,

@@ -1,12 +1,12 @@
 use Rattle.std.proofs.Common.{◌∙◌, ◌/◌, Ok, Err, Some, refl, inl, inr, sym, ap, arith, length}
 use Rattle.command_line.proofs.RootLemmas.{front_of, none_by_length, root_of_decoded}
 use Rattle.command_line.proofs.root.Root.from_hex.Goals as goal
-use Rattle.command_line.proofs.root.Root.from_hex.Goals.{then-len-eq0-via-then-len-eq0, then-len-eq0-via-else-len-eq0+then-len-gt64}
+use Rattle.command_line.proofs.root.Root.from_hex.Goals.{then-len-eq0-via-then-len-eq0, then-len-eq0-via-else-len-eq0+then-len-gt-MAX_ROOT_LEN}
 
 pub returns-then-len-eq0 : goal.returns-then-len-eq0
 returns-then-len-eq0 c = sym (none_by_length c.args.text.now (elim c.then-len-eq0.branch [
   | then-len-eq0-via-then-len-eq0 w ↦ inl w.if-len-eq0.true
-  | then-len-eq0-via-else-len-eq0+then-len-gt64 w ↦ inr w.if-len-gt64.true
+  | then-len-eq0-via-else-len-eq0+then-len-gt-MAX_ROOT_LEN w ↦ inr w.if-len-gt-MAX_ROOT_LEN.true
 ]))
 
 pub returns-in-Ok : goal.returns-in-Ok
