@@ -12,6 +12,7 @@ use Rattle.club_rows.specs.declared.facility.Facility.{Facility}
 use Rattle.club_rows.specs.declared.key.Key.{Key}
 use Rattle.club_rows.specs.declared.key.OlderRoot.{OlderRoot}
 use Rattle.club_rows.specs.declared.booking.Booking.{Booking}
+use Rattle.club_rows.specs.Limits.{places_limit}
 use Rattle.club_rows.specs.Rows.{IsFacility, IsKey, IsOlderRoot, IsBooking}
 use Rattle.club_core.specs.declared.slot_use.SlotUse.{SlotUse}
 use Rattle.club_core.specs.declared.store.StoreFault.{StoreFault}
@@ -57,7 +58,7 @@ abbrev pub IsBookingNamed : List ℕ → ℕ → Row → Booking → Type 0
 IsBookingNamed key number row booking = IsBookingIn row booking × ((booking.key ≡ key) × (booking.number ≡ number))
 
 abbrev pub IsUseIn : Row → SlotUse → Type 0
-IsUseIn row found = (found.taken ≤ 50) × HasValues row (use_values found)
+IsUseIn row found = (found.taken ≤ places_limit) × HasValues row (use_values found)
 
 -- the value of the first row; None exactly if there is no row
 abbrev pub IsFirst : {A : Type 0} → (Row → A → Type 0) → List Row → Option A → Type 0

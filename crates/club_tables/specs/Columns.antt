@@ -6,6 +6,7 @@ use Rattle.sqlite_value.specs.Order.{Row, column}
 use Rattle.club_values.specs.Kind.{kind_text}
 use Rattle.club_values.specs.declared.slot.Slot.{Slot}
 use Rattle.club_rows.specs.Columns.{truth}
+use Rattle.club_rows.specs.Limits.{charge_limit}
 use Rattle.club_rows.specs.declared.facility.Facility.{Facility}
 use Rattle.club_rows.specs.declared.key.Key.{Key}
 use Rattle.club_rows.specs.declared.key.OlderRoot.{OlderRoot}
@@ -96,7 +97,7 @@ pub record IsCostIn (row : Row) (cost : ℕ) : Type 0 where
   pub refund : ℕ
   pub charge_column : column row 0 ≡ whole charge
   pub refund_column : column row 1 ≡ whole refund
-  pub largest : charge ≤ 499_950
+  pub largest : charge ≤ charge_limit
   pub at_most : refund ≤ charge
   pub left : cost + refund ≡ charge
 

@@ -10,6 +10,7 @@ use Rattle.club_rows.specs.declared.booking.Booking.{Booking}
 use Rattle.club_core.specs.declared.slot_use.SlotUse.{SlotUse}
 use Rattle.club_rows.specs.Booking.{same_slot, persons_of}
 use Rattle.club_core.specs.Club.{Club, bookings_of, key_named}
+use Rattle.club_rows.specs.Limits.{credited_limit}
 use Rattle.club_rows.specs.Rows.{IsMember}
 use Rattle.club_core.specs.Basis.{slot_use}
 use Rattle.club_core.specs.Sums.{cost_of}
@@ -43,7 +44,7 @@ member_row club member = record { member = member; used = used_by club member.na
 
 pub record IsMemberRow (row : MemberRow) : Type 0 where
   pub member : IsMember row.member
-  pub used : row.used ≤ 999_999_999
+  pub used : row.used ≤ credited_limit
 
 abbrev pub no_slot_use : SlotUse
 no_slot_use = record { taken = 0; closed = false }

@@ -22,23 +22,20 @@ ghost use Rattle.club_tables.specs.Stored.{no_slot_use};
 ghost use Rattle.club_tables.specs.Columns.{whole, text_in, bytes_in, integer_in};
 
 use club_core::{SlotUse, StoreFault};
-use club_rows::{Booking, BookingColumns, Facility, FacilityColumns, Key, Member, OlderRoot, Root};
+use club_rows::{
+    Booking, BookingColumns, Facility, FacilityColumns, Key, MAX_CREDITED, MAX_PLACES, Member,
+    OlderRoot, Root,
+};
 use club_values::Moment;
 use sqlite::Row;
 use sqlite::types::ValueRef;
 use std::alloc::Global;
 
-/// The most points that a member's bookings cost: no more than were credited.
-const MAX_USED: u32 = 999_999_999;
-
-/// The most persons of a slot: no facility has more places.
-const MAX_TAKEN: u32 = 50;
-
 /// A member, and what the member's bookings have cost.
 #[derive(Clone, Copy)]
 pub struct MemberRow {
     pub member: Member,
-    /// Charges less refunds, 0 to 999,999,999 points.
+    /// Charges less refunds, no more than a member is ever credited: 0 to 999,999,999 points.
     pub used: u32,
 }
 
@@ -86,7 +83,7 @@ fn slot_use_in(row: &Row) -> Option<SlotUse>
         0 => false,
         _ => true,
     };
-    let taken = number_within(row, 1, MAX_TAKEN)?;
+    let taken = number_within(row, 1, MAX_PLACES)?;
     Some(SlotUse { taken, closed })
 }
 
@@ -131,7 +128,7 @@ impl FromRow for MemberRow {
             integer_at(row, 1)?,
             integer_at(row, 2)?,
         )?;
-        let used = number_within(row, 3, MAX_USED)?;
+        let used = number_within(row, 3, MAX_CREDITED)?;
         Some(MemberRow { member, used })
     }
 }

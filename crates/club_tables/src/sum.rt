@@ -7,13 +7,14 @@ ghost use Rattle.club_tables.specs.Columns.{cost_in, IsCostIn, IsCostRow};
 
 use crate::row::number_within;
 use club_core::StoreFault;
+use club_rows::MAX_CHARGE;
 use sqlite::Row;
 
-/// The charge of a row, at most 499,950, less its refund, at most the charge.
+/// The charge of a row, within its limit, less its refund, at most the charge.
 fn cost_of(row: &Row) -> Option<u32>
     ensures { Reads (IsCostIn row.now) result }
 {
-    let charge = number_within(row, 0, 499_950)?;
+    let charge = number_within(row, 0, MAX_CHARGE)?;
     let refund = number_within(row, 1, charge)?;
     Some(charge - refund)
 }

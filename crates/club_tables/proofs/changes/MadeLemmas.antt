@@ -24,6 +24,7 @@ use Rattle.club_core.specs.declared.change.Change.TheVariants.{InsertBooking, Ma
 use Rattle.club_core.specs.After.{after, credited_member, good_until}
 use Rattle.club_rows.specs.Booking.{same_slot, persons_of}
 use Rattle.club_core.specs.Club.{Club, IsSound, is_key_of}
+use Rattle.club_rows.specs.Limits.{credited_limit, places_limit, charge_limit}
 use Rattle.club_rows.specs.Rows.{IsMember, IsFacility, IsBooking}
 use Rattle.club_core.specs.Basis.{slot_use}
 use Rattle.club_core.specs.Store.{FitsClub}
@@ -97,20 +98,20 @@ credits_of club name points (m ∷ ms) h = (first, credits_of club name points m
   where
     first : Credits name points (member_row club m)
     first passes =
-        let low : m.credited + points ≤ 999_999_999 = subst (λ b. cond b (m.credited + points) m.credited ≤ 999_999_999) passes h.0.credited in
+        let low : m.credited + points ≤ credited_limit = subst (λ b. cond b (m.credited + points) m.credited ≤ credited_limit) passes h.0.credited in
         total m.credited points (omega (arith, low))
 
--- each member's bookings have cost less than a billion
-few_used : (club : Club) → IsSound club → AllByRecursion (λ (m : Member). used_by club m.name ≤ 999_999_999) club.members
+-- each member's bookings have cost no more than a member is ever credited
+few_used : (club : Club) → IsSound club → AllByRecursion (λ (m : Member). used_by club m.name ≤ credited_limit) club.members
 few_used club sound = each club.members (all_of _ club.members sound.balances) (all_of _ club.members sound.rows.members)
   where
     each : (ms : List Member) → AllByRecursion (λ (m : Member). used_by club m.name ≤ m.credited) ms → AllByRecursion IsMember ms
-        → AllByRecursion (λ (m : Member). used_by club m.name ≤ 999_999_999) ms
+        → AllByRecursion (λ (m : Member). used_by club m.name ≤ credited_limit) ms
     each [] low limits = tt
     each (m ∷ ms) low limits = (omega (arith, low.0, limits.0.credited), each ms low.1 limits.1)
 
-uses_more : (club : Club) (name : List ℕ) (cost : ℕ) → cost ≤ 499_950 → (ms : List Member)
-    → AllByRecursion (λ (m : Member). used_by club m.name ≤ 999_999_999) ms
+uses_more : (club : Club) (name : List ℕ) (cost : ℕ) → cost ≤ charge_limit → (ms : List Member)
+    → AllByRecursion (λ (m : Member). used_by club m.name ≤ credited_limit) ms
     → AllByRecursion (Uses name (pos cost) (λ n. n + cost)) (map (member_row club) ms)
 uses_more club name cost low [] h = tt
 uses_more club name cost low (m ∷ ms) h = (λ passes. total (used_by club m.name) cost (omega (arith, h.0)), uses_more club name cost low ms h.1)
@@ -123,7 +124,7 @@ minus m r low small =
     let fits : m - r < 2 ^ 63 = omega arith in
     rw (sum, lt-ltb (m - r) (2 ^ 63) fits) refl
 
-uses_less : (club : Club) (name : List ℕ) (refund : ℕ) (ms : List Member) → AllByRecursion (λ (m : Member). used_by club m.name ≤ 999_999_999) ms
+uses_less : (club : Club) (name : List ℕ) (refund : ℕ) (ms : List Member) → AllByRecursion (λ (m : Member). used_by club m.name ≤ credited_limit) ms
     → ((m : Member) → bytes_eq m.name name ≡ true → refund ≤ used_by club m.name)
     → AllByRecursion (Uses name (neg_ℤ (pos refund)) (λ n. n - refund)) (map (member_row club) ms)
 uses_less club name refund [] h enough = tt
@@ -167,14 +168,14 @@ no_row slot (x ∷ rows) none = go (no_row slot rows) (same_slot x.slot slot) re
     go later true is h = absurd cc
     go later false is h = rw is (later h)
 
--- no slot of a facility has more than 50 persons
+-- no slot of a facility has more persons than a facility has places
 few_taken : (club : Club) → IsSound club → (slot : Slot) → Contains (map (λ (f : Facility). f.name) club.facilities) slot.facility
-    → taken_in slot club.bookings ≤ 50
+    → taken_in slot club.bookings ≤ places_limit
 few_taken club sound slot has = each club.facilities (all_of _ club.facilities sound.places) (all_of _ club.facilities sound.rows.facilities) has
   where
     each : (fs : List Facility) → AllByRecursion (λ (f : Facility). (s : Slot) → s.facility ≡ f.name → taken_in s club.bookings ≤ f.places) fs
         → AllByRecursion IsFacility fs
-        → Contains (map (λ (f : Facility). f.name) fs) slot.facility → taken_in slot club.bookings ≤ 50
+        → Contains (map (λ (f : Facility). f.name) fs) slot.facility → taken_in slot club.bookings ≤ places_limit
     each [] places limits has = absurd (omega (arith, has.1))
     each (f ∷ fs) places limits (zero, low, is) = omega (arith, places.0 slot (sym is), limits.0.few_places)
     each (f ∷ fs) places limits (suc k, low, is) = each fs places.1 limits.1 (k, omega (arith, low), is)
@@ -290,7 +291,7 @@ module _ {S : Type 0} (g : Ghosts S) (old : Held S) (db : Database) (club : Club
       let row : IsBooking booking = all_last IsBooking club.bookings booking (all_of IsBooking (club.bookings ++ booking ∷ []) fits.sound.rows.bookings) in
       let booked = all_last (λ (b : Booking). Contains (map (λ (f : Facility). f.name) club.facilities) b.slot.facility) club.bookings booking
       (all_of _ (club.bookings ++ booking ∷ []) fits.sound.references.facilities) in
-      let cost_low : cost_of booking ≤ 499_950 = omega (arith, row.charge) in
+      let cost_low : cost_of booking ≤ charge_limit = omega (arith, row.charge) in
       let uses = subst (AllByRecursion (Uses member (pos (cost_of booking)) (λ n. n + cost_of booking))) (sym tables.storage.members)
       (uses_more club member (cost_of booking) cost_low club.members (few_used club tables.sound)) in
       let few = few_taken (after (InsertBooking booking member) club) fits.sound booking.slot booked in
