@@ -1,89 +1,65 @@
 -- The bodies of replies: JSON objects (RFC 8259) with these members in this order (ours).
-use Rattle.std.specs.Prelude.{ℕ, Bool, true, false, List, ◌++◌, codes, Option, Some, None}
+use Rattle.std.specs.Prelude.{ℕ, Bool, true, false, List, [], ◌∷◌, ◌++◌, codes, Option, Some, None}
+use Rattle.std.specs.List.{join_by}
 use Rattle.std.specs.Fmt.{decimal}
-use Rattle.club_values.specs.declared.kind.Kind.{Kind}
-use Rattle.club_values.specs.declared.slot.Slot.{Slot}
 use Rattle.club_values.specs.Day.{day_text}
 use Rattle.club_values.specs.Kind.{kind_text}
-use Rattle.club_core.specs.declared.refusal.Refusal.{Refusal}
 use Rattle.club_core.specs.declared.reply.Reply.{Reply}
 use Rattle.club_core.specs.declared.reply.Reply.TheVariants.{SlotShown, Booked, Cancelled, AccountShown, Refused}
 use Rattle.club_core.specs.Refusal.{details_of, caveat_of_refusal}
+
+-- a value: a text that needs no escapes, a number, or a truth value
+pub data Value : Type 0 where
+  text : List ℕ → Value
+  number : ℕ → Value
+  truth : Bool → Value
 
 abbrev pub truth_text : Bool → List ℕ
 truth_text true = codes "true"
 truth_text false = codes "false"
 
--- a slot, as the front of an object; an hour has no leading zeros
-unfoldable pub slot_front : Slot → List ℕ
-slot_front slot =
-    codes "{\"facility\":\""
-    ++ slot.facility
-    ++ codes "\",\"day\":\""
-    ++ day_text slot.day
-    ++ codes "\",\"hour\":"
-    ++ decimal slot.hour
+abbrev pub value_text : Value → List ℕ
+value_text (text bytes) = codes "\"" ++ bytes ++ codes "\""
+value_text (number n) = decimal n
+value_text (truth b) = truth_text b
 
--- the members that describe the slot's facility
-unfoldable pub facility_members : Kind → ℕ → ℕ → List ℕ
-facility_members kind price places =
-    codes ",\"kind\":\"" ++ kind_text kind ++ codes "\",\"price\":" ++ decimal price ++ codes ",\"places\":" ++ decimal places
+-- a member: its name, and its value
+abbrev pub Member : Type 0
+Member = List ℕ × Value
 
-unfoldable pub slot_text : Slot → Kind → ℕ → ℕ → ℕ → Bool → List ℕ
-slot_text slot kind price places taken closed =
-    slot_front slot
-    ++ facility_members kind price places
-    ++ codes ",\"taken\":"
-    ++ decimal taken
-    ++ codes ",\"closed\":"
-    ++ truth_text closed
-    ++ codes "}"
+abbrev pub name_text : List ℕ → List ℕ
+name_text name = codes "\"" ++ name ++ codes "\":"
 
--- a booking by its key and its number, as the front of an object
-unfoldable pub booking_front : List ℕ → ℕ → List ℕ
-booking_front key number = codes "{\"booking\":\"" ++ key ++ codes "/" ++ decimal number ++ codes "\""
+unfoldable pub member_text : Member → List ℕ
+member_text member = name_text member.0 ++ value_text member.1
 
-unfoldable pub booked_text : List ℕ → ℕ → ℕ → ℕ → List ℕ
-booked_text key number charge left =
-    booking_front key number ++ codes ",\"charge\":" ++ decimal charge ++ codes ",\"left\":" ++ decimal left ++ codes "}"
+-- an object with these members
+abbrev pub object_text : List Member → List ℕ
+object_text members = codes "{" ++ join_by member_text (codes ",") members ++ codes "}"
 
-unfoldable pub cancelled_text : List ℕ → ℕ → ℕ → List ℕ
-cancelled_text key number refund = booking_front key number ++ codes ",\"refund\":" ++ decimal refund ++ codes "}"
-
--- an account, as the front of an object
-unfoldable pub account_front : List ℕ → ℕ → ℕ → List ℕ
-account_front member balance quota =
-    codes "{\"member\":\"" ++ member ++ codes "\",\"balance\":" ++ decimal balance ++ codes ",\"quota\":" ++ decimal quota
-
-unfoldable pub account_text : List ℕ → ℕ → ℕ → ℕ → ℕ → List ℕ
-account_text member balance quota open_count spent =
-    account_front member balance quota
-    ++ codes ",\"open\":"
-    ++ decimal open_count
-    ++ codes ",\"spent\":"
-    ++ decimal spent
-    ++ codes "}"
+-- a booking by its key and its number
+abbrev pub booking_member : List ℕ → ℕ → Member
+booking_member key n = (codes "booking", text (key ++ codes "/" ++ decimal n))
 
 -- the number of the caveat that refuses, if one does
-abbrev pub caveat_member : Option ℕ → List ℕ
-caveat_member None = codes ""
-caveat_member (Some n) = codes ",\"caveat\":" ++ decimal n
+abbrev pub caveat_member : Option ℕ → List Member
+caveat_member None = []
+caveat_member (Some n) = (codes "caveat", number n) ∷ []
 
--- the number and the text of a fault, as the front of an object
-unfoldable pub fault_front : Refusal → List ℕ
-fault_front refusal =
-    codes "{\"fault\":"
-    ++ decimal (details_of refusal).number
-    ++ codes ",\"text\":\""
-    ++ (details_of refusal).text
-    ++ codes "\""
-
-unfoldable pub fault_body_text : Refusal → List ℕ
-fault_body_text refusal = fault_front refusal ++ caveat_member (caveat_of_refusal refusal) ++ codes "}"
+abbrev pub members_of : Reply → List Member
+members_of (SlotShown slot kind price places taken closed) =
+    (codes "facility", text slot.facility) ∷ (codes "day", text (day_text slot.day)) ∷ (codes "hour", number slot.hour)
+    ∷ (codes "kind", text (kind_text kind)) ∷ (codes "price", number price) ∷ (codes "places", number places)
+    ∷ (codes "taken", number taken) ∷ (codes "closed", truth closed) ∷ []
+members_of (Booked key n charge left) =
+    booking_member key n ∷ (codes "charge", number charge) ∷ (codes "left", number left) ∷ []
+members_of (Cancelled key n refund) = booking_member key n ∷ (codes "refund", number refund) ∷ []
+members_of (AccountShown member balance quota open_count spent) =
+    (codes "member", text member) ∷ (codes "balance", number balance) ∷ (codes "quota", number quota)
+    ∷ (codes "open", number open_count) ∷ (codes "spent", number spent) ∷ []
+members_of (Refused refusal) =
+    (codes "fault", number (details_of refusal).number) ∷ (codes "text", text (details_of refusal).text)
+    ∷ caveat_member (caveat_of_refusal refusal)
 
 abbrev pub body_text : Reply → List ℕ
-body_text (SlotShown slot kind price places taken closed) = slot_text slot kind price places taken closed
-body_text (Booked key number charge left) = booked_text key number charge left
-body_text (Cancelled key number refund) = cancelled_text key number refund
-body_text (AccountShown member balance quota open_count spent) = account_text member balance quota open_count spent
-body_text (Refused refusal) = fault_body_text refusal
+body_text reply = object_text (members_of reply)

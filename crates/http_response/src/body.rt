@@ -1,6 +1,7 @@
-//! The bodies of replies.
+//! The bodies of replies: JSON objects, written member by member.
 
-ghost use Rattle.std.specs.Prelude.{◌≡◌, ◌≤◌, ◌+◌, ◌++◌, length};
+ghost use Rattle.std.specs.Prelude.{◌≡◌, ◌≤◌, ◌+◌, ◌++◌, length, codes};
+ghost use Rattle.club_core.specs.declared.reply.Reply.TheVariants.{SlotShown, Booked, Cancelled, AccountShown, Refused};
 ghost use Rattle.http_response.specs.Body as spec;
 
 use crate::line::Line;
@@ -8,63 +9,106 @@ use club_core::{Refusal, Reply};
 use club_rows::BookingNumber;
 use club_values::{Kind, Name, Slot};
 
-fn truth_text(truth: bool) -> &'static [u8]
-    ensures text { result.now ≡ spec.truth_text truth }
-    ensures len { length result.now ≤ 5 }
+/// Appends the name of a member.
+fn push_name(line: &mut Line, name: &[u8])
+    requires { length line.old + length name.now + 3 ≤ 256 }
+    ensures text { line.new ≡ line.old ++ spec.name_text name.now }
+    ensures len { length line.new ≡ length line.old + length name.now + 3 }
 {
-    if truth { b"true" } else { b"false" }
+    line.push(b"\"");
+    line.push(name);
+    line.push(b"\":");
 }
 
-#[tactic(auto, unfolding(crate::specs::Body::slot_front))]
-fn slot_front(slot: &Slot) -> Line
-    ensures text { result ≡ spec.slot_front slot.now }
-    ensures len { length result ≤ 85 }
+/// Appends a text without escapes.
+fn push_value(line: &mut Line, text: &[u8])
+    requires { length line.old + length text.now + 2 ≤ 256 }
+    ensures text { line.new ≡ line.old ++ spec.value_text (spec.text text.now) }
+    ensures len { length line.new ≡ length line.old + length text.now + 2 }
+{
+    line.push(b"\"");
+    line.push(text);
+    line.push(b"\"");
+}
+
+/// Starts an object with a text.
+#[tactic(auto, unfolding(crate::specs::Body::member_text))]
+fn object_of_text(name: &[u8], value: &[u8]) -> Line
+    requires { length name.now + length value.now ≤ 40 }
+    ensures text { result ≡ codes "{" ++ spec.member_text (name.now, spec.text value.now) }
+    ensures len { length result ≡ length name.now + length value.now + 6 }
 {
     let mut line = Line::new();
-    line.push(b"{\"facility\":\"");
-    line.push(slot.facility.as_bytes());
-    line.push(b"\",\"day\":\"");
-    line.push(&slot.day.text());
-    line.push(b"\",\"hour\":");
-    line.push_number(u64::from(slot.hour.number()));
+    line.push(b"{");
+    push_name(&mut line, name);
+    push_value(&mut line, value);
     line
 }
 
-#[tactic(auto, unfolding(crate::specs::Body::slot_text))]
-fn slot_body(slot: &Slot, kind: Kind, price: u16, places: u8, taken: u64, closed: bool) -> Line
-    ensures { result ≡ spec.slot_text slot.now kind price places taken closed }
+/// Appends the next member, a text.
+#[tactic(auto, unfolding(crate::specs::Body::member_text))]
+fn push_text(line: &mut Line, name: &[u8], value: &[u8])
+    requires { length line.old + length name.now + length value.now + 6 ≤ 256 }
+    ensures text { line.new
+        ≡ line.old ++ codes "," ++ spec.member_text (name.now, spec.text value.now) }
+    ensures len { length line.new ≡ length line.old + length name.now + length value.now + 6 }
 {
-    let mut line = slot_front(slot);
-    push_facility(&mut line, kind, price, places);
-    line.push(b",\"taken\":");
-    line.push_number(taken);
-    line.push(b",\"closed\":");
-    line.push(truth_text(closed));
+    line.push(b",");
+    push_name(line, name);
+    push_value(line, value);
+}
+
+/// Appends the next member, a number.
+#[tactic(auto, unfolding(crate::specs::Body::member_text))]
+fn push_number(line: &mut Line, name: &[u8], value: u64)
+    requires { length line.old + length name.now + 24 ≤ 256 }
+    ensures text { line.new
+        ≡ line.old ++ codes "," ++ spec.member_text (name.now, spec.number value) }
+    ensures len { length line.new ≤ length line.old + length name.now + 24 }
+{
+    line.push(b",");
+    push_name(line, name);
+    line.push_number(value);
+}
+
+/// Appends the next member, a truth value.
+#[tactic(auto, unfolding(crate::specs::Body::member_text))]
+fn push_truth(line: &mut Line, name: &[u8], value: bool)
+    requires { length line.old + length name.now + 9 ≤ 256 }
+    ensures text { line.new
+        ≡ line.old ++ codes "," ++ spec.member_text (name.now, spec.truth value) }
+    ensures len { length line.new ≤ length line.old + length name.now + 9 }
+{
+    line.push(b",");
+    push_name(line, name);
+    line.push(if value { b"true" } else { b"false" });
+}
+
+fn slot_body(slot: &Slot, kind: Kind, price: u16, places: u8, taken: u64, closed: bool) -> Line
+    ensures { result ≡ spec.body_text (SlotShown slot.now kind price places taken closed) }
+{
+    let mut line = object_of_text(b"facility", slot.facility.as_bytes());
+    push_text(&mut line, b"day", &slot.day.text());
+    push_number(&mut line, b"hour", u64::from(slot.hour.number()));
+    push_text(&mut line, b"kind", kind.text().as_bytes());
+    push_number(&mut line, b"price", u64::from(price));
+    push_number(&mut line, b"places", u64::from(places));
+    push_number(&mut line, b"taken", taken);
+    push_truth(&mut line, b"closed", closed);
     line.push(b"}");
     line
 }
 
-#[tactic(auto, unfolding(crate::specs::Body::facility_members))]
-fn push_facility(line: &mut Line, kind: Kind, price: u16, places: u8)
-    requires { length line.old ≤ 85 }
-    ensures text { line.new ≡ line.old ++ spec.facility_members kind price places }
-    ensures len { length line.new ≤ 159 }
-{
-    line.push(b",\"kind\":\"");
-    line.push(kind.text().as_bytes());
-    line.push(b"\",\"price\":");
-    line.push_number(u64::from(price));
-    line.push(b",\"places\":");
-    line.push_number(u64::from(places));
-}
-
-#[tactic(auto, unfolding(crate::specs::Body::booking_front))]
-fn booking_front(key: &Name, number: BookingNumber) -> Line
-    ensures text { result ≡ spec.booking_front key.now number }
-    ensures len { length result ≤ 58 }
+/// Starts an object with a booking's key and number.
+#[tactic(auto, unfolding(crate::specs::Body::member_text))]
+fn object_of_booking(key: &Name, number: BookingNumber) -> Line
+    ensures text { result ≡ codes "{" ++ spec.member_text (spec.booking_member key.now number) }
+    ensures len { length result ≤ 66 }
 {
     let mut line = Line::new();
-    line.push(b"{\"booking\":\"");
+    line.push(b"{");
+    push_name(&mut line, b"booking");
+    line.push(b"\"");
     line.push(key.as_bytes());
     line.push(b"/");
     line.push_number(u64::from(number.get()));
@@ -72,81 +116,48 @@ fn booking_front(key: &Name, number: BookingNumber) -> Line
     line
 }
 
-#[tactic(auto, unfolding(crate::specs::Body::booked_text))]
 fn booked_body(key: &Name, number: BookingNumber, charge: u32, left: u8) -> Line
-    ensures { result ≡ spec.booked_text key.now number charge left }
+    ensures { result ≡ spec.body_text (Booked key.now number charge left) }
 {
-    let mut line = booking_front(key, number);
-    line.push(b",\"charge\":");
-    line.push_number(u64::from(charge));
-    line.push(b",\"left\":");
-    line.push_number(u64::from(left));
+    let mut line = object_of_booking(key, number);
+    push_number(&mut line, b"charge", u64::from(charge));
+    push_number(&mut line, b"left", u64::from(left));
     line.push(b"}");
     line
 }
 
-#[tactic(auto, unfolding(crate::specs::Body::cancelled_text))]
 fn cancelled_body(key: &Name, number: BookingNumber, refund: u32) -> Line
-    ensures { result ≡ spec.cancelled_text key.now number refund }
+    ensures { result ≡ spec.body_text (Cancelled key.now number refund) }
 {
-    let mut line = booking_front(key, number);
-    line.push(b",\"refund\":");
-    line.push_number(u64::from(refund));
+    let mut line = object_of_booking(key, number);
+    push_number(&mut line, b"refund", u64::from(refund));
     line.push(b"}");
     line
 }
 
-#[tactic(auto, unfolding(crate::specs::Body::account_front))]
-fn account_front(member: &Name, balance: u32, quota: u8) -> Line
-    ensures text { result ≡ spec.account_front member.now balance quota }
-    ensures len { length result ≤ 96 }
-{
-    let mut line = Line::new();
-    line.push(b"{\"member\":\"");
-    line.push(member.as_bytes());
-    line.push(b"\",\"balance\":");
-    line.push_number(u64::from(balance));
-    line.push(b",\"quota\":");
-    line.push_number(u64::from(quota));
-    line
-}
-
-#[tactic(auto, unfolding(crate::specs::Body::account_text))]
 fn account_body(member: &Name, balance: u32, quota: u8, open_count: u64, spent: u64) -> Line
-    ensures { result ≡ spec.account_text member.now balance quota open_count spent }
+    ensures { result ≡ spec.body_text (AccountShown member.now balance quota open_count spent) }
 {
-    let mut line = account_front(member, balance, quota);
-    line.push(b",\"open\":");
-    line.push_number(open_count);
-    line.push(b",\"spent\":");
-    line.push_number(spent);
+    let mut line = object_of_text(b"member", member.as_bytes());
+    push_number(&mut line, b"balance", u64::from(balance));
+    push_number(&mut line, b"quota", u64::from(quota));
+    push_number(&mut line, b"open", open_count);
+    push_number(&mut line, b"spent", spent);
     line.push(b"}");
     line
 }
 
-/// The number and the text of a fault, as the front of an object.
-#[tactic(auto, unfolding(crate::specs::Body::fault_front))]
-fn fault_front(refusal: Refusal) -> Line
-    ensures text { result ≡ spec.fault_front refusal }
-    ensures len { length result ≤ 61 }
+#[tactic(auto, unfolding(crate::specs::Body::member_text))]
+fn fault_body(refusal: Refusal) -> Line
+    ensures { result ≡ spec.body_text (Refused refusal) }
 {
     let mut line = Line::new();
-    line.push(b"{\"fault\":");
+    line.push(b"{");
+    push_name(&mut line, b"fault");
     line.push_number(u64::from(refusal.number()));
-    line.push(b",\"text\":\"");
-    line.push(refusal.text().as_bytes());
-    line.push(b"\"");
-    line
-}
-
-#[tactic(auto, unfolding(crate::specs::Body::fault_body_text))]
-fn fault_body(refusal: Refusal) -> Line
-    ensures { result ≡ spec.fault_body_text refusal }
-{
-    let mut line = fault_front(refusal);
+    push_text(&mut line, b"text", refusal.text().as_bytes());
     if let Some(caveat) = refusal.caveat() {
-        line.push(b",\"caveat\":");
-        line.push_number(caveat as u64);
+        push_number(&mut line, b"caveat", caveat as u64);
     }
     line.push(b"}");
     line
