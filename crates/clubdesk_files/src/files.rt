@@ -16,7 +16,7 @@ use std::time::Duration;
 const MAX_OPENINGS: u32 = 10 * ATTEMPTS_A_SECOND;
 
 /// How often the program tries to begin a pause.
-const MOST_PAUSES: u32 = ATTEMPTS_A_SECOND / 10;
+const MAX_PAUSES: u32 = ATTEMPTS_A_SECOND / 10;
 
 /// Databases in files, by their paths.
 #[derive(Drop)]
@@ -90,7 +90,7 @@ impl<'a> Databases for Files<'a> {
     }
 
     fn pause(&self, name: &str) -> Option<Pause<'a>> {
-        gain(&mut Pauses::new(self.rt, name), self.rt, MOST_PAUSES)
+        gain(&mut Pauses::new(self.rt, name), self.rt, MAX_PAUSES)
     }
 
     fn keep_address(&self, name: &str, port: u16) -> Option<Address<'a>> {
