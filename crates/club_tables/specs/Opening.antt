@@ -75,11 +75,11 @@ pub record HasNoDesk (schema : Schema) : Type 0 where
 abbrev pub YieldsRows : List ℕ → Database → List Row → Type 0
 YieldsRows sql db rows = (c : Compiled) × (understood db.schema sql ≡ Ok c) × Reads c.command db [] rows
 
--- the rows of the version were read; tables of the version that they hold represent the club that was found
+-- the query for the version returned these rows; they hold the version of the tables that represent the club that was found
 pub record YieldsVersion {S : Type 0} (g : Ghosts S) (old new : Held S) (rows : List Row) : Type 0 where
-  pub asked : Asked g version_text [] old rows
-  pub answered : YieldsRows version_text (state g old).now rows
-  pub returned : (club : Club) (others : List Club) → IsFound (state g old) club others
+  pub query : Asked g version_text [] old rows
+  pub version_rows : YieldsRows version_text (state g old).now rows
+  pub version_of_club : (club : Club) (others : List Club) → IsFound (state g old) club others
       → (RepresentsVersion2 (state g new) club others × (rows ≡ version_values 2 ∷ []))
       ⊎ (RepresentsVersion1 (state g new) club others × (rows ≡ version_values 1 ∷ []))
 
@@ -184,9 +184,10 @@ WhenIdle g Done old new = IsTrue (state g new).is_open → IsIdle (state g old) 
 pub record Opens {S : Type 0} (g : Ghosts S) (Before : Held S → Club → List Club → Type 0) (Done : Held S → Held S → Type 0)
     (Fails : Held S → Held S → StoreFault → Type 0) (old new : Held S) (result : Result (Unit {0}) StoreFault) : Type 0
   where
-    pub opened : HasCleanDisk (state g new) → OnOk result ((club : Club) (others : List Club) → Before old club others → Represents (state g new) club others)
+    pub represents : HasCleanDisk (state g new) → OnOk result
+        ((club : Club) (others : List Club) → Before old club others → Represents (state g new) club others)
     pub done : HasCleanDisk (state g new) → OnOk result (Done old new)
-    pub refused : HasCleanDisk (state g new) → OnErr result (KeepsClub Before old new)
+    pub keeps_club : HasCleanDisk (state g new) → OnErr result (KeepsClub Before old new)
     pub fault : HasCleanDisk (state g new) → IfErr result (Fails old new)
     pub survives : Survives (state g old) (state g new) (MayCommit g IsOpeningBatch old)
 

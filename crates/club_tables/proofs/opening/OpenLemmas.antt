@@ -67,10 +67,10 @@ module _ {S : Type 0} (g : Ghosts S) (IsHeld : Database → Club → Type 0) (st
 
   pub runs_batch : IsOpeningBatch statements → IsSettled (state g new) → RunsBatch g (λ held. RepresentsBy IsHeld (state g held)) statements old new result
   runs_batch are settled = record {
-    opened = λ clean. on_ok result (commits.ran clean) (λ ran club others before. settles (state g new) club others (λ _ _.
+    represents = λ clean. on_ok result (commits.ran clean) (λ ran club others before. settles (state g new) club others (λ _ _.
         holds (state g new).committed ran.1 (earlier clean) club others before) (λ _. ran.0) ran.2 settled);
     done = λ clean. on_ok result (commits.ran clean) (λ ran. ran.1);
-    refused = λ clean. on_err result commits.kept (λ kept club others before. refused kept club others before);
+    keeps_club = λ clean. on_err result commits.kept (λ kept club others before. refused kept club others before);
     fault = commits.fault;
     survives = may_commit g statements IsOpeningBatch are old new commits.survives;
   }

@@ -33,9 +33,9 @@ module _ {S : Type 0} (g : Ghosts S) (old mid : Held S) (untouched : IsUntouched
       → (HasCleanDisk (state g mid) → Fails old mid fault)
       → Opens g (λ held. RepresentsBy IsHeld (state g held)) Done Fails old mid (Err fault)
   opens_not IsHeld Done Fails fault failed = record {
-    opened = λ clean. tt;
+    represents = λ clean. tt;
     done = λ clean. tt;
-    refused = λ clean club others before. keeps_after IsHeld clean club others before;
+    keeps_club = λ clean club others before. keeps_after IsHeld clean club others before;
     fault = failed;
     survives = commits_nothing g IsOpeningBatch old mid quiet;
   }
@@ -51,9 +51,10 @@ module _ {S : Type 0} (g : Ghosts S) (old mid : Held S) (untouched : IsUntouched
   opens_after Before Between Done Next Fails new result step into back done fails =
       let earlier = was_clean (state g mid) (state g new) _ step.survives in
       record {
-        opened = λ clean. on_ok result (step.opened clean) (λ opened club others before. opened club others (into (earlier clean) club others before));
+        represents = λ clean. on_ok result (step.represents clean) (λ represents club others before.
+            represents club others (into (earlier clean) club others before));
         done = λ clean. on_ok result (step.done clean) (done (earlier clean) clean);
-        refused = λ clean. on_err result (step.refused clean) (λ keeps club others before.
+        keeps_club = λ clean. on_err result (step.keeps_club clean) (λ keeps club others before.
             back club others (keeps club others (into (earlier clean) club others before)));
         fault = λ clean. fault_if (Fails mid new) (IsOpeningFault g old new) result (step.fault clean) (λ fault failed.
             fails fault (after_one g old mid (earlier clean) untouched quiet) failed);

@@ -17,9 +17,9 @@ returns-in-Ok-clause-opens g c =
     let old = c.args.conn.now in
     let mid = c.prepare.new.conn in
     record {
-      opened = λ clean. named_represents g.S.Store old mid c.prepare.ensures.kept c.prepare.ensures.survives (c.in-Ok.ensures.understood clean);
+      represents = λ clean. named_represents g.S.Store old mid c.prepare.ensures.kept c.prepare.ensures.survives (c.in-Ok.ensures.understood clean);
       done = λ clean. inl (c.in-Ok.ensures.understood clean, c.prepare.ensures.kept);
-      refused = λ clean. tt;
+      keeps_club = λ clean. tt;
       fault = λ clean. tt;
       survives = commits_nothing g.S.Store IsOpeningBatch old mid c.prepare.ensures.survives;
     }

@@ -62,7 +62,7 @@ rests g old new clean kept opened = let k = kept clean opened in k.1 ∙ sym k.2
 is_second : {S : Type 0} (g : Ghosts S) (old mid : Held S) (rows : List Row) → YieldsVersion g old mid rows
     → (row : Row) × (rows ≡ row ∷ []) × HasValues row (version_values 2)
     → (club : Club) (others : List Club) → IsFound (state g old) club others → RepresentsVersion2 (state g mid) club others
-is_second g old mid rows read one club others found = elim (read.returned club others found) [
+is_second g old mid rows read one club others found = elim (read.version_of_club club others found) [
   | inl second ↦ second.0
   | inr first ↦ absurd (let e : ◌≡◌ {A = ℕ} 1 2 = one_version rows 1 2 first.1 one in omega (arith, e))
 ]
@@ -70,7 +70,7 @@ is_second g old mid rows read one club others found = elim (read.returned club o
 is_first : {S : Type 0} (g : Ghosts S) (old mid : Held S) (rows : List Row) → YieldsVersion g old mid rows
     → (row : Row) × (rows ≡ row ∷ []) × HasValues row (version_values 1)
     → (club : Club) (others : List Club) → IsFound (state g old) club others → RepresentsVersion1 (state g mid) club others
-is_first g old mid rows read one club others found = elim (read.returned club others found) [
+is_first g old mid rows read one club others found = elim (read.version_of_club club others found) [
   | inl second ↦ absurd (let e : ◌≡◌ {A = ℕ} 2 1 = one_version rows 2 1 second.1 one in omega (arith, e))
   | inr first ↦ first.0
 ]
@@ -114,7 +114,7 @@ returns-then-is_version-clause-opens g c =
     new c.complete.result c.complete.ensures.opens
     (λ earlier. is_second g.S.Store old mid rows (read earlier) one) (second_found (state g.S.Store new))
     (λ earlier clean it is_open rest. ensured g.S.Store old mid new rows earlier clean is_open rest c.version.ensures.kept one
-    (read earlier).answered (it is_open (rests g.S.Store old mid earlier c.version.ensures.kept)))
+    (read earlier).version_rows (it is_open (rests g.S.Store old mid earlier c.version.ensures.kept)))
     (opened_after g.S.Store old mid new)
 
 pub returns-then-is_version-clause-untouched : goal.returns-then-is_version-clause-untouched
@@ -140,7 +140,7 @@ returns-then-is_version-2-clause-opens g c =
     (IsOpeningFault g.S.Store) new c.migrate.result c.migrate.ensures.opens
     (λ earlier. is_first g.S.Store old mid rows (read earlier) one) (first_found (state g.S.Store new))
     (λ earlier clean it is_open rest. inr (inr (inl (upgraded g.S.Store old mid new 1 first_texts migration rows earlier rest c.version.ensures.kept one
-    (read earlier).answered (it (rests g.S.Store old mid earlier c.version.ensures.kept))))))
+    (read earlier).version_rows (it (rests g.S.Store old mid earlier c.version.ensures.kept))))))
     (opened_after g.S.Store old mid new)
 
 pub returns-clause-opens : goal.returns-clause-opens
@@ -155,5 +155,5 @@ returns-clause-opens g c =
     (WhenIdle g.S.Store (AcceptsTables g.S.Store)) (IsOpeningFault g.S.Store) Storage (λ clean. record {
       from = old;
       after = at_once g.S.Store old (was_clean (state g.S.Store old) (state g.S.Store mid) _ c.version.ensures.survives clean);
-      failure = inr (inr (inr (refl, c.in-Ok.found.items, (c.in-Ok.ensures.ok clean).asked, not_two, not_one)));
+      failure = inr (inr (inr (refl, c.in-Ok.found.items, (c.in-Ok.ensures.ok clean).query, not_two, not_one)));
     })

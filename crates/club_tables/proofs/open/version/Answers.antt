@@ -13,9 +13,9 @@ returns-clause-ok g c clean =
     let new = c.ask.new.conn in
     let earlier : HasCleanDisk (state g.S.Store old) = was_clean (state g.S.Store old) (state g.S.Store new) _ c.ask.ensures.survives clean in
     if_ok_map _ _ c.ask.result c.ask.ensures.asked (λ rows asked. record {
-      asked = asked clean;
-      answered = version_answered _ _ rows.items (asked clean).shown;
-      returned = λ club others found. elim (version_returned g.S.Store old rows.items earlier (asked clean) club others found) [
+      query = asked clean;
+      version_rows = version_answered _ _ rows.items (asked clean).shown;
+      version_of_club = λ club others found. elim (version_returned g.S.Store old rows.items earlier (asked clean) club others found) [
         | inl now ↦ inl (keeps_second g.S.Store old new c.ask.ensures.kept c.ask.ensures.survives club others now.0, now.1)
         | inr first ↦ inr (keeps_first g.S.Store old new c.ask.ensures.kept c.ask.ensures.survives club others first.0, first.1)
       ];

@@ -14,7 +14,7 @@ pub returns-in-Ok-clause-again : goal.returns-in-Ok-clause-again
 returns-in-Ok-clause-again g c clean clubs on =
     let was = c.args.connection in
     represents_one (state g.S.Store was) on.opening on.live (λ is_open trees may.
-    g.met.S.Store.settled was.store trees is_open may) _ (c.in-Ok.ensures.opens.opened clean) clubs on.left
+    g.met.S.Store.settled was.store trees is_open may) _ (c.in-Ok.ensures.opens.represents clean) clubs on.left
 
 pub returns-in-Ok-clause-empty : goal.returns-in-Ok-clause-empty
 returns-in-Ok-clause-empty g c clean empty =
@@ -25,7 +25,7 @@ returns-in-Ok-clause-empty g c clean empty =
       (empty.1 empty.0.is_open).1,
     )) in
     the_one _ empty_club (represents_one (state g.S.Store was) empty.0 empty.1 (λ is_open trees may.
-    g.met.S.Store.settled was.store trees is_open may) _ (c.in-Ok.ensures.opens.opened clean)
+    g.met.S.Store.settled was.store trees is_open may) _ (c.in-Ok.ensures.opens.represents clean)
     (empty_club ∷ []) (inl ((state g.S.Store was).committed, refl, blank)))
 
 pub returns-in-Ok-clause-accepted : goal.returns-in-Ok-clause-accepted
@@ -55,10 +55,10 @@ returns-in-Err-clause-refused g c =
     let left = c.in-Err.ensures in
     record {
       clean = λ clean. omega (arith, left.opens.survives.clean);
-      kept = left.opens.refused;
+      kept = left.opens.keeps_club;
       mode = still_idle _ _ _ c.is_autocommit.ensures.value c.if-not-is_autocommit.false left.idle;
       same_database = λ idle. left.untouched;
       survives = left.opens.survives;
       again = λ clean clubs on. one_found (state g.S.Store was) on.opening on.live (λ is_open trees may.
-          g.met.S.Store.settled was.store trees is_open may) _ (left.opens.refused clean) clubs on.left;
+          g.met.S.Store.settled was.store trees is_open may) _ (left.opens.keeps_club clean) clubs on.left;
     }
