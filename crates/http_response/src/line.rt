@@ -15,17 +15,19 @@ pub struct Line {
 
 impl Model for Line {
     ghost use Rattle.std.specs.Prelude.{ℕ, ◌≤◌, List, take};
+    ghost use Rattle.http_response.specs.Limits.{max_line_len};
 
     ghost Value = { List ℕ };
 
     ghost view = { λ line. take line.len line.bytes };
 
-    ghost invariant = { λ line. line.len ≤ 256 };
+    ghost invariant = { λ line. line.len ≤ max_line_len };
 }
 
 impl Line {
     ghost use Rattle.std.specs.Prelude.{◌≡◌, ◌≤◌, ◌+◌, ◌++◌, [], length};
     ghost use Rattle.std.specs.Fmt.{decimal};
+    ghost use Rattle.http_response.specs.Limits.{max_line_len};
 
     /// Makes an empty text.
     pub fn new() -> Line
@@ -39,7 +41,7 @@ impl Line {
 
     /// Appends bytes.
     pub fn push(&mut self, bytes: &[u8])
-        requires { length self.old + length bytes.now ≤ 256 }
+        requires { length self.old + length bytes.now ≤ max_line_len }
         ensures bytes { self.new ≡ self.old ++ bytes.now }
         ensures len { length self.new ≡ length self.old + length bytes.now }
     {
@@ -50,7 +52,7 @@ impl Line {
 
     /// Appends the decimal digits of a number, at most 20.
     pub fn push_number(&mut self, number: u64)
-        requires { length self.old + 20 ≤ 256 }
+        requires { length self.old + 20 ≤ max_line_len }
         ensures digits { self.new ≡ self.old ++ decimal number }
         ensures len { length self.new ≤ length self.old + 20 }
     {
@@ -61,7 +63,7 @@ impl Line {
     /// The bytes of the text.
     pub fn as_bytes(&self) -> &[u8]
         ensures value { result.now ≡ self.now }
-        ensures fits { length result.now ≤ 256 }
+        ensures fits { length result.now ≤ max_line_len }
     {
         &self.bytes[..self.len]
     }
