@@ -3,6 +3,7 @@
 ghost use Rattle.std.specs.Prelude.{◌≡◌, ◌≤◌, ◌+◌, ◌++◌, length, codes};
 ghost use Rattle.club_core.specs.declared.reply.Reply.TheVariants.{SlotShown, Booked, Cancelled, AccountShown, Refused};
 ghost use Rattle.http_response.specs.Body as spec;
+ghost use Rattle.http_response.specs.Limits.{max_line_len};
 
 use crate::line::Line;
 use club_core::{Refusal, Reply};
@@ -11,7 +12,7 @@ use club_values::{Kind, Name, Slot};
 
 /// Appends the name of a member.
 fn push_name(line: &mut Line, name: &[u8])
-    requires { length line.old + length name.now + 3 ≤ 256 }
+    requires { length line.old + length name.now + 3 ≤ max_line_len }
     ensures text { line.new ≡ line.old ++ spec.name_text name.now }
     ensures len { length line.new ≡ length line.old + length name.now + 3 }
 {
@@ -22,7 +23,7 @@ fn push_name(line: &mut Line, name: &[u8])
 
 /// Appends a text without escapes.
 fn push_value(line: &mut Line, text: &[u8])
-    requires { length line.old + length text.now + 2 ≤ 256 }
+    requires { length line.old + length text.now + 2 ≤ max_line_len }
     ensures text { line.new ≡ line.old ++ spec.value_text (spec.text text.now) }
     ensures len { length line.new ≡ length line.old + length text.now + 2 }
 {
@@ -48,7 +49,7 @@ fn object_of_text(name: &[u8], value: &[u8]) -> Line
 /// Appends the next member, a text.
 #[tactic(auto, unfolding(crate::specs::Body::member_text))]
 fn push_text(line: &mut Line, name: &[u8], value: &[u8])
-    requires { length line.old + length name.now + length value.now + 6 ≤ 256 }
+    requires { length line.old + length name.now + length value.now + 6 ≤ max_line_len }
     ensures text { line.new
         ≡ line.old ++ codes "," ++ spec.member_text (name.now, spec.text value.now) }
     ensures len { length line.new ≡ length line.old + length name.now + length value.now + 6 }
@@ -61,7 +62,7 @@ fn push_text(line: &mut Line, name: &[u8], value: &[u8])
 /// Appends the next member, a number.
 #[tactic(auto, unfolding(crate::specs::Body::member_text))]
 fn push_number(line: &mut Line, name: &[u8], value: u64)
-    requires { length line.old + length name.now + 24 ≤ 256 }
+    requires { length line.old + length name.now + 24 ≤ max_line_len }
     ensures text { line.new
         ≡ line.old ++ codes "," ++ spec.member_text (name.now, spec.number value) }
     ensures len { length line.new ≤ length line.old + length name.now + 24 }
@@ -74,7 +75,7 @@ fn push_number(line: &mut Line, name: &[u8], value: u64)
 /// Appends the next member, a truth value.
 #[tactic(auto, unfolding(crate::specs::Body::member_text))]
 fn push_truth(line: &mut Line, name: &[u8], value: bool)
-    requires { length line.old + length name.now + 9 ≤ 256 }
+    requires { length line.old + length name.now + 9 ≤ max_line_len }
     ensures text { line.new
         ≡ line.old ++ codes "," ++ spec.member_text (name.now, spec.truth value) }
     ensures len { length line.new ≤ length line.old + length name.now + 9 }
