@@ -1,43 +1,14 @@
--- What words spell, as the code reads them.
-use Rattle.std.proofs.Common.{◌≡◌, ◌⊎◌, ◌↔◌, ℕ, cond, ◌<◌, ◌≤◌, ◌&&◌, nat_le, Bool, true, false, List, length, Option, Some, None, Result, Ok, Err, inl, inr}
-use Rattle.std.proofs.Common.{refl, sym, arith, rules}
+-- The roots that words spell, as the code reads them.
+use Rattle.std.proofs.Common.{◌≡◌, ◌⊎◌, ◌↔◌, ℕ, cond, ◌<◌, ◌&&◌, nat_le, Bool, true, false, List, length, Option, Some, None, Result, Ok, Err, inl, inr}
+use Rattle.std.proofs.Common.{refl, sym, arith}
 use Rattle.std.specs.Prelude.{MatchOption, IsSome, IfSome}
-use Rattle.std.specs.Result.{result_ok}
-use Rattle.std.specs.Str.Parse.{digits_value, ParsesUnsigned}
 use Rattle.std.proofs.lemmas.Bool.{cases_lt}
 use Rattle.std.proofs.lemmas.Bool.Decides.{nat_tests}
-use Rattle.std.proofs.lemmas.Str.Parse.{IsNumeralModel, numerals_by_value, digits_value_short, parse_gives}
 use Rattle.hex.specs.Hex.{decode_of}
 use Rattle.hex.specs.declared.error.FromHexError.{FromHexError}
 use Rattle.club_rows.specs.Limits.{IsRoot}
 use Rattle.command_line.specs.Root.{root_of as root_of_any_length, root_among as any_root_among, has_root_length as any_has_root_length}
-use Rattle.clubdesk_commands.specs.Values.{are_digits, has_key_root_length, parse_number, key_root_among, key_root_of}
-
--- ---- numbers
-
-pub no_number : (text : List ℕ) → (length text ≡ 0) ⊎ ((9 < length text) ⊎ (are_digits text ≡ false)) → parse_number text ≡ None
-unfolding parse_number
-no_number text (inl none) = grind (arith, nat_tests)
-no_number text (inr (inl many)) = grind (arith, nat_tests)
-no_number text (inr (inr other)) = grind (arith, nat_tests)
-
-AreDigits : List ℕ → Type 0
-AreDigits text = are_digits text ≡ true
-
-own : IsNumeralModel AreDigits (digits_value 10)
-unfolding AreDigits
-own = numerals_by_value AreDigits (search rules)
-
-pub number_read : {E : Type 0} (text : List ℕ) (r : Result ℕ E) → 0 < length text → length text ≤ 9 → are_digits text ≡ true
-    → ParsesUnsigned 32 10 text r → result_ok r ≡ parse_number text
-unfolding parse_number AreDigits
-number_read text r some few digits parses =
-    let small = digits_value_short own text 9 digits few in
-    let is = parse_gives own 32 text r parses digits some (omega arith) in
-    let spelled : parse_number text ≡ Some (digits_value 10 text) = grind (arith, nat_tests) in
-    rw (is, spelled) refl
-
--- ---- roots
+use Rattle.clubdesk_commands.specs.Values.{has_key_root_length, key_root_among, key_root_of}
 
 long : (bytes : List ℕ) → IsRoot bytes → has_key_root_length bytes ≡ Some bytes
 long bytes h = grind (arith, nat_tests)

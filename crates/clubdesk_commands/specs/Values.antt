@@ -1,18 +1,12 @@
 -- The values that words spell, beside those of the club's own texts (ours).
-use Rattle.std.specs.Prelude.{ℕ, ◌&&◌, Bool, List, length, nat_lt, nat_le, if◌then◌else◌, Option, Some, None, Result, Ok, Err}
-use Rattle.std.specs.Char.{is_ascii_digit}
-use Rattle.std.specs.List.{list_all}
-use Rattle.std.specs.Str.Parse.{digits_value}
+use Rattle.std.specs.Prelude.{ℕ, ◌&&◌, List, length, nat_le, if◌then◌else◌, Option, Some, None, Result, Ok, Err}
 use Rattle.hex.specs.Hex.{decode_of}
 use Rattle.hex.specs.declared.error.FromHexError.{FromHexError}
-
-abbrev pub are_digits : List ℕ → Bool
-are_digits text = list_all is_ascii_digit text
+use Rattle.club_values.specs.Number.{number_of_digits}
 
 -- 1 to 9 decimal digits
 unfoldable pub parse_number : List ℕ → Option ℕ
-parse_number text =
-    if nat_lt 0 (length text) && nat_le (length text) 9 && are_digits text then Some (digits_value 10 text) else None
+parse_number text = number_of_digits text
 
 abbrev pub where_between : ℕ → ℕ → Option ℕ → Option ℕ
 where_between least most None = None

@@ -4,9 +4,7 @@ ghost use Rattle.std.specs.Prelude.{◌≡◌};
 ghost use Rattle.clubdesk_commands.specs.Values as spec;
 
 use club_rows::Root;
-
-/// The most digits of a number.
-const MAX_DIGITS: usize = 9;
+use club_values::digits::read_digits;
 
 /// The most connections that are served.
 pub const MAX_CONNECTIONS: u32 = 1_000_000;
@@ -18,19 +16,11 @@ pub const MAX_PAUSE_SECONDS: u32 = 600;
 pub const MAX_PATIENCE: u32 = 3_600;
 
 /// The number of 1 to 9 decimal digits.
+#[tactic(auto, unfolding(crate::specs::Values::parse_number))]
 pub fn parse_number(text: &str) -> Option<u32>
     ensures { result ≡ spec.parse_number text.now }
 {
-    if text.is_empty() || text.len() > MAX_DIGITS || !are_digits(text.as_bytes()) {
-        return None;
-    }
-    text.parse().ok()
-}
-
-fn are_digits(text: &[u8]) -> bool
-    ensures { result ≡ spec.are_digits text.now }
-{
-    text.iter().all(|byte| byte.is_ascii_digit())
+    read_digits(text.as_bytes())
 }
 
 /// The port of TCP that a number is, up to 65,535.
