@@ -1,13 +1,12 @@
 //! A task over two files, of which one fails at each of its calls in turn, and the club after it.
 
-use crate::disk::{Bytes, Part, Stops, has_calls_left, restarted};
+use crate::disk::{Bytes, NEVER, Part, Stop};
 use crate::events::{Event, FIXTURE};
 use crate::expect::{append, expect_case, push, text};
 use crate::reference_club::{Version, lines_of, replies};
 use crate::texts::FAILURES;
-use crate::work::{Work, done};
+use crate::work::{Work, do_over};
 use club_reference::Club;
-use sqlite::Files;
 use std::alloc::Global;
 use std::process::Abort;
 use test_kit::version_1::{OLDER_ROOTS, STATEMENTS};
@@ -73,20 +72,24 @@ impl Beginning {
     /// What is in the files.
     fn bytes(&self, rt: &(impl Abort + Alloc<A = Global>)) -> Bytes {
         let none = Bytes::none(rt);
-        let files = match *self {
-            Beginning::Nothing => return none,
+        match *self {
+            Beginning::Nothing => none,
             Beginning::Made(events) => {
-                let (_, files) = done(rt, none.files(rt), Work::Serves(&FIXTURE));
-                done(rt, files, Work::Serves(events)).1
+                let made = after(rt, &none, Work::Serves(&FIXTURE));
+                after(rt, &made, Work::Serves(events))
             }
-            Beginning::First(_) => done(rt, none.files(rt), Work::Runs(&STATEMENTS)).1,
+            Beginning::First(_) => after(rt, &none, Work::Runs(&STATEMENTS)),
             Beginning::Unindexed(_) => {
-                let (_, files) = done(rt, none.files(rt), Work::Runs(&STATEMENTS));
-                done(rt, files, Work::Runs(&OLDER_ROOTS)).1
+                let first = after(rt, &none, Work::Runs(&STATEMENTS));
+                after(rt, &first, Work::Runs(&OLDER_ROOTS))
             }
-        };
-        Bytes::left_in(rt, &files)
+        }
     }
+}
+
+/// What is in files of these bytes after this, which doesn't fail.
+fn after(rt: &(impl Abort + Alloc<A = Global>), bytes: &Bytes, work: Work) -> Bytes {
+    do_over(rt, bytes, NEVER, work).kept
 }
 
 /// The lines of texts.
@@ -170,17 +173,23 @@ impl Trial {
         }
     }
 
-    /// Ends the test unless the files hold one of the clubs that may be found, whole, and after the
-    /// task again the club after it.
+    /// The lines of files of these bytes: their rows, the replies to the task again, and the rows
+    /// then.
+    fn found_in(&self, rt: &(impl Abort + Alloc<A = Global>), bytes: &Bytes) -> Vec<String> {
+        let found = do_over(rt, bytes, NEVER, Work::Inspects(self.again));
+        found.lines.expect(rt, "a database")
+    }
+
+    /// Ends the test unless files of these bytes hold one of the clubs that may be found, whole,
+    /// and after the task again the club after it.
     fn expect_whole(
         &self,
         rt: &(impl Abort + Alloc<A = Global>),
         prepared: &Prepared,
         end: End,
-        files: Files<Stops>,
+        bytes: &Bytes,
     ) {
-        let (found, _) = done(rt, files, Work::Inspects(self.again));
-        let found = found.expect(rt, "a database");
+        let found = self.found_in(rt, bytes);
         let (before, after) = self.may_be_found(end);
         let is_before = before && found == prepared.from_before;
         if !is_before {
@@ -193,30 +202,22 @@ impl Trial {
         }
     }
 
-    /// Does the task on files of which one fails after so many calls. Then reopens the files, once
-    /// without what wasn't synced, and once with it. Returns whether the file had calls left: then
-    /// it didn't fail.
+    /// Does the task on files of which one stops there. Then reopens the files, once without what
+    /// wasn't synced, and once with it. Returns whether the file had calls left: then it didn't
+    /// stop.
     fn survives(
         &self,
         rt: &(impl Abort + Alloc<A = Global>),
         prepared: &Prepared,
-        part: Part,
-        calls: u64,
+        stop: Stop,
     ) -> bool {
-        let files = prepared.bytes.stopping(rt, part, calls);
-        let (replies, mut files) = done(rt, files, Work::Serves(self.task));
-        let end = self.end(rt, &replies);
-        let has_more_calls = has_calls_left(&mut files, part);
-        let kept = Bytes::left_in(rt, &files);
-        self.expect_whole(rt, prepared, end, kept.files(rt));
-        self.expect_whole(rt, prepared, end, restarted(files));
-        expect_case(
-            rt,
-            "done or stopped",
-            &(end == End::Done || !has_more_calls),
-            &true,
-        );
-        has_more_calls
+        let done = do_over(rt, &prepared.bytes, stop, Work::Serves(self.task));
+        let end = self.end(rt, &done.lines);
+        self.expect_whole(rt, prepared, end, &done.kept);
+        self.expect_whole(rt, prepared, end, &done.synced);
+        let is_done_or_stopped = end == End::Done || !done.has_calls_left;
+        expect_case(rt, "done or stopped", &is_done_or_stopped, &true);
+        done.has_calls_left
     }
 
     /// The number of the task's calls of one file, which fails at each of them in turn.
@@ -227,7 +228,7 @@ impl Trial {
         part: Part,
     ) -> u64 {
         for calls in 0..1_000u64 {
-            if self.survives(rt, prepared, part, calls) {
+            if self.survives(rt, prepared, Stop { part, calls }) {
                 return calls.saturating_sub(1);
             }
         }
@@ -237,11 +238,13 @@ impl Trial {
     /// Ends the test unless the club is whole wherever one of the files fails.
     pub fn holds(&self, rt: &(impl Abort + Alloc<A = Global>)) {
         let prepared = self.prepared(rt);
-        let files = prepared.bytes.files(rt);
-        let (found, _) = done(rt, files, Work::Inspects(self.again));
-        let wanted = Some(prepared.from_before.as_slice());
-        let found = found.as_ref().map(|lines| lines.as_slice());
-        expect_case(rt, "the club before the task", &found, &wanted);
+        let found = self.found_in(rt, &prepared.bytes);
+        expect_case(
+            rt,
+            "the club before the task",
+            &found,
+            &prepared.from_before,
+        );
         let log = self.calls_of(rt, &prepared, Part::Log);
         let database = self.calls_of(rt, &prepared, Part::Database);
         expect_case(rt, "calls", &[log, database], &self.calls);

@@ -77,8 +77,17 @@ fn reply<S: ClubStore>(
     }
 }
 
+/// What a desk is for.
+#[derive(Clone, Copy)]
+pub(crate) enum Duty {
+    /// These events, one after the other.
+    Replies(&'static [Event]),
+    /// The sheet of 2026-05-01.
+    Sheet,
+}
+
 /// The replies to events, one after the other.
-pub(crate) fn replies<S: ClubStore>(
+fn replies<S: ClubStore>(
     rt: &(impl Abort + Alloc<A = Global>),
     desk: &mut Desk<S>,
     events: &[Event],
@@ -91,12 +100,21 @@ pub(crate) fn replies<S: ClubStore>(
 }
 
 /// The sheet of 2026-05-01.
-pub(crate) fn sheet<S: ClubStore>(
-    rt: &(impl Abort + Alloc<A = Global>),
-    desk: &mut Desk<S>,
-) -> Vec<String> {
+fn sheet<S: ClubStore>(rt: &(impl Abort + Alloc<A = Global>), desk: &mut Desk<S>) -> Vec<String> {
     let day = Day::read(b"2026-05-01").expect(rt, "a day");
     let mut lines = Vec::new(rt.alloc());
     push(rt, &mut lines, desk.sheet(day).expect(rt, "a sheet"));
     lines
+}
+
+/// What a desk prints: a reply to each event, or a sheet.
+pub(crate) fn printed<S: ClubStore>(
+    rt: &(impl Abort + Alloc<A = Global>),
+    desk: &mut Desk<S>,
+    duty: Duty,
+) -> Vec<String> {
+    match duty {
+        Duty::Replies(events) => replies(rt, desk, events),
+        Duty::Sheet => sheet(rt, desk),
+    }
 }

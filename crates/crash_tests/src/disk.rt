@@ -1,4 +1,4 @@
-//! Two files in memory, of which one fails after so many calls.
+//! Two files in memory, of which one may fail after so many calls.
 
 use sqlite::Files;
 use sqlite_disk::{Crash, Disk, Fuse, Memory};
@@ -14,6 +14,19 @@ pub(crate) enum Part {
     Log,
     Database,
 }
+
+/// The file that fails, and after how many calls.
+#[derive(Clone, Copy)]
+pub(crate) struct Stop {
+    pub part: Part,
+    pub calls: u64,
+}
+
+/// Neither ever fails.
+pub(crate) const NEVER: Stop = Stop {
+    part: Part::Log,
+    calls: u64::MAX,
+};
 
 /// The bytes of the files.
 #[derive(Drop)]
@@ -46,29 +59,19 @@ impl Bytes {
         }
     }
 
-    /// What remains of the files if the process ends, but the machine doesn't stop: all of it.
-    pub fn left_in(rt: &(impl Abort + Alloc<A = Global>), files: &Files<Stops>) -> Bytes {
+    /// All that is in the files, synced or not.
+    pub fn of_files(rt: &(impl Abort + Alloc<A = Global>), files: &Files<Stops>) -> Bytes {
         Bytes {
             log: bytes_in(rt, &files.log),
             db: bytes_in(rt, &files.db),
         }
     }
 
-    /// Files that never fail.
-    pub fn files(&self, rt: &(impl Abort + Alloc<A = Global>)) -> Files<Stops> {
-        self.stopping(rt, Part::Log, u64::MAX)
-    }
-
-    /// Files of which one fails after so many calls.
-    pub fn stopping(
-        &self,
-        rt: &(impl Abort + Alloc<A = Global>),
-        part: Part,
-        calls: u64,
-    ) -> Files<Stops> {
-        let (log, db) = match part {
-            Part::Log => (calls, u64::MAX),
-            Part::Database => (u64::MAX, calls),
+    /// Files of which one stops there.
+    pub fn files(&self, rt: &(impl Abort + Alloc<A = Global>), stop: Stop) -> Files<Stops> {
+        let (log, db) = match stop.part {
+            Part::Log => (stop.calls, u64::MAX),
+            Part::Database => (u64::MAX, stop.calls),
         };
         Files {
             log: Fuse::new(disk(rt, self.log.as_slice()), log),
@@ -90,9 +93,9 @@ pub(crate) fn has_calls_left(files: &mut Files<Stops>, part: Part) -> bool {
     }
 }
 
-/// The files after a restart of the machine: what wasn't synced is lost, and no call fails.
-pub(crate) fn restarted(mut files: Files<Stops>) -> Files<Stops> {
+/// What remains after a restart of the machine: what wasn't synced is lost.
+pub(crate) fn restarted(rt: &(impl Abort + Alloc<A = Global>), mut files: Files<Stops>) -> Bytes {
     files.log.crash();
     files.db.crash();
-    files
+    Bytes::of_files(rt, &files)
 }

@@ -142,29 +142,37 @@ fn add_keys(rt: &(impl Abort + Alloc<A = Global>), lines: &mut Vec<String>, club
     }
 }
 
-fn booking_line(rt: &(impl Abort + Alloc<A = Global>), booking: &Booking) -> String {
-    let (key, number, slot) = (&booking.key, booking.number.get(), &booking.slot);
+/// Where and when a slot is.
+fn place(rt: &(impl Abort + Alloc<A = Global>), slot: &Slot) -> String {
     let (facility, day, hour) = (&slot.facility, slot.day.number(), slot.hour.number());
-    let (guests, charge, left) = (booking.guests.get(), booking.charge, booking.left);
-    let (cancelled, refund) = (u8::from(booking.cancelled), booking.refund);
+    text(rt, format!(in rt.alloc(); "{facility} {day} {hour}"))
+}
+
+/// What a booking costs, what it left, and what its cancellation gave back, if it is cancelled.
+fn sums(rt: &(impl Abort + Alloc<A = Global>), booking: &Booking) -> String {
+    let (charge, left, refund) = (booking.charge, booking.left, booking.refund);
+    let cancelled = u8::from(booking.cancelled);
     text(
         rt,
-        format!(in rt.alloc();
-            "booking {key} {number} {facility} {day} {hour} {guests} {charge} {left} {cancelled} \
-                {refund}"
-        ),
+        format!(in rt.alloc(); "{charge} {left} {cancelled} {refund}"),
+    )
+}
+
+fn booking_line(rt: &(impl Abort + Alloc<A = Global>), booking: &Booking) -> String {
+    let (key, number, guests) = (&booking.key, booking.number.get(), booking.guests.get());
+    let (place, sums) = (place(rt, &booking.slot), sums(rt, booking));
+    text(
+        rt,
+        format!(in rt.alloc(); "booking {key} {number} {place} {guests} {sums}"),
     )
 }
 
 /// What is taken of a slot by all members, and whether it is closed: nobody is a member's name.
 fn slot_line(rt: &(impl Abort + Alloc<A = Global>), club: &Club, slot: &Slot) -> String {
-    let (facility, day, hour) = (&slot.facility, slot.day.number(), slot.hour.number());
     let all = club.outside(&name(rt, "nobody"), Some(*slot));
     let (closed, taken) = (u8::from(all.closed), all.taken);
-    text(
-        rt,
-        format!(in rt.alloc(); "slot {facility} {day} {hour} {closed} {taken}"),
-    )
+    let place = place(rt, slot);
+    text(rt, format!(in rt.alloc(); "slot {place} {closed} {taken}"))
 }
 
 /// Adds a line that isn't among them yet.

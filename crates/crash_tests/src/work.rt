@@ -1,7 +1,7 @@
 //! Tasks over a database in two files.
 
-use crate::desk::{replies, sheet};
-use crate::disk::Stops;
+use crate::desk::{Duty, printed};
+use crate::disk::{Bytes, Stop, Stops, has_calls_left, restarted};
 use crate::events::Event;
 use crate::expect::append;
 use crate::tables::lines_in;
@@ -31,31 +31,16 @@ fn run<S: Alter>(rt: &impl Abort, connection: &mut Connection<S>, statements: &[
     }
 }
 
-/// The replies of a desk over the database; `None` if no store adopts it.
+/// What a desk over the database prints; `None` if no store adopts it.
 fn served<S: Alter + Drop>(
     rt: &(impl Abort + Alloc<A = Global>),
     connection: Connection<S>,
-    events: &[Event],
+    duty: Duty,
 ) -> (Option<Vec<String>>, Connection<S>) {
     match Store::adopt(rt.alloc(), connection) {
         Ok(store) => {
             let mut desk = Desk::new(rt.alloc(), store);
-            let replies = replies(rt, &mut desk, events);
-            (Some(replies), desk.into_store().into_connection())
-        }
-        Err((_, connection)) => (None, connection),
-    }
-}
-
-/// The sheet that a desk over the database prints; `None` if no store adopts it.
-fn printed<S: Alter + Drop>(
-    rt: &(impl Abort + Alloc<A = Global>),
-    connection: Connection<S>,
-) -> (Option<Vec<String>>, Connection<S>) {
-    match Store::adopt(rt.alloc(), connection) {
-        Ok(store) => {
-            let mut desk = Desk::new(rt.alloc(), store);
-            let lines = sheet(rt, &mut desk);
+            let lines = printed(rt, &mut desk, duty);
             (Some(lines), desk.into_store().into_connection())
         }
         Err((_, connection)) => (None, connection),
@@ -66,10 +51,10 @@ fn printed<S: Alter + Drop>(
 fn inspected<S: Alter + Drop>(
     rt: &(impl Abort + Alloc<A = Global>),
     mut connection: Connection<S>,
-    events: &[Event],
+    events: &'static [Event],
 ) -> (Option<Vec<String>>, Connection<S>) {
     let mut lines = lines_in(rt, &mut connection);
-    let (replies, mut connection) = served(rt, connection, events);
+    let (replies, mut connection) = served(rt, connection, Duty::Replies(events));
     append(rt, &mut lines, replies.expect(rt, "a store"));
     append(rt, &mut lines, lines_in(rt, &mut connection));
     (Some(lines), connection)
@@ -86,8 +71,8 @@ pub(crate) fn worked<S: Alter + Drop>(
             run(rt, &mut connection, statements);
             (Some(Vec::new(rt.alloc())), connection)
         }
-        Work::Serves(events) => served(rt, connection, events),
-        Work::Prints => printed(rt, connection),
+        Work::Serves(events) => served(rt, connection, Duty::Replies(events)),
+        Work::Prints => served(rt, connection, Duty::Sheet),
         Work::Inspects(events) => inspected(rt, connection, events),
     }
 }
@@ -100,9 +85,9 @@ fn closed<D: Disk + Drop>(connection: Connection<FileStore<D>>) -> Files<D> {
 }
 
 /// Does this over the database in these files: the lines of output, `None` if it wasn't opened; and
-/// the files after it. It is the one function here that
-/// names their type: the proof of each takes half a minute.
-pub(crate) fn done(
+/// the files after it. It is the one function here that names their type: the proof of each takes
+/// half a minute.
+fn over_files(
     rt: &(impl Abort + Alloc<A = Global>),
     files: Files<Stops>,
     work: Work,
@@ -116,5 +101,34 @@ pub(crate) fn done(
             (lines, closed(connection))
         }
         Err((_, left)) => (None, left.into_files()),
+    }
+}
+
+/// What comes of a task over two files.
+#[derive(Drop)]
+pub(crate) struct Done {
+    /// The lines of output; `None` if the database wasn't opened.
+    pub lines: Option<Vec<String>>,
+    /// Whether the file that stops had calls left: then it didn't stop.
+    pub has_calls_left: bool,
+    /// What remains of the files if the process ends, but the machine doesn't stop: all of it.
+    pub kept: Bytes,
+    /// What remains of them after a restart of the machine.
+    pub synced: Bytes,
+}
+
+/// Does this over the database in files of these bytes, of which one stops there.
+pub(crate) fn do_over(
+    rt: &(impl Abort + Alloc<A = Global>),
+    bytes: &Bytes,
+    stop: Stop,
+    work: Work,
+) -> Done {
+    let (lines, mut files) = over_files(rt, bytes.files(rt, stop), work);
+    Done {
+        lines,
+        has_calls_left: has_calls_left(&mut files, stop.part),
+        kept: Bytes::of_files(rt, &files),
+        synced: restarted(rt, files),
     }
 }
