@@ -1,9 +1,9 @@
 //! A disk that stops in a commit, and what is found by a store that is opened again.
 
+use crate::databases::Contents;
 use crate::expect::expect_eq;
 use crate::rows::{AMY_1, slot};
 use crate::steps::{Shown, Step, plays};
-use crate::versions::fill;
 use crate::write::{Write, change};
 use club_core::Change;
 use club_store::Store;
@@ -109,7 +109,7 @@ fn filled<S: Alter + Drop>(
     first: bool,
 ) -> Connection<S> {
     if first {
-        fill(rt, &mut connection);
+        Contents::First.make(rt, &mut connection);
         return connection;
     }
     club_in(rt, connection)
@@ -177,10 +177,12 @@ fn attempted_in<D: Disk + Drop>(
     }
 }
 
-/// How the trial ends on a log that stops after so many calls, and what is left of the files.
-fn tried(rt: &(impl Abort + Alloc<A = Global>), trial: &Trial, calls: u64) -> (End, Files<Stops>) {
-    let files = files(rt, calls, &trial.bytes);
-    attempted_in(rt, files, &trial.task)
+/// How the trial ends on a log that stops after so many calls, and what is counted in the files
+/// once the machine came back.
+fn tried(rt: &(impl Abort + Alloc<A = Global>), trial: &Trial, calls: u64) -> (End, End) {
+    let (end, left) = attempted_in(rt, files(rt, calls, &trial.bytes), &trial.task);
+    let (found, _) = attempted_in(rt, restarted(left), &Task::Count);
+    (end, found)
 }
 
 /// The most calls, of up to 511, that are too few for the trial.
@@ -197,19 +199,22 @@ fn calls_too_few(rt: &(impl Abort + Alloc<A = Global>), trial: &Trial) -> u64 {
     calls
 }
 
-/// Ends the test unless the trial ends so, and leaves one of these numbers of persons.
+/// All three persons of the booking, and either these or none.
+static ALL: [End; 1] = [End::Counted(3)];
+
+static ALL_OR_NONE: [End; 2] = [End::Counted(0), End::Counted(3)];
+
+/// Ends the test unless the trial ends so, and one of these is counted then.
 fn leaves(
     rt: &(impl Abort + Alloc<A = Global>),
     trial: &Trial,
     calls: u64,
     want: End,
-    either: [u32; 2],
+    either: &[End],
 ) {
-    let (end, left) = tried(rt, trial, calls);
+    let (end, found) = tried(rt, trial, calls);
     expect_eq(rt, &end, &want);
-    let (found, _) = attempted_in(rt, restarted(left), &Task::Count);
-    let is_either = found == End::Counted(either[0]) || found == End::Counted(either[1]);
-    expect_eq(rt, &is_either, &true);
+    expect_eq(rt, &either.contains(&found), &true);
 }
 
 /// What is then in the file.
@@ -218,7 +223,6 @@ fn bytes_of(rt: &(impl Abort + Alloc<A = Global>), first: bool) -> Vec<u8> {
     Vec::from_slice(rt.alloc(), files.db.inner().bytes()).expect(rt, "memory")
 }
 
-/// All three persons of the booking, or none.
 #[test]
 fn holds_a_booking_whole_or_not_at_all(rt: HostRuntime) {
     let trial = Trial {
@@ -226,8 +230,8 @@ fn holds_a_booking_whole_or_not_at_all(rt: HostRuntime) {
         task: Task::Change(change(&rt, &Write::Book(BOOKING_7))),
     };
     let calls = calls_too_few(&rt, &trial);
-    leaves(&rt, &trial, calls, End::NotChanged, [0, 3]);
-    leaves(&rt, &trial, calls.saturating_add(1), End::Done, [3, 3]);
+    leaves(&rt, &trial, calls, End::NotChanged, &ALL_OR_NONE);
+    leaves(&rt, &trial, calls.saturating_add(1), End::Done, &ALL);
 }
 
 #[test]
@@ -237,7 +241,7 @@ fn migrates_whole_or_not_at_all(rt: HostRuntime) {
         task: Task::Open,
     };
     let calls = calls_too_few(&rt, &trial);
-    leaves(&rt, &trial, calls / 2, End::NotOpened, [3, 3]);
-    leaves(&rt, &trial, calls, End::NotOpened, [3, 3]);
-    leaves(&rt, &trial, calls.saturating_add(1), End::Done, [3, 3]);
+    leaves(&rt, &trial, calls / 2, End::NotOpened, &ALL);
+    leaves(&rt, &trial, calls, End::NotOpened, &ALL);
+    leaves(&rt, &trial, calls.saturating_add(1), End::Done, &ALL);
 }

@@ -1,8 +1,9 @@
 //! Rows out of their limits, in tables that take any row: each is a fault of storage where it is
 //! read.
 
+use crate::databases::{database_after, runs};
 use crate::rows::{day, moment, name, number, slot};
-use crate::versions::{database, runs};
+use crate::steps::adopted;
 use club_core::{Request, StoreFault};
 use club_store::Store;
 use sqlite::Alter;
@@ -221,14 +222,20 @@ fn fault_of<S: Alter>(rt: &impl Abort, store: &mut Store<S>, read: Read) -> Opti
     }
 }
 
+/// The fault of a reading of the rows, if any, once this was done to them.
+fn fault_after(
+    rt: &(impl Abort + Alloc<A = Global>),
+    text: &str,
+    read: Read,
+) -> Option<StoreFault> {
+    let mut connection = database_after(rt, &[&TABLES, &ROWS]);
+    runs(rt, &mut connection, &[text]);
+    fault_of(rt, &mut adopted(rt, connection), read)
+}
+
 /// Ends the test unless the reading ends so once this was done to the rows.
 fn ends(rt: &(impl Abort + Alloc<A = Global>), (text, read): &Changed, want: Option<StoreFault>) {
-    let mut connection = database(rt);
-    runs(rt, &mut connection, &TABLES);
-    runs(rt, &mut connection, &ROWS);
-    runs(rt, &mut connection, &[text]);
-    let mut store = Store::adopt(rt.alloc(), connection).ok().expect(rt, text);
-    let fault = fault_of(rt, &mut store, *read);
+    let fault = fault_after(rt, text, *read);
     assert_eq!(rt; fault, want, "{text}");
 }
 

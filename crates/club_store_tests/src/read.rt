@@ -1,7 +1,7 @@
 //! Tests of the reads of the tables.
 
 use crate::rows::{AMY_1, DAY};
-use crate::tables::{Expected, Step, Tables};
+use crate::tables::{Expected, Step, plays_empty, plays_filled};
 use std::test::*;
 use test_kit::{BOOKING_7, COURT, COURT_AT_18, COURT_AT_19};
 
@@ -12,7 +12,7 @@ static MEMBERS: [Step; 2] = [
 
 #[test]
 fn members(rt: HostRuntime) {
-    Tables::filled(&rt).plays_all(&rt, &MEMBERS);
+    plays_filled(&rt, &MEMBERS);
 }
 
 static FACILITIES_AND_SLOTS: [Step; 4] = [
@@ -24,7 +24,7 @@ static FACILITIES_AND_SLOTS: [Step; 4] = [
 
 #[test]
 fn facilities_and_slots(rt: HostRuntime) {
-    Tables::filled(&rt).plays_all(&rt, &FACILITIES_AND_SLOTS);
+    plays_filled(&rt, &FACILITIES_AND_SLOTS);
 }
 
 static KEYS: [Step; 3] = [
@@ -35,7 +35,7 @@ static KEYS: [Step; 3] = [
 
 #[test]
 fn keys(rt: HostRuntime) {
-    Tables::filled(&rt).plays_all(&rt, &KEYS);
+    plays_filled(&rt, &KEYS);
 }
 
 static BOOKINGS: [Step; 6] = [
@@ -49,7 +49,7 @@ static BOOKINGS: [Step; 6] = [
 
 #[test]
 fn bookings(rt: HostRuntime) {
-    Tables::filled(&rt).plays_all(&rt, &BOOKINGS);
+    plays_filled(&rt, &BOOKINGS);
 }
 
 /// A booking is open until its slot begins.
@@ -61,7 +61,7 @@ static OPEN: [Step; 3] = [
 
 #[test]
 fn open_bookings(rt: HostRuntime) {
-    Tables::filled(&rt).plays_all(&rt, &OPEN);
+    plays_filled(&rt, &OPEN);
 }
 
 /// Tables that are there are found, with their rows.
@@ -73,7 +73,7 @@ static AGAIN: [Step; 3] = [
 
 #[test]
 fn opened_again(rt: HostRuntime) {
-    Tables::filled(&rt).plays_all(&rt, &AGAIN);
+    plays_filled(&rt, &AGAIN);
 }
 
 static NOTHING: [Step; 5] = [
@@ -86,5 +86,5 @@ static NOTHING: [Step; 5] = [
 
 #[test]
 fn an_empty_club(rt: HostRuntime) {
-    Tables::empty(&rt).plays_all(&rt, &NOTHING);
+    plays_empty(&rt, &NOTHING);
 }

@@ -2,68 +2,24 @@
 //! in turn, and none after it: an opening that is out of memory leaves the database as it was, and
 //! a second one opens it.
 
+use crate::databases::{Contents, database, version};
 use crate::expect::expect_eq;
 use crate::steps::{Step, plays};
-use crate::versions::{MIGRATED, NOBODY, database, fill, runs, version};
+use crate::versions::{MIGRATED, NOBODY};
 use club_core::StoreFault;
 use club_store::Store;
 use sqlite::{Alter, Connection, FileFrom, FileStore, MemStore, Unknown};
+use sqlite_disk::Disk;
 use std::alloc::Global;
 use std::process::Abort;
 use std::test::Fail;
 use std::{env, fs, process};
-use test_kit::version_1::OLDER_ROOTS;
 
-/// What a database holds before it is opened.
-#[derive(Clone, Copy)]
-enum Tables {
-    /// None.
-    No,
-    /// Those of version 1 with the rows of its tests.
-    First,
-    /// The same with older roots.
-    Unindexed,
-    /// Those of version 2, which have the index of the bookings beside.
-    Second,
-}
-
-static INDEX: [&str; 1] = [
-    "CREATE INDEX bookings_by_key \
-    ON bookings (pass_key, cancelled, day, hour, number, charge, refund)",
-];
-
-impl Tables {
-    fn make<S: Alter>(self, rt: &impl Abort, connection: &mut Connection<S>) {
-        match self {
-            Tables::No => {}
-            Tables::First => fill(rt, connection),
-            Tables::Unindexed => {
-                fill(rt, connection);
-                runs(rt, connection, &OLDER_ROOTS);
-            }
-            Tables::Second => {
-                fill(rt, connection);
-                runs(rt, connection, &OLDER_ROOTS);
-                runs(rt, connection, &INDEX);
-            }
-        }
-    }
-
-    /// The version that is read in them.
-    fn version(self) -> Option<i64> {
-        match self {
-            Tables::No => None,
-            Tables::First => Some(1),
-            Tables::Unindexed | Tables::Second => Some(2),
-        }
-    }
-
-    /// What the store over them shows.
-    fn shown(self) -> &'static [Step] {
-        match self {
-            Tables::No => &NOBODY,
-            Tables::First | Tables::Unindexed | Tables::Second => &MIGRATED,
-        }
+/// What the store over these shows.
+fn shown(contents: Contents) -> &'static [Step] {
+    match contents {
+        Contents::Nothing => &NOBODY,
+        Contents::First | Contents::Unindexed | Contents::Second => &MIGRATED,
     }
 }
 
@@ -71,13 +27,13 @@ impl Tables {
 fn opened<S: Alter + Drop>(
     rt: &(impl Abort + Alloc<A = Global>),
     connection: Connection<S>,
-    tables: Tables,
+    contents: Contents,
 ) -> Store<S> {
     match Store::adopt(rt.alloc(), connection) {
         Ok(store) => store,
         Err((fault, mut left)) => {
             expect_eq(rt, &fault, &StoreFault::Memory);
-            expect_eq(rt, &version(&mut left), &tables.version());
+            expect_eq(rt, &version(&mut left), &contents.version());
             Store::adopt(rt.alloc(), left).ok().expect(rt, "opened")
         }
     }
@@ -86,36 +42,34 @@ fn opened<S: Alter + Drop>(
 fn opens<S: Alter + Drop>(
     rt: &(impl Abort + Alloc<A = Global>),
     connection: Connection<S>,
-    tables: Tables,
+    contents: Contents,
 ) {
-    let mut store = opened(rt, connection, tables);
-    plays(rt, &mut store, tables.shown());
+    let mut store = opened(rt, connection, contents);
+    plays(rt, &mut store, shown(contents));
 }
 
-fn opens_in_memory(rt: &(impl Abort + Alloc<A = Global>), tables: Tables) {
-    let mut connection = database(rt);
-    tables.make(rt, &mut connection);
-    opens(rt, connection, tables);
+fn opens_in_memory(rt: &(impl Abort + Alloc<A = Global>), contents: Contents) {
+    opens(rt, database(rt, contents), contents);
 }
 
 #[test]
 fn empty_database(rt: HostRuntime) {
-    opens_in_memory(&rt, Tables::No);
+    opens_in_memory(&rt, Contents::Nothing);
 }
 
 #[test]
 fn tables_of_version_1(rt: HostRuntime) {
-    opens_in_memory(&rt, Tables::First);
+    opens_in_memory(&rt, Contents::First);
 }
 
 #[test]
 fn tables_without_the_index(rt: HostRuntime) {
-    opens_in_memory(&rt, Tables::Unindexed);
+    opens_in_memory(&rt, Contents::Unindexed);
 }
 
 #[test]
 fn tables_of_version_2(rt: HostRuntime) {
-    opens_in_memory(&rt, Tables::Second);
+    opens_in_memory(&rt, Contents::Second);
 }
 
 /// A new store in memory.
@@ -134,32 +88,71 @@ fn store_in_memory(rt: HostRuntime) {
     plays(&rt, &mut new_store(&rt), &NOBODY);
 }
 
-/// Makes tables in a file that isn't there yet.
-fn make_file(host: &HostRuntime, rt: &impl Abort, path: &str, tables: Tables) {
-    let mut connection = Connection::open(host, path).expect(rt, "a file");
-    tables.make(rt, &mut connection);
+/// Makes these tables in a database, and closes it.
+fn fill<D: Disk + Drop>(
+    rt: &impl Abort,
+    mut connection: Connection<FileStore<D>>,
+    contents: Contents,
+) {
+    contents.make(rt, &mut connection);
     connection.close().expect(rt, "closed");
 }
 
-/// The store in the file at a path, by the second opening where the first is out of memory.
-fn opened_at(
+/// Makes these tables in a file that isn't there yet.
+fn make_file(host: &HostRuntime, rt: &impl Abort, path: &str, contents: Contents) {
+    fill(
+        rt,
+        Connection::open(host, path).expect(rt, "a file"),
+        contents,
+    );
+}
+
+/// The store in the file at a path.
+fn file_store(
     host: &HostRuntime,
-    rt: &impl Abort,
     path: &str,
-) -> Store<FileStore<FileFrom<Unknown>>> {
+) -> Result<Store<FileStore<FileFrom<Unknown>>>, StoreFault> {
     match Store::open_file(host, path, Unknown) {
-        Ok(store) => store,
-        Err((fault, left)) => {
-            drop(left);
-            expect_eq(rt, &fault, &StoreFault::Memory);
-            let again = Store::open_file(host, path, Unknown);
-            again.ok().expect(rt, "opened")
-        }
+        Ok(store) => Ok(store),
+        Err((fault, _left)) => Err(fault),
     }
 }
 
-fn opens_at(host: &HostRuntime, rt: &(impl Abort + Alloc<A = Global>), path: &str, tables: Tables) {
-    plays(rt, &mut opened_at(host, rt, path), tables.shown());
+fn plays_in_files<D: Disk + Drop>(
+    rt: &(impl Abort + Alloc<A = Global>),
+    mut store: Store<FileStore<D>>,
+    steps: &[Step],
+) {
+    plays(rt, &mut store, steps);
+}
+
+/// Opens that store, and ends the test unless it shows what these tables hold.
+fn is_opened(
+    host: &HostRuntime,
+    rt: &(impl Abort + Alloc<A = Global>),
+    path: &str,
+    contents: Contents,
+) -> Result<(), StoreFault> {
+    match file_store(host, path) {
+        Ok(store) => {
+            plays_in_files(rt, store, shown(contents));
+            Ok(())
+        }
+        Err(fault) => Err(fault),
+    }
+}
+
+/// The store in the file is opened, by the second opening where the first is out of memory.
+fn opens_at(
+    host: &HostRuntime,
+    rt: &(impl Abort + Alloc<A = Global>),
+    path: &str,
+    contents: Contents,
+) {
+    if let Err(fault) = is_opened(host, rt, path, contents) {
+        expect_eq(rt, &fault, &StoreFault::Memory);
+        expect_eq(rt, &is_opened(host, rt, path, contents), &Ok(()));
+    }
 }
 
 /// A path of this process alone.
@@ -182,33 +175,33 @@ fn remove(host: &HostRuntime, path: &str) -> Result<(), Fail> {
 #[test]
 fn new_file(rt: HostRuntime) -> Result<(), Fail> {
     let path = path_of(&rt)?;
-    opens_at(&rt, &rt, path.as_str(), Tables::No);
-    opens_at(&rt, &rt, path.as_str(), Tables::No);
+    opens_at(&rt, &rt, path.as_str(), Contents::Nothing);
+    opens_at(&rt, &rt, path.as_str(), Contents::Nothing);
     remove(&rt, path.as_str())
 }
 
 fn opens_file(
     host: &HostRuntime,
     rt: &(impl Abort + Alloc<A = Global>),
-    tables: Tables,
+    contents: Contents,
 ) -> Result<(), Fail> {
     let path = path_of(host)?;
-    make_file(host, rt, path.as_str(), tables);
-    opens_at(host, rt, path.as_str(), tables);
+    make_file(host, rt, path.as_str(), contents);
+    opens_at(host, rt, path.as_str(), contents);
     remove(host, path.as_str())
 }
 
 #[test]
 fn file_of_version_1(rt: HostRuntime) -> Result<(), Fail> {
-    opens_file(&rt, &rt, Tables::First)
+    opens_file(&rt, &rt, Contents::First)
 }
 
 #[test]
 fn file_without_the_index(rt: HostRuntime) -> Result<(), Fail> {
-    opens_file(&rt, &rt, Tables::Unindexed)
+    opens_file(&rt, &rt, Contents::Unindexed)
 }
 
 #[test]
 fn file_of_version_2(rt: HostRuntime) -> Result<(), Fail> {
-    opens_file(&rt, &rt, Tables::Second)
+    opens_file(&rt, &rt, Contents::Second)
 }

@@ -1,5 +1,6 @@
 //! Steps of a test over a store: what is written to it, and what it shows then.
 
+use crate::databases::{Contents, database};
 use crate::expect::expect_eq;
 use crate::rows::{
     AMY_1, Kept, booking_of, day, facility, key, member, moment, name, number, slot,
@@ -7,7 +8,7 @@ use crate::rows::{
 use crate::write::{Write, change};
 use club_core::{Change, ClubStore, MemberAccount, Request, SlotUse, StoreFault, View, sheet_text};
 use club_store::Store;
-use sqlite::{Alter, MemStore};
+use sqlite::{Alter, Connection, MemStore};
 use std::alloc::Global;
 use std::process::Abort;
 use test_kit::{
@@ -245,40 +246,91 @@ pub(crate) fn plays<S: Alter>(
     }
 }
 
-/// The store of an empty club.
-pub(crate) fn empty(rt: &(impl Abort + Alloc<A = Global>)) -> Store<MemStore> {
-    Store::open_in_memory(rt.alloc()).expect(rt, "a store")
+/// The club of a new store.
+#[derive(Clone, Copy)]
+pub(crate) enum Start {
+    Empty,
+    /// With amy, her key and the facilities.
+    Rows,
+    /// The same with her points and bookings.
+    Bookings,
 }
 
-/// That of a club with amy, her key and the facilities.
-pub(crate) fn with_rows(rt: &(impl Abort + Alloc<A = Global>)) -> Store<MemStore> {
-    let mut store = empty(rt);
-    plays(rt, &mut store, &ROWS);
+impl Start {
+    /// The steps that make it.
+    fn steps(self) -> [&'static [Step]; 2] {
+        match self {
+            Start::Empty => [&[], &[]],
+            Start::Rows => [&ROWS, &[]],
+            Start::Bookings => [&ROWS, &BOOKS],
+        }
+    }
+}
+
+/// A new store of this club.
+fn started(rt: &(impl Abort + Alloc<A = Global>), start: Start) -> Store<MemStore> {
+    let mut store = Store::open_in_memory(rt.alloc()).expect(rt, "a store");
+    for steps in &start.steps() {
+        plays(rt, &mut store, steps);
+    }
     store
 }
 
-/// That of the same club with her points and bookings.
-pub(crate) fn with_bookings(rt: &(impl Abort + Alloc<A = Global>)) -> Store<MemStore> {
-    let mut store = with_rows(rt);
-    plays(rt, &mut store, &BOOKS);
-    store
+/// Plays steps over a new store of this club.
+pub(crate) fn plays_from(rt: &(impl Abort + Alloc<A = Global>), start: Start, steps: &[Step]) {
+    plays(rt, &mut started(rt, start), steps);
 }
 
-/// The store over the same connection, opened again.
-fn reopened(rt: &(impl Abort + Alloc<A = Global>), store: Store<MemStore>) -> Store<MemStore> {
-    Store::adopt(rt.alloc(), store.into_connection())
+/// The store over a database that it takes over.
+pub(crate) fn adopted(
+    rt: &(impl Abort + Alloc<A = Global>),
+    connection: Connection<MemStore>,
+) -> Store<MemStore> {
+    Store::adopt(rt.alloc(), connection)
         .ok()
-        .expect(rt, "opened again")
+        .expect(rt, "adopted")
 }
 
-/// Goes by the first steps, and by the others once the store is opened again.
-pub(crate) fn plays_again(
+fn opened(rt: &(impl Abort + Alloc<A = Global>), contents: Contents) -> Store<MemStore> {
+    adopted(rt, database(rt, contents))
+}
+
+/// Plays steps over the store that opens a database.
+pub(crate) fn plays_opened(
+    rt: &(impl Abort + Alloc<A = Global>),
+    contents: Contents,
+    steps: &[Step],
+) {
+    plays(rt, &mut opened(rt, contents), steps);
+}
+
+/// Plays the first steps, and the others once the store is opened again over the same connection.
+fn plays_twice(
     rt: &(impl Abort + Alloc<A = Global>),
     mut store: Store<MemStore>,
     steps: &[Step],
     then: &[Step],
 ) {
     plays(rt, &mut store, steps);
-    let mut again = reopened(rt, store);
-    plays(rt, &mut again, then);
+    plays(rt, &mut adopted(rt, store.into_connection()), then);
+}
+
+/// The same over a new store of this club.
+pub(crate) fn plays_twice_from(
+    rt: &(impl Abort + Alloc<A = Global>),
+    start: Start,
+    steps: &[Step],
+    then: &[Step],
+) {
+    plays_twice(rt, started(rt, start), steps, then);
+}
+
+/// The same over the store that opens a database.
+pub(crate) fn plays_twice_opened(
+    rt: &(impl Abort + Alloc<A = Global>),
+    contents: Contents,
+    steps: &[Step],
+    then: &[Step],
+) {
+    plays_twice(rt, opened(rt, contents), steps, then);
 }

@@ -1,7 +1,7 @@
 //! Tests of a store: what is written to it, and what it shows then.
 
 use crate::rows::{AMY_1, DAY, REVOKED};
-use crate::steps::{Asked, Shown, Step, empty, plays, plays_again, with_bookings, with_rows};
+use crate::steps::{Asked, Shown, Start, Step, plays_from, plays_twice_from};
 use crate::write::Write;
 use std::test::*;
 use test_kit::{
@@ -19,13 +19,13 @@ static WRITTEN: [Step; 3] = [
 
 #[test]
 fn reads_what_was_written(rt: HostRuntime) {
-    plays(&rt, &mut empty(&rt), &UNKNOWN);
-    plays(&rt, &mut with_rows(&rt), &WRITTEN);
+    plays_from(&rt, Start::Empty, &UNKNOWN);
+    plays_from(&rt, Start::Rows, &WRITTEN);
 }
 
 #[test]
 fn keeps_tables_that_hold_a_club(rt: HostRuntime) {
-    plays_again(&rt, with_rows(&rt), &WRITTEN, &WRITTEN);
+    plays_twice_from(&rt, Start::Rows, &WRITTEN, &WRITTEN);
 }
 
 static CHANGES: [Step; 4] = [
@@ -37,7 +37,7 @@ static CHANGES: [Step; 4] = [
 
 #[test]
 fn changes_rows(rt: HostRuntime) {
-    plays(&rt, &mut with_rows(&rt), &CHANGES);
+    plays_from(&rt, Start::Rows, &CHANGES);
 }
 
 static PERSONS: [Step; 7] = [
@@ -52,7 +52,7 @@ static PERSONS: [Step; 7] = [
 
 #[test]
 fn counts_the_persons_of_a_slot(rt: HostRuntime) {
-    plays(&rt, &mut with_rows(&rt), &PERSONS);
+    plays_from(&rt, Start::Rows, &PERSONS);
 }
 
 static CLOSES: [Step; 3] = [
@@ -63,7 +63,7 @@ static CLOSES: [Step; 3] = [
 
 #[test]
 fn closes_a_slot(rt: HostRuntime) {
-    plays(&rt, &mut with_rows(&rt), &CLOSES);
+    plays_from(&rt, Start::Rows, &CLOSES);
 }
 
 const COURT_10: PlainBooking = PlainBooking {
@@ -125,7 +125,7 @@ static DAYS: [Step; 9] = [
 
 #[test]
 fn returns_a_day_in_order(rt: HostRuntime) {
-    plays(&rt, &mut with_rows(&rt), &DAYS);
+    plays_from(&rt, Start::Rows, &DAYS);
 }
 
 /// An account, two slots, a booking that is there and one that isn't.
@@ -139,7 +139,7 @@ static VIEWS: [Step; 5] = [
 
 #[test]
 fn shows_what_a_key_sees(rt: HostRuntime) {
-    plays(&rt, &mut with_bookings(&rt), &VIEWS);
+    plays_from(&rt, Start::Bookings, &VIEWS);
 }
 
 /// The writes of the office by the calls of their own names.
@@ -155,7 +155,7 @@ static OFFICE: [Step; 7] = [
 
 #[test]
 fn makes_the_writes_of_the_office(rt: HostRuntime) {
-    plays(&rt, &mut empty(&rt), &OFFICE);
+    plays_from(&rt, Start::Empty, &OFFICE);
 }
 
 static KEYS_AND_SLOTS: [Step; 9] = [
@@ -172,16 +172,16 @@ static KEYS_AND_SLOTS: [Step; 9] = [
 
 #[test]
 fn makes_the_writes_of_keys_and_slots(rt: HostRuntime) {
-    plays(&rt, &mut empty(&rt), &KEYS_AND_SLOTS);
+    plays_from(&rt, Start::Empty, &KEYS_AND_SLOTS);
 }
 
 /// With ample memory each call answers, and doesn't end for want of it.
 #[test]
 fn answers_with_ample_memory(rt: HostRuntime) {
-    plays(&rt, &mut empty(&rt), &OFFICE);
-    plays(&rt, &mut empty(&rt), &KEYS_AND_SLOTS);
-    plays(&rt, &mut with_rows(&rt), &DAYS);
-    plays_again(&rt, with_bookings(&rt), &VIEWS, &VIEWS);
+    plays_from(&rt, Start::Empty, &OFFICE);
+    plays_from(&rt, Start::Empty, &KEYS_AND_SLOTS);
+    plays_from(&rt, Start::Rows, &DAYS);
+    plays_twice_from(&rt, Start::Bookings, &VIEWS, &VIEWS);
 }
 
 static TWICE: [Step; 3] = [
@@ -192,7 +192,7 @@ static TWICE: [Step; 3] = [
 
 #[test]
 fn refuses_what_the_tables_have(rt: HostRuntime) {
-    plays(&rt, &mut empty(&rt), &TWICE);
+    plays_from(&rt, Start::Empty, &TWICE);
 }
 
 /// By what each store of a club has.
@@ -204,5 +204,5 @@ static CREDITS: [Step; 3] = [
 
 #[test]
 fn is_the_store_of_a_club(rt: HostRuntime) {
-    plays(&rt, &mut empty(&rt), &CREDITS);
+    plays_from(&rt, Start::Empty, &CREDITS);
 }

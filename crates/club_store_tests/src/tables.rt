@@ -20,7 +20,7 @@ use test_kit::{BOOKING_7, COURT, PlainBooking, PlainFacility, PlainSlot};
 /// The tables of a club. The calls are those of `club_tables`, over a connection that is in no
 /// transaction between them.
 #[derive(Drop)]
-pub(crate) struct Tables {
+struct Tables {
     conn: Connection<MemStore>,
     ghost idle: { conn.in_transaction ≡ false },
 }
@@ -77,20 +77,20 @@ fn rotation(key: &Name, former: &Root, root: &Root, until: Moment) -> Rotation {
 
 impl Tables {
     /// Those of an empty club.
-    pub fn empty(rt: &(impl Abort + Alloc<A = Global>)) -> Tables {
+    fn empty(rt: &(impl Abort + Alloc<A = Global>)) -> Tables {
         let mut conn = Connection::open_in_memory(rt.alloc()).expect(rt, "memory");
         expect_eq(rt, &open_tables(&mut conn), &Ok(()));
         Tables { conn }
     }
 
-    pub fn filled(rt: &(impl Abort + Alloc<A = Global>)) -> Tables {
+    fn filled(rt: &(impl Abort + Alloc<A = Global>)) -> Tables {
         let mut tables = Tables::empty(rt);
         tables.plays_all(rt, &FILLS);
         tables
     }
 
     /// Plays the steps, and ends the test at the first that fails.
-    pub fn plays_all(&mut self, rt: &(impl Abort + Alloc<A = Global>), steps: &[Step]) {
+    fn plays_all(&mut self, rt: &(impl Abort + Alloc<A = Global>), steps: &[Step]) {
         for step in steps {
             self.play(rt, step);
         }
@@ -212,4 +212,14 @@ impl Tables {
         let found = reads::open_count(&mut self.conn, &name(rt, member), moment(rt, at));
         expect_eq(rt, &found, &Ok(count));
     }
+}
+
+/// Plays the steps over the tables of an empty club.
+pub(crate) fn plays_empty(rt: &(impl Abort + Alloc<A = Global>), steps: &[Step]) {
+    Tables::empty(rt).plays_all(rt, steps);
+}
+
+/// Plays the steps over the filled tables.
+pub(crate) fn plays_filled(rt: &(impl Abort + Alloc<A = Global>), steps: &[Step]) {
+    Tables::filled(rt).plays_all(rt, steps);
 }

@@ -1,57 +1,23 @@
 //! Tables of version 1, those of version 2 without the index of the bookings, databases of other
 //! kinds, and the older roots of version 2.
 
+use crate::databases::{Contents, database, runs, version};
 use crate::expect::expect_eq;
 use crate::rows::{AMY_1, CANCELLED_8, Kept, Older};
-use crate::steps::{Asked, Shown, Step, plays, plays_again, with_bookings};
+use crate::steps::{
+    Asked, Shown, Start, Step, adopted, plays_from, plays_opened, plays_twice_from,
+    plays_twice_opened,
+};
 use crate::write::Write;
 use club_core::StoreFault;
 use club_store::Store;
-use sqlite::{Alter, Connection, MemStore};
+use sqlite::{Connection, MemStore};
 use std::alloc::Global;
 use std::process::Abort;
 use std::test::*;
 use test_kit::BOOKING_7;
 use test_kit::roots::{ROOT, SECOND_ROOT, THIRD_ROOT};
-use test_kit::version_1::{DESK, OLDER_ROOTS, STATEMENTS, WITHOUT_TOTALS};
-
-/// Runs these statements.
-pub(crate) fn runs<S: Alter>(rt: &impl Abort, connection: &mut Connection<S>, texts: &[&str]) {
-    for text in texts {
-        connection.execute_batch(text).expect(rt, text);
-    }
-}
-
-/// Makes the tables of version 1, and their rows.
-pub(crate) fn fill<S: Alter>(rt: &impl Abort, connection: &mut Connection<S>) {
-    runs(rt, connection, &STATEMENTS);
-}
-
-pub(crate) fn database(rt: &(impl Abort + Alloc<A = Global>)) -> Connection<MemStore> {
-    Connection::open_in_memory(rt.alloc()).expect(rt, "memory")
-}
-
-fn first_version(rt: &(impl Abort + Alloc<A = Global>)) -> Connection<MemStore> {
-    let mut connection = database(rt);
-    fill(rt, &mut connection);
-    connection
-}
-
-fn without_the_index(rt: &(impl Abort + Alloc<A = Global>)) -> Connection<MemStore> {
-    let mut connection = first_version(rt);
-    runs(rt, &mut connection, &OLDER_ROOTS);
-    connection
-}
-
-/// The store over a database that it takes over.
-fn adopted(
-    rt: &(impl Abort + Alloc<A = Global>),
-    connection: Connection<MemStore>,
-) -> Store<MemStore> {
-    Store::adopt(rt.alloc(), connection)
-        .ok()
-        .expect(rt, "adopted")
-}
+use test_kit::version_1::{DESK, WITHOUT_TOTALS};
 
 /// The account, and both bookings.
 pub(crate) static MIGRATED: [Step; 3] = [
@@ -62,44 +28,56 @@ pub(crate) static MIGRATED: [Step; 3] = [
 
 #[test]
 fn migrates_tables_of_version_1(rt: HostRuntime) {
-    plays(&rt, &mut adopted(&rt, first_version(&rt)), &MIGRATED);
+    plays_opened(&rt, Contents::First, &MIGRATED);
 }
 
 #[test]
 fn opens_tables_without_the_index(rt: HostRuntime) {
-    plays(&rt, &mut adopted(&rt, without_the_index(&rt)), &MIGRATED);
+    plays_opened(&rt, Contents::Unindexed, &MIGRATED);
 }
 
 /// How many indexes of the bookings' name are listed.
-fn indexes<S: Alter>(rt: &impl Abort, connection: &mut Connection<S>) -> i64 {
+fn indexes(rt: &impl Abort, connection: &mut Connection<MemStore>) -> i64 {
     let listed = "SELECT count(*) FROM sqlite_schema \
         WHERE type = 'index' AND name = 'bookings_by_key' AND tbl_name = 'bookings'";
     let row = connection.query_row(listed, &[]).expect(rt, "a count");
     row.get(0).expect(rt, "a number")
 }
 
-/// Ends the test unless a database without the index has it once it is opened, and once more.
-fn gets_the_index(rt: &(impl Abort + Alloc<A = Global>), mut connection: Connection<MemStore>) {
-    expect_eq(rt, &indexes(rt, &mut connection), &0);
+fn expect_indexes(rt: &impl Abort, connection: &mut Connection<MemStore>, want: i64) {
+    expect_eq(rt, &indexes(rt, connection), &want);
+}
+
+/// The database behind a store that opened it. Ends the test unless it has the index.
+fn indexed(
+    rt: &(impl Abort + Alloc<A = Global>),
+    connection: Connection<MemStore>,
+) -> Connection<MemStore> {
     let mut opened = adopted(rt, connection).into_connection();
-    expect_eq(rt, &indexes(rt, &mut opened), &1);
-    let mut again = adopted(rt, opened).into_connection();
-    expect_eq(rt, &indexes(rt, &mut again), &1);
+    expect_indexes(rt, &mut opened, 1);
+    opened
+}
+
+/// Ends the test unless a database without the index has it once it is opened, and once more.
+fn gets_the_index(rt: &(impl Abort + Alloc<A = Global>), contents: Contents) {
+    let mut connection = database(rt, contents);
+    expect_indexes(rt, &mut connection, 0);
+    let opened = indexed(rt, connection);
+    let _again = indexed(rt, opened);
 }
 
 #[test]
 fn makes_the_index_of_the_bookings(rt: HostRuntime) {
-    gets_the_index(&rt, database(&rt));
-    gets_the_index(&rt, first_version(&rt));
-    gets_the_index(&rt, without_the_index(&rt));
+    gets_the_index(&rt, Contents::Nothing);
+    gets_the_index(&rt, Contents::First);
+    gets_the_index(&rt, Contents::Unindexed);
 }
 
 static NO_OLDER_ROOT: [Step; 1] = [Step::Shows(Shown::Key(AMY_1))];
 
 #[test]
 fn has_no_older_root_once_migrated(rt: HostRuntime) {
-    let store = adopted(&rt, first_version(&rt));
-    plays_again(&rt, store, &NO_OLDER_ROOT, &NO_OLDER_ROOT);
+    plays_twice_opened(&rt, Contents::First, &NO_OLDER_ROOT, &NO_OLDER_ROOT);
 }
 
 const OLDER: Older = Older(ROOT, "2026-04-25T00:00");
@@ -115,8 +93,7 @@ static ROTATED: [Step; 1] = [Step::Shows(Shown::Key(Kept {
 
 #[test]
 fn rotates_a_key_once_migrated(rt: HostRuntime) {
-    let store = adopted(&rt, first_version(&rt));
-    plays_again(&rt, store, &ROTATES, &ROTATED);
+    plays_twice_opened(&rt, Contents::First, &ROTATES, &ROTATED);
 }
 
 /// Of two rotations the second drops the root that the first kept; bookings stay.
@@ -134,7 +111,7 @@ static ROTATES_TWICE: [Step; 4] = [
 
 #[test]
 fn rotates_a_key_twice(rt: HostRuntime) {
-    plays(&rt, &mut with_bookings(&rt), &ROTATES_TWICE);
+    plays_from(&rt, Start::Bookings, &ROTATES_TWICE);
 }
 
 /// By the call of its own name. A root of an unknown key is refused by the tables.
@@ -145,7 +122,7 @@ static REPLACES: [Step; 2] = [
 
 #[test]
 fn replaces_a_root(rt: HostRuntime) {
-    plays_again(&rt, with_bookings(&rt), &REPLACES, &ROTATED);
+    plays_twice_from(&rt, Start::Bookings, &REPLACES, &ROTATED);
 }
 
 /// The statements of a database that is no club's, and the version that it has.
@@ -204,29 +181,31 @@ static UNINDEXED: [Other; 2] = [
     },
 ];
 
-/// The version of a database, where it has one.
-pub(crate) fn version<S: Alter>(connection: &mut Connection<S>) -> Option<i64> {
-    let row = connection.query_row("SELECT version FROM desk", &[]).ok()?;
-    row.get(0).ok()
+/// Why a store refuses to open a database, which has this version then.
+fn refusal(
+    rt: &(impl Abort + Alloc<A = Global>),
+    connection: Connection<MemStore>,
+) -> (StoreFault, Option<i64>) {
+    let refused = Store::adopt(rt.alloc(), connection).err();
+    let (fault, mut left) = refused.expect(rt, "a refusal");
+    (fault, version(&mut left))
 }
 
 /// Ends the test unless the database is refused once this was done to it, and is left as it was.
-fn is_refused(
-    rt: &(impl Abort + Alloc<A = Global>),
-    mut connection: Connection<MemStore>,
-    other: &Other,
-) {
+fn is_refused(rt: &(impl Abort + Alloc<A = Global>), contents: Contents, other: &Other) {
+    let mut connection = database(rt, contents);
     runs(rt, &mut connection, other.texts);
-    let refused = Store::adopt(rt.alloc(), connection).err();
-    let (fault, mut left) = refused.expect(rt, "a refusal");
-    expect_eq(rt, &fault, &StoreFault::Storage);
-    expect_eq(rt, &version(&mut left), &other.version);
+    expect_eq(
+        rt,
+        &refusal(rt, connection),
+        &(StoreFault::Storage, other.version),
+    );
 }
 
 #[test]
 fn refuses_other_databases(rt: HostRuntime) {
     for other in &OTHERS {
-        is_refused(&rt, database(&rt), other);
+        is_refused(&rt, Contents::Nothing, other);
     }
 }
 
@@ -236,21 +215,21 @@ fn refuses_tables_without_totals(rt: HostRuntime) {
         texts: &WITHOUT_TOTALS,
         version: Some(1),
     };
-    is_refused(&rt, database(&rt), &other);
+    is_refused(&rt, Contents::Nothing, &other);
 }
 
 /// Another version is left as it was.
 #[test]
 fn migrates_no_other_tables(rt: HostRuntime) {
     for other in &CHANGED {
-        is_refused(&rt, first_version(&rt), other);
+        is_refused(&rt, Contents::First, other);
     }
 }
 
 #[test]
 fn indexes_no_other_tables(rt: HostRuntime) {
     for other in &UNINDEXED {
-        is_refused(&rt, without_the_index(&rt), other);
+        is_refused(&rt, Contents::Unindexed, other);
     }
 }
 
@@ -258,5 +237,5 @@ pub(crate) static NOBODY: [Step; 1] = [Step::Shows(Shown::Member(None))];
 
 #[test]
 fn makes_tables_where_there_are_none(rt: HostRuntime) {
-    plays(&rt, &mut adopted(&rt, database(&rt)), &NOBODY);
+    plays_opened(&rt, Contents::Nothing, &NOBODY);
 }

@@ -1,7 +1,7 @@
 //! Tests of the changes: the rows that each leaves.
 
 use crate::rows::{AMY_1, DAY, Kept, Older, REVOKED};
-use crate::tables::{Expected, Step, Tables};
+use crate::tables::{Expected, Step, plays_filled};
 use crate::write::Write;
 use std::test::*;
 use test_kit::roots::{ROOT, SECOND_ROOT};
@@ -26,7 +26,7 @@ static CANCELS: [Step; 7] = [
 
 #[test]
 fn a_cancellation(rt: HostRuntime) {
-    Tables::filled(&rt).plays_all(&rt, &CANCELS);
+    plays_filled(&rt, &CANCELS);
 }
 
 /// A slot whose places are taken, and one that was never booked.
@@ -39,7 +39,7 @@ static CLOSES: [Step; 4] = [
 
 #[test]
 fn closed_slots(rt: HostRuntime) {
-    Tables::filled(&rt).plays_all(&rt, &CLOSES);
+    plays_filled(&rt, &CLOSES);
 }
 
 const OLDER: Older = Older(ROOT, "2026-04-25T00:00");
@@ -65,7 +65,7 @@ static ROTATES: [Step; 5] = [
 
 #[test]
 fn a_rotation_and_a_revoked_key(rt: HostRuntime) {
-    Tables::filled(&rt).plays_all(&rt, &ROTATES);
+    plays_filled(&rt, &ROTATES);
 }
 
 /// A new key has no older root.
@@ -82,5 +82,5 @@ static REFUSES: [Step; 3] = [
 
 #[test]
 fn a_new_key_with_an_older_root(rt: HostRuntime) {
-    Tables::filled(&rt).plays_all(&rt, &REFUSES);
+    plays_filled(&rt, &REFUSES);
 }

@@ -1,0 +1,88 @@
+//! Databases as they are before a store opens them.
+
+use sqlite::{Alter, Connection, MemStore};
+use std::alloc::Global;
+use std::process::Abort;
+use test_kit::version_1::{OLDER_ROOTS, STATEMENTS};
+
+/// What a database holds before it is opened.
+#[derive(Clone, Copy)]
+pub(crate) enum Contents {
+    /// No tables.
+    Nothing,
+    /// The tables of version 1 with the rows of its tests.
+    First,
+    /// The same with older roots: those of version 2 without the index of the bookings.
+    Unindexed,
+    /// Those of version 2, which have the index beside.
+    Second,
+}
+
+static INDEX: [&str; 1] = [
+    "CREATE INDEX bookings_by_key \
+    ON bookings (pass_key, cancelled, day, hour, number, charge, refund)",
+];
+
+impl Contents {
+    /// The statements that make it.
+    fn statements(self) -> [&'static [&'static str]; 3] {
+        match self {
+            Contents::Nothing => [&[], &[], &[]],
+            Contents::First => [&STATEMENTS, &[], &[]],
+            Contents::Unindexed => [&STATEMENTS, &OLDER_ROOTS, &[]],
+            Contents::Second => [&STATEMENTS, &OLDER_ROOTS, &INDEX],
+        }
+    }
+
+    /// Makes it in a database that holds nothing.
+    pub fn make<S: Alter>(self, rt: &impl Abort, connection: &mut Connection<S>) {
+        runs_all(rt, connection, &self.statements());
+    }
+
+    /// The version that is read in it.
+    pub fn version(self) -> Option<i64> {
+        match self {
+            Contents::Nothing => None,
+            Contents::First => Some(1),
+            Contents::Unindexed | Contents::Second => Some(2),
+        }
+    }
+}
+
+/// Runs these statements.
+pub(crate) fn runs<S: Alter>(rt: &impl Abort, connection: &mut Connection<S>, texts: &[&str]) {
+    for text in texts {
+        connection.execute_batch(text).expect(rt, text);
+    }
+}
+
+/// Runs these lists of statements.
+fn runs_all<S: Alter>(rt: &impl Abort, connection: &mut Connection<S>, lists: &[&[&str]]) {
+    for texts in lists {
+        runs(rt, connection, texts);
+    }
+}
+
+/// A database in memory in which these lists of statements were run.
+pub(crate) fn database_after(
+    rt: &(impl Abort + Alloc<A = Global>),
+    lists: &[&[&str]],
+) -> Connection<MemStore> {
+    let mut connection = Connection::open_in_memory(rt.alloc()).expect(rt, "memory");
+    runs_all(rt, &mut connection, lists);
+    connection
+}
+
+/// A database in memory that holds this.
+pub(crate) fn database(
+    rt: &(impl Abort + Alloc<A = Global>),
+    contents: Contents,
+) -> Connection<MemStore> {
+    database_after(rt, &contents.statements())
+}
+
+/// The version of a database, where it has one.
+pub(crate) fn version<S: Alter>(connection: &mut Connection<S>) -> Option<i64> {
+    let row = connection.query_row("SELECT version FROM desk", &[]).ok()?;
+    row.get(0).ok()
+}
