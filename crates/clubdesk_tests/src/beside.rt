@@ -1,9 +1,12 @@
 //! Wishes and addresses beside a file, a file that is held, and the modes of files.
 
+use crate::expect::expect_eq;
 use crate::runs::{Row, expect_rows, log_of, new_path, remove};
+use club_core::StoreFault;
 use club_store::{Remains, Store};
 use clubdesk_files::{Address, Attempts, Mark, gain, is_paused, is_wished, wake};
-use sqlite::{FileFrom, FileStore, Unknown};
+use sqlite::{FileFrom, Start, Unknown};
+use std::alloc::AllocError;
 use std::cell::Cell;
 use std::net::TcpListener;
 use std::os::unix::fs::MetadataExt;
@@ -14,60 +17,62 @@ use std::{fs, io};
 
 static AMY: [Row; 1] = [Row("add-member", "amy 5", "0 done\n")];
 
-// The store in a file, and in a word what comes of its opening.
-fn opening(
-    rt: &HostRuntime,
-    path: &str,
-) -> (&'static str, Option<Store<FileStore<FileFrom<Unknown>>>>) {
-    match Store::open_file(rt, path, Unknown) {
-        Ok(store) => ("opened", Some(store)),
-        Err((_, Remains::Held)) => ("held", None),
-        Err((_, Remains::Files(None))) => ("nothing", None),
-        Err((_, _)) => ("refused", None),
+// In a word what comes of an opening.
+fn word_of<S, Q: Start>(opened: &Result<S, (StoreFault, Remains<FileFrom<Q>>)>) -> &'static str {
+    match opened {
+        Ok(_) => "opened",
+        Err((_, Remains::Held)) => "held",
+        Err((_, Remains::Files(None))) => "nothing",
+        Err(_) => "refused",
     }
 }
 
-// What comes of an opening that is closed at once.
-fn comes_of(rt: &HostRuntime, path: &str) -> &'static str {
-    let (word, _store) = opening(rt, path);
-    word
+// The words of two openings, the second beside the first. It is the one function here that names
+// the types of a file: the proof of each takes half a minute.
+fn two_openings(rt: &HostRuntime, path: &str) -> [&'static str; 2] {
+    let first = Store::open_file(rt, path, Unknown);
+    let second = Store::open_file(rt, path, Unknown);
+    [word_of(&first), word_of(&second)]
 }
 
-// The words of three openings: the second beside the first, the third behind it.
-fn three_openings(rt: &HostRuntime, path: &str) -> [&'static str; 3] {
-    let (first, store) = opening(rt, path);
-    let second = comes_of(rt, path);
-    drop(store);
-    [first, second, comes_of(rt, path)]
+// What comes of an opening that has nothing beside it.
+fn comes_of(rt: &HostRuntime, path: &str) -> &'static str {
+    let [word, _] = two_openings(rt, path);
+    word
 }
 
 // A file that another program has is distinguished from one that can't be opened.
 #[test]
 fn a_held_file(rt: HostRuntime) -> Result<(), Fail> {
     let path = new_path(&rt, "held")?;
-    assert_eq!(rt;
-        three_openings(&rt, path.as_str()),
-        ["opened", "held", "opened"]
-    );
-    remove(&rt, path.as_str());
-    assert_eq!(rt; comes_of(&rt, "/"), "nothing");
-    fs::write(&rt, path.as_str(), [b'x'; 100])?;
-    assert_eq!(rt; comes_of(&rt, path.as_str()), "refused");
-    remove(&rt, path.as_str());
+    let path = path.as_str();
+    expect_eq(&rt, &two_openings(&rt, path), &["opened", "held"]);
+    expect_eq(&rt, &comes_of(&rt, path), &"opened");
+    remove(&rt, path);
+    expect_eq(&rt, &comes_of(&rt, "/"), &"nothing");
+    fs::write(&rt, path, [b'x'; 100])?;
+    expect_eq(&rt, &comes_of(&rt, path), &"refused");
+    remove(&rt, path);
     Ok(())
 }
 
-fn mode_of(rt: &HostRuntime, path: &str) -> io::Result<u32> {
-    Ok(fs::metadata(rt, path)?.mode() & 0o777)
+// The mode of a file; `None` if it isn't there.
+fn mode_of(rt: &HostRuntime, path: &str) -> Option<u32> {
+    let found = fs::metadata(rt, path).ok()?;
+    Some(found.mode() & 0o777)
 }
+
+/// The mode of a file that is its owner's alone.
+const OWN: Option<u32> = Some(0o600);
 
 // A new file and its log are its owner's alone; a file that was there keeps its mode.
 #[test]
 fn modes(rt: HostRuntime) -> Result<(), Fail> {
     let path = new_path(&rt, "modes")?;
+    let log = log_of(&rt, path.as_str())?;
     expect_rows(&rt, path.as_str(), &AMY)?;
-    assert_eq!(rt; mode_of(&rt, path.as_str())?, 0o600);
-    assert_eq!(rt; mode_of(&rt, log_of(&rt, path.as_str())?.as_str())?, 0o600);
+    expect_eq(&rt, &mode_of(&rt, path.as_str()), &OWN);
+    expect_eq(&rt, &mode_of(&rt, log.as_str()), &OWN);
     remove(&rt, path.as_str());
     Ok(())
 }
@@ -77,13 +82,13 @@ static NO_FILE: [Row; 1] = [Row("add-member", "amy 5", "5 storage failed")];
 #[test]
 fn no_file_in_memory(rt: HostRuntime) -> Result<(), Fail> {
     expect_rows(&rt, ":memory:", &NO_FILE)?;
-    assert!(rt; fs::metadata(&rt, ":memory:").is_err());
+    expect_eq(&rt, &mode_of(&rt, ":memory:"), &None);
     Ok(())
 }
 
 // The path of the file of wishes, and of the address.
-fn beside(rt: &HostRuntime, path: &str, ending: &str) -> Result<String, Fail> {
-    Ok(format!(in rt.alloc(); "{path}-{ending}")?)
+fn beside(rt: &HostRuntime, path: &str, ending: &str) -> Result<String, AllocError> {
+    format!(in rt.alloc(); "{path}-{ending}")
 }
 
 // A wish is seen till the last of those who wish is gone, and so is its file.
@@ -91,15 +96,16 @@ fn beside(rt: &HostRuntime, path: &str, ending: &str) -> Result<String, Fail> {
 fn wishes(rt: HostRuntime) -> Result<(), Fail> {
     let path = new_path(&rt, "wishes")?;
     let wanted = beside(&rt, path.as_str(), "wanted")?;
-    assert!(rt; !is_wished(&rt, path.as_str()));
-    let first = Mark::wish(&rt, path.as_str()).ok_or("no wish")?;
-    assert_eq!(rt; mode_of(&rt, wanted.as_str())?, 0o600);
-    let second = Mark::wish(&rt, path.as_str()).ok_or("no second wish")?;
+    let (path, wanted) = (path.as_str(), wanted.as_str());
+    expect_eq(&rt, &is_wished(&rt, path), &false);
+    let first = Mark::wish(&rt, path).expect(&rt, "a wish");
+    expect_eq(&rt, &mode_of(&rt, wanted), &OWN);
+    let second = Mark::wish(&rt, path).expect(&rt, "a second wish");
     drop(first);
-    assert!(rt; is_wished(&rt, path.as_str()));
+    expect_eq(&rt, &is_wished(&rt, path), &true);
     drop(second);
-    assert!(rt; !is_wished(&rt, path.as_str()));
-    assert!(rt; fs::metadata(&rt, wanted.as_str()).is_err());
+    expect_eq(&rt, &is_wished(&rt, path), &false);
+    expect_eq(&rt, &mode_of(&rt, wanted), &None);
     Ok(())
 }
 
@@ -107,11 +113,12 @@ fn wishes(rt: HostRuntime) -> Result<(), Fail> {
 #[test]
 fn pauses(rt: HostRuntime) -> Result<(), Fail> {
     let path = new_path(&rt, "pauses")?;
-    let pause = Mark::pause(&rt, path.as_str()).ok_or("no pause")?;
-    assert!(rt; is_paused(&rt, path.as_str()));
-    assert!(rt; !is_wished(&rt, path.as_str()));
+    let path = path.as_str();
+    let pause = Mark::pause(&rt, path).expect(&rt, "a pause");
+    expect_eq(&rt, &is_paused(&rt, path), &true);
+    expect_eq(&rt, &is_wished(&rt, path), &false);
     drop(pause);
-    assert!(rt; !is_paused(&rt, path.as_str()));
+    expect_eq(&rt, &is_paused(&rt, path), &false);
     Ok(())
 }
 
@@ -120,13 +127,14 @@ fn pauses(rt: HostRuntime) -> Result<(), Fail> {
 fn stale_and_odd_wishes(rt: HostRuntime) -> Result<(), Fail> {
     let path = new_path(&rt, "stale")?;
     let wanted = beside(&rt, path.as_str(), "wanted")?;
-    fs::write(&rt, wanted.as_str(), b"x")?;
-    assert!(rt; !is_wished(&rt, path.as_str()));
-    assert!(rt; fs::metadata(&rt, wanted.as_str()).is_err());
-    fs::create_dir(&rt, wanted.as_str())?;
-    assert!(rt; !is_wished(&rt, path.as_str()));
-    assert!(rt; Mark::wish(&rt, path.as_str()).is_none());
-    fs::remove_dir(&rt, wanted.as_str())?;
+    let (path, wanted) = (path.as_str(), wanted.as_str());
+    fs::write(&rt, wanted, b"x")?;
+    expect_eq(&rt, &is_wished(&rt, path), &false);
+    expect_eq(&rt, &mode_of(&rt, wanted), &None);
+    fs::create_dir(&rt, wanted)?;
+    expect_eq(&rt, &is_wished(&rt, path), &false);
+    expect_eq(&rt, &Mark::wish(&rt, path).is_none(), &true);
+    fs::remove_dir(&rt, wanted)?;
     Ok(())
 }
 
@@ -135,24 +143,37 @@ fn is_called(listener: &TcpListener) -> bool {
     listener.accept().is_ok()
 }
 
+// A listener that doesn't wait, and its port.
+fn listening(rt: &HostRuntime) -> io::Result<(TcpListener, u16)> {
+    let listener = TcpListener::bind(rt, "127.0.0.1:0")?;
+    listener.set_nonblocking(true)?;
+    let port = listener.local_addr()?.port();
+    Ok((listener, port))
+}
+
+// Keeps an address that nobody wrote as a server does.
+fn keep_stale(rt: &HostRuntime, serving: &str, port: u16) -> Result<(), Fail> {
+    fs::write(rt, serving, format!(in rt.alloc(); "{port}\n")?)?;
+    Ok(())
+}
+
 // A server is woken where it listens; an address that is stale or none wakes nobody.
 #[test]
 fn addresses(rt: HostRuntime) -> Result<(), Fail> {
     let path = new_path(&rt, "address")?;
     let serving = beside(&rt, path.as_str(), "serving")?;
-    let listener = TcpListener::bind(&rt, "127.0.0.1:0")?;
-    listener.set_nonblocking(true)?;
-    let port = listener.local_addr()?.port();
-    wake(&rt, path.as_str());
-    fs::write(&rt, serving.as_str(), format!(in rt.alloc(); "{port}\n")?)?;
-    wake(&rt, path.as_str());
-    assert!(rt; !is_called(&listener));
-    let address = Address::keep(&rt, path.as_str(), port).ok_or("no address")?;
-    assert_eq!(rt; mode_of(&rt, serving.as_str())?, 0o600);
-    wake(&rt, path.as_str());
-    assert!(rt; is_called(&listener));
+    let (path, serving) = (path.as_str(), serving.as_str());
+    let (listener, port) = listening(&rt)?;
+    wake(&rt, path);
+    keep_stale(&rt, serving, port)?;
+    wake(&rt, path);
+    expect_eq(&rt, &is_called(&listener), &false);
+    let address = Address::keep(&rt, path, port).expect(&rt, "an address");
+    expect_eq(&rt, &mode_of(&rt, serving), &OWN);
+    wake(&rt, path);
+    expect_eq(&rt, &is_called(&listener), &true);
     drop(address);
-    assert!(rt; fs::metadata(&rt, serving.as_str()).is_err());
+    expect_eq(&rt, &mode_of(&rt, serving), &None);
     Ok(())
 }
 
@@ -199,8 +220,8 @@ static TRIED: [(u32, bool, u64); 4] = [(0, true, 0), (1, true, 10), (4, true, 40
 fn expect_tried(rt: &impl Abort, vain: u32, gains: bool, millis: u64) {
     let sleeper = Sleeper(Cell::new(0));
     let gained = gain(&mut Trier(vain), &sleeper, 5);
-    assert_eq!(rt; gained.is_some(), gains);
-    assert_eq!(rt; sleeper.0.get(), millis);
+    expect_eq(rt, &gained.is_some(), &gains);
+    expect_eq(rt, &sleeper.0.get(), &millis);
 }
 
 #[test]

@@ -1,5 +1,7 @@
-//! Clients that come by the line of a server, and the clock of its machine.
+//! The writer of a run, with clients that come by the line of its server, and the clock of its
+//! machine.
 
+use crate::terminal::Full;
 use std::cell::Cell;
 use std::io::{self, ErrorKind, Read, Write};
 use std::net::TcpStream;
@@ -11,31 +13,39 @@ const LOOPBACK: &str = "127.0.0.1:";
 /// Another address of the machine, where it doesn't.
 const BESIDE: &str = "127.0.0.2";
 
-/// Takes the line of a server. Once it is there, a client for each request connects to where it
-/// says, and sends it, and the requests wait there for the server. So a server and its clients need
-/// one thread.
+/// Takes what a run writes, as far as there is room. Once the line of a server is there, a client
+/// for each request connects to where it says, and sends it, and the requests wait there for the
+/// server. So a server and its clients need one thread.
 #[derive(Drop)]
 pub struct Caller<'a> {
     rt: &'a HostRuntime,
     requests: &'a [&'a str],
-    line: Vec<u8>,
+    output: Full,
     clients: Vec<TcpStream>,
 }
 
 impl<'a> Caller<'a> {
-    /// Clients with these requests.
-    pub fn new(rt: &'a HostRuntime, requests: &'a [&'a str]) -> Caller<'a> {
+    /// Clients with these requests, and this much room.
+    pub fn new(rt: &'a HostRuntime, requests: &'a [&'a str], room: usize) -> Caller<'a> {
         Caller {
             rt,
             requests,
-            line: Vec::new(rt.alloc()),
+            output: Full {
+                room,
+                taken: Vec::new(rt.alloc()),
+            },
             clients: Vec::new(rt.alloc()),
         }
     }
 
+    /// What was written, but for the line by which clients came.
+    pub fn written(&self) -> &[u8] {
+        self.output.taken.as_slice()
+    }
+
     // The port of the line.
     fn port(&self) -> Option<u16> {
-        let line = str::from_utf8(&self.line).ok()?;
+        let line = str::from_utf8(self.written()).ok()?;
         let address = line.strip_prefix("listening on ")?.strip_suffix("\n")?;
         address.strip_prefix(LOOPBACK)?.parse().ok()
     }
@@ -66,7 +76,7 @@ impl<'a> Caller<'a> {
         let Caller {
             rt,
             requests: _,
-            line: _,
+            output: _,
             clients,
         } = self;
         let mut reply = Vec::new(rt.alloc());
@@ -79,15 +89,13 @@ impl<'a> Caller<'a> {
 
 impl Write for Caller<'_> {
     fn write(&mut self, bytes: &[u8]) -> io::Result<usize> {
-        match self.line.extend_from_slice(bytes) {
-            Ok(()) => Ok(bytes.len()),
-            Err(_) => Err(io::Error::from(ErrorKind::OutOfMemory)),
-        }
+        self.output.write(bytes)
     }
 
     fn flush(&mut self) -> io::Result<()> {
         if let Some(port) = self.port() {
             self.call(port)?;
+            self.output.taken.clear();
         }
         Ok(())
     }

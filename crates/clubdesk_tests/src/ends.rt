@@ -17,7 +17,7 @@ fn fails_with_room(
     let ended = ended_at(rt, path, command, words, room)?;
     let output = &ended.output;
     let failed = output.returned.as_str() == "7 input or output failed";
-    Ok(failed && output.taken == room && output.logged == 0)
+    Ok(failed && output.taken == room && output.log.is_empty())
 }
 
 static KEY_EXISTS: [Row; 1] = [Row(

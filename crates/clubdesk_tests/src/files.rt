@@ -1,7 +1,7 @@
 //! Runs of the program over files, one after the other, and a server between them.
 
 use crate::runs::{Row, expect_rows, log_of, new_path, remove};
-use crate::served::{Leaving, reply_by, reply_to};
+use crate::served::{reply_before_a_kill, reply_to};
 use crate::servers::OFFICE;
 use std::test::Fail;
 use std::{env, fs};
@@ -54,12 +54,18 @@ static SHEETS: [Row; 3] = [
     ),
 ];
 
+fn expect_reply(rt: &HostRuntime, path: &str, request: &str, wanted: &str) -> Result<(), Fail> {
+    let reply = reply_to(rt, path, request)?;
+    let text = str::from_utf8(&reply).unwrap_or("no text");
+    if text == wanted {
+        return Ok(());
+    }
+    Err(format!(in rt.alloc(); "{text}")?.into())
+}
+
 fn expect_replies(rt: &HostRuntime, path: &str, rows: &[(&str, &str)]) -> Result<(), Fail> {
     for (request, wanted) in rows {
-        let reply = reply_to(rt, path, request)?;
-        if reply.as_slice() != wanted.as_bytes() {
-            return Err(String::from_utf8(reply).ok().ok_or("no text")?.into());
-        }
+        expect_reply(rt, path, request, wanted)?;
     }
     Ok(())
 }
@@ -100,7 +106,7 @@ fn a_booking_in_the_log_alone(rt: HostRuntime) -> Result<(), Fail> {
     expect_rows(&rt, path.as_str(), &OFFICE)?;
     let before = fs::read(&rt, path.as_str())?;
     let (request, wanted) = BOOKINGS[0];
-    let reply = reply_by(&rt, path.as_str(), request, Leaving::Drops)?;
+    let reply = reply_before_a_kill(&rt, path.as_str(), request)?;
     if reply.as_slice() != wanted.as_bytes() {
         return Err("amy's booking is refused".into());
     }

@@ -1,8 +1,8 @@
 //! Roots from standard input, over a club in memory.
 
-use crate::memory::{InMemory, NAME, club_of, expect_openings};
-use crate::runs::{Output, ROOM, Row, expect_output, run_on};
-use std::io::{self, ErrorKind, Read};
+use crate::memory::{Scene, expect_scene, line_of, play};
+use crate::runs::Row;
+use crate::terminal::Input;
 use std::test::Fail;
 
 static CLUB: [Row; 2] = [
@@ -66,32 +66,23 @@ static NO_ROOTS: [&[u8]; 8] = [
     b"\xff0112233445566778899aabbccddeeff\n",
 ];
 
-// Runs a command over the club on an input.
-fn output_of<R: Read>(
-    rt: &HostRuntime,
-    databases: &mut InMemory,
-    row: &Row<'_>,
-    input: &mut R,
-) -> Result<Output, Fail> {
-    let Row(command, words, _) = row;
-    let line = format!(in rt.alloc(); "clubdesk {command} {NAME} {words}")?;
-    Ok(run_on(rt, databases, line.as_str(), input, ROOM)?)
+// The club, and this input.
+fn scene_of(input: Input<'_>) -> Scene<'_> {
+    Scene {
+        input,
+        ..Scene::after(&CLUB)
+    }
 }
 
 // The club was made by two runs; the command opens it so often more.
-fn ends_so(rt: &HostRuntime, row: &Row<'_>, input: &[u8], openings: u64) -> Result<(), Fail> {
-    let mut databases = club_of(rt, &CLUB)?;
-    let mut left = input;
-    let output = output_of(rt, &mut databases, row, &mut left)?;
-    expect_output(rt, row, output.returned.as_str())?;
-    let openings = openings.saturating_add(2);
-    expect_openings(&databases, openings, openings)
+fn ends_so(rt: &HostRuntime, row: &Row<'_>, input: Input<'_>, openings: u64) -> Result<(), Fail> {
+    expect_scene(rt, &scene_of(input), row, openings.saturating_add(2))
 }
 
 #[test]
 fn roots(rt: HostRuntime) -> Result<(), Fail> {
     for (input, row) in &ROOTS {
-        ends_so(&rt, row, input, 1)?;
+        ends_so(&rt, row, Input::Bytes(input), 1)?;
     }
     Ok(())
 }
@@ -100,6 +91,7 @@ fn roots(rt: HostRuntime) -> Result<(), Fail> {
 #[test]
 fn no_roots(rt: HostRuntime) -> Result<(), Fail> {
     for input in &NO_ROOTS {
+        let input = Input::Bytes(input);
         ends_so(&rt, &Row("add-key", ADDS, "3 bad value"), input, 0)?;
         ends_so(&rt, &Row("rotate-key", ROTATES, "3 bad value"), input, 0)?;
     }
@@ -114,16 +106,20 @@ static BEHIND_THE_LONGEST: [(&str, &str); 5] = [
     ("\n0", "3 bad value"),
 ];
 
-fn ends_with(rt: &HostRuntime, behind: &str, front: &str) -> Result<(), Fail> {
-    let mut databases = club_of(rt, &CLUB)?;
-    let text = format!(in rt.alloc(); "{LONGEST}{behind}")?;
-    let mut left = text.as_bytes();
-    let row = Row("add-key", ADDS, front);
-    let output = output_of(rt, &mut databases, &row, &mut left)?;
-    if output.returned.as_str().starts_with(front) {
+// Fails unless a run returned a text that begins so.
+fn expect_front(rt: &HostRuntime, returned: &str, front: &str) -> Result<(), Fail> {
+    if returned.starts_with(front) {
         return Ok(());
     }
-    Err(output.returned.into())
+    Err(format!(in rt.alloc(); "{returned}")?.into())
+}
+
+fn ends_with(rt: &HostRuntime, behind: &str, front: &str) -> Result<(), Fail> {
+    let text = format!(in rt.alloc(); "{LONGEST}{behind}")?;
+    let scene = scene_of(Input::Bytes(text.as_bytes()));
+    let line = line_of(rt, &Row("add-key", ADDS, front))?;
+    let played = play(rt, &scene, line.as_str())?;
+    expect_front(rt, played.output.returned.as_str(), front)
 }
 
 // A root has 64 bytes at most, and nothing is cut off.
@@ -135,21 +131,8 @@ fn long_roots(rt: HostRuntime) -> Result<(), Fail> {
     Ok(())
 }
 
-/// A reader that fails.
-#[derive(Drop)]
-struct Broken;
-
-impl Read for Broken {
-    fn read(&mut self, _room: &mut [u8]) -> io::Result<usize> {
-        Err(io::Error::from(ErrorKind::ConnectionReset))
-    }
-}
-
 #[test]
 fn an_input_that_fails(rt: HostRuntime) -> Result<(), Fail> {
     let row = Row("add-key", ADDS, "7 input or output failed");
-    let mut databases = club_of(&rt, &CLUB)?;
-    let output = output_of(&rt, &mut databases, &row, &mut Broken)?;
-    expect_output(&rt, &row, output.returned.as_str())?;
-    expect_openings(&databases, 2, 2)
+    ends_so(&rt, &row, Input::Broken, 0)
 }

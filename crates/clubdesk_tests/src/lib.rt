@@ -10,6 +10,8 @@ mod clubs;
 #[cfg(test)]
 mod ends;
 #[cfg(test)]
+mod expect;
+#[cfg(test)]
 mod files;
 #[cfg(test)]
 mod input;
@@ -27,5 +29,7 @@ mod runs;
 mod served;
 #[cfg(test)]
 mod servers;
+#[cfg(test)]
+mod terminal;
 #[cfg(test)]
 mod turns;

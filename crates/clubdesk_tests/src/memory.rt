@@ -1,12 +1,16 @@
 //! A database in memory, and runs of the program over it.
 
-use crate::others::Others;
-use crate::runs::{Output, ROOM, Row, expect_output, run_over};
+use crate::callers::{Caller, Machine};
+use crate::others::{Found, NOBODY, Others};
+use crate::runs::{Output, ROOM, Row, Run, expect_output, words_of};
+use crate::terminal::{Input, NO_INPUT};
 use club_core::StoreFault;
+use club_http::WriteOutlet;
 use club_store::Store;
-use clubdesk_commands::Databases;
+use clubdesk_commands::{Databases, run_with_clock};
+use desk_server::LogLines;
 use sqlite::MemStore;
-use std::alloc::Global;
+use std::alloc::{AllocError, Global};
 use std::test::Fail;
 
 /// The name of the database.
@@ -15,25 +19,25 @@ pub const NAME: &str = "club";
 /// One database in memory, which stays from one opening to the next; there is none of another name.
 /// Its opening may fail.
 #[derive(Drop)]
-pub struct InMemory {
+struct InMemory {
     alloc: Global,
     store: Option<Store<MemStore>>,
-    pub fault: Option<StoreFault>,
-    pub opened: u64,
-    pub closed: u64,
-    pub others: Others,
+    fault: Option<StoreFault>,
+    opened: u64,
+    closed: u64,
+    others: Others,
 }
 
 impl InMemory {
-    /// A database that nobody opened yet.
-    pub fn new(alloc: Global) -> InMemory {
+    // A database that nobody opened yet.
+    fn new(alloc: Global, fault: Option<StoreFault>, found: Found) -> InMemory {
         InMemory {
             alloc,
             store: None,
-            fault: None,
+            fault,
             opened: 0,
             closed: 0,
-            others: Others::none(),
+            others: Others::new(found),
         }
     }
 
@@ -90,7 +94,7 @@ impl Databases for InMemory {
     }
 
     fn pause(&self, _name: &str) -> Option<()> {
-        if self.others.refuse_pauses {
+        if self.others.found.refuse_pauses {
             None
         } else {
             Some(())
@@ -104,35 +108,156 @@ impl Databases for InMemory {
     }
 }
 
-// Runs a command over the database. It is the one function here that names the types of a run over
-// memory.
-fn output_of(rt: &HostRuntime, databases: &mut InMemory, row: &Row<'_>) -> Result<Output, Fail> {
-    let Row(command, words, _) = row;
-    let line = format!(in rt.alloc(); "clubdesk {command} {NAME} {words}")?;
-    Ok(run_over(rt, databases, line.as_str(), ROOM)?)
+/// What there is at a new database in memory beside a run of the program.
+#[derive(Clone, Copy)]
+pub struct Scene<'a> {
+    /// The fault of each opening.
+    pub fault: Option<StoreFault>,
+    /// What is found of other programs.
+    pub found: Found,
+    /// The orders before the run, each of which ends as its row expects.
+    pub orders: &'a [Row<'a>],
+    /// The clock of the machine, as `Machine` has it: its second and its microseconds.
+    pub second: Option<u64>,
+    pub later: u64,
+    /// The input of the run, and the requests of the clients of its server.
+    pub input: Input<'a>,
+    pub requests: &'a [&'a str],
+    /// The commands after the run.
+    pub after: &'a [Row<'a>],
 }
 
-/// Runs a command over the database. It ends as its row expects.
-pub fn expect_in(rt: &HostRuntime, databases: &mut InMemory, row: &Row<'_>) -> Result<(), Fail> {
-    let output = output_of(rt, databases, row)?;
+impl<'a> Scene<'a> {
+    /// A run after these orders and with nothing else.
+    pub fn after(orders: &'a [Row<'a>]) -> Scene<'a> {
+        Scene {
+            fault: None,
+            found: NOBODY,
+            orders,
+            second: Some(0),
+            later: 0,
+            input: NO_INPUT,
+            requests: &[],
+            after: &[],
+        }
+    }
+}
+
+/// How a run ended; and how often its database was opened and closed, how many looks for wishes
+/// there were, and how many seconds were waited, before and after the run too.
+#[derive(Drop)]
+pub struct Played {
+    pub output: Output,
+    opened: u64,
+    closed: u64,
+    pub looks: usize,
+    pub waited: u64,
+}
+
+// Runs the program over the database. It is the one function here that names the types of a run
+// over memory.
+fn run_in(
+    rt: &HostRuntime,
+    databases: &mut InMemory,
+    machine: &Machine,
+    asked: Run<'_>,
+) -> Result<Output, AllocError> {
+    let words = words_of(rt, asked.line)?;
+    let mut input = asked.input;
+    let mut caller = Caller::new(rt, asked.requests, asked.room);
+    let mut log = Vec::new(rt.alloc());
+    let mut lines = LogLines::new(WriteOutlet::new(&mut log), machine);
+    let outcome = run_with_clock(
+        rt,
+        machine,
+        databases,
+        words.as_slice(),
+        &mut input,
+        &mut caller,
+        &mut lines,
+    );
+    Output::of(rt, &outcome, caller, log)
+}
+
+/// The line of a command over the database.
+pub fn line_of(rt: &HostRuntime, row: &Row<'_>) -> Result<String, AllocError> {
+    let Row(command, words, _) = row;
+    format!(in rt.alloc(); "clubdesk {command} {NAME} {words}")
+}
+
+// Runs the command of a row over the database. It ends as that expects.
+fn expect_row_in(rt: &HostRuntime, databases: &mut InMemory, row: &Row<'_>) -> Result<(), Fail> {
+    let line = line_of(rt, row)?;
+    let machine = Machine::new(Some(0), 0);
+    let output = run_in(rt, databases, &machine, Run::of(line.as_str()))?;
     expect_output(rt, row, output.returned.as_str())
 }
 
+fn expect_in(rt: &HostRuntime, databases: &mut InMemory, rows: &[Row<'_>]) -> Result<(), Fail> {
+    for row in rows {
+        expect_row_in(rt, databases, row)?;
+    }
+    Ok(())
+}
+
+// Plays a scene at the database.
+fn play_over(
+    rt: &HostRuntime,
+    databases: &mut InMemory,
+    scene: &Scene<'_>,
+    line: &str,
+) -> Result<Output, Fail> {
+    expect_in(rt, databases, scene.orders)?;
+    let asked = Run {
+        line,
+        input: scene.input,
+        room: ROOM,
+        requests: scene.requests,
+    };
+    let machine = Machine::new(scene.second, scene.later);
+    let output = run_in(rt, databases, &machine, asked)?;
+    expect_in(rt, databases, scene.after)?;
+    Ok(output)
+}
+
+/// Plays a scene with a run on this line.
+pub fn play(rt: &HostRuntime, scene: &Scene<'_>, line: &str) -> Result<Played, Fail> {
+    let mut databases = InMemory::new(rt.alloc(), scene.fault, scene.found);
+    let output = play_over(rt, &mut databases, scene, line)?;
+    Ok(Played {
+        output,
+        opened: databases.opened,
+        closed: databases.closed,
+        looks: databases.others.looks(),
+        waited: databases.others.waited(),
+    })
+}
+
+/// Plays a scene with the command of a row, which ends as that expects.
+pub fn play_row(rt: &HostRuntime, scene: &Scene<'_>, row: &Row<'_>) -> Result<Played, Fail> {
+    let line = line_of(rt, row)?;
+    let played = play(rt, scene, line.as_str())?;
+    expect_output(rt, row, played.output.returned.as_str())?;
+    Ok(played)
+}
+
 /// Fails unless the database was opened and closed so often.
-pub fn expect_openings(databases: &InMemory, opened: u64, closed: u64) -> Result<(), Fail> {
-    if databases.opened == opened && databases.closed == closed {
+pub fn expect_openings(played: &Played, opened: u64, closed: u64) -> Result<(), Fail> {
+    if played.opened == opened && played.closed == closed {
         return Ok(());
     }
     Err("opened or closed too often or too seldom".into())
 }
 
-/// A club, its orders given by the program.
-pub fn club_of(rt: &HostRuntime, orders: &[Row<'_>]) -> Result<InMemory, Fail> {
-    let mut databases = InMemory::new(rt.alloc());
-    for order in orders {
-        expect_in(rt, &mut databases, order)?;
-    }
-    Ok(databases)
+/// Fails unless the command of a row ends as that expects, with so many openings, of which each was
+/// closed.
+pub fn expect_scene(
+    rt: &HostRuntime,
+    scene: &Scene<'_>,
+    row: &Row<'_>,
+    openings: u64,
+) -> Result<(), Fail> {
+    expect_openings(&play_row(rt, scene, row)?, openings, openings)
 }
 
 /// Openings that fail, and how the run ends.
@@ -156,10 +281,11 @@ static FAILING: [(StoreFault, Row<'static>); 4] = [
 ];
 
 fn fails_to_open(rt: &HostRuntime, fault: StoreFault, row: &Row<'_>) -> Result<(), Fail> {
-    let mut databases = InMemory::new(rt.alloc());
-    databases.fault = Some(fault);
-    expect_in(rt, &mut databases, row)?;
-    expect_openings(&databases, 1, 0)
+    let scene = Scene {
+        fault: Some(fault),
+        ..Scene::after(&[])
+    };
+    expect_openings(&play_row(rt, &scene, row)?, 1, 0)
 }
 
 #[test]

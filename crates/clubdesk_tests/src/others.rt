@@ -4,41 +4,48 @@ use club_core::StoreFault;
 use std::cell::Cell;
 
 /// What is found of other programs.
-#[derive(Drop)]
-pub struct Others {
-    wishes: &'static [bool],
-    faults: &'static [Option<StoreFault>],
+#[derive(Clone, Copy)]
+pub struct Found {
+    /// What each look for a wish finds; no wish once there were so many looks.
+    pub wishes: &'static [bool],
+    /// The fault of each opening again; none once there were so many.
+    pub faults: &'static [Option<StoreFault>],
     /// Whether servers can't be kept away.
     pub refuse_pauses: bool,
+}
+
+/// Nobody else.
+pub const NOBODY: Found = Found {
+    wishes: &[],
+    faults: &[],
+    refuse_pauses: false,
+};
+
+/// Other programs, and what was asked of them.
+#[derive(Drop)]
+pub struct Others {
+    pub found: Found,
     looks: Cell<usize>,
     reopenings: usize,
     waited: Cell<u64>,
 }
 
 impl Others {
-    /// At each look this is found, and no wish once there were so many looks; each opening again
-    /// has this fault, and none once there were so many.
-    pub fn new(wishes: &'static [bool], faults: &'static [Option<StoreFault>]) -> Others {
+    /// Programs of which this is found.
+    pub fn new(found: Found) -> Others {
         Others {
-            wishes,
-            faults,
-            refuse_pauses: false,
+            found,
             looks: Cell::new(0),
             reopenings: 0,
             waited: Cell::new(0),
         }
     }
 
-    /// Nobody else.
-    pub fn none() -> Others {
-        Others::new(&[], &[])
-    }
-
     /// A look for a wish.
     pub fn look(&self) -> bool {
         let place = self.looks.get();
         self.looks.set(place.saturating_add(1));
-        match self.wishes.get(place) {
+        match self.found.wishes.get(place) {
             Some(wished) => *wished,
             None => false,
         }
@@ -53,7 +60,7 @@ impl Others {
     pub fn fault_of_reopening(&mut self) -> Option<StoreFault> {
         let place = self.reopenings;
         self.reopenings = place.saturating_add(1);
-        match self.faults.get(place) {
+        match self.found.faults.get(place) {
             Some(fault) => *fault,
             None => None,
         }

@@ -1,12 +1,13 @@
 //! Runs of the program, as texts.
 
-use crate::served::{Leaving, serve_over};
+use crate::callers::Caller;
+use crate::served::serve_and_drop;
+use crate::terminal::{Input, NO_INPUT};
 use club_http::WriteOutlet;
 use clubdesk_commands::{Databases, Fault, run};
 use clubdesk_files::Files;
 use desk_server::LogLines;
 use std::alloc::AllocError;
-use std::io::{self, ErrorKind, Read, Write};
 use std::net::TcpListener;
 use std::test::Fail;
 use std::{env, fs, process};
@@ -19,41 +20,63 @@ pub struct Row<'a>(pub &'a str, pub &'a str, pub &'a str);
 /// Room for all that a command writes.
 pub const ROOM: usize = 65_536;
 
-/// A writer with this much room, which fails once that is taken.
-#[derive(Drop)]
-struct Full {
-    room: usize,
-    taken: Vec<u8>,
+/// A run of the program: its line of words, its input, how much it may write, and the requests of
+/// the clients of its server.
+#[derive(Clone, Copy)]
+pub struct Run<'a> {
+    pub line: &'a str,
+    pub input: Input<'a>,
+    pub room: usize,
+    pub requests: &'a [&'a str],
 }
 
-impl Write for Full {
-    fn write(&mut self, bytes: &[u8]) -> io::Result<usize> {
-        if self.room == 0 {
-            return Err(io::Error::from(ErrorKind::StorageFull));
+impl<'a> Run<'a> {
+    /// A run on this line, with no input and no clients.
+    pub fn of(line: &'a str) -> Run<'a> {
+        Run {
+            line,
+            input: NO_INPUT,
+            room: ROOM,
+            requests: &[],
         }
-        let count = bytes.len().min(self.room);
-        let (front, _) = bytes.split_at(count);
-        match self.taken.extend_from_slice(front) {
-            Ok(()) => {
-                self.room -= count;
-                Ok(count)
-            }
-            Err(_) => Err(io::Error::from(ErrorKind::OutOfMemory)),
-        }
-    }
-
-    fn flush(&mut self) -> io::Result<()> {
-        Ok(())
     }
 }
 
-/// The result of a run: its status, with what it wrote or the line of its fault; and how many bytes
-/// it wrote and logged.
+/// The result of a run: its status, with what it wrote or the line of its fault; how many bytes it
+/// wrote; what came back to the clients of its server; and its log.
 #[derive(Drop)]
 pub struct Output {
     pub returned: String,
     pub taken: usize,
-    pub logged: usize,
+    pub reply: Vec<u8>,
+    pub log: Vec<u8>,
+}
+
+impl Output {
+    /// Nothing.
+    fn none(rt: &HostRuntime) -> Output {
+        Output {
+            returned: String::new(rt.alloc()),
+            taken: 0,
+            reply: Vec::new(rt.alloc()),
+            log: Vec::new(rt.alloc()),
+        }
+    }
+
+    /// The result of a run that ended so.
+    pub fn of(
+        rt: &HostRuntime,
+        outcome: &Result<(), Fault>,
+        caller: Caller<'_>,
+        log: Vec<u8>,
+    ) -> Result<Output, AllocError> {
+        Ok(Output {
+            returned: output_text(rt, outcome, caller.written())?,
+            taken: caller.written().len(),
+            reply: caller.reply(),
+            log,
+        })
+    }
 }
 
 /// How a run ended, and how often it opened and closed a database.
@@ -91,7 +114,7 @@ pub fn words_of<'a>(rt: &HostRuntime, line: &'a str) -> Result<Vec<&'a str>, All
 }
 
 /// The status of a run, with what it wrote or the line of its fault.
-pub fn output_text(
+fn output_text(
     rt: &HostRuntime,
     outcome: &Result<(), Fault>,
     written: &[u8],
@@ -108,64 +131,42 @@ pub fn output_text(
     }
 }
 
-/// What is done over databases.
+// Runs the program.
+fn run_over<D: Databases>(
+    rt: &HostRuntime,
+    databases: &mut D,
+    asked: Run<'_>,
+) -> Result<Output, AllocError> {
+    let words = words_of(rt, asked.line)?;
+    let mut input = asked.input;
+    let mut caller = Caller::new(rt, asked.requests, asked.room);
+    let mut log = Vec::new(rt.alloc());
+    let mut lines = LogLines::new(WriteOutlet::new(&mut log), rt);
+    let words = words.as_slice();
+    let outcome = run(rt, databases, words, &mut input, &mut caller, &mut lines);
+    Output::of(rt, &outcome, caller, log)
+}
+
+/// What is done over databases in files.
 #[derive(Clone, Copy)]
 pub enum Work<'a> {
-    /// The program runs on a line of words, to a writer with this much room.
-    Run(&'a str, usize),
-    /// A server answers one request, over the database at a path, and leaves that so.
-    Serve(&'a str, &'a TcpListener, Leaving),
+    /// The program runs.
+    Run(Run<'a>),
+    /// A server answers one request, over the database at a path, and drops that.
+    Serve(&'a str, &'a TcpListener),
 }
 
-/// Runs the program on a line of words and no input, to a writer with this much room.
-pub fn run_over<D: Databases>(
-    rt: &HostRuntime,
-    databases: &mut D,
-    line: &str,
-    room: usize,
-) -> Result<Output, AllocError> {
-    let mut nothing: &[u8] = b"";
-    run_on(rt, databases, line, &mut nothing, room)
-}
-
-/// Runs the program on a line of words and an input, to a writer with this much room.
-pub fn run_on<D: Databases, R: Read>(
-    rt: &HostRuntime,
-    databases: &mut D,
-    line: &str,
-    input: &mut R,
-    room: usize,
-) -> Result<Output, AllocError> {
-    let words = words_of(rt, line)?;
-    let mut full = Full {
-        room,
-        taken: Vec::new(rt.alloc()),
-    };
-    let mut errors = Vec::new(rt.alloc());
-    let mut log = LogLines::new(WriteOutlet::new(&mut errors), rt);
-    let outcome = run(rt, databases, words.as_slice(), input, &mut full, &mut log);
-    Ok(Output {
-        returned: output_text(rt, &outcome, full.taken.as_slice())?,
-        taken: full.taken.len(),
-        logged: errors.len(),
-    })
-}
-
-// A server writes nothing of its own.
+// A server that drops its database writes nothing of its own.
 fn work_over<D: Databases>(
     rt: &HostRuntime,
     databases: &mut D,
     work: Work<'_>,
 ) -> Result<Output, Fail> {
     match work {
-        Work::Run(line, room) => Ok(run_over(rt, databases, line, room)?),
-        Work::Serve(path, listener, leaving) => {
-            serve_over(rt, databases, path, listener, leaving)?;
-            Ok(Output {
-                returned: String::new(rt.alloc()),
-                taken: 0,
-                logged: 0,
-            })
+        Work::Run(asked) => Ok(run_over(rt, databases, asked)?),
+        Work::Serve(path, listener) => {
+            serve_and_drop(rt, databases, path, listener)?;
+            Ok(Output::none(rt))
         }
     }
 }
@@ -184,7 +185,11 @@ pub fn done(rt: &HostRuntime, work: Work<'_>) -> Result<Ended, Fail> {
 
 /// Runs the program on a line of words over databases in files, to a writer with this much room.
 pub fn ended_by(rt: &HostRuntime, line: &str, room: usize) -> Result<Ended, Fail> {
-    done(rt, Work::Run(line, room))
+    let asked = Run {
+        room,
+        ..Run::of(line)
+    };
+    done(rt, Work::Run(asked))
 }
 
 /// Runs a command over the database in a file.

@@ -1,6 +1,6 @@
-//! A server of one request, over a database in a file.
+//! Servers of one request, over a database in a file.
 
-use crate::runs::{Work, done};
+use crate::runs::{Run, Work, done};
 use club_core::ClubStore;
 use club_http::{Desk, Face};
 use club_values::Moment;
@@ -31,49 +31,43 @@ fn serve_at<S: ClubStore>(
     Ok(())
 }
 
-/// How a server leaves its database.
-#[derive(Clone, Copy)]
-pub enum Leaving {
-    /// It closes it.
-    Closes,
-    /// It drops it, as a server does that is killed.
-    Drops,
-}
-
-/// The same over a database that is opened for it, and left so.
-pub fn serve_over<D: Databases>(
+/// The same over a database that is opened for it, and dropped, as by a server that is killed.
+pub fn serve_and_drop<D: Databases>(
     rt: &HostRuntime,
     databases: &mut D,
     path: &str,
     listener: &TcpListener,
-    leaving: Leaving,
 ) -> Result<(), Fail> {
     let mut desk = Desk::new(rt.alloc(), databases.open(path)?);
-    serve_at(rt, listener, &mut desk)?;
-    match leaving {
-        Leaving::Closes => databases.close(desk.into_store()),
-        Leaving::Drops => drop(desk),
-    }
+    serve_at(rt, listener, &mut desk)
+}
+
+// Serves a client that waits, over the database in a file, and drops that.
+fn serve(rt: &HostRuntime, path: &str, listener: &TcpListener) -> Result<(), Fail> {
+    done(rt, Work::Serve(path, listener))?;
     Ok(())
 }
 
-/// The bytes of the reply to a request, by a server over the database in a file, which it leaves
-/// so.
-pub fn reply_by(
-    rt: &HostRuntime,
-    path: &str,
-    request: &str,
-    leaving: Leaving,
-) -> Result<Vec<u8>, Fail> {
+/// The bytes of the reply to a request, by a server over the database in a file, which it drops.
+pub fn reply_before_a_kill(rt: &HostRuntime, path: &str, request: &str) -> Result<Vec<u8>, Fail> {
     let listener = TcpListener::bind(rt, "127.0.0.1:0")?;
     let mut client = client_of(rt, &listener, request)?;
-    done(rt, Work::Serve(path, &listener, leaving))?;
+    serve(rt, path, &listener)?;
     let mut reply = Vec::new(rt.alloc());
     client.read_to_end(&mut reply)?;
     Ok(reply)
 }
 
-/// The bytes of the reply to a request, by a server over the database in a file, which it closes.
+/// The bytes of the reply to a request, by a run of the server at the same moment, which closes the
+/// database.
 pub fn reply_to(rt: &HostRuntime, path: &str, request: &str) -> Result<Vec<u8>, Fail> {
-    reply_by(rt, path, request, Leaving::Closes)
+    let line = format!(in rt.alloc();
+        "clubdesk serve {path} --port 0 --count 1 --at 2026-04-20T12:00"
+    )?;
+    let asked = Run {
+        requests: &[request],
+        ..Run::of(line.as_str())
+    };
+    let ended = done(rt, Work::Run(asked))?;
+    Ok(ended.output.reply)
 }

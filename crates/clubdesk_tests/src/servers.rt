@@ -1,12 +1,8 @@
 //! Runs of the server over a club in memory, by a clock of the test's. What clocks show was
 //! computed by a program of another language, from the zones' own database.
 
-use crate::callers::{Caller, Machine};
-use crate::memory::{InMemory, club_of, expect_in, expect_openings};
-use crate::runs::{Row, output_text, words_of};
-use club_http::WriteOutlet;
-use clubdesk_commands::run_with_clock;
-use desk_server::LogLines;
+use crate::memory::{Scene, expect_openings, play};
+use crate::runs::{Output, Row};
 use std::test::Fail;
 use test_kit::exchanges::{BOOK_7, BOOKED_7};
 
@@ -26,26 +22,26 @@ pub(crate) static OFFICE: [Row; 4] = [
 struct Outcome {
     end: &'static str,
     reply: &'static str,
-    sheet: Row<'static>,
+    sheet: &'static [Row<'static>],
 }
 
 const SERVED: Outcome = Outcome {
     end: "0 ",
     reply: BOOKED_7,
-    sheet: Row(
+    sheet: &[Row(
         "sheet",
         "2026-05-01",
         "0 Day sheet 2026-05-01\n\
         court-1                  18:00 amy-1                            7  3    600\n\
         Total bookings 1, persons 3, charge 600\n",
-    ),
+    )],
 };
 
-const NOTHING: Row<'static> = Row(
+const NOTHING: &[Row<'static>] = &[Row(
     "sheet",
     "2026-05-01",
     "0 Day sheet 2026-05-01\nNo bookings.\n",
-);
+)];
 
 /// The slot has begun.
 const NOT_BOOKABLE: Outcome = Outcome {
@@ -74,43 +70,6 @@ const OUT_OF_RANGE: Outcome = Outcome {
 /// be read, the options of the server, what comes of it, and the log.
 struct Serving(Option<u64>, &'static str, &'static Outcome, &'static str);
 
-/// How a run ended, what came back, and the log.
-#[derive(Drop)]
-pub(crate) struct Ended {
-    pub end: String,
-    pub reply: Vec<u8>,
-    pub log: Vec<u8>,
-}
-
-// Runs the server on a line of words. It is the one function here that names the types of a run.
-pub(crate) fn served(
-    rt: &HostRuntime,
-    databases: &mut InMemory,
-    machine: &Machine,
-    requests: &[&str],
-    line: &str,
-) -> Result<Ended, Fail> {
-    let words = words_of(rt, line)?;
-    let mut nothing: &[u8] = b"";
-    let mut caller = Caller::new(rt, requests);
-    let mut log = Vec::new(rt.alloc());
-    let mut lines = LogLines::new(WriteOutlet::new(&mut log), machine);
-    let outcome = run_with_clock(
-        rt,
-        machine,
-        databases,
-        words.as_slice(),
-        &mut nothing,
-        &mut caller,
-        &mut lines,
-    );
-    Ok(Ended {
-        end: output_text(rt, &outcome, b"")?,
-        reply: caller.reply(),
-        log,
-    })
-}
-
 /// The microseconds that a connection takes, but where its server has a patience.
 const SPAN: u64 = 1_533;
 
@@ -127,36 +86,35 @@ fn later_in(options: &str) -> u64 {
 }
 
 // Fails unless the run ended so.
-fn expect_ended(rt: &HostRuntime, serving: &Serving, ended: &Ended) -> Result<(), Fail> {
+fn expect_ended(rt: &HostRuntime, serving: &Serving, ended: &Output) -> Result<(), Fail> {
     let Serving(_, options, outcome, log) = serving;
     let reply = ended.reply.as_slice() == outcome.reply.as_bytes();
     let logged = ended.log.as_slice() == log.as_bytes();
-    if reply && logged && ended.end.as_str() == outcome.end {
+    if reply && logged && ended.returned.as_str() == outcome.end {
         return Ok(());
     }
-    let (end, log) = (&ended.end, str::from_utf8(&ended.log).unwrap_or("no text"));
+    let (end, log) = (
+        &ended.returned,
+        str::from_utf8(&ended.log).unwrap_or("no text"),
+    );
     Err(format!(in rt.alloc(); "{options}: {end}, reply {reply}, log {log}")?.into())
 }
 
-// The booking is served, or not, and then the sheet of the day is printed.
-fn expect_served(
-    rt: &HostRuntime,
-    databases: &mut InMemory,
-    serving: &Serving,
-) -> Result<(), Fail> {
+// Over a new club, the booking is served, or not, and then the sheet of the day is printed, in six
+// runs.
+fn serves(rt: &HostRuntime, serving: &Serving) -> Result<(), Fail> {
     let Serving(second, options, outcome, _) = serving;
     let line = format!(in rt.alloc(); "clubdesk serve club --port 0 --count 1 {options}")?;
-    let machine = Machine::new(*second, later_in(options));
-    let ended = served(rt, databases, &machine, &[BOOK_7], line.as_str())?;
-    expect_ended(rt, serving, &ended)?;
-    expect_in(rt, databases, &outcome.sheet)
-}
-
-// The same over a new club, in six runs.
-fn serves(rt: &HostRuntime, serving: &Serving) -> Result<(), Fail> {
-    let mut databases = club_of(rt, &OFFICE)?;
-    expect_served(rt, &mut databases, serving)?;
-    expect_openings(&databases, 6, 6)
+    let scene = Scene {
+        second: *second,
+        later: later_in(options),
+        requests: &[BOOK_7],
+        after: outcome.sheet,
+        ..Scene::after(&OFFICE)
+    };
+    let played = play(rt, &scene, line.as_str())?;
+    expect_ended(rt, serving, &played.output)?;
+    expect_openings(&played, 6, 6)
 }
 
 /// Whatever the machine's clock shows, where it can be read.

@@ -1,10 +1,9 @@
 //! A server over memory that takes turns with other programs, and pauses.
 
-use crate::callers::Machine;
-use crate::memory::{InMemory, NAME, club_of, expect_in, expect_openings};
-use crate::others::Others;
+use crate::memory::{NAME, Played, Scene, expect_openings, expect_scene, play, play_row};
+use crate::others::{Found, NOBODY};
 use crate::runs::Row;
-use crate::servers::{OFFICE, served};
+use crate::servers::OFFICE;
 use club_core::StoreFault;
 use std::test::Fail;
 use test_kit::exchanges::{ACCOUNT, BOOK_7};
@@ -27,31 +26,37 @@ struct Turns {
 // The orders of the office open and close the database four times.
 const ORDERS: u64 = 4;
 
-fn expect_turns(databases: &InMemory, turns: &Turns, log: &[u8]) -> Result<(), Fail> {
-    if log != turns.log.as_bytes() {
+fn expect_turns(played: &Played, turns: &Turns) -> Result<(), Fail> {
+    if played.output.log.as_slice() != turns.log.as_bytes() {
         return Err("another log".into());
     }
-    if databases.others.looks() != turns.looks {
+    if played.looks != turns.looks {
         return Err("looked for wishes too often or too seldom".into());
     }
     let opened = turns.opened.saturating_add(ORDERS);
-    expect_openings(databases, opened, turns.closed.saturating_add(ORDERS))
+    expect_openings(played, opened, turns.closed.saturating_add(ORDERS))
 }
 
 // Each request is answered so, over a club of its own.
 fn takes_turns(rt: &HostRuntime, turns: &Turns) -> Result<(), Fail> {
-    let mut databases = club_of(rt, &OFFICE)?;
-    databases.others = Others::new(turns.wishes, turns.faults);
     let count = turns.requests.len();
     let line = format!(in rt.alloc();
         "clubdesk serve {NAME} --port 0 --count {count} --at 2026-04-20T12:00 --log"
     )?;
-    let machine = Machine::new(Some(0), 0);
-    let ended = served(rt, &mut databases, &machine, turns.requests, line.as_str())?;
-    if ended.end.as_str() != "0 " {
-        return Err(ended.end.into());
+    let scene = Scene {
+        found: Found {
+            wishes: turns.wishes,
+            faults: turns.faults,
+            refuse_pauses: false,
+        },
+        requests: turns.requests,
+        ..Scene::after(&OFFICE)
+    };
+    let played = play(rt, &scene, line.as_str())?;
+    if played.output.returned.as_str() != "0 " {
+        return Err(played.output.returned.into());
     }
-    expect_turns(&databases, turns, &ended.log)
+    expect_turns(&played, turns)
 }
 
 const THREE: &[&str] = &[BOOK_7, ACCOUNT, ACCOUNT];
@@ -164,12 +169,11 @@ static PAUSES: [(Row<'static>, u64, u64); 4] = [
 
 // The database is opened and closed so often, and so many seconds are waited.
 fn pauses(rt: &HostRuntime, row: &Row<'_>, openings: u64, seconds: u64) -> Result<(), Fail> {
-    let mut databases = InMemory::new(rt.alloc());
-    expect_in(rt, &mut databases, row)?;
-    if databases.others.waited() != seconds {
+    let played = play_row(rt, &Scene::after(&[]), row)?;
+    if played.waited != seconds {
         return Err("waited longer or shorter".into());
     }
-    expect_openings(&databases, openings, openings)
+    expect_openings(&played, openings, openings)
 }
 
 #[test]
@@ -183,9 +187,13 @@ fn pauses_of_so_many_seconds(rt: HostRuntime) -> Result<(), Fail> {
 /// Where servers can't be kept away nothing is done.
 #[test]
 fn a_pause_that_keeps_nobody_away(rt: HostRuntime) -> Result<(), Fail> {
-    let mut databases = InMemory::new(rt.alloc());
-    databases.others.refuse_pauses = true;
+    let scene = Scene {
+        found: Found {
+            refuse_pauses: true,
+            ..NOBODY
+        },
+        ..Scene::after(&[])
+    };
     let row = Row("pause", "1", "5 storage failed");
-    expect_in(&rt, &mut databases, &row)?;
-    expect_openings(&databases, 0, 0)
+    expect_scene(&rt, &scene, &row, 0)
 }
