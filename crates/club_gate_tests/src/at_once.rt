@@ -1,10 +1,11 @@
 //! Lists of events that the desk runs at once: amy books, sees her account and cancels.
 
-use crate::counter::{MemoryDesk, empty_desk};
+use crate::counter::empty_desk;
 use crate::happens::{Happens, events, expect_replies};
 use crate::known::{BOB_SIGNED, BOB_SIGNED_AGAIN, CY_SIGNED, SIGNED};
 use crate::values::push;
-use club_gate::OfficeReply;
+use club_core::ClubStore;
+use club_gate::{Desk, OfficeReply};
 use club_values::Kind;
 use std::alloc::Global;
 use std::process::Abort;
@@ -34,45 +35,45 @@ static FIXTURE: [Happens; 8] = [
     ),
 ];
 
-/// Amy's list.
-#[derive(Clone, Copy)]
-struct List {
-    books: Happens,
-    asks: Happens,
-    cancels: Happens,
-}
-
-/// In each form of her pass.
-static LISTS: [List; 3] = [
-    List {
-        books: Happens::Asked(AMY_V1, BOOK_7, BOOKED_7),
-        asks: Happens::Asked(AMY_V1, ACCOUNT, ACCOUNT_AFTER),
-        cancels: Happens::Asked(AMY_V1, CANCEL_7, CANCELLED_7),
-    },
-    List {
-        books: Happens::Asked(AMY_V2, BOOK_7, BOOKED_7),
-        asks: Happens::Asked(AMY_V2, ACCOUNT, ACCOUNT_AFTER),
-        cancels: Happens::Asked(AMY_V2, CANCEL_7, CANCELLED_7),
-    },
-    List {
-        books: Happens::Asked(AMY_JSON, BOOK_7, BOOKED_7),
-        asks: Happens::Asked(AMY_JSON, ACCOUNT, ACCOUNT_AFTER),
-        cancels: Happens::Asked(AMY_JSON, CANCEL_7, CANCELLED_7),
-    },
+/// Amy's list: she books, asks for her account and cancels, in each form of her pass.
+static LISTS: [[Happens; 3]; 3] = [
+    [
+        Happens::Asked(AMY_V1, BOOK_7, BOOKED_7),
+        Happens::Asked(AMY_V1, ACCOUNT, ACCOUNT_AFTER),
+        Happens::Asked(AMY_V1, CANCEL_7, CANCELLED_7),
+    ],
+    [
+        Happens::Asked(AMY_V2, BOOK_7, BOOKED_7),
+        Happens::Asked(AMY_V2, ACCOUNT, ACCOUNT_AFTER),
+        Happens::Asked(AMY_V2, CANCEL_7, CANCELLED_7),
+    ],
+    [
+        Happens::Asked(AMY_JSON, BOOK_7, BOOKED_7),
+        Happens::Asked(AMY_JSON, ACCOUNT, ACCOUNT_AFTER),
+        Happens::Asked(AMY_JSON, CANCEL_7, CANCELLED_7),
+    ],
 ];
 
 /// Runs rows at once, and compares their replies.
-pub(crate) fn run(rt: &(impl Abort + Alloc<A = Global>), desk: &mut MemoryDesk, rows: &[Happens]) {
+fn run<S: ClubStore>(rt: &(impl Abort + Alloc<A = Global>), desk: &mut Desk<S>, rows: &[Happens]) {
     let events = events(rt, rows);
     let replies = desk.run(events.as_slice()).expect(rt, "replies");
     expect_replies(rt, replies.as_slice(), rows);
 }
 
+/// Runs the fixture at once, and then rows.
+fn run_with_the_fixture<S: ClubStore>(
+    rt: &(impl Abort + Alloc<A = Global>),
+    desk: &mut Desk<S>,
+    rows: &[Happens],
+) {
+    run(rt, desk, &FIXTURE);
+    run(rt, desk, rows);
+}
+
 /// Runs rows at once from the fixture on.
 fn run_from_the_fixture(rt: &(impl Abort + Alloc<A = Global>), rows: &[Happens]) {
-    let mut desk = empty_desk(rt);
-    run(rt, &mut desk, &FIXTURE);
-    run(rt, &mut desk, rows);
+    run_with_the_fixture(rt, &mut empty_desk(rt), rows);
 }
 
 fn append(rt: &impl Abort, rows: &mut Vec<Happens>, more: &[Happens]) {
@@ -113,15 +114,15 @@ fn ten_of_cys(rt: &impl Abort, rows: &mut Vec<Happens>, day: u16, first: u8) {
 }
 
 /// Amy's list among twenty bookings of cy's, credits, and a new key and a revoked one of bob's.
-fn among_others(rt: &(impl Abort + Alloc<A = Global>), list: &List) -> Vec<Happens> {
+fn among_others(rt: &(impl Abort + Alloc<A = Global>), list: &[Happens; 3]) -> Vec<Happens> {
     let mut rows = Vec::new(rt.alloc());
     append(rt, &mut rows, &BEFORE_CY);
     ten_of_cys(rt, &mut rows, FRIDAY + 1, 1);
-    append(rt, &mut rows, &[list.books]);
+    append(rt, &mut rows, &list[..1]);
     ten_of_cys(rt, &mut rows, FRIDAY + 2, 11);
-    append(rt, &mut rows, &[list.asks]);
+    append(rt, &mut rows, &list[1..2]);
     append(rt, &mut rows, &BEHIND_CY);
-    append(rt, &mut rows, &[list.cancels]);
+    append(rt, &mut rows, &list[2..]);
     rows
 }
 
@@ -133,11 +134,17 @@ static BESIDE_BOB: [Happens; 4] = [
     Happens::Asked(AMY_V2, CANCEL_7, CANCELLED_7),
 ];
 
-/// With ample memory a run of amy's list answers, alone and among others, and doesn't fail.
+/// Runs amy's list, alone and among others.
+fn answers_list(rt: &(impl Abort + Alloc<A = Global>), list: &[Happens; 3]) {
+    run_from_the_fixture(rt, list);
+    let rows = among_others(rt, list);
+    run_from_the_fixture(rt, rows.as_slice());
+}
+
+/// With ample memory a run of amy's list answers, and doesn't fail.
 pub(crate) fn answers(rt: &(impl Abort + Alloc<A = Global>)) {
     for list in &LISTS {
-        run_from_the_fixture(rt, &[list.books, list.asks, list.cancels]);
-        run_from_the_fixture(rt, &among_others(rt, list));
+        answers_list(rt, list);
     }
     run_from_the_fixture(rt, &BESIDE_BOB);
 }

@@ -14,12 +14,13 @@ use std::process::Abort;
 use test_kit::roots::ROOT;
 use test_kit::{FIXTURE, Order, PlainPass, PlainReply, PlainRequest, PlainStep};
 
-pub(crate) type MemoryDesk = Desk<Store<MemStore>>;
+/// Tables in memory.
+pub(crate) type MemoryStore = Store<MemStore>;
 
 /// A desk, and the form in which its passes are written.
 #[derive(Drop)]
-pub(crate) struct Counter {
-    pub desk: MemoryDesk,
+pub(crate) struct Counter<S: ClubStore> {
+    pub desk: Desk<S>,
     pub form: Form,
 }
 
@@ -44,23 +45,28 @@ impl Step {
 }
 
 /// A desk over the tables of an empty club.
-pub(crate) fn empty_desk(rt: &(impl Abort + Alloc<A = Global>)) -> MemoryDesk {
+pub(crate) fn empty_desk(rt: &(impl Abort + Alloc<A = Global>)) -> Desk<MemoryStore> {
     let store = Store::open_in_memory(rt.alloc()).expect(rt, "empty tables");
     Desk::new(rt.alloc(), store)
 }
 
 /// Gives an order that has to succeed.
-pub(crate) fn carry_out(rt: &impl Abort, desk: &mut MemoryDesk, order: &Order) {
+pub(crate) fn carry_out<S: ClubStore>(rt: &impl Abort, desk: &mut Desk<S>, order: &Order) {
     let answer = desk.office(&order.command().expect(rt, "an order"));
     expect_eq(rt, &matches!(answer, OfficeReply::Refused(_)), &false);
 }
 
-/// The fixture.
-pub(crate) fn opened(rt: &(impl Abort + Alloc<A = Global>), form: Form) -> Counter {
-    let mut desk = empty_desk(rt);
+/// Gives the orders of the fixture.
+fn furnish<S: ClubStore>(rt: &impl Abort, desk: &mut Desk<S>) {
     for order in &FIXTURE {
-        carry_out(rt, &mut desk, order);
+        carry_out(rt, desk, order);
     }
+}
+
+/// The fixture.
+pub(crate) fn opened(rt: &(impl Abort + Alloc<A = Global>), form: Form) -> Counter<MemoryStore> {
+    let mut desk = empty_desk(rt);
+    furnish(rt, &mut desk);
     Counter { desk, form }
 }
 
@@ -76,7 +82,7 @@ pub(crate) fn reply<S: ClubStore>(
     desk.ask(at(rt, moment), &Words { pass, request })
 }
 
-impl Counter {
+impl<S: ClubStore> Counter<S> {
     /// The reply at a moment under a pass.
     fn reply(
         &mut self,

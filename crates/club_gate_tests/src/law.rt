@@ -73,34 +73,40 @@ fn answers_after_a_list(rt: HostRuntime) {
     answers_behind_lists(&rt);
 }
 
-/// A desk over the club in these files.
-fn desk_over(
-    rt: &(impl Abort + Alloc<A = Global>),
-    files: Files<Memory>,
-) -> Desk<Store<FileStore<Memory>>> {
-    let connection = connected(rt.alloc(), files).expect(rt, "a database");
-    let store = Store::adopt(rt.alloc(), connection).ok();
-    Desk::new(rt.alloc(), store.expect(rt, "tables"))
-}
-
-fn connected(alloc: Global, files: Files<Memory>) -> Option<Connection<FileStore<Memory>>> {
+fn connected<D: Disk + Drop>(alloc: Global, files: Files<D>) -> Option<Connection<FileStore<D>>> {
     if !files.may_be_used() {
         return None;
     }
     Connection::open_files(alloc, files, Options::new(7)).ok()
 }
 
-/// What is left of these files once the rows happened at a desk over them.
-fn left_by(
+/// A desk over the club in these files.
+fn desk_over<D: Disk + Drop>(
     rt: &(impl Abort + Alloc<A = Global>),
-    files: Files<Memory>,
+    files: Files<D>,
+) -> Desk<Store<FileStore<D>>> {
+    let connection = connected(rt.alloc(), files).expect(rt, "a database");
+    let store = Store::adopt(rt.alloc(), connection).ok();
+    Desk::new(rt.alloc(), store.expect(rt, "tables"))
+}
+
+/// What is left of these files once the rows happened at a desk over them.
+fn left_by<D: Disk + Drop>(
+    rt: &(impl Abort + Alloc<A = Global>),
+    files: Files<D>,
     rows: &[Happens],
-) -> Files<Memory> {
+) -> Files<D> {
     let events = events(rt, rows);
-    let run = run_and_leave::<Memory, Memory>(desk_over(rt, files), events.as_slice());
+    let run = run_and_leave::<D, D>(desk_over(rt, files), events.as_slice());
     let (replies, store) = run.expect(rt, "replies");
     expect_replies(rt, replies.as_slice(), rows);
     store.close()
+}
+
+/// The booking happens at a desk over these files, and its repeats once they were reopened.
+fn books_and_reopens<D: Disk + Drop>(rt: &(impl Abort + Alloc<A = Global>), files: Files<D>) {
+    let left = left_by(rt, files, &BOOKS[..5]);
+    left_by(rt, left, &BOOKS[5..]);
 }
 
 // A repeat of the booking gets the same reply after the files were reopened.
@@ -110,6 +116,5 @@ fn books_once_over_two_openings(rt: HostRuntime) {
         log: Memory::new(rt.alloc()),
         db: Memory::new(rt.alloc()),
     };
-    let left = left_by(&rt, files, &BOOKS[..5]);
-    left_by(&rt, left, &BOOKS[5..]);
+    books_and_reopens(&rt, files);
 }

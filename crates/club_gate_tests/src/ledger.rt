@@ -1,10 +1,10 @@
 //! Stored totals, the cache of keys, and answers to the office.
 
-use crate::counter::{Counter, Step, opened, plays_in_all_forms, reply};
+use crate::counter::{Step, opened, plays_in_all_forms, reply};
 use crate::expect::{expect_eq, expect_row};
 use crate::passes::{AMY, pass_of, text_of};
 use crate::values::{name, root};
-use club_core::{Command, OfficeFault};
+use club_core::{ClubStore, Command, OfficeFault};
 use club_gate::{Desk, Fault, OfficeReply};
 use club_values::Kind;
 use pass_forms::Form;
@@ -48,19 +48,19 @@ fn add_key(rt: &impl Abort, key: &[u8]) -> Command {
     }
 }
 
-fn add_keys(rt: &impl Abort, counter: &mut Counter) {
+fn add_keys<S: ClubStore>(rt: &impl Abort, desk: &mut Desk<S>) {
     for index in 0..KEYS {
-        let answer = counter.desk.office(&add_key(rt, &key_text(index)));
+        let answer = desk.office(&add_key(rt, &key_text(index)));
         expect_eq(rt, &matches!(answer, OfficeReply::Key { .. }), &true);
     }
 }
 
 /// Ends the test unless each of the many keys gets the account.
-fn expect_accounts(rt: &(impl Abort + Alloc<A = Global>), counter: &mut Counter) {
+fn expect_accounts<S: ClubStore>(rt: &(impl Abort + Alloc<A = Global>), desk: &mut Desk<S>) {
     for index in 0..KEYS {
         let pass = pass_of(rt, &key_text(index), ROOT);
         let text = text_of(rt, Form::V2, &pass);
-        let returned = reply(rt, &mut counter.desk, NOON, text.as_bytes(), &ACCOUNT);
+        let returned = reply(rt, desk, NOON, text.as_bytes(), &ACCOUNT);
         expect_row(
             rt,
             usize::from(index),
@@ -70,25 +70,21 @@ fn expect_accounts(rt: &(impl Abort + Alloc<A = Global>), counter: &mut Counter)
     }
 }
 
-/// The same tables, under a desk with an empty cache.
-fn renewed(rt: &impl Alloc<A = Global>, counter: Counter) -> Counter {
-    let Counter { desk, form } = counter;
-    Counter {
-        desk: Desk::new(rt.alloc(), desk.into_store()),
-        form,
-    }
+/// The keys are added and get the account twice, and once more from a desk with an empty cache over
+/// the same store.
+fn answers_each_key<S: ClubStore + Drop>(rt: &(impl Abort + Alloc<A = Global>), mut desk: Desk<S>) {
+    add_keys(rt, &mut desk);
+    expect_accounts(rt, &mut desk);
+    expect_accounts(rt, &mut desk);
+    expect_accounts(rt, &mut Desk::new(rt.alloc(), desk.into_store()));
 }
 
 // The desk caches 64 derived keys: each key is used twice, and once more by a desk with an empty
 // cache.
 #[test]
 fn answers_more_keys_than_it_keeps(rt: HostRuntime) {
-    let mut counter = opened(&rt, Form::V2);
-    add_keys(&rt, &mut counter);
-    expect_accounts(&rt, &mut counter);
-    expect_accounts(&rt, &mut counter);
-    let mut counter = renewed(&rt, counter);
-    expect_accounts(&rt, &mut counter);
+    let desk = opened(&rt, Form::V2).desk;
+    answers_each_key(&rt, desk);
 }
 
 const EXISTS: OfficeReply = OfficeReply::Refused(Fault::Refused(OfficeFault::Exists));

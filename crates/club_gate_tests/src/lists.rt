@@ -1,9 +1,12 @@
 //! Random lists of events, one by one and at once: the desk's replies are the reference machine's,
 //! and those to amy are the solo machine's, which holds only her part.
 
+use crate::counter::empty_desk;
 use crate::drawn::{Event, Numbers};
 use crate::trial::Trial;
 use crate::values::push;
+use club_core::ClubStore;
+use club_gate::Desk;
 use std::alloc::Global;
 use std::process::Abort;
 use std::test::*;
@@ -15,7 +18,11 @@ const PAIRS: u32 = 10;
 const EVENTS: u32 = 60;
 
 /// Plays a list, then compares the members' accounts and the slots.
-fn play(rt: &(impl Abort + Alloc<A = Global>), mut trial: Trial, numbers: &mut Numbers) -> Trial {
+fn play<S: ClubStore>(
+    rt: &(impl Abort + Alloc<A = Global>),
+    mut trial: Trial<S>,
+    numbers: &mut Numbers,
+) -> Trial<S> {
     for _ in 0..EVENTS {
         trial.play(rt, &numbers.event());
     }
@@ -24,12 +31,21 @@ fn play(rt: &(impl Abort + Alloc<A = Global>), mut trial: Trial, numbers: &mut N
     trial.audited(rt)
 }
 
-/// Plays so many pairs of lists of a row of numbers, and audits the club behind each of them.
+/// Plays two lists from the desk of an empty club on, and audits the club behind each of them.
+fn play_pair<S: ClubStore + Drop>(
+    rt: &(impl Abort + Alloc<A = Global>),
+    desk: Desk<S>,
+    numbers: &mut Numbers,
+) {
+    let trial = play(rt, Trial::begin(rt, desk), numbers);
+    let _audited = play(rt, trial, numbers);
+}
+
+/// Plays so many pairs of lists of a row of numbers.
 pub(crate) fn play_lists(rt: &(impl Abort + Alloc<A = Global>), first: u64, pairs: u32) {
     let mut numbers = Numbers::new(first);
     for _ in 0..pairs {
-        let trial = play(rt, Trial::begin(rt), &mut numbers);
-        let _audited = play(rt, trial, &mut numbers);
+        play_pair(rt, empty_desk(rt), &mut numbers);
     }
 }
 
@@ -42,17 +58,30 @@ fn drawn(rt: &(impl Abort + Alloc<A = Global>), numbers: &mut Numbers) -> Vec<Ev
 }
 
 /// Runs a list at once, then compares the slots.
-fn run(rt: &(impl Abort + Alloc<A = Global>), mut trial: Trial, numbers: &mut Numbers) -> Trial {
+fn run<S: ClubStore>(
+    rt: &(impl Abort + Alloc<A = Global>),
+    mut trial: Trial<S>,
+    numbers: &mut Numbers,
+) -> Trial<S> {
     trial.run(rt, drawn(rt, numbers).as_slice());
     trial.audited(rt)
 }
 
-/// Runs the lists of a row of numbers, and audits the club behind each of them.
+/// Runs two lists from the desk of an empty club on, and audits the club behind each of them.
+fn run_pair<S: ClubStore + Drop>(
+    rt: &(impl Abort + Alloc<A = Global>),
+    desk: Desk<S>,
+    numbers: &mut Numbers,
+) {
+    let trial = run(rt, Trial::begin(rt, desk), numbers);
+    let _audited = run(rt, trial, numbers);
+}
+
+/// Runs the lists of a row of numbers.
 fn run_lists(rt: &(impl Abort + Alloc<A = Global>), first: u64) {
     let mut numbers = Numbers::new(first);
     for _ in 0..PAIRS {
-        let trial = run(rt, Trial::begin(rt), &mut numbers);
-        let _audited = run(rt, trial, &mut numbers);
+        run_pair(rt, empty_desk(rt), &mut numbers);
     }
 }
 

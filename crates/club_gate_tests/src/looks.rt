@@ -4,8 +4,8 @@ use crate::counter::{Counter, Step, opened};
 use crate::expect::expect_eq;
 use crate::passes::AMY;
 use crate::values::{at, name};
-use club_core::OfficeFault;
-use club_gate::Fault;
+use club_core::{ClubStore, OfficeFault};
+use club_gate::{Desk, Fault};
 use pass_forms::Form;
 use std::alloc::Global;
 use std::process::Abort;
@@ -25,13 +25,13 @@ enum Look {
 }
 
 impl Look {
-    fn shown(&self, rt: &impl Abort, counter: &mut Counter) -> Result<String, Fault> {
+    fn shown<S: ClubStore>(&self, rt: &impl Abort, desk: &mut Desk<S>) -> Result<String, Fault> {
         match *self {
             Look::Account(key, moment) => {
                 let key = name(rt, key.as_bytes());
-                counter.desk.show_account(&key, at(rt, moment))
+                desk.show_account(&key, at(rt, moment))
             }
-            Look::Slot(slot) => counter.desk.show_slot(&slot.slot().expect(rt, "a slot")),
+            Look::Slot(slot) => desk.show_slot(&slot.slot().expect(rt, "a slot")),
         }
     }
 }
@@ -103,24 +103,28 @@ static ROWS: [Row; 5] = [
     },
 ];
 
-fn shows(rt: &impl Abort, counter: &mut Counter, look: &Look, want: &str) {
-    let shown = look.shown(rt, counter).expect(rt, "a look");
+fn shows<S: ClubStore>(rt: &impl Abort, desk: &mut Desk<S>, look: &Look, want: &str) {
+    let shown = look.shown(rt, desk).expect(rt, "a look");
     expect_eq(rt, &shown.as_str(), &want);
 }
 
-pub(crate) fn expect_looks(rt: &(impl Abort + Alloc<A = Global>)) {
-    let mut counter = opened(rt, Form::V2);
-    for row in &ROWS {
-        counter.plays(rt, &[row.step]);
-        for (look, want) in row.looks {
-            shows(rt, &mut counter, look, want);
-        }
+fn expect_looks<S: ClubStore>(
+    rt: &(impl Abort + Alloc<A = Global>),
+    counter: &mut Counter<S>,
+    row: &Row,
+) {
+    counter.plays(rt, &[row.step]);
+    for (look, want) in row.looks {
+        shows(rt, &mut counter.desk, look, want);
     }
 }
 
 #[test]
 fn shows_accounts_and_slots(rt: HostRuntime) {
-    expect_looks(&rt);
+    let mut counter = opened(&rt, Form::V2);
+    for row in &ROWS {
+        expect_looks(&rt, &mut counter, row);
+    }
 }
 
 static UNKNOWN: [Look; 3] = [
@@ -132,11 +136,15 @@ static UNKNOWN: [Look; 3] = [
     }),
 ];
 
+fn are_unknown<S: ClubStore>(rt: &impl Abort, desk: &mut Desk<S>) {
+    for look in &UNKNOWN {
+        let refused = look.shown(rt, desk).err();
+        expect_eq(rt, &refused, &Some(Fault::Refused(OfficeFault::Unknown)));
+    }
+}
+
 #[test]
 fn shows_nothing_unknown(rt: HostRuntime) {
-    let mut counter = opened(&rt, Form::V2);
-    for look in &UNKNOWN {
-        let refused = look.shown(&rt, &mut counter).err();
-        expect_eq(&rt, &refused, &Some(Fault::Refused(OfficeFault::Unknown)));
-    }
+    let mut desk = opened(&rt, Form::V2).desk;
+    are_unknown(&rt, &mut desk);
 }

@@ -1,9 +1,10 @@
 //! The desk reads of its store what an answer needs, and no more.
 
-use crate::counter::{carry_out, opened, reply};
+use crate::counter::{MemoryStore, carry_out, opened, reply};
 use crate::expect::{expect_eq, expect_row};
 use crate::passes::{AMY, BOB, FORMS, Shown};
 use crate::refusing::{Calls, NONE, Refusing};
+use club_core::{ClubStore, Reply};
 use club_gate::Desk;
 use pass_forms::Form;
 use std::alloc::Global;
@@ -62,16 +63,33 @@ const SUMS: Calls = Calls {
     ..KEY
 };
 
-/// The fixture, in which bob's key is revoked, after number 7 was booked or before.
-fn counted_fixture(rt: &(impl Abort + Alloc<A = Global>), is_booked: bool) -> Refusing {
-    let mut desk = opened(rt, Form::V2).desk;
-    carry_out(rt, &mut desk, &Order::RevokeKey("bob-1"));
+/// Books number 7.
+fn book<S: ClubStore>(rt: &(impl Abort + Alloc<A = Global>), desk: &mut Desk<S>) {
+    let text = AMY.text(rt, Form::V2);
+    let returned = reply(rt, desk, NOON, text.as_bytes(), &BOOK_7);
+    expect_eq(rt, &returned, &BOOKED_7.reply().expect(rt, "a reply"));
+}
+
+/// Revokes bob's key, and books number 7 or not.
+fn prepare<S: ClubStore>(
+    rt: &(impl Abort + Alloc<A = Global>),
+    desk: &mut Desk<S>,
+    is_booked: bool,
+) {
+    carry_out(rt, desk, &Order::RevokeKey("bob-1"));
     if is_booked {
-        let text = AMY.text(rt, Form::V2);
-        let returned = reply(rt, &mut desk, NOON, text.as_bytes(), &BOOK_7);
-        expect_eq(rt, &returned, &BOOKED_7.reply().expect(rt, "a reply"));
+        book(rt, desk);
     }
-    Refusing::never(desk.into_store())
+}
+
+/// The fixture, in which bob's key is revoked, after number 7 was booked or before.
+fn counted_fixture(
+    rt: &(impl Abort + Alloc<A = Global>),
+    is_booked: bool,
+) -> Desk<Refusing<MemoryStore>> {
+    let mut desk = opened(rt, Form::V2).desk;
+    prepare(rt, &mut desk, is_booked);
+    Desk::new(rt.alloc(), Refusing::never(desk.into_store()))
 }
 
 /// A pass, a request under it, the reply, and the calls of the store.
@@ -137,6 +155,19 @@ static AGAIN: [Row; 6] = [
     (SPENDS_700, BOOK_8, DENIED_1, OVER_THE_LIMIT),
 ];
 
+/// The reply to a row's request, and what the desk asked of its store for it.
+fn answered<S: ClubStore + Drop>(
+    rt: &(impl Abort + Alloc<A = Global>),
+    mut desk: Desk<Refusing<S>>,
+    form: Form,
+    (shown, asked, _, _): &Row,
+) -> (Reply, Calls) {
+    let text = shown.text(rt, form);
+    let reply = reply(rt, &mut desk, NOON, text.as_bytes(), asked);
+    let store = desk.into_store();
+    (reply, store.asked)
+}
+
 fn reads(
     rt: &(impl Abort + Alloc<A = Global>),
     form: Form,
@@ -144,17 +175,11 @@ fn reads(
     place: usize,
     row: &Row,
 ) {
-    let (shown, asked, expected, calls) = row;
-    let mut desk = Desk::new(rt.alloc(), counted_fixture(rt, is_booked));
-    let text = shown.text(rt, form);
-    let answered = reply(rt, &mut desk, NOON, text.as_bytes(), asked);
-    expect_row(
-        rt,
-        place,
-        &answered,
-        &expected.reply().expect(rt, "a reply"),
-    );
-    expect_row(rt, place, &desk.into_store().asked, calls);
+    let (_, _, expected, calls) = row;
+    let (answered, asked) = answered(rt, counted_fixture(rt, is_booked), form, row);
+    let want = expected.reply().expect(rt, "a reply");
+    expect_row(rt, place, &answered, &want);
+    expect_row(rt, place, &asked, calls);
 }
 
 fn reads_each(rt: &(impl Abort + Alloc<A = Global>), is_booked: bool, rows: &[Row]) {

@@ -1,6 +1,6 @@
 //! The desk's replies if its store fails, or isn't called.
 
-use crate::counter::{opened, reply};
+use crate::counter::{MemoryStore, opened, reply};
 use crate::expect::{expect_eq, expect_row};
 use crate::passes::AMY;
 use crate::refusing::{NONE, Refusing};
@@ -27,7 +27,7 @@ fn refusing(
     rt: &(impl Abort + Alloc<A = Global>),
     first: u32,
     fault: StoreFault,
-) -> Desk<Refusing> {
+) -> Desk<Refusing<MemoryStore>> {
     let store = Refusing {
         store: opened(rt, Form::V2).desk.into_store(),
         asked: NONE,
@@ -39,7 +39,7 @@ fn refusing(
 }
 
 /// A booking is unavailable.
-fn expect_unavailable(rt: &(impl Abort + Alloc<A = Global>), desk: &mut Desk<Refusing>) {
+fn expect_unavailable<S: ClubStore>(rt: &(impl Abort + Alloc<A = Global>), desk: &mut Desk<S>) {
     let text = AMY.text(rt, Form::V2);
     let returned = reply(rt, desk, NOON, text.as_bytes(), &BOOK_7);
     expect_eq(rt, &returned, &Reply::Refused(Refusal::Unavailable));
@@ -48,7 +48,7 @@ fn expect_unavailable(rt: &(impl Abort + Alloc<A = Global>), desk: &mut Desk<Ref
 const ADD_KEY: Order = Order::AddKey("amy-2", "amy", ROOT);
 
 /// A new key and the day sheet fail.
-fn expect_failures(rt: &impl Abort, desk: &mut Desk<Refusing>, fault: StoreFault) {
+fn expect_failures<S: ClubStore>(rt: &impl Abort, desk: &mut Desk<S>, fault: StoreFault) {
     let answer = desk.office(&ADD_KEY.command().expect(rt, "an order"));
     expect_eq(rt, &answer, &OfficeReply::Refused(Fault::Store(fault)));
     let day = Day::read(b"2026-05-01").expect(rt, "a day");
@@ -65,13 +65,20 @@ fn expect_untouched<S: ClubStore>(rt: &impl Abort, store: &mut S) {
     expect_eq(rt, &key.is_none(), &true);
 }
 
-/// If the store fails from this call on, every request and order fails and nothing is changed.
-fn expect_refusals(rt: &(impl Abort + Alloc<A = Global>), first: u32, fault: StoreFault) {
-    let mut desk = refusing(rt, first, fault);
+/// Every request and order fails and nothing is changed.
+fn expect_refusals_by<S: ClubStore + Drop>(
+    rt: &(impl Abort + Alloc<A = Global>),
+    mut desk: Desk<Refusing<S>>,
+    fault: StoreFault,
+) {
     expect_unavailable(rt, &mut desk);
     expect_failures(rt, &mut desk, fault);
-    let mut store = desk.into_store().into_inner();
-    expect_untouched(rt, &mut store);
+    expect_untouched(rt, &mut desk.into_store().into_inner());
+}
+
+/// So it is if the store fails from this call on.
+fn expect_refusals(rt: &(impl Abort + Alloc<A = Global>), first: u32, fault: StoreFault) {
+    expect_refusals_by(rt, refusing(rt, first, fault), fault);
 }
 
 #[test]
@@ -91,18 +98,32 @@ fn reports_refused_storage(rt: HostRuntime) {
 // One byte too many.
 static LONG: [u8; MAX_TEXT + 1] = [b'A'; MAX_TEXT + 1];
 
-fn expect_refused(rt: &impl Abort, desk: &mut Desk<Refusing>, pass: &[u8], refusal: Refusal) {
+fn expect_refused<S: ClubStore>(
+    rt: &impl Abort,
+    desk: &mut Desk<S>,
+    pass: &[u8],
+    refusal: Refusal,
+) {
     let returned = reply(rt, desk, NOON, pass, &ACCOUNT);
     expect_eq(rt, &returned, &Reply::Refused(refusal));
+}
+
+/// How often the store is called for texts that are no pass.
+fn calls_for_faults_of_form<S: ClubStore + Drop>(
+    rt: &impl Abort,
+    mut desk: Desk<Refusing<S>>,
+) -> u32 {
+    expect_refused(rt, &mut desk, b"AgEJ", Refusal::PassMalformed);
+    expect_refused(rt, &mut desk, &LONG, Refusal::PassTooLong);
+    let store = desk.into_store();
+    store.calls
 }
 
 // A text that is no pass is refused before the store is called.
 #[test]
 fn reports_a_fault_of_form_first(rt: HostRuntime) {
-    let mut desk = refusing(&rt, 1, StoreFault::Storage);
-    expect_refused(&rt, &mut desk, b"AgEJ", Refusal::PassMalformed);
-    expect_refused(&rt, &mut desk, &LONG, Refusal::PassTooLong);
-    expect_eq(&rt, &desk.into_store().calls, &0);
+    let calls = calls_for_faults_of_form(&rt, refusing(&rt, 1, StoreFault::Storage));
+    expect_eq(&rt, &calls, &0);
 }
 
 #[test]

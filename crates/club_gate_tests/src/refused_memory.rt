@@ -2,26 +2,25 @@
 //! `tests/refused_memory_tests.sh` refuses each in turn, and none after it: a call that is out of
 //! memory changes nothing, and a second call is answered.
 
-use crate::counter::{MemoryDesk, reply};
+use crate::counter::{MemoryStore, reply};
 use crate::expect::expect_eq;
 use crate::known::{SIGNED, SIGNED_ANEW};
 use crate::values::at;
-use club_core::{OfficeFault, Refusal, Reply, StoreFault};
+use club_core::{ClubStore, OfficeFault, Refusal, Reply, StoreFault};
 use club_gate::{Desk, Event, EventReply, Fault, OfficeReply, Words};
 use club_store::Store;
 use club_values::Kind;
-use sqlite::MemStore;
 use std::alloc::Global;
 use std::process::Abort;
 use std::test::*;
 use test_kit::minutes::{NOON, START};
 use test_kit::passes::{AMY_JSON, AMY_V1, AMY_V2};
-use test_kit::replies::{ACCOUNT_AFTER, ACCOUNT_BEFORE, BOOKED_7};
+use test_kit::replies::{ACCOUNT_AFTER, ACCOUNT_BEFORE, BOOKED_7, KEY_REVOKED};
 use test_kit::requests::{ACCOUNT, BOOK_7, VIEW};
 use test_kit::roots::{ROOT, SECOND_ROOT};
 use test_kit::{COURT_AT_19, Order, PlainReply, PlainRequest, PlainSlot};
 
-fn new_store(rt: &(impl Abort + Alloc<A = Global>)) -> Store<MemStore> {
+fn new_store(rt: &(impl Abort + Alloc<A = Global>)) -> MemoryStore {
     match Store::open_in_memory(rt.alloc()) {
         Err(StoreFault::Memory) => Store::open_in_memory(rt.alloc()).expect(rt, "a store"),
         store => store.expect(rt, "a store"),
@@ -31,7 +30,12 @@ fn new_store(rt: &(impl Abort + Alloc<A = Global>)) -> Store<MemStore> {
 const UNAVAILABLE: Reply = Reply::Refused(Refusal::Unavailable);
 
 /// The reply at noon; by a second call if the first is out of memory.
-fn replied(rt: &impl Abort, desk: &mut MemoryDesk, pass: &str, asked: &PlainRequest) -> Reply {
+fn replied<S: ClubStore>(
+    rt: &impl Abort,
+    desk: &mut Desk<S>,
+    pass: &str,
+    asked: &PlainRequest,
+) -> Reply {
     let first = reply(rt, desk, NOON, pass.as_bytes(), asked);
     if first != UNAVAILABLE {
         return first;
@@ -42,7 +46,7 @@ fn replied(rt: &impl Abort, desk: &mut MemoryDesk, pass: &str, asked: &PlainRequ
 const AT_19: PlainSlot = COURT_AT_19;
 
 /// What amy's key sees of the club: her account, and two slots.
-fn seen(rt: &impl Abort, desk: &mut MemoryDesk) -> [Reply; 3] {
+fn seen<S: ClubStore>(rt: &impl Abort, desk: &mut Desk<S>) -> [Reply; 3] {
     [
         replied(rt, desk, AMY_V2, &ACCOUNT),
         replied(rt, desk, AMY_V2, &VIEW),
@@ -50,24 +54,35 @@ fn seen(rt: &impl Abort, desk: &mut MemoryDesk) -> [Reply; 3] {
     ]
 }
 
+const OUT_OF_MEMORY: OfficeReply = OfficeReply::Refused(Fault::Store(StoreFault::Memory));
+
+fn answered<S: ClubStore>(rt: &impl Abort, desk: &mut Desk<S>, order: &Order) -> OfficeReply {
+    desk.office(&order.command().expect(rt, "an order"))
+}
+
 /// Ends the test unless the office gets this answer. If the first call is out of memory, the club
 /// must be unchanged, and a second call must get it.
-fn is_answered(rt: &impl Abort, desk: &mut MemoryDesk, order: &Order, answer: &OfficeReply) {
+fn is_answered<S: ClubStore>(
+    rt: &impl Abort,
+    desk: &mut Desk<S>,
+    order: &Order,
+    answer: &OfficeReply,
+) {
     let before = seen(rt, desk);
-    let first = desk.office(&order.command().expect(rt, "an order"));
-    if first != OfficeReply::Refused(Fault::Store(StoreFault::Memory)) {
+    let first = answered(rt, desk, order);
+    if first != OUT_OF_MEMORY {
         expect_eq(rt, &first, answer);
         return;
     }
     expect_eq(rt, &seen(rt, desk), &before);
-    expect_eq(
-        rt,
-        &desk.office(&order.command().expect(rt, "an order")),
-        answer,
-    );
+    expect_eq(rt, &answered(rt, desk, order), answer);
 }
 
-fn are_answered(rt: &impl Abort, desk: &mut MemoryDesk, orders: &[(Order, OfficeReply)]) {
+fn are_answered<S: ClubStore>(
+    rt: &impl Abort,
+    desk: &mut Desk<S>,
+    orders: &[(Order, OfficeReply)],
+) {
     for (order, answer) in orders {
         is_answered(rt, desk, order, answer);
     }
@@ -87,7 +102,7 @@ static FIXTURE: [(Order, OfficeReply); 4] = [
 ];
 
 /// The desk of the fixture.
-fn desk(rt: &(impl Abort + Alloc<A = Global>)) -> MemoryDesk {
+fn desk(rt: &(impl Abort + Alloc<A = Global>)) -> Desk<MemoryStore> {
     let mut desk = Desk::new(rt.alloc(), new_store(rt));
     are_answered(rt, &mut desk, &FIXTURE);
     desk
@@ -112,24 +127,21 @@ static REVOKED: [(Order, OfficeReply); 2] = [
     ),
 ];
 
-#[test]
-fn orders(rt: HostRuntime) {
-    let mut desk = desk(&rt);
-    let account = replied(&rt, &mut desk, AMY_V2, &ACCOUNT);
-    expect_eq(
-        &rt,
-        &account,
-        &ACCOUNT_BEFORE.reply().expect(&rt, "a reply"),
-    );
-    are_answered(&rt, &mut desk, &ORDERS);
-    are_answered(&rt, &mut desk, &REVOKED);
-    let account = replied(&rt, &mut desk, AMY_V2, &ACCOUNT);
-    expect_eq(&rt, &account, &Reply::Refused(Refusal::KeyRevoked));
+fn carries_out_orders<S: ClubStore>(rt: &impl Abort, desk: &mut Desk<S>) {
+    expect_replied(rt, desk, AMY_V2, &ACCOUNT, &ACCOUNT_BEFORE);
+    are_answered(rt, desk, &ORDERS);
+    are_answered(rt, desk, &REVOKED);
+    expect_replied(rt, desk, AMY_V2, &ACCOUNT, &KEY_REVOKED);
 }
 
-fn expect_replied(
+#[test]
+fn orders(rt: HostRuntime) {
+    carries_out_orders(&rt, &mut desk(&rt));
+}
+
+fn expect_replied<S: ClubStore>(
     rt: &impl Abort,
-    desk: &mut MemoryDesk,
+    desk: &mut Desk<S>,
     pass: &str,
     asked: &PlainRequest,
     want: &PlainReply,
@@ -142,14 +154,19 @@ fn expect_replied(
 }
 
 /// The booking is on record: its reply, and that of the account.
-fn is_booked(rt: &impl Abort, desk: &mut MemoryDesk, pass: &str) {
+fn is_booked<S: ClubStore>(rt: &impl Abort, desk: &mut Desk<S>, pass: &str) {
     expect_replied(rt, desk, pass, &BOOK_7, &BOOKED_7);
     expect_replied(rt, desk, pass, &ACCOUNT, &ACCOUNT_AFTER);
 }
 
 /// The first reply to the booking is the booking's, which is then on record. Or it is unavailable:
 /// then nothing changed, and a second request is served.
-fn is_booked_or_unavailable(rt: &impl Abort, desk: &mut MemoryDesk, pass: &str, first: &Reply) {
+fn is_booked_or_unavailable<S: ClubStore>(
+    rt: &impl Abort,
+    desk: &mut Desk<S>,
+    pass: &str,
+    first: &Reply,
+) {
     if *first == UNAVAILABLE {
         expect_replied(rt, desk, pass, &ACCOUNT, &ACCOUNT_BEFORE);
         expect_replied(rt, desk, pass, &VIEW, &PlainReply::SlotShown(0, false));
@@ -159,10 +176,13 @@ fn is_booked_or_unavailable(rt: &impl Abort, desk: &mut MemoryDesk, pass: &str, 
     is_booked(rt, desk, pass);
 }
 
+fn books<S: ClubStore>(rt: &impl Abort, desk: &mut Desk<S>, pass: &str) {
+    let first = reply(rt, desk, NOON, pass.as_bytes(), &BOOK_7);
+    is_booked_or_unavailable(rt, desk, pass, &first);
+}
+
 fn ask(rt: &(impl Abort + Alloc<A = Global>), pass: &str) {
-    let mut desk = desk(rt);
-    let first = reply(rt, &mut desk, NOON, pass.as_bytes(), &BOOK_7);
-    is_booked_or_unavailable(rt, &mut desk, pass, &first);
+    books(rt, &mut desk(rt), pass);
 }
 
 #[test]
@@ -189,7 +209,7 @@ fn only(replies: &[EventReply]) -> Option<Reply> {
 }
 
 /// The reply to a list of only the booking; unavailable too if the list is out of memory.
-fn reply_of_a_run(rt: &impl Abort, desk: &mut MemoryDesk, pass: &str) -> Reply {
+fn reply_of_a_run<S: ClubStore>(rt: &impl Abort, desk: &mut Desk<S>, pass: &str) -> Reply {
     let words = Words {
         pass: pass.as_bytes(),
         request: BOOK_7.request().expect(rt, "a request"),
@@ -201,10 +221,13 @@ fn reply_of_a_run(rt: &impl Abort, desk: &mut MemoryDesk, pass: &str) -> Reply {
     }
 }
 
+fn books_in_a_run<S: ClubStore>(rt: &impl Abort, desk: &mut Desk<S>, pass: &str) {
+    let first = reply_of_a_run(rt, desk, pass);
+    is_booked_or_unavailable(rt, desk, pass, &first);
+}
+
 fn run(rt: &(impl Abort + Alloc<A = Global>), pass: &str) {
-    let mut desk = desk(rt);
-    let first = reply_of_a_run(rt, &mut desk, pass);
-    is_booked_or_unavailable(rt, &mut desk, pass, &first);
+    books_in_a_run(rt, &mut desk(rt), pass);
 }
 
 #[test]

@@ -3,9 +3,7 @@
 
 use club_core::{Change, ClubStore, MemberAccount, SlotUse, StoreFault};
 use club_rows::{Booking, BookingNumber, Facility, Key, Member};
-use club_store::Store;
 use club_values::{Day, Moment, Name, Slot};
-use sqlite::MemStore;
 
 /// How often each thing was asked of a store: a key's row, a record under a number, a facility, the
 /// state of a slot, a member's account, its open bookings, what a key has spent; and how often
@@ -33,11 +31,11 @@ pub(crate) const NONE: Calls = Calls {
     others: 0,
 };
 
-/// Tables in memory, what was asked of them, the number of calls so far, the first call that fails,
-/// and its fault.
+/// A store, what was asked of it, the number of calls so far, the first call that fails, and its
+/// fault.
 #[derive(Drop)]
-pub(crate) struct Refusing {
-    pub store: Store<MemStore>,
+pub(crate) struct Refusing<S: ClubStore> {
+    pub store: S,
     pub asked: Calls,
     pub calls: u32,
     pub first: u32,
@@ -48,9 +46,9 @@ fn count(calls: &mut u32) {
     *calls = calls.saturating_add(1);
 }
 
-impl Refusing {
-    /// Tables of which no call fails.
-    pub fn never(store: Store<MemStore>) -> Refusing {
+impl<S: ClubStore> Refusing<S> {
+    /// A store of which no call fails.
+    pub fn never(store: S) -> Refusing<S> {
         Refusing {
             store,
             asked: NONE,
@@ -60,8 +58,8 @@ impl Refusing {
         }
     }
 
-    /// The tables, as they are.
-    pub fn into_inner(self) -> Store<MemStore> {
+    /// The store, as it is.
+    pub fn into_inner(self) -> S {
         let Refusing {
             store,
             asked: _,
@@ -81,7 +79,7 @@ impl Refusing {
     }
 }
 
-impl ClubStore for Refusing {
+impl<S: ClubStore> ClubStore for Refusing<S> {
     ghost represents = { λ store club others. ⊥ };
 
     ghost disk_is_clean = { λ store. ⊥ };

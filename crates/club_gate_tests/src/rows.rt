@@ -3,8 +3,8 @@
 use crate::counter::{Counter, Step, opened, plays_in_all_forms, plays_list_in_all_forms};
 use crate::expect::expect_eq;
 use crate::passes::{AMY, BOB, CY, FORMS, Shown};
-use club_core::OfficeFault;
-use club_gate::{Fault, OfficeReply};
+use club_core::{ClubStore, OfficeFault};
+use club_gate::{Desk, Fault, OfficeReply};
 use club_values::Day;
 use pass_forms::Form;
 use std::alloc::Global;
@@ -76,9 +76,9 @@ static BEHIND_CY: [Step; 2] = [
 ];
 
 /// Cy books `court-1` on a day at an hour, with a guest or none, under a number.
-fn cy_books(
+fn cy_books<S: ClubStore>(
     rt: &(impl Abort + Alloc<A = Global>),
-    counter: &mut Counter,
+    counter: &mut Counter<S>,
     (day, hour): (u16, u8),
     number: u32,
     has_guest: bool,
@@ -96,7 +96,7 @@ fn cy_books(
 }
 
 /// Twenty bookings of others in other slots, credits, and a new key and a revoked one of bob's.
-fn others_are_busy(rt: &(impl Abort + Alloc<A = Global>), counter: &mut Counter) {
+fn others_are_busy<S: ClubStore>(rt: &(impl Abort + Alloc<A = Global>), counter: &mut Counter<S>) {
     counter.plays(rt, &BEFORE_CY);
     for index in 0..10u8 {
         let number = u32::from(index) + 1;
@@ -106,14 +106,20 @@ fn others_are_busy(rt: &(impl Abort + Alloc<A = Global>), counter: &mut Counter)
     counter.plays(rt, &BEHIND_CY);
 }
 
+fn answers_amy_among_others<S: ClubStore>(
+    rt: &(impl Abort + Alloc<A = Global>),
+    counter: &mut Counter<S>,
+) {
+    others_are_busy(rt, counter);
+    counter.plays(rt, &ALONE);
+}
+
 #[test]
 fn answers_amy_the_same_whatever_others_do(rt: HostRuntime) {
     plays_in_all_forms(&rt, &ALONE);
     plays_in_all_forms(&rt, &BESIDE_BOB);
     for form in &FORMS {
-        let mut counter = opened(&rt, *form);
-        others_are_busy(&rt, &mut counter);
-        counter.plays(&rt, &ALONE);
+        answers_amy_among_others(&rt, &mut opened(&rt, *form));
     }
 }
 
@@ -183,18 +189,22 @@ static SHEETS: [(u16, &str); 2] = [
     (FRIDAY + 1, "Day sheet 2026-05-02\nNo bookings.\n"),
 ];
 
-fn expect_sheet(rt: &impl Abort, counter: &mut Counter, day: u16, want: &str) {
+fn expect_sheet<S: ClubStore>(rt: &impl Abort, desk: &mut Desk<S>, day: u16, want: &str) {
     let day = Day::from_number(day).expect(rt, "a day");
-    let sheet = counter.desk.sheet(day).expect(rt, "a sheet");
+    let sheet = desk.sheet(day).expect(rt, "a sheet");
     expect_eq(rt, &sheet.as_str(), &want);
 }
 
-pub(crate) fn expect_sheets(rt: &(impl Abort + Alloc<A = Global>)) {
-    let mut counter = opened(rt, Form::V2);
+/// The sheets once these steps were played.
+fn expect_sheets_of<S: ClubStore>(rt: &(impl Abort + Alloc<A = Global>), counter: &mut Counter<S>) {
     counter.plays(rt, &FILLED);
     for (day, want) in &SHEETS {
-        expect_sheet(rt, &mut counter, *day, want);
+        expect_sheet(rt, &mut counter.desk, *day, want);
     }
+}
+
+pub(crate) fn expect_sheets(rt: &(impl Abort + Alloc<A = Global>)) {
+    expect_sheets_of(rt, &mut opened(rt, Form::V2));
 }
 
 #[test]

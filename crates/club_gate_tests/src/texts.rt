@@ -5,8 +5,8 @@ use crate::expect::{expect_eq, expect_row};
 use crate::known::SIGNED;
 use crate::passes::text_of;
 use crate::values::name;
-use club_core::{Refusal, Reply};
-use club_gate::minted;
+use club_core::{ClubStore, Refusal, Reply};
+use club_gate::{Desk, minted};
 use pass_forms::Form;
 use std::alloc::Global;
 use std::process::Abort;
@@ -32,9 +32,24 @@ pub(crate) fn expect_text(rt: &(impl Abort + Alloc<A = Global>)) {
 }
 
 /// Ends the test unless a request with this text gets this reply.
-fn expect_reply(rt: &impl Abort, counter: &mut Counter, row: usize, text: &str, want: &Reply) {
-    let returned = reply(rt, &mut counter.desk, NOON, text.as_bytes(), &ACCOUNT);
+fn expect_reply<S: ClubStore>(
+    rt: &impl Abort,
+    desk: &mut Desk<S>,
+    row: usize,
+    text: &str,
+    want: &Reply,
+) {
+    let returned = reply(rt, desk, NOON, text.as_bytes(), &ACCOUNT);
     expect_row(rt, row, &returned, want);
+}
+
+const NO_POINTS: PlainReply = PlainReply::AccountShown(0, 0, 0);
+
+/// The new key's pass is served.
+fn serves_a_new_key<S: ClubStore>(rt: &(impl Abort + Alloc<A = Global>), counter: &mut Counter<S>) {
+    counter.plays(rt, &ADDS_A_KEY);
+    let want = NO_POINTS.reply().expect(rt, "a reply");
+    expect_reply(rt, &mut counter.desk, 0, AMY_V2, &want);
 }
 
 // The office's pass of a new key has 79 characters in V2, and is served.
@@ -44,17 +59,8 @@ fn mints_the_pass_of_a_key(rt: HostRuntime) {
         desk: empty_desk(&rt),
         form: Form::V2,
     };
-    counter.plays(&rt, &ADDS_A_KEY);
+    serves_a_new_key(&rt, &mut counter);
     expect_text(&rt);
-    expect_reply(
-        &rt,
-        &mut counter,
-        0,
-        AMY_V2,
-        &PlainReply::AccountShown(0, 0, 0)
-            .reply()
-            .expect(&rt, "a reply"),
-    );
 }
 
 /// The pieces of the texts of a form, in base64: location `club-desk` and identifier `key:amy-1`,
@@ -141,18 +147,22 @@ fn spelled(
     text
 }
 
-fn expect_faults(rt: &(impl Abort + Alloc<A = Global>), counter: &mut Counter, pieces: &Pieces) {
+fn expect_faults<S: ClubStore>(
+    rt: &(impl Abort + Alloc<A = Global>),
+    desk: &mut Desk<S>,
+    pieces: &Pieces,
+) {
     for (row, (caveats, third_parties, more, refusal)) in FAULTS.iter().enumerate() {
         let text = spelled(rt, pieces, (*caveats, *third_parties, *more));
-        expect_reply(rt, counter, row, text.as_str(), &Reply::Refused(*refusal));
+        expect_reply(rt, desk, row, text.as_str(), &Reply::Refused(*refusal));
     }
 }
 
 #[test]
 fn refuses_faulty_texts(rt: HostRuntime) {
-    let mut counter = opened(&rt, Form::V2);
+    let mut desk = opened(&rt, Form::V2).desk;
     for pieces in &FORMS {
-        expect_faults(&rt, &mut counter, pieces);
+        expect_faults(&rt, &mut desk, pieces);
     }
 }
 
@@ -163,17 +173,15 @@ fn json(rt: &(impl Abort + Alloc<A = Global>), head: &str) -> String {
     text
 }
 
+fn expect_faults_of_json<S: ClubStore>(rt: &(impl Abort + Alloc<A = Global>), desk: &mut Desk<S>) {
+    for (row, (head, refusal)) in HEADS.iter().enumerate() {
+        let text = json(rt, head);
+        expect_reply(rt, desk, row, text.as_str(), &Reply::Refused(*refusal));
+    }
+}
+
 #[test]
 fn refuses_faulty_json(rt: HostRuntime) {
-    let mut counter = opened(&rt, Form::Json);
-    for (row, (head, refusal)) in HEADS.iter().enumerate() {
-        let text = json(&rt, head);
-        expect_reply(
-            &rt,
-            &mut counter,
-            row,
-            text.as_str(),
-            &Reply::Refused(*refusal),
-        );
-    }
+    let mut desk = opened(&rt, Form::Json).desk;
+    expect_faults_of_json(&rt, &mut desk);
 }

@@ -1,6 +1,6 @@
 //! A desk beside the reference machine, and beside the solo machine, which holds only amy's part.
 
-use crate::counter::{MemoryDesk, empty_desk, reply};
+use crate::counter::reply;
 use crate::drawn::{AMY, Asking, Event, SLOTS};
 use crate::expect::expect_eq;
 use crate::reference_machine::{part_reply, reference_replies, reference_reply, shown};
@@ -9,7 +9,7 @@ use crate::values::{at, name, push};
 use club_core::{ClubStore, OfficeAnswer, OfficeFault, Reply, SlotUse};
 use club_gate::{Desk, EventReply, Fault};
 use club_reference::Club;
-use club_values::Kind;
+use club_values::{Kind, Slot};
 use pass_forms::Form;
 use std::alloc::Global;
 use std::process::Abort;
@@ -49,8 +49,8 @@ static BEGINNING: [Order; 14] = [
 
 /// The desk, the reference machine, the solo machine of amy, and the names of her keys.
 #[derive(Drop)]
-pub(crate) struct Trial {
-    desk: MemoryDesk,
+pub(crate) struct Trial<S: ClubStore> {
+    desk: Desk<S>,
     reference: Club,
     part: Club,
     own_keys: Vec<&'static str>,
@@ -82,37 +82,79 @@ fn expect_held<S: ClubStore>(rt: &impl Abort, store: &mut S, reference: &Club, s
     expect_eq(rt, &held, &want);
 }
 
-/// The lines of a reply as the pages show them. An auditor's key is neither revoked nor rotated.
-fn lines_of(rt: &(impl Abort + Alloc<A = Global>), reply: &Reply) -> Option<String> {
-    let text = match reply {
-        Reply::AccountShown {
-            member,
-            balance,
-            quota,
-            open_count,
-            spent,
-        } => format!(in rt.alloc();
-            "member {member}\nbalance {balance}\nquota {quota}\nopen {open_count}\nspent {spent}\n\
-            revoked no\nolder root none\n"
-        ),
-        Reply::SlotShown {
-            slot,
-            kind,
-            price,
-            places,
-            taken,
-            closed,
-        } => format!(in rt.alloc();
-            "facility {}\nday {}\nhour {}\nkind {kind}\nprice {price}\nplaces {places}\n\
-            taken {taken}\nclosed {}\n",
-            slot.facility,
-            slot.day,
-            slot.hour,
-            if *closed { "yes" } else { "no" }
-        ),
-        _ => return None,
+/// The same of each slot.
+fn expect_all_held<S: ClubStore>(rt: &impl Abort, store: &mut S, reference: &Club) {
+    for slot in &SLOTS {
+        expect_held(rt, store, reference, *slot);
+    }
+}
+
+/// The lines of an account, as the pages show them; `None` of another reply. An auditor's key is
+/// neither revoked nor rotated.
+fn account_lines(rt: &(impl Abort + Alloc<A = Global>), reply: &Reply) -> Option<String> {
+    let Reply::AccountShown {
+        member,
+        balance,
+        quota,
+        open_count,
+        spent,
+    } = reply
+    else {
+        return None;
     };
+    let text = format!(in rt.alloc();
+        "member {member}\nbalance {balance}\nquota {quota}\nopen {open_count}\nspent {spent}\n\
+        revoked no\nolder root none\n"
+    );
     Some(text.expect(rt, "memory"))
+}
+
+/// The lines that name a slot.
+fn name_lines(rt: &(impl Abort + Alloc<A = Global>), slot: &Slot) -> String {
+    let text = format!(in rt.alloc();
+        "facility {}\nday {}\nhour {}\n",
+        slot.facility, slot.day, slot.hour
+    );
+    text.expect(rt, "memory")
+}
+
+/// The lines of a slot; `None` of another reply.
+fn slot_lines(rt: &(impl Abort + Alloc<A = Global>), reply: &Reply) -> Option<String> {
+    let Reply::SlotShown {
+        slot,
+        kind,
+        price,
+        places,
+        taken,
+        closed,
+    } = reply
+    else {
+        return None;
+    };
+    let closed = if *closed { "yes" } else { "no" };
+    let state = format!(in rt.alloc();
+        "kind {kind}\nprice {price}\nplaces {places}\ntaken {taken}\nclosed {closed}\n"
+    );
+    let state = state.expect(rt, "memory");
+    let mut text = name_lines(rt, slot);
+    text.push_str(state.as_str()).expect(rt, "memory");
+    Some(text)
+}
+
+/// The lines of a reply; `None` where it shows nothing.
+fn lines_of(rt: &(impl Abort + Alloc<A = Global>), reply: &Reply) -> Option<String> {
+    match reply {
+        Reply::SlotShown { .. } => slot_lines(rt, reply),
+        _ => account_lines(rt, reply),
+    }
+}
+
+/// The text of a look, or why it is refused.
+fn text_of(shown: &Result<String, Fault>) -> Result<&str, Fault> {
+    match shown {
+        Ok(text) => Ok(text.as_str()),
+        Err(fault) => Err(*fault),
+    }
 }
 
 /// A look shows what a reply says; nothing where that refuses.
@@ -121,11 +163,8 @@ fn expect_shown(
     shown: &Result<String, Fault>,
     reply: &Reply,
 ) {
-    match (shown, lines_of(rt, reply)) {
-        (Ok(shown), Some(want)) => expect_eq(rt, &shown.as_str(), &want.as_str()),
-        (Err(Fault::Refused(OfficeFault::Unknown)), None) => (),
-        _ => panic!(rt; "a look"),
-    }
+    let lines = lines_of(rt, reply).ok_or(Fault::Refused(OfficeFault::Unknown));
+    expect_eq(rt, &text_of(shown), &text_of(&lines));
 }
 
 /// The asking for a member's account by a key that nothing else is asked for by.
@@ -140,19 +179,19 @@ fn audit(key: &'static str) -> Asking {
     }
 }
 
-impl Trial {
-    fn empty(rt: &(impl Abort + Alloc<A = Global>)) -> Trial {
+impl<S: ClubStore> Trial<S> {
+    fn of(rt: &impl Alloc<A = Global>, desk: Desk<S>) -> Trial<S> {
         Trial {
-            desk: empty_desk(rt),
+            desk,
             reference: Club::new(rt.alloc()),
             part: Club::new(rt.alloc()),
             own_keys: Vec::new(rt.alloc()),
         }
     }
 
-    /// The club that each list begins with.
-    pub fn begin(rt: &(impl Abort + Alloc<A = Global>)) -> Trial {
-        let mut trial = Trial::empty(rt);
+    /// The club that each list begins with, from the desk of an empty one.
+    pub fn begin(rt: &(impl Abort + Alloc<A = Global>), desk: Desk<S>) -> Trial<S> {
+        let mut trial = Trial::of(rt, desk);
         for order in &BEGINNING {
             trial.order(rt, order);
         }
@@ -161,7 +200,7 @@ impl Trial {
 
     /// Compares the stored use of each slot with the sum over the reference machine's bookings, and
     /// goes on with the same club, a desk with an empty cache, and amy's part copied anew.
-    pub fn audited(self, rt: &(impl Abort + Alloc<A = Global>)) -> Trial {
+    pub fn audited(self, rt: &(impl Abort + Alloc<A = Global>)) -> Trial<S> {
         let Trial {
             desk,
             reference,
@@ -169,9 +208,7 @@ impl Trial {
             own_keys,
         } = self;
         let mut store = desk.into_store();
-        for slot in &SLOTS {
-            expect_held(rt, &mut store, &reference, *slot);
-        }
+        expect_all_held(rt, &mut store, &reference);
         let part = reference
             .part(&name(rt, AMY.as_bytes()))
             .expect(rt, "memory");
@@ -266,28 +303,34 @@ impl Trial {
         }
     }
 
+    /// Compares what the desk shows of an auditor's account with the reference machine's reply.
+    fn look_at_account(&mut self, rt: &(impl Abort + Alloc<A = Global>), key: &'static str) {
+        let asking = audit(key);
+        let want = reference_reply(rt, &mut self.reference, &asking);
+        let moment = at(rt, asking.moment);
+        let shown = self.desk.show_account(&name(rt, key.as_bytes()), moment);
+        expect_shown(rt, &shown, &want);
+    }
+
+    /// The same of a slot, with the reply to an auditor.
+    fn look_at_slot(&mut self, rt: &(impl Abort + Alloc<A = Global>), slot: PlainSlot) {
+        let asking = Asking {
+            asked: PlainRequest::View(slot),
+            ..audit(AUDIT_AMY)
+        };
+        let want = reference_reply(rt, &mut self.reference, &asking);
+        let shown = self.desk.show_slot(&slot.slot().expect(rt, "a slot"));
+        expect_shown(rt, &shown, &want);
+    }
+
     /// Compares what the desk shows of the auditors' accounts and of the slots with the plain
     /// machine's replies to the auditors.
     pub fn look(&mut self, rt: &(impl Abort + Alloc<A = Global>)) {
         for key in &AUDITORS {
-            let asking = audit(key);
-            let want = reference_reply(rt, &mut self.reference, &asking);
-            let moment = at(rt, asking.moment);
-            let shown = self.desk.show_account(&name(rt, key.as_bytes()), moment);
-            expect_shown(rt, &shown, &want);
+            self.look_at_account(rt, key);
         }
         for slot in &SLOTS {
-            let asked = PlainRequest::View(*slot);
-            let want = reference_reply(
-                rt,
-                &mut self.reference,
-                &Asking {
-                    asked,
-                    ..audit(AUDIT_AMY)
-                },
-            );
-            let shown = self.desk.show_slot(&slot.slot().expect(rt, "a slot"));
-            expect_shown(rt, &shown, &want);
+            self.look_at_slot(rt, *slot);
         }
     }
 
