@@ -75,7 +75,7 @@ pub record HasNoDesk (schema : Schema) : Type 0 where
 abbrev pub YieldsRows : List ℕ → Database → List Row → Type 0
 YieldsRows sql db rows = (c : Compiled) × (understood db.schema sql ≡ Ok c) × Reads c.command db [] rows
 
--- the query for the version returned these rows; they hold the version of the tables that represent the club that was found
+-- the query for the version returned these rows; if a club was found, they hold the version of its tables
 pub record YieldsVersion {S : Type 0} (g : Ghosts S) (old new : Held S) (rows : List Row) : Type 0 where
   pub query : Asked g version_text [] old rows
   pub version_rows : YieldsRows version_text (state g old).now rows

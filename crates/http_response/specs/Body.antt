@@ -46,6 +46,7 @@ abbrev pub caveat_member : Option ℕ → List Member
 caveat_member None = []
 caveat_member (Some n) = (codes "caveat", number n) ∷ []
 
+-- the members of the body of each reply
 abbrev pub members_of : Reply → List Member
 members_of (SlotShown slot kind price places taken closed) =
     (codes "facility", text slot.facility) ∷ (codes "day", text (day_text slot.day)) ∷ (codes "hour", number slot.hour)
@@ -61,5 +62,6 @@ members_of (Refused refusal) =
     (codes "fault", number (details_of refusal).number) ∷ (codes "text", text (details_of refusal).text)
     ∷ caveat_member (caveat_of_refusal refusal)
 
+-- the body of a reply
 abbrev pub body_text : Reply → List ℕ
 body_text reply = object_text (members_of reply)

@@ -35,7 +35,7 @@ fn push_value(line: &mut Line, text: &[u8])
 /// Starts an object with a text.
 #[tactic(auto, unfolding(crate::specs::Body::member_text))]
 fn object_of_text(name: &[u8], value: &[u8]) -> Line
-    requires { length name.now + length value.now ≤ 40 }
+    requires { length name.now + length value.now + 6 ≤ max_line_len }
     ensures text { result ≡ codes "{" ++ spec.member_text (name.now, spec.text value.now) }
     ensures len { length result ≡ length name.now + length value.now + 6 }
 {
