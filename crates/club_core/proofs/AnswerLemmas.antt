@@ -14,7 +14,7 @@ use Rattle.pass_caveats.specs.computed.CaveatOf.{first_fault_of}
 use Rattle.club_core.specs.declared.refusal.Refusal.TheVariants.{NumberUsed}
 use Rattle.club_rows.specs.Booking.{same_slot, refund_at}
 use Rattle.club_core.specs.Lines.{Line, first_of}
-use Rattle.club_core.specs.declared.form_fault.FormFault.{FormFault}
+use Rattle.club_core.specs.declared.pass_fault.PassFault.{PassFault}
 use Rattle.club_core.specs.Pass.{Pass}
 use Rattle.club_core.specs.computed.Pass.{is_signed_under}
 use Rattle.club_core.specs.Verdict.{refusal_verdict, booked_now, booked_before, cancelled_now, new_booking, book_lines, cancel_lines, new_verdict}
@@ -86,7 +86,7 @@ keeps_after_caveats None verdict h = h
 keeps_after_caveats (Some (NotUnderstood n)) verdict h = record { kept = λ r e. refl }
 keeps_after_caveats (Some (Denied n)) verdict h = record { kept = λ r e. refl }
 
-pub keeps_answer : (pass : Result Pass FormFault) (request : Request) (moment : ℕ) (view : Option View) → KeepsWhereRefused (answer_to pass request moment view)
+pub keeps_answer : (pass : Result Pass PassFault) (request : Request) (moment : ℕ) (view : Option View) → KeepsWhereRefused (answer_to pass request moment view)
 keeps_answer (Err fault) request moment view = record { kept = λ r e. refl }
 keeps_answer (Ok pass) request moment None = record { kept = λ r e. refl }
 keeps_answer (Ok pass) request moment (Some view) =

@@ -7,7 +7,7 @@ use Rattle.std.specs.Str.{bytes_eq}
 use Rattle.std.proofs.lemmas.Slice.Eq.{bytes_eq-Decides}
 use Rattle.club_rows.specs.declared.booking.Booking.{Booking}
 use Rattle.club_rows.specs.declared.key.Key.{Key}
-use Rattle.club_core.specs.declared.form_fault.FormFault.{FormFault}
+use Rattle.club_core.specs.declared.pass_fault.PassFault.{PassFault}
 use Rattle.club_core.specs.declared.request.Request.{Request}
 use Rattle.club_core.specs.Answer.{answer_to}
 use Rattle.club_core.specs.Basis.{Basis, basis_under, key_of, view_in, view_of}
@@ -26,7 +26,7 @@ by_name : (club : Club) (pass : Pass) (request : Request) (moment : ℕ) (name :
 by_name club pass request moment None = refl
 by_name club pass request moment (Some name) = refl
 
-pub views_decide : (club : Club) (pass : Result Pass FormFault) (request : Request) (moment : ℕ)
+pub views_decide : (club : Club) (pass : Result Pass PassFault) (request : Request) (moment : ℕ)
     → answer_to pass request moment
     (option_map (λ (b : Basis). view_of b request moment)
     (option_and_then (basis_under club request) (option_and_then (λ (n : List ℕ). key_named n club) (key_of pass))))

@@ -8,8 +8,8 @@ use Rattle.pass_caveats.specs.computed.CaveatOf.{first_fault_of}
 use Rattle.club_rows.specs.declared.facility.Facility.{Facility}
 use Rattle.club_rows.specs.declared.key.Key.{Key}
 use Rattle.club_rows.specs.Facility.{charge_of}
-use Rattle.club_core.specs.declared.form_fault.FormFault.{FormFault}
-use Rattle.club_core.specs.declared.form_fault.FormFault.TheVariants.{TooLong, Malformed, ThirdParty, TooMany}
+use Rattle.club_core.specs.declared.pass_fault.PassFault.{PassFault}
+use Rattle.club_core.specs.declared.pass_fault.PassFault.TheVariants.{TooLong, Malformed, ThirdParty, TooMany}
 use Rattle.club_core.specs.declared.view.View.{View}
 use Rattle.club_core.specs.declared.verdict.Verdict.{Verdict}
 use Rattle.club_core.specs.declared.refusal.Refusal.{Refusal}
@@ -42,7 +42,7 @@ ask_of view request moment = record {
   spent = view.spent;
 }
 
-abbrev pub form_refusal : FormFault → Refusal
+abbrev pub form_refusal : PassFault → Refusal
 form_refusal TooLong = PassTooLong
 form_refusal Malformed = PassMalformed
 form_refusal ThirdParty = ThirdPartyCaveat
@@ -65,7 +65,7 @@ answer_by_view (Some view) is_signed fault request moment =
     first_of (acceptance_lines view.key is_signed) (after_caveats fault (verdict_of view request moment))
 
 -- the answer to a text, by the view of the key that it names
-abbrev pub answer_to : Result Pass FormFault → Request → ℕ → Option View → Verdict
+abbrev pub answer_to : Result Pass PassFault → Request → ℕ → Option View → Verdict
 answer_to (Err fault) request moment view = refusal_verdict (form_refusal fault)
 answer_to (Ok pass) request moment None = answer_by_view None false None request moment
 answer_to (Ok pass) request moment (Some view) =

@@ -6,7 +6,7 @@ use Rattle.club_rows.specs.declared.facility.Facility.{Facility}
 use Rattle.club_rows.specs.declared.key.Key.{Key}
 use Rattle.club_rows.specs.declared.booking.Booking.{Booking}
 use Rattle.club_core.specs.declared.account.MemberAccount.{MemberAccount}
-use Rattle.club_core.specs.declared.form_fault.FormFault.{FormFault}
+use Rattle.club_core.specs.declared.pass_fault.PassFault.{PassFault}
 use Rattle.club_core.specs.declared.request.Request.{Request}
 use Rattle.club_core.specs.declared.slot_use.SlotUse.{SlotUse}
 use Rattle.club_core.specs.declared.view.View.{View}
@@ -60,7 +60,7 @@ basis_under club request key =
     (member_named key.member club)
 
 -- the key that a text names: none if the text isn't a pass, or its identifier names no key
-abbrev pub key_of : Result Pass FormFault → Option (List ℕ)
+abbrev pub key_of : Result Pass PassFault → Option (List ℕ)
 key_of (Ok pass) = pass.key
 key_of (Err fault) = None
 

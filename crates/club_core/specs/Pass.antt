@@ -3,7 +3,7 @@ use Rattle.std.specs.Prelude.{◌≡◌, ◌⊎◌, ℕ, Bool, IsTrue, List, Opt
 use Rattle.pass_caveats.specs.declared.caveat.Caveat.{Caveat}
 use Rattle.club_rows.specs.declared.key.Key.{Key}
 use Rattle.club_rows.specs.Key.{older_root_at}
-use Rattle.club_core.specs.declared.form_fault.FormFault.{FormFault}
+use Rattle.club_core.specs.declared.pass_fault.PassFault.{PassFault}
 use Rattle.club_core.specs.declared.request.Request.{Request}
 
 -- a parsed pass: the key that its identifier names, if any; each caveat, if it is understood; and the roots under which it is signed
@@ -14,7 +14,7 @@ pub record Pass : Type 0 where
 
 -- the words of a request: the parsed pass or the text's fault, and the request. The form of the text isn't part of them
 pub record Words : Type 0 where
-  pub pass : Result Pass FormFault
+  pub pass : Result Pass PassFault
   pub request : Request
 
 -- a root is good at a moment if it is the key's root, or its older root and the moment is before that root's end

@@ -6,7 +6,7 @@ use Rattle.std.specs.Vec.{vec_items}
 use Rattle.pass_caveats.specs.computed.CaveatOf.{caveat_of}
 use Rattle.club_core.specs.declared.event.Event.{Event as EventInCode}
 use Rattle.club_core.specs.declared.event.Event.TheVariants as events
-use Rattle.club_core.specs.declared.form_fault.FormFault.{FormFault}
+use Rattle.club_core.specs.declared.pass_fault.PassFault.{PassFault}
 use Rattle.club_core.specs.declared.words.Pass.{Pass as PassInCode}
 use Rattle.club_core.specs.declared.words.Words.{Words as WordsInCode}
 use Rattle.club_core.specs.Pass.{Pass, Words}
@@ -20,7 +20,7 @@ pass_model pass = record {
   is_signed = λ root. list_any (λ other. bytes_eq other root) pass.roots.items;
 }
 
-abbrev pub pass_result_model : Result PassInCode FormFault → Result Pass FormFault
+abbrev pub pass_result_model : Result PassInCode PassFault → Result Pass PassFault
 pass_result_model (Ok pass) = Ok (pass_model pass)
 pass_result_model (Err fault) = Err fault
 

@@ -8,7 +8,7 @@ mod change;
 mod command;
 mod decisions;
 mod event;
-mod form_fault;
+mod pass_fault;
 pub mod laws;
 mod order_view;
 mod orders;
@@ -34,7 +34,7 @@ pub use club_rows::{
 pub use command::{Command, MAX_POINTS, OfficeFault};
 pub use decisions::{decide, decide_account, decide_book, decide_cancel, decide_view};
 pub use event::{Event, EventReply, OfficeAnswer};
-pub use form_fault::FormFault;
+pub use pass_fault::PassFault;
 pub use order_view::OrderView;
 pub use orders::decide_order;
 pub use refusal::{Methods, Refusal};

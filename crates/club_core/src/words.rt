@@ -4,7 +4,7 @@ ghost use Rattle.std.specs.Prelude.{◌≡◌};
 ghost use Rattle.std.specs.Option.{option_copied};
 
 use crate::acceptance::answer;
-use crate::form_fault::FormFault;
+use crate::pass_fault::PassFault;
 use crate::request::Request;
 use crate::verdict::Verdict;
 use crate::view::View;
@@ -27,7 +27,7 @@ pub struct Pass {
 /// which the pass was written isn't part of them.
 #[derive(Drop)]
 pub struct Words {
-    pub pass: Result<Pass, FormFault>,
+    pub pass: Result<Pass, PassFault>,
     pub request: Request,
 }
 

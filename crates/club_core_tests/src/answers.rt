@@ -4,7 +4,7 @@ use crate::exchange::{Expected, Shown};
 use crate::expect::expect_row;
 use crate::fixture::{AFTER_7, FRESH, Seen};
 use crate::values::moment;
-use club_core::{FormFault, Refusal, Verdict, Words};
+use club_core::{PassFault, Refusal, Verdict, Words};
 use club_values::Moment;
 use std::alloc::Global;
 use std::process::Abort;
@@ -130,7 +130,7 @@ fn caveats_by_their_positions(rt: HostRuntime) {
 fn is_refused(
     rt: &(impl Abort + Alloc<A = Global>),
     number: usize,
-    fault: FormFault,
+    fault: PassFault,
     refusal: Refusal,
 ) {
     let (shown, outcome) = (Shown::NoPass(fault), Expected::Refused(refusal));

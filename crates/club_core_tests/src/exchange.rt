@@ -1,7 +1,7 @@
 //! Passes and expected answers, as plain values.
 
 use crate::values::name;
-use club_core::{Change, FormFault, Pass, Refusal, Verdict, Words};
+use club_core::{Change, PassFault, Pass, Refusal, Verdict, Words};
 use club_values::Name;
 use std::alloc::Global;
 use std::process::Abort;
@@ -15,7 +15,7 @@ pub(crate) enum Shown {
     /// An unsigned pass whose identifier names no key.
     Unnamed,
     /// A text that isn't a pass, with this fault.
-    NoPass(FormFault),
+    NoPass(PassFault),
 }
 
 /// The expected reply, with its change.
@@ -60,7 +60,7 @@ impl Shown {
         }
     }
 
-    fn pass(&self, rt: &(impl Abort + Alloc<A = Global>)) -> Result<Pass, FormFault> {
+    fn pass(&self, rt: &(impl Abort + Alloc<A = Global>)) -> Result<Pass, PassFault> {
         match self {
             Shown::Pass(root, caveats) => {
                 Ok(signed_pass(rt.alloc(), self.key(rt), root, caveats).expect(rt, "a pass"))

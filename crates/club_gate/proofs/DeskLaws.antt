@@ -8,7 +8,7 @@ use Rattle.pass_caveats.specs.declared.caveat.Caveat.{Caveat}
 use Rattle.pass_caveats.specs.computed.CaveatOf.{caveat_of}
 use Rattle.pass_caveats.specs.Fault.{Allowed, Allows}
 use Rattle.pass_caveats.specs.Laws.{ReadsWhatIsUnderstood}
-use Rattle.pass_forms.specs.declared.fault.FormFault.{FormFault as Fault}
+use Rattle.pass_forms.specs.declared.fault.FormFault.{FormFault}
 use Rattle.pass_forms.specs.declared.form.Form.{Form}
 use Rattle.pass_forms.specs.Pass.{Plain}
 use Rattle.pass_forms.specs.Laws.{DecidesSigned}
@@ -16,7 +16,7 @@ use Rattle.pass_json.specs.AnyForm.{IsAnyReading}
 use Rattle.pass_json.specs.Laws.{ReadsAnyFormExactly}
 use Rattle.pass_json.specs.computed.AnyForm.{reading}
 use Rattle.club_rows.specs.declared.key.Key.{Key}
-use Rattle.club_core.specs.declared.form_fault.FormFault.{FormFault}
+use Rattle.club_core.specs.declared.pass_fault.PassFault.{PassFault}
 use Rattle.club_core.specs.declared.refusal.Refusal.TheVariants.{Unavailable}
 use Rattle.club_core.specs.declared.reply.Reply.{Reply}
 use Rattle.club_core.specs.declared.reply.Reply.TheVariants.{Refused}
@@ -61,7 +61,7 @@ served_reply club words moment reply (inl e) h = absurd (not_served reply e h)
 served_reply club words moment reply (inr e) h = e
 
 -- the parsed pass behind a decoded one
-decoded_read : (read : Result (Form × Plain) Fault) (pass : Pass) → decoded_or_fault (without_form read) ≡ Ok pass
+decoded_read : (read : Result (Form × Plain) FormFault) (pass : Pass) → decoded_or_fault (without_form read) ≡ Ok pass
     → (found : Form × Plain) × (read ≡ Ok found) × (machine_pass found.1 ≡ pass)
 decoded_read (Ok found) pass e = let same : machine_pass found.1 ≡ pass = cc in (found, refl, same)
 decoded_read (Err fault) pass e = absurd (cc)
@@ -118,7 +118,7 @@ served_text serves reads signed_law finds understood club text request moment by
 decodes_as : ReadsAnyFormExactly → (text : List ℕ) (form : Form) (plain : Plain) → IsBytes text → IsAnyReading text (Ok (form, plain))
     → decoded_pass text ≡ Ok (machine_pass plain)
 decodes_as reads text form plain bytes h = ap
-    (λ (r : Result (Form × Plain) Fault). decoded_or_fault (without_form r)) ((reads text (Ok (form, plain)) bytes).0 h)
+    (λ (r : Result (Form × Plain) FormFault). decoded_or_fault (without_form r)) ((reads text (Ok (form, plain)) bytes).0 h)
 
 -- texts of one pass are answered alike
 forms_alike : ReadsAnyFormExactly
@@ -127,7 +127,7 @@ forms_alike : ReadsAnyFormExactly
     → reply_in club text request moment ≡ reply_in club other request moment
 forms_alike reads club text other request moment form other_form plain a b h k =
     let same : decoded_pass text ≡ decoded_pass other = decodes_as reads text form plain a h ∙ sym (decodes_as reads other other_form plain b k) in
-    ap (λ (s : Result Pass FormFault). (verdict_in club (record { pass = s; request = request }) moment).reply) same
+    ap (λ (s : Result Pass PassFault). (verdict_in club (record { pass = s; request = request }) moment).reply) same
 
 answers_forms : ReadsAnyFormExactly → (club : Club) (text : List ℕ) (request : Request) (moment : ℕ) (reply : Reply)
     → IsBytes text → (reply ≡ unavailable) ⊎ (reply ≡ reply_in club text request moment)
@@ -157,7 +157,7 @@ opens_no_more serves more reads signed_law finds club text wide request moment b
     let narrow = machine_pass n.other_pass in
     let broad_decoded = decodes_as reads wide n.form n.pass wide_bytes n.wide_read in
     let narrow_decoded = decodes_as reads text n.other_form n.other_pass bytes n.narrow_read in
-    let reply : Result Pass FormFault → Reply = λ s. (verdict_in club (record { pass = s; request = request }) moment).reply in
+    let reply : Result Pass PassFault → Reply = λ s. (verdict_in club (record { pass = s; request = request }) moment).reply in
     let P : Reply → Type 0 = λ r. IsServed r in
     let there : IsServed (verdict_in club (words_with narrow request) moment).reply = subst P (ap reply narrow_decoded) served in
     let entitled = serves (words_with narrow request) moment club there in

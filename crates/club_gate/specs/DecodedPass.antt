@@ -2,14 +2,14 @@
 use Rattle.std.specs.Prelude.{◌≢◌, ℕ, List, map, Result, Ok, Err}
 use Rattle.base64.specs.GeneralPurpose.{IsBytes}
 use Rattle.pass_caveats.specs.computed.CaveatOf.{caveat_of}
-use Rattle.pass_forms.specs.declared.fault.FormFault.{FormFault as Fault}
+use Rattle.pass_forms.specs.declared.fault.FormFault.{FormFault}
 use Rattle.pass_forms.specs.declared.fault.FormFault.TheVariants as faults
 use Rattle.pass_forms.specs.declared.form.Form.{Form}
 use Rattle.pass_forms.specs.Pass.{Plain}
 use Rattle.pass_forms.specs.computed.Pass.{is_signed}
 use Rattle.pass_json.specs.computed.AnyForm.{reading}
-use Rattle.club_core.specs.declared.form_fault.FormFault.{FormFault}
-use Rattle.club_core.specs.declared.form_fault.FormFault.TheVariants.{TooLong, Malformed, ThirdParty, TooMany}
+use Rattle.club_core.specs.declared.pass_fault.PassFault.{PassFault}
+use Rattle.club_core.specs.declared.pass_fault.PassFault.TheVariants.{TooLong, Malformed, ThirdParty, TooMany}
 use Rattle.club_core.specs.declared.request.Request.{Request}
 use Rattle.club_core.specs.Pass.{Pass, Words}
 use Rattle.club_gate.specs.Identifier.{key_name_in}
@@ -23,7 +23,7 @@ machine_pass pass = record {
 }
 
 -- the fault of a text; no text reads as `Memory`, as `ReadsNoLackOfMemory` says
-abbrev pub fault_of : Fault → FormFault
+abbrev pub fault_of : FormFault → PassFault
 fault_of faults.TooLong = TooLong
 fault_of faults.Malformed = Malformed
 fault_of faults.ThirdParty = ThirdParty
@@ -31,16 +31,16 @@ fault_of faults.TooMany = TooMany
 fault_of faults.Memory = Malformed
 
 -- a parsed pass as the rules see it, or the fault of the text
-abbrev pub decoded_or_fault : Result Plain Fault → Result Pass FormFault
+abbrev pub decoded_or_fault : Result Plain FormFault → Result Pass PassFault
 decoded_or_fault (Ok pass) = Ok (machine_pass pass)
 decoded_or_fault (Err fault) = Err (fault_of fault)
 
-abbrev pub without_form : Result (Form × Plain) Fault → Result Plain Fault
+abbrev pub without_form : Result (Form × Plain) FormFault → Result Plain FormFault
 without_form (Ok read) = Ok read.1
 without_form (Err fault) = Err fault
 
 -- the pass that a text spells, or the fault of the text
-abbrev pub decoded_pass : List ℕ → Result Pass FormFault
+abbrev pub decoded_pass : List ℕ → Result Pass PassFault
 decoded_pass text = decoded_or_fault (without_form (reading text))
 
 -- the words of a request with this text

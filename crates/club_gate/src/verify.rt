@@ -40,7 +40,7 @@ use crate::signing::Signing;
 use crate::walk::is_signed;
 use club_core::laws::{looks_no_further, own_bookings_suffice, views_decide};
 use club_core::{
-    ClubStore, FormFault as PassFault, Refusal, Request, SentWords, StoreFault, Verdict, answer,
+    ClubStore, PassFault, Refusal, Request, SentWords, StoreFault, Verdict, answer,
 };
 use club_rows::Key;
 use club_values::Moment;

@@ -23,8 +23,8 @@ use Rattle.club_core.specs.declared.request.Request.TheVariants as asked
 use Rattle.club_rows.specs.Booking.{same_slot, refund_at}
 use Rattle.club_rows.specs.Facility.{charge_of}
 use Rattle.club_core.specs.Lines.{Line, first_of}
-use Rattle.club_core.specs.declared.form_fault.FormFault.{FormFault}
-use Rattle.club_core.specs.declared.form_fault.FormFault.TheVariants.{TooLong, Malformed, ThirdParty, TooMany}
+use Rattle.club_core.specs.declared.pass_fault.PassFault.{PassFault}
+use Rattle.club_core.specs.declared.pass_fault.PassFault.TheVariants.{TooLong, Malformed, ThirdParty, TooMany}
 use Rattle.club_core.specs.Pass.{Pass, Words}
 use Rattle.club_core.specs.computed.Pass.{is_signed_under}
 use Rattle.club_core.specs.Club.{Club, facility_named, is_key_of, bookings_of, is_closed}
@@ -135,7 +135,7 @@ module _ (P : Verdict → Type 0) (club : Club) (words : Words) (moment : ℕ) (
   refused_cases : (refusal : Refusal) → IsSilent (Refused refusal) → P (verdicts.refusal_verdict refusal)
   refused_cases refusal h = w.silent (Refused refusal) h
 
-  form_cases : (fault : FormFault) → P (verdicts.refusal_verdict (form_refusal fault))
+  form_cases : (fault : PassFault) → P (verdicts.refusal_verdict (form_refusal fault))
   form_cases TooLong = refused_cases refusals.PassTooLong tt
   form_cases Malformed = refused_cases refusals.PassMalformed tt
   form_cases ThirdParty = refused_cases refusals.ThirdPartyCaveat tt
@@ -244,7 +244,7 @@ module _ (P : Verdict → Type 0) (club : Club) (words : Words) (moment : ℕ) (
       (refused_cases refusals.NotVerified tt, (refused_cases refusals.KeyRevoked tt, tt))
       (λ none. caveat_cases fault verdict (verdict_cases key member k words.request refl))
 
-  text_cases : (pass : Result Pass FormFault) (basis : Option Basis) → basis_of club words ≡ basis
+  text_cases : (pass : Result Pass PassFault) (basis : Option Basis) → basis_of club words ≡ basis
       → P (answer_to pass words.request moment (option_map (λ (b : Basis). view_of b words.request moment) basis))
   text_cases (Err fault) basis e = form_cases fault
   text_cases (Ok pass) None e = refused_cases refusals.NotVerified tt

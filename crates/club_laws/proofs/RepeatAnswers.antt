@@ -13,7 +13,7 @@ use Rattle.club_core.specs.declared.request.Request.TheVariants as asked
 use Rattle.club_rows.specs.Booking.{same_slot, refund_at}
 use Rattle.club_core.specs.Sums.{booking_under}
 use Rattle.club_core.specs.Request.{request_number}
-use Rattle.club_core.specs.declared.form_fault.FormFault.{FormFault}
+use Rattle.club_core.specs.declared.pass_fault.PassFault.{PassFault}
 use Rattle.club_core.specs.Pass.{Pass, Words}
 use Rattle.club_core.specs.Club.{Club}
 use Rattle.club_core.specs.Basis.{Basis, key_of, basis_of, view_of}
@@ -81,7 +81,7 @@ accepted_answer : (club : Club) (words : Words) (moment : ℕ) (a : IsAcceptedIn
     → verdict_in club words moment ≡ verdicts.verdict_of (view_of a.basis words.request moment) words.request moment
 accepted_answer club words moment a =
     let seen : Option Basis → Option View = λ basis. option_map (λ (b : Basis). view_of b words.request moment) basis in
-    ap (λ (pass : Result Pass FormFault). answer_to pass words.request moment (seen (basis_of club words))) a.read
+    ap (λ (pass : Result Pass PassFault). answer_to pass words.request moment (seen (basis_of club words))) a.read
     ∙ (ap (λ (basis : Option Basis). answer_to (Ok a.pass) words.request moment (seen basis)) a.known
     ∙ accepted_under a.pass words.request moment (view_of a.basis words.request moment) a.acceptance)
 

@@ -17,7 +17,7 @@ use Rattle.club_core.specs.declared.refusal.Refusal.{Refusal}
 use Rattle.club_core.specs.declared.refusal.Refusal.TheVariants.{NotVerified, KeyRevoked, CaveatNotUnderstood, CaveatDenies}
 use Rattle.club_core.specs.declared.request.Request.{Request}
 use Rattle.club_core.specs.declared.verdict.Verdict.{Verdict}
-use Rattle.club_core.specs.declared.form_fault.FormFault.{FormFault}
+use Rattle.club_core.specs.declared.pass_fault.PassFault.{PassFault}
 use Rattle.club_core.specs.Pass.{Pass, Words, IsSignedUnder}
 use Rattle.club_core.specs.computed.Pass.{is_signed_under}
 use Rattle.club_core.specs.Club.{Club, key_named}
@@ -83,7 +83,7 @@ faultless_front n (Some caveat ∷ caveats) more ask e =
     ap (λ (b : Bool). cond b (first_fault_from (n + 1) caveats ask) (Some (Denied n))) parts.0 ∙ rest
 
 -- so what is served is entitled
-pub served_entitled : TestsTheSet → TestsTheSignature → (words : Words) (moment : ℕ) (club : Club) (pass : Result Pass FormFault) (basis : Option Basis)
+pub served_entitled : TestsTheSet → TestsTheSignature → (words : Words) (moment : ℕ) (club : Club) (pass : Result Pass PassFault) (basis : Option Basis)
     → words.pass ≡ pass → basis_of club words ≡ basis → IsServed (answer_to pass words.request moment
     (option_map (λ (b : Basis). view_of b words.request moment) basis)).reply → IsEntitled club words moment
 served_entitled set signature words moment club (Err fault) basis e f h = absurd (h (form_refusal fault) refl)
@@ -104,7 +104,7 @@ served_entitled set signature words moment club (Ok pass) (Some basis) e f h =
     }
 
 -- without a basis
-pub refused_blind : (pass : Result Pass FormFault) (request : Request) (moment : ℕ) → answer_to pass request moment None ≡ refusal_verdict (blind_refusal pass)
+pub refused_blind : (pass : Result Pass PassFault) (request : Request) (moment : ℕ) → answer_to pass request moment None ≡ refusal_verdict (blind_refusal pass)
 refused_blind (Err fault) request moment = refl
 refused_blind (Ok pass) request moment = refl
 
@@ -137,7 +137,7 @@ unsigned_in signature words moment club pass key e n row unsigned =
     let is_false : is_signed_under pass key moment ≡ false =
     false_from_ne_true (is_signed_under pass key moment) (λ signed. unsigned ((signature pass key moment).0 signed))
     in
-    ap (λ (p : Result Pass FormFault). answer_to p words.request moment view) e
+    ap (λ (p : Result Pass PassFault). answer_to p words.request moment view) e
     ∙ refused_unsigned pass words.request moment view
     (λ v is. subst (λ (k : Key). is_signed_under pass k moment ≡ false) (seen_key club words moment key (ap key_of e ∙ n) row (basis_of club words) refl v is)
     is_false)

@@ -2,7 +2,7 @@
 use Rattle.std.specs.Prelude.{◌≡◌, ℕ, List, ◌++◌, Option, Some, None, Result, Ok, Err}
 use Rattle.pass_caveats.specs.declared.caveat.Caveat.{Caveat}
 use Rattle.club_rows.specs.declared.key.Key.{Key}
-use Rattle.club_core.specs.declared.form_fault.FormFault.{FormFault}
+use Rattle.club_core.specs.declared.pass_fault.PassFault.{PassFault}
 use Rattle.club_core.specs.declared.refusal.Refusal.{Refusal}
 use Rattle.club_core.specs.declared.refusal.Refusal.TheVariants.{NotVerified}
 use Rattle.club_core.specs.declared.request.Request.{Request}
@@ -20,7 +20,7 @@ DependsOnTheBasisAlone =
     (words : Words) (moment : ℕ) (a b : Club) → basis_of a words ≡ basis_of b words → verdict_in a words moment ≡ verdict_in b words moment
 
 -- the refusal without a basis: the fault of the text, or that the pass isn't verified
-abbrev pub blind_refusal : Result Pass FormFault → Refusal
+abbrev pub blind_refusal : Result Pass PassFault → Refusal
 blind_refusal (Err fault) = form_refusal fault
 blind_refusal (Ok pass) = NotVerified
 

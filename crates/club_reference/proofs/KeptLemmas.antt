@@ -24,7 +24,7 @@ use Rattle.club_core.specs.declared.request.Request.TheVariants as asked
 use Rattle.club_core.specs.Lines.{line_if, first_of}
 use Rattle.club_rows.specs.Booking.{same_slot, refund_at}
 use Rattle.club_rows.specs.Facility.{charge_of, is_bookable}
-use Rattle.club_core.specs.declared.form_fault.FormFault.{FormFault}
+use Rattle.club_core.specs.declared.pass_fault.PassFault.{PassFault}
 use Rattle.club_core.specs.Pass.{Pass, Words}
 use Rattle.club_core.specs.computed.Pass.{is_signed_under}
 use Rattle.club_core.specs.Club.{Club, member_named, facility_named, key_named, is_key_of, bookings_of}
@@ -178,7 +178,7 @@ keeps_after_caveats club (Some (NotUnderstood n)) verdict h = keeps_reply_only c
 keeps_after_caveats club (Some (Denied n)) verdict h = keeps_reply_only club _
 
 -- the answer by the view of a basis
-abbrev answer_text : Result Pass FormFault → Request → ℕ → Option Basis → Verdict
+abbrev answer_text : Result Pass PassFault → Request → ℕ → Option Basis → Verdict
 answer_text text request moment basis = answer_to text request moment (option_map (λ (b : Basis). view_of b request moment) basis)
 
 abbrev answer_by : Pass → Request → ℕ → Option Basis → Verdict
@@ -233,7 +233,7 @@ keeps_name : (club : Club) (name : Option (List ℕ)) (pass : Pass) (request : R
 keeps_name club None pass request moment h = keeps_reply_only club _
 keeps_name club (Some name) pass request moment h = keeps_key club name pass request moment (key_named name club) h refl
 
-keeps_text : (club : Club) (text : Result Pass FormFault) (request : Request) (moment : ℕ) → FitsWidths club
+keeps_text : (club : Club) (text : Result Pass PassFault) (request : Request) (moment : ℕ) → FitsWidths club
     → Keeps club (answer_text text request moment (option_and_then (basis_under club request) (key_in club (key_of text))))
 keeps_text club (Err fault) request moment h = keeps_reply_only club _
 keeps_text club (Ok pass) request moment h = keeps_name club pass.key pass request moment h
@@ -253,7 +253,7 @@ keeps_name_alone : (club : Club) (others : SlotUse) (name : Option (List ℕ)) (
 keeps_name_alone club others None pass request moment h = keeps_reply_only club _
 keeps_name_alone club others (Some name) pass request moment h = keeps_key_alone club others name pass request moment (key_named name club) h refl
 
-keeps_text_alone : (club : Club) (others : SlotUse) (text : Result Pass FormFault) (request : Request) (moment : ℕ) → FitsWidths club
+keeps_text_alone : (club : Club) (others : SlotUse) (text : Result Pass PassFault) (request : Request) (moment : ℕ) → FitsWidths club
     → Keeps club (answer_text text request moment (option_map (with_others others) (option_and_then (basis_under club request) (key_in club (key_of text)))))
 keeps_text_alone club others (Err fault) request moment h = keeps_reply_only club _
 keeps_text_alone club others (Ok pass) request moment h = keeps_name_alone club others pass.key pass request moment h

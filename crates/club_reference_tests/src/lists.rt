@@ -3,7 +3,7 @@
 use crate::answers::Answer;
 use crate::messages::{AMY, AMY_CHANGED, BOB, Shown, Step};
 use crate::play::{plays_by_each_call, plays_list};
-use club_core::{FormFault, OfficeFault, Refusal};
+use club_core::{PassFault, OfficeFault, Refusal};
 use std::alloc::Global;
 use std::process::Abort;
 use std::test::*;
@@ -110,7 +110,7 @@ fn closes_a_slot(rt: HostRuntime) {
 }
 
 /// Ends the test unless a text that is no pass for this fault is refused so.
-fn is_refused(rt: &(impl Abort + Alloc<A = Global>), fault: FormFault, refusal: Refusal) {
+fn is_refused(rt: &(impl Abort + Alloc<A = Global>), fault: PassFault, refusal: Refusal) {
     let (shown, refused) = (Shown::NoPass(fault), PlainReply::Refused(refusal));
     plays_by_each_call(rt, &[Step::Asks(NOON, shown, ACCOUNT, refused)]);
 }

@@ -1,7 +1,7 @@
 //! Passes as plain values, and the steps of worked lists.
 
 use crate::answers::Answer;
-use club_core::{Event, EventReply, FormFault, Pass, Request, Words};
+use club_core::{Event, EventReply, PassFault, Pass, Request, Words};
 use club_values::{Moment, Name};
 use std::alloc::Global;
 use std::process::Abort;
@@ -14,7 +14,7 @@ pub(crate) enum Shown {
     /// A pass of this key, signed under this root, with these caveats.
     Pass(&'static str, &'static [u8], &'static [&'static str]),
     /// A text that is no pass, for this fault.
-    NoPass(FormFault),
+    NoPass(PassFault),
 }
 
 /// A step of a worked list.
@@ -40,7 +40,7 @@ fn pass(rt: &(impl Abort + Alloc<A = Global>), key: &str, root: &[u8], caveats: 
 }
 
 impl Shown {
-    fn pass(&self, rt: &(impl Abort + Alloc<A = Global>)) -> Result<Pass, FormFault> {
+    fn pass(&self, rt: &(impl Abort + Alloc<A = Global>)) -> Result<Pass, PassFault> {
         match self {
             Shown::Pass(key, root, caveats) => Ok(pass(rt, key, root, caveats)),
             Shown::NoPass(fault) => Err(*fault),

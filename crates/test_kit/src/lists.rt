@@ -10,7 +10,7 @@ use crate::requests::{
     ACCOUNT, BOOK_7, BOOK_7_ALONE, BOOK_7_AT_21, BOOK_7_AT_22, BOOK_7_FOR_TWO, BOOK_8_AT_19,
     BOOK_ROOM, CANCEL_7, CANCEL_OTHER, CANCEL_ROOM, PlainRequest, VIEW,
 };
-use club_core::{FormFault, Refusal};
+use club_core::{PassFault, Refusal};
 
 /// A pass of this key with these caveats, signed under `ROOT`.
 #[derive(Clone, Copy)]
@@ -94,9 +94,9 @@ pub static CAVEATS: [PlainStep; 3] = [
 ];
 
 /// The refusal of any request with a text that is no pass, by its fault.
-pub static NO_PASSES: [(FormFault, Refusal); 4] = [
-    (FormFault::TooLong, Refusal::PassTooLong),
-    (FormFault::Malformed, Refusal::PassMalformed),
-    (FormFault::ThirdParty, Refusal::ThirdPartyCaveat),
-    (FormFault::TooMany, Refusal::TooManyCaveats),
+pub static NO_PASSES: [(PassFault, Refusal); 4] = [
+    (PassFault::TooLong, Refusal::PassTooLong),
+    (PassFault::Malformed, Refusal::PassMalformed),
+    (PassFault::ThirdParty, Refusal::ThirdPartyCaveat),
+    (PassFault::TooMany, Refusal::TooManyCaveats),
 ];

@@ -6,7 +6,7 @@ use crate::refusal::Refusal;
 
 /// Why a text isn't a pass.
 #[derive(Clone, Copy, Debug, PartialEq, Eq)]
-pub enum FormFault {
+pub enum PassFault {
     /// The text has too many bytes.
     TooLong,
     /// The text isn't a pass in any form.
@@ -17,7 +17,7 @@ pub enum FormFault {
     TooMany,
 }
 
-impl FormFault {
+impl PassFault {
     ghost use Rattle.club_core.specs.Answer.{form_refusal};
 
     /// The refusal for this fault.
@@ -25,10 +25,10 @@ impl FormFault {
         ensures { result ≡ form_refusal self }
     {
         match self {
-            FormFault::TooLong => Refusal::PassTooLong,
-            FormFault::Malformed => Refusal::PassMalformed,
-            FormFault::ThirdParty => Refusal::ThirdPartyCaveat,
-            FormFault::TooMany => Refusal::TooManyCaveats,
+            PassFault::TooLong => Refusal::PassTooLong,
+            PassFault::Malformed => Refusal::PassMalformed,
+            PassFault::ThirdParty => Refusal::ThirdPartyCaveat,
+            PassFault::TooMany => Refusal::TooManyCaveats,
         }
     }
 }
