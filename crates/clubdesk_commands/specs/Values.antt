@@ -3,6 +3,7 @@ use Rattle.std.specs.Prelude.{ℕ, ◌&&◌, List, length, nat_le, if◌then◌e
 use Rattle.hex.specs.Hex.{decode_of}
 use Rattle.hex.specs.declared.error.FromHexError.{FromHexError}
 use Rattle.club_values.specs.Number.{number_of_digits}
+use Rattle.club_rows.specs.Limits.{max_root_len, min_root_len}
 
 -- 1 to 9 decimal digits
 unfoldable pub parse_number : List ℕ → Option ℕ
@@ -29,7 +30,7 @@ abbrev pub patience_of : List ℕ → Option ℕ
 patience_of text = where_between 1 3_600 (parse_number text)
 
 abbrev pub has_key_root_length : List ℕ → Option (List ℕ)
-has_key_root_length bytes = if nat_le 16 (length bytes) && nat_le (length bytes) 64 then Some bytes else None
+has_key_root_length bytes = if nat_le min_root_len (length bytes) && nat_le (length bytes) max_root_len then Some bytes else None
 
 abbrev pub key_root_among : Result (List ℕ) FromHexError → Option (List ℕ)
 key_root_among (Ok bytes) = has_key_root_length bytes
