@@ -156,7 +156,7 @@ static AGAIN: [Row; 6] = [
 ];
 
 /// The reply to a row's request, and what the desk asked of its store for it.
-fn answered<S: ClubStore + Drop>(
+fn reply_and_calls<S: ClubStore + Drop>(
     rt: &(impl Abort + Alloc<A = Global>),
     mut desk: Desk<Refusing<S>>,
     form: Form,
@@ -176,9 +176,9 @@ fn reads(
     row: &Row,
 ) {
     let (_, _, expected, calls) = row;
-    let (answered, asked) = answered(rt, counted_fixture(rt, is_booked), form, row);
+    let (answer, asked) = reply_and_calls(rt, counted_fixture(rt, is_booked), form, row);
     let want = expected.reply().expect(rt, "a reply");
-    expect_row(rt, place, &answered, &want);
+    expect_row(rt, place, &answer, &want);
     expect_row(rt, place, &asked, calls);
 }
 

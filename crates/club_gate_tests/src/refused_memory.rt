@@ -30,7 +30,7 @@ fn new_store(rt: &(impl Abort + Alloc<A = Global>)) -> MemoryStore {
 const UNAVAILABLE: Reply = Reply::Refused(Refusal::Unavailable);
 
 /// The reply at noon; by a second call if the first is out of memory.
-fn replied<S: ClubStore>(
+fn reply_at_noon<S: ClubStore>(
     rt: &impl Abort,
     desk: &mut Desk<S>,
     pass: &str,
@@ -48,43 +48,43 @@ const AT_19: PlainSlot = COURT_AT_19;
 /// What amy's key sees of the club: her account, and two slots.
 fn seen<S: ClubStore>(rt: &impl Abort, desk: &mut Desk<S>) -> [Reply; 3] {
     [
-        replied(rt, desk, AMY_V2, &ACCOUNT),
-        replied(rt, desk, AMY_V2, &VIEW),
-        replied(rt, desk, AMY_V2, &PlainRequest::View(AT_19)),
+        reply_at_noon(rt, desk, AMY_V2, &ACCOUNT),
+        reply_at_noon(rt, desk, AMY_V2, &VIEW),
+        reply_at_noon(rt, desk, AMY_V2, &PlainRequest::View(AT_19)),
     ]
 }
 
 const OUT_OF_MEMORY: OfficeReply = OfficeReply::Refused(Fault::Store(StoreFault::Memory));
 
-fn answered<S: ClubStore>(rt: &impl Abort, desk: &mut Desk<S>, order: &Order) -> OfficeReply {
+fn office_reply<S: ClubStore>(rt: &impl Abort, desk: &mut Desk<S>, order: &Order) -> OfficeReply {
     desk.office(&order.command().expect(rt, "an order"))
 }
 
 /// Ends the test unless the office gets this answer. If the first call is out of memory, the club
 /// must be unchanged, and a second call must get it.
-fn is_answered<S: ClubStore>(
+fn expect_answer<S: ClubStore>(
     rt: &impl Abort,
     desk: &mut Desk<S>,
     order: &Order,
     answer: &OfficeReply,
 ) {
     let before = seen(rt, desk);
-    let first = answered(rt, desk, order);
+    let first = office_reply(rt, desk, order);
     if first != OUT_OF_MEMORY {
         expect_eq(rt, &first, answer);
         return;
     }
     expect_eq(rt, &seen(rt, desk), &before);
-    expect_eq(rt, &answered(rt, desk, order), answer);
+    expect_eq(rt, &office_reply(rt, desk, order), answer);
 }
 
-fn are_answered<S: ClubStore>(
+fn expect_answers<S: ClubStore>(
     rt: &impl Abort,
     desk: &mut Desk<S>,
     orders: &[(Order, OfficeReply)],
 ) {
     for (order, answer) in orders {
-        is_answered(rt, desk, order, answer);
+        expect_answer(rt, desk, order, answer);
     }
 }
 
@@ -104,7 +104,7 @@ static FIXTURE: [(Order, OfficeReply); 4] = [
 /// The desk of the fixture.
 fn desk(rt: &(impl Abort + Alloc<A = Global>)) -> Desk<MemoryStore> {
     let mut desk = Desk::new(rt.alloc(), new_store(rt));
-    are_answered(rt, &mut desk, &FIXTURE);
+    expect_answers(rt, &mut desk, &FIXTURE);
     desk
 }
 
@@ -129,8 +129,8 @@ static REVOKED: [(Order, OfficeReply); 2] = [
 
 fn carries_out_orders<S: ClubStore>(rt: &impl Abort, desk: &mut Desk<S>) {
     expect_replied(rt, desk, AMY_V2, &ACCOUNT, &ACCOUNT_BEFORE);
-    are_answered(rt, desk, &ORDERS);
-    are_answered(rt, desk, &REVOKED);
+    expect_answers(rt, desk, &ORDERS);
+    expect_answers(rt, desk, &REVOKED);
     expect_replied(rt, desk, AMY_V2, &ACCOUNT, &KEY_REVOKED);
 }
 
@@ -148,7 +148,7 @@ fn expect_replied<S: ClubStore>(
 ) {
     expect_eq(
         rt,
-        &replied(rt, desk, pass, asked),
+        &reply_at_noon(rt, desk, pass, asked),
         &want.reply().expect(rt, "a reply"),
     );
 }

@@ -138,7 +138,7 @@ fn persons<S: Alter>(rt: &(impl Abort + Alloc<A = Global>), store: &mut Store<S>
     court.expect(rt, "a slot").taken
 }
 
-fn done<S: Alter>(rt: &(impl Abort + Alloc<A = Global>), store: &mut Store<S>, task: &Task) -> End {
+fn run_task<S: Alter>(rt: &(impl Abort + Alloc<A = Global>), store: &mut Store<S>, task: &Task) -> End {
     match task {
         Task::Open => End::Done,
         Task::Change(change) if store.apply(change).is_err() => End::NotChanged,
@@ -148,14 +148,14 @@ fn done<S: Alter>(rt: &(impl Abort + Alloc<A = Global>), store: &mut Store<S>, t
 }
 
 /// How the task ends in a database that is opened first, and the store below it.
-fn attempted<S: Alter + Drop>(
+fn attempt<S: Alter + Drop>(
     rt: &(impl Abort + Alloc<A = Global>),
     connection: Connection<S>,
     task: &Task,
 ) -> (End, S) {
     match Store::adopt(rt.alloc(), connection) {
         Ok(mut store) => {
-            let end = done(rt, &mut store, task);
+            let end = run_task(rt, &mut store, task);
             (end, store.into_store())
         }
         Err((_, connection)) => (End::NotOpened, connection.into_store()),
@@ -163,14 +163,14 @@ fn attempted<S: Alter + Drop>(
 }
 
 /// How the task ends in these files, and what is left of them.
-fn attempted_in<D: Disk + Drop>(
+fn attempt_in<D: Disk + Drop>(
     rt: &(impl Abort + Alloc<A = Global>),
     files: Files<D>,
     task: &Task,
 ) -> (End, Files<D>) {
     match connected(rt.alloc(), files) {
         Ok(connection) => {
-            let (end, store) = attempted(rt, connection, task);
+            let (end, store) = attempt(rt, connection, task);
             (end, store.close())
         }
         Err(left) => (End::NotOpened, left),
@@ -180,8 +180,8 @@ fn attempted_in<D: Disk + Drop>(
 /// How the trial ends on a log that stops after so many calls, and what is counted in the files
 /// once the machine came back.
 fn tried(rt: &(impl Abort + Alloc<A = Global>), trial: &Trial, calls: u64) -> (End, End) {
-    let (end, left) = attempted_in(rt, files(rt, calls, &trial.bytes), &trial.task);
-    let (found, _) = attempted_in(rt, restarted(left), &Task::Count);
+    let (end, left) = attempt_in(rt, files(rt, calls, &trial.bytes), &trial.task);
+    let (found, _) = attempt_in(rt, restarted(left), &Task::Count);
     (end, found)
 }
 

@@ -2,7 +2,7 @@
 //! there may be; court-1 with 4 places for 200 points, open from 8 to 22; amy's key amy-1; and the
 //! slots of 2026-05-01 at 19, which is closed, and at 20, which amy booked.
 
-use crate::runs::{ROOM, Row, ended_at, expect_output, expect_rows, new_path, remove};
+use crate::runs::{ROOM, Row, run_command, expect_output, expect_rows, new_path, remove};
 use crate::served::reply_to;
 use crate::servers::OFFICE;
 use std::fs;
@@ -57,7 +57,7 @@ fn club(rt: &HostRuntime, path: &str) -> Result<Vec<u8>, Fail> {
 
 // Runs the command of a row over a file, which it opens and closes so often.
 fn expect_at(rt: &HostRuntime, path: &str, row: &Row<'_>, openings: u64) -> Result<(), Fail> {
-    let ended = ended_at(rt, path, row.0, row.1, ROOM)?;
+    let ended = run_command(rt, path, row.0, row.1, ROOM)?;
     if ended.opened != openings || ended.closed != openings {
         return Err("opened or closed too often or too seldom".into());
     }

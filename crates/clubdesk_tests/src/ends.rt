@@ -1,7 +1,7 @@
 //! Ends that aren't the office's: a writer that fails, and a port in use.
 
 use crate::clubs::expect_over_clubs;
-use crate::runs::{Row, ended_at, expect_rows, new_path, remove};
+use crate::runs::{Row, run_command, expect_rows, new_path, remove};
 use std::net::TcpListener;
 use std::test::Fail;
 
@@ -14,7 +14,7 @@ fn fails_with_room(
     words: &str,
     room: usize,
 ) -> Result<bool, Fail> {
-    let ended = ended_at(rt, path, command, words, room)?;
+    let ended = run_command(rt, path, command, words, room)?;
     let output = &ended.output;
     let failed = output.returned.as_str() == "7 input or output failed";
     Ok(failed && output.taken == room && output.log.is_empty())

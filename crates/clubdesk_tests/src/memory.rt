@@ -1,7 +1,7 @@
 //! A database in memory, and runs of the program over it.
 
 use crate::callers::{Caller, Machine};
-use crate::others::{Found, NOBODY, Others};
+use crate::others::{OthersScript, NOBODY, Others};
 use crate::runs::{Output, ROOM, Row, Run, expect_output, words_of};
 use crate::terminal::{Input, NO_INPUT};
 use club_core::StoreFault;
@@ -30,14 +30,14 @@ struct InMemory {
 
 impl InMemory {
     // A database that nobody opened yet.
-    fn new(alloc: Global, fault: Option<StoreFault>, found: Found) -> InMemory {
+    fn new(alloc: Global, fault: Option<StoreFault>, script: OthersScript) -> InMemory {
         InMemory {
             alloc,
             store: None,
             fault,
             opened: 0,
             closed: 0,
-            others: Others::new(found),
+            others: Others::new(script),
         }
     }
 
@@ -94,7 +94,7 @@ impl Databases for InMemory {
     }
 
     fn pause(&self, _name: &str) -> Option<()> {
-        if self.others.found.refuse_pauses {
+        if self.others.script.refuse_pauses {
             None
         } else {
             Some(())
@@ -113,8 +113,8 @@ impl Databases for InMemory {
 pub struct Scene<'a> {
     /// The fault of each opening.
     pub fault: Option<StoreFault>,
-    /// What is found of other programs.
-    pub found: Found,
+    /// What other programs do during the run.
+    pub script: OthersScript,
     /// The orders before the run, each of which ends as its row expects.
     pub orders: &'a [Row<'a>],
     /// The clock of the machine, as `Machine` has it: its second and its microseconds.
@@ -132,7 +132,7 @@ impl<'a> Scene<'a> {
     pub fn after(orders: &'a [Row<'a>]) -> Scene<'a> {
         Scene {
             fault: None,
-            found: NOBODY,
+            script: NOBODY,
             orders,
             second: Some(0),
             later: 0,
@@ -146,7 +146,7 @@ impl<'a> Scene<'a> {
 /// How a run ended; and how often its database was opened and closed, how many looks for wishes
 /// there were, and how many seconds were waited, before and after the run too.
 #[derive(Drop)]
-pub struct Played {
+pub struct SceneOutcome {
     pub output: Output,
     opened: u64,
     closed: u64,
@@ -221,10 +221,10 @@ fn play_over(
 }
 
 /// Plays a scene with a run on this line.
-pub fn play(rt: &HostRuntime, scene: &Scene<'_>, line: &str) -> Result<Played, Fail> {
-    let mut databases = InMemory::new(rt.alloc(), scene.fault, scene.found);
+pub fn play(rt: &HostRuntime, scene: &Scene<'_>, line: &str) -> Result<SceneOutcome, Fail> {
+    let mut databases = InMemory::new(rt.alloc(), scene.fault, scene.script);
     let output = play_over(rt, &mut databases, scene, line)?;
-    Ok(Played {
+    Ok(SceneOutcome {
         output,
         opened: databases.opened,
         closed: databases.closed,
@@ -234,7 +234,7 @@ pub fn play(rt: &HostRuntime, scene: &Scene<'_>, line: &str) -> Result<Played, F
 }
 
 /// Plays a scene with the command of a row, which ends as that expects.
-pub fn play_row(rt: &HostRuntime, scene: &Scene<'_>, row: &Row<'_>) -> Result<Played, Fail> {
+pub fn play_row(rt: &HostRuntime, scene: &Scene<'_>, row: &Row<'_>) -> Result<SceneOutcome, Fail> {
     let line = line_of(rt, row)?;
     let played = play(rt, scene, line.as_str())?;
     expect_output(rt, row, played.output.returned.as_str())?;
@@ -242,7 +242,7 @@ pub fn play_row(rt: &HostRuntime, scene: &Scene<'_>, row: &Row<'_>) -> Result<Pl
 }
 
 /// Fails unless the database was opened and closed so often.
-pub fn expect_openings(played: &Played, opened: u64, closed: u64) -> Result<(), Fail> {
+pub fn expect_openings(played: &SceneOutcome, opened: u64, closed: u64) -> Result<(), Fail> {
     if played.opened == opened && played.closed == closed {
         return Ok(());
     }

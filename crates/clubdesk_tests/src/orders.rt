@@ -2,7 +2,7 @@
 //! closes once.
 
 use crate::clubs::expect_over_clubs;
-use crate::runs::{ROOM, Row, ended_by};
+use crate::runs::{ROOM, Row, run_line};
 use std::test::Fail;
 
 static MEMBERS: [Row; 12] = [
@@ -220,7 +220,7 @@ fn words(rt: HostRuntime) -> Result<(), Fail> {
 
 #[test]
 fn version(rt: HostRuntime) -> Result<(), Fail> {
-    let ended = ended_by(&rt, "clubdesk --version", ROOM)?;
+    let ended = run_line(&rt, "clubdesk --version", ROOM)?;
     assert_eq!(rt; ended.output.returned.as_str(), "0 clubdesk 0.1.0\n");
     Ok(())
 }

@@ -3,9 +3,9 @@
 use club_core::StoreFault;
 use std::cell::Cell;
 
-/// What is found of other programs.
+/// What other programs do during a run.
 #[derive(Clone, Copy)]
-pub struct Found {
+pub struct OthersScript {
     /// What each look for a wish finds; no wish once there were so many looks.
     pub wishes: &'static [bool],
     /// The fault of each opening again; none once there were so many.
@@ -15,7 +15,7 @@ pub struct Found {
 }
 
 /// Nobody else.
-pub const NOBODY: Found = Found {
+pub const NOBODY: OthersScript = OthersScript {
     wishes: &[],
     faults: &[],
     refuse_pauses: false,
@@ -24,17 +24,17 @@ pub const NOBODY: Found = Found {
 /// Other programs, and what was asked of them.
 #[derive(Drop)]
 pub struct Others {
-    pub found: Found,
+    pub script: OthersScript,
     looks: Cell<usize>,
     reopenings: usize,
     waited: Cell<u64>,
 }
 
 impl Others {
-    /// Programs of which this is found.
-    pub fn new(found: Found) -> Others {
+    /// Programs that do this.
+    pub fn new(script: OthersScript) -> Others {
         Others {
-            found,
+            script,
             looks: Cell::new(0),
             reopenings: 0,
             waited: Cell::new(0),
@@ -45,7 +45,7 @@ impl Others {
     pub fn look(&self) -> bool {
         let place = self.looks.get();
         self.looks.set(place.saturating_add(1));
-        match self.found.wishes.get(place) {
+        match self.script.wishes.get(place) {
             Some(wished) => *wished,
             None => false,
         }
@@ -60,7 +60,7 @@ impl Others {
     pub fn fault_of_reopening(&mut self) -> Option<StoreFault> {
         let place = self.reopenings;
         self.reopenings = place.saturating_add(1);
-        match self.found.faults.get(place) {
+        match self.script.faults.get(place) {
             Some(fault) => *fault,
             None => None,
         }

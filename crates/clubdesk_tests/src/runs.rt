@@ -81,7 +81,7 @@ impl Output {
 
 /// How a run ended, and how often it opened and closed a database.
 #[derive(Drop)]
-pub struct Ended {
+pub struct RunOutcome {
     pub output: Output,
     pub opened: u64,
     pub closed: u64,
@@ -173,10 +173,10 @@ fn work_over<D: Databases>(
 
 /// Does this over databases in files. It is the one function here that names their types: the proof
 /// of each takes a minute.
-pub fn done(rt: &HostRuntime, work: Work<'_>) -> Result<Ended, Fail> {
+pub fn do_work(rt: &HostRuntime, work: Work<'_>) -> Result<RunOutcome, Fail> {
     let mut files = Files::new(rt);
     let output = work_over(rt, &mut files, work)?;
-    Ok(Ended {
+    Ok(RunOutcome {
         output,
         opened: files.tried,
         closed: files.closed,
@@ -184,24 +184,24 @@ pub fn done(rt: &HostRuntime, work: Work<'_>) -> Result<Ended, Fail> {
 }
 
 /// Runs the program on a line of words over databases in files, to a writer with this much room.
-pub fn ended_by(rt: &HostRuntime, line: &str, room: usize) -> Result<Ended, Fail> {
+pub fn run_line(rt: &HostRuntime, line: &str, room: usize) -> Result<RunOutcome, Fail> {
     let asked = Run {
         room,
         ..Run::of(line)
     };
-    done(rt, Work::Run(asked))
+    do_work(rt, Work::Run(asked))
 }
 
 /// Runs a command over the database in a file.
-pub fn ended_at(
+pub fn run_command(
     rt: &HostRuntime,
     path: &str,
     command: &str,
     words: &str,
     room: usize,
-) -> Result<Ended, Fail> {
+) -> Result<RunOutcome, Fail> {
     let line = format!(in rt.alloc(); "clubdesk {command} {path} {words}")?;
-    ended_by(rt, line.as_str(), room)
+    run_line(rt, line.as_str(), room)
 }
 
 /// Fails unless a run ended as its row expects.
@@ -216,7 +216,7 @@ pub fn expect_output(rt: &HostRuntime, row: &Row<'_>, returned: &str) -> Result<
 /// Runs commands over a file one after the other. Each ends as its row expects.
 pub fn expect_rows(rt: &HostRuntime, path: &str, rows: &[Row<'_>]) -> Result<(), Fail> {
     for row in rows {
-        let ended = ended_at(rt, path, row.0, row.1, ROOM)?;
+        let ended = run_command(rt, path, row.0, row.1, ROOM)?;
         expect_output(rt, row, ended.output.returned.as_str())?;
     }
     Ok(())

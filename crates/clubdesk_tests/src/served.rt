@@ -1,6 +1,6 @@
 //! Servers of one request, over a database in a file.
 
-use crate::runs::{Run, Work, done};
+use crate::runs::{Run, Work, do_work};
 use club_core::ClubStore;
 use club_http::{Desk, Face};
 use club_values::Moment;
@@ -44,7 +44,7 @@ pub fn serve_and_drop<D: Databases>(
 
 // Serves a client that waits, over the database in a file, and drops that.
 fn serve(rt: &HostRuntime, path: &str, listener: &TcpListener) -> Result<(), Fail> {
-    done(rt, Work::Serve(path, listener))?;
+    do_work(rt, Work::Serve(path, listener))?;
     Ok(())
 }
 
@@ -68,6 +68,6 @@ pub fn reply_to(rt: &HostRuntime, path: &str, request: &str) -> Result<Vec<u8>, 
         requests: &[request],
         ..Run::of(line.as_str())
     };
-    let ended = done(rt, Work::Run(asked))?;
+    let ended = do_work(rt, Work::Run(asked))?;
     Ok(ended.output.reply)
 }

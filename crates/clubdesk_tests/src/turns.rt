@@ -1,7 +1,7 @@
 //! A server over memory that takes turns with other programs, and pauses.
 
-use crate::memory::{NAME, Played, Scene, expect_openings, expect_scene, play, play_row};
-use crate::others::{Found, NOBODY};
+use crate::memory::{NAME, SceneOutcome, Scene, expect_openings, expect_scene, play, play_row};
+use crate::others::{OthersScript, NOBODY};
 use crate::runs::Row;
 use crate::servers::OFFICE;
 use club_core::StoreFault;
@@ -26,7 +26,7 @@ struct Turns {
 // The orders of the office open and close the database four times.
 const ORDERS: u64 = 4;
 
-fn expect_turns(played: &Played, turns: &Turns) -> Result<(), Fail> {
+fn expect_turns(played: &SceneOutcome, turns: &Turns) -> Result<(), Fail> {
     if played.output.log.as_slice() != turns.log.as_bytes() {
         return Err("another log".into());
     }
@@ -44,7 +44,7 @@ fn takes_turns(rt: &HostRuntime, turns: &Turns) -> Result<(), Fail> {
         "clubdesk serve {NAME} --port 0 --count {count} --at 2026-04-20T12:00 --log"
     )?;
     let scene = Scene {
-        found: Found {
+        script: OthersScript {
             wishes: turns.wishes,
             faults: turns.faults,
             refuse_pauses: false,
@@ -188,7 +188,7 @@ fn pauses_of_so_many_seconds(rt: HostRuntime) -> Result<(), Fail> {
 #[test]
 fn a_pause_that_keeps_nobody_away(rt: HostRuntime) -> Result<(), Fail> {
     let scene = Scene {
-        found: Found {
+        script: OthersScript {
             refuse_pauses: true,
             ..NOBODY
         },
