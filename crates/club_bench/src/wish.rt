@@ -39,6 +39,6 @@ fn slot_at(index: u16) -> Option<Slot> {
 }
 
 /// A minute before a slot begins. A booking that is made then leaves few of its member to come.
-pub(crate) fn minute_before(slot: &Slot) -> Option<Moment> {
+fn minute_before(slot: &Slot) -> Option<Moment> {
     Moment::from_number(slot.start().saturating_sub(1))
 }
