@@ -1,41 +1,36 @@
 -- What was spent before changes the first fault of a list only under a spend limit, and only where something is owed.
-use Rattle.std.proofs.Common.{◌≡◌, ◌⊎◌, inl, inr, ℕ, zero, suc, ◌+◌, ◌≤◌, Bool, true, false, cond, List, [], ◌∷◌, map, Option, Some, None, refl, sym, ◌∙◌}
-use Rattle.std.proofs.Common.{arith}
+use Rattle.std.proofs.Common.{◌≡◌, ◌⊎◌, inl, inr, ℕ, zero, suc, ◌+◌, ◌≤◌, ◌==◌, ◌||◌, Bool, true, false, cond, nat_le, List, [], ◌∷◌, map, Option, Some, None}
+use Rattle.std.proofs.Common.{refl, sym, ◌∙◌, arith}
+use Rattle.std.proofs.lemmas.Bool.Decides.{nat_tests}
 use Rattle.pass_caveats.specs.declared.ask.Ask.{Ask}
 use Rattle.pass_caveats.specs.declared.caveat.Caveat.{Caveat}
 use Rattle.pass_caveats.specs.declared.caveat.Caveat.TheVariants.{Spend}
 use Rattle.pass_caveats.specs.declared.fault.CaveatFault.TheVariants.{Denied}
-use Rattle.pass_caveats.specs.Caveat.{IsCaveat, Permits}
+use Rattle.pass_caveats.specs.Caveat.{IsCaveat}
 use Rattle.pass_caveats.specs.computed.CaveatOf.{caveat_of, first_fault_from, permits}
 use Rattle.club_values.specs.Number.{number_limit}
 use Rattle.pass_caveats.specs.Spending.{after_spending}
 use Rattle.pass_caveats.proofs.CaveatOfLemmas.{understood-caveat_of}
-use Rattle.pass_caveats.proofs.DecisionLemmas.{Decides-permits}
+
+-- a spend limit that allows more allows less
+within_less : (owed less more n : ℕ) → less ≤ more → (owed == 0 || nat_le (more + owed) n) ≡ true → (owed == 0 || nat_le (less + owed) n) ≡ true
+within_less owed less more n short h = grind (arith, nat_tests)
 
 -- a key that spent less is allowed at least as much
-allowed_less : (caveat : Caveat) (ask : Ask) (less more : ℕ) → less ≤ more → Permits caveat (after_spending more ask)
-    → Permits caveat (after_spending less ask)
-allowed_less (Spend n) ask less more short (inl nothing) = inl nothing
-allowed_less (Spend n) ask less more short (inr within) = inr (omega (arith, short, within))
-allowed_less caveat ask less more short h = h
-
 permits_less : (caveat : Caveat) (ask : Ask) (less more : ℕ) → less ≤ more → permits caveat (after_spending more ask) ≡ true
     → permits caveat (after_spending less ask) ≡ true
-permits_less caveat ask less more short e =
-    (Decides-permits caveat (after_spending less ask)).1
-    (allowed_less caveat ask less more short ((Decides-permits caveat (after_spending more ask)).0 e))
+unfolding permits
+permits_less (Spend n) ask less more short h = within_less ask.owed less more n short h
+permits_less caveat ask less more short h = h
 
 -- if nothing is owed, what was spent makes no difference
-allowed_free : (caveat : Caveat) (ask : Ask) (one other : ℕ) → ask.owed ≡ 0 → Permits caveat (after_spending one ask)
-    → Permits caveat (after_spending other ask)
-allowed_free (Spend n) ask one other free h = inl free
-allowed_free caveat ask one other free h = h
+free_within : (owed one other n : ℕ) → owed ≡ 0 → (owed == 0 || nat_le (one + owed) n) ≡ (owed == 0 || nat_le (other + owed) n)
+free_within owed one other n free = rw free refl
 
-permits_free : (caveat : Caveat) (ask : Ask) (one other : ℕ) → ask.owed ≡ 0 → permits caveat (after_spending one ask) ≡ true
-    → permits caveat (after_spending other ask) ≡ true
-permits_free caveat ask one other free e =
-    (Decides-permits caveat (after_spending other ask)).1
-    (allowed_free caveat ask one other free ((Decides-permits caveat (after_spending one ask)).0 e))
+permits_free : (caveat : Caveat) (ask : Ask) (one other : ℕ) → ask.owed ≡ 0 → permits caveat (after_spending one ask) ≡ permits caveat (after_spending other ask)
+unfolding permits
+permits_free (Spend n) ask one other free = free_within ask.owed one other n free
+permits_free caveat ask one other free = refl
 
 -- no caveat is at fault before the first
 numbered : (n : ℕ) (caveats : List (Option Caveat)) (ask : Ask) (m : ℕ) → first_fault_from n caveats ask ≡ Some (Denied m) → n ≤ m
@@ -53,17 +48,7 @@ pub free : (n : ℕ) (caveats : List (Option Caveat)) (ask : Ask) (spent : ℕ) 
 free n [] ask spent nothing = refl
 free n (None ∷ caveats) ask spent nothing = refl
 free n (Some caveat ∷ caveats) ask spent nothing =
-    go (permits caveat (after_spending spent ask)) (permits caveat (after_spending 0 ask)) (permits_free caveat ask spent 0 nothing)
-    (permits_free caveat ask 0 spent nothing) (free (n + 1) caveats ask spent nothing)
-  where
-    go : (a b : Bool) → (a ≡ true → b ≡ true) → (b ≡ true → a ≡ true)
-        → first_fault_from (n + 1) caveats (after_spending spent ask) ≡ first_fault_from (n + 1) caveats (after_spending 0 ask)
-        → cond a (first_fault_from (n + 1) caveats (after_spending spent ask)) (Some (Denied n))
-        ≡ cond b (first_fault_from (n + 1) caveats (after_spending 0 ask)) (Some (Denied n))
-    go true true f g rest = rest
-    go true false f g rest = let e = f refl in absurd (cc)
-    go false true f g rest = let e = g refl in absurd (cc)
-    go false false f g rest = refl
+    rw (permits_free caveat ask spent 0 nothing, free (n + 1) caveats ask spent nothing) refl
 
 between : (n : ℕ) (caveats : List (Option Caveat)) (ask : Ask) (spent most : ℕ) → spent ≤ most
     → first_fault_from n caveats (after_spending most ask) ≡ first_fault_from n caveats (after_spending 0 ask)
@@ -89,18 +74,15 @@ between n (Some caveat ∷ caveats) ask spent most short e =
         let late = numbered (n + 1) caveats (after_spending 0 ask) n (sym h) in absurd (omega (arith, late))
     go false false false f g rest h = refl
 
--- what is allowed after spending the greatest limit is allowed after any amount
-allowed_beyond : (caveat : Caveat) (ask : Ask) (spent most : ℕ) → IsCaveat caveat → number_limit ≤ most → Permits caveat (after_spending most ask)
-    → Permits caveat (after_spending spent ask)
-allowed_beyond (Spend n) ask spent most real far (inl nothing) = inl nothing
-allowed_beyond (Spend n) ask spent most real far (inr within) = inl (omega (arith, real, far, within))
-allowed_beyond caveat ask spent most real far h = h
+-- no limit allows a charge after spending that much
+within_beyond : (owed spent most n : ℕ) → n ≤ most → most ≤ spent → (owed == 0 || nat_le (spent + owed) n) ≡ (owed == 0 || nat_le (most + owed) n)
+within_beyond owed spent most n far more = grind (arith, nat_tests)
 
-permits_beyond : (caveat : Caveat) (ask : Ask) (spent most : ℕ) → IsCaveat caveat → number_limit ≤ most → permits caveat (after_spending most ask) ≡ true
-    → permits caveat (after_spending spent ask) ≡ true
-permits_beyond caveat ask spent most real far e =
-    (Decides-permits caveat (after_spending spent ask)).1
-    (allowed_beyond caveat ask spent most real far ((Decides-permits caveat (after_spending most ask)).0 e))
+permits_beyond : (caveat : Caveat) (ask : Ask) (spent most : ℕ) → IsCaveat caveat → number_limit ≤ most → most ≤ spent
+    → permits caveat (after_spending spent ask) ≡ permits caveat (after_spending most ask)
+unfolding permits
+permits_beyond (Spend n) ask spent most real far more = within_beyond ask.owed spent most n (omega (arith, real, far)) more
+permits_beyond caveat ask spent most real far more = refl
 
 -- after spending at least that much the first fault is always the same
 beyond : (n : ℕ) (texts : List (List ℕ)) (ask : Ask) (spent most : ℕ) → number_limit ≤ most → most ≤ spent
@@ -108,25 +90,13 @@ beyond : (n : ℕ) (texts : List (List ℕ)) (ask : Ask) (spent most : ℕ) → 
 beyond n [] ask spent most far more = refl
 beyond n (text ∷ texts) ask spent most far more = go (caveat_of text) refl (beyond (n + 1) texts ask spent most far more)
   where
-    alike : (a b : Bool) → (a ≡ true → b ≡ true) → (b ≡ true → a ≡ true)
-        → first_fault_from (n + 1) (map caveat_of texts) (after_spending spent ask)
-        ≡ first_fault_from (n + 1) (map caveat_of texts) (after_spending most ask)
-        → cond a (first_fault_from (n + 1) (map caveat_of texts) (after_spending spent ask)) (Some (Denied n))
-        ≡ cond b (first_fault_from (n + 1) (map caveat_of texts) (after_spending most ask)) (Some (Denied n))
-    alike true true f g rest = rest
-    alike true false f g rest = let e = f refl in absurd (cc)
-    alike false true f g rest = let e = g refl in absurd (cc)
-    alike false false f g rest = refl
-
     go : (caveat : Option Caveat) → caveat_of text ≡ caveat
         → first_fault_from (n + 1) (map caveat_of texts) (after_spending spent ask)
         ≡ first_fault_from (n + 1) (map caveat_of texts) (after_spending most ask)
         → first_fault_from n (caveat ∷ map caveat_of texts) (after_spending spent ask)
         ≡ first_fault_from n (caveat ∷ map caveat_of texts) (after_spending most ask)
     go None e rest = refl
-    go (Some caveat) e rest =
-        alike (permits caveat (after_spending spent ask)) (permits caveat (after_spending most ask)) (permits_less caveat ask most spent more)
-        (permits_beyond caveat ask spent most (understood-caveat_of text caveat e).line.real far) rest
+    go (Some caveat) e rest = rw (permits_beyond caveat ask spent most (understood-caveat_of text caveat e).line.real far more, rest) refl
 
 total : (a b : ℕ) → (a ≤ b) ⊎ (b ≤ a)
 total zero b = inl (omega arith)

@@ -1,9 +1,16 @@
 -- The lines that a caveat may be, and the requests that each allows (ours).
-use Rattle.std.specs.Prelude.{◌≡◌, ◌≢◌, ◌⊎◌, ℕ, ◌+◌, ◌<◌, ◌≤◌, IsTrue, List, [], ◌∷◌, ◌++◌, length, Some, IsSomeAnd, Contains, codes, ⊤}
+use Rattle.std.specs.Prelude.{◌≡◌, ◌≢◌, ℕ, ◌+◌, ◌<◌, ◌≤◌, ◌==◌, ◌&&◌, ◌||◌, Bool, true, false, nat_lt, nat_le, IsTrue, List, [], ◌∷◌, ◌++◌, length}
+use Rattle.std.specs.Prelude.{Option, Some, is_some, codes, ⊤}
 use Rattle.std.specs.Fmt.{decimal}
+use Rattle.std.specs.List.{list_any}
+use Rattle.std.specs.Option.{option_map_or}
+use Rattle.std.specs.Str.{bytes_eq}
 use Rattle.pass_caveats.specs.declared.caveat.Caveat.{Caveat}
 use Rattle.pass_caveats.specs.declared.caveat.Caveat.TheVariants.{Facility, Kind, Hours, Days, Weekdays, Until, Guests, Spend, Actions}
 use Rattle.pass_caveats.specs.declared.ask.Ask.{Ask}
+use Rattle.club_values.specs.declared.kind.Kind.{Kind as AKind}
+use Rattle.club_values.specs.declared.kind.Kind.TheVariants.{Court, Boat, Room}
+use Rattle.club_values.specs.declared.slot.Slot.{Slot}
 use Rattle.club_values.specs.Digits.{two_digits}
 use Rattle.club_values.specs.Day.{IsDay, day_text}
 use Rattle.club_values.specs.Hour.{hours_a_day}
@@ -17,29 +24,53 @@ use Rattle.club_values.specs.Weekday.{weekday_of}
 use Rattle.pass_caveats.specs.Actions.{has_action, action_texts}
 use Rattle.pass_caveats.specs.Weekdays.{has_weekday, weekday_texts}
 
--- the values that a line may have
-abbrev pub IsCaveat : Caveat → Type 0
-IsCaveat (Facility names) = AreNames names
-IsCaveat (Kind kind) = ⊤
-IsCaveat (Hours from until) = (from < until) × (until ≤ hours_a_day)
-IsCaveat (Days first last) = IsDay first × IsDay last × (first ≤ last)
-IsCaveat (Weekdays set) = weekday_texts set ≢ []
-IsCaveat (Until moment) = IsMoment moment
-IsCaveat (Guests n) = n ≤ guests_limit
-IsCaveat (Spend n) = n ≤ number_limit
-IsCaveat (Actions actions) = action_texts actions ≢ []
+-- the request is about a slot, and the test is true of it
+abbrev pub in_slot : (Slot → Bool) → Ask → Bool
+in_slot test ask = option_map_or test ask.slot false
 
--- the line of these values
+-- the kind is known, and is this one
+abbrev pub is_kind : Option AKind → AKind → Bool
+is_kind (Some Court) Court = true
+is_kind (Some Boat) Boat = true
+is_kind (Some Room) Room = true
+is_kind known kind = false
+
+-- a caveat's text, what its values have to be, and the requests that it allows
+pub record CaveatDetails : Type 1 where
+  pub text : List ℕ
+  pub IsReal : Type 0
+  pub allows : Ask → Bool
+
+abbrev pub details : List ℕ → Type 0 → (Ask → Bool) → CaveatDetails
+details text IsReal allows = record { text = text; IsReal = IsReal; allows = allows }
+
+-- a row for each kind of caveat
+abbrev pub details_of : Caveat → CaveatDetails
+details_of (Facility names) =
+    details (codes "facility = " ++ comma_list names) (AreNames names) (in_slot (λ slot. list_any (λ name. bytes_eq name slot.facility) names))
+details_of (Kind kind) = details (codes "kind = " ++ kind_text kind) ⊤ (λ ask. is_some ask.slot && is_kind ask.kind kind)
+details_of (Hours from until) =
+    details (codes "hours = " ++ (two_digits from ++ 45 ∷ two_digits until)) ((from < until) × (until ≤ hours_a_day))
+    (in_slot (λ slot. nat_le from slot.hour && nat_lt slot.hour until))
+details_of (Days first last) =
+    details (codes "days = " ++ (day_text first ++ (codes ".." ++ day_text last))) (IsDay first × IsDay last × (first ≤ last))
+    (in_slot (λ slot. nat_le first slot.day && nat_le slot.day last))
+details_of (Weekdays set) =
+    details (codes "weekday = " ++ comma_list (weekday_texts set)) (weekday_texts set ≢ []) (in_slot (λ slot. has_weekday set (weekday_of slot.day)))
+details_of (Until moment) = details (codes "until < " ++ moment_text moment) (IsMoment moment) (λ ask. nat_lt ask.moment moment)
+details_of (Guests n) = details (codes "guests <= " ++ decimal n) (n ≤ guests_limit) (λ ask. nat_le ask.guests n)
+details_of (Spend n) = details (codes "spend <= " ++ decimal n) (n ≤ number_limit) (λ ask. ask.owed == 0 || nat_le (ask.spent + ask.owed) n)
+details_of (Actions actions) =
+    details (codes "actions = " ++ comma_list (action_texts actions)) (action_texts actions ≢ []) (λ ask. has_action actions ask.action)
+
+abbrev pub IsCaveat : Caveat → Type 0
+IsCaveat caveat = (details_of caveat).IsReal
+
 abbrev pub caveat_text : Caveat → List ℕ
-caveat_text (Facility names) = codes "facility = " ++ comma_list names
-caveat_text (Kind kind) = codes "kind = " ++ kind_text kind
-caveat_text (Hours from until) = codes "hours = " ++ (two_digits from ++ 45 ∷ two_digits until)
-caveat_text (Days first last) = codes "days = " ++ (day_text first ++ (codes ".." ++ day_text last))
-caveat_text (Weekdays set) = codes "weekday = " ++ comma_list (weekday_texts set)
-caveat_text (Until moment) = codes "until < " ++ moment_text moment
-caveat_text (Guests n) = codes "guests <= " ++ decimal n
-caveat_text (Spend n) = codes "spend <= " ++ decimal n
-caveat_text (Actions actions) = codes "actions = " ++ comma_list (action_texts actions)
+caveat_text caveat = (details_of caveat).text
+
+abbrev pub Permits : Caveat → Ask → Type 0
+Permits caveat ask = IsTrue ((details_of caveat).allows ask)
 
 -- the text is a line
 pub record SpellsCaveat (text : List ℕ) (caveat : Caveat) : Type 0 where
@@ -54,15 +85,3 @@ max_caveat_len = 256
 pub record Understood (text : List ℕ) (caveat : Caveat) : Type 0 where
   pub line : SpellsCaveat text caveat
   pub short : length text ≤ max_caveat_len
-
--- the requests that a caveat allows
-abbrev pub Permits : Caveat → Ask → Type 0
-Permits (Facility names) ask = IsSomeAnd ask.slot (λ slot. Contains names slot.facility)
-Permits (Kind kind) ask = IsSomeAnd ask.slot (λ _. ask.kind ≡ Some kind)
-Permits (Hours from until) ask = IsSomeAnd ask.slot (λ slot. (from ≤ slot.hour) × (slot.hour < until))
-Permits (Days first last) ask = IsSomeAnd ask.slot (λ slot. (first ≤ slot.day) × (slot.day ≤ last))
-Permits (Weekdays set) ask = IsSomeAnd ask.slot (λ slot. IsTrue (has_weekday set (weekday_of slot.day)))
-Permits (Until moment) ask = ask.moment < moment
-Permits (Guests n) ask = ask.guests ≤ n
-Permits (Spend n) ask = (ask.owed ≡ 0) ⊎ (ask.spent + ask.owed ≤ n)
-Permits (Actions actions) ask = IsTrue (has_action actions ask.action)

@@ -1,18 +1,15 @@
 -- Parsing a caveat, and testing a request against it, as functions for definitions that compute. `Understood` and `Permits` define what
 -- they mean; laws state that both agree.
-use Rattle.std.specs.Prelude.{ℕ, ◌+◌, ◌==◌, ◌&&◌, ◌||◌, Bool, true, false, List, [], ◌∷◌, length, drop, slice_index, slice_index_or, map, nat_lt, nat_le}
+use Rattle.std.specs.Prelude.{ℕ, ◌+◌, ◌==◌, ◌&&◌, Bool, true, false, List, [], ◌∷◌, length, drop, slice_index, slice_index_or, map, nat_lt, nat_le}
 use Rattle.std.specs.Prelude.{if◌then◌else◌, Option, Some, None}
-use Rattle.std.specs.List.{list_all, list_any}
+use Rattle.std.specs.List.{list_all}
 use Rattle.std.specs.Str.{bytes_eq}
 use Rattle.std.specs.Str.Parse.{digits_value}
 use Rattle.pass_caveats.specs.declared.caveat.Caveat.{Caveat}
 use Rattle.pass_caveats.specs.declared.caveat.Caveat.TheVariants.{Facility, Kind, Hours, Days, Weekdays, Until, Guests, Spend, Actions}
-use Rattle.club_values.specs.declared.kind.Kind.{Kind as AKind}
-use Rattle.club_values.specs.declared.kind.Kind.TheVariants.{Court, Boat, Room}
 use Rattle.pass_caveats.specs.declared.actions.Actions.{Actions as SomeActions}
 use Rattle.pass_caveats.specs.declared.weekdays.Weekdays.{Weekdays as SomeWeekdays}
 use Rattle.std.specs.Int.{is_in_range}
-use Rattle.club_values.specs.declared.slot.Slot.{Slot}
 use Rattle.club_values.specs.Slot.{guests_limit}
 use Rattle.pass_caveats.specs.declared.ask.Ask.{Ask}
 use Rattle.pass_caveats.specs.declared.fault.CaveatFault.{CaveatFault}
@@ -22,13 +19,13 @@ use Rattle.club_values.specs.Day.{first_day, last_day}
 use Rattle.club_values.specs.Hour.{hours_a_day}
 use Rattle.club_values.specs.Moment.{first_moment, last_moment}
 use Rattle.club_values.specs.Action.{action_text}
-use Rattle.club_values.specs.Weekday.{weekdays, weekday_of}
+use Rattle.club_values.specs.Weekday.{weekdays}
 use Rattle.pass_caveats.specs.Names.{max_names}
 use Rattle.club_values.specs.Number.{number_limit}
 use Rattle.pass_caveats.specs.Parts.{comma_parts, words_found}
-use Rattle.pass_caveats.specs.Actions.{all_actions, has_action, action_texts}
-use Rattle.pass_caveats.specs.Weekdays.{weekday_text, has_weekday, weekday_texts}
-use Rattle.pass_caveats.specs.Caveat.{caveat_text, max_caveat_len}
+use Rattle.pass_caveats.specs.Actions.{all_actions, action_texts}
+use Rattle.pass_caveats.specs.Weekdays.{weekday_text, weekday_texts}
+use Rattle.pass_caveats.specs.Caveat.{details_of, caveat_text, max_caveat_len}
 
 -- the set of the flags that are found
 abbrev pub actions_from : List Bool → SomeActions
@@ -80,31 +77,9 @@ spells text caveat = is_caveat caveat && bytes_eq text (caveat_text caveat) && n
 unfoldable pub caveat_of : List ℕ → Option Caveat
 caveat_of text = if spells text (candidate text) then Some (candidate text) else None
 
-abbrev pub in_slot : Option Slot → (Slot → Bool) → Bool
-in_slot None test = false
-in_slot (Some slot) test = test slot
-
-abbrev pub same_kind : AKind → AKind → Bool
-same_kind Court Court = true
-same_kind Boat Boat = true
-same_kind Room Room = true
-same_kind a b = false
-
-abbrev pub is_kind : Option AKind → AKind → Bool
-is_kind None kind = false
-is_kind (Some a) kind = same_kind a kind
-
 -- whether a caveat permits a request
 unfoldable pub permits : Caveat → Ask → Bool
-permits (Facility names) ask = in_slot ask.slot (λ slot. list_any (λ name. bytes_eq name slot.facility) names)
-permits (Kind kind) ask = in_slot ask.slot (λ _. is_kind ask.kind kind)
-permits (Hours from until) ask = in_slot ask.slot (λ slot. nat_le from slot.hour && nat_lt slot.hour until)
-permits (Days first last) ask = in_slot ask.slot (λ slot. nat_le first slot.day && nat_le slot.day last)
-permits (Weekdays set) ask = in_slot ask.slot (λ slot. has_weekday set (weekday_of slot.day))
-permits (Until moment) ask = nat_lt ask.moment moment
-permits (Guests n) ask = nat_le ask.guests n
-permits (Spend n) ask = ask.owed == 0 || nat_le (ask.spent + ask.owed) n
-permits (Actions actions) ask = has_action actions ask.action
+permits caveat ask = (details_of caveat).allows ask
 
 -- the first fault of parsed caveats, where the first caveat has this number
 abbrev pub first_fault_from : ℕ → List (Option Caveat) → Ask → Option CaveatFault
