@@ -138,7 +138,11 @@ fn persons<S: Alter>(rt: &(impl Abort + Alloc<A = Global>), store: &mut Store<S>
     court.expect(rt, "a slot").taken
 }
 
-fn run_task<S: Alter>(rt: &(impl Abort + Alloc<A = Global>), store: &mut Store<S>, task: &Task) -> End {
+fn run_task<S: Alter>(
+    rt: &(impl Abort + Alloc<A = Global>),
+    store: &mut Store<S>,
+    task: &Task,
+) -> End {
     match task {
         Task::Open => End::Done,
         Task::Change(change) if store.apply(change).is_err() => End::NotChanged,

@@ -27,7 +27,8 @@ permits_less caveat ask less more short h = h
 free_within : (owed one other n : ℕ) → owed ≡ 0 → (owed == 0 || nat_le (one + owed) n) ≡ (owed == 0 || nat_le (other + owed) n)
 free_within owed one other n free = rw free refl
 
-permits_free : (caveat : Caveat) (ask : Ask) (one other : ℕ) → ask.owed ≡ 0 → permits caveat (after_spending one ask) ≡ permits caveat (after_spending other ask)
+permits_free : (caveat : Caveat) (ask : Ask) (one other : ℕ) → ask.owed ≡ 0
+    → permits caveat (after_spending one ask) ≡ permits caveat (after_spending other ask)
 unfolding permits
 permits_free (Spend n) ask one other free = free_within ask.owed one other n free
 permits_free caveat ask one other free = refl

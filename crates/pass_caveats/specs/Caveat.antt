@@ -36,41 +36,41 @@ is_kind (Some Room) Room = true
 is_kind known kind = false
 
 -- a caveat's text, what its values have to be, and the requests that it allows
-pub record CaveatDetails : Type 1 where
+pub record CaveatRow : Type 1 where
   pub text : List ℕ
   pub IsReal : Type 0
   pub allows : Ask → Bool
 
-abbrev pub details : List ℕ → Type 0 → (Ask → Bool) → CaveatDetails
-details text IsReal allows = record { text = text; IsReal = IsReal; allows = allows }
+abbrev pub row : List ℕ → Type 0 → (Ask → Bool) → CaveatRow
+row text IsReal allows = record { text = text; IsReal = IsReal; allows = allows }
 
 -- a row for each kind of caveat
-abbrev pub details_of : Caveat → CaveatDetails
-details_of (Facility names) =
-    details (codes "facility = " ++ comma_list names) (AreNames names) (in_slot (λ slot. list_any (λ name. bytes_eq name slot.facility) names))
-details_of (Kind kind) = details (codes "kind = " ++ kind_text kind) ⊤ (λ ask. is_some ask.slot && is_kind ask.kind kind)
-details_of (Hours from until) =
-    details (codes "hours = " ++ (two_digits from ++ 45 ∷ two_digits until)) ((from < until) × (until ≤ hours_a_day))
+abbrev pub caveat_row : Caveat → CaveatRow
+caveat_row (Facility names) =
+    row (codes "facility = " ++ comma_list names) (AreNames names) (in_slot (λ slot. list_any (λ name. bytes_eq name slot.facility) names))
+caveat_row (Kind kind) = row (codes "kind = " ++ kind_text kind) ⊤ (λ ask. is_some ask.slot && is_kind ask.kind kind)
+caveat_row (Hours from until) =
+    row (codes "hours = " ++ (two_digits from ++ 45 ∷ two_digits until)) ((from < until) × (until ≤ hours_a_day))
     (in_slot (λ slot. nat_le from slot.hour && nat_lt slot.hour until))
-details_of (Days first last) =
-    details (codes "days = " ++ (day_text first ++ (codes ".." ++ day_text last))) (IsDay first × IsDay last × (first ≤ last))
+caveat_row (Days first last) =
+    row (codes "days = " ++ (day_text first ++ (codes ".." ++ day_text last))) (IsDay first × IsDay last × (first ≤ last))
     (in_slot (λ slot. nat_le first slot.day && nat_le slot.day last))
-details_of (Weekdays set) =
-    details (codes "weekday = " ++ comma_list (weekday_texts set)) (weekday_texts set ≢ []) (in_slot (λ slot. has_weekday set (weekday_of slot.day)))
-details_of (Until moment) = details (codes "until < " ++ moment_text moment) (IsMoment moment) (λ ask. nat_lt ask.moment moment)
-details_of (Guests n) = details (codes "guests <= " ++ decimal n) (n ≤ guests_limit) (λ ask. nat_le ask.guests n)
-details_of (Spend n) = details (codes "spend <= " ++ decimal n) (n ≤ number_limit) (λ ask. ask.owed == 0 || nat_le (ask.spent + ask.owed) n)
-details_of (Actions actions) =
-    details (codes "actions = " ++ comma_list (action_texts actions)) (action_texts actions ≢ []) (λ ask. has_action actions ask.action)
+caveat_row (Weekdays set) =
+    row (codes "weekday = " ++ comma_list (weekday_texts set)) (weekday_texts set ≢ []) (in_slot (λ slot. has_weekday set (weekday_of slot.day)))
+caveat_row (Until moment) = row (codes "until < " ++ moment_text moment) (IsMoment moment) (λ ask. nat_lt ask.moment moment)
+caveat_row (Guests n) = row (codes "guests <= " ++ decimal n) (n ≤ guests_limit) (λ ask. nat_le ask.guests n)
+caveat_row (Spend n) = row (codes "spend <= " ++ decimal n) (n ≤ number_limit) (λ ask. ask.owed == 0 || nat_le (ask.spent + ask.owed) n)
+caveat_row (Actions actions) =
+    row (codes "actions = " ++ comma_list (action_texts actions)) (action_texts actions ≢ []) (λ ask. has_action actions ask.action)
 
 abbrev pub IsCaveat : Caveat → Type 0
-IsCaveat caveat = (details_of caveat).IsReal
+IsCaveat caveat = (caveat_row caveat).IsReal
 
 abbrev pub caveat_text : Caveat → List ℕ
-caveat_text caveat = (details_of caveat).text
+caveat_text caveat = (caveat_row caveat).text
 
 abbrev pub Permits : Caveat → Ask → Type 0
-Permits caveat ask = IsTrue ((details_of caveat).allows ask)
+Permits caveat ask = IsTrue ((caveat_row caveat).allows ask)
 
 -- the text is a line
 pub record SpellsCaveat (text : List ℕ) (caveat : Caveat) : Type 0 where

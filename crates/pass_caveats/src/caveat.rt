@@ -2,7 +2,7 @@
 
 ghost use Rattle.std.specs.Prelude.{◌≡◌, ◌+◌, ◌==◌, ◌||◌, ◌↔◌, IsTrue, nat_le};
 ghost use Rattle.club_values.specs.Reading.{Reads};
-ghost use Rattle.pass_caveats.specs.Caveat.{SpellsCaveat, Understood, Permits, details_of};
+ghost use Rattle.pass_caveats.specs.Caveat.{SpellsCaveat, Understood, Permits, caveat_row};
 ghost use Rattle.pass_caveats.specs.computed.CaveatOf.{caveat_of, permits};
 
 use crate::actions::Actions;
@@ -92,7 +92,7 @@ pub fn read(bytes: &[u8]) -> Option<Caveat<'_>>
 }
 
 fn is_in_set(caveat: &Caveat, ask: &Ask) -> bool
-    ensures { result ≡ (details_of caveat.now).allows ask.now }
+    ensures { result ≡ (caveat_row caveat.now).allows ask.now }
 {
     match caveat {
         Caveat::Facility(names) => match &ask.slot {

@@ -25,7 +25,7 @@ use Rattle.club_values.specs.Number.{number_limit}
 use Rattle.pass_caveats.specs.Parts.{comma_parts, words_found}
 use Rattle.pass_caveats.specs.Actions.{all_actions, action_texts}
 use Rattle.pass_caveats.specs.Weekdays.{weekday_text, weekday_texts}
-use Rattle.pass_caveats.specs.Caveat.{details_of, caveat_text, max_caveat_len}
+use Rattle.pass_caveats.specs.Caveat.{caveat_row, caveat_text, max_caveat_len}
 
 -- the set of the flags that are found
 abbrev pub actions_from : List Bool → SomeActions
@@ -79,7 +79,7 @@ caveat_of text = if spells text (candidate text) then Some (candidate text) else
 
 -- whether a caveat permits a request
 unfoldable pub permits : Caveat → Ask → Bool
-permits caveat ask = (details_of caveat).allows ask
+permits caveat ask = (caveat_row caveat).allows ask
 
 -- the first fault of parsed caveats, where the first caveat has this number
 abbrev pub first_fault_from : ℕ → List (Option Caveat) → Ask → Option CaveatFault
