@@ -1,7 +1,7 @@
 //! Passes and expected answers, as plain values.
 
 use crate::values::name;
-use club_core::{Change, PassFault, Pass, Refusal, Verdict, Words};
+use club_core::{Change, Pass, PassFault, Refusal, Verdict, Words};
 use club_values::Name;
 use std::alloc::Global;
 use std::process::Abort;

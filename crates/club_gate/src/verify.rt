@@ -39,9 +39,7 @@ use crate::identifier::key_name_in;
 use crate::signing::Signing;
 use crate::walk::is_signed;
 use club_core::laws::{looks_no_further, own_bookings_suffice, views_decide};
-use club_core::{
-    ClubStore, PassFault, Refusal, Request, SentWords, StoreFault, Verdict, answer,
-};
+use club_core::{ClubStore, PassFault, Refusal, Request, SentWords, StoreFault, Verdict, answer};
 use club_rows::Key;
 use club_values::Moment;
 use key_cache::KeptKeys;

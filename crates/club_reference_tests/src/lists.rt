@@ -3,7 +3,7 @@
 use crate::answers::Answer;
 use crate::messages::{AMY, AMY_CHANGED, BOB, Shown, Step};
 use crate::play::{plays_by_each_call, plays_list};
-use club_core::{PassFault, OfficeFault, Refusal};
+use club_core::{OfficeFault, PassFault, Refusal};
 use std::alloc::Global;
 use std::process::Abort;
 use std::test::*;

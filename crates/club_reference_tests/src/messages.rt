@@ -1,7 +1,7 @@
 //! Passes as plain values, and the steps of worked lists.
 
 use crate::answers::Answer;
-use club_core::{Event, EventReply, PassFault, Pass, Request, Words};
+use club_core::{Event, EventReply, Pass, PassFault, Request, Words};
 use club_values::{Moment, Name};
 use std::alloc::Global;
 use std::process::Abort;

@@ -2,7 +2,7 @@
 //! there may be; court-1 with 4 places for 200 points, open from 8 to 22; amy's key amy-1; and the
 //! slots of 2026-05-01 at 19, which is closed, and at 20, which amy booked.
 
-use crate::runs::{ROOM, Row, run_command, expect_output, expect_rows, new_path, remove};
+use crate::runs::{ROOM, Row, expect_output, expect_rows, new_path, remove, run_command};
 use crate::served::reply_to;
 use crate::servers::OFFICE;
 use std::fs;

@@ -1,7 +1,7 @@
 //! Ends that aren't the office's: a writer that fails, and a port in use.
 
 use crate::clubs::expect_over_clubs;
-use crate::runs::{Row, run_command, expect_rows, new_path, remove};
+use crate::runs::{Row, expect_rows, new_path, remove, run_command};
 use std::net::TcpListener;
 use std::test::Fail;
 

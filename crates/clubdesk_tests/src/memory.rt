@@ -1,7 +1,7 @@
 //! A database in memory, and runs of the program over it.
 
 use crate::callers::{Caller, Machine};
-use crate::others::{OthersScript, NOBODY, Others};
+use crate::others::{NOBODY, Others, OthersScript};
 use crate::runs::{Output, ROOM, Row, Run, expect_output, words_of};
 use crate::terminal::{Input, NO_INPUT};
 use club_core::StoreFault;

@@ -1,7 +1,7 @@
 //! A server over memory that takes turns with other programs, and pauses.
 
-use crate::memory::{NAME, SceneOutcome, Scene, expect_openings, expect_scene, play, play_row};
-use crate::others::{OthersScript, NOBODY};
+use crate::memory::{NAME, Scene, SceneOutcome, expect_openings, expect_scene, play, play_row};
+use crate::others::{NOBODY, OthersScript};
 use crate::runs::Row;
 use crate::servers::OFFICE;
 use club_core::StoreFault;
