@@ -9,6 +9,10 @@ mod databases;
 #[cfg(test)]
 mod expect;
 #[cfg(test)]
+mod files;
+#[cfg(test)]
+mod held;
+#[cfg(test)]
 mod limits;
 #[cfg(test)]
 mod read;

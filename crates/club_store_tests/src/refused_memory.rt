@@ -4,6 +4,7 @@
 
 use crate::databases::{Contents, database, version};
 use crate::expect::expect_eq;
+use crate::files::{open, path_of, remove};
 use crate::steps::{Step, plays};
 use crate::versions::{MIGRATED, NOBODY};
 use club_core::StoreFault;
@@ -13,7 +14,6 @@ use sqlite_disk::Disk;
 use std::alloc::Global;
 use std::process::Abort;
 use std::test::Fail;
-use std::{env, fs, process};
 
 /// What the store over these shows.
 fn shown(contents: Contents) -> &'static [Step] {
@@ -112,7 +112,7 @@ fn file_store(
     host: &HostRuntime,
     path: &str,
 ) -> Result<Store<FileStore<FileFrom<Unknown>>>, StoreFault> {
-    match Store::open_file(host, path, Unknown) {
+    match open(host, path) {
         Ok(store) => Ok(store),
         Err((fault, _left)) => Err(fault),
     }
@@ -153,22 +153,6 @@ fn opens_at(
         expect_eq(rt, &fault, &StoreFault::Memory);
         expect_eq(rt, &is_opened(host, rt, path, contents), &Ok(()));
     }
-}
-
-/// A path of this process alone.
-fn path_of(host: &HostRuntime) -> Result<String, Fail> {
-    let folder = env::temp_dir(host)?;
-    let folder = folder.as_str();
-    let id = process::id(host.process());
-    Ok(format!(in host.alloc(); "{folder}/club-{id}")?)
-}
-
-/// Removes a file, and its log, which may be gone already.
-fn remove(host: &HostRuntime, path: &str) -> Result<(), Fail> {
-    fs::remove_file(host, path)?;
-    let log = format!(in host.alloc(); "{path}-wal")?;
-    let _ = fs::remove_file(host, log.as_str());
-    Ok(())
 }
 
 /// A file that isn't there yet, and one that is.

@@ -1,11 +1,8 @@
-//! Wishes and addresses beside a file, a file that is held, and the modes of files.
+//! Wishes and addresses beside a file, and the modes of files.
 
 use crate::expect::expect_eq;
 use crate::runs::{Row, expect_rows, log_of, new_path, remove};
-use club_core::StoreFault;
-use club_store::{Remains, Store};
 use clubdesk_files::{Address, Attempts, Mark, gain, is_paused, is_wished, wake};
-use sqlite::{FileFrom, Start, Unknown};
 use std::alloc::AllocError;
 use std::cell::Cell;
 use std::net::TcpListener;
@@ -16,45 +13,6 @@ use std::time::{Clock, Duration};
 use std::{fs, io};
 
 static AMY: [Row; 1] = [Row("add-member", "amy 5", "0 done\n")];
-
-// In a word what comes of an opening.
-fn word_of<S, Q: Start>(opened: &Result<S, (StoreFault, Remains<FileFrom<Q>>)>) -> &'static str {
-    match opened {
-        Ok(_) => "opened",
-        Err((_, Remains::Held)) => "held",
-        Err((_, Remains::Files(None))) => "nothing",
-        Err(_) => "refused",
-    }
-}
-
-// The words of two openings, the second beside the first. It is the one function here that names
-// the types of a file: the proof of each takes half a minute.
-fn two_openings(rt: &HostRuntime, path: &str) -> [&'static str; 2] {
-    let first = Store::open_file(rt, path, Unknown);
-    let second = Store::open_file(rt, path, Unknown);
-    [word_of(&first), word_of(&second)]
-}
-
-// What comes of an opening that has nothing beside it.
-fn comes_of(rt: &HostRuntime, path: &str) -> &'static str {
-    let [word, _] = two_openings(rt, path);
-    word
-}
-
-// A file that another program has is distinguished from one that can't be opened.
-#[test]
-fn a_held_file(rt: HostRuntime) -> Result<(), Fail> {
-    let path = new_path(&rt, "held")?;
-    let path = path.as_str();
-    expect_eq(&rt, &two_openings(&rt, path), &["opened", "held"]);
-    expect_eq(&rt, &comes_of(&rt, path), &"opened");
-    remove(&rt, path);
-    expect_eq(&rt, &comes_of(&rt, "/"), &"nothing");
-    fs::write(&rt, path, [b'x'; 100])?;
-    expect_eq(&rt, &comes_of(&rt, path), &"refused");
-    remove(&rt, path);
-    Ok(())
-}
 
 // The mode of a file; `None` if it isn't there.
 fn mode_of(rt: &HostRuntime, path: &str) -> Option<u32> {

@@ -8,7 +8,7 @@ use crate::work::{Work, worked};
 use club_store::Store;
 use club_store::laws::{files_hold_one_of, memory_disk_is_clean, one_club_recovered};
 use desk_theorem::served_survives_a_crash;
-use sqlite::{Connection, FileStore, Unknown};
+use sqlite::{Connection, FileFrom, FileStore, Unknown};
 use sqlite_disk::Disk;
 use std::alloc::Global;
 use std::process::Abort;
@@ -83,18 +83,24 @@ fn last_line_over<D: Disk + Drop>(
     lines?.pop()
 }
 
-/// The same over the file at a path, which may not be there. It and `laws_hold` are the functions
-/// here that name the types of a real file: the proof of each takes half a minute.
+/// The store in the file at a path, which may not be there; `None` if it can't be opened. It is the
+/// one function here that calls `open_file`: the proof of each takes half a minute.
+fn open(rt: &HostRuntime, path: &str) -> Option<Store<FileStore<FileFrom<Unknown>>>> {
+    match Store::open_file(rt, path, Unknown) {
+        Ok(store) => Some(store),
+        Err(_) => None,
+    }
+}
+
+/// The same over the file at a path, which may not be there.
 fn last_line(
     rt: &HostRuntime,
     test: &(impl Abort + Alloc<A = Global>),
     path: &str,
     visit: Visit,
 ) -> Option<String> {
-    match Store::open_file(rt, path, Unknown) {
-        Ok(store) => last_line_over(test, store.into_connection(), visit),
-        Err(_) => None,
-    }
+    let store = open(rt, path)?;
+    last_line_over(test, store.into_connection(), visit)
 }
 
 /// Ends the test unless the last line of a visit's output is its own.
@@ -120,10 +126,10 @@ fn prints_a_booking_in_the_log_alone(rt: HostRuntime) -> Result<(), Fail> {
 
 /// Calls each law at stores over two files and at one in memory; `false` if one wasn't opened.
 fn laws_hold(rt: &HostRuntime, first: &str, second: &str) -> bool {
-    let Ok(before) = Store::open_file(rt, first, Unknown) else {
+    let Some(before) = open(rt, first) else {
         return false;
     };
-    let Ok(after) = Store::open_file(rt, second, Unknown) else {
+    let Some(after) = open(rt, second) else {
         return false;
     };
     let Ok(memory) = Store::open_in_memory(rt.alloc()) else {
