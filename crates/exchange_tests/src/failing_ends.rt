@@ -4,6 +4,7 @@ use crate::ends::{Giver, Taker, WHOLE};
 use crate::expect::{expect_eq, expect_output};
 use crate::front::Front;
 use crate::messages::{ACCOUNT, ACCOUNT_AFTER, BOOK_7, BOOKED_7, NOT_YET, Step};
+use club_core::ClubStore;
 use club_http::{AnswerFault, MAX_REPLY_LEN};
 use pass_forms::Form;
 use std::alloc::Global;
@@ -25,7 +26,12 @@ static KEPT_BOOKING: [Step; 3] = [
 ];
 
 /// The booking is exchanged whole.
-fn is_booked(rt: &impl Abort, front: &mut Front, giver: &mut Giver<'_>, taker: &mut Taker) {
+fn is_booked<S: ClubStore>(
+    rt: &impl Abort,
+    front: &mut Front<S>,
+    giver: &mut Giver<'_>,
+    taker: &mut Taker,
+) {
     let fault = front.exchange(rt, NOON, giver, taker);
     expect_eq(rt, &fault, &None);
     expect_output(
@@ -88,7 +94,7 @@ fn narrow_writer(rt: HostRuntime) {
 }
 
 /// Cut by an end of the input it is a bad request.
-fn is_cut_by_its_end(rt: &impl Abort, front: &mut Front, bytes: &[u8]) {
+fn is_cut_by_its_end<S: ClubStore>(rt: &impl Abort, front: &mut Front<S>, bytes: &[u8]) {
     let taker = front.written_to(rt, NOON, bytes);
     expect_output(
         rt,
@@ -99,7 +105,7 @@ fn is_cut_by_its_end(rt: &impl Abort, front: &mut Front, bytes: &[u8]) {
 }
 
 /// Cut by a failure of the reader nothing is written.
-fn is_cut_by_a_failure(rt: &impl Abort, front: &mut Front, bytes: &[u8]) {
+fn is_cut_by_a_failure<S: ClubStore>(rt: &impl Abort, front: &mut Front<S>, bytes: &[u8]) {
     let mut giver = Giver::failing(bytes, WHOLE);
     let mut taker = Taker::whole();
     let fault = front.exchange(rt, NOON, &mut giver, &mut taker);
@@ -108,7 +114,7 @@ fn is_cut_by_a_failure(rt: &impl Abort, front: &mut Front, bytes: &[u8]) {
 }
 
 /// The booking, cut anywhere.
-fn are_cut(rt: &impl Abort, front: &mut Front) {
+fn are_cut<S: ClubStore>(rt: &impl Abort, front: &mut Front<S>) {
     let bytes = exchanges::BOOK_7.as_bytes();
     for len in 0..bytes.len() {
         is_cut_by_its_end(rt, front, &bytes[..len]);
@@ -135,7 +141,7 @@ fn expect_first(rt: &impl Abort, returned: &[u8], len: usize) {
 }
 
 /// A writer that fails or stalls after so many bytes gets these of the reply.
-fn gets_the_first(rt: &impl Abort, front: &mut Front, len: usize, stalls: bool) {
+fn gets_the_first<S: ClubStore>(rt: &impl Abort, front: &mut Front<S>, len: usize, stalls: bool) {
     let mut giver = Giver::failing(exchanges::BOOK_7.as_bytes(), WHOLE);
     let mut taker = Taker::new(MAX_REPLY_LEN, len, stalls);
     let fault = front.exchange(rt, NOON, &mut giver, &mut taker);

@@ -17,10 +17,12 @@ use std::alloc::Global;
 use std::process::Abort;
 use test_kit::{FIXTURE, Order};
 
+/// A desk behind its face. What is asked of it is generic over the store: the proof of each function
+/// that names the type of the tables takes seconds.
 #[derive(Drop)]
-pub(crate) struct Front {
+pub(crate) struct Front<S: ClubStore> {
     face: Face,
-    pub desk: Desk<Store<MemStore>>,
+    pub desk: Desk<S>,
 }
 
 pub(crate) fn moment(rt: &impl Abort, text: &str) -> Moment {
@@ -52,8 +54,8 @@ fn failure<D: Responder, R: Inlet, W: Outlet>(
     answer(face, desk, moment, reader, writer).err()
 }
 
-impl Front {
-    fn empty(rt: &(impl Abort + Alloc<A = Global>)) -> Front {
+impl Front<Store<MemStore>> {
+    fn empty(rt: &(impl Abort + Alloc<A = Global>)) -> Front<Store<MemStore>> {
         Front {
             face: Face::new(rt.alloc()).expect(rt, "a face"),
             desk: empty_desk(rt),
@@ -61,12 +63,14 @@ impl Front {
     }
 
     /// The fixture.
-    pub fn opened(rt: &(impl Abort + Alloc<A = Global>)) -> Front {
+    pub fn opened(rt: &(impl Abort + Alloc<A = Global>)) -> Front<Store<MemStore>> {
         let mut front = Front::empty(rt);
         front.carries_out(rt, &FIXTURE);
         front
     }
+}
 
+impl<S: ClubStore> Front<S> {
     /// Ends the test unless these orders are done.
     fn carries_out(&mut self, rt: &impl Abort, orders: &[Order]) {
         for order in orders {

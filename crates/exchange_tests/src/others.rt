@@ -6,6 +6,7 @@ use crate::messages::{
     NO_GUESTS, Step,
 };
 use crate::passes::text_in;
+use club_core::ClubStore;
 use pass_forms::Form;
 use std::alloc::Global;
 use std::process::Abort;
@@ -66,9 +67,9 @@ fn booked_by_cy(rt: &(impl Abort + Alloc<A = Global>), number: u32) -> String {
 }
 
 /// Cy books a place in `court-1` on a day of May under a number of two digits.
-fn cy_books(
+fn cy_books<S: ClubStore>(
     rt: &(impl Abort + Alloc<A = Global>),
-    front: &mut Front,
+    front: &mut Front<S>,
     form: Form,
     (day, hour, number): (u32, u32, u32),
 ) {
@@ -80,7 +81,11 @@ fn cy_books(
 }
 
 /// Twenty bookings of others in other slots, credits, and a new key and a revoked one of bob's.
-fn others_are_busy(rt: &(impl Abort + Alloc<A = Global>), front: &mut Front, form: Form) {
+fn others_are_busy<S: ClubStore>(
+    rt: &(impl Abort + Alloc<A = Global>),
+    front: &mut Front<S>,
+    form: Form,
+) {
     front.plays(rt, form, &BEFORE_CY);
     for hour in 10..20u32 {
         cy_books(rt, front, form, (2, hour, hour));

@@ -25,9 +25,9 @@ fn is_unavailable(taker: &Taker) -> bool {
 }
 
 /// The output for a request of amy's.
-fn written_to(
+fn written_to<S: ClubStore>(
     rt: &(impl Abort + Alloc<A = Global>),
-    front: &mut Front,
+    front: &mut Front<S>,
     form: Form,
     asked: &Asked<'_>,
 ) -> Taker {
@@ -36,9 +36,9 @@ fn written_to(
 }
 
 /// Expects this reply; if the one refused allocation falls here, ends with out of memory.
-fn expect_reply_or_end(
+fn expect_reply_or_end<S: ClubStore>(
     rt: &(impl Abort + Alloc<A = Global>),
-    front: &mut Front,
+    front: &mut Front<S>,
     form: Form,
     asked: &Asked<'_>,
     returned: &HttpReply<'_>,
@@ -52,16 +52,20 @@ fn expect_reply_or_end(
 }
 
 /// The booking is kept.
-fn booking_is_kept(rt: &(impl Abort + Alloc<A = Global>), front: &mut Front, form: Form) {
+fn booking_is_kept<S: ClubStore>(
+    rt: &(impl Abort + Alloc<A = Global>),
+    front: &mut Front<S>,
+    form: Form,
+) {
     expect_reply_or_end(rt, front, form, &BOOK_7, &BOOKED_7);
     expect_reply_or_end(rt, front, form, &ACCOUNT, &ACCOUNT_AFTER);
 }
 
 /// The first reply to the booking: the booking's, and then the booking is kept; or unavailable, and
 /// then nothing changed, and the booking is served when it comes again.
-fn is_booked_or_unavailable(
+fn is_booked_or_unavailable<S: ClubStore>(
     rt: &(impl Abort + Alloc<A = Global>),
-    front: &mut Front,
+    front: &mut Front<S>,
     form: Form,
     taker: &Taker,
 ) {
@@ -117,9 +121,9 @@ fn text_of(reply: &Reply) -> Taker {
 }
 
 /// The reply to a list of one request; `None` if memory for the replies is refused.
-fn written_in_a_list(
+fn written_in_a_list<S: ClubStore>(
     rt: &(impl Abort + Alloc<A = Global>),
-    front: &mut Front,
+    front: &mut Front<S>,
     bytes: &[u8],
 ) -> Option<Taker> {
     let routes = Routes::new(rt.alloc()).expect(rt, "routes");
@@ -134,16 +138,16 @@ fn written_in_a_list(
 }
 
 /// The reply to a list of the booking alone.
-fn written_to_the_booking(
+fn written_to_the_booking<S: ClubStore>(
     rt: &(impl Abort + Alloc<A = Global>),
-    front: &mut Front,
+    front: &mut Front<S>,
     form: Form,
 ) -> Option<Taker> {
     let bytes = BOOK_7.text(rt, text_in(&AMY, form));
     written_in_a_list(rt, front, bytes.as_bytes())
 }
 
-fn is_run(rt: &(impl Abort + Alloc<A = Global>), front: &mut Front, form: Form) {
+fn is_run<S: ClubStore>(rt: &(impl Abort + Alloc<A = Global>), front: &mut Front<S>, form: Form) {
     match written_to_the_booking(rt, front, form) {
         Some(taker) => is_booked_or_unavailable(rt, front, form, &taker),
         None => front.plays(rt, form, &NOT_YET),
