@@ -108,7 +108,7 @@ impl<Q: Start> Store<FileStore<FileFrom<Q>>> {
     /// Opens the tables in the file at a path, and makes the file if there is none. `start`
     /// represents what the file and its log hold. If it fails, it returns what is left beside the
     /// fault: the connection that `adopt` refused, or the files that weren't opened; nothing of a
-    /// file that another program has open. A path that names no file is `Storage`.
+    /// file that another program has open. The path `:memory:`, which names no file, is `Storage`.
     pub fn open_file(
         rt: &HostRuntime,
         path: &str,

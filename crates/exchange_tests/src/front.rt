@@ -17,8 +17,8 @@ use std::alloc::Global;
 use std::process::Abort;
 use test_kit::{FIXTURE, Order};
 
-/// A desk behind its face. What is asked of it is generic over the store: the proof of each function
-/// that names the type of the tables takes seconds.
+/// A desk behind its face. What is asked of it is generic over the store, since the proof of each
+/// function that names the type of the tables takes seconds.
 #[derive(Drop)]
 pub(crate) struct Front<S: ClubStore> {
     face: Face,
