@@ -6,8 +6,8 @@ use sqlite::{FileFrom, FileStore, Unknown};
 use std::test::Fail;
 use std::{env, fs, process};
 
-/// Opens the store in the file at a path. It is the one function here that calls `open_file`: the
-/// proof of each takes half a minute.
+/// Opens the store in the file at a path. It is the one function here that calls `open_file`, since
+/// the proof of such a call takes half a minute.
 pub fn open(
     host: &HostRuntime,
     path: &str,

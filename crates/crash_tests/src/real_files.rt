@@ -84,7 +84,7 @@ fn last_line_over<D: Disk + Drop>(
 }
 
 /// The store in the file at a path, which may not be there; `None` if it can't be opened. It is the
-/// one function here that calls `open_file`: the proof of each takes half a minute.
+/// one function here that calls `open_file`, since the proof of such a call takes half a minute.
 fn open(rt: &HostRuntime, path: &str) -> Option<Store<FileStore<FileFrom<Unknown>>>> {
     match Store::open_file(rt, path, Unknown) {
         Ok(store) => Some(store),

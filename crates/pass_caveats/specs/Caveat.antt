@@ -35,7 +35,7 @@ is_kind (Some Boat) Boat = true
 is_kind (Some Room) Room = true
 is_kind known kind = false
 
--- a caveat's text, what its values have to be, and the requests that it allows
+-- a caveat's line, what its values have to be, and whether it allows a request
 pub record CaveatRow : Type 1 where
   pub text : List ℕ
   pub IsReal : Type 0
@@ -63,12 +63,15 @@ caveat_row (Spend n) = row (codes "spend <= " ++ decimal n) (n ≤ number_limit)
 caveat_row (Actions actions) =
     row (codes "actions = " ++ comma_list (action_texts actions)) (action_texts actions ≢ []) (λ ask. has_action actions ask.action)
 
+-- the values that a line may have
 abbrev pub IsCaveat : Caveat → Type 0
 IsCaveat caveat = (caveat_row caveat).IsReal
 
+-- the line of these values
 abbrev pub caveat_text : Caveat → List ℕ
 caveat_text caveat = (caveat_row caveat).text
 
+-- the request is one that the caveat allows
 abbrev pub Permits : Caveat → Ask → Type 0
 Permits caveat ask = IsTrue ((caveat_row caveat).allows ask)
 
