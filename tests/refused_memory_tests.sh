@@ -36,8 +36,6 @@ club_gate_tests refused_memory::run_in_json
 exchange_tests refused_memory::exchange_in_v1
 exchange_tests refused_memory::exchange_in_v2
 exchange_tests refused_memory::exchange_in_json
-exchange_tests refused_memory::run_in_v2
-exchange_tests refused_memory::run_in_json
 exchange_tests refused_memory::faults_of_bytes
 club_http_tests bodies::refused_memory
 club_http_tests counted::refused_memory

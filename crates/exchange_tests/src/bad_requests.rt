@@ -1,7 +1,8 @@
 //! Requests that are none, or none of the desk's, each with its reply.
 
-use crate::front::Front;
+use crate::front::{Front, Scene, play};
 use crate::messages::{ACCOUNT_BEFORE, BAD_REQUEST, BOOKED_7, HttpReply, PASS_MALFORMED};
+use club_core::ClubStore;
 use std::alloc::Global;
 use std::process::Abort;
 use test_kit::moments::NOON;
@@ -18,18 +19,44 @@ fn with_pass(rt: &(impl Abort + Alloc<A = Global>), (line, rest): &(&str, &str))
     bytes.expect(rt, "memory")
 }
 
-/// Sends each of these, and expects this reply: the beginning of its bytes, and what follows amy's
-/// pass.
+/// Requests, each of which gets this reply.
+#[derive(Clone, Copy)]
+struct Requests<'a> {
+    requests: &'a [&'a str],
+    returned: &'a HttpReply<'a>,
+}
+
+impl Scene for Requests<'_> {
+    fn play<S: ClubStore>(&self, rt: &(impl Abort + Alloc<A = Global>), front: &mut Front<S>) {
+        for bytes in self.requests {
+            front.expect_reply(rt, NOON, bytes, self.returned);
+        }
+    }
+}
+
+/// The same, each with amy's pass: the beginning of its bytes, and what follows the pass.
+#[derive(Clone, Copy)]
+struct RequestsWithPass<'a> {
+    requests: &'a [(&'a str, &'a str)],
+    returned: &'a HttpReply<'a>,
+}
+
+impl Scene for RequestsWithPass<'_> {
+    fn play<S: ClubStore>(&self, rt: &(impl Abort + Alloc<A = Global>), front: &mut Front<S>) {
+        for parts in self.requests {
+            let bytes = with_pass(rt, parts);
+            front.expect_reply(rt, NOON, bytes.as_str(), self.returned);
+        }
+    }
+}
+
+/// Sends each of these with amy's pass, and expects this reply.
 fn expect_reply_to_each(
     rt: &(impl Abort + Alloc<A = Global>),
     requests: &[(&str, &str)],
     returned: &HttpReply<'_>,
 ) {
-    let mut front = Front::opened(rt);
-    for parts in requests {
-        let bytes = with_pass(rt, parts);
-        front.expect_reply(rt, NOON, bytes.as_str(), returned);
-    }
+    play(rt, &RequestsWithPass { requests, returned });
 }
 
 /// The same for whole requests.
@@ -38,10 +65,7 @@ fn expect_reply_to_bytes(
     requests: &[&str],
     returned: &HttpReply<'_>,
 ) {
-    let mut front = Front::opened(rt);
-    for bytes in requests {
-        front.expect_reply(rt, NOON, bytes, returned);
-    }
+    play(rt, &Requests { requests, returned });
 }
 
 static ODD_HEADS: [(&str, &str); 14] = [

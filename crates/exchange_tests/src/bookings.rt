@@ -1,33 +1,18 @@
 //! Worked rows of bookings: what they cost, when and where they are taken, and what comes back.
 
-use crate::expect::expect_eq;
 use crate::front::plays_in_all_forms;
 use crate::messages::{
     ACCOUNT, ACCOUNT_AFTER, ACCOUNT_BEFORE, Asked, BOOK_2, BOOK_7, BOOK_8, BOOKED_7, CANCEL_7,
-    CANCELLED_7, FREE, HttpReply, NO_GUESTS, NOT_VERIFIED, ONE_GUEST, PUT_2, PUT_7, Step, TAKEN,
-    TWO_GUESTS, VIEW,
+    CANCELLED_7, FREE, HttpReply, NO_GUESTS, ONE_GUEST, PUT_2, PUT_7, Step, TAKEN, TWO_GUESTS,
+    VIEW,
 };
 use crate::passes::DI;
 use club_core::OfficeFault;
 use club_gate::Fault;
-use std::alloc::Global;
-use std::process::Abort;
 use test_kit::moments::{BEFORE_START, BEGUN, DAY_AHEAD, LATER, NOON, START};
 use test_kit::passes::{AMY, BOB, CY};
 use test_kit::roots::ROOT;
 use test_kit::{COURT_AT_18, Order};
-
-/// Ends the test unless the whole reply has so many bytes.
-fn has_length(rt: &(impl Abort + Alloc<A = Global>), returned: &HttpReply<'_>, len: usize) {
-    expect_eq(rt, &returned.text(rt).len(), &len);
-}
-
-// The known lengths of whole replies, in bytes.
-#[test]
-fn lengths_of_replies(rt: HostRuntime) {
-    has_length(&rt, &BOOKED_7, 133);
-    has_length(&rt, &NOT_VERIFIED, 159);
-}
 
 const CONFLICT: &str = "409 Conflict";
 

@@ -2,16 +2,16 @@
 
 use crate::ends::{Giver, Taker, WHOLE};
 use crate::expect::{expect_eq, expect_output};
-use crate::front::Front;
+use crate::front::{Front, Scene, play};
 use crate::messages::{ACCOUNT, ACCOUNT_AFTER, BOOK_7, BOOKED_7, NOT_YET, Step};
 use club_core::ClubStore;
 use club_http::{AnswerFault, MAX_REPLY_LEN};
 use pass_forms::Form;
 use std::alloc::Global;
 use std::process::Abort;
-use test_kit::exchanges;
 use test_kit::moments::NOON;
 use test_kit::passes::AMY;
+use test_kit::{exchanges, joined};
 
 /// The bytes of the booking's reply.
 const REPLY_LEN: usize = 133;
@@ -43,54 +43,75 @@ fn is_booked<S: ClubStore>(
 }
 
 /// How many bytes a call gives, and how many calls give the booking's 203.
-static STEPS: [(usize, u64); 4] = [(1, 203), (2, 102), (7, 29), (WHOLE, 1)];
+struct ByCalls(usize, u64);
 
-fn is_read_by_steps(rt: &(impl Abort + Alloc<A = Global>), step: usize, calls: u64) {
-    let mut front = Front::opened(rt);
-    let mut giver = Giver::failing(exchanges::BOOK_7.as_bytes(), step);
-    is_booked(rt, &mut front, &mut giver, &mut Taker::whole());
-    expect_eq(rt, &(giver.left.len(), giver.calls), &(0, calls));
+static BY_CALLS: [ByCalls; 4] = [
+    ByCalls(1, 203),
+    ByCalls(2, 102),
+    ByCalls(7, 29),
+    ByCalls(WHOLE, 1),
+];
+
+impl Scene for ByCalls {
+    fn play<S: ClubStore>(&self, rt: &(impl Abort + Alloc<A = Global>), front: &mut Front<S>) {
+        let mut giver = Giver::failing(exchanges::BOOK_7.as_bytes(), self.0);
+        is_booked(rt, front, &mut giver, &mut Taker::whole());
+        expect_eq(rt, &(giver.left.len(), giver.calls), &(0, self.1));
+    }
 }
 
 // However few bytes a call gives, the request is read to its last byte, and no call comes after:
 // the reader would fail.
 #[test]
 fn reads_no_further_than_the_request(rt: HostRuntime) {
-    for (step, calls) in &STEPS {
-        is_read_by_steps(&rt, *step, *calls);
+    for scene in &BY_CALLS {
+        play(&rt, scene);
     }
 }
 
 /// So many bytes behind the booking, and how many of them stay with a reader that gives all.
-static BEHIND: [(usize, usize); 3] = [(1, 0), (1_000, 0), (100_000, 83_563)];
+struct Behind(usize, usize);
 
-fn is_booked_with(rt: &(impl Abort + Alloc<A = Global>), behind: usize, left: usize) {
-    let mut text = exchanges::BOOK_7.to_string(rt.alloc()).expect(rt, "memory");
-    for _ in 0..behind {
-        text.push('x').expect(rt, "memory");
+static BEHIND: [Behind; 3] = [Behind(1, 0), Behind(1_000, 0), Behind(100_000, 83_563)];
+
+/// The booking, and so many bytes.
+fn booking_with(rt: &(impl Abort + Alloc<A = Global>), behind: usize) -> String {
+    joined(rt.alloc(), &[(1, exchanges::BOOK_7), (behind, "x")]).expect(rt, "memory")
+}
+
+impl Scene for Behind {
+    fn play<S: ClubStore>(&self, rt: &(impl Abort + Alloc<A = Global>), front: &mut Front<S>) {
+        let text = booking_with(rt, self.0);
+        let mut giver = Giver::failing(text.as_bytes(), 200_000);
+        is_booked(rt, front, &mut giver, &mut Taker::whole());
+        expect_eq(rt, &(giver.left.len(), giver.calls), &(self.1, 1));
     }
-    let mut front = Front::opened(rt);
-    let mut giver = Giver::failing(text.as_bytes(), 200_000);
-    is_booked(rt, &mut front, &mut giver, &mut Taker::whole());
-    expect_eq(rt, &(giver.left.len(), giver.calls), &(left, 1));
 }
 
 // What follows a request is taken with it, up to the buffer's end, and changes nothing.
 #[test]
 fn takes_what_follows(rt: HostRuntime) {
-    for (behind, left) in &BEHIND {
-        is_booked_with(&rt, *behind, *left);
+    for scene in &BEHIND {
+        play(&rt, scene);
     }
 }
 
-// A writer that takes a byte a call gets the whole reply.
+/// A writer that takes a byte a call.
+struct NarrowWriter;
+
+impl Scene for NarrowWriter {
+    fn play<S: ClubStore>(&self, rt: &(impl Abort + Alloc<A = Global>), front: &mut Front<S>) {
+        let mut giver = Giver::failing(exchanges::BOOK_7.as_bytes(), WHOLE);
+        let mut taker = Taker::new(1, MAX_REPLY_LEN, false);
+        is_booked(rt, front, &mut giver, &mut taker);
+        expect_eq(rt, &taker.calls, &(REPLY_LEN as u64));
+    }
+}
+
+// It gets the whole reply.
 #[test]
 fn narrow_writer(rt: HostRuntime) {
-    let mut front = Front::opened(&rt);
-    let mut giver = Giver::failing(exchanges::BOOK_7.as_bytes(), WHOLE);
-    let mut taker = Taker::new(1, MAX_REPLY_LEN, false);
-    is_booked(&rt, &mut front, &mut giver, &mut taker);
-    expect_eq(&rt, &taker.calls, &(REPLY_LEN as u64));
+    play(&rt, &NarrowWriter);
 }
 
 /// Cut by an end of the input it is a bad request.
@@ -114,20 +135,23 @@ fn is_cut_by_a_failure<S: ClubStore>(rt: &impl Abort, front: &mut Front<S>, byte
 }
 
 /// The booking, cut anywhere.
-fn are_cut<S: ClubStore>(rt: &impl Abort, front: &mut Front<S>) {
-    let bytes = exchanges::BOOK_7.as_bytes();
-    for len in 0..bytes.len() {
-        is_cut_by_its_end(rt, front, &bytes[..len]);
-        is_cut_by_a_failure(rt, front, &bytes[..len]);
+struct CutInput;
+
+impl Scene for CutInput {
+    fn play<S: ClubStore>(&self, rt: &(impl Abort + Alloc<A = Global>), front: &mut Front<S>) {
+        let bytes = exchanges::BOOK_7.as_bytes();
+        for len in 0..bytes.len() {
+            is_cut_by_its_end(rt, front, &bytes[..len]);
+            is_cut_by_a_failure(rt, front, &bytes[..len]);
+        }
+        front.plays(rt, Form::V2, &NOT_YET);
     }
 }
 
-// Cut anywhere, it leaves the desk unchanged.
+// It leaves the desk unchanged.
 #[test]
 fn cut_input(rt: HostRuntime) {
-    let mut front = Front::opened(&rt);
-    are_cut(&rt, &mut front);
-    front.plays(&rt, Form::V2, &NOT_YET);
+    play(&rt, &CutInput);
 }
 
 /// Fails the test unless these are the first so many bytes of the reply.
@@ -140,32 +164,35 @@ fn expect_first(rt: &impl Abort, returned: &[u8], len: usize) {
     );
 }
 
-/// A writer that fails or stalls after so many bytes gets these of the reply.
-fn gets_the_first<S: ClubStore>(rt: &impl Abort, front: &mut Front<S>, len: usize, stalls: bool) {
-    let mut giver = Giver::failing(exchanges::BOOK_7.as_bytes(), WHOLE);
-    let mut taker = Taker::new(MAX_REPLY_LEN, len, stalls);
-    let fault = front.exchange(rt, NOON, &mut giver, &mut taker);
-    expect_eq(rt, &fault, &Some(AnswerFault::Write(len)));
-    expect_first(rt, taker.written(), len);
+/// A writer that fails or stalls after so many bytes.
+#[derive(Clone, Copy)]
+struct ShortWriter {
+    len: usize,
+    stalls: bool,
 }
 
-/// The writer fails or stalls after so many bytes, and the booking is kept.
-fn fails_after(rt: &(impl Abort + Alloc<A = Global>), len: usize, stalls: bool) {
-    let mut front = Front::opened(rt);
-    gets_the_first(rt, &mut front, len, stalls);
-    front.plays(rt, Form::V2, &KEPT_BOOKING);
+// It gets these bytes of the reply, and the booking is kept.
+impl Scene for ShortWriter {
+    fn play<S: ClubStore>(&self, rt: &(impl Abort + Alloc<A = Global>), front: &mut Front<S>) {
+        let mut giver = Giver::failing(exchanges::BOOK_7.as_bytes(), WHOLE);
+        let mut taker = Taker::new(MAX_REPLY_LEN, self.len, self.stalls);
+        let fault = front.exchange(rt, NOON, &mut giver, &mut taker);
+        expect_eq(rt, &fault, &Some(AnswerFault::Write(self.len)));
+        expect_first(rt, taker.written(), self.len);
+        front.plays(rt, Form::V2, &KEPT_BOOKING);
+    }
 }
 
 #[test]
 fn failing_writers(rt: HostRuntime) {
     for len in 0..REPLY_LEN {
-        fails_after(&rt, len, false);
+        play(&rt, &ShortWriter { len, stalls: false });
     }
 }
 
 #[test]
 fn stalled_writers(rt: HostRuntime) {
-    fails_after(&rt, 0, true);
-    fails_after(&rt, 1, true);
-    fails_after(&rt, REPLY_LEN - 1, true);
+    for len in [0, 1, REPLY_LEN - 1] {
+        play(&rt, &ShortWriter { len, stalls: true });
+    }
 }

@@ -12,13 +12,11 @@ use club_http::{
 use club_store::Store;
 use club_values::Moment;
 use pass_forms::Form;
-use sqlite::MemStore;
 use std::alloc::Global;
 use std::process::Abort;
 use test_kit::{FIXTURE, Order};
 
-/// A desk behind its face. What is asked of it is generic over the store, since the proof of each
-/// function that names the type of the tables takes seconds.
+/// A desk behind its face.
 #[derive(Drop)]
 pub(crate) struct Front<S: ClubStore> {
     face: Face,
@@ -27,12 +25,6 @@ pub(crate) struct Front<S: ClubStore> {
 
 pub(crate) fn moment(rt: &impl Abort, text: &str) -> Moment {
     Moment::read(text.as_bytes()).expect(rt, "a moment")
-}
-
-/// The desk of an empty club.
-fn empty_desk(rt: &(impl Abort + Alloc<A = Global>)) -> Desk<Store<MemStore>> {
-    let store = Store::open_in_memory(rt.alloc()).expect(rt, "a store");
-    Desk::new(rt.alloc(), store)
 }
 
 /// Why the office's command is refused; `None` where it is done.
@@ -54,20 +46,21 @@ fn failure<D: Responder, R: Inlet, W: Outlet>(
     answer(face, desk, moment, reader, writer).err()
 }
 
-impl Front<Store<MemStore>> {
-    fn empty(rt: &(impl Abort + Alloc<A = Global>)) -> Front<Store<MemStore>> {
-        Front {
-            face: Face::new(rt.alloc()).expect(rt, "a face"),
-            desk: empty_desk(rt),
-        }
-    }
+/// What is done at a desk behind its face, whose club is the fixture.
+pub(crate) trait Scene {
+    fn play<S: ClubStore>(&self, rt: &(impl Abort + Alloc<A = Global>), front: &mut Front<S>);
+}
 
-    /// The fixture.
-    pub fn opened(rt: &(impl Abort + Alloc<A = Global>)) -> Front<Store<MemStore>> {
-        let mut front = Front::empty(rt);
-        front.carries_out(rt, &FIXTURE);
-        front
-    }
+/// Plays a scene over a new fixture in memory. It is the one function here that names the type of
+/// the tables: the proof of each takes some ten seconds.
+pub(crate) fn play(rt: &(impl Abort + Alloc<A = Global>), scene: &impl Scene) {
+    let store = Store::open_in_memory(rt.alloc()).expect(rt, "a store");
+    let mut front = Front {
+        face: Face::new(rt.alloc()).expect(rt, "a face"),
+        desk: Desk::new(rt.alloc(), store),
+    };
+    front.carries_out(rt, &FIXTURE);
+    scene.play(rt, &mut front);
 }
 
 impl<S: ClubStore> Front<S> {
@@ -139,7 +132,7 @@ impl<S: ClubStore> Front<S> {
         self.expect_reply(rt, at, bytes.as_str(), returned);
     }
 
-    fn play(&mut self, rt: &(impl Abort + Alloc<A = Global>), form: Form, step: &Step) {
+    fn step(&mut self, rt: &(impl Abort + Alloc<A = Global>), form: Form, step: &Step) {
         match step {
             Step::Asks(at, texts, asked, returned) => {
                 self.answers(rt, at, text_in(texts, form), asked, returned);
@@ -151,7 +144,7 @@ impl<S: ClubStore> Front<S> {
     /// Plays these steps, with passes in this form; fails the test at the first that differs.
     pub fn plays(&mut self, rt: &(impl Abort + Alloc<A = Global>), form: Form, steps: &[Step]) {
         for step in steps {
-            self.play(rt, form, step);
+            self.step(rt, form, step);
         }
     }
 }
@@ -165,8 +158,20 @@ pub(crate) fn plays_in_all_forms(rt: &(impl Abort + Alloc<A = Global>), steps: &
     }
 }
 
+/// Steps, with passes in a form.
+#[derive(Clone, Copy)]
+struct Steps<'a> {
+    form: Form,
+    steps: &'a [Step],
+}
+
+impl Scene for Steps<'_> {
+    fn play<S: ClubStore>(&self, rt: &(impl Abort + Alloc<A = Global>), front: &mut Front<S>) {
+        front.plays(rt, self.form, self.steps);
+    }
+}
+
 /// Plays these steps over a new fixture, with passes in this form.
 pub(crate) fn plays_in_form(rt: &(impl Abort + Alloc<A = Global>), form: Form, steps: &[Step]) {
-    let mut front = Front::opened(rt);
-    front.plays(rt, form, steps);
+    play(rt, &Steps { form, steps });
 }

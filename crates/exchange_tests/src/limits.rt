@@ -1,9 +1,8 @@
 //! The longest and the largest requests of the desk, and those beyond its limits.
 
-use crate::ends::{Giver, Taker, WHOLE};
-use crate::expect::{expect_eq, expect_output};
-use crate::front::Front;
+use crate::front::{Front, Scene, play};
 use crate::messages::{ACCOUNT_BEFORE, BAD_REQUEST, BOOKED_7, HttpReply, NOT_VERIFIED};
+use club_core::ClubStore;
 use std::alloc::Global;
 use std::process::Abort;
 use test_kit::moments::NOON;
@@ -95,34 +94,16 @@ static LIMITS: [Long; 8] = [
     },
 ];
 
-/// Each of these gets its reply.
-fn are_long(rt: &(impl Abort + Alloc<A = Global>), requests: &[Long]) {
-    let mut front = Front::opened(rt);
-    for long in requests {
-        let bytes = joined(rt.alloc(), long.pieces).expect(rt, "memory");
-        front.expect_reply(rt, NOON, bytes.as_str(), long.returned);
+impl Scene for Long {
+    fn play<S: ClubStore>(&self, rt: &(impl Abort + Alloc<A = Global>), front: &mut Front<S>) {
+        let bytes = joined(rt.alloc(), self.pieces).expect(rt, "memory");
+        front.expect_reply(rt, NOON, bytes.as_str(), self.returned);
     }
 }
 
 #[test]
 fn limits(rt: HostRuntime) {
-    are_long(&rt, &LIMITS);
-}
-
-fn is_bad_request(rt: &(impl Abort + Alloc<A = Global>), giver: &mut Giver<'_>) {
-    let mut front = Front::opened(rt);
-    let mut taker = Taker::whole();
-    let fault = front.exchange(rt, NOON, giver, &mut taker);
-    expect_eq(rt, &fault, &None);
-    let want = BAD_REQUEST.text(rt);
-    expect_output(rt, taker.written(), want.as_bytes(), "no head");
-}
-
-/// 16,384 bytes in which no head ends are a bad request; no more than the buffer holds is taken.
-#[test]
-fn endless_head(rt: HostRuntime) {
-    let bytes = vec![in rt.alloc(); b'x'; 20_000].expect(&rt, "memory");
-    let mut giver = Giver::failing(&bytes, WHOLE);
-    is_bad_request(&rt, &mut giver);
-    expect_eq(&rt, &giver.left.len(), &(20_000 - 16_640));
+    for long in &LIMITS {
+        play(&rt, long);
+    }
 }

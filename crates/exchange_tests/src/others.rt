@@ -1,6 +1,6 @@
 //! Worked rows of a member among others.
 
-use crate::front::{FORMS, Front, plays_in_all_forms};
+use crate::front::{FORMS, Front, Scene, play, plays_in_all_forms};
 use crate::messages::{
     ACCOUNT, ACCOUNT_AFTER, Asked, BOOK_2, BOOK_7, BOOKED_7, CANCEL_7, CANCELLED_7, HttpReply,
     NO_GUESTS, Step,
@@ -94,10 +94,15 @@ fn others_are_busy<S: ClubStore>(
     front.plays(rt, form, &BEHIND_CY);
 }
 
-fn answers_amy_the_same(rt: &(impl Abort + Alloc<A = Global>), form: Form) {
-    let mut front = Front::opened(rt);
-    others_are_busy(rt, &mut front, form);
-    front.plays(rt, form, &ALONE);
+/// Amy among others, with passes in a form.
+#[derive(Clone, Copy)]
+struct AmongOthers(Form);
+
+impl Scene for AmongOthers {
+    fn play<S: ClubStore>(&self, rt: &(impl Abort + Alloc<A = Global>), front: &mut Front<S>) {
+        others_are_busy(rt, front, self.0);
+        front.plays(rt, self.0, &ALONE);
+    }
 }
 
 #[test]
@@ -105,6 +110,6 @@ fn answers_amy_the_same_whatever_others_do(rt: HostRuntime) {
     plays_in_all_forms(&rt, &ALONE);
     plays_in_all_forms(&rt, &BESIDE_BOB);
     for form in &FORMS {
-        answers_amy_the_same(&rt, *form);
+        play(&rt, &AmongOthers(*form));
     }
 }

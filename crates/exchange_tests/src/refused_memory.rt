@@ -4,15 +4,13 @@
 
 use crate::ends::Taker;
 use crate::expect::expect_output;
-use crate::front::{Front, moment, plays_in_form};
+use crate::front::{Front, Scene, play, plays_in_form};
 use crate::messages::{
     ACCOUNT, ACCOUNT_AFTER, Asked, BOOK_7, BOOKED_7, HttpReply, NOT_YET, PASS_MALFORMED, PUT_7,
     Step, THIRD_PARTY_CAVEAT,
 };
 use crate::passes::{MALFORMED, THIRD_PARTY, text_in};
-use club_core::{ClubStore, Reply};
-use club_gate::{Event, EventReply};
-use club_http::{Desk, MAX_REPLY_LEN, Routes, reply_bytes, words_of};
+use club_core::ClubStore;
 use pass_forms::Form;
 use std::alloc::Global;
 use std::process::Abort;
@@ -77,96 +75,29 @@ fn is_booked_or_unavailable<S: ClubStore>(
     }
 }
 
-fn exchanges_the_booking(rt: &(impl Abort + Alloc<A = Global>), form: Form) {
-    let mut front = Front::opened(rt);
-    let taker = written_to(rt, &mut front, form, &BOOK_7);
-    is_booked_or_unavailable(rt, &mut front, form, &taker);
+/// The booking by an exchange, under a pass in a form.
+struct Exchange(Form);
+
+impl Scene for Exchange {
+    fn play<S: ClubStore>(&self, rt: &(impl Abort + Alloc<A = Global>), front: &mut Front<S>) {
+        let taker = written_to(rt, front, self.0, &BOOK_7);
+        is_booked_or_unavailable(rt, front, self.0, &taker);
+    }
 }
 
 #[test]
 fn exchange_in_v1(rt: HostRuntime) {
-    exchanges_the_booking(&rt, Form::V1);
+    play(&rt, &Exchange(Form::V1));
 }
 
 #[test]
 fn exchange_in_v2(rt: HostRuntime) {
-    exchanges_the_booking(&rt, Form::V2);
+    play(&rt, &Exchange(Form::V2));
 }
 
 #[test]
 fn exchange_in_json(rt: HostRuntime) {
-    exchanges_the_booking(&rt, Form::Json);
-}
-
-/// The replies to these events; `None` if memory for them is refused.
-fn replies<S: ClubStore>(desk: &mut Desk<S>, events: &[Event<'_>]) -> Option<Vec<EventReply>> {
-    desk.run(events).ok()
-}
-
-/// The one reply of these.
-fn only(replies: &[EventReply]) -> Option<Reply> {
-    match replies {
-        [EventReply::Replied(reply)] => Some(*reply),
-        _ => None,
-    }
-}
-
-/// The text of a reply.
-fn text_of(reply: &Reply) -> Taker {
-    let mut room = [0; MAX_REPLY_LEN];
-    let len = reply_bytes(reply, &mut room);
-    let mut taker = Taker::whole();
-    taker.take(&room[..len]);
-    taker
-}
-
-/// The reply to a list of one request; `None` if memory for the replies is refused.
-fn written_in_a_list<S: ClubStore>(
-    rt: &(impl Abort + Alloc<A = Global>),
-    front: &mut Front<S>,
-    bytes: &[u8],
-) -> Option<Taker> {
-    let routes = Routes::new(rt.alloc()).expect(rt, "routes");
-    let Ok(words) = words_of(&routes, bytes) else {
-        panic!(rt; "Memory");
-    };
-    let moment = moment(rt, NOON);
-    match replies(&mut front.desk, &[Event::Asked { words, moment }]) {
-        Some(replies) => Some(text_of(&only(&replies).expect(rt, "one reply"))),
-        None => None,
-    }
-}
-
-/// The reply to a list of the booking alone.
-fn written_to_the_booking<S: ClubStore>(
-    rt: &(impl Abort + Alloc<A = Global>),
-    front: &mut Front<S>,
-    form: Form,
-) -> Option<Taker> {
-    let bytes = BOOK_7.text(rt, text_in(&AMY, form));
-    written_in_a_list(rt, front, bytes.as_bytes())
-}
-
-fn is_run<S: ClubStore>(rt: &(impl Abort + Alloc<A = Global>), front: &mut Front<S>, form: Form) {
-    match written_to_the_booking(rt, front, form) {
-        Some(taker) => is_booked_or_unavailable(rt, front, form, &taker),
-        None => front.plays(rt, form, &NOT_YET),
-    }
-}
-
-fn runs_the_booking(rt: &(impl Abort + Alloc<A = Global>), form: Form) {
-    let mut front = Front::opened(rt);
-    is_run(rt, &mut front, form);
-}
-
-#[test]
-fn run_in_v2(rt: HostRuntime) {
-    runs_the_booking(&rt, Form::V2);
-}
-
-#[test]
-fn run_in_json(rt: HostRuntime) {
-    runs_the_booking(&rt, Form::Json);
+    play(&rt, &Exchange(Form::Json));
 }
 
 /// A text that is no pass gets its fault whichever allocation is refused, unless it is JSON.
