@@ -9,7 +9,6 @@ use club_store::Store;
 use club_values::{Kind, Name};
 use pass_forms::{Form, FormFault, Pass, narrow};
 use pass_json::write_any;
-use sqlite::MemStore;
 use std::alloc::Global;
 
 /// How many members there are, each with one key. Their derived keys have room at the desk.
@@ -24,9 +23,34 @@ pub(crate) const CAVEATS: [&[u8]; 3] = [
     b"spend <= 999999999",
 ];
 
-/// The desk of a new club, over tables in memory.
-pub(crate) fn in_memory(rt: &impl AllocGlobal) -> Result<Desk<Store<MemStore>>> {
-    filled_desk(rt.alloc(), Store::open_in_memory(rt.alloc())?)
+/// What is measured at two desks, each of a new club.
+pub(crate) trait Benchmark {
+    fn run<S: ClubStore + Drop>(
+        &self,
+        rt: &HostRuntime,
+        first: Desk<S>,
+        second: Desk<S>,
+    ) -> Result<()>;
+}
+
+/// Runs a benchmark at two desks over tables in memory. It is the one function here that names the
+/// type of the tables, since the proof of each takes long.
+pub(crate) fn run_in_memory(rt: &HostRuntime, benchmark: &impl Benchmark) -> Result<()> {
+    let first = Store::open_in_memory(rt.alloc())?;
+    let second = Store::open_in_memory(rt.alloc())?;
+    run_over(rt, first, second, benchmark)
+}
+
+// The same over empty tables.
+fn run_over<S: ClubStore + Drop>(
+    rt: &HostRuntime,
+    first: S,
+    second: S,
+    benchmark: &impl Benchmark,
+) -> Result<()> {
+    let first = filled_desk(rt.alloc(), first)?;
+    let second = filled_desk(rt.alloc(), second)?;
+    benchmark.run(rt, first, second)
 }
 
 // The desk over empty tables, which get the court, the members and their keys.

@@ -1,7 +1,7 @@
 //! How many requests a second the desk answers, over tables in memory. Each row books COUNT times,
 //! asks for the same bookings again, and asks for COUNT accounts.
 
-use crate::club::{self, KEYS, passes};
+use crate::club::{Benchmark, KEYS, passes, run_in_memory};
 use crate::known::known;
 use crate::rate::rate;
 use crate::wish::{Wish, number_at, slot_and_moment};
@@ -30,24 +30,38 @@ pub(crate) fn compare(rt: &HostRuntime, count: u16) -> Result<()> {
         for &caveats in &CAVEAT_COUNTS {
             let passes = passes(rt.alloc(), form, caveats)?;
             print!(rt; "{name:>4} {caveats:>7}")?;
-            measure(rt, &mut club::in_memory(rt)?, &passes, count)?;
+            run_in_memory(
+                rt,
+                &Row {
+                    passes: &passes,
+                    count,
+                },
+            )?;
         }
     }
     Ok(())
 }
 
-// Ends the line with what is measured.
-fn measure<S: ClubStore>(
-    rt: &(impl Clock + Print),
-    desk: &mut Desk<S>,
-    passes: &[String],
+/// What a line shows: so many requests of each kind under these passes, at the first desk.
+#[derive(Clone, Copy)]
+struct Row<'a> {
+    passes: &'a [String],
     count: u16,
-) -> Result<()> {
-    for &wish in &WISHES {
-        let time = time(rt, desk, passes, wish, count)?;
-        print!(rt; " {:>8}", rate(usize::from(count), time))?;
+}
+
+impl Benchmark for Row<'_> {
+    fn run<S: ClubStore + Drop>(
+        &self,
+        rt: &HostRuntime,
+        mut first: Desk<S>,
+        _second: Desk<S>,
+    ) -> Result<()> {
+        for &wish in &WISHES {
+            let time = time(rt, &mut first, self.passes, wish, self.count)?;
+            print!(rt; " {:>8}", rate(usize::from(self.count), time))?;
+        }
+        Ok(println!(rt)?)
     }
-    Ok(println!(rt)?)
 }
 
 fn time<S: ClubStore>(

@@ -6,7 +6,7 @@
 
 mod parts;
 
-use crate::club::in_memory;
+use crate::club::{Benchmark, run_in_memory};
 use crate::memory::{Kept, exchanges};
 use crate::rate::{nanos_each, rate};
 use crate::sent::{ROWS, Requests, Sent};
@@ -25,12 +25,22 @@ const HEAD: &str = "asked for  a second | ns whole    words httparse     desk   
 /// Prints a line for each kind of request.
 pub(crate) fn compare(rt: &HostRuntime, count: u16) -> Result<()> {
     println!(rt; "{HEAD}")?;
-    let requests = Requests::new(rt.alloc(), count)?;
-    let mut bench = Bench::new(rt.alloc(), in_memory(rt)?, in_memory(rt)?)?;
-    for &(name, wish) in &ROWS {
-        bench.print_row(rt, name, requests.of(wish))?;
+    run_in_memory(rt, &Requests::new(rt.alloc(), count)?)
+}
+
+impl Benchmark for Requests {
+    fn run<S: ClubStore + Drop>(
+        &self,
+        rt: &HostRuntime,
+        whole: Desk<S>,
+        part: Desk<S>,
+    ) -> Result<()> {
+        let mut bench = Bench::new(rt.alloc(), whole, part)?;
+        for &(name, wish) in &ROWS {
+            bench.print_row(rt, name, self.of(wish))?;
+        }
+        Ok(())
     }
-    Ok(())
 }
 
 /// What is measured: whole exchanges with one desk, and the parts with another one.
