@@ -6,9 +6,7 @@ use Rattle.std.specs.List.{slice_index_or}
 use Rattle.clap.specs.Words.{App, Text, with_rule}
 use Rattle.clap.specs.declared.builder.command.Command.{Command}
 use Rattle.command_line.specs.Application.{IsMade}
-use Rattle.clubdesk_commands.specs.Application.{with_words, word_named, add_member_command, credit_command, add_facility_command}
-use Rattle.clubdesk_commands.specs.Application.{add_key_command, revoke_key_command, rotate_key_command, close_slot_command, sheet_command}
-use Rattle.clubdesk_commands.specs.Application.{pause_command, serve_command, show_account_command, show_slot_command}
+use Rattle.clubdesk_commands.specs.Application.{with_words, word_named}
 
 abbrev pub texts : List (Bor Text) → List Text
 texts = map (λ text. text.now)
@@ -42,16 +40,3 @@ all_added app words i made most least way =
     let whole : way.now ≡ with_words app (texts words) =
     sym (ap (λ (left : List (Bor Text)). with_words way.now (texts left)) none) ∙ way.whole in
     rw (← whole) way.is
-
--- the four parts of the application
-abbrev pub office : List App
-office = add_member_command ∷ credit_command ∷ add_facility_command ∷ []
-
-abbrev pub keys : List App
-keys = add_key_command ∷ revoke_key_command ∷ rotate_key_command ∷ []
-
-abbrev pub days : List App
-days = close_slot_command ∷ sheet_command ∷ serve_command ∷ pause_command ∷ []
-
-abbrev pub looks : List App
-looks = show_account_command ∷ show_slot_command ∷ []

@@ -104,10 +104,9 @@ Example:
 pub fn make_application<'a>(alloc: Global) -> Result<Command<'a>, AllocError>
     ensures { IfOk result (λ made. app_of made ≡ spec.application) }
 {
-    let app = make_top(alloc);
-    let app = with_office(alloc, app)?;
-    let app = with_keys(alloc, app)?;
-    let app = with_days(alloc, app)?;
+    let app = with_office(alloc, Ok(make_top(alloc)));
+    let app = with_keys(alloc, app);
+    let app = with_days(alloc, app);
     with_looks(alloc, app)
 }
 
@@ -127,43 +126,59 @@ fn make_top<'a>(alloc: Global) -> Command<'a>
 }
 
 // The commands on members and facilities.
-fn with_office<'a>(alloc: Global, app: Command<'a>) -> Result<Command<'a>, AllocError>
-    ensures { IfOk result (λ made. app_of made ≡ spec.with_commands (app_of app.entry)
+fn with_office<'a>(
+    alloc: Global,
+    app: Result<Command<'a>, AllocError>,
+) -> Result<Command<'a>, AllocError>
+    ensures { (before : App) → IfOk app.entry (λ made. app_of made ≡ before)
+        → IfOk result (λ made. app_of made ≡ spec.with_commands before
         (spec.add_member_command ∷ spec.credit_command ∷ spec.add_facility_command ∷ [])) }
 {
-    let app = with_command(app, make_add_member(alloc))?;
-    let app = with_command(app, make_credit(alloc))?;
+    let app = with_command(app, make_add_member(alloc));
+    let app = with_command(app, make_credit(alloc));
     with_command(app, make_add_facility(alloc))
 }
 
 // The commands on keys.
-fn with_keys<'a>(alloc: Global, app: Command<'a>) -> Result<Command<'a>, AllocError>
-    ensures { IfOk result (λ made. app_of made ≡ spec.with_commands (app_of app.entry)
+fn with_keys<'a>(
+    alloc: Global,
+    app: Result<Command<'a>, AllocError>,
+) -> Result<Command<'a>, AllocError>
+    ensures { (before : App) → IfOk app.entry (λ made. app_of made ≡ before)
+        → IfOk result (λ made. app_of made ≡ spec.with_commands before
         (spec.add_key_command ∷ spec.revoke_key_command ∷ spec.rotate_key_command ∷ [])) }
 {
-    let app = with_command(app, make_add_key(alloc))?;
-    let app = with_command(app, make_revoke_key(alloc))?;
+    let app = with_command(app, make_add_key(alloc));
+    let app = with_command(app, make_revoke_key(alloc));
     with_command(app, make_rotate_key(alloc))
 }
 
 // The commands on days, and the server.
-fn with_days<'a>(alloc: Global, app: Command<'a>) -> Result<Command<'a>, AllocError>
-    ensures { IfOk result (λ made. app_of made ≡ spec.with_commands (app_of app.entry)
+fn with_days<'a>(
+    alloc: Global,
+    app: Result<Command<'a>, AllocError>,
+) -> Result<Command<'a>, AllocError>
+    ensures { (before : App) → IfOk app.entry (λ made. app_of made ≡ before)
+        → IfOk result (λ made. app_of made ≡ spec.with_commands before
         (spec.close_slot_command ∷ spec.sheet_command ∷ spec.serve_command ∷ spec.pause_command
         ∷ [])) }
 {
-    let app = with_command(app, make_close_slot(alloc))?;
-    let app = with_command(app, make_sheet(alloc))?;
-    let app = with_command(app, make_serve(alloc))?;
+    let app = with_command(app, make_close_slot(alloc));
+    let app = with_command(app, make_sheet(alloc));
+    let app = with_command(app, make_serve(alloc));
     with_command(app, make_pause(alloc))
 }
 
 // The commands that show, and change nothing.
-fn with_looks<'a>(alloc: Global, app: Command<'a>) -> Result<Command<'a>, AllocError>
-    ensures { IfOk result (λ made. app_of made ≡ spec.with_commands (app_of app.entry)
+fn with_looks<'a>(
+    alloc: Global,
+    app: Result<Command<'a>, AllocError>,
+) -> Result<Command<'a>, AllocError>
+    ensures { (before : App) → IfOk app.entry (λ made. app_of made ≡ before)
+        → IfOk result (λ made. app_of made ≡ spec.with_commands before
         (spec.show_account_command ∷ spec.show_slot_command ∷ [])) }
 {
-    let app = with_command(app, make_show_account(alloc))?;
+    let app = with_command(app, make_show_account(alloc));
     with_command(app, make_show_slot(alloc))
 }
 
@@ -213,9 +228,9 @@ fn make_add_key<'a>(alloc: Global) -> Result<Command<'a>, AllocError>
         "Adds a key of a member",
         ADD_KEY_HELP,
         &["FILE", "KEY", "MEMBER"],
-    )?;
-    let command = with_argument(command, make_optional_word(alloc, "ROOT"))?;
-    let command = with_argument(command, make_root_flag(alloc))?;
+    );
+    let command = with_argument(command, make_optional_word(alloc, "ROOT"));
+    let command = with_argument(command, make_root_flag(alloc));
     with_argument(command, make_form_or_v2(alloc))
 }
 
@@ -240,9 +255,9 @@ fn make_rotate_key<'a>(alloc: Global) -> Result<Command<'a>, AllocError>
         "Gives a key a new root",
         ROTATE_KEY_HELP,
         &["FILE", "KEY", "ROOT"],
-    )?;
-    let command = with_argument(command, make_optional_word(alloc, "MOMENT"))?;
-    let command = with_argument(command, make_root_flag(alloc))?;
+    );
+    let command = with_argument(command, make_optional_word(alloc, "MOMENT"));
+    let command = with_argument(command, make_root_flag(alloc));
     with_argument(command, make_form_or_v2(alloc))
 }
 
@@ -274,12 +289,12 @@ fn make_serve<'a>(alloc: Global) -> Result<Command<'a>, AllocError>
     ensures { IfOk result (IsMade spec.serve_command) }
 {
     let about = "Serves requests over HTTP";
-    let command = make_command(alloc, "serve", about, SERVE_HELP, &["FILE"])?;
-    let command = with_argument(command, make_port(alloc))?;
-    let command = with_argument(command, make_count(alloc))?;
-    let command = with_argument(command, make_zone(alloc))?;
-    let command = with_argument(command, make_at(alloc))?;
-    let command = with_argument(command, make_patience(alloc))?;
+    let command = make_command(alloc, "serve", about, SERVE_HELP, &["FILE"]);
+    let command = with_argument(command, make_port(alloc));
+    let command = with_argument(command, make_count(alloc));
+    let command = with_argument(command, make_zone(alloc));
+    let command = with_argument(command, make_at(alloc));
+    let command = with_argument(command, make_patience(alloc));
     with_argument(command, make_log(alloc))
 }
 
@@ -292,8 +307,8 @@ fn make_show_account<'a>(alloc: Global) -> Result<Command<'a>, AllocError>
         "Shows the account of a key",
         SHOW_ACCOUNT_HELP,
         &["FILE", "KEY"],
-    )?;
-    let command = with_argument(command, make_zone(alloc))?;
+    );
+    let command = with_argument(command, make_zone(alloc));
     with_argument(command, make_at(alloc))
 }
 
@@ -346,7 +361,7 @@ fn with_words<'a>(
         (IsMade (spec.with_words app (map (λ word. word.now) words.now))) }
 {
     for word in words {
-        command = with_argument(command, make_word(alloc, word))?;
+        command = with_argument(Ok(command), make_word(alloc, word))?;
     }
     Ok(command)
 }

@@ -33,33 +33,37 @@ pub fn new_command<'a>(alloc: Global, name: &'a str, about: &'a str, help: &'a s
     Command::new(alloc, name).about(about).after_help(help)
 }
 
-/// The command with one more option, flag or word.
-///
-/// # Errors
-///
-/// `AllocError` if an allocation fails.
-pub fn with_argument<'a>(command: Command<'a>, argument: Arg<'a>) -> Result<Command<'a>, AllocError>
-    ensures { (app : App) (rule : Rule) → IsMade app command.entry
-        → rule_of argument.entry ≡ rule → argument.entry.global ≡ false
-        → IfOk result (IsMade (with_rule app rule)) }
-{
-    command.arg(argument)
-}
-
-/// The program with one more command, or the command's error.
+/// The command with one more option, flag or word. It takes a result, so that the steps that make a
+/// command need no `?` between them.
 ///
 /// # Errors
 ///
 /// `AllocError` if an allocation fails, here or in the command.
+pub fn with_argument<'a>(
+    command: Result<Command<'a>, AllocError>,
+    argument: Arg<'a>,
+) -> Result<Command<'a>, AllocError>
+    ensures { (app : App) (rule : Rule) → IfOk command.entry (IsMade app)
+        → rule_of argument.entry ≡ rule → argument.entry.global ≡ false
+        → IfOk result (IsMade (with_rule app rule)) }
+{
+    command?.arg(argument)
+}
+
+/// The program with one more command.
+///
+/// # Errors
+///
+/// `AllocError` if an allocation fails, here, in the program or in the command.
 pub fn with_command<'a>(
-    program: Command<'a>,
+    program: Result<Command<'a>, AllocError>,
     command: Result<Command<'a>, AllocError>,
 ) -> Result<Command<'a>, AllocError>
-    ensures adds { IfOk result (λ made.
-        IsOkAnd command.entry (λ added. AddsSubcommand program.entry added made)) }
-    ensures made { (app below : App) → app_of program.entry ≡ app
+    ensures adds { IfOk result (λ made. IsOkAnd program.entry (λ before.
+        IsOkAnd command.entry (λ added. AddsSubcommand before added made))) }
+    ensures made { (app below : App) → IfOk program.entry (λ before. app_of before ≡ app)
         → IfOk command.entry (IsMade below)
         → IfOk result (λ made. app_of made ≡ with_subcommand app below.top) }
 {
-    program.subcommand(command?)
+    program?.subcommand(command?)
 }

@@ -50,11 +50,11 @@ Example:
 pub fn make_application<'a>(alloc: Global) -> Result<Command<'a>, AllocError>
     ensures { IfOk result (λ made. app_of made ≡ spec.application) }
 {
-    let app = make_top(alloc);
-    let app = with_command(app, make_mint(alloc))?;
-    let app = with_command(app, Ok(make_show(alloc)))?;
-    let app = with_command(app, make_narrow(alloc))?;
-    let app = with_command(app, make_convert(alloc))?;
+    let app = Ok(make_top(alloc));
+    let app = with_command(app, make_mint(alloc));
+    let app = with_command(app, Ok(make_show(alloc)));
+    let app = with_command(app, make_narrow(alloc));
+    let app = with_command(app, make_convert(alloc));
     with_command(app, make_verify(alloc))
 }
 
@@ -77,12 +77,12 @@ fn make_mint<'a>(alloc: Global) -> Result<Command<'a>, AllocError>
 {
     let about = "Prints a new pass, signed under a root; reads no input";
     let help = "Example:\n  passtool mint --root 00ff --id key:amy-1 --form v1 \"kind = court\"";
-    let command = new_command(alloc, "mint", about, help);
-    let command = with_argument(command, make_root(alloc))?;
-    let command = with_argument(command, make_id(alloc))?;
+    let command = Ok(new_command(alloc, "mint", about, help));
+    let command = with_argument(command, make_root(alloc));
+    let command = with_argument(command, make_id(alloc));
     let location = make_option(alloc, "location", "LOCATION", LOCATION_HELP);
-    let command = with_argument(command, location)?;
-    let command = with_argument(command, make_form_or_v2(alloc))?;
+    let command = with_argument(command, location);
+    let command = with_argument(command, make_form_or_v2(alloc));
     with_argument(command, make_caveats(alloc))
 }
 
@@ -97,8 +97,8 @@ fn make_narrow<'a>(alloc: Global) -> Result<Command<'a>, AllocError>
     ensures { IfOk result (IsMade spec.narrow_command) }
 {
     let about = "Prints the pass on standard input with caveats added, in the form it came in";
-    let command = new_command(alloc, "narrow", about, NARROW_HELP);
-    let command = with_argument(command, make_any(alloc))?;
+    let command = Ok(new_command(alloc, "narrow", about, NARROW_HELP));
+    let command = with_argument(command, make_any(alloc));
     with_argument(command, make_required_caveats(alloc))
 }
 
@@ -107,7 +107,7 @@ fn make_convert<'a>(alloc: Global) -> Result<Command<'a>, AllocError>
 {
     let about = "Prints the pass on standard input in a form";
     let help = "Example:\n  passtool convert --form json < pass";
-    let command = new_command(alloc, "convert", about, help);
+    let command = Ok(new_command(alloc, "convert", about, help));
     with_argument(command, make_required_form(alloc))
 }
 
@@ -115,7 +115,7 @@ fn make_verify<'a>(alloc: Global) -> Result<Command<'a>, AllocError>
     ensures { IfOk result (IsMade spec.verify_command) }
 {
     let about = "Tells whether the pass on standard input is signed under a root";
-    let command = new_command(alloc, "verify", about, VERIFY_HELP);
+    let command = Ok(new_command(alloc, "verify", about, VERIFY_HELP));
     with_argument(command, make_root(alloc))
 }
 

@@ -2,9 +2,9 @@ use Rattle.clubdesk_commands.proofs.application.make_serve.Goals as goal
 
 pub returns : goal.returns
 returns c =
-    let one = c.in_ok-command-2.ensures _ _ c.in_ok-command.ensures c.make_port.ensures.rule c.make_port.ensures.local in
-    let two = c.in_ok-command-3.ensures _ _ one c.make_count.ensures.rule c.make_count.ensures.local in
-    let three = c.in_ok-command-4.ensures _ _ two c.make_zone.ensures.rule c.make_zone.ensures.local in
-    let four = c.in_ok-command-5.ensures _ _ three c.make_at.ensures.rule c.make_at.ensures.local in
-    let five = c.in_ok-command-6.ensures _ _ four c.make_patience.ensures.rule c.make_patience.ensures.local in
-    c.with_argument-6.ensures _ _ five c.make_log.ensures.rule c.make_log.ensures.local
+    let one = c.with_argument-command.ensures _ _ c.make_command-command.ensures c.make_port.ensures.rule c.make_port.ensures.local in
+    let two = c.with_argument-command-2.ensures _ _ one c.make_count.ensures.rule c.make_count.ensures.local in
+    let three = c.with_argument-command-3.ensures _ _ two c.make_zone.ensures.rule c.make_zone.ensures.local in
+    let four = c.with_argument-command-4.ensures _ _ three c.make_at.ensures.rule c.make_at.ensures.local in
+    let five = c.with_argument-command-5.ensures _ _ four c.make_patience.ensures.rule c.make_patience.ensures.local in
+    c.with_argument.ensures _ _ five c.make_log.ensures.rule c.make_log.ensures.local

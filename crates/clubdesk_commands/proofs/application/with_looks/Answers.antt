@@ -1,7 +1,6 @@
-use Rattle.std.proofs.Common.{refl}
 use Rattle.clubdesk_commands.proofs.application.with_looks.Goals as goal
 
 pub returns : goal.returns
-returns c =
-    let one = c.in_ok-app.ensures.made _ _ refl c.make_show_account.ensures in
-    c.with_command-2.ensures.made _ _ one c.make_show_slot.ensures
+returns c = λ before is.
+    let one = c.with_command-app.ensures.made _ _ is c.make_show_account.ensures in
+    c.with_command.ensures.made _ _ one c.make_show_slot.ensures
