@@ -1,39 +1,23 @@
 //! Lists of events that the desk runs at once: amy books, sees her account and cancels.
 
-use crate::counter::empty_desk;
 use crate::happens::{Happens, events, expect_replies};
 use crate::known::{BOB_SIGNED, BOB_SIGNED_AGAIN, CY_SIGNED, SIGNED};
+use crate::scene::{Scene, play};
 use crate::values::push;
 use club_core::ClubStore;
 use club_gate::{Desk, OfficeReply};
-use club_values::Kind;
 use std::alloc::Global;
 use std::process::Abort;
 use test_kit::passes::{AMY_JSON, AMY_V1, AMY_V2, BOB_V2, CY_V2};
 use test_kit::replies::{ACCOUNT_AFTER, BOOKED_2, BOOKED_7, CANCELLED_7, FILLED_BY_7};
 use test_kit::requests::{ACCOUNT, BOOK_2, BOOK_7, CANCEL_7};
 use test_kit::roots::ROOT;
-use test_kit::{FRIDAY, Order, PlainReply, PlainRequest, PlainSlot};
+use test_kit::{FIXTURE, FRIDAY, Order, PlainReply, PlainRequest, PlainSlot};
 
 const DONE: OfficeReply = OfficeReply::Done;
 
-/// The fixture.
-static FIXTURE: [Happens; 8] = [
-    Happens::Ordered(Order::AddMember("amy", 5), DONE),
-    Happens::Ordered(Order::Credit("amy", 10_000), DONE),
-    Happens::Ordered(Order::AddKey("amy-1", "amy", ROOT), SIGNED),
-    Happens::Ordered(Order::AddMember("bob", 5), DONE),
-    Happens::Ordered(Order::Credit("bob", 10_000), DONE),
-    Happens::Ordered(Order::AddKey("bob-1", "bob", ROOT), BOB_SIGNED),
-    Happens::Ordered(
-        Order::AddFacility("court-1", Kind::Court, 4, 200, 8, 22),
-        DONE,
-    ),
-    Happens::Ordered(
-        Order::AddFacility("room-1", Kind::Room, 1, 601, 8, 22),
-        DONE,
-    ),
-];
+/// The answers to the orders of the fixture.
+static ANSWERS: [OfficeReply; 8] = [DONE, DONE, SIGNED, DONE, DONE, BOB_SIGNED, DONE, DONE];
 
 /// Amy's list: she books, asks for her account and cancels, in each form of her pass.
 static LISTS: [[Happens; 3]; 3] = [
@@ -61,19 +45,24 @@ fn run<S: ClubStore>(rt: &(impl Abort + Alloc<A = Global>), desk: &mut Desk<S>, 
     expect_replies(rt, replies.as_slice(), rows);
 }
 
-/// Runs the fixture at once, and then rows.
-fn run_with_the_fixture<S: ClubStore>(
-    rt: &(impl Abort + Alloc<A = Global>),
-    desk: &mut Desk<S>,
-    rows: &[Happens],
-) {
-    run(rt, desk, &FIXTURE);
-    run(rt, desk, rows);
+/// The fixture.
+fn fixture(rt: &(impl Abort + Alloc<A = Global>)) -> Vec<Happens> {
+    let mut rows = Vec::new(rt.alloc());
+    for (order, answer) in FIXTURE.iter().zip(&ANSWERS) {
+        push(rt, &mut rows, Happens::Ordered(*order, *answer));
+    }
+    rows
 }
 
-/// Runs rows at once from the fixture on.
-fn run_from_the_fixture(rt: &(impl Abort + Alloc<A = Global>), rows: &[Happens]) {
-    run_with_the_fixture(rt, &mut empty_desk(rt), rows);
+/// The fixture is run at once, and then these rows.
+#[derive(Clone, Copy)]
+struct AtOnce<'a>(&'a [Happens]);
+
+impl Scene for AtOnce<'_> {
+    fn play<S: ClubStore + Drop>(&self, rt: &(impl Abort + Alloc<A = Global>), mut desk: Desk<S>) {
+        run(rt, &mut desk, fixture(rt).as_slice());
+        run(rt, &mut desk, self.0);
+    }
 }
 
 fn append(rt: &impl Abort, rows: &mut Vec<Happens>, more: &[Happens]) {
@@ -136,9 +125,9 @@ static BESIDE_BOB: [Happens; 4] = [
 
 /// Runs amy's list, alone and among others.
 fn answers_list(rt: &(impl Abort + Alloc<A = Global>), list: &[Happens; 3]) {
-    run_from_the_fixture(rt, list);
+    play(rt, &AtOnce(list));
     let rows = among_others(rt, list);
-    run_from_the_fixture(rt, rows.as_slice());
+    play(rt, &AtOnce(rows.as_slice()));
 }
 
 /// With ample memory a run of amy's list answers, and doesn't fail.
@@ -146,5 +135,5 @@ pub(crate) fn answers(rt: &(impl Abort + Alloc<A = Global>)) {
     for list in &LISTS {
         answers_list(rt, list);
     }
-    run_from_the_fixture(rt, &BESIDE_BOB);
+    play(rt, &AtOnce(&BESIDE_BOB));
 }

@@ -43,7 +43,7 @@ const A_DAY_LATER: PlainSlot = PlainSlot {
 const BOOK_8_A_DAY_LATER: PlainRequest = PlainRequest::Book(A_DAY_LATER, 8, 0);
 
 /// The slot's day is a Friday.
-pub(crate) static WEEKDAYS: [Step; 8] = [
+static WEEKDAYS: [Step; 8] = [
     Step::Asks(NOON, FRIDAYS, BOOK_7, BOOKED_7),
     Step::Asks(NOON, FRIDAYS, BOOK_8_A_DAY_LATER, DENIED_1),
     Step::Asks(NOON, ALL_WEEK, ACCOUNT, DENIED_1),

@@ -1,21 +1,17 @@
-//! A desk over tables in memory, and the steps of a worked row.
+//! The desk of the fixture, and the steps of a worked row.
 
 use crate::expect::{expect_eq, expect_row};
 use crate::passes::{FORMS, Shown};
-use crate::values::at;
+use crate::scene::{Scene, play};
+use crate::values::{at, push};
 use club_core::{ClubStore, Reply};
 use club_gate::{Desk, OfficeReply, Words};
-use club_store::Store;
 use club_values::Moment;
 use pass_forms::Form;
-use sqlite::MemStore;
 use std::alloc::Global;
 use std::process::Abort;
 use test_kit::roots::ROOT;
 use test_kit::{FIXTURE, Order, PlainPass, PlainReply, PlainRequest, PlainStep};
-
-/// Tables in memory.
-pub(crate) type MemoryStore = Store<MemStore>;
 
 /// A desk, and the form in which its passes are written.
 #[derive(Drop)]
@@ -44,29 +40,17 @@ impl Step {
     }
 }
 
-/// A desk over the tables of an empty club.
-pub(crate) fn empty_desk(rt: &(impl Abort + Alloc<A = Global>)) -> Desk<MemoryStore> {
-    let store = Store::open_in_memory(rt.alloc()).expect(rt, "empty tables");
-    Desk::new(rt.alloc(), store)
-}
-
 /// Gives an order that has to succeed.
 pub(crate) fn carry_out<S: ClubStore>(rt: &impl Abort, desk: &mut Desk<S>, order: &Order) {
     let answer = desk.office(&order.command().expect(rt, "an order"));
     expect_eq(rt, &matches!(answer, OfficeReply::Refused(_)), &false);
 }
 
-/// Gives the orders of the fixture.
-fn furnish<S: ClubStore>(rt: &impl Abort, desk: &mut Desk<S>) {
+/// Makes the fixture at the desk of an empty club.
+pub(crate) fn furnish<S: ClubStore>(rt: &impl Abort, mut desk: Desk<S>, form: Form) -> Counter<S> {
     for order in &FIXTURE {
-        carry_out(rt, desk, order);
+        carry_out(rt, &mut desk, order);
     }
-}
-
-/// The fixture.
-pub(crate) fn opened(rt: &(impl Abort + Alloc<A = Global>), form: Form) -> Counter<MemoryStore> {
-    let mut desk = empty_desk(rt);
-    furnish(rt, &mut desk);
     Counter { desk, form }
 }
 
@@ -119,27 +103,34 @@ impl<S: ClubStore> Counter<S> {
             self.play(rt, row, step);
         }
     }
+}
 
-    /// The same of a worked list.
-    fn plays_list(&mut self, rt: &(impl Abort + Alloc<A = Global>), list: &[PlainStep]) {
-        for (row, step) in list.iter().enumerate() {
-            self.play(rt, row, &Step::of(rt, step));
-        }
+/// Steps from the fixture on, with passes in a form.
+#[derive(Clone, Copy)]
+struct Steps<'a> {
+    form: Form,
+    steps: &'a [Step],
+}
+
+impl Scene for Steps<'_> {
+    fn play<S: ClubStore + Drop>(&self, rt: &(impl Abort + Alloc<A = Global>), desk: Desk<S>) {
+        let mut counter = furnish(rt, desk, self.form);
+        counter.plays(rt, self.steps);
     }
 }
 
 /// Ends the test unless a desk of the fixture gives the replies of these steps, in each form.
 pub(crate) fn plays_in_all_forms(rt: &(impl Abort + Alloc<A = Global>), steps: &[Step]) {
     for form in &FORMS {
-        let mut counter = opened(rt, *form);
-        counter.plays(rt, steps);
+        play(rt, &Steps { form: *form, steps });
     }
 }
 
 /// The same of a worked list.
 pub(crate) fn plays_list_in_all_forms(rt: &(impl Abort + Alloc<A = Global>), list: &[PlainStep]) {
-    for form in &FORMS {
-        let mut counter = opened(rt, *form);
-        counter.plays_list(rt, list);
+    let mut steps = Vec::new(rt.alloc());
+    for step in list {
+        push(rt, &mut steps, Step::of(rt, step));
     }
+    plays_in_all_forms(rt, steps.as_slice());
 }

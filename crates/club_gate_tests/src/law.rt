@@ -9,7 +9,7 @@ use club_gate::{Desk, OfficeReply, Words};
 use club_store::Store;
 use club_values::Kind;
 use desk_theorem::{reply_from_nothing, run_and_leave, run_from_nothing};
-use sqlite::{Connection, FileStore, Files, Options};
+use sqlite::{Connection, Files, Options};
 use sqlite_disk::{Disk, Memory};
 use std::alloc::Global;
 use std::process::Abort;
@@ -37,15 +37,11 @@ static BOOKS: [Happens; 8] = [
     Happens::Asked(AMY_V1, ACCOUNT, ACCOUNT_AFTER),
 ];
 
-pub(crate) fn books_from_nothing(rt: &(impl Abort + Alloc<A = Global>)) {
-    let events = events(rt, &BOOKS);
-    let replies = run_from_nothing(rt.alloc(), events.as_slice()).expect(rt, "replies");
-    expect_replies(rt, replies.as_slice(), &BOOKS);
-}
-
 #[test]
 fn books_once_in_three_forms(rt: HostRuntime) {
-    books_from_nothing(&rt);
+    let events = events(&rt, &BOOKS);
+    let replies = run_from_nothing(rt.alloc(), events.as_slice()).expect(&rt, "replies");
+    expect_replies(&rt, replies.as_slice(), &BOOKS);
 }
 
 /// Ends the test unless a request for the account after these events gets this reply.
@@ -63,50 +59,30 @@ fn expect_reply_after(rt: &(impl Abort + Alloc<A = Global>), rows: &[Happens], w
 }
 
 // A request after a list, and one under an unknown key.
-pub(crate) fn answers_behind_lists(rt: &(impl Abort + Alloc<A = Global>)) {
-    expect_reply_after(rt, &BOOKS[..5], &ACCOUNT_AFTER);
-    expect_reply_after(rt, &[], &NOT_VERIFIED);
-}
-
 #[test]
 fn answers_after_a_list(rt: HostRuntime) {
-    answers_behind_lists(&rt);
+    expect_reply_after(&rt, &BOOKS[..5], &ACCOUNT_AFTER);
+    expect_reply_after(&rt, &[], &NOT_VERIFIED);
 }
 
-fn connected<D: Disk + Drop>(alloc: Global, files: Files<D>) -> Option<Connection<FileStore<D>>> {
-    if !files.may_be_used() {
-        return None;
-    }
-    Connection::open_files(alloc, files, Options::new(7)).ok()
-}
-
-/// A desk over the club in these files.
-fn desk_over<D: Disk + Drop>(
-    rt: &(impl Abort + Alloc<A = Global>),
-    files: Files<D>,
-) -> Desk<Store<FileStore<D>>> {
-    let connection = connected(rt.alloc(), files).expect(rt, "a database");
-    let store = Store::adopt(rt.alloc(), connection).ok();
-    Desk::new(rt.alloc(), store.expect(rt, "tables"))
-}
-
-/// What is left of these files once the rows happened at a desk over them.
-fn left_by<D: Disk + Drop>(
+/// What is left of these files once the rows happened at a desk over them; `None` if they may not
+/// be used.
+fn files_left<D: Disk + Drop>(
     rt: &(impl Abort + Alloc<A = Global>),
     files: Files<D>,
     rows: &[Happens],
-) -> Files<D> {
+) -> Option<Files<D>> {
+    if !files.may_be_used() {
+        return None;
+    }
+    let connection = Connection::open_files(rt.alloc(), files, Options::new(7)).ok();
+    let store = Store::adopt(rt.alloc(), connection.expect(rt, "a database")).ok();
+    let desk = Desk::new(rt.alloc(), store.expect(rt, "tables"));
     let events = events(rt, rows);
-    let run = run_and_leave::<D, D>(desk_over(rt, files), events.as_slice());
+    let run = run_and_leave::<D, D>(desk, events.as_slice());
     let (replies, store) = run.expect(rt, "replies");
     expect_replies(rt, replies.as_slice(), rows);
-    store.close()
-}
-
-/// The booking happens at a desk over these files, and its repeats once they were reopened.
-fn books_and_reopens<D: Disk + Drop>(rt: &(impl Abort + Alloc<A = Global>), files: Files<D>) {
-    let left = left_by(rt, files, &BOOKS[..5]);
-    left_by(rt, left, &BOOKS[5..]);
+    Some(store.close())
 }
 
 // A repeat of the booking gets the same reply after the files were reopened.
@@ -116,5 +92,6 @@ fn books_once_over_two_openings(rt: HostRuntime) {
         log: Memory::new(rt.alloc()),
         db: Memory::new(rt.alloc()),
     };
-    books_and_reopens(&rt, files);
+    let left = files_left(&rt, files, &BOOKS[..5]).expect(&rt, "files");
+    files_left(&rt, left, &BOOKS[5..]).expect(&rt, "files");
 }

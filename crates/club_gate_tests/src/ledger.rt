@@ -1,8 +1,9 @@
 //! Stored totals, the cache of keys, and answers to the office.
 
-use crate::counter::{Step, opened, plays_in_all_forms, reply};
+use crate::counter::{Step, furnish, plays_in_all_forms, reply};
 use crate::expect::{expect_eq, expect_row};
 use crate::passes::{AMY, pass_of, text_of};
+use crate::scene::{Scene, play};
 use crate::values::{name, root};
 use club_core::{ClubStore, Command, OfficeFault};
 use club_gate::{Desk, Fault, OfficeReply};
@@ -20,7 +21,7 @@ use test_kit::{COURT_AT_18, COURT_AT_22, Order, PlainReply, PlainSlot};
 const ONE_LEFT: PlainReply = PlainReply::AccountShown(9_099, 1, 901);
 
 /// The sum of a member's charges and refunds follows a cancellation for half the charge.
-pub(crate) static TOTALS: [Step; 4] = [
+static TOTALS: [Step; 4] = [
     Step::Asks(NOON, AMY, BOOK_7, BOOKED_7),
     Step::Asks(NOON, AMY, BOOK_ROOM, ROOM_BOOKED),
     Step::Asks(START - 1439, AMY, CANCEL_ROOM, HALF_BACK),
@@ -72,19 +73,22 @@ fn expect_accounts<S: ClubStore>(rt: &(impl Abort + Alloc<A = Global>), desk: &m
 
 /// The keys are added and get the account twice, and once more from a desk with an empty cache over
 /// the same store.
-fn answers_each_key<S: ClubStore + Drop>(rt: &(impl Abort + Alloc<A = Global>), mut desk: Desk<S>) {
-    add_keys(rt, &mut desk);
-    expect_accounts(rt, &mut desk);
-    expect_accounts(rt, &mut desk);
-    expect_accounts(rt, &mut Desk::new(rt.alloc(), desk.into_store()));
+struct ManyKeys;
+
+impl Scene for ManyKeys {
+    fn play<S: ClubStore + Drop>(&self, rt: &(impl Abort + Alloc<A = Global>), desk: Desk<S>) {
+        let mut desk = furnish(rt, desk, Form::V2).desk;
+        add_keys(rt, &mut desk);
+        expect_accounts(rt, &mut desk);
+        expect_accounts(rt, &mut desk);
+        expect_accounts(rt, &mut Desk::new(rt.alloc(), desk.into_store()));
+    }
 }
 
-// The desk caches 64 derived keys: each key is used twice, and once more by a desk with an empty
-// cache.
+// The desk caches 64 derived keys.
 #[test]
 fn answers_more_keys_than_it_keeps(rt: HostRuntime) {
-    let desk = opened(&rt, Form::V2).desk;
-    answers_each_key(&rt, desk);
+    play(&rt, &ManyKeys);
 }
 
 const EXISTS: OfficeReply = OfficeReply::Refused(Fault::Refused(OfficeFault::Exists));

@@ -43,6 +43,8 @@ mod rotation;
 #[cfg(test)]
 mod rows;
 #[cfg(test)]
+mod scene;
+#[cfg(test)]
 mod sent;
 #[cfg(test)]
 mod texts;

@@ -1,8 +1,8 @@
 //! Random lists of events, one by one and at once: the desk's replies are the reference machine's,
 //! and those to amy are the solo machine's, which holds only her part.
 
-use crate::counter::empty_desk;
 use crate::drawn::{Event, Numbers};
+use crate::scene::{Scene, play};
 use crate::trial::Trial;
 use crate::values::push;
 use club_core::ClubStore;
@@ -17,39 +17,52 @@ const PAIRS: u32 = 10;
 
 const EVENTS: u32 = 60;
 
-/// Plays a list, then compares the members' accounts and the slots.
-fn play<S: ClubStore>(
+/// Two lists, which are played event by event or run at once.
+#[derive(Drop)]
+struct Pair {
+    first: Vec<Event>,
+    second: Vec<Event>,
+    are_run: bool,
+}
+
+/// Plays events one by one, then compares the members' accounts and what the desk shows.
+fn play_each<S: ClubStore>(
     rt: &(impl Abort + Alloc<A = Global>),
-    mut trial: Trial<S>,
-    numbers: &mut Numbers,
-) -> Trial<S> {
-    for _ in 0..EVENTS {
-        trial.play(rt, &numbers.event());
+    trial: &mut Trial<S>,
+    events: &[Event],
+) {
+    for event in events {
+        trial.play(rt, event);
     }
     trial.audit(rt);
     trial.look(rt);
-    trial.audited(rt)
 }
 
-/// Plays two lists from the desk of an empty club on, and audits the club behind each of them.
-fn play_pair<S: ClubStore + Drop>(
-    rt: &(impl Abort + Alloc<A = Global>),
-    desk: Desk<S>,
-    numbers: &mut Numbers,
-) {
-    let trial = play(rt, Trial::begin(rt, desk), numbers);
-    let _audited = play(rt, trial, numbers);
-}
-
-/// Plays so many pairs of lists of a row of numbers.
-pub(crate) fn play_lists(rt: &(impl Abort + Alloc<A = Global>), first: u64, pairs: u32) {
-    let mut numbers = Numbers::new(first);
-    for _ in 0..pairs {
-        play_pair(rt, empty_desk(rt), &mut numbers);
+impl Pair {
+    /// The trial after a list, and after the audit of the club behind it.
+    fn trial_after<S: ClubStore>(
+        &self,
+        rt: &(impl Abort + Alloc<A = Global>),
+        mut trial: Trial<S>,
+        events: &[Event],
+    ) -> Trial<S> {
+        if self.are_run {
+            trial.run(rt, events);
+        } else {
+            play_each(rt, &mut trial, events);
+        }
+        trial.audited(rt)
     }
 }
 
-fn drawn(rt: &(impl Abort + Alloc<A = Global>), numbers: &mut Numbers) -> Vec<Event> {
+impl Scene for Pair {
+    fn play<S: ClubStore + Drop>(&self, rt: &(impl Abort + Alloc<A = Global>), desk: Desk<S>) {
+        let trial = self.trial_after(rt, Trial::begin(rt, desk), self.first.as_slice());
+        let _audited = self.trial_after(rt, trial, self.second.as_slice());
+    }
+}
+
+fn draw(rt: &(impl Abort + Alloc<A = Global>), numbers: &mut Numbers) -> Vec<Event> {
     let mut events = Vec::new(rt.alloc());
     for _ in 0..EVENTS {
         push(rt, &mut events, numbers.event());
@@ -57,31 +70,29 @@ fn drawn(rt: &(impl Abort + Alloc<A = Global>), numbers: &mut Numbers) -> Vec<Ev
     events
 }
 
-/// Runs a list at once, then compares the slots.
-fn run<S: ClubStore>(
-    rt: &(impl Abort + Alloc<A = Global>),
-    mut trial: Trial<S>,
-    numbers: &mut Numbers,
-) -> Trial<S> {
-    trial.run(rt, drawn(rt, numbers).as_slice());
-    trial.audited(rt)
+/// Plays the next pair of lists of a row of numbers.
+fn play_pair(rt: &(impl Abort + Alloc<A = Global>), numbers: &mut Numbers, are_run: bool) {
+    let pair = Pair {
+        first: draw(rt, numbers),
+        second: draw(rt, numbers),
+        are_run,
+    };
+    play(rt, &pair);
 }
 
-/// Runs two lists from the desk of an empty club on, and audits the club behind each of them.
-fn run_pair<S: ClubStore + Drop>(
-    rt: &(impl Abort + Alloc<A = Global>),
-    desk: Desk<S>,
-    numbers: &mut Numbers,
-) {
-    let trial = run(rt, Trial::begin(rt, desk), numbers);
-    let _audited = run(rt, trial, numbers);
+/// Plays so many pairs of lists of a row of numbers, event by event.
+pub(crate) fn play_lists(rt: &(impl Abort + Alloc<A = Global>), first: u64, pairs: u32) {
+    let mut numbers = Numbers::new(first);
+    for _ in 0..pairs {
+        play_pair(rt, &mut numbers, false);
+    }
 }
 
 /// Runs the lists of a row of numbers.
 fn run_lists(rt: &(impl Abort + Alloc<A = Global>), first: u64) {
     let mut numbers = Numbers::new(first);
     for _ in 0..PAIRS {
-        run_pair(rt, empty_desk(rt), &mut numbers);
+        play_pair(rt, &mut numbers, true);
     }
 }
 

@@ -1,8 +1,9 @@
 //! What the desk shows of accounts and slots to whoever keeps its file: worked rows, and refusals.
 
-use crate::counter::{Counter, Step, opened};
+use crate::counter::{Counter, Step, furnish};
 use crate::expect::expect_eq;
 use crate::passes::AMY;
+use crate::scene::{Scene, play};
 use crate::values::{at, name};
 use club_core::{ClubStore, OfficeFault};
 use club_gate::{Desk, Fault};
@@ -119,11 +120,9 @@ fn expect_looks<S: ClubStore>(
     }
 }
 
-#[test]
-fn shows_accounts_and_slots(rt: HostRuntime) {
-    let mut counter = opened(&rt, Form::V2);
+fn expect_rows<S: ClubStore>(rt: &(impl Abort + Alloc<A = Global>), counter: &mut Counter<S>) {
     for row in &ROWS {
-        expect_looks(&rt, &mut counter, row);
+        expect_looks(rt, counter, row);
     }
 }
 
@@ -143,8 +142,29 @@ fn are_unknown<S: ClubStore>(rt: &impl Abort, desk: &mut Desk<S>) {
     }
 }
 
+/// Looks at the fixture.
+enum Looks {
+    /// Those of the rows.
+    Shown,
+    Unknown,
+}
+
+impl Scene for Looks {
+    fn play<S: ClubStore + Drop>(&self, rt: &(impl Abort + Alloc<A = Global>), desk: Desk<S>) {
+        let mut counter = furnish(rt, desk, Form::V2);
+        match self {
+            Looks::Shown => expect_rows(rt, &mut counter),
+            Looks::Unknown => are_unknown(rt, &mut counter.desk),
+        }
+    }
+}
+
+#[test]
+fn shows_accounts_and_slots(rt: HostRuntime) {
+    play(&rt, &Looks::Shown);
+}
+
 #[test]
 fn shows_nothing_unknown(rt: HostRuntime) {
-    let mut desk = opened(&rt, Form::V2).desk;
-    are_unknown(&rt, &mut desk);
+    play(&rt, &Looks::Unknown);
 }

@@ -1,9 +1,10 @@
 //! The desk reads of its store what an answer needs, and no more.
 
-use crate::counter::{MemoryStore, carry_out, opened, reply};
+use crate::counter::{carry_out, furnish, reply};
 use crate::expect::{expect_eq, expect_row};
 use crate::passes::{AMY, BOB, FORMS, Shown};
 use crate::refusing::{Calls, NONE, Refusing};
+use crate::scene::{Scene, play};
 use club_core::{ClubStore, Reply};
 use club_gate::Desk;
 use pass_forms::Form;
@@ -83,11 +84,12 @@ fn prepare<S: ClubStore>(
 }
 
 /// The fixture, in which bob's key is revoked, after number 7 was booked or before.
-fn counted_fixture(
+fn counted_fixture<S: ClubStore>(
     rt: &(impl Abort + Alloc<A = Global>),
+    desk: Desk<S>,
     is_booked: bool,
-) -> Desk<Refusing<MemoryStore>> {
-    let mut desk = opened(rt, Form::V2).desk;
+) -> Desk<Refusing<S>> {
+    let mut desk = furnish(rt, desk, Form::V2).desk;
     prepare(rt, &mut desk, is_booked);
     Desk::new(rt.alloc(), Refusing::never(desk.into_store()))
 }
@@ -168,24 +170,36 @@ fn reply_and_calls<S: ClubStore + Drop>(
     (reply, store.asked)
 }
 
-fn reads(
-    rt: &(impl Abort + Alloc<A = Global>),
+/// A row with its place, over a fixture in which number 7 is booked or not, with a pass in a form.
+#[derive(Clone, Copy)]
+struct Reading<'a> {
     form: Form,
     is_booked: bool,
     place: usize,
-    row: &Row,
-) {
-    let (_, _, expected, calls) = row;
-    let (answer, asked) = reply_and_calls(rt, counted_fixture(rt, is_booked), form, row);
-    let want = expected.reply().expect(rt, "a reply");
-    expect_row(rt, place, &answer, &want);
-    expect_row(rt, place, &asked, calls);
+    row: &'a Row,
+}
+
+impl Scene for Reading<'_> {
+    fn play<S: ClubStore + Drop>(&self, rt: &(impl Abort + Alloc<A = Global>), desk: Desk<S>) {
+        let desk = counted_fixture(rt, desk, self.is_booked);
+        let (answer, asked) = reply_and_calls(rt, desk, self.form, self.row);
+        let (_, _, expected, calls) = self.row;
+        let want = expected.reply().expect(rt, "a reply");
+        expect_row(rt, self.place, &answer, &want);
+        expect_row(rt, self.place, &asked, calls);
+    }
 }
 
 fn reads_each(rt: &(impl Abort + Alloc<A = Global>), is_booked: bool, rows: &[Row]) {
     for form in &FORMS {
         for (place, row) in rows.iter().enumerate() {
-            reads(rt, *form, is_booked, place, row);
+            let reading = Reading {
+                form: *form,
+                is_booked,
+                place,
+                row,
+            };
+            play(rt, &reading);
         }
     }
 }

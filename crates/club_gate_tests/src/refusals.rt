@@ -1,9 +1,10 @@
 //! The desk's replies if its store fails, or isn't called.
 
-use crate::counter::{MemoryStore, opened, reply};
+use crate::counter::{furnish, reply};
 use crate::expect::{expect_eq, expect_row};
 use crate::passes::AMY;
 use crate::refusing::{NONE, Refusing};
+use crate::scene::{Scene, play};
 use crate::values::{name, root};
 use club_core::{ClubStore, OfficeFault, Refusal, Reply, StoreFault};
 use club_gate::{Desk, Fault, OfficeReply, key_signature};
@@ -22,18 +23,25 @@ const LONGEST: [u8; 32] = *b"\
     \x23\x1d\xfe\xcc\x5b\xb5\xa6\xe6\x60\xe0\xa1\xbb\xd3\xab\x92\x0e\
     \xb2\x38\x15\xb7\x1d\x5d\x84\xd4\xb8\x8c\x1c\xaa\x2c\x5b\x47\xce";
 
-/// The fixture, whose store fails from this call on.
-fn refusing(
-    rt: &(impl Abort + Alloc<A = Global>),
+/// A store that fails from this call on.
+#[derive(Clone, Copy)]
+struct Failure {
     first: u32,
     fault: StoreFault,
-) -> Desk<Refusing<MemoryStore>> {
+}
+
+/// The fixture, whose store fails so.
+fn refusing<S: ClubStore>(
+    rt: &(impl Abort + Alloc<A = Global>),
+    desk: Desk<S>,
+    failure: &Failure,
+) -> Desk<Refusing<S>> {
     let store = Refusing {
-        store: opened(rt, Form::V2).desk.into_store(),
+        store: furnish(rt, desk, Form::V2).desk.into_store(),
         asked: NONE,
         calls: 0,
-        first,
-        fault,
+        first: failure.first,
+        fault: failure.fault,
     };
     Desk::new(rt.alloc(), store)
 }
@@ -65,33 +73,29 @@ fn expect_untouched<S: ClubStore>(rt: &impl Abort, store: &mut S) {
     expect_eq(rt, &key.is_none(), &true);
 }
 
-/// Every request and order fails and nothing is changed.
-fn expect_refusals_by<S: ClubStore + Drop>(
-    rt: &(impl Abort + Alloc<A = Global>),
-    mut desk: Desk<Refusing<S>>,
-    fault: StoreFault,
-) {
-    expect_unavailable(rt, &mut desk);
-    expect_failures(rt, &mut desk, fault);
-    expect_untouched(rt, &mut desk.into_store().into_inner());
-}
-
-/// So it is if the store fails from this call on.
-fn expect_refusals(rt: &(impl Abort + Alloc<A = Global>), first: u32, fault: StoreFault) {
-    expect_refusals_by(rt, refusing(rt, first, fault), fault);
+// Every request and order fails and nothing is changed.
+impl Scene for Failure {
+    fn play<S: ClubStore + Drop>(&self, rt: &(impl Abort + Alloc<A = Global>), desk: Desk<S>) {
+        let mut desk = refusing(rt, desk, self);
+        expect_unavailable(rt, &mut desk);
+        expect_failures(rt, &mut desk, self.fault);
+        expect_untouched(rt, &mut desk.into_store().into_inner());
+    }
 }
 
 #[test]
 fn reports_refused_memory(rt: HostRuntime) {
-    expect_refusals(&rt, 1, StoreFault::Memory);
+    let fault = StoreFault::Memory;
+    play(&rt, &Failure { first: 1, fault });
 }
 
 // A booking's first six calls read: the key, the record, the facility, the slot, the account, the
 // open bookings. The seventh writes.
 #[test]
 fn reports_refused_storage(rt: HostRuntime) {
+    let fault = StoreFault::Storage;
     for first in 2..=7 {
-        expect_refusals(&rt, first, StoreFault::Storage);
+        play(&rt, &Failure { first, fault });
     }
 }
 
@@ -108,22 +112,29 @@ fn expect_refused<S: ClubStore>(
     expect_eq(rt, &returned, &Reply::Refused(refusal));
 }
 
-/// How often the store is called for texts that are no pass.
-fn calls_for_faults_of_form<S: ClubStore + Drop>(
-    rt: &impl Abort,
-    mut desk: Desk<Refusing<S>>,
-) -> u32 {
-    expect_refused(rt, &mut desk, b"AgEJ", Refusal::PassMalformed);
-    expect_refused(rt, &mut desk, &LONG, Refusal::PassTooLong);
-    let store = desk.into_store();
-    store.calls
+/// Every call fails.
+const ALWAYS: Failure = Failure {
+    first: 1,
+    fault: StoreFault::Storage,
+};
+
+/// Texts that are no pass, at a desk whose store always fails.
+struct FaultsOfForm;
+
+impl Scene for FaultsOfForm {
+    fn play<S: ClubStore + Drop>(&self, rt: &(impl Abort + Alloc<A = Global>), desk: Desk<S>) {
+        let mut desk = refusing(rt, desk, &ALWAYS);
+        expect_refused(rt, &mut desk, b"AgEJ", Refusal::PassMalformed);
+        expect_refused(rt, &mut desk, &LONG, Refusal::PassTooLong);
+        let store = desk.into_store();
+        expect_eq(rt, &store.calls, &0);
+    }
 }
 
-// A text that is no pass is refused before the store is called.
+// They are refused before the store is called.
 #[test]
 fn reports_a_fault_of_form_first(rt: HostRuntime) {
-    let calls = calls_for_faults_of_form(&rt, refusing(&rt, 1, StoreFault::Storage));
-    expect_eq(&rt, &calls, &0);
+    play(&rt, &FaultsOfForm);
 }
 
 #[test]

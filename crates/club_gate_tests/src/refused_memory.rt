@@ -2,13 +2,13 @@
 //! `tests/refused_memory_tests.sh` refuses each in turn, and none after it: a call that is out of
 //! memory changes nothing, and a second call is answered.
 
-use crate::counter::{MemoryStore, reply};
+use crate::counter::reply;
 use crate::expect::expect_eq;
 use crate::known::{SIGNED, SIGNED_ANEW};
+use crate::scene::{Scene, try_to_play};
 use crate::values::at;
 use club_core::{ClubStore, OfficeFault, Refusal, Reply, StoreFault};
 use club_gate::{Desk, Event, EventReply, Fault, OfficeReply, Words};
-use club_store::Store;
 use club_values::Kind;
 use std::alloc::Global;
 use std::process::Abort;
@@ -19,13 +19,6 @@ use test_kit::replies::{ACCOUNT_AFTER, ACCOUNT_BEFORE, BOOKED_7, KEY_REVOKED};
 use test_kit::requests::{ACCOUNT, BOOK_7, VIEW};
 use test_kit::roots::{ROOT, SECOND_ROOT};
 use test_kit::{COURT_AT_19, Order, PlainReply, PlainRequest, PlainSlot};
-
-fn new_store(rt: &(impl Abort + Alloc<A = Global>)) -> MemoryStore {
-    match Store::open_in_memory(rt.alloc()) {
-        Err(StoreFault::Memory) => Store::open_in_memory(rt.alloc()).expect(rt, "a store"),
-        store => store.expect(rt, "a store"),
-    }
-}
 
 const UNAVAILABLE: Reply = Reply::Refused(Refusal::Unavailable);
 
@@ -101,13 +94,6 @@ static FIXTURE: [(Order, OfficeReply); 4] = [
     ),
 ];
 
-/// The desk of the fixture.
-fn desk(rt: &(impl Abort + Alloc<A = Global>)) -> Desk<MemoryStore> {
-    let mut desk = Desk::new(rt.alloc(), new_store(rt));
-    expect_answers(rt, &mut desk, &FIXTURE);
-    desk
-}
-
 /// The older root is good for long, so amy's pass still shows what the key sees.
 static ORDERS: [(Order, OfficeReply); 3] = [
     (Order::CloseSlot(AT_19), DONE),
@@ -132,11 +118,6 @@ fn carries_out_orders<S: ClubStore>(rt: &impl Abort, desk: &mut Desk<S>) {
     expect_answers(rt, desk, &ORDERS);
     expect_answers(rt, desk, &REVOKED);
     expect_replied(rt, desk, AMY_V2, &ACCOUNT, &KEY_REVOKED);
-}
-
-#[test]
-fn orders(rt: HostRuntime) {
-    carries_out_orders(&rt, &mut desk(&rt));
 }
 
 fn expect_replied<S: ClubStore>(
@@ -181,25 +162,6 @@ fn books<S: ClubStore>(rt: &impl Abort, desk: &mut Desk<S>, pass: &str) {
     is_booked_or_unavailable(rt, desk, pass, &first);
 }
 
-fn ask(rt: &(impl Abort + Alloc<A = Global>), pass: &str) {
-    books(rt, &mut desk(rt), pass);
-}
-
-#[test]
-fn ask_in_v1(rt: HostRuntime) {
-    ask(&rt, AMY_V1);
-}
-
-#[test]
-fn ask_in_v2(rt: HostRuntime) {
-    ask(&rt, AMY_V2);
-}
-
-#[test]
-fn ask_in_json(rt: HostRuntime) {
-    ask(&rt, AMY_JSON);
-}
-
 /// The one reply of these.
 fn only(replies: &[EventReply]) -> Option<Reply> {
     match replies {
@@ -226,21 +188,65 @@ fn books_in_a_run<S: ClubStore>(rt: &impl Abort, desk: &mut Desk<S>, pass: &str)
     is_booked_or_unavailable(rt, desk, pass, &first);
 }
 
-fn run(rt: &(impl Abort + Alloc<A = Global>), pass: &str) {
-    books_in_a_run(rt, &mut desk(rt), pass);
+/// What is done from the fixture on.
+enum Deed {
+    Orders,
+    /// The booking under this pass, by `Desk::ask`.
+    Ask(&'static str),
+    /// The same by `Desk::run`.
+    Run(&'static str),
+}
+
+impl Scene for Deed {
+    fn play<S: ClubStore + Drop>(&self, rt: &(impl Abort + Alloc<A = Global>), mut desk: Desk<S>) {
+        expect_answers(rt, &mut desk, &FIXTURE);
+        match self {
+            Deed::Orders => carries_out_orders(rt, &mut desk),
+            Deed::Ask(pass) => books(rt, &mut desk, pass),
+            Deed::Run(pass) => books_in_a_run(rt, &mut desk, pass),
+        }
+    }
+}
+
+/// Does this over new tables; over others if there was no memory for the first.
+fn perform(rt: &(impl Abort + Alloc<A = Global>), deed: &Deed) {
+    match try_to_play(rt, deed) {
+        Err(StoreFault::Memory) => try_to_play(rt, deed).expect(rt, "a store"),
+        first => first.expect(rt, "a store"),
+    }
+}
+
+#[test]
+fn orders(rt: HostRuntime) {
+    perform(&rt, &Deed::Orders);
+}
+
+#[test]
+fn ask_in_v1(rt: HostRuntime) {
+    perform(&rt, &Deed::Ask(AMY_V1));
+}
+
+#[test]
+fn ask_in_v2(rt: HostRuntime) {
+    perform(&rt, &Deed::Ask(AMY_V2));
+}
+
+#[test]
+fn ask_in_json(rt: HostRuntime) {
+    perform(&rt, &Deed::Ask(AMY_JSON));
 }
 
 #[test]
 fn run_in_v1(rt: HostRuntime) {
-    run(&rt, AMY_V1);
+    perform(&rt, &Deed::Run(AMY_V1));
 }
 
 #[test]
 fn run_in_v2(rt: HostRuntime) {
-    run(&rt, AMY_V2);
+    perform(&rt, &Deed::Run(AMY_V2));
 }
 
 #[test]
 fn run_in_json(rt: HostRuntime) {
-    run(&rt, AMY_JSON);
+    perform(&rt, &Deed::Run(AMY_JSON));
 }

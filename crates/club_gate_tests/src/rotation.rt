@@ -41,7 +41,7 @@ const RENEWED_AGAIN: Shown = Shown::Of("amy-1", THIRD_ROOT, &[]);
 
 /// Passes under the older root are good until the moment, and not at it. A booking is repeated
 /// under the new root.
-pub(crate) static FOR_A_WHILE: [Step; 6] = [
+static FOR_A_WHILE: [Step; 6] = [
     Step::Asks(NOON, AMY, BOOK_7, BOOKED_7),
     Step::IsAnswered(Order::RotateKey("amy-1", SECOND_ROOT, UNTIL), SIGNED_ANEW),
     Step::Asks(UNTIL - 1, AMY, ACCOUNT, ACCOUNT_AFTER),
@@ -56,7 +56,7 @@ fn serves_both_roots_for_a_while(rt: HostRuntime) {
 }
 
 /// An older root is refused after its moment, even if its derived key is in the cache.
-pub(crate) static PAST: [Step; 3] = [
+static PAST: [Step; 3] = [
     Step::Asks(NOON, AMY, ACCOUNT, ACCOUNT_BEFORE),
     Step::Orders(Order::RotateKey("amy-1", SECOND_ROOT, FIRST)),
     Step::Asks(NOON, AMY, ACCOUNT, NOT_VERIFIED),
@@ -68,7 +68,7 @@ fn forgets_a_root_that_is_past(rt: HostRuntime) {
 }
 
 /// A rotation to the key's current root is refused. A second rotation drops the first root.
-pub(crate) static TWICE: [Step; 6] = [
+static TWICE: [Step; 6] = [
     Step::IsAnswered(
         Order::RotateKey("amy-1", ROOT, LAST),
         OfficeReply::Refused(Fault::Refused(OfficeFault::Exists)),

@@ -1,8 +1,9 @@
 //! The worked rows of the desk, each in every form of a pass.
 
-use crate::counter::{Counter, Step, opened, plays_in_all_forms, plays_list_in_all_forms};
+use crate::counter::{Counter, Step, furnish, plays_in_all_forms, plays_list_in_all_forms};
 use crate::expect::expect_eq;
 use crate::passes::{AMY, BOB, CY, FORMS, Shown};
+use crate::scene::{Scene, play};
 use club_core::{ClubStore, OfficeFault};
 use club_gate::{Desk, Fault, OfficeReply};
 use club_values::Day;
@@ -34,7 +35,7 @@ fn refunds(rt: HostRuntime) {
 
 const STRANGER: Shown = Shown::Of("zed-1", ROOT, &[]);
 
-pub(crate) static VERIFIES: [Step; 6] = [
+static VERIFIES: [Step; 6] = [
     Step::Asks(NOON, STRANGER, ACCOUNT, NOT_VERIFIED),
     Step::Asks(NOON, Shown::Changed, ACCOUNT, NOT_VERIFIED),
     Step::Asks(NOON, Shown::Unnamed, ACCOUNT, NOT_VERIFIED),
@@ -56,7 +57,7 @@ pub(crate) static ALONE: [Step; 3] = [
 ];
 
 /// A place of bob's in her slot changes the places that are left, and nothing else.
-pub(crate) static BESIDE_BOB: [Step; 4] = [
+static BESIDE_BOB: [Step; 4] = [
     Step::Asks(NOON, BOB, BOOK_2, BOOKED_2),
     Step::Asks(NOON, AMY, BOOK_7, FILLED_BY_7),
     Step::Asks(NOON, AMY, ACCOUNT, ACCOUNT_AFTER),
@@ -106,12 +107,16 @@ fn others_are_busy<S: ClubStore>(rt: &(impl Abort + Alloc<A = Global>), counter:
     counter.plays(rt, &BEHIND_CY);
 }
 
-fn answers_amy_among_others<S: ClubStore>(
-    rt: &(impl Abort + Alloc<A = Global>),
-    counter: &mut Counter<S>,
-) {
-    others_are_busy(rt, counter);
-    counter.plays(rt, &ALONE);
+/// Amy's list with her pass in a form, while others are busy.
+#[derive(Clone, Copy)]
+struct AmongOthers(Form);
+
+impl Scene for AmongOthers {
+    fn play<S: ClubStore + Drop>(&self, rt: &(impl Abort + Alloc<A = Global>), desk: Desk<S>) {
+        let mut counter = furnish(rt, desk, self.0);
+        others_are_busy(rt, &mut counter);
+        counter.plays(rt, &ALONE);
+    }
 }
 
 #[test]
@@ -119,7 +124,7 @@ fn answers_amy_the_same_whatever_others_do(rt: HostRuntime) {
     plays_in_all_forms(&rt, &ALONE);
     plays_in_all_forms(&rt, &BESIDE_BOB);
     for form in &FORMS {
-        answers_amy_among_others(&rt, &mut opened(&rt, *form));
+        play(&rt, &AmongOthers(*form));
     }
 }
 
@@ -132,7 +137,7 @@ fn books_within_the_window(rt: HostRuntime) {
 
 const DI: Shown = Shown::Of("di-1", ROOT, &[]);
 
-pub(crate) static LIMITS: [Step; 9] = [
+static LIMITS: [Step; 9] = [
     Step::Orders(Order::AddMember("cy", 1)),
     Step::Orders(Order::Credit("cy", 100)),
     Step::Orders(Order::AddKey("cy-1", "cy", ROOT)),
@@ -151,7 +156,7 @@ fn minds_places_points_and_quota(rt: HostRuntime) {
 
 const CLOSE: Order = Order::CloseSlot(COURT_AT_18);
 
-pub(crate) static CLOSES: [Step; 7] = [
+static CLOSES: [Step; 7] = [
     Step::Asks(NOON, AMY, BOOK_7, BOOKED_7),
     Step::IsAnswered(
         CLOSE,
@@ -195,19 +200,20 @@ fn expect_sheet<S: ClubStore>(rt: &impl Abort, desk: &mut Desk<S>, day: u16, wan
     expect_eq(rt, &sheet.as_str(), &want);
 }
 
-/// The sheets once these steps were played.
-fn expect_sheets_of<S: ClubStore>(rt: &(impl Abort + Alloc<A = Global>), counter: &mut Counter<S>) {
-    counter.plays(rt, &FILLED);
-    for (day, want) in &SHEETS {
-        expect_sheet(rt, &mut counter.desk, *day, want);
-    }
-}
+/// The sheets behind the filled slot.
+struct Sheets;
 
-pub(crate) fn expect_sheets(rt: &(impl Abort + Alloc<A = Global>)) {
-    expect_sheets_of(rt, &mut opened(rt, Form::V2));
+impl Scene for Sheets {
+    fn play<S: ClubStore + Drop>(&self, rt: &(impl Abort + Alloc<A = Global>), desk: Desk<S>) {
+        let mut counter = furnish(rt, desk, Form::V2);
+        counter.plays(rt, &FILLED);
+        for (day, want) in &SHEETS {
+            expect_sheet(rt, &mut counter.desk, *day, want);
+        }
+    }
 }
 
 #[test]
 fn prints_the_sheet_of_a_day(rt: HostRuntime) {
-    expect_sheets(&rt);
+    play(&rt, &Sheets);
 }

@@ -1,9 +1,10 @@
 //! Texts of passes, and texts that are no pass.
 
-use crate::counter::{Counter, Step, empty_desk, opened, reply};
+use crate::counter::{Counter, Step, furnish, reply};
 use crate::expect::{expect_eq, expect_row};
 use crate::known::SIGNED;
 use crate::passes::text_of;
+use crate::scene::{Scene, play};
 use crate::values::name;
 use club_core::{ClubStore, Refusal, Reply};
 use club_gate::{Desk, minted};
@@ -23,7 +24,7 @@ static ADDS_A_KEY: [Step; 2] = [
 ];
 
 /// The pass of the key in V2 is this text.
-pub(crate) fn expect_text(rt: &(impl Abort + Alloc<A = Global>)) {
+fn expect_text(rt: &(impl Abort + Alloc<A = Global>)) {
     let name = name(rt, b"amy-1");
     let pass = minted(rt.alloc(), &name, AMY_1_SIGNATURE).expect(rt, "memory");
     let text = text_of(rt, Form::V2, &pass);
@@ -46,20 +47,22 @@ fn expect_reply<S: ClubStore>(
 const NO_POINTS: PlainReply = PlainReply::AccountShown(0, 0, 0);
 
 /// The new key's pass is served.
-fn serves_a_new_key<S: ClubStore>(rt: &(impl Abort + Alloc<A = Global>), counter: &mut Counter<S>) {
-    counter.plays(rt, &ADDS_A_KEY);
-    let want = NO_POINTS.reply().expect(rt, "a reply");
-    expect_reply(rt, &mut counter.desk, 0, AMY_V2, &want);
+struct NewKey;
+
+impl Scene for NewKey {
+    fn play<S: ClubStore + Drop>(&self, rt: &(impl Abort + Alloc<A = Global>), desk: Desk<S>) {
+        let form = Form::V2;
+        let mut counter = Counter { desk, form };
+        counter.plays(rt, &ADDS_A_KEY);
+        let want = NO_POINTS.reply().expect(rt, "a reply");
+        expect_reply(rt, &mut counter.desk, 0, AMY_V2, &want);
+    }
 }
 
 // The office's pass of a new key has 79 characters in V2, and is served.
 #[test]
 fn mints_the_pass_of_a_key(rt: HostRuntime) {
-    let mut counter = Counter {
-        desk: empty_desk(&rt),
-        form: Form::V2,
-    };
-    serves_a_new_key(&rt, &mut counter);
+    play(&rt, &NewKey);
     expect_text(&rt);
 }
 
@@ -158,14 +161,6 @@ fn expect_faults<S: ClubStore>(
     }
 }
 
-#[test]
-fn refuses_faulty_texts(rt: HostRuntime) {
-    let mut desk = opened(&rt, Form::V2).desk;
-    for pieces in &FORMS {
-        expect_faults(&rt, &mut desk, pieces);
-    }
-}
-
 fn json(rt: &(impl Abort + Alloc<A = Global>), head: &str) -> String {
     let mut text = String::new(rt.alloc());
     add(rt, &mut text, head, 1);
@@ -180,8 +175,32 @@ fn expect_faults_of_json<S: ClubStore>(rt: &(impl Abort + Alloc<A = Global>), de
     }
 }
 
+/// Faulty texts at a desk of the fixture.
+#[derive(Clone, Copy)]
+enum Faulty<'a> {
+    /// Those of these pieces.
+    Pieces(&'a Pieces),
+    Json,
+}
+
+impl Scene for Faulty<'_> {
+    fn play<S: ClubStore + Drop>(&self, rt: &(impl Abort + Alloc<A = Global>), desk: Desk<S>) {
+        let mut desk = furnish(rt, desk, Form::V2).desk;
+        match self {
+            Faulty::Pieces(pieces) => expect_faults(rt, &mut desk, pieces),
+            Faulty::Json => expect_faults_of_json(rt, &mut desk),
+        }
+    }
+}
+
+#[test]
+fn refuses_faulty_texts(rt: HostRuntime) {
+    for pieces in &FORMS {
+        play(&rt, &Faulty::Pieces(pieces));
+    }
+}
+
 #[test]
 fn refuses_faulty_json(rt: HostRuntime) {
-    let mut desk = opened(&rt, Form::Json).desk;
-    expect_faults_of_json(&rt, &mut desk);
+    play(&rt, &Faulty::Json);
 }
