@@ -18,10 +18,10 @@ mod office;
 #[cfg(test)]
 mod orders;
 #[cfg(test)]
-mod outcome;
-#[cfg(test)]
 mod rotation;
 #[cfg(test)]
 mod rows;
+#[cfg(test)]
+mod texts;
 #[cfg(test)]
 mod values;

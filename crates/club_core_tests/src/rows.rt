@@ -1,16 +1,13 @@
 //! The rows of a club, read from their columns within their limits.
 
 use crate::expect::expect_row;
-use crate::fixture::{booking, facility, key};
+use crate::fixture::{booking, facility};
 use club_rows::{
-    Booking, BookingColumns, BookingNumber, Facility, FacilityColumns, Guests, Key, Member, Root,
-    slot_from_columns,
+    Booking, BookingColumns, BookingNumber, Facility, FacilityColumns, Guests, Member, Root,
 };
-use club_values::Slot;
 use std::process::Abort;
 use std::test::*;
-use test_kit::roots::ROOT;
-use test_kit::{BOOKING_7, COURT, COURT_AT_18, PlainBooking, PlainFacility};
+use test_kit::{BOOKING_7, COURT, PlainBooking};
 
 static NUMBERS: [(u32, bool); 4] = [
     (0, false),
@@ -65,49 +62,18 @@ fn columns_of_members(rt: HostRuntime) {
     }
 }
 
-fn is_key(rt: &impl Abort, row: usize, revoked: i64, want: Option<Key>) {
-    let key = Key::from_columns(b"amy-1", b"amy", ROOT, revoked);
-    expect_row(rt, row, &key, &want);
-}
-
 #[test]
-fn columns_of_keys(rt: HostRuntime) {
-    is_key(&rt, 0, 0, Some(key(&rt, false)));
-    is_key(&rt, 1, 2, None);
-}
-
-fn is_slot(rt: &impl Abort, row: usize, hour: i64, want: Option<Slot>) {
-    let slot = slot_from_columns(b"court-1", 20_574, hour);
-    expect_row(rt, row, &slot, &want);
-}
-
-#[test]
-fn columns_of_slots(rt: HostRuntime) {
-    is_slot(&rt, 0, 18, COURT_AT_18.slot());
-    is_slot(&rt, 1, 24, None);
-}
-
-/// The hour at which `court-1` shuts, and what its columns are then.
-static FACILITIES: [(i64, Option<PlainFacility>); 2] = [(22, Some(COURT)), (8, None)];
-
-fn is_facility(rt: &impl Abort, row: usize, shuts: i64, want: &Option<PlainFacility>) {
+fn columns_of_a_facility(rt: HostRuntime) {
     let columns = FacilityColumns {
         name: b"court-1",
         kind: b"court",
         places: 4,
         price: 200,
         opens: 8,
-        shuts,
+        shuts: 22,
     };
-    let facility = facility(rt, want);
-    expect_row(rt, row, &Facility::from_columns(&columns), &facility);
-}
-
-#[test]
-fn columns_of_facilities(rt: HostRuntime) {
-    for (row, (shuts, want)) in FACILITIES.iter().enumerate() {
-        is_facility(&rt, row, *shuts, want);
-    }
+    let read = Facility::from_columns(&columns);
+    expect_row(&rt, 0, &read, &facility(&rt, &Some(COURT)));
 }
 
 const CANCELLED: PlainBooking = PlainBooking {

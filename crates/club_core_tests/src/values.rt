@@ -1,7 +1,7 @@
 //! Values of the tests, made from texts and bytes.
 
 use club_rows::Root;
-use club_values::{Day, Moment, Name};
+use club_values::{Moment, Name};
 use std::process::Abort;
 
 pub(crate) fn name(rt: &impl Abort, text: &str) -> Name {
@@ -10,10 +10,6 @@ pub(crate) fn name(rt: &impl Abort, text: &str) -> Name {
 
 pub(crate) fn root(rt: &impl Abort, bytes: &[u8]) -> Root {
     Root::new(bytes).expect(rt, "a root")
-}
-
-pub(crate) fn day(rt: &impl Abort, text: &str) -> Day {
-    Day::read(text.as_bytes()).expect(rt, "a day")
 }
 
 pub(crate) fn moment(rt: &impl Abort, text: &str) -> Moment {
