@@ -1,6 +1,6 @@
 //! Passes that are read and written in any form.
 
-use crate::calls::{read_any, read_json, write_any, write_json};
+use crate::calls::{read_any, write_any};
 use crate::rows::{Fields, KEYID_FIELDS, Piece, expect_eq, expect_pass, joined, pass_of};
 use pass_forms::{Form, FormFault, Pass};
 use std::alloc::Global;
@@ -47,11 +47,11 @@ pub(crate) static EXAMPLE: [(Form, &str); 3] = [
         Form::V2,
         "AgETaHR0cDovL2V4YW1wbGUub3JnLwIFa2V5aWQAAAYgfN7nklEcW8b1KEhYBd_psk54XijiqZMB-dcRxgnjjvc",
     ),
-    (Form::Json, EXAMPLE_JSON),
+    (
+        Form::Json,
+        "{\"c\":[],\"i\":\"keyid\",\"l\":\"http://example.org/\",\"s64\":\"fN7nklEcW8b1KEhYBd_psk54XijiqZMB-dcRxgnjjvc\",\"v\":2}",
+    ),
 ];
-
-pub(crate) const EXAMPLE_JSON: &str =
-    "{\"c\":[],\"i\":\"keyid\",\"l\":\"http://example.org/\",\"s64\":\"fN7nklEcW8b1KEhYBd_psk54XijiqZMB-dcRxgnjjvc\",\"v\":2}";
 
 // The pass of a text whose form is detected as this one.
 fn read(rt: &(impl Abort + AllocGlobal), text: &str, form: Form) -> Pass {
@@ -74,20 +74,12 @@ fn convert(rt: &(impl Abort + AllocGlobal), texts: &[(Form, &str)]) {
     }
 }
 
-// The calls of JSON alone.
-fn convert_json(rt: &(impl Abort + AllocGlobal), text: &str) {
-    let pass = read_json(rt.alloc(), text.as_bytes()).expect(rt, "a pass");
-    let written = write_json(rt.alloc(), &pass).expect(rt, "a text");
-    expect_eq(rt, &written.as_str(), &text, &"JSON");
-}
-
 // With ample memory each call answers, and doesn't end for want of it.
 #[test]
 fn answers_with_ample_memory(rt: HostRuntime) {
     convert(&rt, &KNOWN);
     convert(&rt, &BARE);
     convert(&rt, &EXAMPLE);
-    convert_json(&rt, EXAMPLE_JSON);
 }
 
 // JSON of the pass that has an identifier alone, without what may be left out, plainly and in

@@ -20,10 +20,6 @@ pub(crate) fn write_any(alloc: Global, form: Form, pass: &Pass) -> Result<String
     pass_json::write_any(alloc, form, pass)
 }
 
-pub(crate) fn is_signed(pass: &Pass, root: &[u8]) -> bool {
-    pass.is_signed(root)
-}
-
 // A pass with no location.
 pub(crate) fn new_pass(
     alloc: Global,

@@ -1,7 +1,6 @@
 //! Passes that are read from JSON.
 
-use crate::any::EXAMPLE_JSON;
-use crate::calls::{is_signed, read_json};
+use crate::calls::read_json;
 use crate::rows::{Fields, KEYID_FIELDS, KNOWN_FIELDS, Piece, expect_eq, expect_pass, joined};
 use pass_forms::FormFault;
 use std::process::Abort;
@@ -201,31 +200,4 @@ static OTHER_TEXTS: [(&[Piece], FormFault); 8] = [
 #[test]
 fn refuses_other_texts(rt: HostRuntime) {
     are_refused(&rt, &OTHER_TEXTS);
-}
-
-fn is_refused_cut_short(rt: &(impl Abort + AllocGlobal), text: &str) {
-    for len in 0..text.len() {
-        is_refused(rt, &text.as_bytes()[..len], FormFault::Malformed);
-    }
-}
-
-#[test]
-fn refuses_the_known_texts_cut_short(rt: HostRuntime) {
-    is_refused_cut_short(&rt, KNOWN);
-    is_refused_cut_short(&rt, EXAMPLE_JSON);
-}
-
-static SIGNED: [&str; 2] = [KNOWN, IN_OTHER_ORDER];
-
-fn are_signed(rt: &(impl Abort + AllocGlobal), texts: &[&str], root: &[u8]) {
-    for text in texts {
-        let pass = read_json(rt.alloc(), text.as_bytes()).expect(rt, "a pass");
-        expect_eq(rt, &is_signed(&pass, root), &true, text);
-    }
-}
-
-#[test]
-fn known_pass_is_signed_under_its_root(rt: HostRuntime) {
-    let root = b"this is our super secret key; only we should know it";
-    are_signed(&rt, &SIGNED, root);
 }

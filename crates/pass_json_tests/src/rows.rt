@@ -63,9 +63,9 @@ pub(crate) const KEYID_FIELDS: Fields<'static> = Fields {
 
 /// The pass says this.
 pub(crate) fn expect_pass(rt: &impl Abort, pass: &Pass, want: &Fields<'_>) {
-    let outcome = (pass.location(), pass.identifier(), pass.signature());
-    let wanted = (want.location, want.identifier, want.signature);
-    expect_eq(rt, &outcome, &wanted, &"location, identifier, signature");
+    expect_eq(rt, &pass.location(), &want.location, &"a location");
+    expect_eq(rt, &pass.identifier(), &want.identifier, &"an identifier");
+    expect_eq(rt, &pass.signature(), &want.signature, &"a signature");
     expect_eq(rt, &pass.caveats().len(), &want.caveats.len(), &"caveats");
     for (caveat, wanted) in pass.caveats().iter().zip(want.caveats.iter()) {
         expect_eq(rt, &caveat.as_slice(), wanted, &"a caveat");

@@ -7,13 +7,14 @@ use std::alloc::Global;
 use std::process::Abort;
 
 fn is_same(rt: &impl Abort, outcome: &Pass, want: &Pass) {
-    let outcome = (
-        outcome.location(),
-        outcome.identifier(),
-        outcome.signature(),
+    expect_eq(rt, &outcome.location(), &want.location(), &"a location");
+    expect_eq(
+        rt,
+        &outcome.identifier(),
+        &want.identifier(),
+        &"an identifier",
     );
-    let want = (want.location(), want.identifier(), want.signature());
-    expect_eq(rt, &outcome, &want, &"location, identifier, signature");
+    expect_eq(rt, &outcome.signature(), &want.signature(), &"a signature");
 }
 
 // The pass is written as a text, which is read as the same pass.
