@@ -8,8 +8,6 @@ mod chain;
 #[cfg(test)]
 mod envelope;
 #[cfg(test)]
-mod mint;
-#[cfg(test)]
 mod parts;
 #[cfg(test)]
 mod read;

@@ -41,9 +41,9 @@ pub(crate) struct Fields<'a> {
     pub(crate) signature: &'a [u8; 32],
 }
 
-fn expect_caveats(rt: &impl Abort, pass: &Pass, want: &Fields<'_>) {
-    expect_eq(rt, &pass.caveats().len(), &want.caveats.len(), want);
-    for (caveat, wanted) in pass.caveats().iter().zip(want.caveats.iter()) {
+pub(crate) fn expect_caveats(rt: &impl Abort, caveats: &[Vec<u8>], want: &Fields<'_>) {
+    expect_eq(rt, &caveats.len(), &want.caveats.len(), want);
+    for (caveat, wanted) in caveats.iter().zip(want.caveats.iter()) {
         expect_eq(rt, &caveat.as_slice(), wanted, want);
     }
 }
@@ -52,5 +52,5 @@ pub(crate) fn expect_pass(rt: &impl Abort, pass: &Pass, want: &Fields<'_>) {
     expect_eq(rt, &pass.location(), &want.location, want);
     expect_eq(rt, &pass.identifier(), &want.identifier, want);
     expect_eq(rt, &pass.signature(), &want.signature, want);
-    expect_caveats(rt, pass, want);
+    expect_caveats(rt, pass.caveats(), want);
 }

@@ -23,14 +23,16 @@ const AFTER: Piece = (
 const SIGNATURE: &[u8; 32] =
     b"\x19\x7b\xac\x7a\x04\x4a\xf3\x33\x32\x86\x5b\x92\x66\xe2\x6d\x49\x3b\xdd\x66\x8a\x66\x0e\x44\xd8\x8c\xe1\xa9\x98\xc2\x3d\xbd\x67";
 
-const KNOWN_FIELDS: Fields<'static> = Fields {
+/// What the known pass says.
+pub(crate) const KNOWN_FIELDS: Fields<'static> = Fields {
     location: b"http://mybank/",
     identifier: b"we used our secret key",
     caveats: &[b"test = caveat"],
     signature: SIGNATURE,
 };
 
-const ROOT: &[u8] = b"this is our super secret key; only we should know it";
+/// The root of the known pass.
+pub(crate) const ROOT: &[u8] = b"this is our super secret key; only we should know it";
 
 static KNOWN: [Piece; 3] = [BEFORE, CAVEAT, AFTER];
 

@@ -1,7 +1,8 @@
 //! Passes that are narrowed, and written in V1 and V2.
 
-use crate::calls::{mint, narrow, new_pass, read, unwrap_text, write};
+use crate::calls::{narrow, new_pass, read, unwrap_text, write};
 use crate::envelope::decodes;
+use crate::parts::known;
 use crate::rows::{Piece, expect_eq, joined};
 use pass_forms::{Form, FormFault, MAX_BYTES, Pass};
 use std::alloc::Global;
@@ -103,25 +104,6 @@ fn are_written(rt: &(impl Abort + AllocGlobal), rows: &[Written]) {
     for row in rows {
         is_written(rt, row);
     }
-}
-
-#[test]
-fn narrows_and_writes_what_was_read(rt: HostRuntime) {
-    are_written(&rt, &WRITTEN);
-}
-
-// The pass of `KNOWN_V1`, made under its root.
-fn known(rt: &(impl Abort + AllocGlobal)) -> Pass {
-    let root = b"this is our super secret key; only we should know it";
-    let minted = mint(
-        rt.alloc(),
-        root,
-        b"http://mybank/",
-        b"we used our secret key",
-    );
-    let mut pass = minted.expect(rt, "a pass");
-    narrows(rt, &mut pass, &[b"test = caveat"]);
-    pass
 }
 
 // With ample memory each call answers, and doesn't end for want of it.
