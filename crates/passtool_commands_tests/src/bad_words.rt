@@ -40,24 +40,18 @@ static OTHER_FORMS: [&str; 6] = ["", "v3", "V1", "JSON", "v1 ", "binary"];
 fn expect_other_form(rt: &(impl Abort + AllocGlobal), words: &[&str], form: &str) {
     let output = output_of(rt, words, &mut no_input());
     let line = form_line(rt.alloc(), form).expect(rt, "memory");
-    assert!(rt; output.begins(2, line.as_str()), "{output:?}");
-}
-
-#[test]
-fn refuses_other_forms(rt: HostRuntime) {
-    for form in &OTHER_FORMS {
-        expect_other_form(&rt, &["passtool", "convert", "--form", form], form);
-    }
+    assert!(rt; output.begins(2, line.as_str()), "{words:?}: {output:?}");
 }
 
 // The form is checked before the root.
 #[test]
-fn refuses_other_forms_beside_a_bad_root(rt: HostRuntime) {
+fn refuses_other_forms(rt: HostRuntime) {
     for form in &OTHER_FORMS {
         let words = [
             "passtool", "mint", "--root", "zz", "--id", "k", "--form", form,
         ];
         expect_other_form(&rt, &words, form);
+        expect_other_form(&rt, &["passtool", "convert", "--form", form], form);
     }
 }
 
@@ -101,7 +95,8 @@ const NOT_TEXT: End = Prints(
 
 #[test]
 fn refuses_words_that_are_no_text(rt: HostRuntime) {
-    expect_end(&rt, &output_of_fault(&rt, &not_text(rt.alloc())), &NOT_TEXT);
+    let output = output_of_fault(&rt, &not_text(rt.alloc()));
+    expect_end(&rt, &output, &NOT_TEXT, &["no text"]);
 }
 
 const USAGE: &str = "Usage:";

@@ -10,7 +10,7 @@ pub(crate) fn expect_eq<T: PartialEq + Debug>(rt: &impl Abort, returned: &T, wan
     assert_eq!(rt; returned, want);
 }
 
-/// Ends the test unless a run ended so.
-pub(crate) fn expect_end(rt: &impl Abort, output: &Output, end: &End) {
-    assert!(rt; end.fits(output), "{output:?}, and not {end:?}");
+/// Ends the test of this row unless a run ended so.
+pub(crate) fn expect_end(rt: &impl Abort, output: &Output, end: &End, row: &[&str]) {
+    assert!(rt; end.fits(output), "{row:?}: {output:?}, and not {end:?}");
 }

@@ -3,8 +3,7 @@
 use crate::doubles::{Narrow, Pieces};
 use crate::expect::{expect_end, expect_eq};
 use crate::runs::{
-    BARE_TEXT, MINT, NARROW, SHOW, SHOWN, TEXT, TO_V2, V2_TEXT, VERIFY, Words, ended_by,
-    expect_unread, output_of,
+    BARE_TEXT, MINT, NARROW, SHOW, SHOWN, TEXT, TO_V2, V2_TEXT, VERIFY, Words, ended_by, output_of,
 };
 use std::process::Abort;
 use test_kit::End;
@@ -23,7 +22,7 @@ fn expect_of_pieces(
     end: &End,
 ) {
     let mut reader = Pieces { left, fails };
-    expect_end(rt, &output_of(rt, words, &mut reader), end);
+    expect_end(rt, &output_of(rt, words, &mut reader), end, words);
 }
 
 #[test]
@@ -48,11 +47,6 @@ fn fails_with_its_reader(rt: HostRuntime) {
     }
 }
 
-#[test]
-fn mint_reads_no_input(rt: HostRuntime) {
-    expect_unread(&rt, MINT, &Writes(V2_TEXT));
-}
-
 // A run that writes this text and a line feed.
 struct Run {
     words: Words,
@@ -75,7 +69,7 @@ fn expect_taken(
         flushes,
     };
     let output = ended_by(rt, run.words, &mut run.input.as_bytes(), &mut writer);
-    expect_end(rt, &output, end);
+    expect_end(rt, &output, end, run.words);
     expect_eq(rt, &writer.taken.as_slice(), &front);
 }
 

@@ -126,19 +126,20 @@ pub(crate) fn output_of<R: Read>(
 /// A run on this input ends so.
 pub(crate) fn expect(rt: &(impl Abort + AllocGlobal), words: &[&str], input: &[u8], end: &End) {
     let mut reader = input;
-    expect_end(rt, &output_of(rt, words, &mut reader), end);
+    expect_end(rt, &output_of(rt, words, &mut reader), end, words);
 }
 
 /// Each run ends as its row says.
 pub(crate) fn expect_rows(rt: &(impl Abort + AllocGlobal), rows: &[Row]) {
     for Row(words, input, end) in rows {
-        expect(rt, words, input.as_bytes(), end);
+        let mut reader = input.as_bytes();
+        expect_end(rt, &output_of(rt, words, &mut reader), end, &[*input]);
     }
 }
 
 /// A run that reads no input ends so.
 pub(crate) fn expect_unread(rt: &(impl Abort + AllocGlobal), words: &[&str], end: &End) {
-    expect_end(rt, &output_of(rt, words, &mut no_input()), end);
+    expect_end(rt, &output_of(rt, words, &mut no_input()), end, words);
 }
 
 /// Each of these runs reads no input, and ends so.
