@@ -45,12 +45,20 @@ fn wanted(rt: &impl Abort, want: &Want) -> Result<Request, Refusal> {
     Ok(request.request().expect(rt, "a request"))
 }
 
-pub(crate) fn asked(rt: &(impl Abort + AllocGlobal), bytes: &[u8]) -> Result<Request, Refusal> {
-    let routes = Routes::new(rt.alloc()).expect(rt, "memory");
-    match words_of(&routes, bytes) {
+fn routes(rt: &(impl Abort + AllocGlobal)) -> Routes {
+    Routes::new(rt.alloc()).expect(rt, "memory")
+}
+
+/// What a request asks for by these routes.
+pub(crate) fn asked_by(routes: &Routes, bytes: &[u8]) -> Result<Request, Refusal> {
+    match words_of(routes, bytes) {
         Ok(words) => Ok(words.request),
         Err(refusal) => Err(refusal),
     }
+}
+
+pub(crate) fn asked(rt: &(impl Abort + AllocGlobal), bytes: &[u8]) -> Result<Request, Refusal> {
+    asked_by(&routes(rt), bytes)
 }
 
 /// A scan of the bytes in two pieces, of which the first has so many or all.
@@ -69,17 +77,20 @@ pub(crate) fn is_whole(bytes: &[u8], first: usize) -> bool {
     scan_of(bytes, first).is_whole(bytes)
 }
 
+fn asked_in_two_by(routes: &Routes, bytes: &[u8], first: usize) -> Result<Request, Refusal> {
+    match words_by_scan(routes, bytes, &scan_of(bytes, first)) {
+        Ok(words) => Ok(words.request),
+        Err(refusal) => Err(refusal),
+    }
+}
+
 /// What a request asks for, by a scan in two pieces.
 pub(crate) fn asked_in_two(
     rt: &(impl Abort + AllocGlobal),
     bytes: &[u8],
     first: usize,
 ) -> Result<Request, Refusal> {
-    let routes = Routes::new(rt.alloc()).expect(rt, "memory");
-    match words_by_scan(&routes, bytes, &scan_of(bytes, first)) {
-        Ok(words) => Ok(words.request),
-        Err(refusal) => Err(refusal),
-    }
+    asked_in_two_by(&routes(rt), bytes, first)
 }
 
 /// The request asks for this.
@@ -94,12 +105,16 @@ pub(crate) fn ask(rt: &(impl Abort + AllocGlobal), rows: &[(&'static str, Want)]
     }
 }
 
-/// The request carries this pass.
-pub(crate) fn carries(rt: &(impl Abort + AllocGlobal), text: &str, pass: &str) {
-    let routes = Routes::new(rt.alloc()).expect(rt, "memory");
-    let carried = match words_of(&routes, text.as_bytes()) {
+/// The pass of a request, as its bytes.
+fn pass_of<'a>(routes: &Routes, bytes: &'a [u8]) -> Option<&'a [u8]> {
+    match words_of(routes, bytes) {
         Ok(words) => Some(words.pass),
         Err(_) => None,
-    };
+    }
+}
+
+/// The request carries this pass.
+pub(crate) fn carries(rt: &(impl Abort + AllocGlobal), text: &str, pass: &str) {
+    let carried = pass_of(&routes(rt), text.as_bytes());
     expect_row(rt, &carried, &Some(pass.as_bytes()), &text);
 }

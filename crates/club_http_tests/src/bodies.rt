@@ -1,9 +1,11 @@
 //! Bookings: whole, cut short, and with odd bodies.
 
-use crate::asked::{BAD_REQUEST, PASS, Want, asked, asked_in_two, asks, book, carries, is_whole};
+use crate::asked::{
+    BAD_REQUEST, Want, asked, asked_by, asked_in_two, asks, book, carries, is_whole,
+};
 use crate::rows::{expect_row, joined};
 use club_core::Refusal;
-use http_request::{Routes, words_of};
+use http_request::Routes;
 use std::process::Abort;
 use test_kit::Piece;
 
@@ -84,14 +86,17 @@ static LENGTHS: [(&str, &str, Want); 9] = [
     ("257", "{\"guests\":2}", BAD_REQUEST),
 ];
 
-const PUT: &str = "PUT /slots/court-1/2026-05-01/18/bookings/7 HTTP/1.1";
+fn booking_of(rt: &(impl Abort + AllocGlobal), length: &str, body: &str) -> String {
+    let text = format!(in rt.alloc();
+        "PUT /slots/court-1/2026-05-01/18/bookings/7 HTTP/1.1\r\n\
+        Authorization: Bearer x\r\nContent-Length: {length}\r\n\r\n{body}"
+    );
+    text.expect(rt, "memory")
+}
 
 fn ask_by_length(rt: &(impl Abort + AllocGlobal), rows: &[(&'static str, &'static str, Want)]) {
     for (length, body, want) in rows {
-        let text = format!(in rt.alloc();
-            "{PUT}\r\n{PASS}Content-Length: {length}\r\n\r\n{body}"
-        ).expect(rt, "memory");
-        asks(rt, text.as_str(), want);
+        asks(rt, booking_of(rt, length, body).as_str(), want);
     }
 }
 
@@ -119,12 +124,8 @@ static BODIES: [(&str, Want); 19] = [
 ];
 
 fn ask_with(rt: &(impl Abort + AllocGlobal), body: &str, want: &Want) {
-    let text = format!(in rt.alloc();
-        "{PUT}\r\n{PASS}Content-Length: {}\r\n\r\n{body}",
-        body.len()
-    )
-    .expect(rt, "memory");
-    asks(rt, text.as_str(), want);
+    let length = body.len().to_string(rt.alloc()).expect(rt, "memory");
+    asks(rt, booking_of(rt, length.as_str(), body).as_str(), want);
 }
 
 fn ask_by_body(rt: &(impl Abort + AllocGlobal), rows: &[(&'static str, Want)]) {
@@ -152,7 +153,7 @@ fn bodies(rt: HostRuntime) {
 
 /// A head of 16,384 bytes, and a body of 256.
 pub(crate) static LONGEST: [Piece; 7] = [
-    (1, PUT),
+    (1, "PUT /slots/court-1/2026-05-01/18/bookings/7 HTTP/1.1"),
     (
         1,
         "\r\nAuthorization: Bearer AgEJ\r\nContent-Length: 256\r\nHost: ",
@@ -175,15 +176,18 @@ fn longest(rt: HostRuntime) {
     is_cut(&rt, &bytes[..bytes.len().saturating_sub(1)]);
 }
 
+fn is_booked_or_unavailable(rt: &impl Abort, routes: &Routes) {
+    match asked_by(routes, BOOKING.as_bytes()) {
+        Ok(request) => expect_row(rt, &request, &book(rt, 2), &BOOKING),
+        Err(refusal) => expect_row(rt, &refusal, &Refusal::Unavailable, &BOOKING),
+    }
+}
+
 /// With any allocation refused, as `rt try --test --fail-alloc N` refuses the Nth: no routes, the
 /// words, or `Unavailable`.
 #[test]
 fn refused_memory(rt: HostRuntime) {
-    let Ok(routes) = Routes::new(rt.alloc()) else {
-        return;
-    };
-    match words_of(&routes, BOOKING.as_bytes()) {
-        Ok(words) => expect_row(&rt, &words.request, &book(&rt, 2), &BOOKING),
-        Err(refusal) => expect_row(&rt, &refusal, &Refusal::Unavailable, &BOOKING),
+    if let Ok(routes) = Routes::new(rt.alloc()) {
+        is_booked_or_unavailable(&rt, &routes);
     }
 }

@@ -10,7 +10,7 @@ mod request_lines;
 mod zones;
 
 use crate::expect::{expect_eq, expect_shown};
-use crate::rows::moment;
+use crate::rows::{expect_row, moment};
 use club_http::Face;
 use desk_server::{ClockOutOfRange, Connections, Fixed, Moments, serve_on};
 use doubles::{Countdown, Noting, Script, Wire};
@@ -38,6 +38,18 @@ fn noons(rt: &impl Abort, count: u32) -> Countdown {
     Countdown::new(moment(rt, NOON), count)
 }
 
+/// So many of these connections are served with this desk.
+fn serves_with<L: Connections, M: Moments>(
+    rt: &(impl Abort + Alloc<A = Global>),
+    connections: &mut L,
+    count: u32,
+    moments: &mut M,
+    desk: &mut Noting,
+) -> Result<(), ClockOutOfRange> {
+    let mut face = Face::new(rt.alloc()).expect(rt, "a face");
+    serve_on(connections, count, moments, &mut face, desk)
+}
+
 /// So many of these connections are served, and how many requests the desk is asked at noon.
 fn serves<L: Connections, M: Moments>(
     rt: &(impl Abort + Alloc<A = Global>),
@@ -45,9 +57,8 @@ fn serves<L: Connections, M: Moments>(
     count: u32,
     moments: &mut M,
 ) -> (Result<(), ClockOutOfRange>, u64) {
-    let mut face = Face::new(rt.alloc()).expect(rt, "a face");
     let mut desk = Noting::new(moment(rt, NOON));
-    let outcome = serve_on(connections, count, moments, &mut face, &mut desk);
+    let outcome = serves_with(rt, connections, count, moments, &mut desk);
     (outcome, desk.asked)
 }
 
@@ -62,41 +73,35 @@ static FAILING: [Wire<'static>; 7] = [
     Wire::Whole(REQUEST),
 ];
 
-/// Serves so many of these connections, of which so many reach the desk.
-fn serves_and_asks(rt: &(impl Abort + Alloc<A = Global>), count: u32, asked: u64) {
+/// How many of these connections are served, how many of them reach the desk, and how often its
+/// hook is called.
+type Count = (u32, u64, u64);
+
+static COUNTS: [Count; 7] = [
+    (0, 0, 0),
+    (1, 1, 1),
+    (2, 1, 1),
+    (3, 1, 2),
+    (4, 1, 3),
+    (5, 2, 4),
+    (6, 3, 5),
+];
+
+fn serves_so_many(rt: &(impl Abort + Alloc<A = Global>), (count, asked, idled): &Count) {
     let mut connections = Script::new(&FAILING);
-    let served = serves(rt, &mut connections, count, &mut noon(rt));
-    expect_eq(rt, &served, &(Ok(()), asked));
-    expect_eq(rt, &connections.waited, &u64::from(count));
+    let mut desk = Noting::new(moment(rt, NOON));
+    let served = serves_with(rt, &mut connections, *count, &mut noon(rt), &mut desk);
+    let returned = (served, connections.waited, desk.asked, desk.idled);
+    let want = (Ok(()), u64::from(*count), *asked, *idled);
+    expect_row(rt, &returned, &want, count);
 }
 
-static COUNTS: [(u32, u64); 7] = [(0, 0), (1, 1), (2, 1), (3, 1), (4, 1), (5, 2), (6, 3)];
-
-// Failing connections count, and the server goes on after a refused request.
+// Failing connections count, and the server goes on after a refused request. It calls the hook once
+// for each exchange, also for one that fails; not if `accept` failed.
 #[test]
 fn serves_as_many_as_asked(rt: HostRuntime) {
-    for (count, asked) in &COUNTS {
-        serves_and_asks(&rt, *count, *asked);
-    }
-}
-
-/// How often the desk's hook is called by a server of so many of these connections.
-fn calls_of_the_hook(rt: &(impl Abort + Alloc<A = Global>), count: u32) -> u64 {
-    let mut face = Face::new(rt.alloc()).expect(rt, "a face");
-    let mut desk = Noting::new(moment(rt, NOON));
-    let mut connections = Script::new(&FAILING);
-    let served = serve_on(&mut connections, count, &mut noon(rt), &mut face, &mut desk);
-    expect_eq(rt, &served, &Ok(()));
-    desk.idled
-}
-
-static CALLS: [(u32, u64); 7] = [(0, 0), (1, 1), (2, 1), (3, 2), (4, 3), (5, 4), (6, 5)];
-
-// Once for each exchange, also for one that fails; not if `accept` failed.
-#[test]
-fn calls_the_hook_once_an_exchange(rt: HostRuntime) {
-    for (count, calls) in &CALLS {
-        expect_eq(&rt, &calls_of_the_hook(&rt, *count), calls);
+    for row in &COUNTS {
+        serves_so_many(&rt, row);
     }
 }
 
