@@ -2,8 +2,8 @@
 
 use crate::runs::{
     BARE_TEXT, IDENTIFIER, JSON_TEXT, MALFORMED, MINT, NARROW, OTHER_JSON, OTHER_TEXT, OTHER_V2,
-    ROOT, Row, TEXT, TO_JSON, TO_V1, TO_V2, V2_TEXT, Words, expect, expect_all_unread, expect_rows,
-    expect_unread,
+    ROOT, Row, SHOW, SHOWN, TEXT, TO_JSON, TO_V1, TO_V2, V2_TEXT, VERIFY, Words, expect,
+    expect_all_unread, expect_rows, expect_unread,
 };
 use std::process::Abort;
 use test_kit::End;
@@ -106,12 +106,27 @@ static NARROWED: [Row; 6] = [
     ),
 ];
 
-// With ample memory each command answers, and doesn't end for want of it. `verify` and `show` do in
-// `verifying` and `showing`.
+#[test]
+fn converts_every_form_to_every_form(rt: HostRuntime) {
+    expect_rows(&rt, &CONVERSIONS);
+}
+
+#[test]
+fn narrows_in_the_form_it_came_in(rt: HostRuntime) {
+    expect_rows(&rt, &NARROWED);
+}
+
+static ANSWERED: [Row; 4] = [
+    Row(VERIFY, TEXT, Writes("signed")),
+    Row(SHOW, TEXT, Writes(SHOWN)),
+    Row(TO_V1, TEXT, Writes(TEXT)),
+    Row(NARROW, BARE_TEXT, Writes(TEXT)),
+];
+
+// With ample memory each command answers, and doesn't end for want of it.
 #[test]
 fn answers_with_ample_memory(rt: HostRuntime) {
-    expect_rows(&rt, &CONVERSIONS);
-    expect_rows(&rt, &NARROWED);
+    expect_rows(&rt, &ANSWERED);
     expect_unread(&rt, MINT, &Writes(V2_TEXT));
 }
 
