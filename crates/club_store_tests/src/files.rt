@@ -1,18 +1,24 @@
-//! Real files of a test, and the stores in them.
+//! Real files of a test. `do_in_file` and `make_file` alone open stores in them: the proof of each
+//! takes half a minute or more.
 
+use crate::databases::Contents;
+use crate::steps::{Step, plays};
 use club_core::StoreFault;
 use club_store::{Remains, Store};
-use sqlite::{FileFrom, FileStore, Unknown};
+use sqlite::{Alter, Connection, Unknown};
+use std::alloc::Global;
+use std::process::Abort;
 use std::test::Fail;
 use std::{env, fs, process};
 
-/// Opens the store in the file at a path. It is the one function here that calls `open_file`, since
-/// the proof of such a call takes half a minute.
-pub fn open(
-    host: &HostRuntime,
-    path: &str,
-) -> Result<Store<FileStore<FileFrom<Unknown>>>, (StoreFault, Remains<FileFrom<Unknown>>)> {
-    Store::open_file(host, path, Unknown)
+/// What an opening that fails leaves.
+#[derive(Clone, Copy, Debug, PartialEq, Eq)]
+pub enum Left {
+    /// The files, which are closed.
+    Files,
+    /// The files, which another program holds.
+    Held,
+    Nothing,
 }
 
 /// A path of this process alone.
@@ -29,4 +35,54 @@ pub fn remove(host: &HostRuntime, path: &str) -> Result<(), Fail> {
     let log = format!(in host.alloc(); "{path}-wal")?;
     let _ = fs::remove_file(host, log.as_str());
     Ok(())
+}
+
+/// What is done over a store in a file.
+pub trait FileWork {
+    fn work<S: Alter>(&self, rt: &(impl Abort + Alloc<A = Global>), store: &mut Store<S>);
+}
+
+/// Opens the store in the file at a path, and does this over it.
+pub fn do_in_file(
+    host: &HostRuntime,
+    rt: &(impl Abort + Alloc<A = Global>),
+    path: &str,
+    work: &impl FileWork,
+) -> Result<(), (StoreFault, Left)> {
+    match Store::open_file(host, path, Unknown) {
+        Ok(mut store) => {
+            work.work(rt, &mut store);
+            Ok(())
+        }
+        Err((fault, Remains::Held)) => Err((fault, Left::Held)),
+        Err((fault, Remains::Files(None))) => Err((fault, Left::Nothing)),
+        Err((fault, _)) => Err((fault, Left::Files)),
+    }
+}
+
+/// Makes these tables in a file that isn't there yet.
+pub fn make_file(host: &HostRuntime, rt: &impl Abort, path: &str, contents: Contents) {
+    let mut connection = Connection::open(host, path).expect(rt, "a file");
+    contents.make(rt, &mut connection);
+    connection.close().expect(rt, "closed");
+}
+
+/// Steps over a store.
+#[derive(Clone, Copy)]
+struct Steps<'a>(&'a [Step]);
+
+impl FileWork for Steps<'_> {
+    fn work<S: Alter>(&self, rt: &(impl Abort + Alloc<A = Global>), store: &mut Store<S>) {
+        plays(rt, store, self.0);
+    }
+}
+
+/// Plays steps over the store in the file at a path.
+pub fn plays_in_file(
+    host: &HostRuntime,
+    rt: &(impl Abort + Alloc<A = Global>),
+    path: &str,
+    steps: &[Step],
+) -> Result<(), (StoreFault, Left)> {
+    do_in_file(host, rt, path, &Steps(steps))
 }

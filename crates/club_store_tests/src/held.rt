@@ -1,35 +1,33 @@
 //! Openings of a file that another program has, and of one that can't be opened.
 
 use crate::expect::expect_eq;
-use crate::files::{open, path_of, remove};
-use club_core::StoreFault;
-use club_store::Remains;
-use sqlite::{FileFrom, Start};
+use crate::files::{FileWork, Left, do_in_file, path_of, plays_in_file, remove};
+use club_store::Store;
+use sqlite::Alter;
+use std::alloc::Global;
 use std::fs;
 use std::process::Abort;
 use std::test::Fail;
 
-/// In a word what comes of an opening.
-fn word_of<S, Q: Start>(opened: &Result<S, (StoreFault, Remains<FileFrom<Q>>)>) -> &'static str {
-    match opened {
-        Ok(_) => "opened",
-        Err((_, Remains::Held)) => "held",
-        Err((_, Remains::Files(None))) => "nothing",
-        Err(_) => "refused",
+/// What an opening leaves if it fails.
+fn opening(host: &HostRuntime, rt: &(impl Abort + Alloc<A = Global>), path: &str) -> Option<Left> {
+    match plays_in_file(host, rt, path, &[]) {
+        Ok(()) => None,
+        Err((_, left)) => Some(left),
     }
 }
 
-/// The words of two openings, the second beside the first.
-fn two_openings(rt: &HostRuntime, path: &str) -> [&'static str; 2] {
-    let first = open(rt, path);
-    let second = open(rt, path);
-    [word_of(&first), word_of(&second)]
+/// A second opening of the same file beside the first.
+#[derive(Clone, Copy)]
+struct Reopening<'a> {
+    host: &'a HostRuntime,
+    path: &'a str,
 }
 
-/// What comes of an opening that has nothing beside it.
-fn comes_of(rt: &HostRuntime, path: &str) -> &'static str {
-    let [word, _] = two_openings(rt, path);
-    word
+impl FileWork for Reopening<'_> {
+    fn work<S: Alter>(&self, rt: &(impl Abort + Alloc<A = Global>), _first: &mut Store<S>) {
+        expect_eq(rt, &opening(self.host, rt, self.path), &Some(Left::Held));
+    }
 }
 
 /// A file that another program has is distinguished from one that can't be opened.
@@ -37,12 +35,13 @@ fn comes_of(rt: &HostRuntime, path: &str) -> &'static str {
 fn a_held_file(rt: HostRuntime) -> Result<(), Fail> {
     let path = path_of(&rt)?;
     let path = path.as_str();
-    expect_eq(&rt, &two_openings(&rt, path), &["opened", "held"]);
-    expect_eq(&rt, &comes_of(&rt, path), &"opened");
+    let second = Reopening { host: &rt, path };
+    expect_eq(&rt, &do_in_file(&rt, &rt, path, &second), &Ok(()));
+    expect_eq(&rt, &opening(&rt, &rt, path), &None);
     remove(&rt, path)?;
-    expect_eq(&rt, &comes_of(&rt, "/"), &"nothing");
+    expect_eq(&rt, &opening(&rt, &rt, "/"), &Some(Left::Nothing));
     fs::write(&rt, path, [b'x'; 100])?;
-    expect_eq(&rt, &comes_of(&rt, path), &"refused");
+    expect_eq(&rt, &opening(&rt, &rt, path), &Some(Left::Files));
     let _ = fs::remove_file(&rt, path);
     Ok(())
 }

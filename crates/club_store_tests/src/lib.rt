@@ -3,8 +3,6 @@
 #![tactic(auto)]
 
 #[cfg(test)]
-mod crash;
-#[cfg(test)]
 mod databases;
 #[cfg(test)]
 mod expect;

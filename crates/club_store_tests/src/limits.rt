@@ -6,7 +6,7 @@ use crate::rows::{day, moment, name, number, slot};
 use crate::steps::adopted;
 use club_core::{Request, StoreFault};
 use club_store::Store;
-use sqlite::Alter;
+use sqlite::MemStore;
 use std::alloc::Global;
 use std::process::Abort;
 use std::test::*;
@@ -208,7 +208,7 @@ fn request(rt: &impl Abort) -> Request {
 }
 
 /// The fault of a reading, if any.
-fn fault_of<S: Alter>(rt: &impl Abort, store: &mut Store<S>, read: Read) -> Option<StoreFault> {
+fn fault_of(rt: &impl Abort, store: &mut Store<MemStore>, read: Read) -> Option<StoreFault> {
     match read {
         Read::Member => store.member(&name(rt, "amy")).err(),
         Read::Key => store.key(&name(rt, "amy-1")).err(),
@@ -222,20 +222,11 @@ fn fault_of<S: Alter>(rt: &impl Abort, store: &mut Store<S>, read: Read) -> Opti
     }
 }
 
-/// The fault of a reading of the rows, if any, once this was done to them.
-fn fault_after(
-    rt: &(impl Abort + Alloc<A = Global>),
-    text: &str,
-    read: Read,
-) -> Option<StoreFault> {
-    let mut connection = database_after(rt, &[&TABLES, &ROWS]);
-    runs(rt, &mut connection, &[text]);
-    fault_of(rt, &mut adopted(rt, connection), read)
-}
-
 /// Ends the test unless the reading ends so once this was done to the rows.
 fn ends(rt: &(impl Abort + Alloc<A = Global>), (text, read): &Changed, want: Option<StoreFault>) {
-    let fault = fault_after(rt, text, *read);
+    let mut connection = database_after(rt, &[&TABLES, &ROWS]);
+    runs(rt, &mut connection, &[*text]);
+    let fault = fault_of(rt, &mut adopted(rt, connection), *read);
     assert_eq!(rt; fault, want, "{text}");
 }
 

@@ -1,19 +1,28 @@
-//! Openings of a store where an allocation is refused. `tests/refused_memory_tests.sh` refuses each
-//! in turn, and none after it: an opening that is out of memory leaves the database as it was, and
-//! a second one opens it.
+//! Openings of a store, and what it shows then. `tests/refused_memory_tests.sh` refuses each of its
+//! allocations in turn, and none after it: an opening that is out of memory leaves the database as
+//! it was, and a second one opens it.
 
 use crate::databases::{Contents, database, version};
 use crate::expect::expect_eq;
-use crate::files::{open, path_of, remove};
-use crate::steps::{Step, plays};
-use crate::versions::{MIGRATED, NOBODY};
+use crate::files::{make_file, path_of, plays_in_file, remove};
+use crate::rows::CANCELLED_8;
+use crate::steps::{Asked, Shown, Step, plays};
 use club_core::StoreFault;
 use club_store::Store;
-use sqlite::{Alter, Connection, FileFrom, FileStore, MemStore, Unknown};
-use sqlite_disk::Disk;
+use sqlite::MemStore;
 use std::alloc::Global;
 use std::process::Abort;
 use std::test::Fail;
+use test_kit::BOOKING_7;
+
+/// The account, and both bookings.
+static MIGRATED: [Step; 3] = [
+    Step::Shows(Shown::View(Asked::Account, 0, None)),
+    Step::Shows(Shown::View(Asked::Cancel(7), 3, Some(BOOKING_7))),
+    Step::Shows(Shown::View(Asked::Cancel(8), 3, Some(CANCELLED_8))),
+];
+
+static NOBODY: [Step; 1] = [Step::Shows(Shown::Member(None))];
 
 /// What the store over these shows.
 fn shown(contents: Contents) -> &'static [Step] {
@@ -23,13 +32,10 @@ fn shown(contents: Contents) -> &'static [Step] {
     }
 }
 
-/// The store over a database, by the second opening where the first is out of memory.
-fn opened<S: Alter + Drop>(
-    rt: &(impl Abort + Alloc<A = Global>),
-    connection: Connection<S>,
-    contents: Contents,
-) -> Store<S> {
-    match Store::adopt(rt.alloc(), connection) {
+/// The store over a database that holds this, by the second opening where the first is out of
+/// memory.
+fn opened(rt: &(impl Abort + Alloc<A = Global>), contents: Contents) -> Store<MemStore> {
+    match Store::adopt(rt.alloc(), database(rt, contents)) {
         Ok(store) => store,
         Err((fault, mut left)) => {
             expect_eq(rt, &fault, &StoreFault::Memory);
@@ -39,17 +45,8 @@ fn opened<S: Alter + Drop>(
     }
 }
 
-fn opens<S: Alter + Drop>(
-    rt: &(impl Abort + Alloc<A = Global>),
-    connection: Connection<S>,
-    contents: Contents,
-) {
-    let mut store = opened(rt, connection, contents);
-    plays(rt, &mut store, shown(contents));
-}
-
 fn opens_in_memory(rt: &(impl Abort + Alloc<A = Global>), contents: Contents) {
-    opens(rt, database(rt, contents), contents);
+    plays(rt, &mut opened(rt, contents), shown(contents));
 }
 
 #[test]
@@ -88,70 +85,18 @@ fn store_in_memory(rt: HostRuntime) {
     plays(&rt, &mut new_store(&rt), &NOBODY);
 }
 
-/// Makes these tables in a database, and closes it.
-fn fill<D: Disk + Drop>(
-    rt: &impl Abort,
-    mut connection: Connection<FileStore<D>>,
-    contents: Contents,
-) {
-    contents.make(rt, &mut connection);
-    connection.close().expect(rt, "closed");
-}
-
-/// Makes these tables in a file that isn't there yet.
-fn make_file(host: &HostRuntime, rt: &impl Abort, path: &str, contents: Contents) {
-    fill(
-        rt,
-        Connection::open(host, path).expect(rt, "a file"),
-        contents,
-    );
-}
-
-/// The store in the file at a path.
-fn file_store(
-    host: &HostRuntime,
-    path: &str,
-) -> Result<Store<FileStore<FileFrom<Unknown>>>, StoreFault> {
-    match open(host, path) {
-        Ok(store) => Ok(store),
-        Err((fault, _left)) => Err(fault),
-    }
-}
-
-fn plays_in_files<D: Disk + Drop>(
-    rt: &(impl Abort + Alloc<A = Global>),
-    mut store: Store<FileStore<D>>,
-    steps: &[Step],
-) {
-    plays(rt, &mut store, steps);
-}
-
-/// Opens that store, and ends the test unless it shows what these tables hold.
-fn is_opened(
-    host: &HostRuntime,
-    rt: &(impl Abort + Alloc<A = Global>),
-    path: &str,
-    contents: Contents,
-) -> Result<(), StoreFault> {
-    match file_store(host, path) {
-        Ok(store) => {
-            plays_in_files(rt, store, shown(contents));
-            Ok(())
-        }
-        Err(fault) => Err(fault),
-    }
-}
-
-/// The store in the file is opened, by the second opening where the first is out of memory.
+/// The store in the file shows what these tables hold, by the second opening where the first is out
+/// of memory.
 fn opens_at(
     host: &HostRuntime,
     rt: &(impl Abort + Alloc<A = Global>),
     path: &str,
     contents: Contents,
 ) {
-    if let Err(fault) = is_opened(host, rt, path, contents) {
+    let steps = shown(contents);
+    if let Err((fault, _)) = plays_in_file(host, rt, path, steps) {
         expect_eq(rt, &fault, &StoreFault::Memory);
-        expect_eq(rt, &is_opened(host, rt, path, contents), &Ok(()));
+        expect_eq(rt, &plays_in_file(host, rt, path, steps), &Ok(()));
     }
 }
 

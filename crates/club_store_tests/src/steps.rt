@@ -276,11 +276,6 @@ fn started(rt: &(impl Abort + Alloc<A = Global>), start: Start) -> Store<MemStor
     store
 }
 
-/// Plays steps over a new store of this club.
-pub(crate) fn plays_from(rt: &(impl Abort + Alloc<A = Global>), start: Start, steps: &[Step]) {
-    plays(rt, &mut started(rt, start), steps);
-}
-
 /// The store over a database that it takes over.
 pub(crate) fn adopted(
     rt: &(impl Abort + Alloc<A = Global>),
@@ -291,46 +286,37 @@ pub(crate) fn adopted(
         .expect(rt, "adopted")
 }
 
-fn opened(rt: &(impl Abort + Alloc<A = Global>), contents: Contents) -> Store<MemStore> {
-    adopted(rt, database(rt, contents))
+/// Plays the first of these steps over the store, and each of the others once it is opened again
+/// over the same connection.
+fn plays_openings(
+    rt: &(impl Abort + Alloc<A = Global>),
+    mut store: Store<MemStore>,
+    openings: &[&[Step]],
+) {
+    let Some((first, others)) = openings.split_first() else {
+        return;
+    };
+    plays(rt, &mut store, first);
+    for steps in others {
+        store = adopted(rt, store.into_connection());
+        plays(rt, &mut store, steps);
+    }
 }
 
-/// Plays steps over the store that opens a database.
+/// Plays the steps of each opening of a new store of this club.
+pub(crate) fn plays_from(
+    rt: &(impl Abort + Alloc<A = Global>),
+    start: Start,
+    openings: &[&[Step]],
+) {
+    plays_openings(rt, started(rt, start), openings);
+}
+
+/// Plays the steps of each opening of the store over a database that holds this.
 pub(crate) fn plays_opened(
     rt: &(impl Abort + Alloc<A = Global>),
     contents: Contents,
-    steps: &[Step],
+    openings: &[&[Step]],
 ) {
-    plays(rt, &mut opened(rt, contents), steps);
-}
-
-/// Plays the first steps, and the others once the store is opened again over the same connection.
-fn plays_twice(
-    rt: &(impl Abort + Alloc<A = Global>),
-    mut store: Store<MemStore>,
-    steps: &[Step],
-    then: &[Step],
-) {
-    plays(rt, &mut store, steps);
-    plays(rt, &mut adopted(rt, store.into_connection()), then);
-}
-
-/// The same over a new store of this club.
-pub(crate) fn plays_twice_from(
-    rt: &(impl Abort + Alloc<A = Global>),
-    start: Start,
-    steps: &[Step],
-    then: &[Step],
-) {
-    plays_twice(rt, started(rt, start), steps, then);
-}
-
-/// The same over the store that opens a database.
-pub(crate) fn plays_twice_opened(
-    rt: &(impl Abort + Alloc<A = Global>),
-    contents: Contents,
-    steps: &[Step],
-    then: &[Step],
-) {
-    plays_twice(rt, opened(rt, contents), steps, then);
+    plays_openings(rt, adopted(rt, database(rt, contents)), openings);
 }

@@ -1,7 +1,7 @@
 //! Tests of a store: what is written to it, and what it shows then.
 
 use crate::rows::{AMY_1, DAY, REVOKED};
-use crate::steps::{Asked, Shown, Start, Step, plays_from, plays_twice_from};
+use crate::steps::{Asked, Shown, Start, Step, plays_from};
 use crate::write::Write;
 use std::test::*;
 use test_kit::{
@@ -19,13 +19,13 @@ static WRITTEN: [Step; 3] = [
 
 #[test]
 fn reads_what_was_written(rt: HostRuntime) {
-    plays_from(&rt, Start::Empty, &UNKNOWN);
-    plays_from(&rt, Start::Rows, &WRITTEN);
+    plays_from(&rt, Start::Empty, &[&UNKNOWN]);
+    plays_from(&rt, Start::Rows, &[&WRITTEN]);
 }
 
 #[test]
 fn keeps_tables_that_hold_a_club(rt: HostRuntime) {
-    plays_twice_from(&rt, Start::Rows, &WRITTEN, &WRITTEN);
+    plays_from(&rt, Start::Rows, &[&WRITTEN, &WRITTEN]);
 }
 
 static CHANGES: [Step; 4] = [
@@ -37,7 +37,7 @@ static CHANGES: [Step; 4] = [
 
 #[test]
 fn changes_rows(rt: HostRuntime) {
-    plays_from(&rt, Start::Rows, &CHANGES);
+    plays_from(&rt, Start::Rows, &[&CHANGES]);
 }
 
 static PERSONS: [Step; 7] = [
@@ -52,7 +52,7 @@ static PERSONS: [Step; 7] = [
 
 #[test]
 fn counts_the_persons_of_a_slot(rt: HostRuntime) {
-    plays_from(&rt, Start::Rows, &PERSONS);
+    plays_from(&rt, Start::Rows, &[&PERSONS]);
 }
 
 static CLOSES: [Step; 3] = [
@@ -63,7 +63,7 @@ static CLOSES: [Step; 3] = [
 
 #[test]
 fn closes_a_slot(rt: HostRuntime) {
-    plays_from(&rt, Start::Rows, &CLOSES);
+    plays_from(&rt, Start::Rows, &[&CLOSES]);
 }
 
 const COURT_10: PlainBooking = PlainBooking {
@@ -123,11 +123,6 @@ static DAYS: [Step; 9] = [
     Step::Shows(Shown::Sheet("2026-05-03", EMPTY_SHEET)),
 ];
 
-#[test]
-fn returns_a_day_in_order(rt: HostRuntime) {
-    plays_from(&rt, Start::Rows, &DAYS);
-}
-
 /// An account, two slots, a booking that is there and one that isn't.
 static VIEWS: [Step; 5] = [
     Step::Shows(Shown::View(Asked::Account, 0, None)),
@@ -136,11 +131,6 @@ static VIEWS: [Step; 5] = [
     Step::Shows(Shown::View(Asked::Cancel(7), 3, Some(BOOKING_7))),
     Step::Shows(Shown::View(Asked::Cancel(9), 3, None)),
 ];
-
-#[test]
-fn shows_what_a_key_sees(rt: HostRuntime) {
-    plays_from(&rt, Start::Bookings, &VIEWS);
-}
 
 /// The writes of the office by the calls of their own names.
 static OFFICE: [Step; 7] = [
@@ -152,11 +142,6 @@ static OFFICE: [Step; 7] = [
     Step::Calls(Write::Facility(ROOM)),
     Step::Shows(Shown::Facility(ROOM)),
 ];
-
-#[test]
-fn makes_the_writes_of_the_office(rt: HostRuntime) {
-    plays_from(&rt, Start::Empty, &OFFICE);
-}
 
 static KEYS_AND_SLOTS: [Step; 9] = [
     Step::Calls(Write::Member(0)),
@@ -171,17 +156,24 @@ static KEYS_AND_SLOTS: [Step; 9] = [
 ];
 
 #[test]
-fn makes_the_writes_of_keys_and_slots(rt: HostRuntime) {
-    plays_from(&rt, Start::Empty, &KEYS_AND_SLOTS);
+fn makes_the_writes_of_the_office(rt: HostRuntime) {
+    plays_from(&rt, Start::Empty, &[&OFFICE]);
 }
 
-/// With ample memory each call answers, and doesn't end for want of it.
 #[test]
-fn answers_with_ample_memory(rt: HostRuntime) {
-    plays_from(&rt, Start::Empty, &OFFICE);
-    plays_from(&rt, Start::Empty, &KEYS_AND_SLOTS);
-    plays_from(&rt, Start::Rows, &DAYS);
-    plays_twice_from(&rt, Start::Bookings, &VIEWS, &VIEWS);
+fn makes_the_writes_of_keys_and_slots(rt: HostRuntime) {
+    plays_from(&rt, Start::Empty, &[&KEYS_AND_SLOTS]);
+}
+
+#[test]
+fn returns_a_day_in_order(rt: HostRuntime) {
+    plays_from(&rt, Start::Rows, &[&DAYS]);
+}
+
+/// Also if the store is opened again.
+#[test]
+fn shows_what_a_key_sees(rt: HostRuntime) {
+    plays_from(&rt, Start::Bookings, &[&VIEWS, &VIEWS]);
 }
 
 static TWICE: [Step; 3] = [
@@ -192,7 +184,7 @@ static TWICE: [Step; 3] = [
 
 #[test]
 fn refuses_what_the_tables_have(rt: HostRuntime) {
-    plays_from(&rt, Start::Empty, &TWICE);
+    plays_from(&rt, Start::Empty, &[&TWICE]);
 }
 
 /// By what each store of a club has.
@@ -204,5 +196,5 @@ static CREDITS: [Step; 3] = [
 
 #[test]
 fn is_the_store_of_a_club(rt: HostRuntime) {
-    plays_from(&rt, Start::Empty, &CREDITS);
+    plays_from(&rt, Start::Empty, &[&CREDITS]);
 }

@@ -3,11 +3,8 @@
 
 use crate::databases::{Contents, database, runs, version};
 use crate::expect::expect_eq;
-use crate::rows::{AMY_1, CANCELLED_8, Kept, Older};
-use crate::steps::{
-    Asked, Shown, Start, Step, adopted, plays_from, plays_opened, plays_twice_from,
-    plays_twice_opened,
-};
+use crate::rows::{AMY_1, Kept, Older};
+use crate::steps::{Asked, Shown, Start, Step, adopted, plays_from, plays_opened};
 use crate::write::Write;
 use club_core::StoreFault;
 use club_store::Store;
@@ -15,26 +12,8 @@ use sqlite::{Connection, MemStore};
 use std::alloc::Global;
 use std::process::Abort;
 use std::test::*;
-use test_kit::BOOKING_7;
 use test_kit::roots::{ROOT, SECOND_ROOT, THIRD_ROOT};
 use test_kit::version_1::{DESK, WITHOUT_TOTALS};
-
-/// The account, and both bookings.
-pub(crate) static MIGRATED: [Step; 3] = [
-    Step::Shows(Shown::View(Asked::Account, 0, None)),
-    Step::Shows(Shown::View(Asked::Cancel(7), 3, Some(BOOKING_7))),
-    Step::Shows(Shown::View(Asked::Cancel(8), 3, Some(CANCELLED_8))),
-];
-
-#[test]
-fn migrates_tables_of_version_1(rt: HostRuntime) {
-    plays_opened(&rt, Contents::First, &MIGRATED);
-}
-
-#[test]
-fn opens_tables_without_the_index(rt: HostRuntime) {
-    plays_opened(&rt, Contents::Unindexed, &MIGRATED);
-}
 
 /// How many indexes of the bookings' name are listed.
 fn indexes(rt: &impl Abort, connection: &mut Connection<MemStore>) -> i64 {
@@ -77,7 +56,7 @@ static NO_OLDER_ROOT: [Step; 1] = [Step::Shows(Shown::Key(AMY_1))];
 
 #[test]
 fn has_no_older_root_once_migrated(rt: HostRuntime) {
-    plays_twice_opened(&rt, Contents::First, &NO_OLDER_ROOT, &NO_OLDER_ROOT);
+    plays_opened(&rt, Contents::First, &[&NO_OLDER_ROOT, &NO_OLDER_ROOT]);
 }
 
 const OLDER: Older = Older(ROOT, "2026-04-25T00:00");
@@ -93,7 +72,7 @@ static ROTATED: [Step; 1] = [Step::Shows(Shown::Key(Kept {
 
 #[test]
 fn rotates_a_key_once_migrated(rt: HostRuntime) {
-    plays_twice_opened(&rt, Contents::First, &ROTATES, &ROTATED);
+    plays_opened(&rt, Contents::First, &[&ROTATES, &ROTATED]);
 }
 
 /// Of two rotations the second drops the root that the first kept; bookings stay.
@@ -111,7 +90,7 @@ static ROTATES_TWICE: [Step; 4] = [
 
 #[test]
 fn rotates_a_key_twice(rt: HostRuntime) {
-    plays_from(&rt, Start::Bookings, &ROTATES_TWICE);
+    plays_from(&rt, Start::Bookings, &[&ROTATES_TWICE]);
 }
 
 /// By the call of its own name. A root of an unknown key is refused by the tables.
@@ -122,7 +101,7 @@ static REPLACES: [Step; 2] = [
 
 #[test]
 fn replaces_a_root(rt: HostRuntime) {
-    plays_twice_from(&rt, Start::Bookings, &REPLACES, &ROTATED);
+    plays_from(&rt, Start::Bookings, &[&REPLACES, &ROTATED]);
 }
 
 /// The statements of a database that is no club's, and the version that it has.
@@ -231,11 +210,4 @@ fn indexes_no_other_tables(rt: HostRuntime) {
     for other in &UNINDEXED {
         is_refused(&rt, Contents::Unindexed, other);
     }
-}
-
-pub(crate) static NOBODY: [Step; 1] = [Step::Shows(Shown::Member(None))];
-
-#[test]
-fn makes_tables_where_there_are_none(rt: HostRuntime) {
-    plays_opened(&rt, Contents::Nothing, &NOBODY);
 }
