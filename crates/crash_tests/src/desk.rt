@@ -5,9 +5,8 @@ use crate::expect::{expect_case, push, text};
 use club_core::{ClubStore, Reply};
 use club_gate::OfficeReply;
 use club_http::{
-    Desk, Face, MAX_REPLY_LEN, ReadInlet, Routes, WriteOutlet, answer, reply_bytes, words_of,
+    Desk, Face, MAX_REPLY_LEN, ReadInlet, Routes, Words, WriteOutlet, answer, reply_bytes, words_of,
 };
-use club_values::Day;
 use std::alloc::Global;
 use std::process::Abort;
 
@@ -28,6 +27,15 @@ pub(crate) fn office_text(rt: &(impl Abort + Alloc<A = Global>), reply: &OfficeR
     }
 }
 
+/// The words of a request's bytes.
+pub(crate) fn words_in<'a>(rt: &(impl Abort + Alloc<A = Global>), bytes: &'a str) -> Words<'a> {
+    let routes = Routes::new(rt.alloc()).expect(rt, "routes");
+    match words_of(&routes, bytes.as_bytes()) {
+        Ok(words) => words,
+        Err(_) => panic!(rt; "no words"),
+    }
+}
+
 /// The reply to a request's bytes, by `Desk::ask`.
 fn asked<S: ClubStore>(
     rt: &(impl Abort + Alloc<A = Global>),
@@ -35,10 +43,7 @@ fn asked<S: ClubStore>(
     at: &str,
     bytes: &str,
 ) -> String {
-    let routes = Routes::new(rt.alloc()).expect(rt, "routes");
-    let Ok(words) = words_of(&routes, bytes.as_bytes()) else {
-        panic!(rt; "no words");
-    };
+    let words = words_in(rt, bytes);
     let reply = desk.ask(moment(rt, at), &words);
     reply_text(rt, &reply)
 }
@@ -77,15 +82,6 @@ fn reply<S: ClubStore>(
     }
 }
 
-/// What a desk is for.
-#[derive(Clone, Copy)]
-pub(crate) enum Duty {
-    /// These events, one after the other.
-    Replies(&'static [Event]),
-    /// The sheet of 2026-05-01.
-    Sheet,
-}
-
 /// The replies to events, one after the other.
 fn replies<S: ClubStore>(
     rt: &(impl Abort + Alloc<A = Global>),
@@ -99,22 +95,13 @@ fn replies<S: ClubStore>(
     replies
 }
 
-/// The sheet of 2026-05-01.
-fn sheet<S: ClubStore>(rt: &(impl Abort + Alloc<A = Global>), desk: &mut Desk<S>) -> Vec<String> {
-    let day = Day::read(b"2026-05-01").expect(rt, "a day");
-    let mut lines = Vec::new(rt.alloc());
-    push(rt, &mut lines, desk.sheet(day).expect(rt, "a sheet"));
-    lines
-}
-
-/// What a desk prints: a reply to each event, or a sheet.
-pub(crate) fn printed<S: ClubStore>(
+/// The replies of a desk over a store to events, one after the other; and the store after them.
+pub(crate) fn replies_over<S: ClubStore>(
     rt: &(impl Abort + Alloc<A = Global>),
-    desk: &mut Desk<S>,
-    duty: Duty,
-) -> Vec<String> {
-    match duty {
-        Duty::Replies(events) => replies(rt, desk, events),
-        Duty::Sheet => sheet(rt, desk),
-    }
+    store: S,
+    events: &[Event],
+) -> (Vec<String>, S) {
+    let mut desk = Desk::new(rt.alloc(), store);
+    let replies = replies(rt, &mut desk, events);
+    (replies, desk.into_store())
 }

@@ -13,7 +13,7 @@ mod events;
 #[cfg(test)]
 mod expect;
 #[cfg(test)]
-mod real_files;
+mod laws;
 #[cfg(test)]
 mod reference_club;
 #[cfg(test)]

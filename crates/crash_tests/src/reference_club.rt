@@ -1,12 +1,11 @@
 //! The reference machine's club: its replies to events, and the rows that its tables have then.
 
-use crate::desk::{office_text, reply_text};
+use crate::desk::{office_text, reply_text, words_in};
 use crate::events::{Event, moment};
 use crate::expect::{push, text};
 use crate::tables::{names, none_of};
 use club_core::{OfficeAnswer, Request, Words};
 use club_gate::{Fault, OfficeReply, key_signature};
-use club_http::{Routes, words_of};
 use club_reference::Club;
 use club_rows::{Booking, Facility, Key, Member, OlderRoot};
 use club_values::{Name, Slot};
@@ -40,11 +39,7 @@ fn words(rt: &(impl Abort + Alloc<A = Global>), request: Request) -> Words {
 }
 
 fn asked(rt: &(impl Abort + Alloc<A = Global>), club: &mut Club, at: &str, bytes: &str) -> String {
-    let routes = Routes::new(rt.alloc()).expect(rt, "routes");
-    let Ok(sent) = words_of(&routes, bytes.as_bytes()) else {
-        panic!(rt; "no words");
-    };
-    let words = words(rt, sent.request);
+    let words = words(rt, words_in(rt, bytes).request);
     let reply = club.ask(&words, moment(rt, at)).expect(rt, "memory");
     reply_text(rt, &reply)
 }

@@ -1,14 +1,12 @@
 //! Tasks over a database in two files.
 
-use crate::desk::{Duty, printed};
+use crate::desk::replies_over;
 use crate::disk::{Bytes, Stop, Stops, has_calls_left, restarted};
 use crate::events::Event;
 use crate::expect::append;
 use crate::tables::lines_in;
-use club_gate::Desk;
 use club_store::Store;
-use sqlite::{Alter, Connection, FileStore, Files, Options};
-use sqlite_disk::Disk;
+use sqlite::{Alter, Connection, Files, Options};
 use std::alloc::Global;
 use std::process::Abort;
 
@@ -19,8 +17,6 @@ pub(crate) enum Work {
     Runs(&'static [&'static str]),
     /// A desk is opened, and answers these events.
     Serves(&'static [Event]),
-    /// The sheet of 2026-05-01 is printed.
-    Prints,
     /// As `Serves`, between two readings of each row of each table.
     Inspects(&'static [Event]),
 }
@@ -31,17 +27,16 @@ fn run<S: Alter>(rt: &impl Abort, connection: &mut Connection<S>, statements: &[
     }
 }
 
-/// What a desk over the database prints; `None` if no store adopts it.
+/// The replies of a desk over the database; `None` if no store adopts it.
 fn served<S: Alter + Drop>(
     rt: &(impl Abort + Alloc<A = Global>),
     connection: Connection<S>,
-    duty: Duty,
+    events: &[Event],
 ) -> (Option<Vec<String>>, Connection<S>) {
     match Store::adopt(rt.alloc(), connection) {
         Ok(store) => {
-            let mut desk = Desk::new(rt.alloc(), store);
-            let lines = printed(rt, &mut desk, duty);
-            (Some(lines), desk.into_store().into_connection())
+            let (replies, store) = replies_over(rt, store, events);
+            (Some(replies), store.into_connection())
         }
         Err((_, connection)) => (None, connection),
     }
@@ -51,17 +46,17 @@ fn served<S: Alter + Drop>(
 fn inspected<S: Alter + Drop>(
     rt: &(impl Abort + Alloc<A = Global>),
     mut connection: Connection<S>,
-    events: &'static [Event],
+    events: &[Event],
 ) -> (Option<Vec<String>>, Connection<S>) {
     let mut lines = lines_in(rt, &mut connection);
-    let (replies, mut connection) = served(rt, connection, Duty::Replies(events));
+    let (replies, mut connection) = served(rt, connection, events);
     append(rt, &mut lines, replies.expect(rt, "a store"));
     append(rt, &mut lines, lines_in(rt, &mut connection));
     (Some(lines), connection)
 }
 
 /// Does this over a database: the lines of output, `None` if no store adopts it.
-pub(crate) fn worked<S: Alter + Drop>(
+fn worked<S: Alter + Drop>(
     rt: &(impl Abort + Alloc<A = Global>),
     mut connection: Connection<S>,
     work: Work,
@@ -71,16 +66,8 @@ pub(crate) fn worked<S: Alter + Drop>(
             run(rt, &mut connection, statements);
             (Some(Vec::new(rt.alloc())), connection)
         }
-        Work::Serves(events) => served(rt, connection, Duty::Replies(events)),
-        Work::Prints => served(rt, connection, Duty::Sheet),
+        Work::Serves(events) => served(rt, connection, events),
         Work::Inspects(events) => inspected(rt, connection, events),
-    }
-}
-
-fn closed<D: Disk + Drop>(connection: Connection<FileStore<D>>) -> Files<D> {
-    match connection.close_files() {
-        Ok(files) => files,
-        Err((_, store)) => store.close(),
     }
 }
 
@@ -98,7 +85,10 @@ fn over_files(
     match Connection::open_files(rt.alloc(), files, Options::new(7)) {
         Ok(connection) => {
             let (lines, connection) = worked(rt, connection, work);
-            (lines, closed(connection))
+            match connection.close_files() {
+                Ok(files) => (lines, files),
+                Err((_, left)) => (lines, left.close()),
+            }
         }
         Err((_, left)) => (None, left.into_files()),
     }
