@@ -14,11 +14,6 @@ fn output_of_fault(rt: &(impl Abort + AllocGlobal), fault: &Fault) -> Output {
     }
 }
 
-/// A fault has this status and this line.
-pub(crate) fn expect_fault(rt: &(impl Abort + AllocGlobal), fault: &Fault, end: &End) {
-    expect_end(rt, &output_of_fault(rt, fault), end);
-}
-
 // The status and the line of the fault of words that are refused.
 fn output_of(rt: &(impl Abort + AllocGlobal), words: &[&str]) -> Output {
     match command_of(rt.alloc(), words) {
@@ -210,7 +205,8 @@ const NOT_TEXT: End = Prints(
 
 #[test]
 fn words_that_are_no_text(rt: HostRuntime) {
-    expect_fault(&rt, &not_text(rt.alloc()), &NOT_TEXT);
+    let fault = not_text(rt.alloc());
+    expect_end(&rt, &output_of_fault(&rt, &fault), &NOT_TEXT);
 }
 
 static HELP: [&str; 9] = [

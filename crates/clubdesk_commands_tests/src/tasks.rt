@@ -1,6 +1,6 @@
 //! What the arguments of `clubdesk` ask for.
 
-use crate::expect::expect_eq;
+use crate::expect::expect_case;
 use club_rows::Root;
 use clubdesk_commands::{Asked, Clock, Job, Service, Task, command_of, laws};
 use std::alloc::AllocError;
@@ -81,11 +81,11 @@ fn describe_task(
     }
 }
 
-fn expect_task(rt: &(impl Abort + AllocGlobal), job: &Job<'_>, file: &str, want: &str) {
+// The task, as a text.
+fn described(rt: &(impl Abort + AllocGlobal), task: &Task<'_>) -> String {
     let mut output = String::new(rt.alloc());
-    describe_task(rt, &mut output, &job.task).expect(rt, "memory");
-    expect_eq(rt, &output.as_str(), &want);
-    expect_eq(rt, &job.file, &file);
+    describe_task(rt, &mut output, task).expect(rt, "memory");
+    output
 }
 
 // The words of a line ask for this, over this file.
@@ -93,19 +93,16 @@ fn expect_asked(rt: &(impl Abort + AllocGlobal), line: &str, file: &str, want: &
     let words = words_of(rt, line);
     let asked = command_of(rt.alloc(), words.as_slice());
     match &asked {
-        Ok(Asked::Perform(job)) => expect_task(rt, job, file, want),
+        Ok(Asked::Perform(job)) => {
+            let task = described(rt, &job.task);
+            expect_case(rt, line, &(task.as_str(), job.file), &(want, file));
+        }
         _ => panic!(rt; "{line}"),
     }
 }
 
-// Lines, and what they ask for over the file `F`.
-fn expect_rows(rt: &(impl Abort + AllocGlobal), rows: &[(&str, &str)]) {
-    for (line, want) in rows {
-        expect_asked(rt, line, "F", want);
-    }
-}
-
-static ORDERS: [(&str, &str); 6] = [
+/// Lines, and what they ask for over the file `F`.
+static TASKS: [(&str, &str); 36] = [
     (
         "add-member|F|amy|5",
         "AddMember { name: \"amy\", quota: 5 }",
@@ -127,15 +124,7 @@ static ORDERS: [(&str, &str); 6] = [
         "close-slot|F|court-1|2026-05-01|18",
         "CloseSlot(Slot { facility: \"court-1\", day: Day { number: 20574 }, hour: Hour { number: 18 } })",
     ),
-];
-
-#[test]
-fn orders(rt: HostRuntime) {
-    expect_rows(&rt, &ORDERS);
-}
-
-// What the club refuses is a value all the same.
-static NUMBERS: [(&str, &str); 5] = [
+    // What the club refuses is a value all the same.
     ("credit|F|amy|0", "Credit { member: \"amy\", points: 0 }"),
     (
         "credit|F|amy|000000000",
@@ -153,14 +142,6 @@ static NUMBERS: [(&str, &str); 5] = [
         "credit|F|amy|000000017",
         "Credit { member: \"amy\", points: 17 }",
     ),
-];
-
-#[test]
-fn numbers(rt: HostRuntime) {
-    expect_rows(&rt, &NUMBERS);
-}
-
-static NEW_KEYS: [(&str, &str); 6] = [
     (
         "add-key|F|k|bob|000102030405060708090a0b0c0d0e0f",
         "add k of bob 000102030405060708090a0b0c0d0e0f V2",
@@ -188,15 +169,7 @@ static NEW_KEYS: [(&str, &str); 6] = [
         "add k of bob ffffffffffffffffffffffffffffffffffffffffffffffffffffffffffffffff\
         ffffffffffffffffffffffffffffffffffffffffffffffffffffffffffffffff V2",
     ),
-];
-
-#[test]
-fn new_keys(rt: HostRuntime) {
-    expect_rows(&rt, &NEW_KEYS);
-}
-
-// With `--root-stdin` the word of the root is left out.
-static KEYS_BY_INPUT: [(&str, &str); 4] = [
+    // With `--root-stdin` the word of the root is left out.
     ("add-key|F|k|bob|--root-stdin", "add k of bob by input V2"),
     (
         "add-key|--root-stdin|--form=v1|F|k|bob",
@@ -210,14 +183,6 @@ static KEYS_BY_INPUT: [(&str, &str); 4] = [
         "rotate-key|--form|json|--root-stdin|--|F|k|2099-12-31T23:59",
         "rotate k by input until 2099-12-31T23:59 Json",
     ),
-];
-
-#[test]
-fn keys_by_input(rt: HostRuntime) {
-    expect_rows(&rt, &KEYS_BY_INPUT);
-}
-
-static LOOKS: [(&str, &str); 4] = [
     ("show-account|F|amy-1", "show amy-1 by the clock"),
     (
         "show-account|--zone=CET-1CEST,M3.5.0,M10.5.0/3|F|amy-1",
@@ -231,34 +196,10 @@ static LOOKS: [(&str, &str); 4] = [
         "show-slot|F|court-1|2026-05-01|18",
         "show Slot { facility: \"court-1\", day: Day { number: 20574 }, hour: Hour { number: 18 } }",
     ),
-];
-
-#[test]
-fn looks(rt: HostRuntime) {
-    expect_rows(&rt, &LOOKS);
-}
-
-// Words behind `--` are no options.
-#[test]
-fn sheets(rt: HostRuntime) {
-    let output = "sheet 2026-05-02";
-    expect_asked(&rt, "sheet|a file.db|2026-05-02", "a file.db", output);
-    expect_asked(&rt, "sheet|--|--port|2026-05-02", "--port", output);
-}
-
-static PAUSES: [(&str, &str); 4] = [
     ("pause|F|1", "pause 1"),
     ("pause|F|600", "pause 600"),
     ("pause|F|000000060", "pause 60"),
     ("pause|--|F|2", "pause 2"),
-];
-
-#[test]
-fn pauses(rt: HostRuntime) {
-    expect_rows(&rt, &PAUSES);
-}
-
-static SERVERS: [(&str, &str); 7] = [
     (
         "serve|F|--port|0|--count|1",
         "serve 0 1 by the clock for 10",
@@ -290,8 +231,18 @@ static SERVERS: [(&str, &str); 7] = [
 ];
 
 #[test]
-fn servers(rt: HostRuntime) {
-    expect_rows(&rt, &SERVERS);
+fn tasks(rt: HostRuntime) {
+    for (line, want) in &TASKS {
+        expect_asked(&rt, line, "F", want);
+    }
+}
+
+// Words behind `--` are no options.
+#[test]
+fn sheets(rt: HostRuntime) {
+    let output = "sheet 2026-05-02";
+    expect_asked(&rt, "sheet|a file.db|2026-05-02", "a file.db", output);
+    expect_asked(&rt, "sheet|--|--port|2026-05-02", "--port", output);
 }
 
 #[test]
