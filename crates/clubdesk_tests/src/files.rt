@@ -1,5 +1,6 @@
 //! Runs of the program over files, one after the other, and a server between them.
 
+use crate::expect::expect_eq;
 use crate::runs::{Row, expect_rows, log_of, new_path, remove};
 use crate::served::{reply_before_a_kill, reply_to};
 use crate::servers::OFFICE;
@@ -70,12 +71,18 @@ fn expect_replies(rt: &HostRuntime, path: &str, rows: &[(&str, &str)]) -> Result
     Ok(())
 }
 
+// A new file of the office's, in which each later command finds what earlier ones did.
+fn new_club(rt: &HostRuntime, name: &str) -> Result<String, Fail> {
+    let path = new_path(rt, name)?;
+    expect_rows(rt, path.as_str(), &OFFICE)?;
+    expect_rows(rt, path.as_str(), &BESIDE_AMY)?;
+    Ok(path)
+}
+
 // A file of the office's, two bookings over a socket, a file that is closed, and the day's sheet.
 #[test]
 fn a_day_in_a_file(rt: HostRuntime) -> Result<(), Fail> {
-    let path = new_path(&rt, "day")?;
-    expect_rows(&rt, path.as_str(), &OFFICE)?;
-    expect_rows(&rt, path.as_str(), &BESIDE_AMY)?;
+    let path = new_club(&rt, "day")?;
     expect_replies(&rt, path.as_str(), &BOOKINGS)?;
     expect_rows(&rt, path.as_str(), &SHEETS)?;
     remove(&rt, path.as_str());
@@ -102,8 +109,7 @@ fn expect_file(rt: &HostRuntime, path: &str, bytes: &[u8]) -> Result<(), Fail> {
 // run that prints the day's sheet finds it there.
 #[test]
 fn a_booking_in_the_log_alone(rt: HostRuntime) -> Result<(), Fail> {
-    let path = new_path(&rt, "left")?;
-    expect_rows(&rt, path.as_str(), &OFFICE)?;
+    let path = new_club(&rt, "left")?;
     let before = fs::read(&rt, path.as_str())?;
     let (request, wanted) = BOOKINGS[0];
     let reply = reply_before_a_kill(&rt, path.as_str(), request)?;
@@ -112,31 +118,6 @@ fn a_booking_in_the_log_alone(rt: HostRuntime) -> Result<(), Fail> {
     }
     expect_file(&rt, path.as_str(), before.as_slice())?;
     expect_rows(&rt, path.as_str(), &AMYS_SHEET)?;
-    remove(&rt, path.as_str());
-    Ok(())
-}
-
-static AGAIN: [Row; 4] = [
-    Row("add-member", "amy 5", "1 refused: exists"),
-    Row("credit", "amy 0", "1 refused: out of range"),
-    Row(
-        "add-key",
-        "k bob 00112233445566778899aabbccddeeff",
-        "1 refused: unknown",
-    ),
-    Row(
-        "add-key",
-        "k bob 00112233445566778899aabbccddee",
-        "3 bad value",
-    ),
-];
-
-// On a new file, each later command finds what earlier ones did.
-#[test]
-fn a_new_file(rt: HostRuntime) -> Result<(), Fail> {
-    let path = new_path(&rt, "new")?;
-    expect_rows(&rt, path.as_str(), &OFFICE)?;
-    expect_rows(&rt, path.as_str(), &AGAIN)?;
     remove(&rt, path.as_str());
     Ok(())
 }
@@ -168,7 +149,7 @@ fn files_of_something_else(rt: HostRuntime) -> Result<(), Fail> {
     fs::write(&rt, path.as_str(), [b'x'; 100])?;
     expect_rows(&rt, path.as_str(), &NO_CLUB)?;
     let left = fs::read(&rt, path.as_str())?;
-    assert_eq!(rt; left.as_slice(), [b'x'; 100].as_slice());
+    expect_eq(&rt, &left.as_slice(), &[b'x'; 100].as_slice());
     remove(&rt, path.as_str());
     Ok(())
 }

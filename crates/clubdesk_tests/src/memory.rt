@@ -4,54 +4,43 @@ use crate::callers::{Caller, Machine};
 use crate::others::{NOBODY, Others, OthersScript};
 use crate::runs::{Output, ROOM, Row, Run, expect_output, words_of};
 use crate::terminal::{Input, NO_INPUT};
-use club_core::StoreFault;
+use club_core::{ClubStore, StoreFault};
 use club_http::WriteOutlet;
 use club_store::Store;
 use clubdesk_commands::{Databases, run_with_clock};
 use desk_server::LogLines;
-use sqlite::MemStore;
-use std::alloc::{AllocError, Global};
+use std::alloc::AllocError;
 use std::test::Fail;
 
 /// The name of the database.
 pub const NAME: &str = "club";
 
-/// One database in memory, which stays from one opening to the next; there is none of another name.
-/// Its opening may fail.
+/// One database, which stays from one opening to the next; there is none of another name. Its
+/// opening may fail.
 #[derive(Drop)]
-struct InMemory {
-    alloc: Global,
-    store: Option<Store<MemStore>>,
+struct InMemory<'a, S: ClubStore + Drop> {
+    store: Option<S>,
     fault: Option<StoreFault>,
     opened: u64,
     closed: u64,
-    others: Others,
+    others: Others<'a>,
 }
 
-impl InMemory {
+impl<'a, S: ClubStore + Drop> InMemory<'a, S> {
     // A database that nobody opened yet.
-    fn new(alloc: Global, fault: Option<StoreFault>, script: OthersScript) -> InMemory {
+    fn new(store: S, fault: Option<StoreFault>, script: OthersScript<'a>) -> InMemory<'a, S> {
         InMemory {
-            alloc,
-            store: None,
+            store: Some(store),
             fault,
             opened: 0,
             closed: 0,
             others: Others::new(script),
         }
     }
-
-    // The database as it was closed, or an empty one.
-    fn take(&mut self) -> Result<Store<MemStore>, StoreFault> {
-        match self.store.take() {
-            Some(store) => Ok(store),
-            None => Store::open_in_memory(self.alloc),
-        }
-    }
 }
 
-impl Databases for InMemory {
-    type Store = Store<MemStore>;
+impl<S: ClubStore + Drop> Databases for InMemory<'_, S> {
+    type Store = S;
 
     type Pause = ();
 
@@ -63,18 +52,19 @@ impl Databases for InMemory {
 
     ghost finds_wish = { λ _ _ _. Unit {0} };
 
-    fn open(&mut self, name: &str) -> Result<Store<MemStore>, StoreFault> {
+    // Nobody opens it while it is open.
+    fn open(&mut self, name: &str) -> Result<S, StoreFault> {
         self.opened = self.opened.saturating_add(1);
         if name != NAME {
             return Err(StoreFault::Storage);
         }
         match self.fault {
             Some(fault) => Err(fault),
-            None => self.take(),
+            None => self.store.take().ok_or(StoreFault::Storage),
         }
     }
 
-    fn reopen(&mut self, name: &str) -> Result<Store<MemStore>, StoreFault> {
+    fn reopen(&mut self, name: &str) -> Result<S, StoreFault> {
         match self.others.fault_of_reopening() {
             Some(fault) => {
                 self.opened = self.opened.saturating_add(1);
@@ -84,7 +74,7 @@ impl Databases for InMemory {
         }
     }
 
-    fn close(&mut self, store: Store<MemStore>) {
+    fn close(&mut self, store: S) {
         self.closed = self.closed.saturating_add(1);
         self.store = Some(store);
     }
@@ -114,7 +104,7 @@ pub struct Scene<'a> {
     /// The fault of each opening.
     pub fault: Option<StoreFault>,
     /// What other programs do during the run.
-    pub script: OthersScript,
+    pub script: OthersScript<'a>,
     /// The orders before the run, each of which ends as its row expects.
     pub orders: &'a [Row<'a>],
     /// The clock of the machine, as `Machine` has it: its second and its microseconds.
@@ -154,11 +144,10 @@ pub struct SceneOutcome {
     pub waited: u64,
 }
 
-// Runs the program over the database. It is the one function here that names the types of a run
-// over memory.
-fn run_in(
+// Runs the program over the database.
+fn run_in<D: Databases>(
     rt: &HostRuntime,
-    databases: &mut InMemory,
+    databases: &mut D,
     machine: &Machine,
     asked: Run<'_>,
 ) -> Result<Output, AllocError> {
@@ -186,24 +175,32 @@ pub fn line_of(rt: &HostRuntime, row: &Row<'_>) -> Result<String, AllocError> {
 }
 
 // Runs the command of a row over the database. It ends as that expects.
-fn expect_row_in(rt: &HostRuntime, databases: &mut InMemory, row: &Row<'_>) -> Result<(), Fail> {
+fn expect_row_in<D: Databases>(
+    rt: &HostRuntime,
+    databases: &mut D,
+    row: &Row<'_>,
+) -> Result<(), Fail> {
     let line = line_of(rt, row)?;
     let machine = Machine::new(Some(0), 0);
     let output = run_in(rt, databases, &machine, Run::of(line.as_str()))?;
     expect_output(rt, row, output.returned.as_str())
 }
 
-fn expect_in(rt: &HostRuntime, databases: &mut InMemory, rows: &[Row<'_>]) -> Result<(), Fail> {
+fn expect_in<D: Databases>(
+    rt: &HostRuntime,
+    databases: &mut D,
+    rows: &[Row<'_>],
+) -> Result<(), Fail> {
     for row in rows {
         expect_row_in(rt, databases, row)?;
     }
     Ok(())
 }
 
-// Plays a scene at the database.
-fn play_over(
+// Plays a scene at the database: what comes of its run.
+fn run_scene<D: Databases>(
     rt: &HostRuntime,
-    databases: &mut InMemory,
+    databases: &mut D,
     scene: &Scene<'_>,
     line: &str,
 ) -> Result<Output, Fail> {
@@ -220,10 +217,15 @@ fn play_over(
     Ok(output)
 }
 
-/// Plays a scene with a run on this line.
-pub fn play(rt: &HostRuntime, scene: &Scene<'_>, line: &str) -> Result<SceneOutcome, Fail> {
-    let mut databases = InMemory::new(rt.alloc(), scene.fault, scene.script);
-    let output = play_over(rt, &mut databases, scene, line)?;
+// Plays a scene at a database in a store.
+fn play_over<S: ClubStore + Drop>(
+    rt: &HostRuntime,
+    store: S,
+    scene: &Scene<'_>,
+    line: &str,
+) -> Result<SceneOutcome, Fail> {
+    let mut databases = InMemory::new(store, scene.fault, scene.script);
+    let output = run_scene(rt, &mut databases, scene, line)?;
     Ok(SceneOutcome {
         output,
         opened: databases.opened,
@@ -231,6 +233,12 @@ pub fn play(rt: &HostRuntime, scene: &Scene<'_>, line: &str) -> Result<SceneOutc
         looks: databases.others.looks(),
         waited: databases.others.waited(),
     })
+}
+
+/// Plays a scene with a run on this line. It is the one function here that has a store in memory:
+/// the proof of one that does more with it takes a minute.
+pub fn play(rt: &HostRuntime, scene: &Scene<'_>, line: &str) -> Result<SceneOutcome, Fail> {
+    play_over(rt, Store::open_in_memory(rt.alloc())?, scene, line)
 }
 
 /// Plays a scene with the command of a row, which ends as that expects.

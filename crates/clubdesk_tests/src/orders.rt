@@ -2,6 +2,7 @@
 //! closes once.
 
 use crate::clubs::expect_over_clubs;
+use crate::expect::expect_eq;
 use crate::runs::{ROOM, Row, run_line};
 use std::test::Fail;
 
@@ -221,6 +222,6 @@ fn words(rt: HostRuntime) -> Result<(), Fail> {
 #[test]
 fn version(rt: HostRuntime) -> Result<(), Fail> {
     let ended = run_line(&rt, "clubdesk --version", ROOM)?;
-    assert_eq!(rt; ended.output.returned.as_str(), "0 clubdesk 0.1.0\n");
+    expect_eq(&rt, &ended.output.returned.as_str(), &"0 clubdesk 0.1.0\n");
     Ok(())
 }

@@ -5,17 +5,17 @@ use std::cell::Cell;
 
 /// What other programs do during a run.
 #[derive(Clone, Copy)]
-pub struct OthersScript {
+pub struct OthersScript<'a> {
     /// What each look for a wish finds; no wish once there were so many looks.
-    pub wishes: &'static [bool],
+    pub wishes: &'a [bool],
     /// The fault of each opening again; none once there were so many.
-    pub faults: &'static [Option<StoreFault>],
+    pub faults: &'a [Option<StoreFault>],
     /// Whether servers can't be kept away.
     pub refuse_pauses: bool,
 }
 
 /// Nobody else.
-pub const NOBODY: OthersScript = OthersScript {
+pub const NOBODY: OthersScript<'static> = OthersScript {
     wishes: &[],
     faults: &[],
     refuse_pauses: false,
@@ -23,16 +23,16 @@ pub const NOBODY: OthersScript = OthersScript {
 
 /// Other programs, and what was asked of them.
 #[derive(Drop)]
-pub struct Others {
-    pub script: OthersScript,
+pub struct Others<'a> {
+    pub script: OthersScript<'a>,
     looks: Cell<usize>,
     reopenings: usize,
     waited: Cell<u64>,
 }
 
-impl Others {
+impl<'a> Others<'a> {
     /// Programs that do this.
-    pub fn new(script: OthersScript) -> Others {
+    pub fn new(script: OthersScript<'a>) -> Others<'a> {
         Others {
             script,
             looks: Cell::new(0),
