@@ -82,7 +82,7 @@ fn describe_task(
 }
 
 // The task, as a text.
-fn described(rt: &(impl Abort + AllocGlobal), task: &Task<'_>) -> String {
+fn task_text(rt: &(impl Abort + AllocGlobal), task: &Task<'_>) -> String {
     let mut output = String::new(rt.alloc());
     describe_task(rt, &mut output, task).expect(rt, "memory");
     output
@@ -94,7 +94,7 @@ fn expect_asked(rt: &(impl Abort + AllocGlobal), line: &str, file: &str, want: &
     let asked = command_of(rt.alloc(), words.as_slice());
     match &asked {
         Ok(Asked::Perform(job)) => {
-            let task = described(rt, &job.task);
+            let task = task_text(rt, &job.task);
             expect_case(rt, line, &(task.as_str(), job.file), &(want, file));
         }
         _ => panic!(rt; "{line}"),
