@@ -1,7 +1,8 @@
 -- The program's commands and options, as `clap` reads them (ours).
-use Rattle.std.specs.Prelude.{List, [], ◌∷◌, Option, true, false, codes}
-use Rattle.clap.specs.Words.{App, Kinds, Row, Rule, Text, fault_of, new_app, new_rule}
+use Rattle.std.specs.Prelude.{◌≡◌, List, [], ◌∷◌, Option, Result, IfOk, true, false, codes}
+use Rattle.clap.specs.Words.{App, Kinds, Row, Rule, Text, app_of, fault_of, new_app, new_rule}
 use Rattle.clap.specs.Words.{subcommand_of, with_rule, with_subcommand}
+use Rattle.clap.specs.declared.builder.command.Command.{Command}
 use Rattle.command_line.specs.Application.{as_required, flag_named, form_or_v2, option_named, program_named, with_default}
 
 -- a required word, known by its place
@@ -24,14 +25,18 @@ optional_word name = record (word_named name) { required = false }
 abbrev pub zone_option : Rule
 zone_option = with_default (codes "UTC0") (option_named (codes "zone"))
 
+abbrev pub at_option : Rule
+at_option = option_named (codes "at")
+
+-- a command with `[--zone RULE] [--at MOMENT]`
+abbrev pub with_clock : App → App
+with_clock command = with_rule (with_rule command zone_option) at_option
+
 abbrev pub port_option : Rule
 port_option = as_required (option_named (codes "port"))
 
 abbrev pub count_option : Rule
 count_option = as_required (option_named (codes "count"))
-
-abbrev pub at_option : Rule
-at_option = option_named (codes "at")
 
 -- `[--patience SECONDS]`, 10 by default
 abbrev pub patience_option : Rule
@@ -84,7 +89,7 @@ pause_command = command_of_words (codes "pause") (codes "FILE" ∷ codes "SECOND
 
 -- `show-account FILE KEY [--zone RULE] [--at MOMENT]`
 abbrev pub show_account_command : App
-show_account_command = with_rule (with_rule (command_of_words (codes "show-account") (codes "FILE" ∷ codes "KEY" ∷ [])) zone_option) at_option
+show_account_command = with_clock (command_of_words (codes "show-account") (codes "FILE" ∷ codes "KEY" ∷ []))
 
 -- `show-slot FILE FACILITY DAY HOUR`
 abbrev pub show_slot_command : App
@@ -93,12 +98,17 @@ show_slot_command = command_of_words (codes "show-slot") (codes "FILE" ∷ codes
 -- `serve FILE --port P --count N [--zone RULE] [--at MOMENT] [--patience SECONDS] [--log]`
 abbrev pub serve_command : App
 serve_command =
-    with_rule (with_rule (with_rule (with_rule (with_rule (with_rule (command_of_words (codes "serve") (codes "FILE" ∷ []))
-    port_option) count_option) zone_option) at_option) patience_option) log_flag
+    with_rule (with_rule (with_clock (with_rule (with_rule (command_of_words (codes "serve") (codes "FILE" ∷ []))
+    port_option) count_option)) patience_option) log_flag
 
 abbrev pub with_commands : App → List App → App
 with_commands app [] = app
 with_commands app (command ∷ commands) = with_commands (with_subcommand app command.top) commands
+
+-- the program has these commands too, if there was memory
+abbrev pub AddsCommands : {E : Type 0} → List App → Result Command E → Result Command E → Type 0
+AddsCommands commands before after =
+    (app : App) → IfOk before (λ made. app_of made ≡ app) → IfOk after (λ made. app_of made ≡ with_commands app commands)
 
 -- the program before its commands
 abbrev pub top : App

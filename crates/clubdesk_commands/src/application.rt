@@ -130,9 +130,9 @@ fn with_office<'a>(
     alloc: Global,
     app: Result<Command<'a>, AllocError>,
 ) -> Result<Command<'a>, AllocError>
-    ensures { (before : App) → IfOk app.entry (λ made. app_of made ≡ before)
-        → IfOk result (λ made. app_of made ≡ spec.with_commands before
-        (spec.add_member_command ∷ spec.credit_command ∷ spec.add_facility_command ∷ [])) }
+    ensures { spec.AddsCommands
+        (spec.add_member_command ∷ spec.credit_command ∷ spec.add_facility_command ∷ [])
+        app.entry result }
 {
     let app = with_command(app, make_add_member(alloc));
     let app = with_command(app, make_credit(alloc));
@@ -144,9 +144,9 @@ fn with_keys<'a>(
     alloc: Global,
     app: Result<Command<'a>, AllocError>,
 ) -> Result<Command<'a>, AllocError>
-    ensures { (before : App) → IfOk app.entry (λ made. app_of made ≡ before)
-        → IfOk result (λ made. app_of made ≡ spec.with_commands before
-        (spec.add_key_command ∷ spec.revoke_key_command ∷ spec.rotate_key_command ∷ [])) }
+    ensures { spec.AddsCommands
+        (spec.add_key_command ∷ spec.revoke_key_command ∷ spec.rotate_key_command ∷ [])
+        app.entry result }
 {
     let app = with_command(app, make_add_key(alloc));
     let app = with_command(app, make_revoke_key(alloc));
@@ -158,10 +158,10 @@ fn with_days<'a>(
     alloc: Global,
     app: Result<Command<'a>, AllocError>,
 ) -> Result<Command<'a>, AllocError>
-    ensures { (before : App) → IfOk app.entry (λ made. app_of made ≡ before)
-        → IfOk result (λ made. app_of made ≡ spec.with_commands before
+    ensures { spec.AddsCommands
         (spec.close_slot_command ∷ spec.sheet_command ∷ spec.serve_command ∷ spec.pause_command
-        ∷ [])) }
+        ∷ [])
+        app.entry result }
 {
     let app = with_command(app, make_close_slot(alloc));
     let app = with_command(app, make_sheet(alloc));
@@ -174,9 +174,9 @@ fn with_looks<'a>(
     alloc: Global,
     app: Result<Command<'a>, AllocError>,
 ) -> Result<Command<'a>, AllocError>
-    ensures { (before : App) → IfOk app.entry (λ made. app_of made ≡ before)
-        → IfOk result (λ made. app_of made ≡ spec.with_commands before
-        (spec.show_account_command ∷ spec.show_slot_command ∷ [])) }
+    ensures { spec.AddsCommands
+        (spec.show_account_command ∷ spec.show_slot_command ∷ [])
+        app.entry result }
 {
     let app = with_command(app, make_show_account(alloc));
     with_command(app, make_show_slot(alloc))
@@ -292,9 +292,7 @@ fn make_serve<'a>(alloc: Global) -> Result<Command<'a>, AllocError>
     let command = make_command(alloc, "serve", about, SERVE_HELP, &["FILE"]);
     let command = with_argument(command, make_port(alloc));
     let command = with_argument(command, make_count(alloc));
-    let command = with_argument(command, make_zone(alloc));
-    let command = with_argument(command, make_at(alloc));
-    let command = with_argument(command, make_patience(alloc));
+    let command = with_argument(with_clock(alloc, command), make_patience(alloc));
     with_argument(command, make_log(alloc))
 }
 
@@ -308,8 +306,7 @@ fn make_show_account<'a>(alloc: Global) -> Result<Command<'a>, AllocError>
         SHOW_ACCOUNT_HELP,
         &["FILE", "KEY"],
     );
-    let command = with_argument(command, make_zone(alloc));
-    with_argument(command, make_at(alloc))
+    with_clock(alloc, command)
 }
 
 fn make_show_slot<'a>(alloc: Global) -> Result<Command<'a>, AllocError>
@@ -364,6 +361,18 @@ fn with_words<'a>(
         command = with_argument(Ok(command), make_word(alloc, word))?;
     }
     Ok(command)
+}
+
+// The command with the options of the clock.
+fn with_clock<'a>(
+    alloc: Global,
+    command: Result<Command<'a>, AllocError>,
+) -> Result<Command<'a>, AllocError>
+    ensures { (app : App) → IfOk command.entry (IsMade app)
+        → IfOk result (IsMade (spec.with_clock app)) }
+{
+    let command = with_argument(command, make_zone(alloc));
+    with_argument(command, make_at(alloc))
 }
 
 fn make_word<'a>(alloc: Global, name: &'a str) -> Arg<'a>

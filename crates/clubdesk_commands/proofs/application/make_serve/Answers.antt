@@ -4,7 +4,6 @@ pub returns : goal.returns
 returns c =
     let one = c.with_argument-command.ensures _ _ c.make_command-command.ensures c.make_port.ensures.rule c.make_port.ensures.local in
     let two = c.with_argument-command-2.ensures _ _ one c.make_count.ensures.rule c.make_count.ensures.local in
-    let three = c.with_argument-command-3.ensures _ _ two c.make_zone.ensures.rule c.make_zone.ensures.local in
-    let four = c.with_argument-command-4.ensures _ _ three c.make_at.ensures.rule c.make_at.ensures.local in
-    let five = c.with_argument-command-5.ensures _ _ four c.make_patience.ensures.rule c.make_patience.ensures.local in
-    c.with_argument.ensures _ _ five c.make_log.ensures.rule c.make_log.ensures.local
+    let three = c.with_clock.ensures _ two in
+    let four = c.with_argument-command-3.ensures _ _ three c.make_patience.ensures.rule c.make_patience.ensures.local in
+    c.with_argument.ensures _ _ four c.make_log.ensures.rule c.make_log.ensures.local
