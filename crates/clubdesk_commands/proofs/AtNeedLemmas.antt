@@ -4,7 +4,8 @@ use Rattle.club_http.specs.Replied.{AnswerRelation}
 use Rattle.club_core.specs.Club.{Club}
 use Rattle.club_http.specs.Desk.{AnswersBy}
 use Rattle.desk_server.specs.declared.log.Fate.{Fate}
-use Rattle.clubdesk_commands.specs.AtNeed.{Access, AnswersAtNeed, Closing, GivesWay, LetsGo, Opening, access}
+use Rattle.desk_server.specs.Databases.{Closing, Opening}
+use Rattle.clubdesk_commands.specs.AtNeed.{Access, AnswersAtNeed, GivesWay, LetsGo, access}
 use Rattle.clubdesk_commands.specs.DeskAtNeed.{IsSamePlace}
 use Rattle.clubdesk_commands.specs.Output.{Output}
 use Rattle.clubdesk_commands.specs.Run.{Announces, RunsServer, ServesFile}

@@ -20,7 +20,7 @@ use Rattle.clubdesk_commands.specs.Looks as looks
 use Rattle.clubdesk_commands.specs.Office as office
 use Rattle.clubdesk_commands.specs.Office.{PrintsReply, PrintsSheet, fault_of_desk}
 use Rattle.clubdesk_commands.specs.Output.{Output, WritesText}
-use Rattle.clubdesk_commands.specs.AtNeed.{Closing, Opening}
+use Rattle.desk_server.specs.Databases.{Closing, Opening}
 use Rattle.clubdesk_commands.specs.Fault.{fault_of_opening}
 use Rattle.clubdesk_commands.specs.Run.{Announces, AnswersWords, Does, EndsFor, IsOfTask, IsSilent, Performs, job_of}
 use Rattle.clubdesk_commands.specs.Run as spec

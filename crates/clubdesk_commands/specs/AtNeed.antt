@@ -6,14 +6,7 @@ use Rattle.club_core.specs.declared.reply.Reply.TheVariants.{Refused}
 use Rattle.club_core.specs.declared.request.Request.{Request}
 use Rattle.club_core.specs.declared.store.StoreFault.{StoreFault}
 use Rattle.club_http.specs.Replied.{AnswerRelation}
-
--- what opening a name returns, with the databases before and after
-abbrev pub Opening : Type 0 → Type 0 → Type 1
-Opening Databases Store = Databases → List ℕ → Result Store StoreFault → Databases → Type 0
-
--- the databases before and after closing a store
-abbrev pub Closing : Type 0 → Type 0 → Type 1
-Closing Databases Store = Databases → Store → Databases → Type 0
+use Rattle.desk_server.specs.Databases.{Closing, Opening}
 
 -- the databases, and the store that is open, if one is
 pub record Access (Databases Store : Type 0) : Type 0 where

@@ -5,13 +5,13 @@ use Rattle.club_http.specs.Desk.{AnswersBy}
 use Rattle.club_http.specs.Replied.{AnswerRelation}
 use Rattle.desk_server.specs.Served.{AreNoted}
 use Rattle.desk_server.specs.declared.log.Fate.{Fate}
+use Rattle.desk_server.specs.declared.databases.Databases.{Ghosts as DatabasesWords}
 use Rattle.desk_server.specs.declared.log.Log.{Ghosts as LogWords}
 use Rattle.clubdesk_commands.specs.AtNeed.{Access, AnswersAtNeed, GivesWay}
 use Rattle.clubdesk_commands.specs.Input.{asks_root}
 use Rattle.clubdesk_commands.specs.JobModel.{JobModel}
 use Rattle.clubdesk_commands.specs.Output.{Input, Output}
 use Rattle.clubdesk_commands.specs.Run.{IsSilent, Performs, PerformsAsked, RunsServer, asks_log}
-use Rattle.clubdesk_commands.specs.declared.databases.Databases.{Ghosts as DatabasesWords}
 use Rattle.clubdesk_commands.specs.declared.fault.Fault.{Fault}
 use Rattle.clubdesk_commands.specs.declared.task.Service.{Service}
 

@@ -12,7 +12,8 @@ use Rattle.club_http.specs.Replied.{AnswerRelation}
 use Rattle.desk_server.specs.Served.{AreServed, Ends, Idles, IsStopped, GivesMoment}
 use Rattle.desk_server.specs.declared.log.Fate.{Fate}
 use Rattle.command_line.specs.Output.{AppendsFront}
-use Rattle.clubdesk_commands.specs.AtNeed.{Access, AnswersAtNeed, Closing, GivesWay, LetsGo, Opening, access}
+use Rattle.desk_server.specs.Databases.{Closing, Opening}
+use Rattle.clubdesk_commands.specs.AtNeed.{Access, AnswersAtNeed, GivesWay, LetsGo, access}
 use Rattle.clubdesk_commands.specs.JobModel.{JobModel}
 use Rattle.clubdesk_commands.specs.Office.{IsOrdered, IsPassOrdered, IsSheetPrinted, PrintsReply, PrintsSheet, pass_text}
 use Rattle.clubdesk_commands.specs.Input.{IsWholeInput, TakesRoot, asks_root, awaits_root}

@@ -5,12 +5,11 @@ ghost use Rattle.std.specs.Prelude.{◌≡◌, None};
 ghost use Rattle.club_http.specs.Desk.{AnswersBy};
 ghost use Rattle.clubdesk_commands.specs.AtNeed.{AnswersAtNeed, GivesWay, LetsGo, access};
 
-use crate::databases::Databases;
 use crate::server::AddressKeeper;
 use club_core::{Refusal, Reply};
 use club_http::{Desk, Responder, Words};
 use club_values::Moment;
-use desk_server::IdleHook;
+use desk_server::{Databases, IdleHook};
 use std::alloc::Global;
 
 /// A desk over the database of a name. The caller owns the place of the open store.

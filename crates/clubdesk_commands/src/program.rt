@@ -7,7 +7,6 @@ ghost use Rattle.clubdesk_commands.specs.Output.{input, output};
 ghost use Rattle.clubdesk_commands.specs.Run as spec;
 ghost use Rattle.clubdesk_commands.specs.Words.{asked_job};
 
-use crate::databases::Databases;
 use crate::fault::Fault;
 use crate::input::with_root;
 use crate::looks::{show_account, show_slot};
@@ -17,7 +16,7 @@ use crate::turns::{pause, serve_file};
 use crate::words::{Asked, command_of};
 use club_core::{ClubStore, Command};
 use club_gate::Desk;
-use desk_server::Log;
+use desk_server::{Databases, Log};
 use std::alloc::Global;
 use std::convert::AsStr;
 use std::io::{Read, Write};

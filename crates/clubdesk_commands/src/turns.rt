@@ -8,13 +8,12 @@ ghost use Rattle.clubdesk_commands.specs.Run as spec;
 ghost use Rattle.clubdesk_commands.specs.declared.task.Task.TheVariants.{Pause, Serve};
 
 use crate::at_need::{DeskAtNeed, close_open};
-use crate::databases::Databases;
 use crate::fault::Fault;
 use crate::office::{DONE, written};
 use crate::server::serve;
 use crate::task::Service;
 use club_gate::Desk;
-use desk_server::Log;
+use desk_server::{Databases, Log};
 use std::io::Write;
 use std::time::Clock;
 

@@ -1,4 +1,4 @@
-//! The databases of `clubdesk_commands` in files.
+//! The databases of `desk_server` in files.
 
 ghost use Rattle.std.specs.Prelude.{◌≡◌};
 ghost use Rattle.desk_server.specs.Served.{CountsOn};
@@ -8,7 +8,7 @@ use crate::attempts::{ATTEMPTS_A_SECOND, Attempts, gain};
 use crate::openings::{FileClub, OfficeOpenings, Pause, Pauses, ServerOpenings};
 use crate::wish::is_wished;
 use club_core::StoreFault;
-use clubdesk_commands::Databases;
+use desk_server::Databases;
 use std::thread;
 use std::time::Duration;
 

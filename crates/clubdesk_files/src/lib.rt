@@ -1,6 +1,5 @@
-//! The databases of `clubdesk_commands` in files. Programs take turns at a file: one that finds it
-//! held
-//! leaves a wish beside it, wakes the server that has it, and tries again.
+//! Databases in files. Programs take turns at a file: one that finds it held leaves a wish beside
+//! it, wakes the server that has it, and tries again.
 #![tactic(auto)]
 
 mod address;

@@ -102,7 +102,7 @@ fn is_called(listener: &TcpListener) -> bool {
 }
 
 // A listener that doesn't wait, and its port.
-fn listening(rt: &HostRuntime) -> io::Result<(TcpListener, u16)> {
+fn bound_listener(rt: &HostRuntime) -> io::Result<(TcpListener, u16)> {
     let listener = TcpListener::bind(rt, "127.0.0.1:0")?;
     listener.set_nonblocking(true)?;
     let port = listener.local_addr()?.port();
@@ -121,7 +121,7 @@ fn addresses(rt: HostRuntime) -> Result<(), Fail> {
     let path = new_path(&rt, "address")?;
     let serving = beside(&rt, path.as_str(), "serving")?;
     let (path, serving) = (path.as_str(), serving.as_str());
-    let (listener, port) = listening(&rt)?;
+    let (listener, port) = bound_listener(&rt)?;
     wake(&rt, path);
     keep_stale(&rt, serving, port)?;
     wake(&rt, path);

@@ -39,20 +39,20 @@ impl<'a> Caller<'a> {
     }
 
     /// What was written, but for the line by which clients came.
-    pub fn written(&self) -> &[u8] {
+    pub fn written_bytes(&self) -> &[u8] {
         self.output.taken.as_slice()
     }
 
     // The port of the line.
     fn port(&self) -> Option<u16> {
-        let line = str::from_utf8(self.written()).ok()?;
+        let line = str::from_utf8(self.written_bytes()).ok()?;
         let address = line.strip_prefix("listening on ")?.strip_suffix("\n")?;
         address.strip_prefix(LOOPBACK)?.parse().ok()
     }
 
     // A client that has sent a request to this port. At another address of the machine nobody
     // listens.
-    fn called(&self, port: u16, request: &str) -> io::Result<TcpStream> {
+    fn send(&self, port: u16, request: &str) -> io::Result<TcpStream> {
         if TcpStream::connect(self.rt, (BESIDE, port)).is_ok() {
             return Err(io::Error::from(ErrorKind::AddrInUse));
         }
@@ -64,7 +64,7 @@ impl<'a> Caller<'a> {
     // A client for each request.
     fn call(&mut self, port: u16) -> io::Result<()> {
         for request in self.requests {
-            let client = self.called(port, request)?;
+            let client = self.send(port, request)?;
             self.clients.push(client)?;
         }
         Ok(())
@@ -121,20 +121,20 @@ impl Machine {
     }
 
     // The second that it shows.
-    fn shown(&self) -> io::Result<u64> {
+    fn second(&self) -> io::Result<u64> {
         self.second.ok_or(io::Error::from(ErrorKind::Unsupported))
     }
 }
 
 impl Clock for Machine {
     fn monotonic(&self) -> io::Result<Duration> {
-        let _ = self.shown()?;
+        let _ = self.second()?;
         let read = self.read.get();
         self.read.set(read.saturating_add(1));
         Ok(Duration::from_micros(if read < 2 { 0 } else { self.later }))
     }
 
     fn since_1970(&self) -> io::Result<Duration> {
-        Ok(Duration::from_secs(self.shown()?))
+        Ok(Duration::from_secs(self.second()?))
     }
 }

@@ -7,8 +7,8 @@ use crate::terminal::{Input, NO_INPUT};
 use club_core::{ClubStore, StoreFault};
 use club_http::WriteOutlet;
 use club_store::Store;
-use clubdesk_commands::{Databases, run_with_clock};
-use desk_server::LogLines;
+use clubdesk_commands::run_with_clock;
+use desk_server::{Databases, LogLines};
 use std::alloc::AllocError;
 use std::test::Fail;
 
@@ -231,7 +231,7 @@ fn play_over<S: ClubStore + Drop>(
         opened: databases.opened,
         closed: databases.closed,
         looks: databases.others.looks(),
-        waited: databases.others.waited(),
+        waited: databases.others.seconds_waited(),
     })
 }
 

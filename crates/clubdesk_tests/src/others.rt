@@ -73,7 +73,7 @@ impl<'a> Others<'a> {
     }
 
     /// How many seconds were waited.
-    pub fn waited(&self) -> u64 {
+    pub fn seconds_waited(&self) -> u64 {
         self.waited.get()
     }
 }

@@ -4,9 +4,9 @@ use crate::callers::Caller;
 use crate::served::serve_and_drop;
 use crate::terminal::{Input, NO_INPUT};
 use club_http::WriteOutlet;
-use clubdesk_commands::{Databases, Fault, run};
+use clubdesk_commands::{Fault, run};
 use clubdesk_files::Files;
-use desk_server::LogLines;
+use desk_server::{Databases, LogLines};
 use std::alloc::AllocError;
 use std::net::TcpListener;
 use std::test::Fail;
@@ -71,8 +71,8 @@ impl Output {
         log: Vec<u8>,
     ) -> Result<Output, AllocError> {
         Ok(Output {
-            returned: output_text(rt, outcome, caller.written())?,
-            taken: caller.written().len(),
+            returned: output_text(rt, outcome, caller.written_bytes())?,
+            taken: caller.written_bytes().len(),
             reply: caller.reply(),
             log,
         })

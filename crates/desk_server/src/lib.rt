@@ -1,8 +1,9 @@
 //! The server of the desk: it accepts connections one after the other, each at the moment that the
-//! club's clock shows.
+//! club's clock shows. And where its database is, which it shares with other programs, as a trait.
 #![tactic(auto)]
 
 mod connections;
+mod databases;
 mod idle;
 pub mod laws;
 mod limit;
@@ -14,6 +15,7 @@ mod timed;
 mod zone;
 
 pub use connections::{Accepted, Connection, Connections, Listening};
+pub use databases::Databases;
 pub use idle::IdleHook;
 pub use limit::{Limit, MonotonicClock};
 pub use log::{Fate, Log, LogLines, Unlogged};

@@ -1,10 +1,10 @@
-//! The databases that the commands open, as a trait.
+//! The databases that a server and the office open, as a trait.
 
 use club_core::{ClubStore, StoreFault};
 
-/// The databases that the commands open. One program at a time has one open, so programs take
-/// turns: an opening waits for a while, and meanwhile the other programs see that it wishes for the
-/// database.
+/// Databases that programs open by their names. One program at a time has one open, so programs
+/// take turns: an opening waits for a while, and meanwhile the other programs see that it wishes
+/// for the database.
 pub trait Databases {
     type Store: ClubStore + Drop;
 
@@ -15,7 +15,7 @@ pub trait Databases {
     type Address: Drop;
 
     ghost use Rattle.std.specs.Prelude.{Bool, ℕ, List};
-    ghost use Rattle.clubdesk_commands.specs.AtNeed.{Closing, Opening};
+    ghost use Rattle.desk_server.specs.Databases.{Closing, Opening};
 
     // what opening a name returns, with the databases before and after
     ghost opens: { Opening Self Self.Store };

@@ -1,0 +1,11 @@
+-- What opening and closing databases by their names may do (ours).
+use Rattle.std.specs.Prelude.{ℕ, List, Result}
+use Rattle.club_core.specs.declared.store.StoreFault.{StoreFault}
+
+-- what opening a name returns, with the databases before and after
+abbrev pub Opening : Type 0 → Type 0 → Type 1
+Opening Databases Store = Databases → List ℕ → Result Store StoreFault → Databases → Type 0
+
+-- the databases before and after closing a store
+abbrev pub Closing : Type 0 → Type 0 → Type 1
+Closing Databases Store = Databases → Store → Databases → Type 0
