@@ -25,7 +25,7 @@ use test_kit::{BOOKING_7, BOOKING_8, COURT_AT_18, PlainBooking, PlainRequest, Pl
 pub(crate) struct Row(pub Seen, pub PlainRequest, pub &'static str, pub Expected);
 
 /// The decision of a request by the call for its kind.
-fn decided(view: &View, request: &Request, moment: Moment) -> Verdict {
+fn decision(view: &View, request: &Request, moment: Moment) -> Verdict {
     match request {
         Request::View { slot } => decide_view(view, slot),
         Request::Book {
@@ -47,7 +47,7 @@ fn is_decided(
     moment: Moment,
     want: &Verdict,
 ) {
-    expect_row(rt, number, &decided(view, request, moment), want);
+    expect_row(rt, number, &decision(view, request, moment), want);
     expect_row(rt, number, &decide(view, request, moment), want);
     let verdict = answer(Some(view), true, None, request, moment);
     expect_row(rt, number, &verdict, want);

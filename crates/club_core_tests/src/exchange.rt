@@ -43,7 +43,7 @@ pub(crate) const NO_SUCH_FACILITY: Expected = Expected::Refused(Refusal::NoSuchF
 
 pub(crate) const SLOT_HAS_BEGUN: Expected = Expected::Refused(Refusal::SlotHasBegun);
 
-fn unnamed(alloc: Global) -> Pass {
+fn pass_without_key(alloc: Global) -> Pass {
     Pass {
         key: None,
         caveats: Vec::new(alloc),
@@ -65,7 +65,7 @@ impl Shown {
             Shown::Pass(root, caveats) => {
                 Ok(signed_pass(rt.alloc(), self.key(rt), root, caveats).expect(rt, "a pass"))
             }
-            Shown::Unnamed => Ok(unnamed(rt.alloc())),
+            Shown::Unnamed => Ok(pass_without_key(rt.alloc())),
             Shown::NoPass(fault) => Err(*fault),
         }
     }

@@ -13,7 +13,7 @@ use test_kit::roots::{ROOT, SECOND_ROOT, THIRD_ROOT};
 use test_kit::signed_pass;
 
 /// The key with an older root, which is good until that moment.
-fn rotated(rt: &impl Abort) -> Key {
+fn rotated_key(rt: &impl Abort) -> Key {
     let mut key = key(rt, false);
     key.older = Some(OlderRoot {
         root: root(rt, SECOND_ROOT),
@@ -38,7 +38,7 @@ fn is_signed(rt: &(impl Abort + Alloc<A = Global>), root: &[u8], key: &Key, at: 
 }
 
 fn are_signed(rt: &(impl Abort + Alloc<A = Global>), rows: &[(&[u8], &str, bool)]) {
-    let key = rotated(rt);
+    let key = rotated_key(rt);
     for (number, (bytes, at, good)) in rows.iter().enumerate() {
         let is_signed = is_signed(rt, bytes, &key, moment(rt, at));
         expect_row(rt, number, &is_signed, good);
@@ -58,7 +58,7 @@ fn has_older(rt: &impl Abort, row: usize, key: &Key, at: &str, want: Option<Root
 
 #[test]
 fn older_roots(rt: HostRuntime) {
-    let key = rotated(&rt);
+    let key = rotated_key(&rt);
     has_older(&rt, 0, &key, BEFORE_UNTIL, Some(root(&rt, SECOND_ROOT)));
     has_older(&rt, 1, &key, UNTIL, None);
     has_older(&rt, 2, &self::key(&rt, false), BEFORE_UNTIL, None);

@@ -66,7 +66,7 @@ pub(crate) struct Asking {
 }
 
 impl Asking {
-    pub fn shown(&self) -> Shown {
+    pub fn shown_pass(&self) -> Shown {
         Shown::Of(self.key, self.root, self.caveats)
     }
 }
@@ -111,7 +111,7 @@ impl Numbers {
         SLOTS[(booking % 3) as usize]
     }
 
-    fn asked(&mut self) -> PlainRequest {
+    fn draw_request(&mut self) -> PlainRequest {
         let booking = 1 + self.below(6);
         let slot = self.slot_of(booking);
         match self.below(10) {
@@ -131,14 +131,14 @@ impl Numbers {
     }
 
     // One pass in four is signed under another root than the first.
-    fn asking(&mut self) -> Asking {
+    fn draw_asking(&mut self) -> Asking {
         let is_other = self.below(4) == 0;
         Asking {
             key: KEYS[self.below(4) as usize],
             root: ROOTS[usize::from(is_other)],
             caveats: CAVEATS[self.below(12) as usize],
             form: FORMS[self.below(3) as usize],
-            asked: self.asked(),
+            asked: self.draw_request(),
             moment: self.moment(),
         }
     }
@@ -167,7 +167,7 @@ impl Numbers {
     pub fn event(&mut self) -> Event {
         match self.below(6) {
             0 => Event::Ordered(self.order()),
-            _ => Event::Asked(self.asking()),
+            _ => Event::Asked(self.draw_asking()),
         }
     }
 }

@@ -51,7 +51,7 @@ impl Pair {
         } else {
             play_each(rt, &mut trial, events);
         }
-        trial.audited(rt)
+        trial.into_audit(rt)
     }
 }
 

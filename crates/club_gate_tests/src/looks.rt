@@ -26,7 +26,7 @@ enum Look {
 }
 
 impl Look {
-    fn shown<S: ClubStore>(&self, rt: &impl Abort, desk: &mut Desk<S>) -> Result<String, Fault> {
+    fn show<S: ClubStore>(&self, rt: &impl Abort, desk: &mut Desk<S>) -> Result<String, Fault> {
         match *self {
             Look::Account(key, moment) => {
                 let key = name(rt, key.as_bytes());
@@ -105,7 +105,7 @@ static ROWS: [Row; 5] = [
 ];
 
 fn shows<S: ClubStore>(rt: &impl Abort, desk: &mut Desk<S>, look: &Look, want: &str) {
-    let shown = look.shown(rt, desk).expect(rt, "a look");
+    let shown = look.show(rt, desk).expect(rt, "a look");
     expect_eq(rt, &shown.as_str(), &want);
 }
 
@@ -137,7 +137,7 @@ static UNKNOWN: [Look; 3] = [
 
 fn are_unknown<S: ClubStore>(rt: &impl Abort, desk: &mut Desk<S>) {
     for look in &UNKNOWN {
-        let refused = look.shown(rt, desk).err();
+        let refused = look.show(rt, desk).err();
         expect_eq(rt, &refused, &Some(Fault::Refused(OfficeFault::Unknown)));
     }
 }

@@ -32,7 +32,7 @@ pub(crate) fn pass_of(
     minted(rt.alloc(), &name, signature).expect(rt, "memory")
 }
 
-fn narrowed(
+fn narrowed_pass(
     rt: &(impl Abort + Alloc<A = Global>),
     key: &str,
     root_bytes: &[u8],
@@ -46,7 +46,7 @@ fn narrowed(
 }
 
 /// Amy's pass with its last byte changed.
-fn changed(rt: &(impl Abort + Alloc<A = Global>)) -> Pass {
+fn changed_pass(rt: &(impl Abort + Alloc<A = Global>)) -> Pass {
     let name = name(rt, b"amy-1");
     let mut signature = key_signature(&name, &root(rt, ROOT));
     signature[31] ^= 1;
@@ -54,7 +54,7 @@ fn changed(rt: &(impl Abort + Alloc<A = Global>)) -> Pass {
 }
 
 /// A pass whose identifier is the name of amy's key alone.
-fn unnamed(rt: &(impl Abort + Alloc<A = Global>)) -> Pass {
+fn unnamed_pass(rt: &(impl Abort + Alloc<A = Global>)) -> Pass {
     let root = root(rt, ROOT);
     Pass::mint(rt.alloc(), root.as_bytes(), LOCATION, b"amy-1").expect(rt, "memory")
 }
@@ -67,9 +67,9 @@ pub(crate) fn text_of(rt: &(impl Abort + Alloc<A = Global>), form: Form, pass: &
 impl Shown {
     fn pass(&self, rt: &(impl Abort + Alloc<A = Global>)) -> Pass {
         match *self {
-            Shown::Of(key, root, caveats) => narrowed(rt, key, root, caveats),
-            Shown::Changed => changed(rt),
-            Shown::Unnamed => unnamed(rt),
+            Shown::Of(key, root, caveats) => narrowed_pass(rt, key, root, caveats),
+            Shown::Changed => changed_pass(rt),
+            Shown::Unnamed => unnamed_pass(rt),
         }
     }
 

@@ -44,7 +44,7 @@ pub(crate) fn part_reply(
 }
 
 /// The desk's answer to the office for this answer of the reference machine.
-pub(crate) fn shown(answer: &OfficeAnswer) -> OfficeReply {
+pub(crate) fn desk_reply(answer: &OfficeAnswer) -> OfficeReply {
     match *answer {
         OfficeAnswer::Done => OfficeReply::Done,
         OfficeAnswer::NewKey { name, root } => OfficeReply::Key {
@@ -58,7 +58,7 @@ fn reference_answer(rt: &impl Abort, reference: &mut Club, order: &Order) -> Off
     let answer = reference
         .office(&order.command().expect(rt, "an order"))
         .expect(rt, "memory");
-    shown(&answer)
+    desk_reply(&answer)
 }
 
 fn reference_event_reply(

@@ -31,7 +31,7 @@ struct Failure {
 }
 
 /// The fixture, whose store fails so.
-fn refusing<S: ClubStore>(
+fn failing_desk<S: ClubStore>(
     rt: &(impl Abort + Alloc<A = Global>),
     desk: Desk<S>,
     failure: &Failure,
@@ -76,7 +76,7 @@ fn expect_untouched<S: ClubStore>(rt: &impl Abort, store: &mut S) {
 // Every request and order fails and nothing is changed.
 impl Scene for Failure {
     fn play<S: ClubStore + Drop>(&self, rt: &(impl Abort + Alloc<A = Global>), desk: Desk<S>) {
-        let mut desk = refusing(rt, desk, self);
+        let mut desk = failing_desk(rt, desk, self);
         expect_unavailable(rt, &mut desk);
         expect_failures(rt, &mut desk, self.fault);
         expect_untouched(rt, &mut desk.into_store().into_inner());
@@ -123,7 +123,7 @@ struct FaultsOfForm;
 
 impl Scene for FaultsOfForm {
     fn play<S: ClubStore + Drop>(&self, rt: &(impl Abort + Alloc<A = Global>), desk: Desk<S>) {
-        let mut desk = refusing(rt, desk, &ALWAYS);
+        let mut desk = failing_desk(rt, desk, &ALWAYS);
         expect_refused(rt, &mut desk, b"AgEJ", Refusal::PassMalformed);
         expect_refused(rt, &mut desk, &LONG, Refusal::PassTooLong);
         let store = desk.into_store();

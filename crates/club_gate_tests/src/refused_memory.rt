@@ -39,7 +39,7 @@ fn reply_at_noon<S: ClubStore>(
 const AT_19: PlainSlot = COURT_AT_19;
 
 /// What amy's key sees of the club: her account, and two slots.
-fn seen<S: ClubStore>(rt: &impl Abort, desk: &mut Desk<S>) -> [Reply; 3] {
+fn amys_view<S: ClubStore>(rt: &impl Abort, desk: &mut Desk<S>) -> [Reply; 3] {
     [
         reply_at_noon(rt, desk, AMY_V2, &ACCOUNT),
         reply_at_noon(rt, desk, AMY_V2, &VIEW),
@@ -61,13 +61,13 @@ fn expect_answer<S: ClubStore>(
     order: &Order,
     answer: &OfficeReply,
 ) {
-    let before = seen(rt, desk);
+    let before = amys_view(rt, desk);
     let first = office_reply(rt, desk, order);
     if first != OUT_OF_MEMORY {
         expect_eq(rt, &first, answer);
         return;
     }
-    expect_eq(rt, &seen(rt, desk), &before);
+    expect_eq(rt, &amys_view(rt, desk), &before);
     expect_eq(rt, &office_reply(rt, desk, order), answer);
 }
 
@@ -189,7 +189,7 @@ fn books_in_a_run<S: ClubStore>(rt: &impl Abort, desk: &mut Desk<S>, pass: &str)
 }
 
 /// What is done from the fixture on.
-enum Deed {
+enum Task {
     Orders,
     /// The booking under this pass, by `Desk::ask`.
     Ask(&'static str),
@@ -197,56 +197,56 @@ enum Deed {
     Run(&'static str),
 }
 
-impl Scene for Deed {
+impl Scene for Task {
     fn play<S: ClubStore + Drop>(&self, rt: &(impl Abort + Alloc<A = Global>), mut desk: Desk<S>) {
         expect_answers(rt, &mut desk, &FIXTURE);
         match self {
-            Deed::Orders => carries_out_orders(rt, &mut desk),
-            Deed::Ask(pass) => books(rt, &mut desk, pass),
-            Deed::Run(pass) => books_in_a_run(rt, &mut desk, pass),
+            Task::Orders => carries_out_orders(rt, &mut desk),
+            Task::Ask(pass) => books(rt, &mut desk, pass),
+            Task::Run(pass) => books_in_a_run(rt, &mut desk, pass),
         }
     }
 }
 
 /// Does this over new tables; over others if there was no memory for the first.
-fn perform(rt: &(impl Abort + Alloc<A = Global>), deed: &Deed) {
-    match try_to_play(rt, deed) {
-        Err(StoreFault::Memory) => try_to_play(rt, deed).expect(rt, "a store"),
+fn perform(rt: &(impl Abort + Alloc<A = Global>), task: &Task) {
+    match try_to_play(rt, task) {
+        Err(StoreFault::Memory) => try_to_play(rt, task).expect(rt, "a store"),
         first => first.expect(rt, "a store"),
     }
 }
 
 #[test]
 fn orders(rt: HostRuntime) {
-    perform(&rt, &Deed::Orders);
+    perform(&rt, &Task::Orders);
 }
 
 #[test]
 fn ask_in_v1(rt: HostRuntime) {
-    perform(&rt, &Deed::Ask(AMY_V1));
+    perform(&rt, &Task::Ask(AMY_V1));
 }
 
 #[test]
 fn ask_in_v2(rt: HostRuntime) {
-    perform(&rt, &Deed::Ask(AMY_V2));
+    perform(&rt, &Task::Ask(AMY_V2));
 }
 
 #[test]
 fn ask_in_json(rt: HostRuntime) {
-    perform(&rt, &Deed::Ask(AMY_JSON));
+    perform(&rt, &Task::Ask(AMY_JSON));
 }
 
 #[test]
 fn run_in_v1(rt: HostRuntime) {
-    perform(&rt, &Deed::Run(AMY_V1));
+    perform(&rt, &Task::Run(AMY_V1));
 }
 
 #[test]
 fn run_in_v2(rt: HostRuntime) {
-    perform(&rt, &Deed::Run(AMY_V2));
+    perform(&rt, &Task::Run(AMY_V2));
 }
 
 #[test]
 fn run_in_json(rt: HostRuntime) {
-    perform(&rt, &Deed::Run(AMY_JSON));
+    perform(&rt, &Task::Run(AMY_JSON));
 }

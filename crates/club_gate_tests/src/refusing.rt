@@ -70,7 +70,7 @@ impl<S: ClubStore> Refusing<S> {
         store
     }
 
-    fn called(&mut self) -> Result<(), StoreFault> {
+    fn count_call(&mut self) -> Result<(), StoreFault> {
         count(&mut self.calls);
         if self.calls >= self.first {
             return Err(self.fault);
@@ -92,25 +92,25 @@ impl<S: ClubStore> ClubStore for Refusing<S> {
 
     fn key(&mut self, name: &Name) -> Result<Option<Key>, StoreFault> {
         count(&mut self.asked.keys);
-        self.called()?;
+        self.count_call()?;
         self.store.key(name)
     }
 
     fn member(&mut self, name: &Name) -> Result<Option<Member>, StoreFault> {
         count(&mut self.asked.others);
-        self.called()?;
+        self.count_call()?;
         self.store.member(name)
     }
 
     fn facility(&mut self, name: &Name) -> Result<Option<Facility>, StoreFault> {
         count(&mut self.asked.facilities);
-        self.called()?;
+        self.count_call()?;
         self.store.facility(name)
     }
 
     fn slot(&mut self, slot: &Slot) -> Result<SlotUse, StoreFault> {
         count(&mut self.asked.slots);
-        self.called()?;
+        self.count_call()?;
         self.store.slot(slot)
     }
 
@@ -120,37 +120,37 @@ impl<S: ClubStore> ClubStore for Refusing<S> {
         number: BookingNumber,
     ) -> Result<Option<Booking>, StoreFault> {
         count(&mut self.asked.records);
-        self.called()?;
+        self.count_call()?;
         self.store.booking(key, number)
     }
 
     fn account(&mut self, member: &Name) -> Result<Option<MemberAccount>, StoreFault> {
         count(&mut self.asked.accounts);
-        self.called()?;
+        self.count_call()?;
         self.store.account(member)
     }
 
     fn open_count(&mut self, member: &Name, moment: Moment) -> Result<u64, StoreFault> {
         count(&mut self.asked.open_counts);
-        self.called()?;
+        self.count_call()?;
         self.store.open_count(member, moment)
     }
 
     fn spent(&mut self, key: &Name) -> Result<u64, StoreFault> {
         count(&mut self.asked.spent);
-        self.called()?;
+        self.count_call()?;
         self.store.spent(key)
     }
 
     fn day(&mut self, day: Day) -> Result<Vec<Booking>, StoreFault> {
         count(&mut self.asked.others);
-        self.called()?;
+        self.count_call()?;
         self.store.day(day)
     }
 
     fn apply(&mut self, change: &Change) -> Result<(), StoreFault> {
         count(&mut self.asked.others);
-        self.called()?;
+        self.count_call()?;
         self.store.apply(change)
     }
 }

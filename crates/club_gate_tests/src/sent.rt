@@ -9,7 +9,7 @@ use std::process::Abort;
 /// The text of the pass of an event; an order has none.
 fn text_of(rt: &(impl Abort + Alloc<A = Global>), event: &Event) -> String {
     match event {
-        Event::Asked(asking) => asking.shown().text(rt, asking.form),
+        Event::Asked(asking) => asking.shown_pass().text(rt, asking.form),
         Event::Ordered(_) => String::new(rt.alloc()),
     }
 }
@@ -23,7 +23,7 @@ pub(crate) fn texts_of(rt: &(impl Abort + Alloc<A = Global>), events: &[Event]) 
     texts
 }
 
-fn asked<'a>(rt: &impl Abort, asking: &Asking, text: &'a str) -> SentEvent<'a> {
+fn asked_event<'a>(rt: &impl Abort, asking: &Asking, text: &'a str) -> SentEvent<'a> {
     SentEvent::Asked {
         words: Words {
             pass: text.as_bytes(),
@@ -36,13 +36,13 @@ fn asked<'a>(rt: &impl Abort, asking: &Asking, text: &'a str) -> SentEvent<'a> {
 /// An event as it is sent to the desk, with the text of its pass.
 fn sent_event<'a>(rt: &impl Abort, event: &Event, text: &'a str) -> SentEvent<'a> {
     match event {
-        Event::Asked(asking) => asked(rt, asking, text),
+        Event::Asked(asking) => asked_event(rt, asking, text),
         Event::Ordered(order) => SentEvent::Ordered(order.command().expect(rt, "an order")),
     }
 }
 
 /// Events as they are sent to the desk, each with the text of its pass.
-pub(crate) fn sent<'a>(
+pub(crate) fn sent_events<'a>(
     rt: &(impl Abort + Alloc<A = Global>),
     events: &[Event],
     texts: &'a [String],

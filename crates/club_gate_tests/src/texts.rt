@@ -136,7 +136,7 @@ fn add(rt: &impl Abort, text: &mut String, piece: &str, count: u32) {
 }
 
 /// The text of these pieces with so many caveats, third party's caveats and bytes behind the end.
-fn spelled(
+fn text_of_pieces(
     rt: &(impl Abort + Alloc<A = Global>),
     pieces: &Pieces,
     (caveats, third_parties, more): (u32, u32, u32),
@@ -156,7 +156,7 @@ fn expect_faults<S: ClubStore>(
     pieces: &Pieces,
 ) {
     for (row, (caveats, third_parties, more, refusal)) in FAULTS.iter().enumerate() {
-        let text = spelled(rt, pieces, (*caveats, *third_parties, *more));
+        let text = text_of_pieces(rt, pieces, (*caveats, *third_parties, *more));
         expect_reply(rt, desk, row, text.as_str(), &Reply::Refused(*refusal));
     }
 }

@@ -3,8 +3,8 @@
 use crate::counter::reply;
 use crate::drawn::{AMY, Asking, Event, SLOTS};
 use crate::expect::expect_eq;
-use crate::reference_machine::{part_reply, reference_replies, reference_reply, shown};
-use crate::sent::{sent, texts_of};
+use crate::reference_machine::{desk_reply, part_reply, reference_replies, reference_reply};
+use crate::sent::{sent_events, texts_of};
 use crate::values::{at, name, push};
 use club_core::{ClubStore, OfficeAnswer, OfficeFault, Reply, SlotUse};
 use club_gate::{Desk, EventReply, Fault};
@@ -200,7 +200,7 @@ impl<S: ClubStore> Trial<S> {
 
     /// Compares the stored use of each slot with the sum over the reference machine's bookings, and
     /// goes on with the same club, a desk with an empty cache, and amy's part copied anew.
-    pub fn audited(self, rt: &(impl Abort + Alloc<A = Global>)) -> Trial<S> {
+    pub fn into_audit(self, rt: &(impl Abort + Alloc<A = Global>)) -> Trial<S> {
         let Trial {
             desk,
             reference,
@@ -256,7 +256,7 @@ impl<S: ClubStore> Trial<S> {
     fn order(&mut self, rt: &impl Abort, order: &Order) {
         let command = order.command().expect(rt, "an order");
         let answer = self.reference.office(&command).expect(rt, "memory");
-        expect_eq(rt, &self.desk.office(&command), &shown(&answer));
+        expect_eq(rt, &self.desk.office(&command), &desk_reply(&answer));
         if is_done(&answer) && self.is_own(order) {
             self.order_part(rt, order, &answer);
         }
@@ -264,7 +264,7 @@ impl<S: ClubStore> Trial<S> {
 
     /// The desk's reply to a request.
     fn reply(&mut self, rt: &(impl Abort + Alloc<A = Global>), asking: &Asking) -> Reply {
-        let text = asking.shown().text(rt, asking.form);
+        let text = asking.shown_pass().text(rt, asking.form);
         reply(
             rt,
             &mut self.desk,
@@ -341,7 +341,7 @@ impl<S: ClubStore> Trial<S> {
         events: &[Event],
     ) -> Vec<EventReply> {
         let texts = texts_of(rt, events);
-        let sent = sent(rt, events, texts.as_slice());
+        let sent = sent_events(rt, events, texts.as_slice());
         self.desk.run(sent.as_slice()).expect(rt, "memory")
     }
 

@@ -34,7 +34,7 @@ pub(crate) fn book(rt: &impl Abort, guests: u8) -> Request {
     booking.request().expect(rt, "a request")
 }
 
-fn wanted(rt: &impl Abort, want: &Want) -> Result<Request, Refusal> {
+fn wanted_request(rt: &impl Abort, want: &Want) -> Result<Request, Refusal> {
     let request = match *want {
         Want::View => PlainRequest::View(COURT_AT_18),
         Want::Book(guests) => PlainRequest::Book(COURT_AT_18, 7, guests),
@@ -57,7 +57,10 @@ pub(crate) fn asked_by(routes: &Routes, bytes: &[u8]) -> Result<Request, Refusal
     }
 }
 
-pub(crate) fn asked(rt: &(impl Abort + AllocGlobal), bytes: &[u8]) -> Result<Request, Refusal> {
+pub(crate) fn request_in(
+    rt: &(impl Abort + AllocGlobal),
+    bytes: &[u8],
+) -> Result<Request, Refusal> {
     asked_by(&routes(rt), bytes)
 }
 
@@ -95,7 +98,12 @@ pub(crate) fn asked_in_two(
 
 /// The request asks for this.
 pub(crate) fn asks(rt: &(impl Abort + AllocGlobal), text: &str, want: &Want) {
-    expect_row(rt, &asked(rt, text.as_bytes()), &wanted(rt, want), &text);
+    expect_row(
+        rt,
+        &request_in(rt, text.as_bytes()),
+        &wanted_request(rt, want),
+        &text,
+    );
 }
 
 /// Whole requests, and what each asks for.

@@ -1,9 +1,9 @@
 //! Bookings: whole, cut short, and with odd bodies.
 
 use crate::asked::{
-    BAD_REQUEST, Want, asked, asked_by, asked_in_two, asks, book, carries, is_whole,
+    BAD_REQUEST, Want, asked_by, asked_in_two, asks, book, carries, is_whole, request_in,
 };
-use crate::rows::{expect_row, joined};
+use crate::rows::{expect_row, join};
 use club_core::Refusal;
 use http_request::Routes;
 use std::process::Abort;
@@ -22,7 +22,7 @@ fn a_booking(rt: HostRuntime) {
 fn is_cut(rt: &(impl Abort + AllocGlobal), bytes: &[u8]) {
     expect_row(
         rt,
-        &asked(rt, bytes),
+        &request_in(rt, bytes),
         &Err(Refusal::BadRequest),
         &bytes.len(),
     );
@@ -60,7 +60,7 @@ fn in_two_pieces(rt: HostRuntime) {
 static BEHIND: [usize; 3] = [1, 1_000, 100_000];
 
 fn is_booked_with(rt: &(impl Abort + AllocGlobal), behind: usize) {
-    let text = joined(rt, &[(1, BOOKING), (behind, "x")]);
+    let text = join(rt, &[(1, BOOKING), (behind, "x")]);
     asks(rt, text.as_str(), &Want::Book(2));
     asks_in_two(rt, text.as_bytes(), 100);
 }
@@ -139,7 +139,7 @@ static SPACES: [(usize, Want); 2] = [(244, Want::Book(2)), (245, BAD_REQUEST)];
 
 fn ask_by_spaces(rt: &(impl Abort + AllocGlobal), rows: &[(usize, Want)]) {
     for (spaces, want) in rows {
-        let body = joined(rt, &[(1, "{\"guests\":2"), (*spaces, " "), (1, "}")]);
+        let body = join(rt, &[(1, "{\"guests\":2"), (*spaces, " "), (1, "}")]);
         ask_with(rt, body.as_str(), want);
     }
 }
@@ -168,7 +168,7 @@ pub(crate) static LONGEST: [Piece; 7] = [
 // The longest request that the desk takes: it is whole, and one byte short it isn't.
 #[test]
 fn longest(rt: HostRuntime) {
-    let text = joined(&rt, &LONGEST);
+    let text = join(&rt, &LONGEST);
     let bytes = text.as_bytes();
     expect_row(&rt, &bytes.len(), &16_640, &"the longest");
     asks(&rt, text.as_str(), &Want::Book(2));

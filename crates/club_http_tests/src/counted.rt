@@ -5,7 +5,7 @@ mod reading;
 
 use crate::expect::{expect_bytes, expect_eq, expect_shown};
 use crate::rows::moment;
-use crate::sockets::{client_of, expect_reply, listening};
+use crate::sockets::{client_of, expect_reply, loopback_listener};
 use club_core::{Refusal, Reply, Request};
 use club_http::{AnswerFault, Face, Inlet, Outlet, ReadInlet, WriteOutlet, answer};
 use doubles::{Counting, Narrow, Pieces, ROOM};
@@ -22,7 +22,7 @@ const BOOKING: &str = "PUT /slots/court-1/2026-05-01/18/bookings/7 HTTP/1.1\r\nH
 
 const _: () = prove!(BOOKING.len() == 128);
 
-fn booked(rt: &impl Abort) -> Reply {
+fn booked_reply(rt: &impl Abort) -> Reply {
     replies::BOOKED_7.reply().expect(rt, "a reply")
 }
 
@@ -50,7 +50,7 @@ const IS_UNAVAILABLE: ExchangeResult = ExchangeResult::Refused(Refusal::Unavaila
 impl ExchangeResult {
     fn outcome(&self, rt: &impl Abort) -> Result<Reply, AnswerFault> {
         match self {
-            ExchangeResult::Booked => Ok(booked(rt)),
+            ExchangeResult::Booked => Ok(booked_reply(rt)),
             ExchangeResult::Refused(refusal, _) => Ok(Reply::Refused(*refusal)),
             ExchangeResult::NoRequest => Err(AnswerFault::Read),
             ExchangeResult::CutOff(len) => Err(AnswerFault::Write(*len)),
@@ -65,7 +65,7 @@ impl ExchangeResult {
         }
     }
 
-    fn written(&self, rt: &impl Abort) -> &'static [u8] {
+    fn reply_bytes(&self, rt: &impl Abort) -> &'static [u8] {
         match self {
             ExchangeResult::Booked => BOOKED_7.as_bytes(),
             ExchangeResult::Refused(_, text) => text.as_bytes(),
@@ -88,12 +88,17 @@ impl ExchangeResult {
         expect_eq(rt, outcome, &self.outcome(rt));
         expect_eq(rt, &desk.last, &self.last(rt));
         expect_eq(rt, &desk.asked, &u64::from(desk.last.is_some()));
-        expect_bytes(rt, writer.written(), self.written(rt), "the booking");
+        expect_bytes(
+            rt,
+            writer.written_bytes(),
+            self.reply_bytes(rt),
+            "the booking",
+        );
     }
 }
 
 /// An exchange with this desk.
-fn exchanged<R: Inlet, W: Outlet>(
+fn exchange_with<R: Inlet, W: Outlet>(
     rt: &(impl Abort + Alloc<A = Global>),
     desk: &mut Counting,
     reader: &mut R,
@@ -110,8 +115,8 @@ fn exchange_returns(
     writer: &mut Narrow,
     returned: &ExchangeResult,
 ) {
-    let mut desk = Counting::new(booked(rt));
-    let outcome = exchanged(rt, &mut desk, reader, writer);
+    let mut desk = Counting::new(booked_reply(rt));
+    let outcome = exchange_with(rt, &mut desk, reader, writer);
     returned.expect(rt, &outcome, &desk, writer);
 }
 
@@ -155,7 +160,7 @@ fn short_writes(rt: HostRuntime) {
 
 /// The booking's reply, or that of `Unavailable`, and then the desk wasn't asked.
 fn is_booked_or_unavailable(rt: &impl Abort, face: &mut Face) {
-    let mut desk = Counting::new(booked(rt));
+    let mut desk = Counting::new(booked_reply(rt));
     let mut reader = Pieces::new(BOOKING.as_bytes(), 600, false);
     let mut writer = Narrow::new(ROOM);
     let outcome = answer(face, &mut desk, moment(rt, NOON), &mut reader, &mut writer);
@@ -183,17 +188,17 @@ fn names_of_faults(rt: HostRuntime) {
 /// The next connection of the listener has its exchange.
 fn answers_one(rt: &(impl Abort + Alloc<A = Global>), listener: &TcpListener) {
     let (stream, _) = listener.accept().expect(rt, "a connection");
-    let mut desk = Counting::new(booked(rt));
+    let mut desk = Counting::new(booked_reply(rt));
     let mut reader = ReadInlet::new(&stream);
     let mut writer = WriteOutlet::new(&stream);
-    let outcome = exchanged(rt, &mut desk, &mut reader, &mut writer);
-    expect_eq(rt, &outcome, &Ok(booked(rt)));
+    let outcome = exchange_with(rt, &mut desk, &mut reader, &mut writer);
+    expect_eq(rt, &outcome, &Ok(booked_reply(rt)));
 }
 
 /// Over a socket: bound, connected, written, accepted, answered and read, one after the other.
 #[test]
 fn over_a_socket(rt: HostRuntime) {
-    let listener = listening(&rt);
+    let listener = loopback_listener(&rt);
     let mut client = client_of(&rt, &listener, BOOKING.as_bytes());
     answers_one(&rt, &listener);
     expect_reply(&rt, &mut client, BOOKED_7.as_bytes());

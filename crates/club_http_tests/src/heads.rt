@@ -1,7 +1,7 @@
 //! Heads of requests: where they end, their line and their fields.
 
 use crate::asked::{BAD_REQUEST, NO_PASS, PASS, Want, ask, asks, carries, is_whole};
-use crate::rows::{expect_row, joined};
+use crate::rows::{expect_row, join};
 use std::process::Abort;
 use test_kit::Piece;
 
@@ -48,7 +48,7 @@ static WHOLE: [Whole; 20] = [
 
 fn are_whole(rt: &(impl Abort + AllocGlobal), rows: &[Whole]) {
     for (pieces, whole) in rows {
-        let text = joined(rt, pieces);
+        let text = join(rt, pieces);
         let bytes = text.as_bytes();
         expect_row(rt, &is_whole(bytes, 0), whole, pieces);
         expect_row(
@@ -100,7 +100,7 @@ static LIMITS: [(&[Piece], Want); 3] = [
 
 fn ask_in_pieces(rt: &(impl Abort + AllocGlobal), rows: &[(&'static [Piece], Want)]) {
     for (pieces, want) in rows {
-        asks(rt, joined(rt, pieces).as_str(), want);
+        asks(rt, join(rt, pieces).as_str(), want);
     }
 }
 
@@ -144,7 +144,7 @@ static LINES: [(&str, Want); 5] = [
 // Lines of requests that carry a pass.
 fn ask_by_line(rt: &(impl Abort + AllocGlobal), rows: &[(&'static str, Want)]) {
     for (line, want) in rows {
-        let text = joined(rt, &[(1, line), (1, "\r\n"), (1, PASS), (1, "\r\n")]);
+        let text = join(rt, &[(1, line), (1, "\r\n"), (1, PASS), (1, "\r\n")]);
         asks(rt, text.as_str(), want);
     }
 }
@@ -156,7 +156,7 @@ fn heads(rt: HostRuntime) {
 }
 
 fn account(rt: &(impl Abort + AllocGlobal), fields: &'static str) -> String {
-    joined(
+    join(
         rt,
         &[(1, "GET /account HTTP/1.1\r\n"), (1, fields), (1, "\r\n")],
     )

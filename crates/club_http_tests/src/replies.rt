@@ -43,17 +43,17 @@ enum ReplyFields {
     },
 }
 
-fn booked(rt: &impl Abort, number: u32, charge: u32, left: u8) -> Reply {
+fn booked_reply(rt: &impl Abort, number: u32, charge: u32, left: u8) -> Reply {
     let reply = PlainReply::Booked("amy-1", number, charge, left);
     reply.reply().expect(rt, "a reply")
 }
 
-fn cancelled(rt: &impl Abort, number: u32, refund: u32) -> Reply {
+fn cancelled_reply(rt: &impl Abort, number: u32, refund: u32) -> Reply {
     let reply = PlainReply::Cancelled("amy-1", number, refund);
     reply.reply().expect(rt, "a reply")
 }
 
-fn shown(rt: &impl Abort, hour: u8, taken: u64, closed: bool) -> Reply {
+fn slot_reply(rt: &impl Abort, hour: u8, taken: u64, closed: bool) -> Reply {
     Reply::SlotShown {
         slot: slot_at(rt, hour),
         kind: Kind::Court,
@@ -70,13 +70,13 @@ fn reply(rt: &impl Abort, reply_fields: &ReplyFields) -> Reply {
             number,
             charge,
             left,
-        } => booked(rt, number, charge, left),
-        ReplyFields::Cancelled { number, refund } => cancelled(rt, number, refund),
+        } => booked_reply(rt, number, charge, left),
+        ReplyFields::Cancelled { number, refund } => cancelled_reply(rt, number, refund),
         ReplyFields::Slot {
             hour,
             taken,
             closed,
-        } => shown(rt, hour, taken, closed),
+        } => slot_reply(rt, hour, taken, closed),
         ReplyFields::Account {
             member,
             balance,
@@ -119,7 +119,7 @@ fn a_booking_has_133_bytes(rt: HostRuntime) {
     let text =
         "HTTP/1.1 200 OK\r\nContent-Type: application/json\r\nContent-Length: 43\r\nConnection: close\r\n\r\n\
         {\"booking\":\"amy-1/7\",\"charge\":600,\"left\":1}";
-    has_len(&rt, &booked(&rt, 7, 600, 1), text, 133);
+    has_len(&rt, &booked_reply(&rt, 7, 600, 1), text, 133);
 }
 
 #[test]
@@ -216,7 +216,7 @@ fn serve(rt: &(impl Abort + AllocGlobal), rows: &[(ReplyFields, usize, &'static 
 }
 
 #[test]
-fn served(rt: HostRuntime) {
+fn served_replies(rt: HostRuntime) {
     serve(&rt, &SERVED);
 }
 
@@ -350,7 +350,7 @@ static REFUSED: [Refused; 18] = [
 ];
 
 #[test]
-fn refused(rt: HostRuntime) {
+fn refused_replies(rt: HostRuntime) {
     refuse(&rt, "", &REFUSED);
 }
 

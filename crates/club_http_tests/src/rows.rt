@@ -16,8 +16,8 @@ pub(crate) fn expect_row<T: PartialEq + Debug>(
 }
 
 /// The pieces, one behind the other.
-pub(crate) fn joined(rt: &(impl Abort + AllocGlobal), pieces: &[Piece]) -> String {
-    test_kit::joined(rt.alloc(), pieces).expect(rt, "memory")
+pub(crate) fn join(rt: &(impl Abort + AllocGlobal), pieces: &[Piece]) -> String {
+    test_kit::join(rt.alloc(), pieces).expect(rt, "memory")
 }
 
 pub(crate) fn name(rt: &impl Abort, text: &[u8]) -> Name {

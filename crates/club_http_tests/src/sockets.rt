@@ -6,14 +6,14 @@ use std::io::{Read, Write};
 use std::net::{Net, TcpListener, TcpStream};
 use std::process::Abort;
 
-pub(crate) fn listening(
+pub(crate) fn loopback_listener(
     rt: &(impl Abort + Net<Listener = TcpListener, Stream = TcpStream>),
 ) -> TcpListener {
     TcpListener::bind(rt, "127.0.0.1:0").expect(rt, "a listener")
 }
 
 /// A client that is connected.
-pub(crate) fn connected(
+pub(crate) fn connect(
     rt: &(impl Abort + Net<Listener = TcpListener, Stream = TcpStream>),
     listener: &TcpListener,
 ) -> TcpStream {
@@ -27,7 +27,7 @@ pub(crate) fn client_of(
     listener: &TcpListener,
     bytes: &[u8],
 ) -> TcpStream {
-    let mut client = connected(rt, listener);
+    let mut client = connect(rt, listener);
     client.write_all(bytes).expect(rt, "a request that is sent");
     client
 }

@@ -3,7 +3,7 @@
 use crate::answers::Answer;
 use crate::expect::{expect_eq, expect_reply};
 use crate::messages::{AMY, AMY_CHANGED, BOB, Step};
-use crate::play::{opened, plays};
+use crate::play::{fixture_club, plays};
 use club_core::{Event, EventReply, SlotUse};
 use club_reference::Club;
 use club_values::{Name, Slot};
@@ -76,7 +76,7 @@ static BESIDE_BOB: [Step; 3] = [
 
 #[test]
 fn a_part_sees_what_others_hold(rt: HostRuntime) {
-    let mut club = opened(&rt);
+    let mut club = fixture_club(&rt);
     plays(&rt, &mut club, &BOB_BOOKS);
     others_hold(&rt, &club, COURT_AT_18.slot(), ONE_PLACE);
     plays_alone(&rt, &mut amys_part(&rt, &club), ONE_PLACE, &BESIDE_BOB);
@@ -88,7 +88,7 @@ static BOB_IS_UNKNOWN: [Step; 1] = [Step::Asks(NOON, BOB, ACCOUNT, NOT_VERIFIED)
 
 #[test]
 fn a_part_has_no_rows_of_others(rt: HostRuntime) {
-    let mut club = opened(&rt);
+    let mut club = fixture_club(&rt);
     plays(&rt, &mut club, &BOB_BOOKS);
     others_hold(&rt, &club, None, NOTHING);
     let mut part = amys_part(&rt, &club);
@@ -121,7 +121,7 @@ static AFTER_ROTATION: [Step; 4] = [
 /// which there is no such rotation.
 #[test]
 fn rotates_the_key_of_another(rt: HostRuntime) {
-    let mut club = opened(&rt);
+    let mut club = fixture_club(&rt);
     let mut part = amys_part(&rt, &club);
     plays(&rt, &mut club, &CY_ROTATES);
     others_hold(&rt, &club, None, NOTHING);
@@ -140,7 +140,7 @@ static STILL_BOOKED: [Step; 1] = [Step::Asks(NOON, AMY, ACCOUNT, ACCOUNT_AFTER)]
 
 #[test]
 fn a_duplicate_is_independent(rt: HostRuntime) {
-    let mut club = opened(&rt);
+    let mut club = fixture_club(&rt);
     plays(&rt, &mut club, &AMY_BOOKS);
     let mut other = club.duplicate().expect(&rt, "memory");
     plays(&rt, &mut other, &AMY_CANCELS);

@@ -64,7 +64,7 @@ fn carry_out(rt: &impl Abort, club: &mut Club, order: &Order) {
 }
 
 /// The club of the fixture.
-pub(crate) fn opened(rt: &(impl Abort + Alloc<A = Global>)) -> Club {
+pub(crate) fn fixture_club(rt: &(impl Abort + Alloc<A = Global>)) -> Club {
     let mut club = Club::new(rt.alloc());
     for order in &FIXTURE {
         carry_out(rt, &mut club, order);
@@ -74,9 +74,9 @@ pub(crate) fn opened(rt: &(impl Abort + Alloc<A = Global>)) -> Club {
 
 /// Ends the test unless a club of the fixture gives the replies of these steps, by each call.
 pub(crate) fn plays_by_each_call(rt: &(impl Abort + Alloc<A = Global>), steps: &[Step]) {
-    plays(rt, &mut opened(rt), steps);
-    plays_events(rt, &mut opened(rt), steps);
-    plays_at_once(rt, &mut opened(rt), steps);
+    plays(rt, &mut fixture_club(rt), steps);
+    plays_events(rt, &mut fixture_club(rt), steps);
+    plays_at_once(rt, &mut fixture_club(rt), steps);
 }
 
 /// The same of a worked list.

@@ -10,7 +10,11 @@ use std::process::Abort;
 use std::test::Fail;
 
 /// What an opening leaves if it fails.
-fn opening(host: &HostRuntime, rt: &(impl Abort + Alloc<A = Global>), path: &str) -> Option<Left> {
+fn left_by_opening(
+    host: &HostRuntime,
+    rt: &(impl Abort + Alloc<A = Global>),
+    path: &str,
+) -> Option<Left> {
     match plays_in_file(host, rt, path, &[]) {
         Ok(()) => None,
         Err((_, left)) => Some(left),
@@ -26,7 +30,11 @@ struct Reopening<'a> {
 
 impl FileWork for Reopening<'_> {
     fn work<S: Alter>(&self, rt: &(impl Abort + Alloc<A = Global>), _first: &mut Store<S>) {
-        expect_eq(rt, &opening(self.host, rt, self.path), &Some(Left::Held));
+        expect_eq(
+            rt,
+            &left_by_opening(self.host, rt, self.path),
+            &Some(Left::Held),
+        );
     }
 }
 
@@ -37,11 +45,11 @@ fn a_held_file(rt: HostRuntime) -> Result<(), Fail> {
     let path = path.as_str();
     let second = Reopening { host: &rt, path };
     expect_eq(&rt, &do_in_file(&rt, &rt, path, &second), &Ok(()));
-    expect_eq(&rt, &opening(&rt, &rt, path), &None);
+    expect_eq(&rt, &left_by_opening(&rt, &rt, path), &None);
     remove(&rt, path)?;
-    expect_eq(&rt, &opening(&rt, &rt, "/"), &Some(Left::Nothing));
+    expect_eq(&rt, &left_by_opening(&rt, &rt, "/"), &Some(Left::Nothing));
     fs::write(&rt, path, [b'x'; 100])?;
-    expect_eq(&rt, &opening(&rt, &rt, path), &Some(Left::Files));
+    expect_eq(&rt, &left_by_opening(&rt, &rt, path), &Some(Left::Files));
     let _ = fs::remove_file(&rt, path);
     Ok(())
 }

@@ -3,7 +3,7 @@
 
 use crate::databases::{database_after, runs};
 use crate::rows::{day, moment, name, number, slot};
-use crate::steps::adopted;
+use crate::steps::adopt;
 use club_core::{Request, StoreFault};
 use club_store::Store;
 use sqlite::MemStore;
@@ -226,7 +226,7 @@ fn fault_of(rt: &impl Abort, store: &mut Store<MemStore>, read: Read) -> Option<
 fn ends(rt: &(impl Abort + Alloc<A = Global>), (text, read): &Changed, want: Option<StoreFault>) {
     let mut connection = database_after(rt, &[&TABLES, &ROWS]);
     runs(rt, &mut connection, &[*text]);
-    let fault = fault_of(rt, &mut adopted(rt, connection), *read);
+    let fault = fault_of(rt, &mut adopt(rt, connection), *read);
     assert_eq!(rt; fault, want, "{text}");
 }
 

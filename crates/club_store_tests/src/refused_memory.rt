@@ -25,7 +25,7 @@ static MIGRATED: [Step; 3] = [
 static NOBODY: [Step; 1] = [Step::Shows(Shown::Member(None))];
 
 /// What the store over these shows.
-fn shown(contents: Contents) -> &'static [Step] {
+fn steps_shown(contents: Contents) -> &'static [Step] {
     match contents {
         Contents::Nothing => &NOBODY,
         Contents::First | Contents::Unindexed | Contents::Second => &MIGRATED,
@@ -34,7 +34,7 @@ fn shown(contents: Contents) -> &'static [Step] {
 
 /// The store over a database that holds this, by the second opening where the first is out of
 /// memory.
-fn opened(rt: &(impl Abort + Alloc<A = Global>), contents: Contents) -> Store<MemStore> {
+fn adopted_store(rt: &(impl Abort + Alloc<A = Global>), contents: Contents) -> Store<MemStore> {
     match Store::adopt(rt.alloc(), database(rt, contents)) {
         Ok(store) => store,
         Err((fault, mut left)) => {
@@ -46,7 +46,7 @@ fn opened(rt: &(impl Abort + Alloc<A = Global>), contents: Contents) -> Store<Me
 }
 
 fn opens_in_memory(rt: &(impl Abort + Alloc<A = Global>), contents: Contents) {
-    plays(rt, &mut opened(rt, contents), shown(contents));
+    plays(rt, &mut adopted_store(rt, contents), steps_shown(contents));
 }
 
 #[test]
@@ -93,7 +93,7 @@ fn opens_at(
     path: &str,
     contents: Contents,
 ) {
-    let steps = shown(contents);
+    let steps = steps_shown(contents);
     if let Err((fault, _)) = plays_in_file(host, rt, path, steps) {
         expect_eq(rt, &fault, &StoreFault::Memory);
         expect_eq(rt, &plays_in_file(host, rt, path, steps), &Ok(()));

@@ -268,7 +268,7 @@ impl Start {
 }
 
 /// A new store of this club.
-fn started(rt: &(impl Abort + Alloc<A = Global>), start: Start) -> Store<MemStore> {
+fn store_at_start(rt: &(impl Abort + Alloc<A = Global>), start: Start) -> Store<MemStore> {
     let mut store = Store::open_in_memory(rt.alloc()).expect(rt, "a store");
     for steps in &start.steps() {
         plays(rt, &mut store, steps);
@@ -277,7 +277,7 @@ fn started(rt: &(impl Abort + Alloc<A = Global>), start: Start) -> Store<MemStor
 }
 
 /// The store over a database that it takes over.
-pub(crate) fn adopted(
+pub(crate) fn adopt(
     rt: &(impl Abort + Alloc<A = Global>),
     connection: Connection<MemStore>,
 ) -> Store<MemStore> {
@@ -298,7 +298,7 @@ fn plays_openings(
     };
     plays(rt, &mut store, first);
     for steps in others {
-        store = adopted(rt, store.into_connection());
+        store = adopt(rt, store.into_connection());
         plays(rt, &mut store, steps);
     }
 }
@@ -309,7 +309,7 @@ pub(crate) fn plays_from(
     start: Start,
     openings: &[&[Step]],
 ) {
-    plays_openings(rt, started(rt, start), openings);
+    plays_openings(rt, store_at_start(rt, start), openings);
 }
 
 /// Plays the steps of each opening of the store over a database that holds this.
@@ -318,5 +318,5 @@ pub(crate) fn plays_opened(
     contents: Contents,
     openings: &[&[Step]],
 ) {
-    plays_openings(rt, adopted(rt, database(rt, contents)), openings);
+    plays_openings(rt, adopt(rt, database(rt, contents)), openings);
 }

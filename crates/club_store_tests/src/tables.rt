@@ -83,7 +83,7 @@ impl Tables {
         Tables { conn }
     }
 
-    fn filled(rt: &(impl Abort + Alloc<A = Global>)) -> Tables {
+    fn with_rows(rt: &(impl Abort + Alloc<A = Global>)) -> Tables {
         let mut tables = Tables::empty(rt);
         tables.plays_all(rt, &FILLS);
         tables
@@ -106,10 +106,10 @@ impl Tables {
     }
 
     fn makes(&mut self, rt: &impl Abort, change: &Change) {
-        expect_eq(rt, &self.made(change), &Ok(()));
+        expect_eq(rt, &self.make(change), &Ok(()));
     }
 
-    fn made(&mut self, change: &Change) -> Result<(), StoreFault> {
+    fn make(&mut self, change: &Change) -> Result<(), StoreFault> {
         let conn = &mut self.conn;
         match change {
             Change::InsertMember(member) => writes::insert_member(conn, member),
@@ -221,5 +221,5 @@ pub(crate) fn plays_empty(rt: &(impl Abort + Alloc<A = Global>), steps: &[Step])
 
 /// Plays the steps over the filled tables.
 pub(crate) fn plays_filled(rt: &(impl Abort + Alloc<A = Global>), steps: &[Step]) {
-    Tables::filled(rt).plays_all(rt, steps);
+    Tables::with_rows(rt).plays_all(rt, steps);
 }

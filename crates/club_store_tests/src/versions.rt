@@ -4,7 +4,7 @@
 use crate::databases::{Contents, database, runs, version};
 use crate::expect::expect_eq;
 use crate::rows::{AMY_1, Kept, Older};
-use crate::steps::{Asked, Shown, Start, Step, adopted, plays_from, plays_opened};
+use crate::steps::{Asked, Shown, Start, Step, adopt, plays_from, plays_opened};
 use crate::write::Write;
 use club_core::StoreFault;
 use club_store::Store;
@@ -28,11 +28,11 @@ fn expect_indexes(rt: &impl Abort, connection: &mut Connection<MemStore>, want: 
 }
 
 /// The database behind a store that opened it. Ends the test unless it has the index.
-fn indexed(
+fn indexed_database(
     rt: &(impl Abort + Alloc<A = Global>),
     connection: Connection<MemStore>,
 ) -> Connection<MemStore> {
-    let mut opened = adopted(rt, connection).into_connection();
+    let mut opened = adopt(rt, connection).into_connection();
     expect_indexes(rt, &mut opened, 1);
     opened
 }
@@ -41,8 +41,8 @@ fn indexed(
 fn gets_the_index(rt: &(impl Abort + Alloc<A = Global>), contents: Contents) {
     let mut connection = database(rt, contents);
     expect_indexes(rt, &mut connection, 0);
-    let opened = indexed(rt, connection);
-    let _again = indexed(rt, opened);
+    let opened = indexed_database(rt, connection);
+    let _again = indexed_database(rt, opened);
 }
 
 #[test]

@@ -23,20 +23,20 @@ pub(crate) enum Write {
     Cancel(PlainBooking, u32),
 }
 
-fn credited(rt: &impl Abort, points: u32) -> Change {
+fn credit_change(rt: &impl Abort, points: u32) -> Change {
     Change::AddCredit {
         member: name(rt, "amy"),
         points,
     }
 }
 
-fn revoked(rt: &impl Abort) -> Change {
+fn revoke_change(rt: &impl Abort) -> Change {
     Change::MarkRevoked {
         key: name(rt, "amy-1"),
     }
 }
 
-fn rotated(rt: &impl Abort, key: &str, former: &Older, to: &[u8]) -> Change {
+fn rotate_change(rt: &impl Abort, key: &str, former: &Older, to: &[u8]) -> Change {
     Change::ReplaceRoot {
         key: name(rt, key),
         former: root(rt, former.0),
@@ -45,14 +45,14 @@ fn rotated(rt: &impl Abort, key: &str, former: &Older, to: &[u8]) -> Change {
     }
 }
 
-fn booked(rt: &impl Abort, booked: &PlainBooking) -> Change {
+fn booking_change(rt: &impl Abort, booked: &PlainBooking) -> Change {
     Change::InsertBooking {
         booking: booking(rt, booked),
         member: name(rt, "amy"),
     }
 }
 
-fn cancelled(rt: &impl Abort, booked: &PlainBooking, refund: u32) -> Change {
+fn cancel_change(rt: &impl Abort, booked: &PlainBooking, refund: u32) -> Change {
     Change::MarkCancelled {
         booking: booking(rt, booked),
         member: name(rt, "amy"),
@@ -63,13 +63,13 @@ fn cancelled(rt: &impl Abort, booked: &PlainBooking, refund: u32) -> Change {
 pub(crate) fn change(rt: &impl Abort, write: &Write) -> Change {
     match write {
         Write::Member(credited) => Change::InsertMember(member(rt, *credited)),
-        Write::Credit(points) => credited(rt, *points),
+        Write::Credit(points) => credit_change(rt, *points),
         Write::Facility(place) => Change::InsertFacility(facility(rt, place)),
         Write::Key(kept) => Change::InsertKey(key(rt, kept)),
-        Write::Revoke => revoked(rt),
-        Write::Rotate(key, former, to) => rotated(rt, key, former, to),
+        Write::Revoke => revoke_change(rt),
+        Write::Rotate(key, former, to) => rotate_change(rt, key, former, to),
         Write::Close(at) => Change::MarkClosed(slot(rt, at)),
-        Write::Book(row) => booked(rt, row),
-        Write::Cancel(row, refund) => cancelled(rt, row, *refund),
+        Write::Book(row) => booking_change(rt, row),
+        Write::Cancel(row, refund) => cancel_change(rt, row, *refund),
     }
 }

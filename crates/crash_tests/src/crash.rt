@@ -93,7 +93,7 @@ fn after(rt: &(impl Abort + Alloc<A = Global>), bytes: &Bytes, work: Work) -> By
 }
 
 /// The lines of texts.
-fn owned(rt: &(impl Abort + Alloc<A = Global>), lines: &[&str]) -> Vec<String> {
+fn owned_lines(rt: &(impl Abort + Alloc<A = Global>), lines: &[&str]) -> Vec<String> {
     let mut owned = Vec::new(rt.alloc());
     for line in lines {
         push(rt, &mut owned, text(rt, String::from_str(rt.alloc(), line)));
@@ -126,13 +126,13 @@ fn found_from(
     replies: &[&str],
     club: &Club,
 ) -> Vec<String> {
-    append(rt, &mut rows, owned(rt, replies));
+    append(rt, &mut rows, owned_lines(rt, replies));
     append(rt, &mut rows, lines_of(rt, club, Version::Second));
     rows
 }
 
 impl Trial {
-    fn prepared(&self, rt: &(impl Abort + Alloc<A = Global>)) -> Prepared {
+    fn prepare(&self, rt: &(impl Abort + Alloc<A = Global>)) -> Prepared {
         let mut club = self.beginning.club(rt);
         let before = lines_of(rt, &club, self.beginning.version());
         replies(rt, &mut club, self.task);
@@ -146,7 +146,7 @@ impl Trial {
 
     /// The replies if the task is done: the first of those to the task again.
     fn replies(&self, rt: &(impl Abort + Alloc<A = Global>)) -> Vec<String> {
-        let mut wanted = owned(rt, self.first);
+        let mut wanted = owned_lines(rt, self.first);
         wanted.truncate(self.task.len());
         wanted
     }
@@ -237,7 +237,7 @@ impl Trial {
 
     /// Ends the test unless the club is whole wherever one of the files fails.
     pub fn holds(&self, rt: &(impl Abort + Alloc<A = Global>)) {
-        let prepared = self.prepared(rt);
+        let prepared = self.prepare(rt);
         let found = self.found_in(rt, &prepared.bytes);
         expect_case(
             rt,

@@ -37,7 +37,7 @@ pub(crate) fn words_in<'a>(rt: &(impl Abort + Alloc<A = Global>), bytes: &'a str
 }
 
 /// The reply to a request's bytes, by `Desk::ask`.
-fn asked<S: ClubStore>(
+fn ask<S: ClubStore>(
     rt: &(impl Abort + Alloc<A = Global>),
     desk: &mut Desk<S>,
     at: &str,
@@ -49,7 +49,7 @@ fn asked<S: ClubStore>(
 }
 
 /// The reply to a request's bytes, by `answer`, which writes the reply and nothing else.
-fn exchanged<S: ClubStore>(
+fn exchange<S: ClubStore>(
     rt: &(impl Abort + Alloc<A = Global>),
     desk: &mut Desk<S>,
     at: &str,
@@ -77,8 +77,8 @@ fn reply<S: ClubStore>(
             let command = order.command().expect(rt, "an order");
             office_text(rt, &desk.office(&command))
         }
-        Event::Asks(at, bytes) => asked(rt, desk, at, bytes),
-        Event::Exchanges(at, bytes) => exchanged(rt, desk, at, bytes),
+        Event::Asks(at, bytes) => ask(rt, desk, at, bytes),
+        Event::Exchanges(at, bytes) => exchange(rt, desk, at, bytes),
     }
 }
 

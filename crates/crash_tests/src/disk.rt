@@ -94,7 +94,10 @@ pub(crate) fn has_calls_left(files: &mut Files<Stops>, part: Part) -> bool {
 }
 
 /// What remains after a restart of the machine: what wasn't synced is lost.
-pub(crate) fn restarted(rt: &(impl Abort + Alloc<A = Global>), mut files: Files<Stops>) -> Bytes {
+pub(crate) fn bytes_after_restart(
+    rt: &(impl Abort + Alloc<A = Global>),
+    mut files: Files<Stops>,
+) -> Bytes {
     files.log.crash();
     files.db.crash();
     Bytes::of_files(rt, &files)

@@ -28,10 +28,10 @@ fn remove(rt: &HostRuntime, path: &str) {
 /// memory. It is the one function here that names their types: the proof of each takes a minute.
 fn call_laws(rt: &HostRuntime, test: &impl Abort, first: &str, second: &str) {
     let Ok(before) = Store::open_file(rt, first, Unknown) else {
-        panic!(test; "{first}");
+        panic!(test; "no store opens at {first}");
     };
     let Ok(after) = Store::open_file(rt, second, Unknown) else {
-        panic!(test; "{second}");
+        panic!(test; "no store opens at {second}");
     };
     let memory = Store::open_in_memory(rt.alloc()).expect(test, "a store");
     let before = before.into_store();

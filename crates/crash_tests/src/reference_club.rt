@@ -38,13 +38,13 @@ fn words(rt: &(impl Abort + Alloc<A = Global>), request: Request) -> Words {
     }
 }
 
-fn asked(rt: &(impl Abort + Alloc<A = Global>), club: &mut Club, at: &str, bytes: &str) -> String {
+fn ask(rt: &(impl Abort + Alloc<A = Global>), club: &mut Club, at: &str, bytes: &str) -> String {
     let words = words(rt, words_in(rt, bytes).request);
     let reply = club.ask(&words, moment(rt, at)).expect(rt, "memory");
     reply_text(rt, &reply)
 }
 
-fn shown(answer: &OfficeAnswer) -> OfficeReply {
+fn desk_reply(answer: &OfficeAnswer) -> OfficeReply {
     match *answer {
         OfficeAnswer::Done => OfficeReply::Done,
         OfficeAnswer::NewKey { name, root } => OfficeReply::Key {
@@ -54,16 +54,16 @@ fn shown(answer: &OfficeAnswer) -> OfficeReply {
     }
 }
 
-fn ordered(rt: &(impl Abort + Alloc<A = Global>), club: &mut Club, order: &Order) -> String {
+fn give_order(rt: &(impl Abort + Alloc<A = Global>), club: &mut Club, order: &Order) -> String {
     let command = order.command().expect(rt, "an order");
     let answer = club.office(&command).expect(rt, "memory");
-    office_text(rt, &shown(&answer))
+    office_text(rt, &desk_reply(&answer))
 }
 
 fn reply(rt: &(impl Abort + Alloc<A = Global>), club: &mut Club, event: &Event) -> String {
     match event {
-        Event::Orders(order) => ordered(rt, club, order),
-        Event::Asks(at, bytes) | Event::Exchanges(at, bytes) => asked(rt, club, at, bytes),
+        Event::Orders(order) => give_order(rt, club, order),
+        Event::Asks(at, bytes) | Event::Exchanges(at, bytes) => ask(rt, club, at, bytes),
     }
 }
 

@@ -1,7 +1,7 @@
 //! Tasks over a database in two files.
 
 use crate::desk::replies_over;
-use crate::disk::{Bytes, Stop, Stops, has_calls_left, restarted};
+use crate::disk::{Bytes, Stop, Stops, bytes_after_restart, has_calls_left};
 use crate::events::Event;
 use crate::expect::append;
 use crate::tables::lines_in;
@@ -28,7 +28,7 @@ fn run<S: Alter>(rt: &impl Abort, connection: &mut Connection<S>, statements: &[
 }
 
 /// The replies of a desk over the database; `None` if no store adopts it.
-fn served<S: Alter + Drop>(
+fn replies_of_desk<S: Alter + Drop>(
     rt: &(impl Abort + Alloc<A = Global>),
     connection: Connection<S>,
     events: &[Event],
@@ -43,20 +43,20 @@ fn served<S: Alter + Drop>(
 }
 
 /// The rows of the database, the replies of a desk over it, and the rows then.
-fn inspected<S: Alter + Drop>(
+fn inspect<S: Alter + Drop>(
     rt: &(impl Abort + Alloc<A = Global>),
     mut connection: Connection<S>,
     events: &[Event],
 ) -> (Option<Vec<String>>, Connection<S>) {
     let mut lines = lines_in(rt, &mut connection);
-    let (replies, mut connection) = served(rt, connection, events);
+    let (replies, mut connection) = replies_of_desk(rt, connection, events);
     append(rt, &mut lines, replies.expect(rt, "a store"));
     append(rt, &mut lines, lines_in(rt, &mut connection));
     (Some(lines), connection)
 }
 
 /// Does this over a database: the lines of output, `None` if no store adopts it.
-fn worked<S: Alter + Drop>(
+fn do_work<S: Alter + Drop>(
     rt: &(impl Abort + Alloc<A = Global>),
     mut connection: Connection<S>,
     work: Work,
@@ -66,8 +66,8 @@ fn worked<S: Alter + Drop>(
             run(rt, &mut connection, statements);
             (Some(Vec::new(rt.alloc())), connection)
         }
-        Work::Serves(events) => served(rt, connection, events),
-        Work::Inspects(events) => inspected(rt, connection, events),
+        Work::Serves(events) => replies_of_desk(rt, connection, events),
+        Work::Inspects(events) => inspect(rt, connection, events),
     }
 }
 
@@ -84,7 +84,7 @@ fn over_files(
     }
     match Connection::open_files(rt.alloc(), files, Options::new(7)) {
         Ok(connection) => {
-            let (lines, connection) = worked(rt, connection, work);
+            let (lines, connection) = do_work(rt, connection, work);
             match connection.close_files() {
                 Ok(files) => (lines, files),
                 Err((_, left)) => (lines, left.close()),
@@ -119,6 +119,6 @@ pub(crate) fn do_over(
         lines,
         has_calls_left: has_calls_left(&mut files, stop.part),
         kept: Bytes::of_files(rt, &files),
-        synced: restarted(rt, files),
+        synced: bytes_after_restart(rt, files),
     }
 }

@@ -93,7 +93,7 @@ impl Taker {
         n
     }
 
-    pub fn written(&self) -> &[u8] {
+    pub fn written_bytes(&self) -> &[u8] {
         &self.bytes[..self.len]
     }
 }

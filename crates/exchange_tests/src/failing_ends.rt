@@ -11,7 +11,7 @@ use std::alloc::Global;
 use std::process::Abort;
 use test_kit::moments::NOON;
 use test_kit::passes::AMY;
-use test_kit::{exchanges, joined};
+use test_kit::{exchanges, join};
 
 /// The bytes of the booking's reply.
 const REPLY_LEN: usize = 133;
@@ -36,7 +36,7 @@ fn is_booked<S: ClubStore>(
     expect_eq(rt, &fault, &None);
     expect_output(
         rt,
-        taker.written(),
+        taker.written_bytes(),
         exchanges::BOOKED_7.as_bytes(),
         exchanges::BOOK_7,
     );
@@ -76,7 +76,7 @@ static BEHIND: [Behind; 3] = [Behind(1, 0), Behind(1_000, 0), Behind(100_000, 83
 
 /// The booking, and so many bytes.
 fn booking_with(rt: &(impl Abort + Alloc<A = Global>), behind: usize) -> String {
-    joined(rt.alloc(), &[(1, exchanges::BOOK_7), (behind, "x")]).expect(rt, "memory")
+    join(rt.alloc(), &[(1, exchanges::BOOK_7), (behind, "x")]).expect(rt, "memory")
 }
 
 impl Scene for Behind {
@@ -119,7 +119,7 @@ fn is_cut_by_its_end<S: ClubStore>(rt: &impl Abort, front: &mut Front<S>, bytes:
     let taker = front.written_to(rt, NOON, bytes);
     expect_output(
         rt,
-        taker.written(),
+        taker.written_bytes(),
         exchanges::BAD_REQUEST.as_bytes(),
         "a cut request",
     );
@@ -178,7 +178,7 @@ impl Scene for ShortWriter {
         let mut taker = Taker::new(MAX_REPLY_LEN, self.len, self.stalls);
         let fault = front.exchange(rt, NOON, &mut giver, &mut taker);
         expect_eq(rt, &fault, &Some(AnswerFault::Write(self.len)));
-        expect_first(rt, taker.written(), self.len);
+        expect_first(rt, taker.written_bytes(), self.len);
         front.plays(rt, Form::V2, &KEPT_BOOKING);
     }
 }

@@ -116,7 +116,7 @@ impl<S: ClubStore> Front<S> {
     ) {
         let want = returned.text(rt);
         let taker = self.written_to(rt, at, bytes.as_bytes());
-        expect_output(rt, taker.written(), want.as_bytes(), bytes);
+        expect_output(rt, taker.written_bytes(), want.as_bytes(), bytes);
     }
 
     /// Fails the test unless the request gets this reply under a pass at a moment.

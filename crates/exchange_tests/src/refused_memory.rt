@@ -19,7 +19,7 @@ use test_kit::moments::NOON;
 use test_kit::passes::AMY;
 
 fn is_unavailable(taker: &Taker) -> bool {
-    taker.written() == exchanges::UNAVAILABLE.as_bytes()
+    taker.written_bytes() == exchanges::UNAVAILABLE.as_bytes()
 }
 
 /// The output for a request of amy's.
@@ -46,7 +46,7 @@ fn expect_reply_or_end<S: ClubStore>(
         panic!(rt; "Memory");
     }
     let want = returned.text(rt);
-    expect_output(rt, taker.written(), want.as_bytes(), asked.0);
+    expect_output(rt, taker.written_bytes(), want.as_bytes(), asked.0);
 }
 
 /// The booking is kept.
@@ -70,7 +70,12 @@ fn is_booked_or_unavailable<S: ClubStore>(
     if is_unavailable(taker) {
         front.plays(rt, form, &NOT_YET);
     } else {
-        expect_output(rt, taker.written(), exchanges::BOOKED_7.as_bytes(), PUT_7);
+        expect_output(
+            rt,
+            taker.written_bytes(),
+            exchanges::BOOKED_7.as_bytes(),
+            PUT_7,
+        );
         booking_is_kept(rt, front, form);
     }
 }

@@ -33,7 +33,7 @@ fn account(rt: &impl Abort) -> Ask {
 }
 
 /// The request of a key that has spent so much.
-fn spent(mut ask: Ask, spent: u64) -> Ask {
+fn having_spent(mut ask: Ask, spent: u64) -> Ask {
     ask.spent = spent;
     ask
 }
@@ -178,7 +178,7 @@ static OF_A_SPENT_ACCOUNT: [Row; 4] = [
 fn requests_for_the_account(rt: HostRuntime) {
     let account = account(&rt);
     allow(&rt, &account, &OF_THE_ACCOUNT);
-    allow(&rt, &spent(account, 700), &OF_A_SPENT_ACCOUNT);
+    allow(&rt, &having_spent(account, 700), &OF_A_SPENT_ACCOUNT);
 }
 
 static OF_NO_KIND: [Row; 1] = [("kind = court", false)];

@@ -232,7 +232,7 @@ fn print_moment(rt: &(impl Abort + AllocGlobal), want: &str) {
 }
 
 #[test]
-fn printed(rt: HostRuntime) {
+fn displayed_values(rt: HostRuntime) {
     print_slot(&rt, "court-1 2026-05-01 18");
     print_moment(&rt, "2026-05-01T18:05");
 }

@@ -25,7 +25,7 @@ pub(crate) fn signed_under(root: &[u8], identifier: &[u8], caveat: &[u8]) -> ([u
 }
 
 // The signature of a resumed chain with a caveat.
-pub(crate) fn narrowed(signature: [u8; 32], caveat: &[u8]) -> [u8; 32] {
+pub(crate) fn narrowed_signature(signature: [u8; 32], caveat: &[u8]) -> [u8; 32] {
     let mut chain = Chain::resume(signature);
     chain.add(caveat);
     chain.signature()

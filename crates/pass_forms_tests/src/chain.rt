@@ -1,6 +1,6 @@
 //! HMAC, key derivation and the signature chain.
 
-use crate::calls::{hmac, narrowed, same, signed_by_key, signed_under};
+use crate::calls::{hmac, narrowed_signature, same, signed_by_key, signed_under};
 use crate::rows::expect_eq;
 use std::process::Abort;
 
@@ -68,7 +68,7 @@ fn expect_same(rt: &impl Abort, a: &[u8; 32], b: &[u8; 32], alike: bool) {
 
 #[test]
 fn chain_resumes_from_a_signature_or_a_key(rt: HostRuntime) {
-    expect_same(&rt, &narrowed(*SIGNED, CAVEAT), NARROWED, true);
+    expect_same(&rt, &narrowed_signature(*SIGNED, CAVEAT), NARROWED, true);
     expect_same(&rt, &signed_by_key(ROOT, IDENTIFIER), SIGNED, true);
 }
 

@@ -1,7 +1,7 @@
 //! What is taken off round the bytes of a pass.
 
 use crate::calls::{decode_base64, unwrap_text};
-use crate::rows::{Piece, expect_eq, joined};
+use crate::rows::{Piece, expect_eq, join};
 use pass_forms::{Form, FormFault, MAX_BYTES};
 use std::process::Abort;
 
@@ -103,7 +103,7 @@ type TextRow = (&'static [Piece], Result<(Form, usize), FormFault>);
 
 fn expect_outcomes(rt: &(impl Abort + AllocGlobal), rows: &[TextRow]) {
     for (pieces, want) in rows {
-        expect_eq(rt, &outcome(&joined(rt, pieces)), want, pieces);
+        expect_eq(rt, &outcome(&join(rt, pieces)), want, pieces);
     }
 }
 

@@ -21,7 +21,7 @@ fn mint_known(rt: &(impl Abort + AllocGlobal), want: &Fields<'_>) -> Pass {
 }
 
 /// The known pass, made under its root.
-pub(crate) fn known(rt: &(impl Abort + AllocGlobal)) -> Pass {
+pub(crate) fn known_pass(rt: &(impl Abort + AllocGlobal)) -> Pass {
     let mut pass = mint_known(rt, &WITHOUT_CAVEAT);
     narrow(rt.alloc(), &mut pass, b"test = caveat").expect(rt, "memory");
     pass
@@ -36,5 +36,5 @@ fn expect_parts(rt: &impl Abort, parts: &PassParts, want: &Fields<'_>) {
 
 #[test]
 fn gives_its_parts_back(rt: HostRuntime) {
-    expect_parts(&rt, &into_parts(known(&rt)), &KNOWN_FIELDS);
+    expect_parts(&rt, &into_parts(known_pass(&rt)), &KNOWN_FIELDS);
 }

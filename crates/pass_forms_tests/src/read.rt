@@ -1,7 +1,7 @@
 //! Passes that are read from V1 and V2, all at once and field by field.
 
 use crate::calls::{again, fields_of, next, open_v1, open_v2, read};
-use crate::rows::{Fields, Piece, expect_eq, expect_pass, joined};
+use crate::rows::{Fields, Piece, expect_eq, expect_pass, join};
 use pass_forms::{Field, FieldSource, Form, FormFault, Pass};
 use std::process::Abort;
 
@@ -57,7 +57,7 @@ fn walks_in_memory<'a>(rt: &impl Abort, pass: &'a Pass, want: &Fields<'a>) {
 }
 
 fn is_read(rt: &(impl Abort + AllocGlobal), form: Form, row: &Read) {
-    let bytes = joined(rt, row.pieces);
+    let bytes = join(rt, row.pieces);
     walks(rt, form, &bytes, &row.fields);
     let pass = read(rt.alloc(), form, &bytes).expect(rt, "a pass");
     expect_pass(rt, &pass, &row.fields);
@@ -92,7 +92,7 @@ pub(crate) fn are_refused(
     rows: &[(&'static [Piece], FormFault)],
 ) {
     for (pieces, fault) in rows {
-        is_refused(rt, form, &joined(rt, pieces), *fault);
+        is_refused(rt, form, &join(rt, pieces), *fault);
     }
 }
 
@@ -103,7 +103,7 @@ pub(crate) fn is_refused_cut_short(
     pieces: &[Piece],
     len: usize,
 ) {
-    let bytes = joined(rt, pieces);
+    let bytes = join(rt, pieces);
     expect_eq(rt, &bytes.len(), &len, &form);
     for len in 0..bytes.len() {
         is_refused(rt, form, &bytes[..len], FormFault::Malformed);

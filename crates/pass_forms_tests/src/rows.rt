@@ -24,7 +24,7 @@ fn append(rt: &impl Abort, bytes: &mut Vec<u8>, piece: &Piece) {
 }
 
 /// The pieces, one behind the other.
-pub(crate) fn joined(rt: &(impl Abort + AllocGlobal), pieces: &[Piece]) -> Vec<u8> {
+pub(crate) fn join(rt: &(impl Abort + AllocGlobal), pieces: &[Piece]) -> Vec<u8> {
     let mut bytes = Vec::new(rt.alloc());
     for piece in pieces {
         append(rt, &mut bytes, piece);

@@ -2,7 +2,7 @@
 
 use crate::calls::{is_signed, read};
 use crate::read::{Read, are_read, are_refused, is_refused_cut_short};
-use crate::rows::{Fields, Piece, expect_eq, joined};
+use crate::rows::{Fields, Piece, expect_eq, join};
 use pass_forms::{Form, FormFault};
 use std::process::Abort;
 
@@ -127,7 +127,7 @@ fn shows_each_fault(rt: HostRuntime) {
 }
 
 fn expect_signed(rt: &(impl Abort + AllocGlobal), root: &[u8], signed: bool) {
-    let pass = read(rt.alloc(), Form::V1, &joined(rt, &KNOWN)).expect(rt, "a pass");
+    let pass = read(rt.alloc(), Form::V1, &join(rt, &KNOWN)).expect(rt, "a pass");
     expect_eq(rt, &is_signed(&pass, root), &signed, &root);
 }
 

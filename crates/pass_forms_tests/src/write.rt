@@ -2,8 +2,8 @@
 
 use crate::calls::{narrow, new_pass, read, unwrap_text, write};
 use crate::envelope::decodes;
-use crate::parts::known;
-use crate::rows::{Piece, expect_eq, joined};
+use crate::parts::known_pass;
+use crate::rows::{Piece, expect_eq, join};
 use pass_forms::{Form, FormFault, MAX_BYTES, Pass};
 use std::alloc::Global;
 use std::process::Abort;
@@ -109,7 +109,7 @@ fn are_written(rt: &(impl Abort + AllocGlobal), rows: &[Written]) {
 // With ample memory each call answers, and doesn't end for want of it.
 #[test]
 fn answers_with_ample_memory(rt: HostRuntime) {
-    let pass = known(&rt);
+    let pass = known_pass(&rt);
     expect_text(&rt, &pass, Form::V1, KNOWN_V1);
     expect_text(&rt, &pass, Form::V2, KNOWN_V2);
     are_written(&rt, &WRITTEN);
@@ -122,7 +122,7 @@ fn pass_of(rt: &(impl Abort + AllocGlobal), identifier_len: usize, caveat_count:
     for _ in 0..caveat_count {
         caveats.push(Vec::new(rt.alloc())).expect(rt, "memory");
     }
-    let identifier = joined(rt, &[(identifier_len, b"x")]);
+    let identifier = join(rt, &[(identifier_len, b"x")]);
     new_pass(Vec::new(rt.alloc()), identifier, caveats, [7; 32])
 }
 

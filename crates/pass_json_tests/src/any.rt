@@ -1,7 +1,7 @@
 //! Passes that are read and written in any form.
 
 use crate::calls::{read_any, write_any};
-use crate::rows::{Fields, KEYID_FIELDS, Piece, expect_eq, expect_pass, joined, pass_of};
+use crate::rows::{Fields, KEYID_FIELDS, Piece, expect_eq, expect_pass, join, pass_of};
 use pass_forms::{Form, FormFault, Pass};
 use std::alloc::Global;
 use std::process::Abort;
@@ -132,7 +132,7 @@ fn form_of(alloc: Global, text: &[u8]) -> Result<Form, FormFault> {
 
 fn are_refused(rt: &(impl Abort + AllocGlobal), rows: &[(&'static [Piece], FormFault)]) {
     for (pieces, fault) in rows {
-        let outcome = form_of(rt.alloc(), joined(rt, pieces).as_bytes());
+        let outcome = form_of(rt.alloc(), join(rt, pieces).as_bytes());
         expect_eq(rt, &outcome, &Err(*fault), pieces);
     }
 }

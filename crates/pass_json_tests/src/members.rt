@@ -2,7 +2,7 @@
 
 use crate::calls::read_json;
 use crate::read::{OPEN_SHORT, is_refused};
-use crate::rows::{expect_eq, joined};
+use crate::rows::{expect_eq, join};
 use pass_forms::FormFault;
 use std::process::Abort;
 
@@ -46,7 +46,7 @@ fn are_refused_members(
     fault: FormFault,
 ) {
     for member in members {
-        let text = joined(rt, &[(1, "{"), (1, member), (1, ","), (1, IDENTIFIED)]);
+        let text = join(rt, &[(1, "{"), (1, member), (1, ","), (1, IDENTIFIED)]);
         is_refused(rt, text.as_bytes(), fault);
     }
 }
@@ -76,7 +76,7 @@ static IDENTIFIERS: [(&str, &[u8]); 6] = [
 ];
 
 fn identifies(rt: &(impl Abort + AllocGlobal), member: &'static str, identifier: &[u8]) {
-    let text = joined(rt, &[(1, "{"), (1, member), (1, SIGNED)]);
+    let text = join(rt, &[(1, "{"), (1, member), (1, SIGNED)]);
     let pass = read_json(rt.alloc(), text.as_bytes()).expect(rt, "a pass");
     expect_eq(rt, &pass.identifier(), &identifier, &member);
 }

@@ -1,7 +1,7 @@
 //! Passes that are read from JSON.
 
 use crate::calls::read_json;
-use crate::rows::{Fields, KEYID_FIELDS, KNOWN_FIELDS, Piece, expect_eq, expect_pass, joined};
+use crate::rows::{Fields, KEYID_FIELDS, KNOWN_FIELDS, Piece, expect_eq, expect_pass, join};
 use pass_forms::FormFault;
 use std::process::Abort;
 
@@ -25,7 +25,7 @@ struct Read {
 }
 
 fn is_read(rt: &(impl Abort + AllocGlobal), row: &Read) {
-    let text = joined(rt, row.pieces);
+    let text = join(rt, row.pieces);
     let pass = read_json(rt.alloc(), text.as_bytes()).expect(rt, "a pass");
     expect_pass(rt, &pass, &row.fields);
 }
@@ -44,7 +44,7 @@ pub(crate) fn is_refused(rt: &(impl Abort + AllocGlobal), text: &[u8], fault: Fo
 // Texts in pieces, each with its fault.
 fn are_refused(rt: &(impl Abort + AllocGlobal), rows: &[(&'static [Piece], FormFault)]) {
     for (pieces, fault) in rows {
-        is_refused(rt, joined(rt, pieces).as_bytes(), *fault);
+        is_refused(rt, join(rt, pieces).as_bytes(), *fault);
     }
 }
 

@@ -18,7 +18,7 @@ fn read(rt: &(impl Abort + AllocGlobal), text: &str) -> (Form, Pass) {
 }
 
 // The text of a pass, by the second call where the first is out of memory.
-fn written(rt: &(impl Abort + AllocGlobal), form: Form, pass: &Pass) -> String {
+fn written_text(rt: &(impl Abort + AllocGlobal), form: Form, pass: &Pass) -> String {
     let text = match write_any(rt.alloc(), form, pass) {
         Err(FormFault::Memory) => write_any(rt.alloc(), form, pass),
         text => text,
@@ -28,7 +28,7 @@ fn written(rt: &(impl Abort + AllocGlobal), form: Form, pass: &Pass) -> String {
 
 fn is_written(rt: &(impl Abort + AllocGlobal), pass: &Pass, texts: &[(Form, &str)]) {
     for (form, text) in texts {
-        expect_eq(rt, &written(rt, *form, pass).as_str(), text, form);
+        expect_eq(rt, &written_text(rt, *form, pass).as_str(), text, form);
     }
 }
 

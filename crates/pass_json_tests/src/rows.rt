@@ -25,7 +25,7 @@ fn append(rt: &impl Abort, text: &mut String, piece: &Piece) {
 }
 
 /// The pieces, one behind the other.
-pub(crate) fn joined(rt: &(impl Abort + AllocGlobal), pieces: &[Piece]) -> String {
+pub(crate) fn join(rt: &(impl Abort + AllocGlobal), pieces: &[Piece]) -> String {
     let mut text = String::new(rt.alloc());
     for piece in pieces {
         append(rt, &mut text, piece);

@@ -53,7 +53,7 @@ fn writes_one_text(rt: HostRuntime) {
     are_rewritten(&rt, &TEXTS);
 }
 
-fn identified(rt: &(impl Abort + AllocGlobal), identifier: &[u8]) -> Pass {
+fn pass_of_identifier(rt: &(impl Abort + AllocGlobal), identifier: &[u8]) -> Pass {
     let identifier = Vec::from_slice(rt.alloc(), identifier).expect(rt, "memory");
     new_pass(rt.alloc(), identifier, Vec::new(rt.alloc()), [0xff; 32])
 }
@@ -64,7 +64,7 @@ fn writes_escapes(rt: HostRuntime) {
     let identifier = b"\x00\x08\t\n\x0c\r\x1f\"\\/\x7f\xc3\xa9\xe2\x80\xa8\xf0\x9f\x98\x80";
     let text =
         "{\"c\":[],\"i\":\"\\u0000\\b\\t\\n\\f\\r\\u001f\\\"\\\\/\x7f\u{e9}\u{2028}\u{1f600}\",\"s64\":\"__________________________________________8\",\"v\":2}";
-    is_written(&rt, &identified(&rt, identifier), text);
+    is_written(&rt, &pass_of_identifier(&rt, identifier), text);
 }
 
 // What a pass has: the length of its text, and of the identifier and of the caveats that are read

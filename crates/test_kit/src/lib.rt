@@ -23,7 +23,7 @@ mod words;
 pub use ends::{End, Output, form_line};
 pub use lists::{PlainPass, PlainStep};
 pub use orders::{FIXTURE, Order};
-pub use pieces::{Piece, joined};
+pub use pieces::{Piece, join};
 pub use replies::PlainReply;
 pub use requests::PlainRequest;
 pub use rows::{BOOKING_7, BOOKING_8, COURT, PlainBooking, PlainFacility, ROOM, amy};

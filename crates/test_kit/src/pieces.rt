@@ -13,7 +13,7 @@ fn append(text: &mut String, piece: &Piece) -> Result<(), AllocError> {
 }
 
 /// The pieces, one behind the other.
-pub fn joined(alloc: Global, pieces: &[Piece]) -> Result<String, AllocError> {
+pub fn join(alloc: Global, pieces: &[Piece]) -> Result<String, AllocError> {
     let mut text = String::new(alloc);
     for piece in pieces {
         append(&mut text, piece)?;

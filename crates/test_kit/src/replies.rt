@@ -86,7 +86,7 @@ fn slot_shown(taken: u64, closed: bool) -> Option<Reply> {
     })
 }
 
-fn booked(key: &str, number: u32, charge: u32, left: u8) -> Option<Reply> {
+fn booked_reply(key: &str, number: u32, charge: u32, left: u8) -> Option<Reply> {
     Some(Reply::Booked {
         key: Name::read(key.as_bytes())?,
         number: BookingNumber::new(number)?,
@@ -95,7 +95,7 @@ fn booked(key: &str, number: u32, charge: u32, left: u8) -> Option<Reply> {
     })
 }
 
-fn cancelled(key: &str, number: u32, refund: u32) -> Option<Reply> {
+fn cancelled_reply(key: &str, number: u32, refund: u32) -> Option<Reply> {
     Some(Reply::Cancelled {
         key: Name::read(key.as_bytes())?,
         number: BookingNumber::new(number)?,
@@ -118,8 +118,10 @@ impl PlainReply {
     pub fn reply(&self) -> Option<Reply> {
         match self {
             PlainReply::SlotShown(taken, closed) => slot_shown(*taken, *closed),
-            PlainReply::Booked(key, number, charge, left) => booked(key, *number, *charge, *left),
-            PlainReply::Cancelled(key, number, refund) => cancelled(key, *number, *refund),
+            PlainReply::Booked(key, number, charge, left) => booked_reply(
+                key, *number, *charge, *left,
+            ),
+            PlainReply::Cancelled(key, number, refund) => cancelled_reply(key, *number, *refund),
             PlainReply::AccountShown(balance, open, spent) => {
                 account_shown(*balance, *open, *spent)
             }

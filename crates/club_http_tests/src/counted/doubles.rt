@@ -96,7 +96,7 @@ impl Narrow {
         Narrow::with(ROOM, 0, true)
     }
 
-    pub fn written(&self) -> &[u8] {
+    pub fn written_bytes(&self) -> &[u8] {
         &self.bytes[..self.len]
     }
 }

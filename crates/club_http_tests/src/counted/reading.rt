@@ -4,7 +4,7 @@ use super::doubles::Pieces;
 use super::{BOOKING, ExchangeResult, IS_BAD, returns};
 use crate::bodies::LONGEST;
 use crate::expect::expect_eq;
-use crate::rows::joined;
+use crate::rows::join;
 use std::alloc::Global;
 use std::process::Abort;
 use test_kit::Piece;
@@ -67,7 +67,7 @@ static ENDLESS: [Reading; 4] = [
 
 fn are_read(rt: &(impl Abort + Alloc<A = Global>), rows: &[Read]) {
     for (pieces, reading) in rows {
-        let text = joined(rt, pieces);
+        let text = join(rt, pieces);
         is_read(rt, text.as_str(), reading, &ExchangeResult::Booked);
     }
 }
@@ -78,7 +78,7 @@ fn is_read_so(
     readings: &[Reading],
     returned: &ExchangeResult,
 ) {
-    let text = joined(rt, pieces);
+    let text = join(rt, pieces);
     for reading in readings {
         is_read(rt, text.as_str(), reading, returned);
     }

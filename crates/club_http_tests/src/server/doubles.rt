@@ -216,7 +216,7 @@ impl Running {
     }
 
     /// The milliseconds that have passed.
-    pub fn passed(&self) -> u64 {
+    pub fn elapsed(&self) -> u64 {
         self.shown.get()
     }
 
@@ -233,7 +233,7 @@ impl Running {
     // Waits so long, or until the limit, and returns whether that was long enough.
     fn waits(&self, pause: u64, limit: Duration) -> bool {
         let most = u64::try_from(limit.as_millis()).unwrap_or(u64::MAX);
-        let shown = self.passed().saturating_add(pause.min(most));
+        let shown = self.elapsed().saturating_add(pause.min(most));
         self.shown.set(shown);
         pause <= most
     }
@@ -246,7 +246,7 @@ impl Clock for Running {
         if readable == 0 {
             return Err(io::Error::from(ErrorKind::Unsupported));
         }
-        Ok(Duration::from_millis(self.passed()))
+        Ok(Duration::from_millis(self.elapsed()))
     }
 
     fn since_1970(&self) -> io::Result<Duration> {

@@ -4,7 +4,7 @@ use super::REQUEST;
 use super::doubles::{Noting, Running, Slow};
 use crate::expect::expect_eq;
 use crate::rows::{expect_row, moment};
-use crate::sockets::listening;
+use crate::sockets::loopback_listener;
 use club_http::{AnswerFault, Face, answer};
 use desk_server::{Connections, Limit, Listening, TimedInlet, TimedOutlet};
 use std::alloc::Global;
@@ -62,7 +62,12 @@ fn outcome_of(rt: &(impl Abort + Alloc<A = Global>), client: &Client) -> Outcome
     let mut inlet = TimedInlet::new(Slow::new(&clock, sends, REQUEST), &limit);
     let mut outlet = TimedOutlet::new(Slow::new(&clock, takes, b""), &clock, patience);
     let outcome = answer(&mut face, &mut desk, noon, &mut inlet, &mut outlet);
-    (outcome.err(), clock.reads(), clock.writes(), clock.passed())
+    (
+        outcome.err(),
+        clock.reads(),
+        clock.writes(),
+        clock.elapsed(),
+    )
 }
 
 #[test]
@@ -88,7 +93,7 @@ fn rest_of(ready: bool, pause: u64) -> (u64, u64) {
     let mut client = Slow::new(&clock, pause, REQUEST);
     client.ready = ready;
     TimedInlet::new(client, &limit).take_rest();
-    (clock.reads(), clock.passed())
+    (clock.reads(), clock.elapsed())
 }
 
 // Where nothing is there, nothing is waited for.
@@ -102,12 +107,12 @@ fn what_still_comes_is_taken(rt: HostRuntime) {
 // A listener that waits for nobody fails at once, and the server rests each time.
 #[test]
 fn rests_after_a_connection_that_failed(rt: HostRuntime) {
-    let listener = listening(&rt);
+    let listener = loopback_listener(&rt);
     listener.set_nonblocking(true).expect(&rt, "a listener");
     let clock = Running::new(ALWAYS);
     let mut connections = Listening::new(&listener, &clock, Duration::from_secs(10));
     for _ in 0..3 {
         expect_eq(&rt, &connections.accept().is_none(), &true);
     }
-    expect_eq(&rt, &clock.passed(), &30);
+    expect_eq(&rt, &clock.elapsed(), &30);
 }

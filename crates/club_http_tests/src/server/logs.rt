@@ -37,7 +37,7 @@ const LINES: &str = "2026-04-20T12:00 GET /account 503 1533
 type Served = (Result<(), ClockOutOfRange>, u64, u64);
 
 /// The script's connections are served, with this log.
-fn served<M: Moments, G: Log>(
+fn serve_script<M: Moments, G: Log>(
     rt: &(impl Abort + Alloc<A = Global>),
     moments: &mut M,
     log: &mut G,
@@ -50,14 +50,14 @@ fn served<M: Moments, G: Log>(
 }
 
 /// The same, with the lines written here.
-fn logged<M: Moments, W: Write>(
+fn log_script<M: Moments, W: Write>(
     rt: &(impl Abort + Alloc<A = Global>),
     moments: &mut M,
     writer: &mut W,
 ) -> Served {
     let clock = Ticking::new(0, 1_533);
     let mut log = LogLines::new(WriteOutlet::new(writer), &clock);
-    served(rt, moments, &mut log)
+    serve_script(rt, moments, &mut log)
 }
 
 // By this law the lines of a log are those of the connections that it noted.
@@ -69,7 +69,7 @@ fn a_log_has_its_lines() {
 #[test]
 fn a_line_for_each_connection(rt: HostRuntime) {
     let mut written = Vec::new(rt.alloc());
-    let returned = logged(&rt, &mut noon(&rt), &mut written);
+    let returned = log_script(&rt, &mut noon(&rt), &mut written);
     expect_eq(&rt, &returned, &(Ok(()), 8, 2));
     expect_bytes(&rt, &written, LINES.as_bytes(), "the script");
 }
@@ -77,7 +77,7 @@ fn a_line_for_each_connection(rt: HostRuntime) {
 #[test]
 fn a_line_for_a_connection_without_a_moment(rt: HostRuntime) {
     let mut written = Vec::new(rt.alloc());
-    let returned = logged(&rt, &mut noons(&rt, 0), &mut written);
+    let returned = log_script(&rt, &mut noons(&rt, 0), &mut written);
     expect_eq(&rt, &returned, &(Err(ClockOutOfRange), 1, 0));
     expect_bytes(&rt, &written, b"- - - - 1533\n", "no moment");
 }
@@ -85,6 +85,6 @@ fn a_line_for_a_connection_without_a_moment(rt: HostRuntime) {
 // What is served is the same.
 #[test]
 fn a_log_that_fails(rt: HostRuntime) {
-    let returned = logged(&rt, &mut noon(&rt), &mut Taken { fails: true });
+    let returned = log_script(&rt, &mut noon(&rt), &mut Taken { fails: true });
     expect_eq(&rt, &returned, &(Ok(()), 8, 2));
 }

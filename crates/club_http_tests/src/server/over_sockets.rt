@@ -6,7 +6,7 @@ use super::doubles::Noting;
 use super::{REPLY, REQUEST, noon, serves};
 use crate::expect::{expect_bytes, expect_eq};
 use crate::rows::moment;
-use crate::sockets::{client_of, connected, expect_reply, listening};
+use crate::sockets::{client_of, connect, expect_reply, loopback_listener};
 use club_http::Face;
 use desk_server::{Connection, Connections, Listening};
 use std::alloc::Global;
@@ -31,8 +31,8 @@ fn serves_two(rt: &(impl Abort + Alloc<A = Global> + Clock), listener: &TcpListe
 // then.
 #[test]
 fn serves_over_a_socket(rt: HostRuntime) {
-    let listener = listening(&rt);
-    drop(connected(&rt, &listener));
+    let listener = loopback_listener(&rt);
+    drop(connect(&rt, &listener));
     let mut client = client_of(&rt, &listener, REQUEST);
     serves_two(&rt, &listener);
     expect_reply(&rt, &mut client, REPLY);
@@ -40,8 +40,8 @@ fn serves_over_a_socket(rt: HostRuntime) {
 
 #[test]
 fn accepts_a_client(rt: HostRuntime) {
-    let listener = listening(&rt);
-    let _client = connected(&rt, &listener);
+    let listener = loopback_listener(&rt);
+    let _client = connect(&rt, &listener);
     let accepted = Listening::new(&listener, &rt, patience()).accept();
     expect_eq(&rt, &accepted.is_some(), &true);
 }
@@ -54,7 +54,7 @@ const BAD_REQUEST: &[u8] =
 static EXCHANGES: [(&[u8], u64, &[u8]); 2] = [(REQUEST, 1, REPLY), (b"x\r\n\r\n", 0, BAD_REQUEST)];
 
 /// How many requests the desk is asked in an exchange of the listener's next connection.
-fn exchanged(rt: &(impl Abort + Clock), listener: &TcpListener, face: &mut Face) -> u64 {
+fn count_requests(rt: &(impl Abort + Clock), listener: &TcpListener, face: &mut Face) -> u64 {
     let accepted = Listening::new(listener, rt, patience()).accept();
     let mut connection = accepted.expect(rt, "a connection");
     let noon = moment(rt, NOON);
@@ -71,14 +71,14 @@ fn exchanges(
     asked: u64,
 ) {
     let mut face = Face::new(rt.alloc()).expect(rt, "a face");
-    expect_eq(rt, &exchanged(rt, listener, &mut face), &asked);
+    expect_eq(rt, &count_requests(rt, listener, &mut face), &asked);
     expect_bytes(rt, face.request(), request, "a request over a socket");
 }
 
 #[test]
 fn exchanges_over_a_socket(rt: HostRuntime) {
     for (request, asked, reply) in &EXCHANGES {
-        let listener = listening(&rt);
+        let listener = loopback_listener(&rt);
         let mut client = client_of(&rt, &listener, request);
         exchanges(&rt, &listener, request, *asked);
         expect_reply(&rt, &mut client, reply);
@@ -93,14 +93,14 @@ fn replies_before(
     rt: &(impl Abort + Alloc<A = Global> + Clock + Net<Listener = TcpListener, Stream = TcpStream>),
     behind: u16,
 ) {
-    let listener = listening(rt);
+    let listener = loopback_listener(rt);
     let mut sent = Vec::new(rt.alloc());
     sent.extend_from_slice(REQUEST).expect(rt, "memory");
     sent.resize(REQUEST.len() + usize::from(behind), b'x')
         .expect(rt, "memory");
     let mut client = client_of(rt, &listener, &sent);
     let mut face = Face::new(rt.alloc()).expect(rt, "a face");
-    expect_eq(rt, &exchanged(rt, &listener, &mut face), &1);
+    expect_eq(rt, &count_requests(rt, &listener, &mut face), &1);
     expect_reply(rt, &mut client, REPLY);
 }
 
@@ -116,8 +116,8 @@ fn replies_before_bytes_behind_a_request(rt: HostRuntime) {
 // By the machine's clock: a client that sends nothing, and one that sends no whole request.
 #[test]
 fn cuts_a_silent_client_off(rt: HostRuntime) {
-    let listener = listening(&rt);
-    let _silent = connected(&rt, &listener);
+    let listener = loopback_listener(&rt);
+    let _silent = connect(&rt, &listener);
     let _slow = client_of(&rt, &listener, b"GET /acc");
     let mut connections = Listening::new(&listener, &rt, Duration::from_millis(50));
     let served = serves(&rt, &mut connections, 2, &mut noon(&rt));
