@@ -13,7 +13,7 @@ work=$(mktemp -d) || exit 2
 trap 'rm -rf "$work"' EXIT
 trap 'exit 2' INT TERM HUP
 work=$(CDPATH='' cd -P -- "$work" && pwd)
-# rt runs the tests as a user of their own, who has to reach them.
+# As root, rt runs programs and tests as nobody, who has to get in.
 chmod 755 "$work" || exit 2
 git clone -q "$root" "$work/clone" || exit 2
 mkdir "$work/rooms" || exit 2

@@ -1,4 +1,4 @@
-//! The databases of `desk_server` in files.
+//! Databases in files, each opened by its path.
 
 ghost use Rattle.std.specs.Prelude.{◌≡◌};
 ghost use Rattle.desk_server.specs.Served.{CountsOn};

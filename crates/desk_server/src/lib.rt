@@ -1,5 +1,5 @@
 //! The server of the desk: it accepts connections one after the other, each at the moment that the
-//! club's clock shows. And where its database is, which it shares with other programs, as a trait.
+//! club's clock shows. `Databases` is the trait by which it and the office open a database.
 #![tactic(auto)]
 
 mod connections;
