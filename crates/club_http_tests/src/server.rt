@@ -11,8 +11,9 @@ mod zones;
 
 use crate::expect::{expect_eq, expect_shown};
 use crate::rows::{expect_row, moment};
+use club_clock::{Fixed, Moments};
 use club_http::Face;
-use desk_server::{ClockOutOfRange, Connections, Fixed, Moments, serve_on};
+use desk_server::{ClockOutOfRange, Connections, serve_on};
 use doubles::{Countdown, Noting, Script, Wire};
 use std::alloc::Global;
 use std::process::Abort;

@@ -3,10 +3,11 @@
 #![tactic(auto)]
 
 ghost use Rattle.std.specs.Prelude.{IfErr};
-ghost use Rattle.clubdesk_commands.specs.Fault.{IsNotText};
+ghost use Rattle.clubdesk_arguments.specs.Fault.{IsNotText};
 
 use club_http::WriteOutlet;
-use clubdesk_commands::{Fault, not_text, run};
+use clubdesk_arguments::{Fault, not_text};
+use clubdesk_commands::run;
 use clubdesk_files::Files;
 use command_line::report;
 use desk_server::LogLines;

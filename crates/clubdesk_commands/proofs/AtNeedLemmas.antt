@@ -10,8 +10,8 @@ use Rattle.clubdesk_commands.specs.DeskAtNeed.{IsSamePlace}
 use Rattle.clubdesk_commands.specs.Output.{Output}
 use Rattle.clubdesk_commands.specs.Run.{Announces, RunsServer, ServesFile}
 use Rattle.clubdesk_commands.specs.declared.at_need.DeskAtNeed.{DeskAtNeed}
-use Rattle.clubdesk_commands.specs.declared.fault.Fault.{Fault}
-use Rattle.clubdesk_commands.specs.declared.task.Service.{Service}
+use Rattle.clubdesk_arguments.specs.declared.fault.Fault.{Fault}
+use Rattle.clubdesk_arguments.specs.declared.task.Service.{Service}
 use Rattle.clubdesk_commands.proofs.SeenLemmas.{seen_serves}
 
 module _ {D S : Type 0} (W A : Type 0) (Opens : Opening D S) (Closes : Closing D S) (FindsWish : D → List ℕ → Bool → Type 0) (Answers : ℕ

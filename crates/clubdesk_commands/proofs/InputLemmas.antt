@@ -1,12 +1,12 @@
 -- Tasks that await a root.
 use Rattle.std.proofs.Common.{◌≡◌, ◌∙◌, ℕ, List, Option, true, false, inl, inr, refl, ap}
-use Rattle.clubdesk_commands.specs.JobModel.{JobModel}
+use Rattle.clubdesk_arguments.specs.JobModel.{JobModel}
 use Rattle.clubdesk_commands.specs.Input.{IsWholeInput, awaits_root, with_root}
 use Rattle.clubdesk_commands.specs.Run.{IsOffice, logs}
-use Rattle.clubdesk_commands.specs.declared.task.Service.{Service}
-use Rattle.clubdesk_commands.specs.declared.task.Task.{Task}
-use Rattle.clubdesk_commands.specs.declared.task.Task.TheVariants.{Order, AddKey, AddKeyByInput, RotateKey, RotateKeyByInput}
-use Rattle.clubdesk_commands.specs.declared.task.Task.TheVariants.{Sheet, Serve, Pause, ShowAccount, ShowSlot}
+use Rattle.clubdesk_arguments.specs.declared.task.Service.{Service}
+use Rattle.clubdesk_arguments.specs.declared.task.Task.{Task}
+use Rattle.clubdesk_arguments.specs.declared.task.Task.TheVariants.{Order, AddKey, AddKeyByInput, RotateKey, RotateKeyByInput}
+use Rattle.clubdesk_arguments.specs.declared.task.Task.TheVariants.{Sheet, Serve, Pause, ShowAccount, ShowSlot}
 
 -- with its root a task awaits none
 rooted : (task : Task) (root : List ℕ) → awaits_root task ≡ true → awaits_root (with_root task root) ≡ false

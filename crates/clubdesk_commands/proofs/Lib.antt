@@ -1,9 +1,3 @@
-pub mod AppLemmas
-pub mod ValueLemmas
-pub mod WordsLemmas
-pub mod NamedLemmas
-pub mod WordLaws
-pub mod LookLaws
 pub mod RunLemmas
 pub mod InputLemmas
 pub mod RootTexts

@@ -3,7 +3,7 @@ use Rattle.std.proofs.Common.{◌≡◌, ℕ, Bool, true, false, cond, List, Non
 use Rattle.std.specs.Str.{IsUtf8, is_utf8}
 use Rattle.std.proofs.lemmas.Str.{IsUtf8-from_is_utf8, is_utf8-from_IsUtf8}
 use Rattle.clubdesk_commands.specs.Input.{root_of_text}
-use Rattle.clubdesk_commands.specs.Values.{key_root_of}
+use Rattle.clubdesk_arguments.specs.Values.{key_root_of}
 
 pub text_root : (text : List ℕ) → IsUtf8 text → key_root_of text ≡ root_of_text text
 text_root text is = rw (is_utf8-from_IsUtf8 text is) refl

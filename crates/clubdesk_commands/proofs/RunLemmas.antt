@@ -14,25 +14,25 @@ use Rattle.club_gate.specs.declared.event.OfficeReply.TheVariants as replies
 use Rattle.club_gate.specs.declared.fault.Fault.{Fault as DeskFault}
 use Rattle.club_gate.specs.declared.fault.Fault.TheVariants as desk
 use Rattle.desk_server.specs.declared.log.Fate.{Fate}
-use Rattle.clubdesk_commands.specs.Application.{refusals}
-use Rattle.clubdesk_commands.specs.JobModel.{JobModel}
+use Rattle.clubdesk_arguments.specs.Application.{refusals}
+use Rattle.clubdesk_arguments.specs.JobModel.{JobModel}
 use Rattle.clubdesk_commands.specs.Looks as looks
 use Rattle.clubdesk_commands.specs.Office as office
 use Rattle.clubdesk_commands.specs.Office.{PrintsReply, PrintsSheet, fault_of_desk}
 use Rattle.clubdesk_commands.specs.Output.{Output, WritesText}
 use Rattle.desk_server.specs.Databases.{Closing, Opening}
-use Rattle.clubdesk_commands.specs.Fault.{fault_of_opening}
+use Rattle.clubdesk_arguments.specs.Fault.{fault_of_opening}
 use Rattle.clubdesk_commands.specs.Run.{Announces, AnswersWords, Does, EndsFor, IsOfTask, IsSilent, Performs, job_of}
 use Rattle.clubdesk_commands.specs.Run as spec
-use Rattle.clubdesk_commands.specs.Words.{AsksText, IsFaultOf, ReadsWords, asked_job, job_of_words}
-use Rattle.clubdesk_commands.specs.declared.fault.Fault.{Fault}
-use Rattle.clubdesk_commands.specs.declared.fault.Fault.TheVariants.{Refused, Words, BadValue, Memory, Storage, ClockOutOfRange, InputOutput}
-use Rattle.clubdesk_commands.specs.declared.task.Service.{Service}
-use Rattle.clubdesk_commands.specs.declared.task.Task.{Task}
-use Rattle.clubdesk_commands.specs.declared.task.Task.TheVariants.{Order, AddKey, AddKeyByInput, RotateKey, RotateKeyByInput}
-use Rattle.clubdesk_commands.specs.declared.task.Task.TheVariants.{Sheet, Serve, Pause, ShowAccount, ShowSlot}
-use Rattle.clubdesk_commands.specs.declared.words.Asked.{Asked}
-use Rattle.clubdesk_commands.specs.declared.words.Asked.TheVariants.{Perform, ShowText}
+use Rattle.clubdesk_arguments.specs.Words.{AsksText, IsFaultOf, ReadsWords, asked_job, job_of_words}
+use Rattle.clubdesk_arguments.specs.declared.fault.Fault.{Fault}
+use Rattle.clubdesk_arguments.specs.declared.fault.Fault.TheVariants.{Refused, Words, BadValue, Memory, Storage, ClockOutOfRange, InputOutput}
+use Rattle.clubdesk_arguments.specs.declared.task.Service.{Service}
+use Rattle.clubdesk_arguments.specs.declared.task.Task.{Task}
+use Rattle.clubdesk_arguments.specs.declared.task.Task.TheVariants.{Order, AddKey, AddKeyByInput, RotateKey, RotateKeyByInput}
+use Rattle.clubdesk_arguments.specs.declared.task.Task.TheVariants.{Sheet, Serve, Pause, ShowAccount, ShowSlot}
+use Rattle.clubdesk_arguments.specs.declared.words.Asked.{Asked}
+use Rattle.clubdesk_arguments.specs.declared.words.Asked.TheVariants.{Perform, ShowText}
 
 -- ---- what the words ask for
 

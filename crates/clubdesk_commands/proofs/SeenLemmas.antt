@@ -6,14 +6,15 @@ use Rattle.club_http.specs.Replied.{AnswerRelation, IsReplied}
 use Rattle.club_http.specs.Replied as replied
 use Rattle.club_http.specs.declared.fault.AnswerFault.{AnswerFault}
 use Rattle.club_http.specs.declared.fault.AnswerFault.TheVariants.{Read, Write}
-use Rattle.desk_server.specs.Served.{AreServed, Idles, IsExchanged, ServesOne, GivesMoment}
+use Rattle.desk_server.specs.Served.{AreServed, Idles, IsExchanged, ServesOne}
+use Rattle.club_clock.specs.Moments.{GivesMoment}
 use Rattle.desk_server.specs.Served as served
 use Rattle.desk_server.specs.declared.log.Fate.{Fate}
 use Rattle.desk_server.specs.declared.log.Fate.TheVariants.{Absent, Unanswered, Exchanged}
 use Rattle.clubdesk_commands.specs.Run.{IfLogged, RunsServer, ServesAll, over_socket, showing}
-use Rattle.clubdesk_commands.specs.declared.fault.Fault.{Fault}
-use Rattle.clubdesk_commands.specs.declared.fault.Fault.TheVariants.{Refused, Words, BadValue, Memory, Storage, ClockOutOfRange, InputOutput}
-use Rattle.clubdesk_commands.specs.declared.task.Service.{Service}
+use Rattle.clubdesk_arguments.specs.declared.fault.Fault.{Fault}
+use Rattle.clubdesk_arguments.specs.declared.fault.Fault.TheVariants.{Refused, Words, BadValue, Memory, Storage, ClockOutOfRange, InputOutput}
+use Rattle.clubdesk_arguments.specs.declared.task.Service.{Service}
 
 module _ {Desk Seen : Type 0} (Answers : ℕ → AnswerRelation Desk) (Idled : Idles Desk) (SeenAnswers : ℕ → AnswerRelation Seen) (SeenIdled : Idles Seen)
     (see : Desk → Seen) (Fits : Desk → Type 0)

@@ -3,20 +3,21 @@ use Rattle.std.proofs.Common.{◌≡◌, ◌∙◌, ℕ, List, [], ◌∷◌, �
 use Rattle.std.specs.Io.KnownBytes.{Appends}
 use Rattle.command_line.specs.Output.{AppendsFront}
 use Rattle.club_http.specs.Replied.{AnswerRelation}
-use Rattle.desk_server.specs.Served.{AreNoted, AreServed, Ends, Idles, ServesOne, IsStopped, Notes, GivesMoment}
+use Rattle.desk_server.specs.Served.{AreNoted, AreServed, Ends, Idles, ServesOne, IsStopped, Notes}
+use Rattle.club_clock.specs.Moments.{GivesMoment}
 use Rattle.desk_server.specs.Served as served
-use Rattle.desk_server.specs.Zone.{ShowsIn}
+use Rattle.club_clock.specs.Zone.{ShowsIn}
 use Rattle.desk_server.specs.declared.log.Fate.{Fate}
 use Rattle.desk_server.specs.declared.log.Fate.TheVariants.{Absent, Unanswered, Exchanged}
 use Rattle.jiff_core.specs.declared.timestamp.Timestamp.{Timestamp}
 use Rattle.clubdesk_commands.specs.Output.{Output}
 use Rattle.clubdesk_commands.specs.Run.{Announces, IfLogged, IsAnnounced, IsPortFor, RunsServer, ServesAll}
 use Rattle.clubdesk_commands.specs.Run.{ClockShows, StopsBefore, WritesLine, listening_line, over_socket, showing}
-use Rattle.clubdesk_commands.specs.declared.clock.Clock.{Clock}
-use Rattle.clubdesk_commands.specs.declared.clock.Clock.TheVariants.{InZone}
-use Rattle.clubdesk_commands.specs.declared.fault.Fault.{Fault}
-use Rattle.clubdesk_commands.specs.declared.fault.Fault.TheVariants.{Refused, Words, BadValue, Memory, Storage, ClockOutOfRange, InputOutput}
-use Rattle.clubdesk_commands.specs.declared.task.Service.{Service}
+use Rattle.clubdesk_arguments.specs.declared.clock.Clock.{Clock}
+use Rattle.clubdesk_arguments.specs.declared.clock.Clock.TheVariants.{InZone}
+use Rattle.clubdesk_arguments.specs.declared.fault.Fault.{Fault}
+use Rattle.clubdesk_arguments.specs.declared.fault.Fault.TheVariants.{Refused, Words, BadValue, Memory, Storage, ClockOutOfRange, InputOutput}
+use Rattle.clubdesk_arguments.specs.declared.task.Service.{Service}
 
 -- ---- the line
 

@@ -9,11 +9,11 @@ use Rattle.desk_server.specs.declared.databases.Databases.{Ghosts as DatabasesWo
 use Rattle.desk_server.specs.declared.log.Log.{Ghosts as LogWords}
 use Rattle.clubdesk_commands.specs.AtNeed.{Access, AnswersAtNeed, GivesWay}
 use Rattle.clubdesk_commands.specs.Input.{asks_root}
-use Rattle.clubdesk_commands.specs.JobModel.{JobModel}
+use Rattle.clubdesk_arguments.specs.JobModel.{JobModel}
 use Rattle.clubdesk_commands.specs.Output.{Input, Output}
 use Rattle.clubdesk_commands.specs.Run.{IsSilent, Performs, PerformsAsked, RunsServer, asks_log}
-use Rattle.clubdesk_commands.specs.declared.fault.Fault.{Fault}
-use Rattle.clubdesk_commands.specs.declared.task.Service.{Service}
+use Rattle.clubdesk_arguments.specs.declared.fault.Fault.{Fault}
+use Rattle.clubdesk_arguments.specs.declared.task.Service.{Service}
 
 -- a log before and after: what it notes of connections, and the statement that it is unchanged
 pub record LogChange : Type 1 where

@@ -3,12 +3,12 @@ use Rattle.std.specs.Prelude.{◌≡◌, ◌⊎◌, ℕ, Bool, true, false, List
 use Rattle.std.specs.Io.BufRead.{strip_last}
 use Rattle.std.specs.Str.{is_utf8}
 use Rattle.command_line.specs.Input.{ReadsAtMost}
-use Rattle.clubdesk_commands.specs.JobModel.{JobModel}
-use Rattle.clubdesk_commands.specs.Values.{key_root_of}
-use Rattle.clubdesk_commands.specs.declared.fault.Fault.{Fault}
-use Rattle.clubdesk_commands.specs.declared.fault.Fault.TheVariants.{BadValue, InputOutput}
-use Rattle.clubdesk_commands.specs.declared.task.Task.{Task}
-use Rattle.clubdesk_commands.specs.declared.task.Task.TheVariants.{AddKey, AddKeyByInput, RotateKey, RotateKeyByInput}
+use Rattle.clubdesk_arguments.specs.JobModel.{JobModel}
+use Rattle.clubdesk_arguments.specs.Values.{key_root_of}
+use Rattle.clubdesk_arguments.specs.declared.fault.Fault.{Fault}
+use Rattle.clubdesk_arguments.specs.declared.fault.Fault.TheVariants.{BadValue, InputOutput}
+use Rattle.clubdesk_arguments.specs.declared.task.Task.{Task}
+use Rattle.clubdesk_arguments.specs.declared.task.Task.TheVariants.{AddKey, AddKeyByInput, RotateKey, RotateKeyByInput}
 
 -- a task whose root is to be read
 abbrev pub awaits_root : Task → Bool

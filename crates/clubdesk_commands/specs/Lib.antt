@@ -1,10 +1,4 @@
-pub mod Application
-pub mod Values
-pub mod JobModel
-pub mod Fault
 pub mod Output
-pub mod Words
-pub mod Laws
 pub mod Office
 pub mod Looks
 pub mod AtNeed

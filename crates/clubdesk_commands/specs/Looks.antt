@@ -6,13 +6,13 @@ use Rattle.club_core.specs.Club.{Club}
 use Rattle.club_core.specs.Store.{KeepsClub}
 use Rattle.club_gate.specs.Looks.{IsUnshown, account_look, slot_look}
 use Rattle.club_gate.specs.declared.fault.Fault.{Fault as DeskFault}
-use Rattle.desk_server.specs.Zone.{IsShown}
+use Rattle.club_clock.specs.Zone.{IsShown}
 use Rattle.clubdesk_commands.specs.Office.{PrintsSheet}
 use Rattle.clubdesk_commands.specs.Output.{Output}
-use Rattle.clubdesk_commands.specs.declared.clock.Clock.{Clock}
-use Rattle.clubdesk_commands.specs.declared.clock.Clock.TheVariants.{Fixed, InZone}
-use Rattle.clubdesk_commands.specs.declared.fault.Fault.{Fault}
-use Rattle.clubdesk_commands.specs.declared.fault.Fault.TheVariants.{ClockOutOfRange}
+use Rattle.clubdesk_arguments.specs.declared.clock.Clock.{Clock}
+use Rattle.clubdesk_arguments.specs.declared.clock.Clock.TheVariants.{Fixed, InZone}
+use Rattle.clubdesk_arguments.specs.declared.fault.Fault.{Fault}
+use Rattle.clubdesk_arguments.specs.declared.fault.Fault.TheVariants.{ClockOutOfRange}
 
 -- a moment of a clock: the fixed one; or that which a clock shows in the zone at some instant, or none where it can't be read
 abbrev pub IsMomentOf : Clock → Option ℕ → Type 0

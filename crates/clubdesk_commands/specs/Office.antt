@@ -15,9 +15,9 @@ use Rattle.club_laws.specs.Failed.{ToOffice}
 use Rattle.pass_forms.specs.declared.form.Form.{Form}
 use Rattle.pass_forms.specs.declared.fault.FormFault.{FormFault}
 use Rattle.pass_json.specs.computed.AnyForm.{writing}
-use Rattle.clubdesk_commands.specs.declared.fault.Fault.{Fault}
-use Rattle.clubdesk_commands.specs.declared.fault.Fault.TheVariants.{Refused, Memory}
-use Rattle.clubdesk_commands.specs.Fault.{fault_of_opening}
+use Rattle.clubdesk_arguments.specs.declared.fault.Fault.{Fault}
+use Rattle.clubdesk_arguments.specs.declared.fault.Fault.TheVariants.{Refused, Memory}
+use Rattle.clubdesk_arguments.specs.Fault.{fault_of_opening}
 use Rattle.clubdesk_commands.specs.Output.{Output, WritesText}
 
 -- the program's fault for a fault of the desk

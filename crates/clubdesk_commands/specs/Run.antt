@@ -9,27 +9,28 @@ use Rattle.club_core.specs.Club.{Club}
 use Rattle.club_core.specs.Store.{KeepsClub}
 use Rattle.club_http.specs.Desk.{AnswersBy}
 use Rattle.club_http.specs.Replied.{AnswerRelation}
-use Rattle.desk_server.specs.Served.{AreServed, Ends, Idles, IsStopped, GivesMoment}
+use Rattle.desk_server.specs.Served.{AreServed, Ends, Idles, IsStopped}
+use Rattle.club_clock.specs.Moments.{GivesMoment}
 use Rattle.desk_server.specs.declared.log.Fate.{Fate}
 use Rattle.command_line.specs.Output.{AppendsFront}
 use Rattle.desk_server.specs.Databases.{Closing, Opening}
 use Rattle.clubdesk_commands.specs.AtNeed.{Access, AnswersAtNeed, GivesWay, LetsGo, access}
-use Rattle.clubdesk_commands.specs.JobModel.{JobModel}
+use Rattle.clubdesk_arguments.specs.JobModel.{JobModel}
 use Rattle.clubdesk_commands.specs.Office.{IsOrdered, IsPassOrdered, IsSheetPrinted, PrintsReply, PrintsSheet, pass_text}
 use Rattle.clubdesk_commands.specs.Input.{IsWholeInput, TakesRoot, asks_root, awaits_root}
 use Rattle.clubdesk_commands.specs.Looks.{IsAccountShown, IsMomentOf, Looks, ShowsSlot}
-use Rattle.clubdesk_commands.specs.Fault.{fault_of_opening}
+use Rattle.clubdesk_arguments.specs.Fault.{fault_of_opening}
 use Rattle.clubdesk_commands.specs.Output.{Output, WritesText}
-use Rattle.clubdesk_commands.specs.Words.{AsksText, IsFaultOf, asked_job}
-use Rattle.clubdesk_commands.specs.declared.clock.Clock.{Clock}
-use Rattle.clubdesk_commands.specs.declared.fault.Fault.{Fault}
-use Rattle.clubdesk_commands.specs.declared.fault.Fault.TheVariants.{Refused, Words, BadValue, Memory, Storage, ClockOutOfRange, InputOutput}
-use Rattle.clubdesk_commands.specs.declared.task.Service.{Service}
-use Rattle.clubdesk_commands.specs.declared.task.Task.{Task}
-use Rattle.clubdesk_commands.specs.declared.task.Task.TheVariants.{Order, AddKey, AddKeyByInput, RotateKey, RotateKeyByInput}
-use Rattle.clubdesk_commands.specs.declared.task.Task.TheVariants.{Sheet, Serve, Pause, ShowAccount, ShowSlot}
-use Rattle.clubdesk_commands.specs.declared.words.Asked.{Asked}
-use Rattle.clubdesk_commands.specs.declared.words.Asked.TheVariants.{Perform, ShowText}
+use Rattle.clubdesk_arguments.specs.Words.{AsksText, IsFaultOf, asked_job}
+use Rattle.clubdesk_arguments.specs.declared.clock.Clock.{Clock}
+use Rattle.clubdesk_arguments.specs.declared.fault.Fault.{Fault}
+use Rattle.clubdesk_arguments.specs.declared.fault.Fault.TheVariants.{Refused, Words, BadValue, Memory, Storage, ClockOutOfRange, InputOutput}
+use Rattle.clubdesk_arguments.specs.declared.task.Service.{Service}
+use Rattle.clubdesk_arguments.specs.declared.task.Task.{Task}
+use Rattle.clubdesk_arguments.specs.declared.task.Task.TheVariants.{Order, AddKey, AddKeyByInput, RotateKey, RotateKeyByInput}
+use Rattle.clubdesk_arguments.specs.declared.task.Task.TheVariants.{Sheet, Serve, Pause, ShowAccount, ShowSlot}
+use Rattle.clubdesk_arguments.specs.declared.words.Asked.{Asked}
+use Rattle.clubdesk_arguments.specs.declared.words.Asked.TheVariants.{Perform, ShowText}
 
 -- ---- the server
 

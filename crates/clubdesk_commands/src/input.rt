@@ -3,10 +3,8 @@
 ghost use Rattle.std.specs.Prelude.{◌≡◌, false};
 ghost use Rattle.clubdesk_commands.specs.Input as spec;
 
-use crate::fault::Fault;
-use crate::task::{Job, Task};
-use crate::values::root_of;
 use club_rows::Root;
+use clubdesk_arguments::{Fault, Job, Task, root_of};
 use command_line::{fill, without_line_feed};
 use std::io::Read;
 

@@ -5,13 +5,12 @@ ghost use Rattle.clubdesk_commands.specs.Looks as spec;
 ghost use Rattle.clubdesk_commands.specs.Office.{PrintsSheet};
 ghost use Rattle.clubdesk_commands.specs.Output.{output};
 
-use crate::clock::Clock;
-use crate::fault::Fault;
-use crate::office::written;
+use crate::office::{fault_of_desk, written};
+use club_clock::{ClockIn, Moments};
 use club_core::ClubStore;
 use club_gate::Desk;
 use club_values::{Moment, Name, Slot};
-use desk_server::{ClockIn, Moments};
+use clubdesk_arguments::{Clock, Fault};
 use std::io::Write;
 use std::time;
 
@@ -54,7 +53,7 @@ pub fn show_slot<S: ClubStore, W: Write>(
 {
     match desk.show_slot(slot) {
         Ok(text) => written(writer, text.as_str()),
-        Err(fault) => Err(Fault::from(fault)),
+        Err(fault) => Err(fault_of_desk(fault)),
     }
 }
 
@@ -71,7 +70,7 @@ fn show_account_at<S: ClubStore, W: Write>(
 {
     match desk.show_account(key, moment) {
         Ok(text) => written(writer, text.as_str()),
-        Err(fault) => Err(Fault::from(fault)),
+        Err(fault) => Err(fault_of_desk(fault)),
     }
 }
 

@@ -6,11 +6,11 @@ ghost use Rattle.club_core.specs.Store.{KeepsClub};
 ghost use Rattle.clubdesk_commands.specs.Office as spec;
 ghost use Rattle.clubdesk_commands.specs.Output.{WritesText, output};
 
-use crate::fault::Fault;
 use club_core::{ClubStore, Command};
 use club_gate::{Desk, OfficeReply, key_signature, minted};
 use club_rows::Root;
 use club_values::{Day, Name};
+use clubdesk_arguments::Fault;
 use command_line::write_text;
 use pass_forms::Form;
 use pass_json::write_any;
@@ -78,7 +78,7 @@ pub fn show_sheet<S: ClubStore, W: Write>(
 {
     match desk.sheet(day) {
         Ok(text) => written(writer, text.as_str()),
-        Err(fault) => Err(Fault::from(fault)),
+        Err(fault) => Err(fault_of_desk(fault)),
     }
 }
 
@@ -105,7 +105,7 @@ fn carry_out<S: ClubStore, W: Write>(
         (spec.PrintsReply text.now (output W.contents writer.old writer.new) result) }
 {
     match desk.office(order) {
-        OfficeReply::Refused(fault) => Err(Fault::from(fault)),
+        OfficeReply::Refused(fault) => Err(fault_of_desk(fault)),
         OfficeReply::Done | OfficeReply::Key { .. } => written(writer, text),
     }
 }
@@ -116,5 +116,15 @@ pub(crate) fn written<W: Write>(writer: &mut W, text: &str) -> Result<(), Fault>
     match write_text(writer, text) {
         Ok(()) => Ok(()),
         Err(_) => Err(Fault::InputOutput),
+    }
+}
+
+// The program's fault for a fault of the desk.
+pub(crate) fn fault_of_desk(returned: club_gate::Fault) -> Fault
+    ensures { result ≡ spec.fault_of_desk returned }
+{
+    match returned {
+        club_gate::Fault::Refused(refusal) => Fault::Refused(refusal),
+        club_gate::Fault::Store(failure) => Fault::from(failure),
     }
 }

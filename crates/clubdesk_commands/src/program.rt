@@ -5,17 +5,15 @@ ghost use Rattle.clubdesk_commands.specs.ByTraits.{PerformsOver, Runs, log_chang
 ghost use Rattle.clubdesk_commands.specs.Input.{awaits_root};
 ghost use Rattle.clubdesk_commands.specs.Output.{input, output};
 ghost use Rattle.clubdesk_commands.specs.Run as spec;
-ghost use Rattle.clubdesk_commands.specs.Words.{asked_job};
+ghost use Rattle.clubdesk_arguments.specs.Words.{asked_job};
 
-use crate::fault::Fault;
 use crate::input::with_root;
 use crate::looks::{show_account, show_slot};
 use crate::office::{give_order, order_pass, show_sheet};
-use crate::task::{Job, Task};
 use crate::turns::{pause, serve_file};
-use crate::words::{Asked, command_of};
 use club_core::{ClubStore, Command};
 use club_gate::Desk;
+use clubdesk_arguments::{Asked, Fault, Job, Task, command_of};
 use desk_server::{Databases, Log};
 use std::alloc::Global;
 use std::convert::AsStr;

@@ -6,15 +6,11 @@ ghost use Rattle.desk_server.specs.Served.{AreNoted};
 ghost use Rattle.clubdesk_commands.specs.Output.{output};
 ghost use Rattle.clubdesk_commands.specs.Run as spec;
 
-use crate::clock::Clock;
-use crate::fault::Fault;
-use crate::task::Service;
+use club_clock::{ClockIn, Fixed, Moments};
 use club_http::Face;
+use clubdesk_arguments::{Clock, Fault, Service};
 use command_line::write_text;
-use desk_server::{
-    ClockIn, ClockOutOfRange, Connections, Fixed, IdleHook, Listening, Log, Moments, Unlogged,
-    serve_logged,
-};
+use desk_server::{ClockOutOfRange, Connections, IdleHook, Listening, Log, Unlogged, serve_logged};
 use std::alloc::{AllocError, Global};
 use std::io::Write;
 use std::net::TcpListener;

@@ -5,14 +5,13 @@ ghost use Rattle.clubdesk_commands.specs.ByTraits.{PerformsOver, ServesOver, log
 ghost use Rattle.clubdesk_commands.specs.DeskAtNeed.{access_of};
 ghost use Rattle.clubdesk_commands.specs.Output.{output};
 ghost use Rattle.clubdesk_commands.specs.Run as spec;
-ghost use Rattle.clubdesk_commands.specs.declared.task.Task.TheVariants.{Pause, Serve};
+ghost use Rattle.clubdesk_arguments.specs.declared.task.Task.TheVariants.{Pause, Serve};
 
 use crate::at_need::{DeskAtNeed, close_open};
-use crate::fault::Fault;
 use crate::office::{DONE, written};
 use crate::server::serve;
-use crate::task::Service;
 use club_gate::Desk;
+use clubdesk_arguments::{Fault, Service};
 use desk_server::{Databases, Log};
 use std::io::Write;
 use std::time::Clock;

@@ -1,10 +1,11 @@
 //! Servers of one request, over a database in a file.
 
 use crate::runs::{Run, Work, do_work};
+use club_clock::Fixed;
 use club_core::ClubStore;
 use club_http::{Desk, Face};
 use club_values::Moment;
-use desk_server::{Databases, Fixed, Listening, serve_on};
+use desk_server::{Databases, Listening, serve_on};
 use std::io::{Read, Write};
 use std::net::{TcpListener, TcpStream};
 use std::test::Fail;

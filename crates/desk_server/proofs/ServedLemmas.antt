@@ -7,7 +7,8 @@ use Rattle.club_http.specs.Exchange.{Exchanges, Replies}
 use Rattle.club_http.specs.Replied.{AnswerRelation}
 use Rattle.club_http.specs.declared.fault.AnswerFault.{AnswerFault}
 use Rattle.club_http.specs.declared.fault.AnswerFault.TheVariants.{Read, Write}
-use Rattle.desk_server.specs.Served.{AreServed, CountsOn, Ends, HasAnswered, Idles, IsExchanged, ServesOne, GivesMoment, failures_after}
+use Rattle.desk_server.specs.Served.{AreServed, CountsOn, Ends, HasAnswered, Idles, IsExchanged, ServesOne, failures_after}
+use Rattle.club_clock.specs.Moments.{GivesMoment}
 use Rattle.desk_server.specs.Served as spec
 use Rattle.desk_server.specs.declared.log.Fate.{Fate}
 use Rattle.desk_server.specs.declared.log.Fate.TheVariants.{Absent, Unanswered, Exchanged}

@@ -1,6 +1,5 @@
 pub mod Limits
 pub mod Databases
-pub mod Zone
 pub mod RequestLine
 pub mod Log
 pub mod Served

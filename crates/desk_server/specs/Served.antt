@@ -1,5 +1,6 @@
 -- A server: it serves connections one after the other (ours).
 use Rattle.std.specs.Prelude.{◌≡◌, ℕ, zero, suc, ◌+◌, ◌^◌, ◌<◌, List, [], ◌∷◌, ◌++◌, length, take, Option, Some, None, Result, Ok, Err}
+use Rattle.club_clock.specs.Moments.{GivesMoment}
 use Rattle.club_core.specs.declared.reply.Reply.{Reply}
 use Rattle.club_http.specs.Ends.{one_more}
 use Rattle.club_http.specs.Exchange.{Exchanges}
@@ -8,10 +9,6 @@ use Rattle.club_http.specs.declared.fault.AnswerFault.{AnswerFault}
 use Rattle.desk_server.specs.declared.log.Fate.{Fate}
 use Rattle.desk_server.specs.declared.log.Fate.TheVariants.{Absent, Unanswered, Exchanged}
 use Rattle.desk_server.specs.declared.serve.ClockOutOfRange.{ClockOutOfRange}
-
--- the moment that a clock gives, with the clock before and after
-abbrev pub GivesMoment : Type 0 → Type 1
-GivesMoment Clock = Clock → Option ℕ → Clock → Type 0
 
 -- a u64 counter grows by so many, as long as it doesn't overflow
 abbrev pub CountsOn : ℕ → ℕ → ℕ → Type 0

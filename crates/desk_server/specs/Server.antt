@@ -1,7 +1,8 @@
 -- What a server does to its connections, its clock, its desk and its log (ours).
 use Rattle.std.specs.Prelude.{ℕ, length, Result}
 use Rattle.club_http.specs.Replied.{AnswerRelation}
-use Rattle.desk_server.specs.Served.{AreNoted, CountsOn, Ends, GivesMoment, Idles, IsNoted, Notes, Serves, ServesOne}
+use Rattle.desk_server.specs.Served.{AreNoted, CountsOn, Ends, Idles, IsNoted, Notes, Serves, ServesOne}
+use Rattle.club_clock.specs.Moments.{GivesMoment}
 use Rattle.desk_server.specs.declared.connections.Connections.{Ghosts}
 use Rattle.desk_server.specs.declared.log.Fate.{Fate}
 use Rattle.desk_server.specs.declared.serve.ClockOutOfRange.{ClockOutOfRange}

@@ -2,10 +2,11 @@
 
 ghost use Rattle.std.specs.Prelude.{◌≤◌, length};
 
+use club_clock::Moments;
 use club_core::{Refusal, Reply};
 use club_http::{AnswerFault, Face, ReadInlet, Responder, WriteOutlet, answer};
 use club_values::Moment;
-use desk_server::{Connection, Connections, IdleHook, Moments, TimedRead, TimedWrite};
+use desk_server::{Connection, Connections, IdleHook, TimedRead, TimedWrite};
 use http_request::Words;
 use std::cell::Cell;
 use std::io::{self, ErrorKind, Read, Write};

@@ -2,8 +2,8 @@
 //! language, from the zones' own database.
 
 use crate::expect::{expect_eq, expect_shown};
+use club_clock::Zone;
 use club_values::Moment;
-use desk_server::Zone;
 use jiff_core::Timestamp;
 use std::alloc::Global;
 use std::process::Abort;

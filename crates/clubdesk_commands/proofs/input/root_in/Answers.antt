@@ -1,6 +1,6 @@
 use Rattle.std.proofs.Common.{◌∙◌, ap, sym}
 use Rattle.clubdesk_commands.specs.Input.{root_of_text}
-use Rattle.clubdesk_commands.specs.Values.{key_root_of}
+use Rattle.clubdesk_arguments.specs.Values.{key_root_of}
 use Rattle.clubdesk_commands.proofs.RootTexts.{no_text_root, text_root}
 use Rattle.clubdesk_commands.proofs.input.root_in.Goals as goal
 

@@ -15,5 +15,5 @@ returns-in-Err g c = record {
   kept = c.in-Err.ensures.kept;
   shown = Err c.in-Err.fault;
   is = c.in-Err.ensures.shown;
-  gives = (ap Err c.from.ensures, refl);
+  gives = (ap Err c.fault_of_desk.ensures, refl);
 }

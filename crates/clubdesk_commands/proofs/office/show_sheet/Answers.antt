@@ -13,5 +13,5 @@ pub returns-in-Err-clause-returned : goal.returns-in-Err-clause-returned
 returns-in-Err-clause-returned g c = record {
   read = Err c.in-Err.fault;
   is = c.in-Err.ensures.returned;
-  prints = (ap Err c.from.ensures, refl);
+  prints = (ap Err c.fault_of_desk.ensures, refl);
 }

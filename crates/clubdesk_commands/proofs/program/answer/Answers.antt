@@ -3,7 +3,7 @@ use Rattle.desk_server.specs.Served as served
 use Rattle.clubdesk_commands.specs.Input.{asks_root}
 use Rattle.clubdesk_commands.specs.Run.{asks_log, job_of}
 use Rattle.clubdesk_commands.specs.Run as spec
-use Rattle.clubdesk_commands.specs.declared.words.Asked.{Asked}
+use Rattle.clubdesk_arguments.specs.declared.words.Asked.{Asked}
 use Rattle.clubdesk_commands.proofs.InputLemmas.{whole_awaits_none, whole_logs}
 use Rattle.clubdesk_commands.proofs.RunLemmas.{same_job, text_is_silent}
 use Rattle.clubdesk_commands.proofs.program.answer.Goals as goal

@@ -1,5 +1,5 @@
-use Rattle.desk_server.specs.declared.moments.ClockIn.{ClockIn}
-use Rattle.clubdesk_commands.specs.declared.clock.Clock.TheVariants.{Fixed, InZone}
+use Rattle.club_clock.specs.declared.moments.ClockIn.{ClockIn}
+use Rattle.clubdesk_arguments.specs.declared.clock.Clock.TheVariants.{Fixed, InZone}
 use Rattle.clubdesk_commands.proofs.ServerLemmas.{in_zone, serves_by_showing}
 use Rattle.clubdesk_commands.proofs.server.serve_by.Goals as goal
 

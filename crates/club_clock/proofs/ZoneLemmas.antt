@@ -1,0 +1,89 @@
+-- Lemmas on zones and what their clocks show.
+use Rattle.std.proofs.Common.{◌≡◌, ◌↔◌, ℕ, ◌+◌, ◌*◌, ◌<◌, ◌≤◌, Bool, cond, true, false, List, Option, Some, None, inl, inr, refl, arith}
+use Rattle.std.specs.Prelude.{IsSome, IfSome, is_some, ℤ, pos, negsuc, ◌+ℤ◌, ◌*ℤ◌}
+use Rattle.std.proofs.lemmas.Bool.{cases_lt}
+use borrow.Author.Differences.{ints}
+use Rattle.jiff_core.specs.Date.{epoch_day}
+use Rattle.jiff_core.specs.DateTime.{civil_nanos}
+use Rattle.jiff_core.specs.Time.{time_nanos}
+use Rattle.jiff_core.specs.Timestamp.{nanos_of_seconds}
+use Rattle.jiff_core.specs.declared.civil.datetime.DateTime.{DateTime}
+use Rattle.jiff_core.specs.declared.civil.time.Time.{Time}
+use Rattle.jiff_tz.specs.PosixReader.{read_whole}
+use Rattle.jiff_tz.specs.PosixRule.{offset_at}
+use Rattle.jiff_tz.specs.declared.posix.TimeZone.{TimeZone}
+use Rattle.club_values.specs.Day.{IsDay}
+use Rattle.club_values.specs.Moment.{IsMoment}
+use Rattle.club_clock.specs.Zone.{IsInMinute, IsShown, IsZoneOf, zone_of}
+
+pub zone_read : (text : List ℕ) → IsSome (read_whole text) → Some text ≡ zone_of text
+unfolding zone_of
+zone_read text some = rw some refl
+
+pub no_zone : (text : List ℕ) → (IsSome (read_whole text) → ⊥) → None ≡ zone_of text
+unfolding zone_of
+no_zone text none = go (is_some (read_whole text)) none
+  where
+    go : (b : Bool) → (b ≡ true → ⊥) → None ≡ cond b (Some text) None
+    go true h = absurd (h refl)
+    go false h = refl
+
+-- ---- what a clock shows
+
+-- the parts of a time are less than a day
+within_day : (t : Time) → time_nanos t < 86_400_000_000_000
+within_day t = omega (arith, t.hour_in, t.minute_in, t.second_in, t.subsec_in)
+
+-- a minute of a day, by its bounds
+in_minute : (day nanos n : ℕ) → n * 60_000_000_000 ≤ day * 86_400_000_000_000 + nanos
+    → day * 86_400_000_000_000 + nanos < n * 60_000_000_000 + 60_000_000_000
+    → IsInMinute (pos day *ℤ pos 86_400_000_000_000 +ℤ pos nanos) n
+in_minute day nanos n least most = (omega (arith, ints), omega (arith, ints))
+
+minute_bounds : (day nanos n : ℕ) → IsInMinute (pos day *ℤ pos 86_400_000_000_000 +ℤ pos nanos) n
+    → (n * 60_000_000_000 ≤ day * 86_400_000_000_000 + nanos) × (day * 86_400_000_000_000 + nanos < n * 60_000_000_000 + 60_000_000_000)
+minute_bounds day nanos n h = (omega (arith, ints, h.0), omega (arith, ints, h.1))
+
+-- no day before 1970 has a moment
+never_before : (k nanos n : ℕ) → nanos < 86_400_000_000_000 → IsMoment n → ¬ (IsInMinute (negsuc k *ℤ pos 86_400_000_000_000 +ℤ pos nanos) n)
+never_before k nanos n short within h = absurd (omega (arith, ints, h.0))
+
+-- a day out of range has no moment
+never_out : (day : ℤ) (nanos n : ℕ) → nanos < 86_400_000_000_000 → ((x : ℕ) → ¬ (IsDay x × (day ≡ pos x)))
+    → ¬ (IsMoment n × IsInMinute (day *ℤ pos 86_400_000_000_000 +ℤ pos nanos) n)
+never_out (negsuc k) nanos n short out (within, h) = never_before k nanos n short within h
+never_out (pos day) nanos n short out (within, h) =
+    let bounds = minute_bounds day nanos n h in
+    elim (cases_lt day 10957) [
+      | inl early ↦ absurd (omega arith)
+      | inr least ↦ elim (cases_lt 47481 day) [
+        | inl late ↦ absurd (omega arith)
+        | inr most ↦ absurd (out day ((least, most), refl))
+      ]
+    ]
+
+module _ (rule : List ℕ) (instant : ℤ) (zone : TimeZone) (of_rule : IsZoneOf rule zone) (civil : DateTime)
+    (is : civil_nanos civil ≡ instant +ℤ nanos_of_seconds (offset_at zone instant).seconds) where
+  pub none_shown : ((x : ℕ) → ¬ (IsDay x × (epoch_day civil.date ≡ pos x))) → IsShown rule instant None
+  unfolding civil_nanos
+  none_shown out = record {
+    zone = zone;
+    of_rule = of_rule;
+    minute = λ n h. never_out (epoch_day civil.date) (time_nanos civil.time) n (within_day civil.time) out (h.0, rw (← is) at h.1);
+  }
+
+  pub shown : (day minute : ℕ) (moment : Option ℕ) → IsDay day → epoch_day civil.date ≡ pos day
+      → minute ≡ civil.time.hour * 60 + civil.time.minute → (IsSome moment ↔ (minute < 1440)) → IfSome moment (λ n. n ≡ day * 1440 + minute)
+      → IsShown rule instant moment
+  unfolding civil_nanos
+  shown day minute None within same minute_is some value =
+      let bad = some.1 (omega (arith, civil.time.hour_in, civil.time.minute_in)) in cc
+  shown day minute (Some n) within same minute_is some value = record {
+    zone = zone;
+    of_rule = of_rule;
+    minute = (
+      (omega arith, omega (arith, civil.time.hour_in, civil.time.minute_in)),
+      rw (← is, same) (in_minute day (time_nanos civil.time) n
+          (omega arith) (omega (arith, civil.time.second_in, civil.time.subsec_in))),
+    );
+  }

@@ -1,0 +1,2 @@
+pub mod Zone
+pub mod Moments

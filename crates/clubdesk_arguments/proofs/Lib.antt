@@ -1,0 +1,6 @@
+pub mod AppLemmas
+pub mod ValueLemmas
+pub mod WordsLemmas
+pub mod NamedLemmas
+pub mod WordLaws
+pub mod LookLaws

@@ -1,0 +1,46 @@
+-- The exit status and the line of each fault (ours).
+use Rattle.std.specs.Prelude.{◌≡◌, ℕ, List, ◌++◌, Option, Some, None, codes}
+use Rattle.clap.specs.Words.{kind_of}
+use Rattle.clap.specs.declared.error.kind.ErrorKind.TheVariants as kind
+use Rattle.command_line.specs.declared.errors.WordsFault.{WordsFault}
+use Rattle.command_line.specs.declared.errors.WordsFault.TheVariants as words
+use Rattle.club_core.specs.Faults.{office_fault_text}
+use Rattle.club_core.specs.declared.store.StoreFault.{StoreFault}
+use Rattle.club_core.specs.declared.store.StoreFault.TheVariants as store
+use Rattle.clubdesk_arguments.specs.declared.fault.Fault.{Fault}
+use Rattle.clubdesk_arguments.specs.declared.fault.Fault.TheVariants.{Refused, Words, BadValue, Memory, Storage, ClockOutOfRange, InputOutput}
+
+abbrev pub fault_status : Fault → ℕ
+fault_status (Refused fault) = 1
+fault_status (Words error) = 2
+fault_status BadValue = 3
+fault_status Memory = 4
+fault_status Storage = 5
+fault_status ClockOutOfRange = 6
+fault_status InputOutput = 7
+
+-- the fault of refused words
+abbrev pub of_words : WordsFault → Fault
+of_words (words.Refused error) = Words error
+of_words words.Memory = Memory
+
+-- the program's fault for a database that can't be opened
+abbrev pub fault_of_opening : StoreFault → Fault
+fault_of_opening store.Memory = Memory
+fault_of_opening store.Storage = Storage
+
+-- the line on standard error; clap's own text is not stated
+abbrev pub fault_line : Fault → Option (List ℕ)
+fault_line (Refused fault) = Some (codes "refused: " ++ office_fault_text fault)
+fault_line (Words error) = None
+fault_line BadValue = Some (codes "bad value")
+fault_line Memory = Some (codes "out of memory")
+fault_line Storage = Some (codes "storage failed")
+fault_line ClockOutOfRange = Some (codes "clock out of range")
+fault_line InputOutput = Some (codes "input or output failed")
+
+-- the faults of words that aren't UTF-8
+abbrev pub IsNotText : Fault → Type 0
+IsNotText (Words error) = kind_of error ≡ kind.ValueValidation
+IsNotText Memory = Unit {0}
+IsNotText _ = ⊥

@@ -1,0 +1,160 @@
+-- Laws of the definitions: what each command's words ask for. After `--` words are never options, whatever they begin with.
+use Rattle.std.specs.Prelude.{◌≡◌, ℕ, List, [], ◌∷◌, ◌++◌, Some, codes, false, true}
+use Rattle.clap.specs.Words.{Text}
+use Rattle.club_values.specs.computed.TextOf.{name_of_text, kind_of_text, day_of_text, hour_of_text, moment_of_text}
+use Rattle.club_values.specs.declared.kind.Kind.{Kind}
+use Rattle.club_core.specs.declared.command.Command.TheVariants as order
+use Rattle.pass_forms.specs.declared.form.Form.{Form}
+use Rattle.pass_forms.specs.declared.form.Form.TheVariants.{V2}
+use Rattle.command_line.specs.FormName.{form_name}
+use Rattle.clubdesk_arguments.specs.Values.{count_of, parse_number, patience_of, pause_seconds, port_of, key_root_of}
+use Rattle.club_clock.specs.Zone.{zone_of}
+use Rattle.clubdesk_arguments.specs.Words.{asked_job}
+use Rattle.clubdesk_arguments.specs.declared.clock.Clock.TheVariants.{Fixed, InZone}
+use Rattle.clubdesk_arguments.specs.declared.task.Task.{Task}
+use Rattle.clubdesk_arguments.specs.declared.task.Task.TheVariants.{Order, AddKey, AddKeyByInput, RotateKey, RotateKeyByInput}
+use Rattle.clubdesk_arguments.specs.declared.task.Task.TheVariants.{Sheet, Serve, Pause, ShowAccount, ShowSlot}
+
+-- words ask for a task over a file
+abbrev pub AsksFor : List Text → Text → Task → Type 0
+AsksFor words file task = asked_job words ≡ Some (record { file = file; task = task })
+
+-- `add-member FILE NAME QUOTA`, of whatever name the program has
+abbrev pub AddMemberTakesItsParts : Type 0
+AddMemberTakesItsParts = (program file name quota : Text) (who : Text) (most : ℕ)
+    → name_of_text name ≡ Some who → parse_number quota ≡ Some most
+    → AsksFor (program ∷ codes "add-member" ∷ codes "--" ∷ file ∷ name ∷ quota ∷ []) file (Order (order.AddMember who most))
+
+-- `credit FILE MEMBER POINTS`
+abbrev pub CreditTakesItsParts : Type 0
+CreditTakesItsParts = (program file member points : Text) (who : Text) (many : ℕ)
+    → name_of_text member ≡ Some who → parse_number points ≡ Some many
+    → AsksFor (program ∷ codes "credit" ∷ codes "--" ∷ file ∷ member ∷ points ∷ []) file (Order (order.Credit who many))
+
+-- `add-facility FILE NAME KIND PLACES PRICE OPENS SHUTS`
+abbrev pub AddFacilityTakesItsParts : Type 0
+AddFacilityTakesItsParts = (program file name kind places price opens shuts : Text) (what : Text) (of_kind : Kind) (p q o s : ℕ)
+    → name_of_text name ≡ Some what → kind_of_text kind ≡ Some of_kind → parse_number places ≡ Some p → parse_number price ≡ Some q
+    → parse_number opens ≡ Some o → parse_number shuts ≡ Some s
+    → AsksFor (program ∷ codes "add-facility" ∷ codes "--" ∷ file ∷ name ∷ kind ∷ places ∷ price ∷ opens ∷ shuts ∷ [])
+    file (Order (order.AddFacility what of_kind p q o s))
+
+-- `add-key --form=FORM -- FILE KEY MEMBER ROOT`
+abbrev pub AddKeyTakesItsParts : Type 0
+AddKeyTakesItsParts = (program file key member hex : Text) (form : Form) (what who root : Text)
+    → name_of_text key ≡ Some what → name_of_text member ≡ Some who → key_root_of hex ≡ Some root
+    → AsksFor (program ∷ codes "add-key" ∷ (codes "--form=" ++ form_name form) ∷ codes "--" ∷ file ∷ key ∷ member ∷ hex ∷ [])
+    file (AddKey what who root form)
+
+-- the same without a form
+abbrev pub AddKeyTakesV2 : Type 0
+AddKeyTakesV2 = (program file key member hex : Text) (what who root : Text)
+    → name_of_text key ≡ Some what → name_of_text member ≡ Some who → key_root_of hex ≡ Some root
+    → AsksFor (program ∷ codes "add-key" ∷ codes "--" ∷ file ∷ key ∷ member ∷ hex ∷ []) file (AddKey what who root V2)
+
+-- `add-key --root-stdin -- FILE KEY MEMBER`, whose root is read from the input
+abbrev pub AddKeyTakesItsInput : Type 0
+AddKeyTakesItsInput = (program file key member : Text) (what who : Text)
+    → name_of_text key ≡ Some what → name_of_text member ≡ Some who
+    → AsksFor (program ∷ codes "add-key" ∷ codes "--root-stdin" ∷ codes "--" ∷ file ∷ key ∷ member ∷ []) file (AddKeyByInput what who V2)
+
+-- `revoke-key FILE KEY`
+abbrev pub RevokeKeyTakesItsKey : Type 0
+RevokeKeyTakesItsKey = (program file key : Text) (what : Text) → name_of_text key ≡ Some what
+    → AsksFor (program ∷ codes "revoke-key" ∷ codes "--" ∷ file ∷ key ∷ []) file (Order (order.RevokeKey what))
+
+-- `rotate-key --form=FORM -- FILE KEY ROOT MOMENT`
+abbrev pub RotateKeyTakesItsParts : Type 0
+RotateKeyTakesItsParts = (program file key hex moment : Text) (form : Form) (what root : Text) (until : ℕ)
+    → name_of_text key ≡ Some what → key_root_of hex ≡ Some root → moment_of_text moment ≡ Some until
+    → AsksFor (program ∷ codes "rotate-key" ∷ (codes "--form=" ++ form_name form) ∷ codes "--" ∷ file ∷ key ∷ hex ∷ moment ∷ [])
+    file (RotateKey what root until form)
+
+-- the same without a form
+abbrev pub RotateKeyTakesV2 : Type 0
+RotateKeyTakesV2 = (program file key hex moment : Text) (what root : Text) (until : ℕ)
+    → name_of_text key ≡ Some what → key_root_of hex ≡ Some root → moment_of_text moment ≡ Some until
+    → AsksFor (program ∷ codes "rotate-key" ∷ codes "--" ∷ file ∷ key ∷ hex ∷ moment ∷ []) file (RotateKey what root until V2)
+
+-- `rotate-key --root-stdin -- FILE KEY MOMENT`, whose root is read from the input
+abbrev pub RotateKeyTakesItsInput : Type 0
+RotateKeyTakesItsInput = (program file key moment : Text) (what : Text) (until : ℕ)
+    → name_of_text key ≡ Some what → moment_of_text moment ≡ Some until
+    → AsksFor (program ∷ codes "rotate-key" ∷ codes "--root-stdin" ∷ codes "--" ∷ file ∷ key ∷ moment ∷ []) file (RotateKeyByInput what until V2)
+
+-- `close-slot FILE FACILITY DAY HOUR`
+abbrev pub CloseSlotTakesItsSlot : Type 0
+CloseSlotTakesItsSlot = (program file facility day hour : Text) (what : Text) (on at : ℕ)
+    → name_of_text facility ≡ Some what → day_of_text day ≡ Some on → hour_of_text hour ≡ Some at
+    → AsksFor (program ∷ codes "close-slot" ∷ codes "--" ∷ file ∷ facility ∷ day ∷ hour ∷ [])
+    file (Order (order.CloseSlot (record { facility = what; day = on; hour = at })))
+
+-- `sheet FILE DAY`
+abbrev pub SheetTakesItsDay : Type 0
+SheetTakesItsDay = (program file day : Text) (on : ℕ) → day_of_text day ≡ Some on
+    → AsksFor (program ∷ codes "sheet" ∷ codes "--" ∷ file ∷ day ∷ []) file (Sheet on)
+
+-- `show-account --zone=RULE -- FILE KEY`
+abbrev pub ShowAccountTakesItsParts : Type 0
+ShowAccountTakesItsParts = (program file key zone : Text) (what rule : Text)
+    → name_of_text key ≡ Some what → zone_of zone ≡ Some rule
+    → AsksFor (program ∷ codes "show-account" ∷ (codes "--zone=" ++ zone) ∷ codes "--" ∷ file ∷ key ∷ []) file (ShowAccount what (InZone rule))
+
+-- the same without a zone
+abbrev pub ShowAccountTakesUtc : Type 0
+ShowAccountTakesUtc = (program file key : Text) (what : Text) → name_of_text key ≡ Some what
+    → AsksFor (program ∷ codes "show-account" ∷ codes "--" ∷ file ∷ key ∷ []) file (ShowAccount what (InZone (codes "UTC0")))
+
+-- `show-account --at=MOMENT -- FILE KEY`
+abbrev pub ShowAccountTakesItsMoment : Type 0
+ShowAccountTakesItsMoment = (program file key fixed : Text) (what : Text) (moment : ℕ)
+    → name_of_text key ≡ Some what → moment_of_text fixed ≡ Some moment
+    → AsksFor (program ∷ codes "show-account" ∷ (codes "--at=" ++ fixed) ∷ codes "--" ∷ file ∷ key ∷ []) file (ShowAccount what (Fixed moment))
+
+-- `show-slot FILE FACILITY DAY HOUR`
+abbrev pub ShowSlotTakesItsSlot : Type 0
+ShowSlotTakesItsSlot = (program file facility day hour : Text) (what : Text) (on at : ℕ)
+    → name_of_text facility ≡ Some what → day_of_text day ≡ Some on → hour_of_text hour ≡ Some at
+    → AsksFor (program ∷ codes "show-slot" ∷ codes "--" ∷ file ∷ facility ∷ day ∷ hour ∷ [])
+    file (ShowSlot (record { facility = what; day = on; hour = at }))
+
+-- `pause FILE SECONDS`
+abbrev pub PauseTakesItsSeconds : Type 0
+PauseTakesItsSeconds = (program file seconds : Text) (many : ℕ) → pause_seconds seconds ≡ Some many
+    → AsksFor (program ∷ codes "pause" ∷ codes "--" ∷ file ∷ seconds ∷ []) file (Pause many)
+
+-- `serve --port=P --count=N --zone=RULE -- FILE`, with ten seconds of patience
+abbrev pub ServeTakesItsParts : Type 0
+ServeTakesItsParts = (program file port count zone : Text) (at many : ℕ) (rule : Text)
+    → port_of port ≡ Some at → count_of count ≡ Some many → zone_of zone ≡ Some rule
+    → AsksFor (program ∷ codes "serve" ∷ (codes "--port=" ++ port) ∷ (codes "--count=" ++ count) ∷ (codes "--zone=" ++ zone) ∷ codes "--" ∷ file ∷ [])
+    file (Serve (record { port = at; count = many; clock = InZone rule; patience = 10; log = false }))
+
+-- the same without a zone
+abbrev pub ServeTakesUtc : Type 0
+ServeTakesUtc = (program file port count : Text) (at many : ℕ)
+    → port_of port ≡ Some at → count_of count ≡ Some many
+    → AsksFor (program ∷ codes "serve" ∷ (codes "--port=" ++ port) ∷ (codes "--count=" ++ count) ∷ codes "--" ∷ file ∷ [])
+    file (Serve (record { port = at; count = many; clock = InZone (codes "UTC0"); patience = 10; log = false }))
+
+-- the same with a moment for all connections
+abbrev pub ServeTakesItsMoment : Type 0
+ServeTakesItsMoment = (program file port count fixed : Text) (at many moment : ℕ)
+    → port_of port ≡ Some at → count_of count ≡ Some many → moment_of_text fixed ≡ Some moment
+    → AsksFor (program ∷ codes "serve" ∷ (codes "--port=" ++ port) ∷ (codes "--count=" ++ count) ∷ (codes "--at=" ++ fixed) ∷ codes "--" ∷ file ∷ [])
+    file (Serve (record { port = at; count = many; clock = Fixed moment; patience = 10; log = false }))
+
+-- the same with a log
+abbrev pub ServeTakesItsLog : Type 0
+ServeTakesItsLog = (program file port count fixed : Text) (at many moment : ℕ)
+    → port_of port ≡ Some at → count_of count ≡ Some many → moment_of_text fixed ≡ Some moment
+    → AsksFor (program ∷ codes "serve" ∷ (codes "--port=" ++ port) ∷ (codes "--count=" ++ count) ∷ (codes "--at=" ++ fixed) ∷ codes "--log" ∷ codes "--" ∷ file
+    ∷ [])
+    file (Serve (record { port = at; count = many; clock = Fixed moment; patience = 10; log = true }))
+
+-- `serve --port=P --count=N --patience=SECONDS -- FILE`
+abbrev pub ServeTakesItsPatience : Type 0
+ServeTakesItsPatience = (program file port count seconds : Text) (at many long : ℕ)
+    → port_of port ≡ Some at → count_of count ≡ Some many → patience_of seconds ≡ Some long
+    → AsksFor (program ∷ codes "serve" ∷ (codes "--port=" ++ port) ∷ (codes "--count=" ++ count) ∷ (codes "--patience=" ++ seconds) ∷ codes "--" ∷ file ∷ [])
+    file (Serve (record { port = at; count = many; clock = InZone (codes "UTC0"); patience = long; log = false }))

@@ -1,0 +1,6 @@
+pub mod Application
+pub mod Values
+pub mod JobModel
+pub mod Fault
+pub mod Words
+pub mod Laws

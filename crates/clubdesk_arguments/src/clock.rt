@@ -1,0 +1,13 @@
+//! Where moments come from.
+
+use club_clock::Zone;
+use club_values::Moment;
+
+/// Where the moment of a connection comes from, or of a look.
+#[derive(Drop)]
+pub enum Clock<'a> {
+    /// One moment, for all connections.
+    Fixed(Moment),
+    /// The machine's clock, in a zone.
+    InZone(Zone<'a>),
+}

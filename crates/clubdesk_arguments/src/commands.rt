@@ -1,0 +1,191 @@
+//! The task of each command, from the values that its words spell.
+
+ghost use Rattle.std.specs.Prelude.{◌≡◌, option_map};
+ghost use Rattle.clap.specs.Words.{found_of, rows_of};
+ghost use Rattle.clubdesk_arguments.specs.Words as spec;
+
+use crate::clock::Clock;
+use crate::options::{given, moment_word, name_of, number_at};
+use crate::task::{Service, Task};
+use crate::values::{count_of, patience_of, pause_seconds, port_of, root_of};
+use clap::ArgMatches;
+use club_clock::Zone;
+use club_core::Command;
+use club_values::{Day, Hour, Kind, Moment, Slot};
+use command_line::{is_set, value_of};
+use pass_forms::Form;
+
+/// `add-member FILE NAME QUOTA`
+pub fn add_member<'a>(words: &ArgMatches<'a>) -> Option<Task<'a>>
+    ensures { result ≡ spec.add_member_of (rows_of (found_of words.now)) }
+{
+    let name = name_of(words, "NAME")?;
+    let quota = number_at(words, "QUOTA")?;
+    Some(Task::Order(Command::AddMember { name, quota }))
+}
+
+/// `credit FILE MEMBER POINTS`
+pub fn credit<'a>(words: &ArgMatches<'a>) -> Option<Task<'a>>
+    ensures { result ≡ spec.credit_of (rows_of (found_of words.now)) }
+{
+    let member = name_of(words, "MEMBER")?;
+    let points = number_at(words, "POINTS")?;
+    Some(Task::Order(Command::Credit { member, points }))
+}
+
+/// `add-facility FILE NAME KIND PLACES PRICE OPENS SHUTS`
+pub fn add_facility<'a>(words: &ArgMatches<'a>) -> Option<Task<'a>>
+    ensures { result ≡ spec.add_facility_of (rows_of (found_of words.now)) }
+{
+    let name = name_of(words, "NAME")?;
+    let kind = Kind::read(value_of(words, "KIND").as_bytes())?;
+    let places = number_at(words, "PLACES")?;
+    let price = number_at(words, "PRICE")?;
+    let opens = number_at(words, "OPENS")?;
+    let shuts = number_at(words, "SHUTS")?;
+    Some(Task::Order(Command::AddFacility {
+        name,
+        kind,
+        places,
+        price,
+        opens,
+        shuts,
+    }))
+}
+
+/// `add-key FILE KEY MEMBER ROOT [--form FORM]`, or without the root's word where the root is read
+/// from the input.
+pub fn add_key<'a>(words: &ArgMatches<'a>, root: Option<&str>, form: Form) -> Option<Task<'a>>
+    ensures { result ≡ spec.add_key_of (option_map (λ text. text.now) root.entry) form
+        (rows_of (found_of words.now)) }
+{
+    let name = name_of(words, "KEY")?;
+    let member = name_of(words, "MEMBER")?;
+    match root {
+        None => Some(Task::AddKeyByInput { name, member, form }),
+        Some(text) => {
+            let root = root_of(text)?;
+            Some(Task::AddKey {
+                name,
+                member,
+                root,
+                form,
+            })
+        }
+    }
+}
+
+/// `revoke-key FILE KEY`
+pub fn revoke_key<'a>(words: &ArgMatches<'a>) -> Option<Task<'a>>
+    ensures { result ≡ spec.revoke_key_of (rows_of (found_of words.now)) }
+{
+    let name = name_of(words, "KEY")?;
+    Some(Task::Order(Command::RevokeKey { name }))
+}
+
+/// `rotate-key FILE KEY ROOT MOMENT [--form FORM]`, or without the root's word where the root is
+/// read from the input.
+pub fn rotate_key<'a>(words: &ArgMatches<'a>, root: Option<&str>, form: Form) -> Option<Task<'a>>
+    ensures { result ≡ spec.rotate_key_of (option_map (λ text. text.now) root.entry) form
+        (rows_of (found_of words.now)) }
+{
+    let name = name_of(words, "KEY")?;
+    let until = Moment::read(moment_word(words).as_bytes())?;
+    match root {
+        None => Some(Task::RotateKeyByInput { name, until, form }),
+        Some(text) => {
+            let root = root_of(text)?;
+            Some(Task::RotateKey {
+                name,
+                root,
+                until,
+                form,
+            })
+        }
+    }
+}
+
+/// `close-slot FILE FACILITY DAY HOUR`
+pub fn close_slot<'a>(words: &ArgMatches<'a>) -> Option<Task<'a>>
+    ensures { result ≡ spec.close_slot_of (rows_of (found_of words.now)) }
+{
+    let facility = name_of(words, "FACILITY")?;
+    let day = Day::read(value_of(words, "DAY").as_bytes())?;
+    let hour = Hour::read(value_of(words, "HOUR").as_bytes())?;
+    Some(Task::Order(Command::CloseSlot(Slot {
+        facility,
+        day,
+        hour,
+    })))
+}
+
+/// `sheet FILE DAY`
+pub fn sheet<'a>(words: &ArgMatches<'a>) -> Option<Task<'a>>
+    ensures { result ≡ spec.sheet_of (rows_of (found_of words.now)) }
+{
+    let day = Day::read(value_of(words, "DAY").as_bytes())?;
+    Some(Task::Sheet(day))
+}
+
+/// `serve FILE --port P --count N [--zone RULE] [--at MOMENT] [--patience SECONDS] [--log]`
+pub fn serve<'a>(words: &ArgMatches<'a>) -> Option<Task<'a>>
+    ensures { result ≡ spec.serve_of (rows_of (found_of words.now)) }
+{
+    let port = port_of(value_of(words, "port"))?;
+    let count = count_of(value_of(words, "count"))?;
+    let zone = Zone::from_rule(value_of(words, "zone"))?;
+    let clock = clock_of(zone, given(words, "at"))?;
+    let patience = patience_of(value_of(words, "patience"))?;
+    Some(Task::Serve(Service {
+        port,
+        count,
+        clock,
+        patience,
+        log: is_set(words, "log"),
+    }))
+}
+
+/// `pause FILE SECONDS`
+pub fn pause<'a>(words: &ArgMatches<'a>) -> Option<Task<'a>>
+    ensures { result ≡ spec.pause_of (rows_of (found_of words.now)) }
+{
+    let seconds = pause_seconds(value_of(words, "SECONDS"))?;
+    Some(Task::Pause(seconds))
+}
+
+/// `show-account FILE KEY [--zone RULE] [--at MOMENT]`
+pub fn show_account<'a>(words: &ArgMatches<'a>) -> Option<Task<'a>>
+    ensures { result ≡ spec.show_account_of (rows_of (found_of words.now)) }
+{
+    let key = name_of(words, "KEY")?;
+    let zone = Zone::from_rule(value_of(words, "zone"))?;
+    let clock = clock_of(zone, given(words, "at"))?;
+    Some(Task::ShowAccount { key, clock })
+}
+
+/// `show-slot FILE FACILITY DAY HOUR`
+pub fn show_slot<'a>(words: &ArgMatches<'a>) -> Option<Task<'a>>
+    ensures { result ≡ spec.show_slot_of (rows_of (found_of words.now)) }
+{
+    let facility = name_of(words, "FACILITY")?;
+    let day = Day::read(value_of(words, "DAY").as_bytes())?;
+    let hour = Hour::read(value_of(words, "HOUR").as_bytes())?;
+    Some(Task::ShowSlot(Slot {
+        facility,
+        day,
+        hour,
+    }))
+}
+
+// The moment that `--at` fixes, else the clock in the zone.
+fn clock_of<'a>(zone: Zone<'a>, at: Option<&str>) -> Option<Clock<'a>>
+    ensures { result ≡ spec.clock_of zone.entry (option_map (λ text. text.now) at.entry) }
+{
+    match at {
+        None => Some(Clock::InZone(zone)),
+        Some(text) => {
+            let moment = Moment::read(text.as_bytes())?;
+            Some(Clock::Fixed(moment))
+        }
+    }
+}

@@ -1,0 +1,116 @@
+//! Why a command failed, with the exit status and the line.
+
+use club_core::{OfficeFault, StoreFault};
+use command_line::WordsFault;
+use std::alloc::AllocError;
+use std::{error, fmt, io};
+
+/// Why a command failed. Its `Display` is the line for standard error.
+#[derive(Debug, Drop)]
+pub enum Fault {
+    /// The office refuses the order.
+    Refused(OfficeFault),
+    /// `clap` refused the words, or `--form` names none of the three forms.
+    Words(clap::Error),
+    /// A word doesn't spell a value of its place.
+    BadValue,
+    /// Memory ran out.
+    Memory,
+    /// The database couldn't be opened, read or written, or isn't the club's.
+    Storage,
+    /// The clock shows a year before 2000 or after 2099.
+    ClockOutOfRange,
+    /// The output couldn't be written, or the server couldn't listen.
+    InputOutput,
+}
+
+impl Fault {
+    ghost use Rattle.std.specs.Prelude.{◌≡◌};
+    ghost use Rattle.clubdesk_arguments.specs.Fault.{fault_status};
+
+    /// The exit status, 1 to 7.
+    pub fn status(&self) -> u8
+        ensures { result ≡ fault_status self.now }
+    {
+        match self {
+            Fault::Refused(_) => 1,
+            Fault::Words(_) => 2,
+            Fault::BadValue => 3,
+            Fault::Memory => 4,
+            Fault::Storage => 5,
+            Fault::ClockOutOfRange => 6,
+            Fault::InputOutput => 7,
+        }
+    }
+}
+
+impl fmt::Display for Fault {
+    ghost use Rattle.clubdesk_arguments.specs.Fault.{fault_line};
+
+    ghost output = { fault_line };
+
+    fn fmt<W: fmt::Write>(&self, f: &mut fmt::Formatter<W>) -> fmt::Result {
+        match self {
+            Fault::Refused(fault) => write!(f, "refused: {fault}"),
+            Fault::Words(error) => write!(f, "{error}"),
+            Fault::BadValue => f.write_str("bad value"),
+            Fault::Memory => f.write_str("out of memory"),
+            Fault::Storage => f.write_str("storage failed"),
+            Fault::ClockOutOfRange => f.write_str("clock out of range"),
+            Fault::InputOutput => f.write_str("input or output failed"),
+        }
+    }
+}
+
+impl error::Error for Fault {}
+
+impl From<AllocError> for Fault {
+    ghost use Rattle.std.specs.Prelude.{◌≡◌};
+    ghost use Rattle.clubdesk_arguments.specs.declared.fault.Fault.TheVariants.{Memory};
+
+    ghost from_gives = { λ _ fault. fault ≡ Memory };
+
+    fn from(_error: AllocError) -> Fault {
+        Fault::Memory
+    }
+}
+
+impl From<io::Error> for Fault {
+    ghost use Rattle.std.specs.Prelude.{◌≡◌};
+    ghost use Rattle.clubdesk_arguments.specs.declared.fault.Fault.TheVariants.{InputOutput};
+
+    ghost from_gives = { λ _ fault. fault ≡ InputOutput };
+
+    fn from(_error: io::Error) -> Fault {
+        Fault::InputOutput
+    }
+}
+
+impl From<WordsFault> for Fault {
+    ghost use Rattle.std.specs.Prelude.{◌≡◌};
+    ghost use Rattle.clubdesk_arguments.specs.Fault.{of_words};
+
+    ghost from_gives = { λ returned fault. fault ≡ of_words returned };
+
+    fn from(returned: WordsFault) -> Fault {
+        match returned {
+            WordsFault::Refused(error) => Fault::Words(error),
+            WordsFault::Memory => Fault::Memory,
+        }
+    }
+}
+
+/// The fault of a database that can't be opened.
+impl From<StoreFault> for Fault {
+    ghost use Rattle.std.specs.Prelude.{◌≡◌};
+    ghost use Rattle.clubdesk_arguments.specs.Fault.{fault_of_opening};
+
+    ghost from_gives = { λ returned fault. fault ≡ fault_of_opening returned };
+
+    fn from(returned: StoreFault) -> Fault {
+        match returned {
+            StoreFault::Memory => Fault::Memory,
+            StoreFault::Storage => Fault::Storage,
+        }
+    }
+}

@@ -1,0 +1,20 @@
+//! The command line of `clubdesk`: its commands and options, what a line asks for, and the faults
+//! with their exit statuses.
+#![tactic(auto)]
+
+mod application;
+mod clock;
+mod commands;
+mod fault;
+pub mod laws;
+mod options;
+mod task;
+mod values;
+mod words;
+
+pub use application::not_text;
+pub use clock::Clock;
+pub use fault::Fault;
+pub use task::{Job, Service, Task};
+pub use values::root_of;
+pub use words::{Asked, command_of};

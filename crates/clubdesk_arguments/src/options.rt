@@ -1,0 +1,119 @@
+//! The words and options of a command, out of what `clap` found.
+
+ghost use Rattle.std.specs.Prelude.{◌≡◌, IfOk, codes, option_map};
+ghost use Rattle.clap.specs.Words.{first_of, found_of, rows_of};
+ghost use Rattle.command_line.specs.Words.{is_set};
+ghost use Rattle.clubdesk_arguments.specs.Words.{
+  AnswersForm,
+  AnswersRoot,
+  IsWordsFault,
+  form_in,
+  moment_word_in,
+  name_value,
+  number_value,
+  root_word_for,
+  rotation_word_in,
+};
+
+use crate::application::make_application;
+use crate::fault::Fault;
+use crate::values::parse_number;
+use clap::ArgMatches;
+use clap::error::ErrorKind;
+use club_values::Name;
+use command_line::{form_fault, form_named, is_set, value_of, words_fault};
+use pass_forms::Form;
+use std::alloc::Global;
+
+/// The value of a word, parsed as a name.
+pub fn name_of(words: &ArgMatches<'_>, id: &str) -> Option<Name>
+    ensures { result ≡ name_value id.now (rows_of (found_of words.now)) }
+{
+    Name::read(value_of(words, id).as_bytes())
+}
+
+/// The value of a word, parsed as a number.
+pub fn number_at(words: &ArgMatches<'_>, id: &str) -> Option<u32>
+    ensures { result ≡ number_value id.now (rows_of (found_of words.now)) }
+{
+    parse_number(value_of(words, id))
+}
+
+/// The value of an option, if it is given.
+pub fn given<'a>(words: &ArgMatches<'a>, id: &str) -> Option<&'a str>
+    ensures { option_map (λ text. text.now) result
+        ≡ first_of id.now (rows_of (found_of words.now)) }
+{
+    words.get_str(id)
+}
+
+/// The word of a new root of a key; `None` where the moment is the last word.
+pub fn rotation_word<'a>(words: &ArgMatches<'a>) -> Option<&'a str>
+    ensures { option_map (λ text. text.now) result
+        ≡ rotation_word_in (rows_of (found_of words.now)) }
+{
+    match given(words, "MOMENT") {
+        Some(_) => given(words, "ROOT"),
+        None => None,
+    }
+}
+
+/// The last word, which is the moment.
+pub fn moment_word<'a>(words: &ArgMatches<'a>) -> &'a str
+    ensures { result.now ≡ moment_word_in (rows_of (found_of words.now)) }
+{
+    match given(words, "MOMENT") {
+        Some(moment) => moment,
+        None => value_of(words, "ROOT"),
+    }
+}
+
+/// The word of a root; `None` where it is read from the input, by `--root-stdin`.
+///
+/// # Errors
+///
+/// `Words` where there is neither the word nor the flag, or both; `Memory`.
+pub fn root_word<'a>(
+    alloc: Global,
+    words: &ArgMatches<'_>,
+    word: Option<&'a str>,
+) -> Result<Option<&'a str>, Fault>
+    ensures { AnswersRoot (root_word_for (option_map (λ text. text.now) word.entry)
+        (is_set (codes "root-stdin") (rows_of (found_of words.now)))) result }
+{
+    match (word, is_set(words, "root-stdin")) {
+        (Some(_), true) => Err(argument_fault(
+            alloc,
+            ErrorKind::ArgumentConflict,
+            "the argument '<ROOT>' cannot be used with '--root-stdin'",
+        )),
+        (None, false) => Err(argument_fault(
+            alloc,
+            ErrorKind::MissingRequiredArgument,
+            "one of these is required: <ROOT>, --root-stdin",
+        )),
+        (word, _) => Ok(word),
+    }
+}
+
+// A fault of the words that clap doesn't find itself.
+fn argument_fault(alloc: Global, kind: ErrorKind, message: &str) -> Fault
+    ensures { IsWordsFault kind result }
+{
+    Fault::from(words_fault(make_application(alloc), kind, message))
+}
+
+/// The form that `--form` names.
+///
+/// # Errors
+///
+/// `Words` where it names none of the three, and `Memory`.
+pub fn form_of(alloc: Global, words: &ArgMatches<'_>) -> Result<Form, Fault>
+    ensures { AnswersForm (form_in (rows_of (found_of words.now))) result }
+{
+    let name = value_of(words, "form");
+    match form_named(name) {
+        Some(form) => Ok(form),
+        None => Err(Fault::from(form_fault(alloc, make_application(alloc), name))),
+    }
+}

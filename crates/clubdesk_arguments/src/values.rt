@@ -1,0 +1,73 @@
+//! The values that words spell, beside those of the club's own texts.
+
+ghost use Rattle.std.specs.Prelude.{◌≡◌};
+ghost use Rattle.clubdesk_arguments.specs.Values as spec;
+
+use club_rows::Root;
+use club_values::digits::read_digits;
+
+/// The most connections that are served.
+pub const MAX_CONNECTIONS: u32 = 1_000_000;
+
+/// The most seconds of a pause.
+pub const MAX_PAUSE_SECONDS: u32 = 600;
+
+/// The most seconds of a limit of time.
+pub const MAX_PATIENCE: u32 = 3_600;
+
+/// The number of 1 to 9 decimal digits.
+#[tactic(auto, unfolding(crate::specs::Values::parse_number))]
+pub fn parse_number(text: &str) -> Option<u32>
+    ensures { result ≡ spec.parse_number text.now }
+{
+    read_digits(text.as_bytes())
+}
+
+/// The port of TCP that a number is, up to 65,535.
+pub fn port_of(text: &str) -> Option<u16>
+    ensures { result ≡ spec.port_of text.now }
+{
+    let number = parse_number(text)?;
+    u16::try_from(number).ok()
+}
+
+/// A number of connections, 1 to 1,000,000.
+pub fn count_of(text: &str) -> Option<u32>
+    ensures { result ≡ spec.count_of text.now }
+{
+    let number = parse_number(text)?;
+    if number == 0 || number > MAX_CONNECTIONS {
+        return None;
+    }
+    Some(number)
+}
+
+/// How many seconds a pause has, 1 to 600.
+pub fn pause_seconds(text: &str) -> Option<u32>
+    ensures { result ≡ spec.pause_seconds text.now }
+{
+    let number = parse_number(text)?;
+    if number == 0 || number > MAX_PAUSE_SECONDS {
+        return None;
+    }
+    Some(number)
+}
+
+/// How many seconds a limit of time has, 1 to 3,600.
+pub fn patience_of(text: &str) -> Option<u32>
+    ensures { result ≡ spec.patience_of text.now }
+{
+    let number = parse_number(text)?;
+    if number == 0 || number > MAX_PATIENCE {
+        return None;
+    }
+    Some(number)
+}
+
+/// The root of 16 to 64 bytes that a text spells in hexadecimal, in either case of letters.
+pub fn root_of(text: &str) -> Option<Root>
+    ensures { result ≡ spec.key_root_of text.now }
+{
+    let root = command_line::Root::from_hex(text)?;
+    Root::new(root.as_slice())
+}

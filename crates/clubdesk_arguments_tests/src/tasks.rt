@@ -1,0 +1,272 @@
+//! What the arguments of `clubdesk` ask for.
+
+use crate::expect::expect_case;
+use club_rows::Root;
+use clubdesk_arguments::{Asked, Clock, Job, Service, Task, command_of, laws};
+use std::alloc::AllocError;
+use std::fmt::Write;
+use std::process::Abort;
+
+// The arguments of a line, split at bars, after the program's name.
+pub(crate) fn words_of<'a>(rt: &(impl Abort + AllocGlobal), line: &'a str) -> Vec<&'a str> {
+    let mut words = Vec::from_array(rt.alloc(), ["clubdesk"]).expect(rt, "memory");
+    for word in line.split('|') {
+        words.push(word).expect(rt, "memory");
+    }
+    words
+}
+
+fn hex_of(rt: &(impl Abort + AllocGlobal), root: &Root) -> String {
+    hex::encode(rt.alloc(), root.as_bytes()).expect(rt, "memory")
+}
+
+fn describe_service(output: &mut String, service: &Service<'_>) -> Result<(), AllocError> {
+    let (port, count, patience) = (service.port, service.count, service.patience);
+    let log = if service.log { " with a log" } else { "" };
+    match &service.clock {
+        Clock::Fixed(moment) => write!(
+            output,
+            "serve {port} {count} at {moment} for {patience}{log}"
+        ),
+        Clock::InZone(_) => write!(
+            output,
+            "serve {port} {count} by the clock for {patience}{log}"
+        ),
+    }
+}
+
+fn describe_look(output: &mut String, key: &str, clock: &Clock<'_>) -> Result<(), AllocError> {
+    match clock {
+        Clock::Fixed(moment) => write!(output, "show {key} at {moment}"),
+        Clock::InZone(_) => write!(output, "show {key} by the clock"),
+    }
+}
+
+fn describe_task(
+    rt: &(impl Abort + AllocGlobal),
+    output: &mut String,
+    task: &Task<'_>,
+) -> Result<(), AllocError> {
+    match task {
+        Task::Order(order) => write!(output, "{order:?}"),
+        Task::AddKey {
+            name,
+            member,
+            root,
+            form,
+        } => {
+            let root = hex_of(rt, root);
+            write!(output, "add {name} of {member} {root} {form:?}")
+        }
+        Task::RotateKey {
+            name,
+            root,
+            until,
+            form,
+        } => {
+            let root = hex_of(rt, root);
+            write!(output, "rotate {name} {root} until {until} {form:?}")
+        }
+        Task::AddKeyByInput { name, member, form } => {
+            write!(output, "add {name} of {member} by input {form:?}")
+        }
+        Task::RotateKeyByInput { name, until, form } => {
+            write!(output, "rotate {name} by input until {until} {form:?}")
+        }
+        Task::Sheet(day) => write!(output, "sheet {day}"),
+        Task::Serve(service) => describe_service(output, service),
+        Task::Pause(seconds) => write!(output, "pause {seconds}"),
+        Task::ShowAccount { key, clock } => describe_look(output, key.as_str(), clock),
+        Task::ShowSlot(slot) => write!(output, "show {slot:?}"),
+    }
+}
+
+// The task, as a text.
+fn task_text(rt: &(impl Abort + AllocGlobal), task: &Task<'_>) -> String {
+    let mut output = String::new(rt.alloc());
+    describe_task(rt, &mut output, task).expect(rt, "memory");
+    output
+}
+
+// The words of a line ask for this, over this file.
+fn expect_asked(rt: &(impl Abort + AllocGlobal), line: &str, file: &str, want: &str) {
+    let words = words_of(rt, line);
+    let asked = command_of(rt.alloc(), words.as_slice());
+    match &asked {
+        Ok(Asked::Perform(job)) => {
+            let task = task_text(rt, &job.task);
+            expect_case(rt, line, &(task.as_str(), job.file), &(want, file));
+        }
+        _ => panic!(rt; "{line}"),
+    }
+}
+
+/// Lines, and what they ask for over the file `F`.
+static TASKS: [(&str, &str); 36] = [
+    (
+        "add-member|F|amy|5",
+        "AddMember { name: \"amy\", quota: 5 }",
+    ),
+    (
+        "credit|F|amy|10000",
+        "Credit { member: \"amy\", points: 10000 }",
+    ),
+    (
+        "add-facility|F|court-1|court|4|200|8|22",
+        "AddFacility { name: \"court-1\", kind: Court, places: 4, price: 200, opens: 8, shuts: 22 }",
+    ),
+    (
+        "add-facility|F|b|boat|1|0|0|24",
+        "AddFacility { name: \"b\", kind: Boat, places: 1, price: 0, opens: 0, shuts: 24 }",
+    ),
+    ("revoke-key|F|amy-1", "RevokeKey { name: \"amy-1\" }"),
+    (
+        "close-slot|F|court-1|2026-05-01|18",
+        "CloseSlot(Slot { facility: \"court-1\", day: Day { number: 20574 }, hour: Hour { number: 18 } })",
+    ),
+    // What the club refuses is a value all the same.
+    ("credit|F|amy|0", "Credit { member: \"amy\", points: 0 }"),
+    (
+        "credit|F|amy|000000000",
+        "Credit { member: \"amy\", points: 0 }",
+    ),
+    (
+        "credit|F|amy|1000001",
+        "Credit { member: \"amy\", points: 1000001 }",
+    ),
+    (
+        "credit|F|amy|999999999",
+        "Credit { member: \"amy\", points: 999999999 }",
+    ),
+    (
+        "credit|F|amy|000000017",
+        "Credit { member: \"amy\", points: 17 }",
+    ),
+    (
+        "add-key|F|k|bob|000102030405060708090a0b0c0d0e0f",
+        "add k of bob 000102030405060708090a0b0c0d0e0f V2",
+    ),
+    (
+        "add-key|F|k|bob|000102030405060708090a0b0c0d0e0f|--form|v1",
+        "add k of bob 000102030405060708090a0b0c0d0e0f V1",
+    ),
+    (
+        "add-key|F|--form=json|k|bob|000102030405060708090a0b0c0d0e0f",
+        "add k of bob 000102030405060708090a0b0c0d0e0f Json",
+    ),
+    (
+        "rotate-key|F|amy-1|000102030405060708090A0B0C0D0E0F|2026-04-25T00:00",
+        "rotate amy-1 000102030405060708090a0b0c0d0e0f until 2026-04-25T00:00 V2",
+    ),
+    (
+        "rotate-key|--form|json|F|k|000102030405060708090a0b0c0d0e0f|2099-12-31T23:59",
+        "rotate k 000102030405060708090a0b0c0d0e0f until 2099-12-31T23:59 Json",
+    ),
+    // A root of 64 bytes.
+    (
+        "add-key|F|k|bob|ffffffffffffffffffffffffffffffffffffffffffffffffffffffffffffffff\
+        ffffffffffffffffffffffffffffffffffffffffffffffffffffffffffffffff",
+        "add k of bob ffffffffffffffffffffffffffffffffffffffffffffffffffffffffffffffff\
+        ffffffffffffffffffffffffffffffffffffffffffffffffffffffffffffffff V2",
+    ),
+    // With `--root-stdin` the word of the root is left out.
+    ("add-key|F|k|bob|--root-stdin", "add k of bob by input V2"),
+    (
+        "add-key|--root-stdin|--form=v1|F|k|bob",
+        "add k of bob by input V1",
+    ),
+    (
+        "rotate-key|F|k|2026-04-25T00:00|--root-stdin",
+        "rotate k by input until 2026-04-25T00:00 V2",
+    ),
+    (
+        "rotate-key|--form|json|--root-stdin|--|F|k|2099-12-31T23:59",
+        "rotate k by input until 2099-12-31T23:59 Json",
+    ),
+    ("show-account|F|amy-1", "show amy-1 by the clock"),
+    (
+        "show-account|--zone=CET-1CEST,M3.5.0,M10.5.0/3|F|amy-1",
+        "show amy-1 by the clock",
+    ),
+    (
+        "show-account|F|amy-1|--at|2026-04-20T12:00",
+        "show amy-1 at 2026-04-20T12:00",
+    ),
+    (
+        "show-slot|F|court-1|2026-05-01|18",
+        "show Slot { facility: \"court-1\", day: Day { number: 20574 }, hour: Hour { number: 18 } }",
+    ),
+    ("pause|F|1", "pause 1"),
+    ("pause|F|600", "pause 600"),
+    ("pause|F|000000060", "pause 60"),
+    ("pause|--|F|2", "pause 2"),
+    (
+        "serve|F|--port|0|--count|1",
+        "serve 0 1 by the clock for 10",
+    ),
+    (
+        "serve|F|--log|--port|0|--count|1",
+        "serve 0 1 by the clock for 10 with a log",
+    ),
+    (
+        "serve|F|--port=65535|--count|1000000|--zone=EST5",
+        "serve 65535 1000000 by the clock for 10",
+    ),
+    (
+        "serve|--port|08080|--count=2|F|--zone=CET-1CEST,M3.5.0,M10.5.0/3",
+        "serve 8080 2 by the clock for 10",
+    ),
+    (
+        "serve|F|--port|0|--count|1|--at|2026-04-20T12:00",
+        "serve 0 1 at 2026-04-20T12:00 for 10",
+    ),
+    (
+        "serve|F|--port|0|--count|1|--patience|1",
+        "serve 0 1 by the clock for 1",
+    ),
+    (
+        "serve|--patience=03600|F|--port|0|--count|1|--at|2026-04-20T12:00|--log",
+        "serve 0 1 at 2026-04-20T12:00 for 3600 with a log",
+    ),
+];
+
+#[test]
+fn tasks(rt: HostRuntime) {
+    for (line, want) in &TASKS {
+        expect_asked(&rt, line, "F", want);
+    }
+}
+
+// Words behind `--` are no options.
+#[test]
+fn sheets(rt: HostRuntime) {
+    let output = "sheet 2026-05-02";
+    expect_asked(&rt, "sheet|a file.db|2026-05-02", "a file.db", output);
+    expect_asked(&rt, "sheet|--|--port|2026-05-02", "--port", output);
+}
+
+#[test]
+fn laws_hold() {
+    laws::add_member_takes_its_parts();
+    laws::credit_takes_its_parts();
+    laws::add_facility_takes_its_parts();
+    laws::add_key_takes_its_parts();
+    laws::add_key_takes_v2();
+    laws::revoke_key_takes_its_key();
+    laws::rotate_key_takes_its_parts();
+    laws::rotate_key_takes_v2();
+    laws::close_slot_takes_its_slot();
+    laws::sheet_takes_its_day();
+    laws::pause_takes_its_seconds();
+    laws::add_key_takes_its_input();
+    laws::rotate_key_takes_its_input();
+    laws::show_account_takes_its_parts();
+    laws::show_account_takes_utc();
+    laws::show_account_takes_its_moment();
+    laws::show_slot_takes_its_slot();
+    laws::serve_takes_its_parts();
+    laws::serve_takes_utc();
+    laws::serve_takes_its_moment();
+    laws::serve_takes_its_log();
+    laws::serve_takes_its_patience();
+}
