@@ -8,14 +8,14 @@ ghost use Rattle.clubdesk_arguments.specs.Fault.{IsNotText};
 use club_http::WriteOutlet;
 use clubdesk_arguments::{Fault, not_text};
 use clubdesk_commands::run;
-use clubdesk_files::Files;
+use clubdesk_files::{DatabasesUser, run_over_files};
 use command_line::report;
-use desk_server::LogLines;
+use desk_server::{Databases, LogLines};
 use std::process::ExitCode;
 use std::{env, io};
 
 fn main(rt: HostRuntime) -> ExitCode {
-    let status = match run_here(&rt) {
+    let status = match run_over_files(&rt, Program { rt: &rt }) {
         Ok(()) => 0,
         Err(fault) => {
             report(&rt, &fault, matches!(&fault, Fault::Words(_)));
@@ -25,19 +25,30 @@ fn main(rt: HostRuntime) -> ExitCode {
     ExitCode::from(status)
 }
 
-// Runs the program on the process's arguments and standard streams.
-fn run_here(rt: &HostRuntime) -> Result<(), Fault> {
-    let words = given_words(rt)?;
-    let mut files = Files::new(rt);
-    let mut log = LogLines::new(WriteOutlet::new(rt.stderr()), rt);
-    run(
-        rt,
-        &mut files,
-        words.as_slice(),
-        &mut rt.stdin(),
-        &mut rt.stdout(),
-        &mut log,
-    )
+// The program on the process's arguments and standard streams.
+#[derive(Drop)]
+struct Program<'a> {
+    rt: &'a HostRuntime,
+}
+
+impl DatabasesUser for Program<'_> {
+    type Outcome = Result<(), Fault>;
+
+    ghost outcomes = { λ _ _. Unit {0} };
+
+    fn run_over<D: Databases>(self, databases: &mut D) -> Result<(), Fault> {
+        let rt = self.rt;
+        let words = given_words(rt)?;
+        let mut log = LogLines::new(WriteOutlet::new(rt.stderr()), rt);
+        run(
+            rt,
+            databases,
+            words.as_slice(),
+            &mut rt.stdin(),
+            &mut rt.stdout(),
+            &mut log,
+        )
+    }
 }
 
 fn given_words(rt: &HostRuntime) -> Result<Vec<String>, Fault>
