@@ -28,7 +28,7 @@ curl -sS -o body "http://127.0.0.1:$port/account"
 finish
 
 cat >worker.py <<'PYTHON'
-"""Books each slot that isn't on the record yet, and cancels nine of ten: worker.py EXAMPLES PORT."""
+"""Books each slot that isn't on the record yet, and cancels ten of eleven, so that no member reaches the quota of 99: worker.py EXAMPLES PORT."""
 import sys
 
 examples, port = sys.argv[1:]
@@ -71,7 +71,7 @@ for place, (facility, day, hour, guests) in enumerate(slots()):
             sys.exit(f"{facility} {day} {hour}: {reply}")
         number = int(reply["booking"].split("/")[1])
         print(number, "book", reply["charge"], reply["left"], flush=True)
-    if place % 10 and "cancel" not in client.record.bookings[number]:
+    if place % 11 and "cancel" not in client.record.bookings[number]:
         print(number, "cancel", client.cancel(number)["refund"], flush=True)
 PYTHON
 
