@@ -1,12 +1,14 @@
 // Refuses the allocation whose number the variable REFUSED_ALLOCATION tells, counted from 1, and then makes the file whose path
 // the variable REFUSAL_TOLD tells, if any. A program that ends by itself writes how many allocations it made into the file whose
-// path the variable ALLOCATIONS_COUNTED tells, if any. Loaded before the C library.
+// path the variable ALLOCATIONS_COUNTED tells, if any. Where the variable CALLS_TOLD tells the path of a file, it gets a line for
+// each call that ends a commit or sends a reply: `sync` or `send`, and how many allocations came before. Loaded before the C library.
 #define _GNU_SOURCE
 #include <dlfcn.h>
 #include <errno.h>
 #include <fcntl.h>
 #include <stdio.h>
 #include <stdlib.h>
+#include <sys/socket.h>
 #include <unistd.h>
 
 static long seen;
@@ -35,6 +37,40 @@ void *realloc(void *old, size_t size) {
     static void *(*next)(void *, size_t);
     if (!next) next = dlsym(RTLD_NEXT, "realloc");
     return refuses() ? NULL : next(old, size);
+}
+
+// Adds the line of a call, without an allocation.
+static void tell(const char *call) {
+    const char *path = getenv("CALLS_TOLD");
+    if (!path) return;
+    char text[40];
+    int length = snprintf(text, sizeof text, "%s %ld\n", call, seen);
+    int file = open(path, O_CREAT | O_APPEND | O_WRONLY, 0600);
+    if (write(file, text, length) != length) abort();
+    close(file);
+}
+
+int fdatasync(int file) {
+    static int (*next)(int);
+    if (!next) next = dlsym(RTLD_NEXT, "fdatasync");
+    int done = next(file);
+    tell("sync");
+    return done;
+}
+
+int fsync(int file) {
+    static int (*next)(int);
+    if (!next) next = dlsym(RTLD_NEXT, "fsync");
+    int done = next(file);
+    tell("sync");
+    return done;
+}
+
+ssize_t send(int socket, const void *bytes, size_t length, int flags) {
+    static ssize_t (*next)(int, const void *, size_t, int);
+    if (!next) next = dlsym(RTLD_NEXT, "send");
+    tell("send");
+    return next(socket, bytes, length, flags);
 }
 
 __attribute__((destructor)) static void count(void) {

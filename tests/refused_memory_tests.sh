@@ -90,6 +90,17 @@ build() {
     touch -r "$out/tests.started" "$program"
 }
 
+# Whether a test that failed ended with out of memory: what it passed on, or what it got in place of another value, is that fault and
+# nothing beside it, in an `Err` or the like. One that names the fault elsewhere, as what it had expected, failed otherwise.
+ends_without_memory() {
+    fault='([A-Za-z]+\()*(Memory|AllocError|AllocFailed( \{[^}]*\})?)\)*'
+    if grep -q '^assertion ' "$1"; then
+        grep -Eqx "  left: $fault" "$1" && ! grep -Eqx " right: $fault" "$1"
+    else
+        grep -Eqx "([^:]+: )?$fault" "$1"
+    fi
+}
+
 # Runs one test with each of these allocations refused, in a folder of its own for each. Leaves a line in `refused` for each that
 # was refused, one in `ended` for each run that ends with out of memory, and in the folder `bad` the output of one that fails
 # otherwise.
@@ -104,7 +115,7 @@ if [ "${1:-}" = --refuse ]; then
         if [ -e "$room/$number/refused" ]; then echo "$number" >>"$work/refused"; fi
         if [ "$status" = 0 ]; then
             :
-        elif grep -Eq 'Memory|AllocError|AllocFailed' "$room/$number/output"; then
+        elif ends_without_memory "$room/$number/output"; then
             echo "$number" >>"$work/ended"
         else
             { echo "status $status"; cat "$room/$number/output"; } >"$work/bad/$number"
