@@ -1,13 +1,17 @@
 -- The tests decide what they test.
-use Rattle.std.proofs.Common.{IsTrue, ◌↔◌, ◌≡◌, ◌≢◌, ℕ, ◌<◌, Bool, nat_lt, List, [], ◌∷◌, length, refl, arith, Decides}
-use Rattle.std.specs.Prelude.{Contains}
+use Rattle.std.proofs.Common.{IsTrue, ◌↔◌, ◌≡◌, ◌≢◌, ℕ, ◌+◌, ◌<◌, Bool, false, nat_lt, List, [], ◌∷◌, length, Option, Some, None, refl, arith, Decides}
+use Rattle.std.specs.Prelude.{◌&&◌, Contains, IsSomeAnd, is_some}
 use Rattle.std.specs.List.{list_all, list_any}
+use Rattle.std.specs.Option.{option_map_or}
 use Rattle.std.specs.Str.{bytes_eq}
-use Rattle.std.proofs.lemmas.Bool.Decides.{same_from_decides, Decides-like, Decides-and, Decides-ltb, Decides-by_and, Decides-by_or}
+use Rattle.std.proofs.lemmas.Bool.Decides.{same_from_decides, Decides-like, Decides-and, Decides-or, Decides-ltb, Decides-eqb, Decides-by_and, Decides-by_or}
 use Rattle.std.proofs.lemmas.List.Elements.{at_from_Contains}
 use Rattle.std.proofs.lemmas.Slice.Eq.{bytes_eq-Decides}
 use Rattle.pass_caveats.specs.declared.caveat.Caveat.{Caveat}
 use Rattle.pass_caveats.specs.declared.caveat.Caveat.TheVariants.{Facility, Kind, Hours, Days, Weekdays, Until, Guests, Spend, Actions}
+use Rattle.club_values.specs.declared.kind.Kind.{Kind as AKind}
+use Rattle.club_values.specs.declared.kind.Kind.TheVariants.{Court, Boat, Room}
+use Rattle.club_values.specs.declared.slot.Slot.{Slot}
 use Rattle.pass_caveats.specs.declared.ask.Ask.{Ask}
 use Rattle.club_values.specs.Name.{IsName}
 use Rattle.pass_caveats.specs.Names.{AreNames}
@@ -16,7 +20,7 @@ use Rattle.pass_caveats.specs.Weekdays.{weekday_texts}
 use Rattle.pass_caveats.specs.Caveat.{IsCaveat, caveat_text, Understood, Permits}
 use Rattle.club_values.specs.computed.TextOf.{is_name}
 use Rattle.club_values.proofs.TestLemmas.{Decides-leb, Decides-range, Decides-is_name}
-use Rattle.pass_caveats.specs.computed.CaveatOf.{is_caveat, spells, permits}
+use Rattle.pass_caveats.specs.computed.CaveatOf.{is_caveat, spells, is_kind, permits}
 
 Decides-are_names : (names : List (List ℕ)) → Decides (is_caveat (Facility names)) (AreNames names)
 Decides-are_names names =
@@ -53,14 +57,45 @@ Decides-spells text caveat =
     Decides-like _ (λ h. record { line = record { real = h.0.0; spelling = h.0.1 }; short = h.1 }) (λ h. ((h.line.real, h.line.spelling), h.short))
     (Decides-and _ _ (Decides-and _ _ (Decides-is_caveat caveat) (bytes_eq-Decides text (caveat_text caveat))) (Decides-leb (length text) 256))
 
--- `permits` is the test of `Permits`
+Decides-slot : (slot : Option Slot) (p : Slot → Bool) (P : Slot → Type 0) → ((s : Slot) → Decides (p s) (P s)) →
+    Decides (option_map_or p slot false) (IsSomeAnd slot P)
+Decides-slot None p P h = ((λ e. cc), (λ h. absurd h))
+Decides-slot (Some slot) p P h = h slot
+
+Decides-is_kind : (known : Option AKind) (kind : AKind) → Decides (is_kind known kind) (known ≡ Some kind)
+Decides-is_kind None kind = ((λ e. cc), (λ h. cc))
+Decides-is_kind (Some Court) Court = ((λ e. refl), (λ h. refl))
+Decides-is_kind (Some Court) Boat = ((λ e. cc), (λ h. cc))
+Decides-is_kind (Some Court) Room = ((λ e. cc), (λ h. cc))
+Decides-is_kind (Some Boat) Court = ((λ e. cc), (λ h. cc))
+Decides-is_kind (Some Boat) Boat = ((λ e. refl), (λ h. refl))
+Decides-is_kind (Some Boat) Room = ((λ e. cc), (λ h. cc))
+Decides-is_kind (Some Room) Court = ((λ e. cc), (λ h. cc))
+Decides-is_kind (Some Room) Boat = ((λ e. cc), (λ h. cc))
+Decides-is_kind (Some Room) Room = ((λ e. refl), (λ h. refl))
+
+Decides-kind_of_slot : (slot : Option Slot) (known : Option AKind) (kind : AKind) →
+    Decides (is_some slot && is_kind known kind) (IsSomeAnd slot (λ _. known ≡ Some kind))
+Decides-kind_of_slot None known kind = ((λ e. cc), (λ h. absurd h))
+Decides-kind_of_slot (Some slot) known kind = Decides-is_kind known kind
+
+Decides-has : (names : List (List ℕ)) (name : List ℕ) → Decides (list_any (λ n. bytes_eq n name) names) (Contains names name)
+Decides-has names name =
+    Decides-like _ (λ h. (h.0, h.1, h.2 name)) (at_from_Contains names name)
+    (Decides-by_or (λ n. bytes_eq n name) (λ n. n ≡ name) (list_any (λ n. bytes_eq n name)) (λ n. bytes_eq-Decides n name) refl (λ _ _. refl) names)
+
+-- `permits` tests whether a request is one that the caveat allows
 pub Decides-permits : (caveat : Caveat) (ask : Ask) → Decides (permits caveat ask) (Permits caveat ask)
 unfolding permits
-Decides-permits caveat ask = ((λ e. e), (λ h. h))
+Decides-permits (Facility names) ask = Decides-slot ask.slot _ _ (λ slot. Decides-has names slot.facility)
+Decides-permits (Kind kind) ask = Decides-kind_of_slot ask.slot ask.kind kind
+Decides-permits (Hours from until) ask = Decides-slot ask.slot _ _ (λ slot. Decides-and _ _ (Decides-leb from slot.hour) (Decides-ltb slot.hour until))
+Decides-permits (Days first last) ask = Decides-slot ask.slot _ _ (λ slot. Decides-and _ _ (Decides-leb first slot.day) (Decides-leb slot.day last))
+Decides-permits (Weekdays set) ask = Decides-slot ask.slot _ _ (λ slot. ((λ e. e), (λ e. e)))
+Decides-permits (Until moment) ask = Decides-ltb ask.moment moment
+Decides-permits (Guests n) ask = Decides-leb ask.guests n
+Decides-permits (Spend n) ask = Decides-or _ _ (Decides-eqb ask.owed 0) (Decides-leb (ask.spent + ask.owed) n)
+Decides-permits (Actions actions) ask = ((λ e. e), (λ e. e))
 
--- the test of a name in the code is that of the definition
-pub same_as_any : (names : List (List ℕ)) (name : List ℕ) (r : Bool) → IsTrue r ↔ Contains names name → r ≡ list_any (λ n. bytes_eq n name) names
-same_as_any names name r h =
-    let equal : (n : List ℕ) → Decides (bytes_eq n name) (n ≡ name) = λ n. bytes_eq-Decides n name in
-    same_from_decides r _ h (Decides-like _ (λ found. (found.0, found.1, found.2 name)) (at_from_Contains names name)
-    (Decides-by_or (λ n. bytes_eq n name) (λ n. n ≡ name) (list_any (λ n. bytes_eq n name)) equal refl (λ _ _. refl) names))
+pub same_as_permits : (caveat : Caveat) (ask : Ask) (r : Bool) → IsTrue r ↔ Permits caveat ask → r ≡ permits caveat ask
+same_as_permits caveat ask r h = same_from_decides r (permits caveat ask) h (Decides-permits caveat ask)

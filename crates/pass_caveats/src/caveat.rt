@@ -1,8 +1,8 @@
 //! The caveats that are understood, and the requests that each allows.
 
-ghost use Rattle.std.specs.Prelude.{◌≡◌, ◌+◌, ◌==◌, ◌||◌, ◌↔◌, IsTrue, nat_le};
+ghost use Rattle.std.specs.Prelude.{◌≡◌, ◌⊎◌, ◌+◌, ◌≤◌, ◌↔◌, IsTrue};
 ghost use Rattle.club_values.specs.Reading.{Reads};
-ghost use Rattle.pass_caveats.specs.Caveat.{SpellsCaveat, Understood, Permits, caveat_row};
+ghost use Rattle.pass_caveats.specs.Caveat.{SpellsCaveat, Understood, Permits};
 ghost use Rattle.pass_caveats.specs.computed.CaveatOf.{caveat_of, permits};
 
 use crate::actions::Actions;
@@ -92,7 +92,7 @@ pub fn read(bytes: &[u8]) -> Option<Caveat<'_>>
 }
 
 fn is_in_set(caveat: &Caveat, ask: &Ask) -> bool
-    ensures { result ≡ (caveat_row caveat.now).allows ask.now }
+    ensures { IsTrue result ↔ Permits caveat.now ask.now }
 {
     match caveat {
         Caveat::Facility(names) => match &ask.slot {
@@ -116,7 +116,7 @@ fn is_in_set(caveat: &Caveat, ask: &Ask) -> bool
 }
 
 fn is_within(ask: &Ask, points: u64) -> bool
-    ensures { result ≡ (ask.now.owed == 0 || nat_le (ask.now.spent + ask.now.owed) points) }
+    ensures { IsTrue result ↔ ((ask.now.owed ≡ 0) ⊎ (ask.now.spent + ask.now.owed ≤ points)) }
 {
     ask.owed == 0 || (ask.spent <= points && ask.owed <= points - ask.spent)
 }

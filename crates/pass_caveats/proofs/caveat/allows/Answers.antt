@@ -1,6 +1,5 @@
-use Rattle.pass_caveats.specs.computed.CaveatOf.{permits}
+use Rattle.pass_caveats.proofs.DecisionLemmas.{same_as_permits}
 use Rattle.pass_caveats.proofs.caveat.allows.Goals as goal
 
 pub returns-clause-function : goal.returns-clause-function
-unfolding permits
-returns-clause-function c = c.is_in_set.ensures
+returns-clause-function c = same_as_permits c.args.caveat.now c.args.ask.now c.is_in_set.result c.is_in_set.ensures
