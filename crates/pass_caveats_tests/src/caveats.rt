@@ -1,6 +1,6 @@
 //! Which requests caveats allow.
 
-use crate::calls::{answer, day_numbered, fault_at, first_fault, hour_numbered};
+use crate::calls::{answer, day_numbered, fault_at, first_fault, hour_numbered, read_name};
 use crate::rows::{expect_eq, moment, slot};
 use club_values::{Action, Kind};
 use pass_caveats::{Ask, CaveatFault};
@@ -107,6 +107,110 @@ fn bookings(rt: HostRuntime) {
     allow(&rt, &booking(&rt), &OF_THE_BOOKING);
 }
 
+/// The booking, of a slot of this facility.
+fn booking_in(rt: &impl Abort, facility: &str) -> Ask {
+    let mut slot = slot(rt);
+    slot.facility = read_name(facility.as_bytes()).expect(rt, "a name");
+    let mut ask = booking(rt);
+    ask.slot = Some(slot);
+    ask
+}
+
+static FACILITIES: [(&str, &str, bool); 11] = [
+    ("facility = room-1,court-1", "court-1", true),
+    ("facility = room-1,court-1", "room-1", true),
+    ("facility = a,b,c,d,e,f,g,court-1", "court-1", true),
+    ("facility = a,b,c,d,e,f,g,h", "g", true),
+    ("facility = a,b,c,d,e,f,g,h", "h", true),
+    ("facility = a,b,c,d,e,f,g,h", "i", false),
+    ("facility = court", "court-1", false),
+    ("facility = court-1", "court", false),
+    ("facility = court-10,court-2", "court-1", false),
+    (
+        "facility = a,abcdefghijklmnopqrstuvwx",
+        "abcdefghijklmnopqrstuvwx",
+        true,
+    ),
+    (
+        "facility = a,abcdefghijklmnopqrstuvwx",
+        "abcdefghijklmnopqrstuvw",
+        false,
+    ),
+];
+
+fn allow_in(rt: &impl Abort, rows: &[(&'static str, &'static str, bool)]) {
+    for (text, facility, want) in rows {
+        let returned = answer(text, &booking_in(rt, facility));
+        expect_eq(rt, &returned, &Some(*want), facility);
+    }
+}
+
+#[test]
+fn facilities(rt: HostRuntime) {
+    allow_in(&rt, &FACILITIES);
+}
+
+/// The booking, of a facility of this kind.
+fn booking_of(rt: &impl Abort, kind: Kind) -> Ask {
+    let mut ask = booking(rt);
+    ask.kind = Some(kind);
+    ask
+}
+
+static KINDS: [(&str, Kind, bool); 9] = [
+    ("kind = court", Kind::Court, true),
+    ("kind = court", Kind::Boat, false),
+    ("kind = court", Kind::Room, false),
+    ("kind = boat", Kind::Court, false),
+    ("kind = boat", Kind::Boat, true),
+    ("kind = boat", Kind::Room, false),
+    ("kind = room", Kind::Court, false),
+    ("kind = room", Kind::Boat, false),
+    ("kind = room", Kind::Room, true),
+];
+
+fn allow_of(rt: &impl Abort, rows: &[(&'static str, Kind, bool)]) {
+    for (text, kind, want) in rows {
+        let returned = answer(text, &booking_of(rt, *kind));
+        expect_eq(rt, &returned, &Some(*want), kind);
+    }
+}
+
+#[test]
+fn kinds(rt: HostRuntime) {
+    allow_of(&rt, &KINDS);
+}
+
+/// The request of the booking, with another action.
+fn doing(rt: &impl Abort, action: Action) -> Ask {
+    let mut ask = booking(rt);
+    ask.action = action;
+    ask
+}
+
+static ACTIONS: [(&str, Action, bool); 8] = [
+    ("actions = view", Action::View, true),
+    ("actions = book,cancel,account", Action::View, false),
+    ("actions = book", Action::Book, true),
+    ("actions = view,cancel,account", Action::Book, false),
+    ("actions = cancel", Action::Cancel, true),
+    ("actions = view,book,account", Action::Cancel, false),
+    ("actions = account", Action::Account, true),
+    ("actions = view,book,cancel", Action::Account, false),
+];
+
+fn allow_doing(rt: &impl Abort, rows: &[(&'static str, Action, bool)]) {
+    for (text, action, want) in rows {
+        let returned = answer(text, &doing(rt, *action));
+        expect_eq(rt, &returned, &Some(*want), action);
+    }
+}
+
+#[test]
+fn actions(rt: HostRuntime) {
+    allow_doing(&rt, &ACTIONS);
+}
+
 static HOURS: [(&str, u8, bool); 6] = [
     ("hours = 18-20", 17, false),
     ("hours = 18-20", 18, true),
@@ -134,9 +238,12 @@ fn hours_and_moments(rt: HostRuntime) {
     allow(&rt, &made_at(&rt, b"2026-05-01T18:00"), &AT_18);
 }
 
-static DAYS: [(&str, u16, bool); 9] = [
+static DAYS: [(&str, u16, bool); 12] = [
+    ("days = 2026-05-01..2026-05-01", 20_573, false),
     ("days = 2026-05-01..2026-05-01", 20_574, true),
     ("days = 2026-05-01..2026-05-01", 20_575, false),
+    ("days = 2000-01-01..2099-12-31", 10_957, true),
+    ("days = 2000-01-01..2099-12-31", 47_481, true),
     ("weekday = fri", 20_574, true),
     ("weekday = fri", 20_575, false),
     ("weekday = mon,tue,wed,thu,sat,sun", 20_574, false),
@@ -199,6 +306,32 @@ fn booking_for(rt: &impl Abort, guests: u8) -> Ask {
     let mut ask = booking(rt);
     ask.guests = guests;
     ask
+}
+
+static FOR_49_GUESTS: [Row; 3] = [
+    ("guests <= 49", true),
+    ("guests <= 48", false),
+    ("guests <= 0", false),
+];
+
+static UP_TO_ALL: [Row; 2] = [("spend <= 999999999", true), ("spend <= 999999998", false)];
+
+static AT_THE_FIRST_MOMENT: [Row; 2] = [
+    ("until < 2000-01-01T00:00", false),
+    ("until < 2000-01-01T00:01", true),
+];
+
+static AT_THE_LAST_MOMENT: [Row; 1] = [("until < 2099-12-31T23:59", false)];
+
+#[test]
+fn limits(rt: HostRuntime) {
+    allow(&rt, &booking_for(&rt, 49), &FOR_49_GUESTS);
+    allow(&rt, &having_spent(booking(&rt), 999_999_399), &UP_TO_ALL);
+    allow(&rt, &having_spent(booking(&rt), 999_999_400), &AFTER_ALL);
+    let first = made_at(&rt, b"2000-01-01T00:00");
+    allow(&rt, &first, &AT_THE_FIRST_MOMENT);
+    let last = made_at(&rt, b"2099-12-31T23:59");
+    allow(&rt, &last, &AT_THE_LAST_MOMENT);
 }
 
 fn texts(rt: &(impl Abort + AllocGlobal), lines: &[&str]) -> Vec<Vec<u8>> {

@@ -42,8 +42,10 @@ fn bounds(rt: HostRuntime) {
     are_understood(&rt, &BOUNDS);
 }
 
-static LISTS: [Row; 16] = [
+static LISTS: [Row; 18] = [
     ("facility = a,b,c,d,e,f,g,h", true),
+    ("facility = abcdefghijklmnopqrstuvwx", true),
+    ("facility = abcdefghijklmnopqrstuvwxy", false),
     ("facility = a,b,c,d,e,f,g,h,i", false),
     ("facility = ", false),
     ("facility = a,", false),
@@ -64,6 +66,19 @@ static LISTS: [Row; 16] = [
 #[test]
 fn lists(rt: HostRuntime) {
     are_understood(&rt, &LISTS);
+}
+
+// Eight names of 24 letters.
+static LONGEST: [Row; 1] = [(
+    "facility = aaaaaaaaaaaaaaaaaaaaaaaa,bbbbbbbbbbbbbbbbbbbbbbbb,cccccccccccccccccccccccc,\
+     dddddddddddddddddddddddd,eeeeeeeeeeeeeeeeeeeeeeee,ffffffffffffffffffffffff,\
+     gggggggggggggggggggggggg,hhhhhhhhhhhhhhhhhhhhhhhh",
+    true,
+)];
+
+#[test]
+fn longest_list(rt: HostRuntime) {
+    are_understood(&rt, &LONGEST);
 }
 
 static WEEKDAYS: [Row; 8] = [
