@@ -8,7 +8,7 @@
 # - Each contract that docs/PROMISES.md names is there: the function in the section's crate, and its clause; each definition, and of
 #   `RECORD.FIELD` the field of that record. So are the clauses of README's law.
 # - Each file that a page names is there, in a crate's page also each of its own folders, and each name `crate::..::name` or
-#   `Type::name` is defined.
+#   `Type::name` is defined. So is each name of a list of definitions (`Definitions: NAME, .. in FILE; NAME, .. in FILE`), in its file.
 # - docs/LAYERS.md has the layers and crates of crates.txt in their order, each with what it stands on; TRUST names each crate.
 # - docs/TOUR.md gives each answer as a path of three to six steps, each a file with a name that it defines.
 # - The logic that README.md and docs/TRUST.md name by its sum is this toolchain's, and bin/demo prints what tests/demo_tells.sh wants.
@@ -251,6 +251,36 @@ hold_names() {
         }' "$work/index" "$work/words" >>"$faults"
 }
 
+# `Definitions:` and then names, each in backticks, with `in` and a file or a folder of specs/ behind them; one without a folder is in
+# the folder named last.
+hold_definitions() {
+    awk '
+        function lacks(what) { print page ": " what }
+        FILENAME == ARGV[1] { if ($3 != "clause" && $3 != "impl" && $3 != "field") defined[$2, $4]; files[$2]; next }
+        FNR == 1 { page = FILENAME }
+        /^```/ { inside = !inside }
+        inside || !/Definitions?: `/ { next }
+        {
+            sub(/.*Definitions?: /, "")
+            pieces = split($0, piece, "`")
+            names = 0
+            for (p = 2; p <= pieces; p += 2) {
+                if (piece[p - 1] !~ / in $/) { name[++names] = piece[p]; continue }
+                place = piece[p]
+                if (place !~ /\//) place = folder "/" place
+                folder = place
+                sub(/\/[A-Za-z0-9_]*\.antt$/, "", folder)
+                for (n = 1; n <= names; n++) {
+                    found = (place, name[n]) in defined
+                    for (file in files) if (index(file, place "/") == 1 && (file, name[n]) in defined) found = 1
+                    if (!found) lacks("no definition " name[n] " in " place)
+                }
+                names = 0
+            }
+            for (n = 1; n <= names; n++) lacks("no file of the definition " name[n])
+        }' "$work/index" "$1" >>"$faults"
+}
+
 # The lines of the law in README: behind the last colon a function and names of its clauses, or of other functions, held above.
 hold_laws() {
     grep -E '^[0-9]+\. \*\*' README.md | sed 's/.*: `/`/' | awk '
@@ -345,6 +375,7 @@ for page; do
     next_port
     follow_links "$page"
     hold_names "$page"
+    hold_definitions "$page"
     find_quotes "$page"
     case $page in
         docs/PROMISES.md) hold_promises ;;
