@@ -1,0 +1,87 @@
+"""The built programs and the reference beside each other: one club in a file, and the same in plain Python."""
+
+import desk as programs
+from reference import caveats, club as rules, passes, wire
+
+# The kinds of the values of an order that aren't words or numbers as they are.
+KINDS_OF_VALUES = {"add-key": ("word", "word", "root"), "rotate-key": ("word", "root", "moment"), "close-slot": ("word", "day", "hour")}
+
+
+def expect(what, found, wanted):
+    if found != wanted:
+        raise AssertionError(f"{what!r}\nfound  {found!r}\nwanted {wanted!r}")
+
+
+def spelled_day(day):
+    return caveats.EPOCH.fromordinal(caveats.EPOCH.toordinal() + day).isoformat()
+
+
+def spelled_moment(moment):
+    return f"{spelled_day(moment // 1440)}T{moment // 60 % 24:02d}:{moment % 60:02d}"
+
+
+SPELLINGS = {"word": str, "root": bytes.hex, "moment": spelled_moment, "day": spelled_day, "hour": "{:02d}".format}
+
+
+class Both:
+    """A club in a file, which the programs keep, and the same in the reference. What differs is an AssertionError."""
+
+    def __init__(self, desk, file, plant=None):
+        self.desk, self.file = desk, file
+        self.club = rules.Club(plant)
+        self.roots = {}  # of each key, all that it had
+
+    def words_of(self, order):
+        """The words of the command that gives an order."""
+        name, *values = order
+        kinds = KINDS_OF_VALUES.get(name, ("word",) * len(values))
+        return [name, self.file, *(SPELLINGS[kind](value) for kind, value in zip(kinds, values))]
+
+    def answer_of(self, order):
+        """The status, the output and the fault of an order, which the reference does."""
+        name, *values = order
+        try:
+            self.club.order(order)
+        except rules.OrderRefused as refusal:
+            return 1, "", f"refused: {refusal}\n"
+        if name not in ("add-key", "rotate-key"):
+            return 0, "done\n", ""
+        key, root = values[0], values[2 if name == "add-key" else 1]
+        self.roots.setdefault(key, []).append(root)
+        return 0, passes.text_of(passes.minted(root, b"key:" + key.encode()), "v2").decode() + "\n", ""
+
+    def give(self, order):
+        """An order to both, which answer alike."""
+        found = programs.order(self.desk, *self.words_of(order))
+        expect(f"order {order}", found, self.answer_of(order))
+
+    def ask(self, server, data, moment):
+        """The bytes of a request to both, which reply alike."""
+        expect(data, programs.exchange(server.port, data), wire.exchange(self.club, data, moment))
+
+    def compare_rows(self):
+        """The rows and the totals of the file are those of the reference."""
+        file, club = self.file, self.club
+        expect("members", dict((row[0], row[1:]) for row in programs.rows(file, "SELECT name, credited, quota, used FROM members")),
+               {name: (it.credited, it.quota, it.credited - club.balance(name)) for name, it in club.members.items()})
+        expect("facilities", dict((row[0], row[1:]) for row in programs.rows(file, "SELECT * FROM facilities")),
+               {name: (it.kind, it.places, it.price, it.opens, it.shuts) for name, it in club.facilities.items()})
+        expect("keys", dict((row[0], row[1:]) for row in programs.rows(file, "SELECT name, member, root, revoked FROM keys")),
+               {name: (it.member, it.root, int(it.is_revoked)) for name, it in club.keys.items()})
+        expect("older roots", dict((row[0], row[1:]) for row in programs.rows(file, "SELECT * FROM old_roots")),
+               {name: it.older for name, it in club.keys.items() if it.older})
+        expect("bookings", set(programs.rows(file, "SELECT * FROM bookings")),
+               {(key, number, *it.slot, it.guests, it.charge, it.left, int(it.is_cancelled), it.refund)
+                for key, rows in club.bookings.items() for number, it in rows.items()})
+        expect("slots", {row[:3]: row[3:] for row in programs.rows(file, "SELECT facility, day, hour, taken, closed FROM slots") if any(row[3:])},
+               {slot: (club.taken(slot), int(slot in club.closed)) for slot in {*club.taken_in, *club.closed}
+                if club.taken(slot) or slot in club.closed})
+
+    def compare_sheet(self, day):
+        """The day sheet is that of the reference."""
+        rows = self.club.sheet(day)
+        lines = [f"{facility:<24} {hour:02d}:00 {key:<24} {number:9d} {persons:2d} {charge:6d}"
+                 for facility, hour, key, number, persons, charge in rows]
+        total = f"Total bookings {len(rows)}, persons {sum(it[4] for it in rows)}, charge {sum(it[5] for it in rows)}"
+        text = "\n".join([f"Day sheet {spelled_day(day)}", *lines, total if rows else "No bookings.", ""])
+        expect(f"sheet {day}", programs.order(self.desk, "sheet", self.file, spelled_day(day)), (0, text, ""))

@@ -1,0 +1,108 @@
+"""The built programs, for tests that talk to a server: where they are, a server that ends with its block, one exchange, an order.
+
+The programs are those of the variables CLUBDESK and PASSTOOL. One without a variable is proved and built first, if that isn't done."""
+
+import os
+import shutil
+import socket
+import sqlite3
+import subprocess
+import time
+from pathlib import Path
+
+TESTS = Path(__file__).resolve().parent
+ROOT = TESTS.parent
+
+
+def program(name):
+    """The path of a program itself, so that a signal meets it and no shell."""
+    given = os.environ.get(name.upper())
+    if given:
+        return given
+    subprocess.run([ROOT / "bin" / name, "--help"], check=True, stdout=subprocess.DEVNULL)
+    return str(ROOT / "crates" / name / "out" / name)
+
+
+class Server:
+    """A server of `clubdesk` over a file, as a context manager: it listens at `port` once the block begins, and has ended after it.
+
+    `words` are further options; `variables` further variables of its environment. At the end of a block without an exception its
+    status has to be 0, unless it was killed. `log` has what it wrote on standard error."""
+
+    def __init__(self, desk, file, count, *words, variables=None):
+        self.command = [desk, "serve", str(file), "--port", "0", "--count", str(count), *words]
+        self.log = Path(f"{file}.log")
+        self.variables = {**os.environ, **(variables or {})}
+        self.is_killed = False
+
+    def __enter__(self):
+        with open(self.log, "ab") as log:
+            self.process = subprocess.Popen(self.command, stdout=subprocess.PIPE, stderr=log, stdin=subprocess.DEVNULL,
+                                            env=self.variables)
+        line = self.process.stdout.readline().decode()
+        if not line.startswith("listening on 127.0.0.1:"):
+            raise AssertionError(f"no server: status {self.process.wait()}, {self.log.read_text()}")
+        self.port = int(line.rpartition(":")[2])
+        return self
+
+    def kill(self):
+        self.is_killed = True
+        self.process.kill()
+        self.process.wait()
+
+    def __exit__(self, kind, _value, _trace):
+        if kind is not None and self.process.poll() is None:
+            self.kill()
+        status = self.process.wait(60)
+        self.process.stdout.close()
+        if kind is None and status != 0 and not self.is_killed:
+            raise AssertionError(f"the server ended with status {status}: {self.log.read_text()}")
+
+
+def exchange(port, data, seconds=30):
+    """The bytes of the reply to bytes, behind which the client says that no more come. None where the connection was lost."""
+    try:
+        with socket.create_connection(("127.0.0.1", port), seconds) as client:
+            client.sendall(data)
+            client.shutdown(socket.SHUT_WR)
+            reply = bytearray()
+            while part := client.recv(4096):
+                reply += part
+        return bytes(reply)
+    except ConnectionError:
+        return None
+
+
+def order(desk, *words, text=None):
+    """The status and the output of a command of `clubdesk`, and its line on standard error; `text` is its input."""
+    done = subprocess.run([desk, *map(str, words)], capture_output=True, input=text, text=True, check=False)
+    return done.returncode, done.stdout, done.stderr
+
+
+def copy(file, to):
+    """Copies a database with the log that belongs to it."""
+    for ending in ("", "-wal"):
+        Path(f"{to}{ending}").unlink(missing_ok=True)
+        if Path(f"{file}{ending}").exists():
+            shutil.copy(f"{file}{ending}", f"{to}{ending}")
+
+
+def rows(file, statement):
+    """The rows that a statement gives over a copy of the file."""
+    copy(file, f"{file}.copy")
+    with sqlite3.connect(f"{file}.copy") as database:
+        found = database.execute(statement).fetchall()
+    database.close()
+    return found
+
+
+class Pace:
+    """Prints how far a test is, every ten seconds."""
+
+    def __init__(self, whole):
+        self.whole, self.begun, self.next = whole, time.monotonic(), time.monotonic() + 10
+
+    def at(self, done, what):
+        if time.monotonic() >= self.next:
+            self.next = time.monotonic() + 10
+            print(f"{done} of {self.whole} {what}, {time.monotonic() - self.begun:.0f} s", flush=True)
