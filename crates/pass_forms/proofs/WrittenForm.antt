@@ -1,6 +1,7 @@
 -- The base64 text of a pass, in either form of its bytes.
-use Rattle.std.proofs.Common.{◌≡◌, ◌↔◌, ℕ, ◌≤◌, List, length, Some, Result, Ok, refl, arith}
+use Rattle.std.proofs.Common.{◌≡◌, ◌↔◌, ℕ, ◌≤◌, Bool, true, false, cond, ltb, List, length, Some, Result, Ok, Err, refl, sym, ap, subst, ◌∙◌, arith}
 use Rattle.std.specs.Prelude.{IfErr, IfOk, MatchResult}
+use Rattle.std.proofs.lemmas.Bool.{ltb-false, ltb-true}
 use Rattle.std.proofs.lemmas.Result.{IfErr-weaker, IfOk-weaker, MatchResult-from_both}
 use Rattle.base64.specs.GeneralPurpose.{IsBytes}
 use Rattle.pass_forms.specs.declared.fault.FormFault.{FormFault}
@@ -10,9 +11,10 @@ use Rattle.pass_forms.specs.Envelope.{form_of}
 use Rattle.pass_forms.specs.Pass.{Plain, WidePass, as_wide_pass}
 use Rattle.pass_forms.specs.Putting.{FitsBuffer, RefusesBytes, WritesBytes, buffer_len}
 use Rattle.pass_forms.specs.Laws.{ReadsExactly}
-use Rattle.pass_forms.specs.Writing.{FailsAs, IsReadBack, IsWriteFault, IsTextBy, IsWritableText, in_base64}
+use Rattle.pass_forms.specs.Reading.{max_caveats, max_text_len}
+use Rattle.pass_forms.specs.Writing.{FailsAs, IsReadBack, IsWriteFault, IsWriting, IsTextBy, IsWritableText, in_base64}
 use Rattle.pass_forms.specs.computed.Writing.{writing_of}
-use Rattle.pass_forms.proofs.WrittenTexts.{bytes_fit, fails, text_fits, text_too_long, unwraps, writes, written_by, written_parts}
+use Rattle.pass_forms.proofs.WrittenTexts.{bytes_fit, fails, text_fits, text_too_long, unwraps, writes}
 
 -- A form: the bytes of a pass, which bytes spell a pass, and how they are read.
 pub record BytesForm : Type 1 where
@@ -80,15 +82,46 @@ keeps_promises f pass A bytes result written refused = record {
       (IfErr-weaker result _ _ (λ fault r. fails (f.bytes_of pass) pass fault r) refused);
 }
 
-pub exact : (f : BytesForm) (pass : Plain) (text : List ℕ) → length pass.signature ≡ 32 →
-    (writing_of (f.bytes_of pass) pass ≡ Ok text) ↔ IsWritableText (IsTextIn f) pass text
-exact f pass text len = (
-  λ e.
-      let parts = written_parts (f.bytes_of pass) pass text e in
-      record {
-        is_text = record { encoding = parts.0; spelling = f.spells pass parts.2 len };
-        short = rw parts.0 (text_fits (f.bytes_of pass) parts.2);
-        few = parts.1;
-      },
-  λ written. written_by (f.bytes_of pass) pass text written.is_text.encoding written.few (fits_buffer f pass text written),
-)
+-- ---- the result, a text or a fault
+
+-- the computed result, by its two tests, is one that the relation allows
+allowed_by : (f : BytesForm) (pass : Plain) (many long : Bool) → length pass.signature ≡ 32 → ltb max_caveats (length pass.caveats) ≡ many
+    → ltb max_text_len (length (in_base64 (f.bytes_of pass))) ≡ long
+    → IsWriting (IsTextIn f) pass (cond many (Err TooMany) (cond long (Err TooLong) (Ok (in_base64 (f.bytes_of pass)))))
+allowed_by f pass true long len m l = ltb-true _ _ m
+allowed_by f pass false true len m l = (ltb-false _ _ m, λ text is. rw is.encoding (ltb-true _ _ l))
+allowed_by f pass false false len m l = record {
+  is_text = record { encoding = refl; spelling = f.spells pass (bytes_fit (f.bytes_of pass) (ltb-false _ _ l)) len };
+  short = ltb-false _ _ l;
+  few = ltb-false _ _ m;
+}
+
+computed_is_allowed : (f : BytesForm) (pass : Plain) → length pass.signature ≡ 32 → IsWriting (IsTextIn f) pass (writing_of (f.bytes_of pass) pass)
+computed_is_allowed f pass len =
+    allowed_by f pass (ltb max_caveats (length pass.caveats)) (ltb max_text_len (length (in_base64 (f.bytes_of pass)))) len refl refl
+
+-- the relation allows one result
+one_result : (f : BytesForm) (pass : Plain) (one other : Result (List ℕ) FormFault) → IsWriting (IsTextIn f) pass one → IsWriting (IsTextIn f) pass other →
+    one ≡ other
+one_result f pass (Ok text) (Ok other) h k = ap (λ (t : List ℕ). Ok t) (h.is_text.encoding ∙ sym k.is_text.encoding)
+one_result f pass (Ok text) (Err TooLong) h k = absurd (omega (arith, h.short, k.1 text h.is_text))
+one_result f pass (Ok text) (Err TooMany) h k = absurd (omega (arith, h.few, k))
+one_result f pass (Err TooLong) (Ok other) h k = absurd (omega (arith, k.short, h.1 other k.is_text))
+one_result f pass (Err TooLong) (Err TooLong) h k = refl
+one_result f pass (Err TooLong) (Err TooMany) h k = absurd (omega (arith, h.0, k))
+one_result f pass (Err TooMany) (Ok other) h k = absurd (omega (arith, k.few, h))
+one_result f pass (Err TooMany) (Err TooLong) h k = absurd (omega (arith, k.0, h))
+one_result f pass (Err TooMany) (Err TooMany) h k = refl
+one_result f pass one (Err Malformed) h k = absurd k
+one_result f pass one (Err ThirdParty) h k = absurd k
+one_result f pass one (Err Memory) h k = absurd k
+one_result f pass (Err Malformed) other h k = absurd h
+one_result f pass (Err ThirdParty) other h k = absurd h
+one_result f pass (Err Memory) other h k = absurd h
+
+pub exact : (f : BytesForm) (pass : Plain) (answer : Result (List ℕ) FormFault) → length pass.signature ≡ 32 →
+    (writing_of (f.bytes_of pass) pass ≡ answer) ↔ IsWriting (IsTextIn f) pass answer
+exact f pass answer len =
+    let allowed = computed_is_allowed f pass len in
+    let Allows : Result (List ℕ) FormFault → Type 0 = λ r. IsWriting (IsTextIn f) pass r in
+    ((λ e. subst Allows e allowed), (λ h. one_result f pass _ answer allowed h))

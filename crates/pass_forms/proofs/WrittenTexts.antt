@@ -34,7 +34,7 @@ bytes_fit bytes h = omega (arith, length-in_base64 bytes)
 
 -- ---- the computed answer
 
-pub written_by : (bytes : List ℕ) (pass : Plain) (text : List ℕ) → text ≡ in_base64 bytes → length pass.caveats ≤ max_caveats → length bytes ≤ buffer_len →
+written_by : (bytes : List ℕ) (pass : Plain) (text : List ℕ) → text ≡ in_base64 bytes → length pass.caveats ≤ max_caveats → length bytes ≤ buffer_len →
     writing_of bytes pass ≡ Ok text
 written_by bytes pass text encoding few fits =
     let few_enough : ltb max_caveats (length pass.caveats) ≡ false = le-ltb _ _ few in
@@ -43,19 +43,6 @@ written_by bytes pass text encoding few fits =
 
 pub writes : (bytes : List ℕ) (pass : Plain) (text : List ℕ) → WritesBytes bytes pass text → writing_of bytes pass ≡ Ok text
 writes bytes pass text written = written_by bytes pass text written.encoding written.buffer.few written.buffer.fits
-
-written_in : (many long : Bool) (encoding text : List ℕ) →
-    ◌≡◌ {A = Result (List ℕ) FormFault} (cond many (Err TooMany) (cond long (Err TooLong) (Ok encoding))) (Ok text) →
-    (text ≡ encoding) × (many ≡ false) × (long ≡ false)
-written_in true long encoding text e = absurd cc
-written_in false true encoding text e = absurd cc
-written_in false false encoding text e = (cc, refl, refl)
-
-pub written_parts : (bytes : List ℕ) (pass : Plain) (text : List ℕ) → writing_of bytes pass ≡ Ok text →
-    (text ≡ in_base64 bytes) × (length pass.caveats ≤ max_caveats) × (length bytes ≤ buffer_len)
-written_parts bytes pass text e =
-    let parts = written_in (ltb max_caveats (length pass.caveats)) (ltb max_text_len (length (in_base64 bytes))) (in_base64 bytes) text e in
-    (parts.0, ltb-false _ _ parts.1, bytes_fit bytes (ltb-false _ _ parts.2))
 
 pub fails : (bytes : List ℕ) (pass : Plain) (fault : FormFault) → RefusesBytes bytes pass fault → FailsAs (writing_of bytes pass) fault
 fails bytes pass TooMany many = rw (lt-ltb _ _ many) refl

@@ -1,8 +1,9 @@
 -- What is written of a pass in V1.
-use Rattle.std.proofs.Common.{◌≡◌, ◌↔◌, ℕ, ◌+◌, ◌/◌, ◌<◌, ◌≤◌, List, [], ◌∷◌, ◌++◌, length, map, Ok, Some, refl, ap, ◌∙◌, arith}
+use Rattle.std.proofs.Common.{◌≡◌, ◌↔◌, ℕ, ◌+◌, ◌/◌, ◌<◌, ◌≤◌, List, [], ◌∷◌, ◌++◌, length, map, Result, Some, refl, ap, ◌∙◌, arith}
 use Rattle.std.specs.List.{flat_map, AllByRecursion}
 use Rattle.std.proofs.lemmas.Bool.Decides.{nat_tests}
 use Rattle.std.proofs.lemmas.List.{append-nil, length-append}
+use Rattle.pass_forms.specs.declared.fault.FormFault.{FormFault}
 use Rattle.pass_forms.specs.declared.form.Form.TheVariants.{V1}
 use Rattle.pass_forms.specs.Envelope.{form_of, form_of_byte}
 use Rattle.pass_forms.specs.Pass.{Plain, as_wide_pass, widened_caveat}
@@ -10,7 +11,7 @@ use Rattle.pass_forms.specs.Putting.{buffer_len}
 use Rattle.pass_forms.specs.V1.{FitsPackets, FitsCaveat, FitsPacket, SpellsV1, caveat_key, caveat_packets, hex_digit, identifier_key, location_key, packet}
 use Rattle.pass_forms.specs.V1.{packet_len}
 use Rattle.pass_forms.specs.V1.{packets_of, signature_key}
-use Rattle.pass_forms.specs.Writing.{HasBytes, IsReadBack, IsV1Text, IsWritableText, v1_bytes}
+use Rattle.pass_forms.specs.Writing.{HasBytes, IsReadBack, IsV1Text, IsWritableText, IsWriting, v1_bytes}
 use Rattle.pass_forms.specs.computed.Writing.{writing_v1}
 use Rattle.pass_forms.proofs.Packets.{length-packet}
 use Rattle.pass_forms.specs.computed.V1Reading.{reading_v1}
@@ -74,6 +75,6 @@ pub law_v1 : (pass : Plain) (text : List ℕ) → HasBytes pass → IsWritableTe
 law_v1 pass text are written =
     reads_back v1_form pass text (v1_is_bytes pass written.is_text.spelling.fits are) written
 
-pub exact_v1 : (pass : Plain) (text : List ℕ) → length pass.signature ≡ 32 → (writing_v1 pass ≡ Ok text) ↔ IsWritableText IsV1Text pass text
+pub exact_v1 : (pass : Plain) (answer : Result (List ℕ) FormFault) → length pass.signature ≡ 32 → (writing_v1 pass ≡ answer) ↔ IsWriting IsV1Text pass answer
 unfolding writing_v1
-exact_v1 pass text len = exact v1_form pass text len
+exact_v1 pass answer len = exact v1_form pass answer len

@@ -1,11 +1,12 @@
 -- What is written of a pass in V2.
-use Rattle.std.proofs.Common.{◌≡◌, ◌↔◌, ℕ, List, [], ◌∷◌, length, Ok, Some, refl}
+use Rattle.std.proofs.Common.{◌≡◌, ◌↔◌, ℕ, List, [], ◌∷◌, length, Result, Some, refl}
 use Rattle.std.specs.Prelude.{unwrap_or}
+use Rattle.pass_forms.specs.declared.fault.FormFault.{FormFault}
 use Rattle.pass_forms.specs.declared.form.Form.TheVariants.{V2}
 use Rattle.pass_forms.specs.Envelope.{form_of}
 use Rattle.pass_forms.specs.Pass.{Plain, as_wide_pass}
 use Rattle.pass_forms.specs.V2.{SpellsV2}
-use Rattle.pass_forms.specs.Writing.{HasBytes, IsReadBack, IsV2Text, IsWritableText, nonempty_location, v2_bytes}
+use Rattle.pass_forms.specs.Writing.{HasBytes, IsReadBack, IsV2Text, IsWritableText, IsWriting, nonempty_location, v2_bytes}
 use Rattle.pass_forms.specs.computed.Writing.{writing_v2}
 use Rattle.pass_forms.specs.computed.V2Reading.{reading_v2}
 use Rattle.pass_forms.proofs.WholeV2.{reads_v2}
@@ -39,6 +40,6 @@ v2_form = record {
 pub law_v2 : (pass : Plain) (text : List ℕ) → HasBytes pass → IsWritableText IsV2Text pass text → IsReadBack reading_v2 V2 (v2_bytes pass) pass text
 law_v2 pass text are written = reads_back v2_form pass text (v2_is_bytes pass (fits_buffer v2_form pass text written) are) written
 
-pub exact_v2 : (pass : Plain) (text : List ℕ) → length pass.signature ≡ 32 → (writing_v2 pass ≡ Ok text) ↔ IsWritableText IsV2Text pass text
+pub exact_v2 : (pass : Plain) (answer : Result (List ℕ) FormFault) → length pass.signature ≡ 32 → (writing_v2 pass ≡ answer) ↔ IsWriting IsV2Text pass answer
 unfolding writing_v2
-exact_v2 pass text len = exact v2_form pass text len
+exact_v2 pass answer len = exact v2_form pass answer len

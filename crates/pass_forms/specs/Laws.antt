@@ -13,7 +13,7 @@ use Rattle.pass_forms.specs.computed.Text.{text_reading}
 use Rattle.pass_forms.specs.declared.form.Form.TheVariants.{V1, V2}
 use Rattle.pass_forms.specs.computed.V1Reading.{reading_v1}
 use Rattle.pass_forms.specs.computed.V2Reading.{reading_v2}
-use Rattle.pass_forms.specs.Writing.{v1_bytes, v2_bytes, IsV1Text, IsV2Text, IsWritableText, IsReadBack, HasBytes, with_caveat}
+use Rattle.pass_forms.specs.Writing.{v1_bytes, v2_bytes, IsV1Text, IsV2Text, IsWritableText, IsWriting, IsReadBack, HasBytes, with_caveat}
 use Rattle.pass_forms.specs.computed.Writing.{writing_v1, writing_v2}
 use Rattle.pass_forms.specs.computed.Pass.{is_signed}
 
@@ -74,10 +74,10 @@ TextsReadBack = (pass : Plain) (text : List ℕ) → HasBytes pass →
     (IsWritableText IsV1Text pass text → IsReadBack reading_v1 V1 (v1_bytes pass) pass text)
     × (IsWritableText IsV2Text pass text → IsReadBack reading_v2 V2 (v2_bytes pass) pass text)
 
--- For a pass with a signature of 32 bytes, a writer may return the computed text and no other.
+-- For a pass with a signature of 32 bytes, the relation allows exactly one result of writing: the computed one.
 abbrev pub WritesExactly : Type 0
-WritesExactly = (pass : Plain) (text : List ℕ) → length pass.signature ≡ 32 →
-    ((writing_v1 pass ≡ Ok text) ↔ IsWritableText IsV1Text pass text) × ((writing_v2 pass ≡ Ok text) ↔ IsWritableText IsV2Text pass text)
+WritesExactly = (pass : Plain) (answer : Result (List ℕ) FormFault) → length pass.signature ≡ 32 →
+    ((writing_v1 pass ≡ answer) ↔ IsWriting IsV1Text pass answer) × ((writing_v2 pass ≡ answer) ↔ IsWriting IsV2Text pass answer)
 
 -- ---- of signatures
 

@@ -56,6 +56,14 @@ IsWriteFault IsText pass TooLong =
 IsWriteFault IsText pass Memory = (text : List ℕ) × IsWritableText IsText pass text
 IsWriteFault IsText pass other = ⊥
 
+-- The result of writing a pass: a text that a writer may return, or the first fault that applies. Out of memory isn't a property
+-- of a pass.
+abbrev pub IsWriting : (Plain → List ℕ → Type 0) → Plain → Result (List ℕ) FormFault → Type 0
+IsWriting IsText pass (Ok text) = IsWritableText IsText pass text
+IsWriting IsText pass (Err TooLong) = IsWriteFault IsText pass TooLong
+IsWriting IsText pass (Err TooMany) = IsWriteFault IsText pass TooMany
+IsWriting IsText pass (Err other) = ⊥
+
 -- The fault that a writer returns for this computed result: the same fault, or out of memory in place of a text.
 abbrev pub FailsAs : Result (List ℕ) FormFault → FormFault → Type 0
 FailsAs writing Memory = IsOk writing

@@ -7,7 +7,7 @@ use Rattle.pass_forms.specs.declared.form.Form.TheVariants.{V1, V2, Json}
 use Rattle.pass_forms.specs.Pass.{Plain}
 use Rattle.pass_forms.specs.computed.V1Reading.{reading_v1}
 use Rattle.pass_forms.specs.computed.V2Reading.{reading_v2}
-use Rattle.pass_forms.specs.Writing.{FailsAs, HasBytes, IsReadBack, IsWritableText, v1_bytes, v2_bytes}
+use Rattle.pass_forms.specs.Writing.{FailsAs, HasBytes, IsReadBack, IsWritableText, IsWriting, v1_bytes, v2_bytes}
 use Rattle.pass_forms.specs.Laws.{TextsReadBack, WritesExactly}
 use Rattle.pass_json.specs.AnyForm.{IsTextIn}
 use Rattle.pass_json.specs.computed.AnyForm.{reading, wide_in, writing}
@@ -50,9 +50,9 @@ in_any_form texts json V1 pass text are written = back_from_v1 (v1_bytes pass) p
 in_any_form texts json V2 pass text are written = back_from_v2 (v2_bytes pass) pass text ((texts pass text are).1 written)
 in_any_form texts json Json pass text are written = back_from_json text pass text (json pass text written)
 
-pub exact_in_any_form : WritesExactly → WritesJsonExactly → (form : Form) (pass : Plain) (text : List ℕ) → HasBytes pass → length pass.signature ≡ 32
-    → (writing form pass ≡ Ok text) ↔ IsWritableText (IsTextIn form) pass text
+pub exact_in_any_form : WritesExactly → WritesJsonExactly → (form : Form) (pass : Plain) (answer : Result (List ℕ) FormFault) → HasBytes pass
+    → length pass.signature ≡ 32 → (writing form pass ≡ answer) ↔ IsWriting (IsTextIn form) pass answer
 unfolding writing
-exact_in_any_form others json V1 pass text are len = (others pass text len).0
-exact_in_any_form others json V2 pass text are len = (others pass text len).1
-exact_in_any_form others json Json pass text are len = json pass text are len
+exact_in_any_form others json V1 pass answer are len = (others pass answer len).0
+exact_in_any_form others json V2 pass answer are len = (others pass answer len).1
+exact_in_any_form others json Json pass answer are len = json pass answer are len

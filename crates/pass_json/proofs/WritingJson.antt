@@ -1,5 +1,5 @@
 -- What the writer of JSON answers, and that its text is read back.
-use Rattle.std.proofs.Common.{◌≡◌, ◌↔◌, ℕ, ◌<◌, ◌≤◌, Bool, true, false, cond, ltb, List, length, Result, Ok, Err, refl, sym, ap, subst, ◌∙◌}
+use Rattle.std.proofs.Common.{◌≡◌, ◌↔◌, ℕ, ◌<◌, ◌≤◌, Bool, true, false, cond, ltb, List, length, Result, Ok, Err, refl, sym, ap, subst, ◌∙◌, arith}
 use Rattle.std.specs.Result.{IfErr, IfOk, MatchResult, OnOk}
 use Rattle.std.proofs.lemmas.Bool.{le-ltb, ltb-false, ltb-true}
 use Rattle.pass_forms.specs.declared.fault.FormFault.{FormFault}
@@ -10,7 +10,7 @@ use Rattle.pass_forms.specs.Envelope.{starts_with_brace}
 use Rattle.pass_forms.specs.computed.Envelope.{unwrapping}
 use Rattle.pass_forms.specs.Pass.{Plain, as_wide_pass}
 use Rattle.pass_forms.specs.Reading.{max_caveats, max_text_len}
-use Rattle.pass_forms.specs.Writing.{HasBytes, IsReadBack, IsWritableText}
+use Rattle.pass_forms.specs.Writing.{HasBytes, IsReadBack, IsWritableText, IsWriting}
 use Rattle.pass_json.specs.Json.{SpellsJson}
 use Rattle.pass_json.specs.computed.JsonReading.{reading_json}
 use Rattle.pass_json.specs.JsonWriting.{IsJsonText, IsRefusedJson, MayFailAs, json_text}
@@ -21,44 +21,50 @@ use Rattle.pass_json.proofs.WrittenJson.{spells_json, starts_json}
 abbrev answer_by : Bool → Bool → List ℕ → Result (List ℕ) FormFault
 answer_by many long text = cond many (Err TooMany) (cond long (Err TooLong) (Ok text))
 
--- ---- a text
+-- ---- the result, a text or a fault
 
-text_by : (many long : Bool) (whole text : List ℕ) → answer_by many long whole ≡ Ok text → (text ≡ whole) × (many ≡ false) × (long ≡ false)
-text_by true long whole text e = absurd cc
-text_by false true whole text e = absurd cc
-text_by false false whole text e = (cc, refl, refl)
+-- the computed result, by its two tests, is one that the relation allows
+allowed_by : FromBase64IsBase64 → (pass : Plain) (many long : Bool) → HasBytes pass → length pass.signature ≡ 32
+    → ltb max_caveats (length pass.caveats) ≡ many → ltb max_text_len (length (json_text pass)) ≡ long
+    → IsWriting IsJsonText pass (answer_by many long (json_text pass))
+allowed_by law pass true long are len m l = ltb-true _ _ m
+allowed_by law pass false true are len m l =
+    (ltb-false _ _ m, λ text is. subst (λ (t : List ℕ). max_text_len < length t) (sym is.compact) (ltb-true _ _ l))
+allowed_by law pass false false are len m l = record {
+  is_text = record { compact = refl; spelling = spells_json law pass are len };
+  short = ltb-false _ _ l;
+  few = ltb-false _ _ m;
+}
 
-written_parts : (pass : Plain) (text : List ℕ) → writing_json pass ≡ Ok text →
-    (text ≡ json_text pass) × (length pass.caveats ≤ max_caveats) × (length (json_text pass) ≤ max_text_len)
+computed_is_allowed : FromBase64IsBase64 → (pass : Plain) → HasBytes pass → length pass.signature ≡ 32 → IsWriting IsJsonText pass (writing_json pass)
 unfolding writing_json
-written_parts pass text e =
-    let parts = text_by (ltb max_caveats (length pass.caveats)) (ltb max_text_len (length (json_text pass))) (json_text pass) text e in
-    (parts.0, ltb-false _ _ parts.1, ltb-false _ _ parts.2)
+computed_is_allowed law pass are len =
+    allowed_by law pass (ltb max_caveats (length pass.caveats)) (ltb max_text_len (length (json_text pass))) are len refl refl
 
-written_as : (pass : Plain) (text : List ℕ) → text ≡ json_text pass → length pass.caveats ≤ max_caveats → length text ≤ max_text_len →
-    writing_json pass ≡ Ok text
-unfolding writing_json
-written_as pass text is few short =
-    let few_enough : ltb max_caveats (length pass.caveats) ≡ false = le-ltb _ _ few in
-    let short_enough : ltb max_text_len (length (json_text pass)) ≡ false = le-ltb _ _ (rw is at short) in
-    rw (few_enough, short_enough) (ap (λ (t : List ℕ). Ok t) (sym is))
+-- the relation allows one result
+one_result : (pass : Plain) (one other : Result (List ℕ) FormFault) → IsWriting IsJsonText pass one → IsWriting IsJsonText pass other → one ≡ other
+one_result pass (Ok text) (Ok other) h k = ap (λ (t : List ℕ). Ok t) (h.is_text.compact ∙ sym k.is_text.compact)
+one_result pass (Ok text) (Err TooLong) h k = absurd (omega (arith, h.short, k.1 text h.is_text))
+one_result pass (Ok text) (Err TooMany) h k = absurd (omega (arith, h.few, k))
+one_result pass (Err TooLong) (Ok other) h k = absurd (omega (arith, k.short, h.1 other k.is_text))
+one_result pass (Err TooLong) (Err TooLong) h k = refl
+one_result pass (Err TooLong) (Err TooMany) h k = absurd (omega (arith, h.0, k))
+one_result pass (Err TooMany) (Ok other) h k = absurd (omega (arith, k.few, h))
+one_result pass (Err TooMany) (Err TooLong) h k = absurd (omega (arith, k.0, h))
+one_result pass (Err TooMany) (Err TooMany) h k = refl
+one_result pass one (Err Malformed) h k = absurd k
+one_result pass one (Err ThirdParty) h k = absurd k
+one_result pass one (Err Memory) h k = absurd k
+one_result pass (Err Malformed) other h k = absurd h
+one_result pass (Err ThirdParty) other h k = absurd h
+one_result pass (Err Memory) other h k = absurd h
 
-pub exact_json : FromBase64IsBase64 → (pass : Plain) (text : List ℕ) → HasBytes pass → length pass.signature ≡ 32 →
-    (writing_json pass ≡ Ok text) ↔ IsWritableText IsJsonText pass text
-exact_json law pass text are len = (
-  λ e.
-      let parts = written_parts pass text e in
-      record {
-        is_text = record {
-          compact = parts.0;
-          spelling = subst
-              (λ (t : List ℕ). SpellsJson t (as_wide_pass pass)) (sym parts.0) (spells_json law pass are len);
-        };
-        short = subst (λ (t : List ℕ). length t ≤ max_text_len) (sym parts.0) parts.2;
-        few = parts.1;
-      },
-  λ written. written_as pass text written.is_text.compact written.few written.short,
-)
+pub exact_json : FromBase64IsBase64 → (pass : Plain) (answer : Result (List ℕ) FormFault) → HasBytes pass → length pass.signature ≡ 32 →
+    (writing_json pass ≡ answer) ↔ IsWriting IsJsonText pass answer
+exact_json law pass answer are len =
+    let allowed = computed_is_allowed law pass are len in
+    let Allows : Result (List ℕ) FormFault → Type 0 = λ r. IsWriting IsJsonText pass r in
+    ((λ e. subst Allows e allowed), (λ h. one_result pass _ answer allowed h))
 
 -- ---- reading back
 
@@ -104,7 +110,7 @@ pub written_if : {T : Type 0} (law : WritesJsonExactly) (pass : Plain) (bytes_of
     OnOk result (length pass.signature ≡ 32)
     → MatchResult result (λ text. writing_json pass ≡ Ok (bytes_of text)) (MayFailAs (writing_json pass)) → IfOk result
     (λ text. IsWritableText IsJsonText pass (bytes_of text))
-written_if law pass bytes_of (Ok text) are len e = (law pass (bytes_of text) are len).0 e
+written_if law pass bytes_of (Ok text) are len e = (law pass (Ok (bytes_of text)) are len).0 e
 written_if law pass bytes_of (Err fault) are len e = tt
 
 pub refused_if : {T : Type 0} (pass : Plain) (bytes_of : T → List ℕ) (result : Result T FormFault)

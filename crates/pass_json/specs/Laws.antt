@@ -2,7 +2,7 @@
 use Rattle.std.specs.Prelude.{◌≡◌, ◌↔◌, ℕ, List, length, Ok, ◌≤◌, Result, Err}
 use Rattle.pass_forms.specs.declared.form.Form.TheVariants.{Json}
 use Rattle.pass_forms.specs.Pass.{Plain}
-use Rattle.pass_forms.specs.Writing.{HasBytes, IsReadBack, IsWritableText}
+use Rattle.pass_forms.specs.Writing.{HasBytes, IsReadBack, IsWritableText, IsWriting}
 use Rattle.pass_json.specs.computed.JsonReading.{reading_json}
 use Rattle.pass_json.specs.JsonWriting.{IsJsonText}
 use Rattle.pass_json.specs.computed.JsonWriting.{writing_json}
@@ -19,10 +19,10 @@ use Rattle.pass_json.specs.computed.AnyForm.{reading, reading_in_form, writing}
 abbrev pub JsonReadsBack : Type 0
 JsonReadsBack = (pass : Plain) (text : List ℕ) → IsWritableText IsJsonText pass text → IsReadBack reading_json Json text pass text
 
--- For a pass of bytes with a signature of 32 bytes, the writer may return the computed text and no other.
+-- For a pass of bytes with a signature of 32 bytes, the relation allows exactly one result of writing: the computed one.
 abbrev pub WritesJsonExactly : Type 0
-WritesJsonExactly = (pass : Plain) (text : List ℕ) → HasBytes pass → length pass.signature ≡ 32 →
-    (writing_json pass ≡ Ok text) ↔ IsWritableText IsJsonText pass text
+WritesJsonExactly = (pass : Plain) (answer : Result (List ℕ) FormFault) → HasBytes pass → length pass.signature ≡ 32 →
+    (writing_json pass ≡ answer) ↔ IsWriting IsJsonText pass answer
 
 -- The reading of a text is the reading of the bytes that it wraps, in their form, if they are within the limit of texts.
 abbrev pub ReadsWhatIsWrapped : Type 0
@@ -47,7 +47,8 @@ abbrev pub AnyFormReadsBack : Type 0
 AnyFormReadsBack = (form : Form) (pass : Plain) (text : List ℕ) → HasBytes pass →
     IsWritableText (IsTextIn form) pass text → reading text ≡ Ok (form, pass)
 
--- For a pass of bytes with a signature of 32 bytes, a writer may return the computed text and no other.
+-- For a pass of bytes with a signature of 32 bytes, the relation allows exactly one result of writing, in every case and form: the
+-- computed one.
 abbrev pub WritesAnyFormExactly : Type 0
-WritesAnyFormExactly = (form : Form) (pass : Plain) (text : List ℕ) → HasBytes pass → length pass.signature ≡ 32 →
-    (writing form pass ≡ Ok text) ↔ IsWritableText (IsTextIn form) pass text
+WritesAnyFormExactly = (form : Form) (pass : Plain) (answer : Result (List ℕ) FormFault) → HasBytes pass → length pass.signature ≡ 32 →
+    (writing form pass ≡ answer) ↔ IsWriting (IsTextIn form) pass answer

@@ -69,7 +69,8 @@ pub fn json_reads_back()
     reads_json_exactly();
 }
 
-/// The computed JSON text of a pass is the only one that the writer may write.
+/// The relation allows exactly one result of writing a pass in JSON: the computed one, a text or a
+/// fault.
 pub fn writes_json_exactly()
     ensures { WritesJsonExactly }
 {
@@ -89,7 +90,8 @@ pub fn any_form_reads_back()
     json_reads_back();
 }
 
-/// The computed text of a pass is the only one that a writer may write, in any form.
+/// The relation allows exactly one result of writing a pass, in any form: the computed one, a text
+/// or a fault.
 pub fn writes_any_form_exactly()
     ensures { WritesAnyFormExactly }
 {
