@@ -3,6 +3,7 @@
 
 mod any;
 mod field;
+mod fields;
 pub mod laws;
 mod names;
 mod object;
@@ -10,5 +11,6 @@ mod read;
 mod write;
 
 pub use any::{read_any, write_any};
+pub use fields::JsonFields;
 pub use read::read_json;
 pub use write::write_json;

@@ -6,6 +6,8 @@ mod any;
 #[cfg(test)]
 mod calls;
 #[cfg(test)]
+mod fields;
+#[cfg(test)]
 mod members;
 #[cfg(test)]
 mod read;

@@ -1,6 +1,7 @@
 //! Passes that are read from JSON.
 
 use crate::calls::read_json;
+use crate::fields::expect_fields_twice;
 use crate::rows::{Fields, KEYID_FIELDS, KNOWN_FIELDS, Piece, expect_eq, expect_pass, join};
 use pass_forms::FormFault;
 use std::process::Abort;
@@ -28,6 +29,7 @@ fn is_read(rt: &(impl Abort + AllocGlobal), row: &Read) {
     let text = join(rt, row.pieces);
     let pass = read_json(rt.alloc(), text.as_bytes()).expect(rt, "a pass");
     expect_pass(rt, &pass, &row.fields);
+    expect_fields_twice(rt, &pass, &row.fields);
 }
 
 fn are_read(rt: &(impl Abort + AllocGlobal), rows: &[Read]) {

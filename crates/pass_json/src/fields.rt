@@ -1,0 +1,48 @@
+//! The fields of a pass that was read, one after the other.
+
+use pass_forms::{Field, FieldSource, Pass, PassFields};
+use std::marker::Model;
+
+/// The fields of a pass that `read_json` or `read_any` returned, without a copy: each is a slice of
+/// the pass. Contracts see them as the list of the fields that are left.
+#[derive(Drop)]
+pub struct JsonFields<'a> {
+    fields: PassFields<'a>,
+}
+
+impl<'a> Model for JsonFields<'a> {
+    ghost use Rattle.std.specs.Prelude.{List};
+    ghost use Rattle.pass_forms.specs.FieldSource.{PassField};
+
+    ghost Value = { List PassField };
+
+    ghost view = { λ source. source.fields };
+}
+
+impl<'a> JsonFields<'a> {
+    ghost use Rattle.std.specs.Prelude.{◌≡◌};
+    ghost use Rattle.pass_forms.specs.FieldSource.{pass_fields};
+
+    /// All fields of the pass. No memory is allocated.
+    pub fn over(pass: &'a Pass) -> JsonFields<'a>
+        ensures { result ≡ pass_fields pass.now }
+    {
+        JsonFields {
+            fields: pass.fields(),
+        }
+    }
+}
+
+impl<'a> FieldSource<'a> for JsonFields<'a> {
+    ghost left = { λ fields. fields };
+
+    fn next(&mut self) -> Option<Field<'a>> {
+        self.fields.next()
+    }
+
+    fn again(&self) -> JsonFields<'a> {
+        JsonFields {
+            fields: self.fields.again(),
+        }
+    }
+}
