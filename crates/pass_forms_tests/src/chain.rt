@@ -42,6 +42,30 @@ fn hmac_of_the_rfc(rt: HostRuntime) {
     are_macs(&rt, &CASES);
 }
 
+// A key of a whole block is used as it is, and a longer one is hashed. By an independent program.
+static AROUND_A_BLOCK: [Mac; 3] = [
+    (
+        &[0xaa; 63],
+        b"Hi There",
+        b"\xb1\x76\x40\x55\x84\xdf\x87\xdb\x50\x8a\xee\x7e\x8d\x9e\xf1\x14\x82\xcc\xa9\x2e\xfc\x74\xd9\x94\xf5\x93\xa7\xe2\x12\x07\xce\xf1",
+    ),
+    (
+        &[0xaa; 64],
+        b"Hi There",
+        b"\xeb\xef\x34\xe1\x3d\x0a\x0f\xe0\x45\x93\xd0\x43\xbc\x7a\x86\x51\x06\xdb\x06\x04\x21\x1d\x40\x4c\x18\x20\x6d\x86\x2e\x5d\x78\x52",
+    ),
+    (
+        &[0xaa; 65],
+        b"Hi There",
+        b"\x00\xaf\x6c\x42\x34\x0b\x99\xe2\xe1\xd9\xa1\xcd\xf1\x54\x7b\xe4\x31\xfe\x2e\x9b\xab\x32\x15\xc6\x8d\x01\x3b\xa8\x58\x89\x19\x27",
+    ),
+];
+
+#[test]
+fn hmac_of_keys_around_a_block(rt: HostRuntime) {
+    are_macs(&rt, &AROUND_A_BLOCK);
+}
+
 // The root, identifier and caveat of libmacaroons' README, with the signatures that libmacaroons
 // gives.
 const ROOT: &[u8] = b"this is our super secret key; only we should know it";

@@ -53,6 +53,37 @@ pub(crate) static EXAMPLE: [(Form, &str); 3] = [
     ),
 ];
 
+// The passes of keys with names of 1 and of 24 letters, by an independent program.
+static OF_1_LETTER: [(Form, &str); 3] = [
+    (
+        Form::V1,
+        "MDAxN2xvY2F0aW9uIGNsdWItZGVzawowMDE1aWRlbnRpZmllciBrZXk6YQowMDJmc2lnbmF0dXJlINUNOO5RwGYyFrLLxURCWimOR2Ke7JygR9qsvDKEn0veCg",
+    ),
+    (
+        Form::V2,
+        "AgEJY2x1Yi1kZXNrAgVrZXk6YQAABiDVDTjuUcBmMhayy8VEQlopjkdinuycoEfarLwyhJ9L3g",
+    ),
+    (
+        Form::Json,
+        "{\"c\":[],\"i\":\"key:a\",\"l\":\"club-desk\",\"s64\":\"1Q047lHAZjIWssvFREJaKY5HYp7snKBH2qy8MoSfS94\",\"v\":2}",
+    ),
+];
+
+static OF_24_LETTERS: [(Form, &str); 3] = [
+    (
+        Form::V1,
+        "MDAxN2xvY2F0aW9uIGNsdWItZGVzawowMDJjaWRlbnRpZmllciBrZXk6YWJjZGVmZ2hpamtsbW5vcHFyc3R1dnd4CjAwMmZzaWduYXR1cmUgE2VHhUaPyb3pmYgFRMdlNdU60H1ry2MS_d9DlLiV8XEK",
+    ),
+    (
+        Form::V2,
+        "AgEJY2x1Yi1kZXNrAhxrZXk6YWJjZGVmZ2hpamtsbW5vcHFyc3R1dnd4AAAGIBNlR4VGj8m96ZmIBUTHZTXVOtB9a8tjEv3fQ5S4lfFx",
+    ),
+    (
+        Form::Json,
+        "{\"c\":[],\"i\":\"key:abcdefghijklmnopqrstuvwx\",\"l\":\"club-desk\",\"s64\":\"E2VHhUaPyb3pmYgFRMdlNdU60H1ry2MS_d9DlLiV8XE\",\"v\":2}",
+    ),
+];
+
 // The pass of a text whose form is detected as this one.
 fn read(rt: &(impl Abort + AllocGlobal), text: &str, form: Form) -> Pass {
     let (outcome, pass) = read_any(rt.alloc(), text.as_bytes()).expect(rt, "a pass");
@@ -80,6 +111,12 @@ fn answers_with_ample_memory(rt: HostRuntime) {
     convert(&rt, &KNOWN);
     convert(&rt, &BARE);
     convert(&rt, &EXAMPLE);
+}
+
+#[test]
+fn converts_passes_of_short_and_long_names(rt: HostRuntime) {
+    convert(&rt, &OF_1_LETTER);
+    convert(&rt, &OF_24_LETTERS);
 }
 
 // JSON of the pass that has an identifier alone, without what may be left out, plainly and in
