@@ -6,6 +6,7 @@ use Rattle.std.proofs.lemmas.List.{map-append, length-map, length-take}
 use Rattle.std.proofs.lemmas.List.Elements.{All-nil, All-cons, All-weaker, All-contains_itself, Contains-append_left, Contains-append_right}
 use Rattle.club_core.specs.declared.change.Change.{Change}
 use Rattle.club_core.specs.declared.command.OfficeFault.{OfficeFault}
+use Rattle.club_core.specs.declared.store.StoreFault.{StoreFault}
 use Rattle.club_core.specs.Club.{Club}
 use Rattle.club_core.specs.Office.{office_verdict}
 use Rattle.club_core.specs.Run.{Event, Asked, Ordered, after_change, order_outcome, step}
@@ -13,7 +14,8 @@ use Rattle.club_laws.specs.Failed.{has_failed, IsStep, IsRun}
 use Rattle.club_gate.specs.Desk.{IsAnsweredBy, IsRefusedBy, Steps, change_by, change_of, others_after}
 use Rattle.club_gate.specs.declared.event.Event.{Event as DeskEvent}
 use Rattle.club_gate.specs.declared.event.EventReply.{EventReply}
-use Rattle.club_gate.specs.Runs.{IsFollowed, IsLeftBehind, DeskResponse, machine_events, events_failed, responses_of}
+use Rattle.club_gate.specs.Runs.AreHandled.{one_event}
+use Rattle.club_gate.specs.Runs.{AreHandled, IsFollowed, IsHandled, IsLeftBehind, DeskResponse, machine_events, events_failed, responses_of}
 use Rattle.club_gate.specs.Response.{machine_event, response_of, desk_presentation}
 
 -- the first events of a list, and the next one
@@ -23,6 +25,16 @@ one_more events i event h e =
     rw (add-one, take-suc events i event)
     (map-append machine_event (take i events) (get_or events i event ∷ [])
     ∙ ap (λ (one : DeskEvent). machine_events (take i events) ++ machine_event one ∷ []) (sym e))
+
+-- one event of the desk more
+pub handled_one : {S : Type 0} (IsClean : S → Type 0) (Represents : S → Club → List Club → Type 0) (Fails : Option Change → S → StoreFault → S → Type 0)
+    (old now new : S) (events : List DeskEvent) (i : ℕ) (event : DeskEvent) (replies all : List EventReply) (reply : EventReply) → i < length events
+    → event ≡ get_or events i event → all ≡ replies ++ reply ∷ [] → AreHandled IsClean Represents Fails old (take i events) replies now
+    → IsHandled IsClean Represents Fails now event reply new → AreHandled IsClean Represents Fails old (take (i + 1) events) all new
+handled_one IsClean Represents Fails old now new events i event replies all reply h e same before one =
+    let first : take (i + 1) events ≡ take i events ++ event ∷ [] =
+    rw (add-one, take-suc events i event) (ap (λ (it : DeskEvent). take i events ++ it ∷ []) (sym e)) in
+    rw (first, same) (one_event (take i events) replies event reply now new before one)
 
 -- an event that changes nothing keeps the club
 kept_by : (club : Club) (event : Event) → change_of club event ≡ None → (step club event).club ≡ club

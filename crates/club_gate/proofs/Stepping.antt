@@ -21,7 +21,8 @@ use Rattle.club_core.specs.Pass.{Words}
 use Rattle.club_core.specs.Run.{Asked, Ordered, after_change, done_answer, order_outcome}
 use Rattle.club_laws.specs.Failed.{ToMember, ToOffice, present_reply, is_unavailable, NeverUnavailable}
 use Rattle.club_laws.specs.SoundRuns.{ChangesFit}
-use Rattle.club_gate.specs.Desk.{FitsIfAny, IsAnsweredBy, IsRefusedBy, change_by, others_after}
+use Rattle.club_core.specs.Store.{IsRead}
+use Rattle.club_gate.specs.Desk.{FailsAt, FitsIfAny, IsAnsweredBy, IsRefusedBy, change_by, others_after}
 use Rattle.club_gate.specs.Response.{answer_or_fault, is_failure, reply_or_unavailable, office_reply_of, desk_presentation, unavailable}
 
 -- a command that is done is no failure
@@ -54,6 +55,19 @@ ask_fits fits club words moment verdict sound event e = go verdict.change (ap (�
     go : (change : Option Change) → (verdict_in club words moment).change ≡ change → FitsIfAny change club
     go None is = tt
     go (Some change) is = fits club (Asked words moment) change sound event is
+
+-- the reply to a request that was decided isn't `Unavailable`
+pub always_decided : NeverUnavailable → (club : Club) (words : Words) (moment : ℕ) (verdict : Verdict) → verdict ≡ verdict_in club words moment
+    → verdict.reply ≡ unavailable → ⊥
+always_decided never club words moment verdict e is =
+    never club (Asked words moment) (ap (λ (v : Verdict). Replied v.reply) (sym e) ∙ ap Replied is)
+
+-- a fault at the verdict's change is one at the request's
+pub changed_fault : {S : Type 0} (Fails : Option Change → S → StoreFault → S → Type 0) (old now new : S) (club : Club) (words : Words) (moment : ℕ)
+    (verdict : Verdict) → verdict ≡ verdict_in club words moment → (fault : StoreFault) → IsRead Fails old now → Fails verdict.change now fault new
+    → FailsAt Fails old new club (Asked words moment) fault
+changed_fault {S} Fails old now new club words moment verdict e fault read failed =
+    inr (subst (λ (v : Verdict). Fails v.change old fault new) e (read verdict.change fault new failed))
 
 module _ {S : Type 0} (Represents : S → Club → List Club → Type 0) (new : S) (club : Club) (others : List Club) where
   pub order_done : (command : Command) (change : Change) → office_verdict club command ≡ Ok change

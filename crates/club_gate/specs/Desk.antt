@@ -1,7 +1,9 @@
 -- What an event leaves of the store below a desk (ours).
-use Rattle.std.specs.Prelude.{◌≡◌, ◌⊎◌, IsTrue, IsFalse, List, [], ◌∷◌, MatchResult, Option, Some, None, Result, Ok, Err}
+use Rattle.std.specs.Prelude.{◌≡◌, ◌⊎◌, ℕ, IsTrue, IsFalse, List, [], ◌∷◌, MatchResult, Option, Some, None, Result, Ok, Err}
 use Rattle.club_core.specs.declared.change.Change.{Change}
 use Rattle.club_core.specs.declared.command.OfficeFault.{OfficeFault}
+use Rattle.club_core.specs.declared.reply.Reply.{Reply}
+use Rattle.club_core.specs.declared.request.Request.{Request}
 use Rattle.club_core.specs.declared.store.StoreFault.{StoreFault}
 use Rattle.club_core.specs.declared.store.StoreFault.TheVariants.{Memory}
 use Rattle.club_core.specs.Answer.{verdict_in}
@@ -14,7 +16,9 @@ use Rattle.club_gate.specs.declared.event.OfficeReply.{OfficeReply}
 use Rattle.club_gate.specs.declared.event.OfficeReply.TheVariants.{Refused}
 use Rattle.club_gate.specs.declared.fault.Fault.{Fault}
 use Rattle.club_gate.specs.declared.fault.Fault.TheVariants as faults
-use Rattle.club_gate.specs.Response.{desk_presentation}
+use Rattle.club_gate.specs.DecodedPass.{decoded_words}
+use Rattle.club_gate.specs.Response.{desk_presentation, unavailable}
+use Rattle.club_gate.specs.Served.{IsJson}
 
 -- true of whichever club the store represented before a call, if its disk is clean after the call
 abbrev pub OfItsClub : {S : Type 0} → (S → Type 0) → (S → Club → List Club → Type 0) → S → S → (Club → Type 0) → Type 0
@@ -81,6 +85,13 @@ FailsAt Fails old new club event fault = Fails None old fault new ⊎ Fails (cha
 abbrev pub NamesItsFault : {S : Type 0} → (Option Change → S → StoreFault → S → Type 0) → S → S → Club → Event → OfficeReply → Type 0
 NamesItsFault Fails old new club event reply =
     (fault : StoreFault) → reply ≡ Refused (faults.Store fault) → FailsAt Fails old new club event fault
+
+-- If the reply to a request is `Unavailable`, there is a fault with which the store itself failed, at a read or when it wrote the change of the
+-- request; or the text is JSON, which needs memory to be parsed, and the store is unchanged.
+abbrev pub FailsForCause : {S : Type 0} → (Option Change → S → StoreFault → S → Type 0) → S → S → Club → List ℕ → Request → ℕ → Reply → Type 0
+FailsForCause Fails old new club text request moment reply =
+    reply ≡ unavailable
+    → ((fault : StoreFault) × FailsAt Fails old new club (Asked (decoded_words text request) moment) fault) ⊎ (IsJson text × (new ≡ old))
 
 -- memory or storage was refused
 abbrev pub IsStoreFault : Fault → Type 0

@@ -1,9 +1,11 @@
 -- The responses to a list of events, and the club and crash states of the store after it (ours). An event failed if its response says that
 -- memory or storage was refused.
-use Rattle.std.specs.Prelude.{◌≡◌, ◌⊎◌, ℕ, ◌≤◌, IsFalse, List, [], ◌∷◌, ◌++◌, length, map, sum_by, All, Contains, Some, if◌then◌else◌}
+use Rattle.std.specs.Prelude.{◌≡◌, ◌⊎◌, ℕ, ◌≤◌, IsFalse, List, [], ◌∷◌, ◌++◌, length, map, sum_by, All, Contains, Option, Some, if◌then◌else◌}
 use Rattle.club_values.specs.declared.slot.Slot.{Slot}
 use Rattle.club_rows.specs.declared.member.Member.{Member}
+use Rattle.club_core.specs.declared.change.Change.{Change}
 use Rattle.club_core.specs.declared.reply.Reply.{Reply}
+use Rattle.club_core.specs.declared.store.StoreFault.{StoreFault}
 use Rattle.club_core.specs.Acceptance.{IsAcceptedIn}
 use Rattle.club_core.specs.Club.{Club, empty_club, bookings_of, member_named, IsSound}
 use Rattle.club_core.specs.Pass.{Words}
@@ -16,8 +18,11 @@ use Rattle.club_laws.specs.Conservation.{IsConserved, HasPlaces}
 use Rattle.club_laws.specs.Failed.{ToMember, has_failed, IsRun, answered_events, answers}
 use Rattle.club_laws.specs.Failed as laws
 use Rattle.club_laws.specs.SoloLaw.{replies_to}
+use Rattle.club_gate.specs.Desk.{FailsForCause, NamesItsFault, OfItsClub, Steps}
 use Rattle.club_gate.specs.declared.event.Event.{Event}
+use Rattle.club_gate.specs.declared.event.Event.TheVariants as events
 use Rattle.club_gate.specs.declared.event.EventReply.{EventReply}
+use Rattle.club_gate.specs.declared.event.EventReply.TheVariants.{Replied, Answered}
 use Rattle.club_gate.specs.declared.event.OfficeReply.{OfficeReply}
 use Rattle.club_gate.specs.Response.{desk_presentation, response_of, machine_event}
 
@@ -134,6 +139,26 @@ pub record IsLawfulRun (club : Club) (events : List machine.Event) (responses : 
   pub conserves : Conserves club events responses
   pub never_negative : IsNeverNegative (club_left club events responses)
   pub never_overbooked : IsNeverOverbooked (club_left club events responses)
+
+-- if an event failed, the store failed in it, as at `Desk::ask` and `Desk::office`
+abbrev pub EventFailsForCause : {S : Type 0} → (Option Change → S → StoreFault → S → Type 0) → S → S → Club → Event → EventReply → Type 0
+EventFailsForCause Fails old new club (events.Asked words moment) (Replied reply) =
+    FailsForCause Fails old new club words.pass.now words.request moment reply
+EventFailsForCause Fails old new club (events.Ordered command) (Answered reply) = NamesItsFault Fails old new club (machine.Ordered command) reply
+EventFailsForCause Fails old new club event reply = ⊥
+
+module _ {S : Type 0} (IsClean : S → Type 0) (Represents : S → Club → List Club → Type 0) (Fails : Option Change → S → StoreFault → S → Type 0) where
+  -- One event, with the store before and after.
+  pub record IsHandled (old : S) (event : Event) (reply : EventReply) (new : S) : Type 0 where
+    pub was_clean : IsClean new → IsClean old
+    pub steps : IsClean new → Steps Represents old new (machine_event event) (response_of reply)
+    pub failed : OfItsClub IsClean Represents old new (λ club. EventFailsForCause Fails old new club event reply)
+
+  -- The events one after the other, each from the store that the one before it left.
+  pub data AreHandled (old : S) : List Event → List EventReply → S → Type 0 where
+    no_event : AreHandled old [] [] old
+    one_event : (events : List Event) (replies : List EventReply) (event : Event) (reply : EventReply) (now new : S) → AreHandled old events replies now
+        → IsHandled now event reply new → AreHandled old (events ++ event ∷ []) (replies ++ reply ∷ []) new
 
 -- another possible crash state: one of before, or the last club after one of the events that failed
 abbrev pub IsLeftBehind : Club → List Club → Club → List machine.Event → Club → Type 0

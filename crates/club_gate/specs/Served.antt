@@ -108,3 +108,7 @@ IsReadInPlace text = (bytes : List ℕ) → unwrapping text ≢ Ok (Json, bytes)
 abbrev pub RefusesByFormFault : List ℕ → Reply → Type 0
 RefusesByFormFault text reply =
     (fault : FormFault) → IsReadInPlace text → IsAnyReading text (Err fault) → reply ≡ Refused (form_refusal (fault_of fault))
+
+-- The text is JSON, which needs memory to be parsed.
+abbrev pub IsJson : List ℕ → Type 0
+IsJson text = (bytes : List ℕ) × (unwrapping text ≡ Ok (Json, bytes))

@@ -1,5 +1,5 @@
 -- The steps of the verifier (ours).
-use Rattle.std.specs.Prelude.{◌≡◌, ℕ, ◌≤◌, not, List, [], ◌∷◌, ◌++◌, length, map, IfOk, Option, Some, None, Result, Ok, Err}
+use Rattle.std.specs.Prelude.{◌≡◌, ◌⊎◌, ℕ, ◌≤◌, not, List, [], ◌∷◌, ◌++◌, length, map, IfOk, Option, Some, None, Result, Ok, Err}
 use Rattle.std.specs.Option.{option_and_then}
 use Rattle.pass_forms.specs.declared.fault.FormFault.{FormFault}
 use Rattle.pass_forms.specs.declared.fault.FormFault.TheVariants.{Memory}
@@ -9,6 +9,7 @@ use Rattle.pass_forms.specs.Pass.{Plain}
 use Rattle.pass_forms.specs.Reading.{max_caveats}
 use Rattle.pass_json.specs.computed.AnyForm.{reading_in_form}
 use Rattle.club_rows.specs.declared.key.Key.{Key}
+use Rattle.club_core.specs.declared.change.Change.{Change}
 use Rattle.club_core.specs.declared.refusal.Refusal.{Refusal}
 use Rattle.club_core.specs.declared.refusal.Refusal.TheVariants.{KeyRevoked, NotVerified}
 use Rattle.club_core.specs.declared.request.Request.{Request}
@@ -20,6 +21,7 @@ use Rattle.club_core.specs.Club.{Club, key_named}
 use Rattle.club_core.specs.Lines.{line_if, first_of}
 use Rattle.club_core.specs.Pass.{Words}
 use Rattle.club_core.specs.computed.Pass.{is_signed_under}
+use Rattle.club_core.specs.Store.{IsRead}
 use Rattle.club_core.specs.Verdict.{refusal_verdict}
 use Rattle.club_gate.specs.Identifier.{key_name_in}
 use Rattle.club_gate.specs.DecodedPass.{fault_of, machine_pass, decoded_or_fault}
@@ -61,6 +63,11 @@ words_in_form form bytes request = record { pass = decoded_or_fault (reading_in_
 abbrev pub answer_to_fault : FormFault → Result Verdict StoreFault
 answer_to_fault Memory = Err store.Memory
 answer_to_fault fault = Ok (refusal_verdict (form_refusal (fault_of fault)))
+
+-- The verdict was read, or the store failed with this fault at a read; or the text is JSON, and the store wasn't called.
+abbrev pub ReadsOrLacksMemory : {S : Type 0} → (Option Change → S → StoreFault → S → Type 0) → Type 0 → S → S → Result Verdict StoreFault → Type 0
+ReadsOrLacksMemory Fails IsJsonText old new (Ok verdict) = IsRead Fails old new
+ReadsOrLacksMemory Fails IsJsonText old new (Err fault) = Fails None old fault new ⊎ (IsJsonText × (new ≡ old))
 
 -- The verdict on a text with this fault: the store wasn't called, and there is no change. A text that is read in place is always refused by its
 -- fault.

@@ -23,6 +23,7 @@ ghost use Rattle.club_core.specs.Store.{KeepsClub, ReadsOrFails, Returns};
 ghost use Rattle.club_laws.specs.Failed.{ToMember, ToOffice};
 ghost use Rattle.club_gate.specs.Desk.{
   FailsAt,
+  FailsForCause,
   FitsIfAny,
   IsSheetFault,
   IsStoreFault,
@@ -34,7 +35,8 @@ ghost use Rattle.club_gate.specs.Desk.{
 };
 ghost use Rattle.club_gate.specs.DecodedPass.{fault_of, decoded_words};
 ghost use Rattle.club_gate.specs.Served.{IsLawful, IsReadInPlace, RefusesByFormFault};
-ghost use Rattle.club_gate.specs.Response.{answer_or_fault, machine_event, reply_or_unavailable, response_of};
+ghost use Rattle.club_gate.specs.Response.{answer_or_fault, reply_or_unavailable};
+ghost use Rattle.club_gate.specs.Runs.{IsHandled};
 
 use crate::event::{Event, EventReply, OfficeReply};
 use crate::fault::Fault;
@@ -132,6 +134,9 @@ impl<S: ClubStore> Desk<S> {
         ensures steps { S.disk_is_clean self.new → Steps S.represents self.old self.new
             (machine.Asked (decoded_words words.now.pass.now words.now.request) moment)
             (ToMember (reply_or_unavailable result)) }
+        ensures failed { OfItsClub S.disk_is_clean S.represents self.old self.new
+            (λ club. FailsForCause S.fails self.old self.new club words.now.pass.now
+            words.now.request moment (reply_or_unavailable result)) }
         ensures untouched { (fault : FormFault) → reading words.now.pass.now ≡ Err fault
             → self.new ≡ self.old }
         ensures in_place { (fault : FormFault) → IsReadInPlace words.now.pass.now
@@ -207,10 +212,9 @@ impl<S: ClubStore> Desk<S> {
     /// A refusal changes nothing.
     ///
     /// A refusal names the first cause that fits: the form of the text, the pass, its caveats in
-    /// their order, the rules for what is asked. `Unavailable` means that memory or storage was
-    /// refused, and never anything else. The store needs memory, and so does a pass in JSON. After
-    /// `Unavailable` the club is unchanged, but if the store failed to write, it may recover to the
-    /// changed club after a crash.
+    /// their order, the rules for what is asked. `Unavailable` means that the store failed, or that
+    /// memory for a pass in JSON was refused, and never anything else. Then the club is unchanged,
+    /// but if the store failed to write, it may recover to the changed club after a crash.
     pub fn ask(&mut self, moment: Moment, words: &SentWords) -> Reply
         ensures was_clean { S.disk_is_clean self.new → S.disk_is_clean self.old }
         // The reply is the one that the rules give, and the store represents the club that follows;
@@ -220,6 +224,11 @@ impl<S: ClubStore> Desk<S> {
             (ToMember result) }
         ensures lawful { OfItsClub S.disk_is_clean S.represents self.old self.new
             (λ club. IsLawful club words.now.pass.now words.now.request moment result) }
+        // If the reply is `Unavailable`, the store itself failed, at a read or at the request's
+        // change; or the text is JSON, and the store is unchanged.
+        ensures failed { OfItsClub S.disk_is_clean S.represents self.old self.new
+            (λ club. FailsForCause S.fails self.old self.new club words.now.pass.now
+            words.now.request moment result) }
         // A text that isn't a pass leaves the store as it is, and is refused without memory unless
         // it is JSON.
         ensures untouched { (fault : FormFault) → IsAnyReading words.now.pass.now (Err fault)
@@ -263,9 +272,7 @@ impl<S: ClubStore> Desk<S> {
 
     /// Answers an event, by `ask` or `office`.
     pub(crate) fn event(&mut self, event: &Event) -> EventReply
-        ensures was_clean { S.disk_is_clean self.new → S.disk_is_clean self.old }
-        ensures steps { S.disk_is_clean self.new → Steps S.represents self.old self.new
-            (machine_event event.now) (response_of result) }
+        ensures { IsHandled S.disk_is_clean S.represents S.fails self.old event.now result self.new }
     {
         match event {
             Event::Asked { words, moment } => EventReply::Replied(self.ask(*moment, words)),

@@ -20,8 +20,9 @@ impl<S: ClubStore> Desk<S> {
     /// Reads what caveats depend on, except what the key has spent: the facility, and the booking
     /// that has the number that is asked for.
     pub(crate) fn first_view(&mut self, key: &Key, request: &Request) -> Result<View, StoreFault>
-        ensures { ReadsStore S.disk_is_clean S.represents self.old self.new result
+        ensures reads { ReadsStore S.disk_is_clean S.represents self.old self.new result
             (λ club view. view ≡ read.first_view club key.now request.now) }
+        ensures failed { S.disk_is_clean self.new → ReadsOrFails S.fails self.old self.new result }
     {
         let mut view = View::of_key(key);
         match request {
@@ -43,9 +44,10 @@ impl<S: ClubStore> Desk<S> {
         key: &Name,
         ask: &Ask,
     ) -> Result<Option<CaveatFault>, StoreFault>
-        ensures { ReadsStore S.disk_is_clean S.represents self.old self.new result
+        ensures reads { ReadsStore S.disk_is_clean S.represents self.old self.new result
             (λ club fault. OfItsPass (F.left source.now) (λ pass.
             fault ≡ read.fault_after pass (spent_under key.now club.bookings) ask.now)) }
+        ensures failed { S.disk_is_clean self.new → ReadsOrFails S.fails self.old self.new result }
     {
         if !depends_on_spent(source, ask) {
             return Ok(fault_after(source, ask, 0));
@@ -56,8 +58,9 @@ impl<S: ClubStore> Desk<S> {
 
     /// Adds the state of a slot to the view.
     fn with_slot(&mut self, view: View, slot: &Slot) -> Result<View, StoreFault>
-        ensures { ReadsStore S.disk_is_clean S.represents self.old self.new result
+        ensures reads { ReadsStore S.disk_is_clean S.represents self.old self.new result
             (λ club found. found ≡ read.with_slot club slot.now view) }
+        ensures failed { S.disk_is_clean self.new → ReadsOrFails S.fails self.old self.new result }
     {
         let SlotUse { taken, closed } = self.store.slot(slot)?;
         Ok(View {
@@ -94,9 +97,10 @@ impl<S: ClubStore> Desk<S> {
         slot: &Slot,
         moment: Moment,
     ) -> Result<Option<View>, StoreFault>
-        ensures { ReadsStore S.disk_is_clean S.represents self.old self.new result
+        ensures reads { ReadsStore S.disk_is_clean S.represents self.old self.new result
             (λ club found.
             found ≡ read.with_member club moment (read.with_slot club slot.now view)) }
+        ensures failed { S.disk_is_clean self.new → ReadsOrFails S.fails self.old self.new result }
     {
         let view = self.with_slot(view, slot)?;
         self.with_member(view, moment)
@@ -127,8 +131,9 @@ impl<S: ClubStore> Desk<S> {
         request: &Request,
         moment: Moment,
     ) -> Result<Option<View>, StoreFault>
-        ensures { ReadsStore S.disk_is_clean S.represents self.old self.new result
+        ensures reads { ReadsStore S.disk_is_clean S.represents self.old self.new result
             (λ club found. found ≡ read.last_view club request.now moment view) }
+        ensures failed { S.disk_is_clean self.new → ReadsOrFails S.fails self.old self.new result }
     {
         match request {
             Request::View { slot } => {

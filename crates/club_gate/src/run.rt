@@ -5,6 +5,7 @@ ghost use Rattle.club_core.specs.Club.{Club};
 ghost use Rattle.club_core.specs.Events.{IsEvent};
 ghost use Rattle.club_core.specs.Store.{Returns};
 ghost use Rattle.club_gate.specs.Runs.{
+  AreHandled,
   IsFollowed,
   IsLawfulRun,
   LeavesClub,
@@ -46,6 +47,9 @@ impl<S: ClubStore> Desk<S> {
         ensures lawful { S.disk_is_clean self.new → Returns S.represents self.old result
             (λ club replies. IsLawfulRun club (machine_events events.now)
             (responses_of replies.items)) }
+        // Each event was answered by one step, or the store failed in it, as at `ask` and `office`.
+        ensures handled { IfOk result (λ replies. AreHandled S.disk_is_clean S.represents S.fails
+            self.old events.now replies.items self.new) }
         // A crash leaves the club of the answered events, or that after one event that failed.
         ensures represents { S.disk_is_clean self.new → (club : Club) (others : List Club)
             → S.represents self.old club others
@@ -68,6 +72,8 @@ impl<S: ClubStore> Desk<S> {
         ensures was_clean { S.disk_is_clean self.new → S.disk_is_clean self.old }
         ensures err { OnErr result (self.new ≡ self.old) }
         ensures within { OnOk result (All IsEvent (machine_events events.now)) }
+        ensures handled { IfOk result (λ replies. AreHandled S.disk_is_clean S.represents S.fails
+            self.old events.now replies.items self.new) }
         ensures followed { S.disk_is_clean self.new → (club : Club) (others : List Club)
             → S.represents self.old club others
             → IfOk result (λ replies. IsFollowed S.represents self.new club others

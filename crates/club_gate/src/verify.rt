@@ -18,12 +18,14 @@ ghost use Rattle.pass_forms.specs.FieldSource.{pass_fields};
 ghost use Rattle.pass_forms.specs.Pass.{Plain};
 ghost use Rattle.pass_json.specs.computed.AnyForm.{reading, reading_in_form};
 ghost use Rattle.club_core.specs.Answer.{verdict_in};
+ghost use Rattle.club_core.specs.Store.{ReadsOrFails};
 ghost use Rattle.club_laws.specs.SingleRequest.{words_with};
 ghost use Rattle.club_gate.specs.Desk.{ReadsStore};
 ghost use Rattle.club_gate.specs.DecodedPass.{machine_pass, decoded_words};
-ghost use Rattle.club_gate.specs.Served.{IsReadInPlace};
+ghost use Rattle.club_gate.specs.Served.{IsJson, IsReadInPlace};
 ghost use Rattle.club_gate.specs.Verify.{
   OfItsPass,
+  ReadsOrLacksMemory,
   RefusesText,
   answer_to_fault,
   fields_behind,
@@ -104,8 +106,9 @@ fn verdict_of_fault(fault: FormFault) -> Result<Verdict, StoreFault>
 impl<S: ClubStore> Desk<S> {
     /// Reads the row of the key that an identifier names; `None` if it names no key of the club.
     fn key_row(&mut self, identifier: &[u8]) -> Result<Option<Key>, StoreFault>
-        ensures { ReadsStore S.disk_is_clean S.represents self.old self.new result
+        ensures reads { ReadsStore S.disk_is_clean S.represents self.old self.new result
             (λ club key. key ≡ key_in club identifier.now) }
+        ensures failed { S.disk_is_clean self.new → ReadsOrFails S.fails self.old self.new result }
     {
         match key_name_in(identifier) {
             Some(name) => self.store.key(&name),
@@ -121,9 +124,10 @@ impl<S: ClubStore> Desk<S> {
         source: &mut F,
         moment: Moment,
     ) -> Result<Result<Key, Refusal>, StoreFault>
-        ensures { ReadsStore S.disk_is_clean S.represents self.old self.new result
+        ensures reads { ReadsStore S.disk_is_clean S.represents self.old self.new result
             (λ club signer. (pass : Plain) → F.left source.old ≡ pass_fields pass
             → signer ≡ signer_in club pass moment) }
+        ensures failed { S.disk_is_clean self.new → ReadsOrFails S.fails self.old self.new result }
     {
         let Some(identifier) = identifier_from(source) else {
             return Ok(Err(Refusal::NotVerified));
@@ -143,9 +147,10 @@ impl<S: ClubStore> Desk<S> {
         source: &F,
         moment: Moment,
     ) -> Result<Result<Key, Refusal>, StoreFault>
-        ensures { ReadsStore S.disk_is_clean S.represents self.old self.new result
+        ensures reads { ReadsStore S.disk_is_clean S.represents self.old self.new result
             (λ club signer. (pass : Plain) → F.left source.now ≡ pass_fields pass
             → signer ≡ signer_in club pass moment) }
+        ensures failed { S.disk_is_clean self.new → ReadsOrFails S.fails self.old self.new result }
     {
         let mut fields = source.again();
         self.signer_of_fields(&mut fields, moment)
@@ -160,9 +165,10 @@ impl<S: ClubStore> Desk<S> {
         request: &Request,
         moment: Moment,
     ) -> Result<Verdict, StoreFault>
-        ensures { ReadsStore S.disk_is_clean S.represents self.old self.new result
+        ensures reads { ReadsStore S.disk_is_clean S.represents self.old self.new result
             (λ club verdict. OfItsPass (F.left source.now) (λ pass.
             verdict ≡ verdict_read club key.now pass request.now moment)) }
+        ensures failed { S.disk_is_clean self.new → ReadsOrFails S.fails self.old self.new result }
     {
         let view = self.first_view(key, request)?;
         let fault = self.caveat_fault(source, &key.name, &view.ask(request, moment))?;
@@ -181,9 +187,10 @@ impl<S: ClubStore> Desk<S> {
         request: &Request,
         moment: Moment,
     ) -> Result<Verdict, StoreFault>
-        ensures { ReadsStore S.disk_is_clean S.represents self.old self.new result
+        ensures reads { ReadsStore S.disk_is_clean S.represents self.old self.new result
             (λ club verdict. OfItsPass (F.left source.now) (λ pass.
             verdict ≡ verdict_in club (words_with (machine_pass pass) request.now) moment)) }
+        ensures failed { S.disk_is_clean self.new → ReadsOrFails S.fails self.old self.new result }
     {
         views_decide();
         own_bookings_suffice();
@@ -208,6 +215,8 @@ impl<S: ClubStore> Desk<S> {
             verdict ≡ verdict_in club (words_in_form form bytes.now request.now) moment) }
         ensures refused { (fault : FaultOfForm) → reading_in_form form bytes.now ≡ Err fault
             → RefusesText self.old self.new (form ≢ Json) fault result }
+        ensures failed { S.disk_is_clean self.new
+            → ReadsOrLacksMemory S.fails (form ≡ Json) self.old self.new result }
     {
         reads_v1_exactly();
         reads_v2_exactly();
@@ -239,6 +248,8 @@ impl<S: ClubStore> Desk<S> {
             ≡ verdict_in club (decoded_words words.now.pass.now words.now.request) moment) }
         ensures refused { (fault : FaultOfForm) → reading words.now.pass.now ≡ Err fault
             → RefusesText self.old self.new (IsReadInPlace words.now.pass.now) fault result }
+        ensures failed { S.disk_is_clean self.new
+            → ReadsOrLacksMemory S.fails (IsJson words.now.pass.now) self.old self.new result }
     {
         reads_what_is_wrapped();
         refuses_what_wraps_nothing();

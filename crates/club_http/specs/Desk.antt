@@ -1,24 +1,29 @@
 -- What the desk replies to a decoded request (ours).
-use Rattle.std.specs.Prelude.{◌≡◌, ℕ, List, Err}
+use Rattle.std.specs.Prelude.{◌≡◌, ℕ, List, Option, Err}
 use Rattle.pass_forms.specs.declared.fault.FormFault.{FormFault}
 use Rattle.pass_json.specs.AnyForm.{IsAnyReading}
+use Rattle.club_core.specs.declared.change.Change.{Change}
 use Rattle.club_core.specs.declared.reply.Reply.{Reply}
 use Rattle.club_core.specs.declared.request.Request.{Request}
+use Rattle.club_core.specs.declared.store.StoreFault.{StoreFault}
 use Rattle.club_core.specs.Club.{Club}
 use Rattle.club_core.specs.Run.{Asked}
 use Rattle.club_laws.specs.Failed.{ToMember}
-use Rattle.club_gate.specs.Desk.{OfItsClub, Steps}
+use Rattle.club_gate.specs.Desk.{FailsForCause, OfItsClub, Steps}
 use Rattle.club_gate.specs.DecodedPass.{decoded_words}
 use Rattle.club_gate.specs.Served.{IsLawful, RefusesByFormFault}
 
 -- the store below the desk made the step that the rules give, as long as its disk was clean
 pub record AnswersBy {S : Type 0} (IsClean : S → Type 0)
-    (Represents : S → Club → List Club → Type 0) (moment : ℕ) (text : List ℕ)
+    (Represents : S → Club → List Club → Type 0)
+    (Fails : Option Change → S → StoreFault → S → Type 0) (moment : ℕ) (text : List ℕ)
     (request : Request) (old : S) (reply : Reply) (new : S) : Type 0 where
   pub was_clean : IsClean new → IsClean old
   pub steps : IsClean new
       → Steps Represents old new (Asked (decoded_words text request) moment) (ToMember reply)
   pub lawful : OfItsClub IsClean Represents old new (λ club. IsLawful club text request moment reply)
+  -- the reply is `Unavailable` only if the store itself failed, or the text is JSON
+  pub failed : OfItsClub IsClean Represents old new (λ club. FailsForCause Fails old new club text request moment reply)
   -- a text that isn't a pass is refused without a call of the store, and without memory unless it is JSON
   pub no_change : (fault : FormFault) → IsAnyReading text (Err fault) → new ≡ old
   pub in_place : RefusesByFormFault text reply

@@ -10,7 +10,7 @@ use http_request::Words;
 impl<S: ClubStore> Responder for Desk<S> {
     ghost use Rattle.club_http.specs.Desk.{AnswersBy};
 
-    ghost answers = { AnswersBy S.disk_is_clean S.represents };
+    ghost answers = { AnswersBy S.disk_is_clean S.represents S.fails };
 
     fn ask(&mut self, moment: Moment, words: &Words<'_>) -> Reply {
         Desk::ask(self, moment, words)

@@ -1,6 +1,8 @@
 -- Lemmas on a desk whose database is opened when it is needed.
 use Rattle.std.proofs.Common.{◌≡◌, ◌∙◌, ℕ, Bool, List, Option, Some, None, Result, refl, subst}
 use Rattle.club_http.specs.Replied.{AnswerRelation}
+use Rattle.club_core.specs.declared.change.Change.{Change}
+use Rattle.club_core.specs.declared.store.StoreFault.{StoreFault}
 use Rattle.club_core.specs.Club.{Club}
 use Rattle.club_http.specs.Desk.{AnswersBy}
 use Rattle.desk_server.specs.declared.log.Fate.{Fate}
@@ -47,13 +49,13 @@ module _ {D S : Type 0} (W A : Type 0) (Opens : Opening D S) (Closes : Closing D
 
 -- a server whose last databases and place are these
 module _ {D S : Type 0} (Opens : Opening D S) (Closes : Closing D S) (FindsWish : D → List ℕ → Bool → Type 0) (Clean : S → Type 0)
-    (Represents : S → Club → List Club → Type 0) where
+    (Represents : S → Club → List Club → Type 0) (Fails : Option Change → S → StoreFault → S → Type 0) where
   pub serves_file : (file : List ℕ) (service : Service) (databases last left : D) (store : S) (last_open left_open : Option S) (new : D) (written : Output)
       (Noted : List Fate → Type 0) (result : Result Unit Fault) → left ≡ last → left_open ≡ last_open
-      → RunsServer (AnswersAtNeed Opens (AnswersBy Clean Represents) file) (GivesWay Closes FindsWish file) service (access databases (Some store))
+      → RunsServer (AnswersAtNeed Opens (AnswersBy Clean Represents Fails) file) (GivesWay Closes FindsWish file) service (access databases (Some store))
       (access last last_open) Noted result
       → Announces service.port written result → LetsGo Closes (access left left_open) (access new None)
-      → ServesFile Opens Closes FindsWish Clean Represents file service databases store new written Noted result
+      → ServesFile Opens Closes FindsWish Clean Represents Fails file service databases store new written Noted result
   serves_file file service databases last left store last_open left_open new written Noted result same same_open serves announces let_go = record {
     last = access last last_open;
     serves = serves;

@@ -1,5 +1,5 @@
 -- How a run ends, and when it writes nothing.
-use Rattle.std.proofs.Common.{◌≡◌, ◌⊎◌, List, [], ◌∷◌, false, Some, None, Result, Ok, Err, inl, inr, refl, subst, ℕ, Bool, arith, codes}
+use Rattle.std.proofs.Common.{◌≡◌, ◌⊎◌, List, [], ◌∷◌, false, Option, Some, None, Result, Ok, Err, inl, inr, refl, subst, ℕ, Bool, arith, codes}
 use Rattle.std.proofs.lemmas.Bool.Decides.{nat_tests}
 use Rattle.std.specs.Prelude.{IsSome, IfErr}
 use Rattle.clap.specs.Words.{IsAmong, Kinds, Text}
@@ -7,6 +7,7 @@ use Rattle.clap.specs.Walk.{is_empty}
 use Rattle.clap.specs.declared.error.kind.ErrorKind.{ErrorKind}
 use Rattle.clap.specs.declared.error.kind.ErrorKind.TheVariants as kind
 use Rattle.club_core.specs.Club.{Club}
+use Rattle.club_core.specs.declared.change.Change.{Change}
 use Rattle.club_core.specs.declared.store.StoreFault.{StoreFault}
 use Rattle.club_core.specs.declared.store.StoreFault.TheVariants as store
 use Rattle.club_gate.specs.declared.event.OfficeReply.{OfficeReply}
@@ -159,10 +160,11 @@ of_opening Silent store.Memory result is silent = rw is (record { of_task = tt; 
 of_opening Silent store.Storage result is silent = rw is (record { of_task = tt; silent = λ s. silent })
 
 module _ {D S : Type 0} (Opens : Opening D S) (Closes : Closing D S) (FindsWish : D → List ℕ → Bool → Type 0) (Clean : S → Type 0)
-    (Represents : S → Club → List Club → Type 0) (job : JobModel) (old new : D) (written : Output) (Noted : List Fate → Type 0) (result : Result Unit Fault)
+    (Represents : S → Club → List Club → Type 0) (Fails : Option Change → S → StoreFault → S → Type 0)
+    (job : JobModel) (old new : D) (written : Output) (Noted : List Fate → Type 0) (result : Result Unit Fault)
   where
     -- however a task ends
-    pub performs_well : Performs Opens Closes FindsWish Clean Represents job old new written Noted result → EndsWell written.no_change result
+    pub performs_well : Performs Opens Closes FindsWish Clean Represents Fails job old new written Noted result → EndsWell written.no_change result
     performs_well (spec.out_of_memory memory same silent nothing) = rw memory (record { of_task = tt; silent = λ s. silent })
     performs_well (spec.not_opened fault opens is silent nothing) = of_opening written.no_change fault result is silent
     performs_well (spec.task_done store left between opens does closes nothing) = ends_well Clean Represents store left written result job.task does
@@ -172,8 +174,8 @@ module _ {D S : Type 0} (Opens : Opening D S) (Closes : Closing D S) (FindsWish 
 
     -- what isn't a server's task notes nothing, whatever a log would note
     pub notes_nothing : ((service : Service) → job.task ≡ Serve service → ⊥) → Noted []
-        → Performs Opens Closes FindsWish Clean Represents job old new written (λ fates. fates ≡ []) result
-        → Performs Opens Closes FindsWish Clean Represents job old new written Noted result
+        → Performs Opens Closes FindsWish Clean Represents Fails job old new written (λ fates. fates ≡ []) result
+        → Performs Opens Closes FindsWish Clean Represents Fails job old new written Noted result
     notes_nothing none noted (spec.out_of_memory memory same silent nothing) = spec.out_of_memory memory same silent noted
     notes_nothing none noted (spec.not_opened fault opens is silent nothing) = spec.not_opened fault opens is silent noted
     notes_nothing none noted (spec.task_done store left between opens does closes nothing) = spec.task_done store left between opens does closes noted

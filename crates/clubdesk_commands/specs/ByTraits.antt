@@ -26,7 +26,7 @@ log_change log old new = record { notes = λ fates. AreNoted log.begins log.note
 module _ {D S P A : Type 0} (databases : DatabasesWords D S P A) (stores : StoreWords S) where
   -- a request is answered over the open store, or over one that is opened for it
   abbrev pub AnswersOver : List ℕ → ℕ → AnswerRelation (Access D S)
-  AnswersOver file = AnswersAtNeed databases.opens (AnswersBy stores.disk_is_clean stores.represents) file
+  AnswersOver file = AnswersAtNeed databases.opens (AnswersBy stores.disk_is_clean stores.represents stores.fails) file
 
   -- a server over the file of this name
   abbrev pub ServesOver : List ℕ → Service → Access D S → Access D S → (List Fate → Type 0) → Result Unit Fault → Type 0
@@ -36,12 +36,12 @@ module _ {D S P A : Type 0} (databases : DatabasesWords D S P A) (stores : Store
   -- a run with a task
   abbrev pub PerformsOver : JobModel → D → D → Output → (List Fate → Type 0) → Result Unit Fault → Type 0
   PerformsOver job old new written Noted result =
-      Performs databases.opens databases.closes databases.finds_wish stores.disk_is_clean stores.represents job old new written Noted result
+      Performs databases.opens databases.closes databases.finds_wish stores.disk_is_clean stores.represents stores.fails job old new written Noted result
 
   -- A run that is asked for a task, or for none.
   pub record Runs (asked_for : Option JobModel) (given : Input) (old new : D) (written : Output) (log : LogChange) (result : Result Unit Fault) : Type 0 where
     -- If a task is asked for, it was done at the database of the name that is given.
-    pub command : PerformsAsked databases.opens databases.closes databases.finds_wish stores.disk_is_clean stores.represents asked_for
+    pub command : PerformsAsked databases.opens databases.closes databases.finds_wish stores.disk_is_clean stores.represents stores.fails asked_for
         given.before given.after old new written log.notes result
     -- If none is asked for, no database was opened.
     pub not_opened : asked_for ≡ None → new ≡ old

@@ -4,6 +4,7 @@ use Rattle.std.specs.Prelude.{Bool, true, false, codes, decimal}
 use Rattle.std.specs.Io.KnownBytes.{Appends}
 use Rattle.clap.specs.Words.{Text}
 use Rattle.club_core.specs.declared.command.Command.TheVariants as order
+use Rattle.club_core.specs.declared.change.Change.{Change}
 use Rattle.club_core.specs.declared.store.StoreFault.{StoreFault}
 use Rattle.club_core.specs.Club.{Club}
 use Rattle.club_core.specs.Store.{KeepsClub}
@@ -128,14 +129,14 @@ IsOffice task = Unit {0}
 -- ---- a run
 
 module _ {Databases Store : Type 0} (Opens : Opening Databases Store) (Closes : Closing Databases Store) (FindsWish : Databases → List ℕ → Bool → Type 0)
-    (Clean : Store → Type 0) (Represents : Store → Club → List Club → Type 0) where
+    (Clean : Store → Type 0) (Represents : Store → Club → List Club → Type 0) (Fails : Option Change → Store → StoreFault → Store → Type 0) where
   -- A server over the file of this name, which begins with an open store of it. Each exchange is the desk's, over that store or one that was
   -- opened again. Between two exchanges the server closes the store if another program wishes for the file. Its log notes the connections.
   -- At the end no store is open.
   pub record ServesFile (file : List ℕ) (service : Service) (databases : Databases) (store : Store) (new : Databases) (written : Output)
       (Noted : List Fate → Type 0) (result : Result Unit Fault) : Type 0 where
     pub last : Access Databases Store
-    pub serves : RunsServer (AnswersAtNeed Opens (AnswersBy Clean Represents) file) (GivesWay Closes FindsWish file) service
+    pub serves : RunsServer (AnswersAtNeed Opens (AnswersBy Clean Represents Fails) file) (GivesWay Closes FindsWish file) service
         (access databases (Some store)) last Noted result
     pub announces : Announces service.port written result
     pub ends : LetsGo Closes last (access new None)

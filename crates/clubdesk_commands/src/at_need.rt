@@ -80,7 +80,8 @@ impl<D: Databases> Responder for DeskAtNeed<'_, D> {
     ghost use Rattle.clubdesk_commands.specs.DeskAtNeed.{IsSamePlace};
 
     ghost answers = { λ moment text request old reply new. IsSamePlace old new
-        × AnswersAtNeed D.opens (AnswersBy D.Store.disk_is_clean D.Store.represents) old.file.now
+        × AnswersAtNeed D.opens
+        (AnswersBy D.Store.disk_is_clean D.Store.represents D.Store.fails) old.file.now
         moment text request (access old.databases.now old.place.now) reply
         (access new.databases.now new.place.now) };
 

@@ -8,21 +8,21 @@ pub returns-in-Serve-clause-done : goal.returns-in-Serve-clause-done
 returns-in-Serve-clause-done g c = rw (← c.job.view_is, c.in-Serve.is) c.serve_file.ensures.done
 
 pub returns-in-Serve-clause-of_task : goal.returns-in-Serve-clause-of_task
-returns-in-Serve-clause-of_task g c = (performs_well _ _ _ _ _ _ _ _ _ _ _ c.serve_file.ensures.done).of_task
+returns-in-Serve-clause-of_task g c = (performs_well _ _ _ _ _ _ _ _ _ _ _ _ c.serve_file.ensures.done).of_task
 
 pub returns-in-Serve-clause-silent : goal.returns-in-Serve-clause-silent
-returns-in-Serve-clause-silent g c = (performs_well _ _ _ _ _ _ _ _ _ _ _ c.serve_file.ensures.done).silent
+returns-in-Serve-clause-silent g c = (performs_well _ _ _ _ _ _ _ _ _ _ _ _ c.serve_file.ensures.done).silent
 
 pub returns-in-Pause-clause-done : goal.returns-in-Pause-clause-done
 returns-in-Pause-clause-done g c =
     rw (← c.job.view_is, c.in-Pause.is)
-    (notes_nothing _ _ _ _ _ _ _ _ _ _ _ (pause_serves_nobody c.in-Pause.seconds) served.nothing c.pause.ensures)
+    (notes_nothing _ _ _ _ _ _ _ _ _ _ _ _ (pause_serves_nobody c.in-Pause.seconds) served.nothing c.pause.ensures)
 
 pub returns-in-Pause-clause-of_task : goal.returns-in-Pause-clause-of_task
-returns-in-Pause-clause-of_task g c = (performs_well _ _ _ _ _ _ _ _ _ _ _ c.pause.ensures).of_task
+returns-in-Pause-clause-of_task g c = (performs_well _ _ _ _ _ _ _ _ _ _ _ _ c.pause.ensures).of_task
 
 pub returns-in-Pause-clause-silent : goal.returns-in-Pause-clause-silent
-returns-in-Pause-clause-silent g c = (performs_well _ _ _ _ _ _ _ _ _ _ _ c.pause.ensures).silent
+returns-in-Pause-clause-silent g c = (performs_well _ _ _ _ _ _ _ _ _ _ _ _ c.pause.ensures).silent
 
 pub work-requires : goal.work-requires
 work-requires g c =
@@ -30,11 +30,11 @@ work-requires g c =
 
 pub returns-in_default : goal.returns-in_default
 returns-in_default g c =
-    let ends = performs_well _ _ _ _ _ _ _ _ _ _ _ c.work.ensures in
+    let ends = performs_well _ _ _ _ _ _ _ _ _ _ _ _ c.work.ensures in
     record {
       done =
           rw (← c.job.view_is)
-          (notes_nothing _ _ _ _ _ _ _ _ _ _ _ c.in_default.not-Serve served.nothing c.work.ensures);
+          (notes_nothing _ _ _ _ _ _ _ _ _ _ _ _ c.in_default.not-Serve served.nothing c.work.ensures);
       of_task = ends.of_task;
       silent = ends.silent;
       unlogged = λ h. refl;

@@ -8,7 +8,7 @@ pub returns-in-Ok-clause-done : goal.returns-in-Ok-clause-done
 returns-in-Ok-clause-done g c =
     let ends = c.serve_at_need-outcome in
     spec.server_done c.args.service c.in-Ok.store c.open.new.self refl c.in-Ok.ensures
-    (serves_file _ _ _ _ _ _ _ _ _ _ _ _ _ _ _ _ _ (search rules) (search rules)
+    (serves_file _ _ _ _ _ _ _ _ _ _ _ _ _ _ _ _ _ _ (search rules) (search rules)
     (rw (c.new-desk.ensures.databases, c.new-desk.ensures.place, c.new-desk.ensures.file, c.new.ensures) at ends.ensures.served)
     ends.ensures.announced c.close_open.ensures)
 

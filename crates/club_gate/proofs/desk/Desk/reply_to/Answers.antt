@@ -2,7 +2,7 @@ use Rattle.std.proofs.Common.{inl, inr, ◌∙◌}
 use Rattle.std.proofs.lemmas.List.Elements.{All-head}
 use Rattle.club_core.specs.Club.{IsSound}
 use Rattle.club_gate.specs.DecodedPass.{decoded_words}
-use Rattle.club_gate.proofs.Stepping.{ask_done, ask_failed, ask_fits}
+use Rattle.club_gate.proofs.Stepping.{always_decided, ask_done, ask_failed, ask_fits, changed_fault}
 use Rattle.club_gate.proofs.desk.Desk.reply_to.Goals as goal
 
 pub returns-in_err-settle-clause-steps : goal.returns-in_err-settle-clause-steps
@@ -38,3 +38,25 @@ returns-in_err-settle-clause-untouched g c = λ fault e.
 pub returns-clause-untouched : goal.returns-clause-untouched
 returns-clause-untouched g c = λ fault e.
     (c.settle.ensures.nothing (c.in_ok-verdict.ensures.refused fault e).no_change).1 ∙ (c.verdict.ensures.refused fault e).same_store
+
+pub returns-in_err-verdict-clause-failed : goal.returns-in_err-verdict-clause-failed
+returns-in_err-verdict-clause-failed g c = λ was_clean club others represents is. elim (c.in_err-verdict.ensures.failed was_clean) [
+  | inl failed ↦ inl (_, inl failed)
+  | inr json ↦ inr json
+]
+
+pub returns-in_err-settle-clause-failed : goal.returns-in_err-settle-clause-failed
+returns-in_err-settle-clause-failed g c = λ was_clean club others represents is.
+    let before = c.settle.ensures.was_clean was_clean in
+    let words = decoded_words c.args.words.now.pass.now c.args.words.now.request in
+    let decided = c.in_ok-verdict.ensures.reads.returns before club others represents in
+    let failed = changed_fault g.S.ClubStore.fails c.args.self.now c.verdict.new.self c.settle.new.self club words c.args.moment c.in_ok-verdict.verdict
+    decided _ (c.in_ok-verdict.ensures.failed before) (c.in_err-settle.ensures.failed was_clean) in
+    inl (_, failed)
+
+pub returns-clause-failed : goal.returns-clause-failed
+returns-clause-failed g c = λ was_clean club others represents is.
+    let before = c.settle.ensures.was_clean was_clean in
+    let words = decoded_words c.args.words.now.pass.now c.args.words.now.request in
+    let decided = c.in_ok-verdict.ensures.reads.returns before club others represents in
+    absurd (always_decided c.never_unavailable.ensures club words c.args.moment c.in_ok-verdict.verdict decided is)

@@ -7,6 +7,7 @@ returns g c =
       was_clean = returned.was_clean;
       steps = returned.steps;
       lawful = returned.lawful;
+      failed = returned.failed;
       no_change = returned.untouched;
       in_place = returned.in_place;
     }
