@@ -1,7 +1,9 @@
 //! Zones, and servers over memory and over a socket. What clocks show was computed by a program of
 //! another language, from the zones' own database.
 
+mod accepted;
 mod clocks;
+mod closed;
 mod doubles;
 mod limits;
 mod logs;

@@ -42,3 +42,10 @@ pub(crate) fn expect_reply(
     client.read_to_end(&mut returned).expect(rt, "a reply");
     expect_bytes(rt, &returned, want, "a request over a socket");
 }
+
+/// Ends the test where the connection was reset: a client whose server closed it may still send.
+pub(crate) fn expect_no_reset(rt: &impl Abort, client: &mut TcpStream) {
+    client
+        .write_all(b"x")
+        .expect(rt, "a connection that wasn't reset");
+}

@@ -6,7 +6,7 @@ use super::doubles::Noting;
 use super::{REPLY, REQUEST, noon, serves};
 use crate::expect::{expect_bytes, expect_eq};
 use crate::rows::moment;
-use crate::sockets::{client_of, connect, expect_reply, loopback_listener};
+use crate::sockets::{client_of, connect, expect_no_reset, expect_reply, loopback_listener};
 use club_http::Face;
 use desk_server::{Connection, Connections, Listening};
 use std::alloc::Global;
@@ -102,10 +102,11 @@ fn replies_before(
     let mut face = Face::new(rt.alloc()).expect(rt, "a face");
     expect_eq(rt, &count_requests(rt, &listener, &mut face), &1);
     expect_reply(rt, &mut client, REPLY);
+    expect_no_reset(rt, &mut client);
 }
 
-// A socket that is closed with bytes unread resets the connection. So the client would read an
-// error here, behind its reply or in place of it.
+// A socket that is closed with bytes unread resets the connection, and the client may lose its
+// reply. Here it has read its reply before, and could send no more.
 #[test]
 fn replies_before_bytes_behind_a_request(rt: HostRuntime) {
     for behind in &BEHIND {

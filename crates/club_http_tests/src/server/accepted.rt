@@ -1,0 +1,275 @@
+//! Exchanges with a connection that a listener accepted: of each request and each reply, whatever
+//! day they name, and under limits by a clock that is set by hand. Only these tests refuse an
+//! exchange that reads or writes less over its socket, or by other limits.
+
+use super::noon;
+use crate::expect::{expect_bytes, expect_eq};
+use crate::rows::{expect_row, moment};
+use crate::sockets::{client_of, loopback_listener};
+use club_core::{Reply, Request};
+use club_http::{AnswerFault, Face, Responder};
+use club_values::{Kind, Moment};
+use desk_server::{Connection, Connections, Listening};
+use http_request::Words;
+use std::alloc::Global;
+use std::cell::Cell;
+use std::io::{self, Read};
+use std::net::{Net, TcpListener, TcpStream};
+use std::process::Abort;
+use std::time::{Clock, Duration};
+use test_kit::moments::{BEGUN, NOON};
+use test_kit::replies::{ACCOUNT_AFTER, BOOKED_7, CANCELLED_7};
+use test_kit::requests::{ACCOUNT, BOOK_7, CANCEL_7};
+use test_kit::{PlainReply, PlainRequest, PlainSlot, exchanges};
+
+/// A clock that is set by hand, in milliseconds.
+#[derive(Drop)]
+struct HandSet(Cell<u64>);
+
+impl HandSet {
+    fn advance(&self, milliseconds: u64) {
+        self.0.set(self.0.get().saturating_add(milliseconds));
+    }
+}
+
+impl Clock for HandSet {
+    fn monotonic(&self) -> io::Result<Duration> {
+        Ok(Duration::from_millis(self.0.get()))
+    }
+
+    fn since_1970(&self) -> io::Result<Duration> {
+        self.monotonic()
+    }
+}
+
+/// A call of a responder: the milliseconds that its clock showed, the moment and the request.
+type Call = (u64, Moment, Request);
+
+/// A responder that records its calls. Each takes so many milliseconds, and gets one reply.
+#[derive(Drop)]
+struct Recorder<'c> {
+    clock: &'c HandSet,
+    takes: u64,
+    reply: Reply,
+    calls: u64,
+    last: Option<Call>,
+}
+
+impl<'c> Recorder<'c> {
+    fn new(clock: &'c HandSet, takes: u64, reply: Reply) -> Recorder<'c> {
+        Recorder {
+            clock,
+            takes,
+            reply,
+            calls: 0,
+            last: None,
+        }
+    }
+}
+
+impl Responder for Recorder<'_> {
+    ghost answers = { λ _ _ _ _ _ _. Unit {0} };
+
+    fn ask(&mut self, moment: Moment, words: &Words<'_>) -> Reply {
+        self.calls = self.calls.saturating_add(1);
+        self.last = Some((self.clock.0.get(), moment, words.request));
+        self.clock.advance(self.takes);
+        self.reply
+    }
+}
+
+/// The patience with a client, in milliseconds.
+const PATIENCE: u64 = 10_000;
+
+/// What comes of an exchange with the next connection of the listener: it begins so many
+/// milliseconds after the connection was accepted.
+fn exchanges_after(
+    rt: &(impl Abort + Alloc<A = Global>),
+    listener: &TcpListener,
+    at: Moment,
+    waited: u64,
+    desk: &mut Recorder<'_>,
+) -> Result<Reply, AnswerFault> {
+    let clock = desk.clock;
+    let accepted = Listening::new(listener, clock, Duration::from_millis(PATIENCE)).accept();
+    let mut connection = accepted.expect(rt, "a connection");
+    clock.advance(waited);
+    let mut face = Face::new(rt.alloc()).expect(rt, "a face");
+    connection.exchange(&mut face, desk, at)
+}
+
+/// What a desk replies, for this test.
+#[derive(Clone, Copy)]
+enum Returned {
+    Plain(PlainReply),
+    /// A free slot.
+    Free(PlainSlot),
+}
+
+impl Returned {
+    fn reply(&self, rt: &impl Abort) -> Reply {
+        match *self {
+            Returned::Plain(reply) => reply.reply().expect(rt, "a reply"),
+            Returned::Free(slot) => Reply::SlotShown {
+                slot: slot.slot().expect(rt, "a slot"),
+                kind: Kind::Court,
+                price: 200,
+                places: 4,
+                taken: 0,
+                closed: false,
+            },
+        }
+    }
+}
+
+/// The bytes of a request, its moment, what it asks for, what is replied, and the bytes of that.
+struct Row {
+    request: &'static str,
+    at: &'static str,
+    asked: PlainRequest,
+    returned: Returned,
+    reply: &'static str,
+}
+
+/// Slots in the first hour that there is, and in the last.
+const FIRST_HOUR: PlainSlot = PlainSlot {
+    facility: "court-1",
+    day: 10_957,
+    hour: 0,
+};
+
+const LAST_HOUR: PlainSlot = PlainSlot {
+    facility: "court-1",
+    day: 47_481,
+    hour: 23,
+};
+
+const VIEW_FIRST: &str =
+    "GET /slots/court-1/2000-01-01/00 HTTP/1.1\r\nAuthorization: Bearer AgEJ\r\n\r\n";
+
+const VIEW_LAST: &str =
+    "GET /slots/court-1/2099-12-31/23 HTTP/1.1\r\nAuthorization: Bearer AgEJ\r\n\r\n";
+
+const FIRST_SHOWN: &str =
+    "HTTP/1.1 200 OK\r\nContent-Type: application/json\r\nContent-Length: 113\r\n\
+    Connection: close\r\n\r\n\
+    {\"facility\":\"court-1\",\"day\":\"2000-01-01\",\"hour\":0,\"kind\":\"court\",\
+    \"price\":200,\"places\":4,\"taken\":0,\"closed\":false}";
+
+const LAST_SHOWN: &str =
+    "HTTP/1.1 200 OK\r\nContent-Type: application/json\r\nContent-Length: 114\r\n\
+    Connection: close\r\n\r\n\
+    {\"facility\":\"court-1\",\"day\":\"2099-12-31\",\"hour\":23,\"kind\":\"court\",\
+    \"price\":200,\"places\":4,\"taken\":0,\"closed\":false}";
+
+static ROWS: [Row; 5] = [
+    Row {
+        request: exchanges::BOOK_7,
+        at: NOON,
+        asked: BOOK_7,
+        returned: Returned::Plain(BOOKED_7),
+        reply: exchanges::BOOKED_7,
+    },
+    Row {
+        request: exchanges::CANCEL_7,
+        at: BEGUN,
+        asked: CANCEL_7,
+        returned: Returned::Plain(CANCELLED_7),
+        reply: exchanges::CANCELLED_7,
+    },
+    Row {
+        request: exchanges::ACCOUNT,
+        at: "2000-01-01T00:00",
+        asked: ACCOUNT,
+        returned: Returned::Plain(ACCOUNT_AFTER),
+        reply: exchanges::BALANCE_9400,
+    },
+    Row {
+        request: VIEW_FIRST,
+        at: "2000-01-01T00:00",
+        asked: PlainRequest::View(FIRST_HOUR),
+        returned: Returned::Free(FIRST_HOUR),
+        reply: FIRST_SHOWN,
+    },
+    Row {
+        request: VIEW_LAST,
+        at: "2099-12-31T23:59",
+        asked: PlainRequest::View(LAST_HOUR),
+        returned: Returned::Free(LAST_HOUR),
+        reply: LAST_SHOWN,
+    },
+];
+
+/// The bytes that come to a client until its connection ends.
+fn bytes_to(rt: &(impl Abort + Alloc<A = Global>), client: &mut TcpStream) -> Vec<u8> {
+    let mut bytes = Vec::new(rt.alloc());
+    client.read_to_end(&mut bytes).expect(rt, "a reply");
+    bytes
+}
+
+/// The exchange of a row: the responder is asked once, as the row says, and its reply is written.
+fn exchanges_row(
+    rt: &(impl Abort + Alloc<A = Global> + Net<Listener = TcpListener, Stream = TcpStream>),
+    row: &Row,
+) {
+    let listener = loopback_listener(rt);
+    let mut client = client_of(rt, &listener, row.request.as_bytes());
+    let clock = HandSet(Cell::new(1_000));
+    let mut desk = Recorder::new(&clock, 0, row.returned.reply(rt));
+    let at = moment(rt, row.at);
+    let outcome = exchanges_after(rt, &listener, at, 7, &mut desk);
+    expect_row(rt, &outcome, &Ok(desk.reply), &row.request);
+    let asked = row.asked.request().expect(rt, "a request");
+    expect_row(
+        rt,
+        &(desk.calls, desk.last),
+        &(1, Some((1_007, at, asked))),
+        &row.request,
+    );
+    let bytes = bytes_to(rt, &mut client);
+    expect_bytes(rt, &bytes, row.reply.as_bytes(), row.request);
+}
+
+#[test]
+fn exchanges_of_each_day(rt: HostRuntime) {
+    for row in &ROWS {
+        exchanges_row(&rt, row);
+    }
+}
+
+/// The milliseconds from the connection to its exchange, and those that the responder takes; and
+/// whether it is asked. The client has ten seconds for its request, from its connection on, and as
+/// long for the reply, from its first byte on, however long the desk takes.
+static LIMITS: [(u64, u64, bool); 5] = [
+    (0, 0, true),
+    (9_999, 0, true),
+    (9_999, 1_000_000, true),
+    (10_000, 0, false),
+    (1_000_000, 0, false),
+];
+
+fn keeps_limits(
+    rt: &(impl Abort + Alloc<A = Global> + Net<Listener = TcpListener, Stream = TcpStream>),
+    (waited, takes, asked): &(u64, u64, bool),
+) {
+    let listener = loopback_listener(rt);
+    let _client = client_of(rt, &listener, exchanges::BOOK_7.as_bytes());
+    let clock = HandSet(Cell::new(0));
+    let reply = BOOKED_7.reply().expect(rt, "a reply");
+    let mut desk = Recorder::new(&clock, *takes, reply);
+    let outcome = exchanges_after(rt, &listener, noon(rt).moment, *waited, &mut desk);
+    let want = if *asked {
+        Ok(reply)
+    } else {
+        Err(AnswerFault::Read)
+    };
+    expect_row(rt, &outcome, &want, &(waited, takes));
+    expect_eq(rt, &desk.calls, &u64::from(*asked));
+}
+
+#[test]
+fn limits_begin_with_the_connection_and_with_the_reply(rt: HostRuntime) {
+    for row in &LIMITS {
+        keeps_limits(&rt, row);
+    }
+}
