@@ -1,19 +1,18 @@
 //! The face of the desk: the routes and the buffer that its exchanges share.
 
-ghost use Rattle.std.specs.Prelude.{◌≡◌, [], IfNone, IfOk, IfSome};
+ghost use Rattle.std.specs.Prelude.{◌≡◌, ◌↔◌, [], IfNone, IfOk, IfSome, IsTrue};
+ghost use Rattle.http_request.specs.Frame.{IsOneRequest};
 ghost use Rattle.http_request.specs.Front.{Covers};
 ghost use Rattle.club_http.specs.Calls.{ReadsNoFurther};
 ghost use Rattle.club_http.specs.Ends.{read_failures};
-ghost use Rattle.club_http.specs.Received.{IsCutOff};
+ghost use Rattle.club_http.specs.Received.{IsCutOff, Receives};
 ghost use Rattle.club_http.specs.Replied.{IsReplied};
-ghost use Rattle.club_http.specs.Exchange.{Replies};
 
 use crate::ends::Inlet;
 use crate::receive::receive;
 use crate::responder::Responder;
 use club_core::Reply;
 use club_values::Moment;
-use http_request::laws::{body_stays, whole_keeps_its_reading};
 use http_request::{HeadScan, MAX_REQUEST_LEN, Routes, words_by_scan};
 use std::alloc::{AllocError, Global};
 use std::marker::Model;
@@ -82,17 +81,18 @@ impl Face {
         &self.buffer[..self.len]
     }
 
-    /// Reads a request and returns the reply; `None` if the reader fails before it is whole.
-    pub(crate) fn reply<D: Responder, R: Inlet>(
-        &mut self,
-        desk: &mut D,
-        moment: Moment,
-        reader: &mut R,
-    ) -> Option<Reply>
-        ensures replied { IfSome result (λ reply. Replies (D.answers moment)
-            (R.to_come reader.old) (R.to_come reader.new) self.new desk.old reply desk.new) }
-        ensures cut_off { IfNone result (IsCutOff (R.to_come reader.old) (R.to_come reader.new)
-            self.new × (desk.new ≡ desk.old)) }
+    /// Reads a request, and keeps what was read; `None` if the reader fails before it is whole.
+    ///
+    /// It reads until the request is whole, and then calls the reader no more. If the input ends
+    /// before, what arrived is the request. Each call may fill the rest of the buffer, so bytes
+    /// after the request may be read with it, no more than `MAX_REQUEST_LEN` in all. The returned
+    /// scan covers what was read.
+    pub fn receive<R: Inlet>(&mut self, reader: &mut R) -> Option<HeadScan>
+        ensures covered { IfSome result (λ scan. Covers scan self.new) }
+        ensures received { IfSome result
+            (λ _. Receives (R.to_come reader.old) (R.to_come reader.new) self.new) }
+        ensures cut_off { IfNone result
+            (IsCutOff (R.to_come reader.old) (R.to_come reader.new) self.new) }
         ensures calls { ReadsNoFurther R.fills reader.old self.new reader.new }
         ensures counted { R.failures reader.new ≡ read_failures (R.failures reader.old) result }
     {
@@ -100,15 +100,29 @@ impl Face {
         match receive(reader, &mut self.buffer, &mut scan) {
             Ok(len) => {
                 self.len = len;
-                whole_keeps_its_reading();
-                body_stays();
-                let bytes = &self.buffer[..len];
-                Some(reply_to(&self.routes, bytes, &scan, desk, moment))
+                Some(scan)
             }
             Err(len) => {
                 self.len = len;
                 None
             }
         }
+    }
+
+    /// The reply to the request that the face holds, with the scan that covers it. Bytes after the
+    /// request change nothing.
+    pub fn reply<D: Responder>(&self, scan: &HeadScan, desk: &mut D, moment: Moment) -> Reply
+        requires { Covers scan.now self.now }
+        ensures { IsReplied (D.answers moment) self.now desk.old result desk.new }
+    {
+        reply_to(&self.routes, self.request(), scan, desk, moment)
+    }
+
+    /// Whether what the face holds is one request, with nothing after it.
+    pub fn is_over(&self, scan: &HeadScan) -> bool
+        requires { Covers scan.now self.now }
+        ensures { IsTrue result ↔ IsOneRequest self.now }
+    {
+        scan.is_over(self.request())
     }
 }

@@ -31,7 +31,7 @@ pub fn put_all<W: Outlet>(writer: &mut W, bytes: &[u8]) -> Result<(), usize>
 /// # Errors
 ///
 /// How many bytes of the text the writer took before it failed or took nothing.
-pub(crate) fn send<W: Outlet>(reply: &Reply, writer: &mut W) -> Result<(), usize>
+pub fn send_reply<W: Outlet>(reply: &Reply, writer: &mut W) -> Result<(), usize>
     ensures { TakesAll (W.taken writer.old) (W.taken writer.new)
         (W.failures writer.old) (W.failures writer.new) (reply_text reply.now) result }
 {

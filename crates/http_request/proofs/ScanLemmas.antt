@@ -1,5 +1,5 @@
 -- A scan goes on with more bytes.
-use Rattle.std.proofs.Common.{◌≡◌, ◌⊎◌, ℕ, ◌+◌, ◌<◌, ◌≤◌, ◌↔◌, inl, inr, false, leb, List, [], ◌++◌, length, take, drop, nat_eq, refl, arith}
+use Rattle.std.proofs.Common.{◌≡◌, ◌⊎◌, ℕ, ◌+◌, ◌<◌, ◌≤◌, ◌↔◌, inl, inr, true, false, leb, List, [], ◌++◌, length, take, drop, nat_eq, refl, arith}
 use Rattle.std.specs.Prelude.{IsTrue}
 use Rattle.std.proofs.lemmas.Bool.Decides.{nat_tests}
 use Rattle.std.specs.List.{ends_with}
@@ -49,3 +49,14 @@ tested a b P is = (
   λ test. is.0 (let le : a ≤ b = grind (arith, nat_tests) in le),
   λ holds. let le : a ≤ b = is.1 holds in grind (arith, nat_tests),
 )
+
+-- the same of two numbers that are equal
+pub tested_same : (a b : ℕ) (P : Type 0) → (a ≡ b) ↔ P → IsTrue (nat_eq a b) ↔ P
+tested_same a b P is = (
+  λ test. is.0 (let same : a ≡ b = grind (arith, nat_tests) in same),
+  λ holds. let same : a ≡ b = is.1 holds in grind (arith, nat_tests),
+)
+
+-- a test that fails, of what doesn't hold
+pub tested_none : (P : Type 0) → ¬ P → IsTrue false ↔ P
+tested_none P none = (λ test. let bad : false ≡ true = test in cc, λ holds. absurd (none holds))

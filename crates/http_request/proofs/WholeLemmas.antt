@@ -9,7 +9,7 @@ use Rattle.httparse.specs.declared.spans.HeaderSpan.{HeaderSpan}
 use Rattle.httparse.specs.Grammar.{RequestHead}
 use Rattle.http_request.specs.declared.front.Head.{Head}
 use Rattle.http_request.specs.Head.{empty_line, IsPiece}
-use Rattle.http_request.specs.Frame.{AsksForBody, IsFramed, IsRefusedHead, HasNoPiece, IsWhole, has_frame, endless, bad_head}
+use Rattle.http_request.specs.Frame.{AsksForBody, IsFramed, IsOneRequest, IsRefusedHead, HasNoPiece, IsWhole, has_frame, endless, bad_head}
 use Rattle.http_request.specs.Front.{IsHeadAt}
 use Rattle.http_request.specs.Words as words
 use Rattle.http_request.specs.Words.{DecodedRequest, IsRequestReading, HoldsBody}
@@ -62,6 +62,35 @@ body_there bytes fields found at =
         | inr long ↦ omega arith
       ],
     )
+
+-- bytes that begin with a head are one request if and only if its body is all that follows
+pub body_only : (bytes : List ℕ) (fields : List HeaderSpan) (found : Head) → IsHeadAt bytes fields found
+    → (length bytes - found.len ≡ found.body_len) ↔ IsOneRequest bytes
+body_only bytes fields found at =
+    let rest = length-drop found.len bytes in
+    let parts = sym (take-append-drop found.len bytes) in (
+      λ same. record {
+        piece = take found.len bytes;
+        body = drop found.len bytes;
+        head = at.head;
+        cut = at.cut;
+        parts = parts;
+        asks = rw (rest, same) at.asks;
+      },
+      λ one. let both = one_piece one.piece (take found.len bytes) one.body (drop found.len bytes) (sym one.parts ∙ parts) one.cut at.cut in
+          let asked = same_asked (take found.len bytes) at.head one.head found.body_len (length one.body) at.asks (rw both.0 at one.asks) in
+          let long : length (drop found.len bytes) ≡ length one.body = ap length (sym both.1) in
+          omega (arith, asked.1),
+    )
+
+-- bytes with no head, or with one that is refused, are no request
+pub headless_is_none : (bytes : List ℕ) → HasNoPiece bytes → ¬ (IsOneRequest bytes)
+headless_is_none bytes none one = no_piece bytes one.piece one.body one.cut one.parts none
+
+pub refused_is_none : (bytes : List ℕ) → IsRefusedHead bytes → ¬ (IsOneRequest bytes)
+refused_is_none bytes is one =
+    let same = one_piece one.piece is.piece one.body is.rest (sym one.parts ∙ is.parts) one.cut is.cut in
+    is.refusal one.head (length one.body) (rw same.0 at one.asks)
 
 same_body : (a b r s : List ℕ) → length a ≡ length b → a ++ r ≡ b ++ s → a ≡ b
 same_body a b r s len same = sym (take-append_seam a r) ∙ ap (take (length a)) same ∙ ap (λ (n : ℕ). take n (b ++ s)) len ∙ take-append_seam b s

@@ -41,3 +41,12 @@ pub data IsWhole (bytes : List ℕ) : Type 0 where
   has_frame : (head : RequestHead) (body : List ℕ) → IsFramed bytes head body → IsWhole bytes
   endless : HasNoPiece bytes → max_head_len ≤ length bytes → IsWhole bytes
   bad_head : IsRefusedHead bytes → IsWhole bytes
+
+-- the bytes are a head and its body, and nothing more
+pub record IsOneRequest (bytes : List ℕ) : Type 0 where
+  pub piece : List ℕ
+  pub body : List ℕ
+  pub head : RequestHead
+  pub cut : IsPiece piece
+  pub parts : bytes ≡ piece ++ body
+  pub asks : AsksForBody piece head (length body)

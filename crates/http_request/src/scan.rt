@@ -2,7 +2,7 @@
 
 ghost use Rattle.std.specs.Prelude.{◌<◌, ◌≤◌, ◌↔◌, [], length, take, IsTrue};
 ghost use Rattle.std.specs.Bool.{OnFalse};
-ghost use Rattle.http_request.specs.Frame.{IsWhole};
+ghost use Rattle.http_request.specs.Frame.{IsOneRequest, IsWhole};
 ghost use Rattle.http_request.specs.Front.{Covers};
 ghost use Rattle.http_request.specs.Limits.{max_request_len};
 
@@ -59,6 +59,17 @@ impl HeadScan {
             Front::NoPiece => bytes.len() >= MAX_HEAD_LEN,
             Front::Refused => true,
             Front::Asking(head) => bytes.len() - head.len >= head.body_len,
+        }
+    }
+    /// Whether the bytes that the scan covers are a head and its body, and nothing more.
+    pub fn is_over(&self, bytes: &[u8]) -> bool
+        requires { Covers self.now bytes.now }
+        ensures { IsTrue result ↔ IsOneRequest bytes.now }
+    {
+        match self.front {
+            Front::NoPiece => false,
+            Front::Refused => false,
+            Front::Asking(head) => bytes.len() - head.len == head.body_len,
         }
     }
 }

@@ -1,0 +1,13 @@
+use Rattle.http_request.proofs.ScanLemmas.{tested_none, tested_same}
+use Rattle.http_request.proofs.WholeLemmas.{body_only, headless_is_none, refused_is_none}
+use Rattle.http_request.proofs.scan.HeadScan.is_over.Goals as goal
+
+pub returns-in-NoPiece : goal.returns-in-NoPiece
+returns-in-NoPiece c = tested_none _ (headless_is_none c.args.bytes.now (rw c.in-NoPiece.is at c.requires))
+
+pub returns-in-Refused : goal.returns-in-Refused
+returns-in-Refused c = tested_none _ (refused_is_none c.args.bytes.now (rw c.in-Refused.is at c.requires))
+
+pub returns-in-Asking : goal.returns-in-Asking
+returns-in-Asking c =
+    tested_same _ _ _ (body_only c.args.bytes.now c.args.self.now.fields c.in-Asking.head (rw c.in-Asking.is at c.requires))
