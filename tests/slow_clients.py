@@ -5,10 +5,13 @@
                                                   one that asks for its account
     slow_clients.py behind PORT PASS COUNT        COUNT requests with 1 to 100,000 bytes behind them
     slow_clients.py heads PORT PASS COUNT         COUNT heads of 100,000 bytes
+    slow_clients.py pieces PORT PASS PIECES       800 requests of 200 bytes and more, in so many pieces: 200 each with a body by its
+                                                  length, a body too long, chunks, and a body apart from its head
+    slow_clients.py stopped PORT PASS SERVER      100 requests, beside a server that is stopped and goes on while it waits for each
 
-Clients of the last two send all before they read, as Python's do: one whose send fails gives up. It fails where a reply is lost,
-or a client waits longer than it should."""
-import socket, sys, time
+Clients send all before they read, as Python's do: one whose send fails gives up. It fails where a reply is lost, or a client waits
+longer than it should."""
+import os, signal, socket, sys, time
 
 ACCOUNT = b'{"member":"amy","balance":0,"quota":5,"open":0,"spent":0}'
 what, port, passed, number = sys.argv[1], int(sys.argv[2]), sys.argv[3], int(sys.argv[4])
@@ -81,22 +84,28 @@ def dawdlers():
     account()
     print("a client of a byte a second: it was cut off")
     beside("a client that never reads", lambda client: client.sendall(REQUEST), 0, 1)
-    # It sends behind its request and stays: what it sends is waited for as long once more.
-    beside("a client that stays", lambda client: client.sendall(REQUEST + b"x"), 0, number + 1)
+    # It sends more after its request and stays: what it sends is waited for a fifth of a second.
+    beside("a client that stays", lambda client: client.sendall(REQUEST + b"x"), 0, 1)
 
 
-def sent(request, pieces, of):
-    """The reply to bytes that are sent in so many pieces, all before it is read."""
+def cut(text, count):
+    """The text in so many pieces."""
+    size = (len(text) + count - 1) // count
+    return [text[place : place + size] for place in range(0, len(text), size)]
+
+
+def replied(pieces, pause, of):
+    """The reply to pieces, which are sent with a pause between two, all before it is read."""
     client = connected()
-    size = (len(request) + pieces - 1) // pieces
+    client.setsockopt(socket.IPPROTO_TCP, socket.TCP_NODELAY, 1)
     try:
-        for place in range(0, len(request), size):
+        for place, piece in enumerate(pieces):
             if place:
-                time.sleep(0.002)
-            client.sendall(request[place : place + size])
+                time.sleep(pause)
+            client.sendall(piece)
         reply = read(client)
     except OSError as fault:
-        sys.exit(f"{of}, in {pieces} pieces: {fault}")
+        sys.exit(f"{of}, in {len(pieces)} pieces: {fault}")
     client.close()
     return reply
 
@@ -105,7 +114,7 @@ def behind():
     for i in range(number):
         rest = 1 + i * 99_999 // max(number - 1, 1)
         of = f"{rest} bytes behind a request"
-        expect(sent(REQUEST + b"x" * rest, 1 + i % 2, of), b"200", ACCOUNT, of)
+        expect(replied(cut(REQUEST + b"x" * rest, 1 + i % 2), 0.002, of), b"200", ACCOUNT, of)
     print(f"{number} requests with bytes behind them: no reply was lost")
 
 
@@ -114,8 +123,41 @@ def heads():
     head = b"GET /account HTTP/1.1\r\nX: " + b"x" * (100_000 - 30) + b"\r\n\r\n"
     for i in range(number):
         of = "a head of 100,000 bytes"
-        expect(sent(head, 1 + i % 2, of), b"400", bad, of)
+        expect(replied(cut(head, 1 + i % 2), 0.002, of), b"400", bad, of)
     print(f"{number} heads of {len(head)} bytes: no reply was lost")
 
 
-{"dawdlers": dawdlers, "behind": behind, "heads": heads}[what]()
+def pieces():
+    bad = b'{"fault":1,"text":"bad request"}'
+    path = b"PUT /slots/court-1/2026-05-01/18/bookings/7 HTTP/1.1\r\nAuthorization: Bearer " + passed.encode() + b"\r\n"
+    body = b'{"guests":' + b" " * 240 + b"0}"
+    chunks = b"".join(b"%x\r\n%s\r\n" % (len(part), part) for part in cut(body, number)) + b"0\r\n\r\n"
+    chunked = path + b"Transfer-Encoding: chunked\r\n\r\n"
+    known = path + b"Content-Length: %d\r\n\r\n" % len(body)
+    long = path + b"Content-Length: 1000\r\n\r\n" + b"x" * 1000
+    no_facility = b'{"fault":14,"text":"no such facility"}'
+    for i in range(200):
+        pause = (0.001, 0.005, 0.02, 0.05)[i % 4]
+        expect(replied(cut(known + body, number), pause, "a body by its length"), b"404", no_facility, "a body by its length")
+        expect(replied([known] + cut(body, number - 1), pause, "a body apart"), b"404", no_facility, "a body apart")
+        expect(replied([chunked] + cut(chunks, number - 1), pause, "chunks"), b"400", bad, "chunks")
+        expect(replied(cut(long, number), pause, "a body too long"), b"400", bad, "a body too long")
+    print(f"800 requests in {number} pieces: no reply was lost")
+
+
+def stopped():
+    for i in range(100):
+        client = connected()
+        client.sendall(REQUEST[:40])
+        time.sleep(0.01)
+        os.kill(number, signal.SIGSTOP)
+        time.sleep(0.01)
+        os.kill(number, signal.SIGCONT)
+        time.sleep(0.01)
+        client.sendall(REQUEST[40:])
+        expect(read(client), b"200", ACCOUNT, "a server that was stopped")
+        client.close()
+    print("100 requests beside a server that is stopped and goes on: none was dropped")
+
+
+{"dawdlers": dawdlers, "behind": behind, "heads": heads, "pieces": pieces, "stopped": stopped}[what]()

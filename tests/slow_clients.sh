@@ -2,7 +2,8 @@
 # Runs clubdesk's server with a patience of two seconds, and clients that dawdle: one that sends nothing, one that begins its request,
 # one that sends a byte a second, one that never reads its reply, and one that stays behind its request. The client behind each has its
 # reply in time. Then 1,000 requests with 1 to 100,000 bytes behind them, and 1,000 heads of 100,000 bytes, half of them in two pieces,
-# by clients that send all before they read: none loses its reply. Not part of the gate.
+# by clients that send all before they read; 200 requests in three, four and six pieces each, by a length and by chunks, and 100 beside
+# a server that is stopped and goes on: none loses its reply. Not part of the gate.
 set -eu
 . "$(dirname -- "$0")/serving.sh"
 wants python3 python3
@@ -28,3 +29,12 @@ for clients in behind heads; do
     python3 "$here/slow_clients.py" "$clients" "$port" "$pass" "$count"
     finish
 done
+
+for pieces in 3 4 6; do
+    serve_patiently 800
+    python3 "$here/slow_clients.py" pieces "$port" "$pass" "$pieces"
+    finish
+done
+serve_patiently 100
+python3 "$here/slow_clients.py" stopped "$port" "$pass" "$server"
+finish

@@ -1,12 +1,7 @@
 -- Lemmas on the steps of a server.
-use Rattle.std.proofs.Common.{◌≡◌, ℕ, ◌+◌, List, [], ◌∷◌, ◌++◌, length, arith, add-one, length-append, refl, Ok, Err}
-use Rattle.std.specs.Prelude.{Option, Result}
-use Rattle.club_core.specs.declared.reply.Reply.{Reply}
+use Rattle.std.proofs.Common.{◌≡◌, ℕ, ◌+◌, List, [], ◌∷◌, ◌++◌, length, arith, add-one, length-append, refl}
 use Rattle.club_http.specs.Ends.{one_more}
-use Rattle.club_http.specs.Exchange.{Exchanges, Replies}
 use Rattle.club_http.specs.Replied.{AnswerRelation}
-use Rattle.club_http.specs.declared.fault.AnswerFault.{AnswerFault}
-use Rattle.club_http.specs.declared.fault.AnswerFault.TheVariants.{Read, Write}
 use Rattle.desk_server.specs.Served.{AreServed, CountsOn, Ends, HasAnswered, Idles, IsExchanged, ServesOne, failures_after}
 use Rattle.club_clock.specs.Moments.{GivesMoment}
 use Rattle.desk_server.specs.Served as spec
@@ -17,15 +12,6 @@ use Rattle.desk_server.specs.declared.log.Fate.TheVariants.{Absent, Unanswered, 
 pub counts_more : (waited i now new : ℕ) → CountsOn waited i now → CountsOn now 1 new → CountsOn waited (i + 1) new
 counts_more waited i now new so_far more fits = let before : now ≡ waited + i = so_far (omega arith) in let last : new ≡ now + 1 = more (omega arith) in
     omega arith
-
--- the part of an exchange's contract that is about the desk
-pub exchanged : {Desk : Type 0} (Answers : AnswerRelation Desk) (before after : Option (List ℕ)) (bytes : List ℕ) (old new : Desk)
-    (Writes : List ℕ → Type 0) (outcome : Result Reply AnswerFault)
-    → Exchanges (λ reply. Replies Answers before after bytes old reply new) (new ≡ old) Writes outcome
-    → IsExchanged Answers bytes old outcome new
-exchanged Answers before after bytes old new Writes (Ok reply) (decides, written) = (decides.reply_is, tt)
-exchanged Answers before after bytes old new Writes (Err Read) same = same
-exchanged Answers before after bytes old new Writes (Err (Write n)) (reply, decides, fewer, written) = (reply, decides.reply_is, fewer, tt)
 
 -- the length of a list with one more item
 pub length_more : (fates : List Fate) (fate : Fate) → length (fates ++ fate ∷ []) ≡ length fates + 1

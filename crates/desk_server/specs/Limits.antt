@@ -1,9 +1,11 @@
 -- Limits of time (ours).
-use Rattle.std.specs.Prelude.{◌≡◌, ℕ, ◌+◌, ◌-◌, ◌*◌, ◌^◌, ◌<◌, ◌≤◌, nat_lt, if◌then◌else◌, List, length, Option, Some, None, IsSomeAnd, option_map}
+use Rattle.std.specs.Prelude.{◌≡◌, ◌⊎◌, ℕ, ◌+◌, ◌-◌, ◌*◌, ◌^◌, ◌<◌, ◌≤◌, nat_lt, if◌then◌else◌, List, length, Option, Some, None, IsSomeAnd, option_map}
 use Rattle.std.specs.Io.KnownBytes.{Consumes}
 use Rattle.std.specs.Time.{instant_nanos}
 use Rattle.std.specs.declared.time.Instant.{Instant}
 use Rattle.desk_server.specs.declared.limit.Limit.{Limit}
+use Rattle.desk_server.specs.declared.timed.Waited.{Waited}
+use Rattle.desk_server.specs.declared.timed.Waited.TheVariants.{Moved, Interrupted, Failed}
 
 -- the nanoseconds of an instant since the start of its clock
 abbrev pub nanos_of : Option Instant → Option ℕ
@@ -29,18 +31,40 @@ StartsLimit Shows clock patience (Some limit) new = new ≡ Some limit
 StartsLimit Shows clock patience None new = IsSomeAnd new (λ limit. (limit.clock.now ≡ clock)
     × AtShown (Shows clock) (λ shown. nanos_of limit.due ≡ due_after patience shown))
 
--- a call of a stream that waits at most so many nanoseconds, with the count of bytes that it returns
+-- a call of a stream that waits at most so many nanoseconds, and how it ended
 abbrev pub Calls : Type 0 → Type 1
-Calls Stream = Stream → ℕ → Option ℕ → Stream → Type 0
+Calls Stream = Stream → ℕ → Waited → Stream → Type 0
+
+-- the bytes that a call moved, if it ended so
+abbrev pub moved : Waited → Option ℕ
+moved (Moved n) = Some n
+moved Interrupted = None
+moved Failed = None
+
+-- how a call ended that a signal didn't interrupt
+abbrev pub ended : Option ℕ → Waited
+ended (Some n) = Moved n
+ended None = Failed
 
 -- A call with so many nanoseconds left. With none it fails, and the stream isn't called.
 abbrev pub IsCalled : {Stream : Type 0} → Calls Stream → ℕ → Stream → Option ℕ → Stream → Type 0
-IsCalled Does left old result new = (left ≡ 0 → (result ≡ None) × (new ≡ old)) × (0 < left → Does old left result new)
+IsCalled Does left old result new = (left ≡ 0 → (result ≡ None) × (new ≡ old)) × (0 < left → Does old left (ended result) new)
 
--- a call with the time that is left of a limit, at a time that its clock may show
-abbrev pub IsCalledUnder : {C Stream : Type 0} → (C → Option ℕ → Type 0) → Calls Stream → Limit C → Stream → Option ℕ → Stream → Type 0
-IsCalledUnder Shows Does limit old result new =
-    AtShown (Shows limit.clock.now) (λ shown. IsCalled Does (left_until (nanos_of limit.due) shown) old result new)
+-- so many calls that a signal interrupted, each with the time that was left of a limit, at a time that its clock may show
+pub data AreInterrupted {C Stream : Type 0} (Shows : C → Option ℕ → Type 0) (Does : Calls Stream) (limit : Limit C) (first : Stream) : ℕ → Stream → Type 0 where
+  not_called : AreInterrupted Shows Does limit first 0 first
+  once_more : (n : ℕ) (old new : Stream) → AreInterrupted Shows Does limit first n old
+      → AtShown (Shows limit.clock.now) (λ shown. Does old (left_until (nanos_of limit.due) shown) Interrupted new)
+      → AreInterrupted Shows Does limit first (n + 1) new
+
+-- A call with the time that is left of a limit. Where a signal interrupts it, it is repeated with what is then left, fewer than 2 ^ 64 times.
+pub record IsCalledUnder {C Stream : Type 0} (Shows : C → Option ℕ → Type 0) (Does : Calls Stream) (limit : Limit C) (old : Stream) (result : Option ℕ)
+    (new : Stream) : Type 0 where
+  pub interruptions : ℕ
+  pub last : Stream
+  pub repeated : AreInterrupted Shows Does limit old interruptions last
+  pub called : AtShown (Shows limit.clock.now) (λ shown. IsCalled Does (left_until (nanos_of limit.due) shown) last result new)
+      ⊎ (interruptions ≡ 2 ^ 64 - 1) × (result ≡ None) × (new ≡ last)
 
 -- the call took at most so many bytes
 abbrev pub TakesAtMost : ℕ → Option (List ℕ) → Option (List ℕ) → Type 0

@@ -3,7 +3,7 @@
 use crate::limit::{Limit, MonotonicClock};
 use crate::timed::{TimedInlet, TimedOutlet};
 use club_core::Reply;
-use club_http::{AnswerFault, Face, Responder, answer};
+use club_http::{AnswerFault, Face, Responder, send_reply};
 use club_values::Moment;
 use std::net::{Shutdown, TcpListener, TcpStream};
 use std::thread;
@@ -53,10 +53,11 @@ impl<'c, C: MonotonicClock> Accepted<'c, C> {
         }
     }
 
-    // Ends a connection whose reply was written. A socket that is closed while bytes of its client
-    // are unread resets the connection, and a client that is still sending may then lose its reply.
-    // So this shuts the writing side first, and then reads what the client still sends.
-    fn end(&self) {
+    // Ends a connection whose reply was written, and whose request may go on. A socket that is
+    // closed while bytes of its client are unread resets the connection, and a client that is still
+    // sending may then lose its reply. So this shuts the writing side first, and then reads what the
+    // client still sends.
+    fn take_rest(&self) {
         if self.stream.shutdown(Shutdown::Write).is_ok() {
             let limit = Limit::after(self.clock, self.patience);
             TimedInlet::new(&self.stream, &limit).take_rest();
@@ -64,7 +65,7 @@ impl<'c, C: MonotonicClock> Accepted<'c, C> {
     }
 }
 
-/// An exchange as `club_http::answer` specifies, over a socket. No contract states which bytes a
+/// An exchange as `club_http::answer` makes it, over a socket. No contract states which bytes a
 /// socket gives or takes.
 impl<C: MonotonicClock> Connection for Accepted<'_, C> {
     ghost ends = { λ _ _. Unit {0} };
@@ -77,12 +78,20 @@ impl<C: MonotonicClock> Connection for Accepted<'_, C> {
     ) -> Result<Reply, AnswerFault> {
         let stream = &self.stream;
         let mut reader = TimedInlet::new(stream, &self.limit);
+        let Some(scan) = face.receive(&mut reader) else {
+            return Err(AnswerFault::Read);
+        };
+        let reply = face.reply(&scan, desk, moment);
         let mut writer = TimedOutlet::new(stream, self.clock, self.patience);
-        let outcome = answer(face, desk, moment, &mut reader, &mut writer);
-        if outcome.is_ok() {
-            self.end();
+        match send_reply(&reply, &mut writer) {
+            Ok(()) => {
+                if !face.is_over(&scan) {
+                    self.take_rest();
+                }
+                Ok(reply)
+            }
+            Err(sent) => Err(AnswerFault::Write(sent)),
         }
-        outcome
     }
 }
 

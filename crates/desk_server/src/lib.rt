@@ -19,4 +19,4 @@ pub use limit::{Limit, MonotonicClock};
 pub use log::{Fate, Log, LogLines, Unlogged};
 pub use request_line::{MAX_KEPT, RequestLine};
 pub use serve::{ClockOutOfRange, serve_logged, serve_on};
-pub use timed::{MAX_REST, TimedInlet, TimedOutlet, TimedRead, TimedWrite};
+pub use timed::{MAX_REST, TimedInlet, TimedOutlet, TimedRead, TimedWrite, Waited};

@@ -27,7 +27,7 @@ impl<C: Clock> MonotonicClock for C {
 /// A deadline by a clock.
 #[derive(Drop)]
 pub struct Limit<'c, C> {
-    clock: &'c C,
+    pub(crate) clock: &'c C,
     due: Option<Instant>,
 }
 

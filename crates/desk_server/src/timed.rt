@@ -1,17 +1,33 @@
 //! Ends of a connection under limits of time.
 
+ghost use Rattle.std.specs.Prelude.{◌≡◌, ◌≤◌, length, IfSome, MatchResult, None};
+ghost use Rattle.club_http.specs.Ends.{Fills, Takes};
+ghost use Rattle.desk_server.specs.Limits.{IsCalledUnder, moved};
+
 use crate::limit::{Limit, MonotonicClock};
 use club_http::{Inlet, Outlet};
-use std::io::{Read, Write};
+use std::io;
+use std::io::{ErrorKind, Read, Write};
 use std::net::TcpStream;
 use std::time::Duration;
+
+/// How a call ended that waits for a limited time.
+#[derive(Clone, Copy, Debug, PartialEq, Eq)]
+pub enum Waited {
+    /// It read or wrote so many bytes.
+    Moved(usize),
+    /// A signal interrupted it, before any byte.
+    Interrupted,
+    /// It failed, or its time was over before any byte.
+    Failed,
+}
 
 /// A reader whose reads take a time limit, such as a socket.
 pub trait TimedRead {
     ghost use Rattle.std.specs.Prelude.{◌≤◌, ℕ, List, length, Option, IfSome};
     ghost use Rattle.std.specs.Duration.{as_nanos};
     ghost use Rattle.club_http.specs.Ends.{Fills};
-    ghost use Rattle.desk_server.specs.Limits.{Calls};
+    ghost use Rattle.desk_server.specs.Limits.{Calls, moved};
 
     // the bytes to come, if they are known
     ghost to_come: { Self → Option (List ℕ) };
@@ -20,16 +36,11 @@ pub trait TimedRead {
     ghost reads: { Calls Self };
 
     /// Puts the next bytes at the front of the buffer, and returns how many; 0 with a buffer that
-    /// isn't empty is the end of the input. `None` if the read failed, or no bytes came in time.
-    fn read_within(&mut self, limit: Duration, room: &mut [u8]) -> Option<usize>
-        ensures within { IfSome result (λ n. n ≤ length room.new) }
-        ensures bytes { Fills (to_come self.old) (to_come self.new) result room.new }
+    /// isn't empty is the end of the input.
+    fn read_within(&mut self, limit: Duration, room: &mut [u8]) -> Waited
+        ensures within { IfSome (moved result) (λ n. n ≤ length room.new) }
+        ensures bytes { Fills (to_come self.old) (to_come self.new) (moved result) room.new }
         ensures limited { reads self.old (as_nanos limit) result self.new };
-
-    /// Reads bytes that have arrived already. It doesn't wait, and fails if there are none.
-    fn read_ready(&mut self, room: &mut [u8]) -> Option<usize>
-        ensures within { IfSome result (λ n. n ≤ length room.new) }
-        ensures bytes { Fills (to_come self.old) (to_come self.new) result room.new };
 }
 
 /// A writer whose writes take a time limit, such as a socket.
@@ -37,7 +48,7 @@ pub trait TimedWrite {
     ghost use Rattle.std.specs.Prelude.{◌≤◌, ℕ, List, length, Option, IfSome};
     ghost use Rattle.std.specs.Duration.{as_nanos};
     ghost use Rattle.club_http.specs.Ends.{Takes};
-    ghost use Rattle.desk_server.specs.Limits.{Calls};
+    ghost use Rattle.desk_server.specs.Limits.{Calls, moved};
 
     // the bytes that it took, if they are known
     ghost taken: { Self → Option (List ℕ) };
@@ -45,11 +56,10 @@ pub trait TimedWrite {
     // a write that waits at most this long, with the writer before and after
     ghost writes: { Calls Self };
 
-    /// Takes the first of the bytes, and returns how many. `None` if the write failed, or no bytes
-    /// were taken in time.
-    fn write_within(&mut self, limit: Duration, bytes: &[u8]) -> Option<usize>
-        ensures within { IfSome result (λ n. n ≤ length bytes.now) }
-        ensures bytes { Takes (taken self.old) (taken self.new) result bytes.now }
+    /// Takes the first of the bytes, and returns how many.
+    fn write_within(&mut self, limit: Duration, bytes: &[u8]) -> Waited
+        ensures within { IfSome (moved result) (λ n. n ≤ length bytes.now) }
+        ensures bytes { Takes (taken self.old) (taken self.new) (moved result) bytes.now }
         ensures limited { writes self.old (as_nanos limit) result self.new };
 }
 
@@ -61,16 +71,11 @@ impl TimedRead for &TcpStream {
 
     ghost reads = { λ _ _ _ _. Unit {0} };
 
-    fn read_within(&mut self, limit: Duration, room: &mut [u8]) -> Option<usize> {
-        self.set_read_timeout(Some(limit)).ok()?;
-        self.read(room).ok()
-    }
-
-    fn read_ready(&mut self, room: &mut [u8]) -> Option<usize> {
-        self.set_nonblocking(true).ok()?;
-        let came = self.read(room).ok();
-        self.set_nonblocking(false).ok()?;
-        came
+    fn read_within(&mut self, limit: Duration, room: &mut [u8]) -> Waited {
+        match self.set_read_timeout(Some(limit)) {
+            Ok(()) => outcome_of(self.read(room)),
+            Err(_) => Waited::Failed,
+        }
     }
 }
 
@@ -82,9 +87,22 @@ impl TimedWrite for &TcpStream {
 
     ghost writes = { λ _ _ _ _. Unit {0} };
 
-    fn write_within(&mut self, limit: Duration, bytes: &[u8]) -> Option<usize> {
-        self.set_write_timeout(Some(limit)).ok()?;
-        self.write(bytes).ok()
+    fn write_within(&mut self, limit: Duration, bytes: &[u8]) -> Waited {
+        match self.set_write_timeout(Some(limit)) {
+            Ok(()) => outcome_of(self.write(bytes)),
+            Err(_) => Waited::Failed,
+        }
+    }
+}
+
+// How a call of `std` ended.
+fn outcome_of(returned: io::Result<usize>) -> Waited
+    ensures { MatchResult returned (λ n. result ≡ Waited.Moved n) (λ _. moved result ≡ None) }
+{
+    match returned {
+        Ok(count) => Waited::Moved(count),
+        Err(error) if error.kind() == ErrorKind::Interrupted => Waited::Interrupted,
+        Err(_) => Waited::Failed,
     }
 }
 
@@ -98,6 +116,9 @@ pub struct TimedInlet<'l, 'c, R, C> {
 
 /// The most bytes that `take_rest` takes.
 pub const MAX_REST: usize = 65_536;
+
+/// How many milliseconds `take_rest` waits for the next bytes, or the end.
+const REST_MILLISECONDS: u64 = 200;
 
 /// The most bytes that it reads in a call.
 const MAX_REST_AT_ONCE: usize = 4_096;
@@ -119,7 +140,8 @@ impl<'l, 'c, R: TimedRead, C: MonotonicClock> TimedInlet<'l, 'c, R, C> {
     }
 
     /// Reads as `fill`, and waits at most for the time that is left of the limit. If none is left,
-    /// or the clock can't be read, it fails without reading.
+    /// or the clock can't be read, it fails without reading. A read that a signal interrupted goes
+    /// on with what is left of its time.
     pub fn read(&mut self, room: &mut [u8]) -> Option<usize>
         ensures within { IfSome result (λ n. n ≤ length room.new) }
         ensures bytes { Fills (R.to_come self.old.reader) (R.to_come self.new.reader)
@@ -129,38 +151,63 @@ impl<'l, 'c, R: TimedRead, C: MonotonicClock> TimedInlet<'l, 'c, R, C> {
             self.old.reader result self.new.reader }
         ensures limit { self.new.limit ≡ self.old.limit }
     {
-        let left = self.limit.left();
-        let came = if left.is_zero() {
-            None
-        } else {
-            self.reader.read_within(left, room)
-        };
+        let came = read_under(&mut self.reader, self.limit, room);
         if came.is_none() {
             self.failures = self.failures.saturating_add(1);
         }
         came
     }
 
-    /// Reads the bytes that have arrived, and then those that come before the limit is over: up to
-    /// the end of the input, at most `MAX_REST` bytes. If none have arrived, it returns at once.
+    /// Reads the bytes that still come before the limit is over: up to the end of the input, at
+    /// most `MAX_REST` bytes. It waits for each of them no longer than 200 milliseconds.
     pub fn take_rest(&mut self)
         ensures { TakesAtMost 65_536 (R.to_come self.old.reader) (R.to_come self.new.reader) }
     {
         let mut room = [0; MAX_REST_AT_ONCE];
-        let Some(mut taken) = self.reader.read_ready(&mut room) else {
-            return;
-        };
-        if taken == 0 {
-            return;
-        }
+        let mut taken = 0;
         while taken < MAX_REST {
             let most = MAX_REST_AT_ONCE.min(MAX_REST - taken);
-            match self.read(&mut room[..most]) {
+            match self.read_briefly(&mut room[..most]) {
                 Some(came) if came > 0 => taken += came,
                 _ => return,
             }
         }
     }
+
+    // Reads, and waits no longer than for the rest of a request.
+    fn read_briefly(&mut self, room: &mut [u8]) -> Option<usize>
+        ensures within { IfSome result (λ n. n ≤ length room.new) }
+        ensures bytes { Fills (R.to_come self.old.reader) (R.to_come self.new.reader)
+            result room.new }
+    {
+        let most = Duration::from_millis(REST_MILLISECONDS).min(self.limit.left());
+        let brief = Limit::after(self.limit.clock, most);
+        read_under(&mut self.reader, &brief, room)
+    }
+}
+
+// Reads with the time that is left of a limit.
+fn read_under<R: TimedRead, C: MonotonicClock>(
+    reader: &mut R,
+    limit: &Limit<'_, C>,
+    room: &mut [u8],
+) -> Option<usize>
+    ensures within { IfSome result (λ n. n ≤ length room.new) }
+    ensures bytes { Fills (R.to_come reader.old) (R.to_come reader.new) result room.new }
+    ensures limited { IsCalledUnder C.shows R.reads limit.now reader.old result reader.new }
+{
+    for interrupted in 0..u64::MAX {
+        let left = limit.left();
+        if left.is_zero() {
+            return None;
+        }
+        match reader.read_within(left, room) {
+            Waited::Moved(came) => return Some(came),
+            Waited::Interrupted => {}
+            Waited::Failed => return None,
+        }
+    }
+    None
 }
 
 impl<R: TimedRead, C: MonotonicClock> Inlet for TimedInlet<'_, '_, R, C> {
@@ -192,8 +239,7 @@ impl<'c, W: TimedWrite, C: MonotonicClock> TimedOutlet<'c, W, C> {
     ghost use Rattle.std.specs.Prelude.{◌≡◌, ◌≤◌, length, IfSome, IsSomeAnd, None};
     ghost use Rattle.std.specs.Duration.{as_nanos};
     ghost use Rattle.club_http.specs.Ends.{Takes, put_failures};
-    ghost use Rattle.desk_server.specs.Limits.{AtShown, StartsLimit, IsCalledUnder};
-    ghost use Rattle.desk_server.specs.Limits.{left_until, nanos_of};
+    ghost use Rattle.desk_server.specs.Limits.{StartsLimit, IsCalledUnder};
 
     /// A writer whose limit hasn't begun.
     pub fn new(writer: W, clock: &'c C, patience: Duration) -> TimedOutlet<'c, W, C>
@@ -215,7 +261,8 @@ impl<'c, W: TimedWrite, C: MonotonicClock> TimedOutlet<'c, W, C> {
     }
 
     /// Writes as `put`, and waits at most for the time that is left of the limit. If none is left,
-    /// or the clock can't be read, it fails without writing.
+    /// or the clock can't be read, it fails without writing. A write that a signal interrupted goes
+    /// on with what is left of its time.
     pub fn write(&mut self, bytes: &[u8]) -> Option<usize>
         ensures within { IfSome result (λ n. n ≤ length bytes.now) }
         ensures bytes { Takes (W.taken self.old.writer) (W.taken self.new.writer)
@@ -232,34 +279,41 @@ impl<'c, W: TimedWrite, C: MonotonicClock> TimedOutlet<'c, W, C> {
           failures = self.new.failures;
         } }
     {
-        let left = self.left();
-        let taken = if left.is_zero() {
-            None
-        } else {
-            self.writer.write_within(left, bytes)
+        let limit = match self.limit.take() {
+            Some(limit) => limit,
+            None => Limit::after(self.clock, self.patience),
         };
+        let taken = write_under(&mut self.writer, &limit, bytes);
+        self.limit = Some(limit);
         if taken.is_none() || (taken == Some(0) && !bytes.is_empty()) {
             self.failures = self.failures.saturating_add(1);
         }
         taken
     }
+}
 
-    // The time left of the limit, which begins now if it hasn't begun.
-    fn left(&mut self) -> Duration
-        ensures begins { StartsLimit C.shows self.old.clock.now (as_nanos self.old.patience)
-            self.old.limit self.new.limit }
-        ensures left { IsSomeAnd self.new.limit (λ limit. AtShown (C.shows limit.clock.now)
-            (λ shown. as_nanos result ≡ left_until (nanos_of limit.due) shown)) }
-        ensures kept { self.new ≡ record self.old { limit = self.new.limit } }
-    {
-        let limit = match self.limit.take() {
-            Some(limit) => limit,
-            None => Limit::after(self.clock, self.patience),
-        };
+// Writes with the time that is left of a limit.
+fn write_under<W: TimedWrite, C: MonotonicClock>(
+    writer: &mut W,
+    limit: &Limit<'_, C>,
+    bytes: &[u8],
+) -> Option<usize>
+    ensures within { IfSome result (λ n. n ≤ length bytes.now) }
+    ensures bytes { Takes (W.taken writer.old) (W.taken writer.new) result bytes.now }
+    ensures limited { IsCalledUnder C.shows W.writes limit.now writer.old result writer.new }
+{
+    for interrupted in 0..u64::MAX {
         let left = limit.left();
-        self.limit = Some(limit);
-        left
+        if left.is_zero() {
+            return None;
+        }
+        match writer.write_within(left, bytes) {
+            Waited::Moved(taken) => return Some(taken),
+            Waited::Interrupted => {}
+            Waited::Failed => return None,
+        }
     }
+    None
 }
 
 impl<W: TimedWrite, C: MonotonicClock> Outlet for TimedOutlet<'_, W, C> {

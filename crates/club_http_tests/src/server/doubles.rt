@@ -6,7 +6,7 @@ use club_clock::Moments;
 use club_core::{Refusal, Reply};
 use club_http::{AnswerFault, Face, ReadInlet, Responder, WriteOutlet, answer};
 use club_values::Moment;
-use desk_server::{Connection, Connections, IdleHook, TimedRead, TimedWrite};
+use desk_server::{Connection, Connections, IdleHook, TimedRead, TimedWrite, Waited};
 use http_request::Words;
 use std::cell::Cell;
 use std::io::{self, ErrorKind, Read, Write};
@@ -221,6 +221,11 @@ impl Running {
         self.shown.get()
     }
 
+    /// How often the clock can be read still.
+    pub fn readable(&self) -> u64 {
+        self.readable.get()
+    }
+
     /// How often a client was read.
     pub fn reads(&self) -> u64 {
         self.reads.get()
@@ -260,13 +265,13 @@ impl Clock for Running {
 }
 
 /// A client that sends its bytes, and takes those of its reply, one after the other, each after a
-/// pause; its first may be there already. It ends after the last.
+/// pause. Signals interrupt so many of the waits for it, each at its half. It ends after the last.
 #[derive(Drop)]
 pub struct Slow<'a> {
     clock: &'a Running,
     pause: u64,
     bytes: &'a [u8],
-    pub ready: bool,
+    pub interruptions: u32,
 }
 
 impl<'a> Slow<'a> {
@@ -276,8 +281,18 @@ impl<'a> Slow<'a> {
             clock,
             pause,
             bytes,
-            ready: false,
+            interruptions: 0,
         }
+    }
+
+    // Waits for the pause, and returns whether it is over; `None` if a signal interrupted it.
+    fn wait(&mut self, limit: Duration) -> Option<bool> {
+        if self.interruptions > 0 {
+            self.interruptions -= 1;
+            let _ = self.clock.waits(self.pause / 2, limit);
+            return None;
+        }
+        Some(self.clock.waits(self.pause, limit))
     }
 
     // Sends its next byte, if there is one.
@@ -302,20 +317,15 @@ impl TimedRead for Slow<'_> {
 
     ghost reads = { λ _ _ _ _. Unit {0} };
 
-    fn read_within(&mut self, limit: Duration, room: &mut [u8]) -> Option<usize> {
+    fn read_within(&mut self, limit: Duration, room: &mut [u8]) -> Waited {
         self.clock.reads.set(self.clock.reads().saturating_add(1));
-        if self.bytes.is_empty() || self.clock.waits(self.pause, limit) {
-            Some(self.send(room))
-        } else {
-            None
+        if self.bytes.is_empty() {
+            return Waited::Moved(0);
         }
-    }
-
-    fn read_ready(&mut self, room: &mut [u8]) -> Option<usize> {
-        if self.ready {
-            Some(self.send(room))
-        } else {
-            None
+        match self.wait(limit) {
+            None => Waited::Interrupted,
+            Some(true) => Waited::Moved(self.send(room)),
+            Some(false) => Waited::Failed,
         }
     }
 }
@@ -327,12 +337,12 @@ impl TimedWrite for Slow<'_> {
 
     ghost writes = { λ _ _ _ _. Unit {0} };
 
-    fn write_within(&mut self, limit: Duration, bytes: &[u8]) -> Option<usize> {
+    fn write_within(&mut self, limit: Duration, bytes: &[u8]) -> Waited {
         self.clock.writes.set(self.clock.writes().saturating_add(1));
-        if self.clock.waits(self.pause, limit) {
-            Some(bytes.len().min(1))
-        } else {
-            None
+        match self.wait(limit) {
+            None => Waited::Interrupted,
+            Some(true) => Waited::Moved(bytes.len().min(1)),
+            Some(false) => Waited::Failed,
         }
     }
 }

@@ -77,30 +77,79 @@ fn a_client_that_dawdles_is_cut_off(rt: HostRuntime) {
     }
 }
 
-/// Whether bytes are there, and the milliseconds before each of the others; how often was read for
-/// them, and the milliseconds that passed.
-static RESTS: [(bool, u64, u64, u64); 4] = [
-    (false, 0, 0, 0),
-    (true, 100, 53, 5_200),
-    (true, 1_000, 10, 10_000),
-    (true, NEVER, 1, 10_000),
+/// The signals that interrupt the first waits for a client, each half a second into a pause of a
+/// second; how often was read, and written, and the milliseconds that passed. The request has 53
+/// bytes, and the patience is a minute, and not two for a request of 53 seconds and 14 half ones.
+type Interrupted = (u32, Option<AnswerFault>, u64, u64, u64);
+
+static INTERRUPTED: [Interrupted; 4] = [
+    (1, None, 54, 140, 53_500),
+    (10, None, 63, 140, 58_000),
+    (14, None, 67, 140, 60_000),
+    (15, CUT, 68, 0, 60_000),
+];
+
+/// What comes of an exchange with a client for which so many waits are interrupted.
+fn outcome_interrupted(
+    rt: &(impl Abort + Alloc<A = Global>),
+    interruptions: u32,
+) -> (Option<AnswerFault>, u64, u64, u64) {
+    let patience = Duration::from_secs(60);
+    let clock = Running::new(ALWAYS);
+    let limit = Limit::after(&clock, patience);
+    let mut face = Face::new(rt.alloc()).expect(rt, "a face");
+    let noon = moment(rt, NOON);
+    let mut client = Slow::new(&clock, 1_000, REQUEST);
+    client.interruptions = interruptions;
+    let mut inlet = TimedInlet::new(client, &limit);
+    let mut outlet = TimedOutlet::new(Slow::new(&clock, 0, b""), &clock, patience);
+    let outcome = answer(
+        &mut face,
+        &mut Noting::new(noon),
+        noon,
+        &mut inlet,
+        &mut outlet,
+    );
+    (
+        outcome.err(),
+        clock.reads(),
+        clock.writes(),
+        clock.elapsed(),
+    )
+}
+
+// A signal ends neither a read nor its limit.
+#[test]
+fn goes_on_after_a_signal(rt: HostRuntime) {
+    for (signals, fault, reads, writes, passed) in &INTERRUPTED {
+        let returned = outcome_interrupted(&rt, *signals);
+        expect_row(&rt, &returned, &(*fault, *reads, *writes, *passed), signals);
+    }
+}
+
+/// The milliseconds before each of the bytes that follow a request; how often was read for them,
+/// and the milliseconds that passed. The patience is ten seconds, and no wait is longer than 200
+/// milliseconds.
+static RESTS: [(u64, u64, u64); 5] = [
+    (0, 54, 0),
+    (100, 54, 5_300),
+    (200, 50, 10_000),
+    (201, 1, 200),
+    (NEVER, 1, 200),
 ];
 
 /// How often was read for the rest, and the milliseconds that passed.
-fn rest_of(ready: bool, pause: u64) -> (u64, u64) {
+fn rest_of(pause: u64) -> (u64, u64) {
     let clock = Running::new(ALWAYS);
     let limit = Limit::after(&clock, Duration::from_secs(10));
-    let mut client = Slow::new(&clock, pause, REQUEST);
-    client.ready = ready;
-    TimedInlet::new(client, &limit).take_rest();
+    TimedInlet::new(Slow::new(&clock, pause, REQUEST), &limit).take_rest();
     (clock.reads(), clock.elapsed())
 }
 
-// Where nothing is there, nothing is waited for.
 #[test]
 fn what_still_comes_is_taken(rt: HostRuntime) {
-    for (ready, pause, reads, passed) in &RESTS {
-        expect_row(&rt, &rest_of(*ready, *pause), &(*reads, *passed), pause);
+    for (pause, reads, passed) in &RESTS {
+        expect_row(&rt, &rest_of(*pause), &(*reads, *passed), pause);
     }
 }
 

@@ -2,7 +2,7 @@
 //! only these tests refuse a listener that accepts nobody, and an exchange that reads nothing from
 //! its socket or writes nothing to it.
 
-use super::doubles::Noting;
+use super::doubles::{Noting, Running};
 use super::{REPLY, REQUEST, noon, serves};
 use crate::expect::{expect_bytes, expect_eq};
 use crate::rows::moment;
@@ -112,6 +112,21 @@ fn replies_before_bytes_behind_a_request(rt: HostRuntime) {
     for behind in &BEHIND {
         replies_before(&rt, *behind);
     }
+}
+
+// The clock is read as the limits of the request and of the reply begin, and once more for each: a
+// client that stays after a request that is over isn't waited for.
+#[test]
+fn closes_at_once_after_a_request(rt: HostRuntime) {
+    let listener = loopback_listener(&rt);
+    let _client = client_of(&rt, &listener, REQUEST);
+    let clock = Running::new(10);
+    let accepted = Listening::new(&listener, &clock, patience()).accept();
+    let mut connection = accepted.expect(&rt, "a connection");
+    let noon = moment(&rt, NOON);
+    let mut face = Face::new(rt.alloc()).expect(&rt, "a face");
+    let outcome = connection.exchange(&mut face, &mut Noting::new(noon), noon);
+    expect_eq(&rt, &(outcome.is_ok(), clock.readable()), &(true, 6));
 }
 
 // By the machine's clock: a client that sends nothing, and one that sends no whole request.
