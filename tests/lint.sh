@@ -3,6 +3,7 @@
 # - one name that two specs modules define, of one crate or of two, but for those of one meaning that `twins` has;
 # - lines that are too long: code, comments and clauses past 100 columns, imports, specs and proofs past 160;
 # - a number in a public docstring without a unit (a guess: it looks for a word behind the number, or a unit's word in the text);
+# - another version than that of VERSION: in the code, as both programs print it, or in the newest heading of CHANGELOG.md;
 # - files that nothing uses: modules of specs and proofs that no file imports, files of code that no `mod` names, scripts that no
 #   page names, and edits of must-fail/ and more-edits/ whose old text doesn't stand once in its file.
 # Not part of the gate.
@@ -145,6 +146,15 @@ stale_edits() {
     done
 }
 
+# VERSION has the version; the code and the list of changes repeat it.
+other_versions() {
+    version=$(cat VERSION)
+    in_code=$(sed -n 's/^const VERSION: &str = "\(.*\)";$/\1/p' crates/command_line/src/tree.rt)
+    [ "$in_code" = "$version" ] || echo "another version than $version: crates/command_line/src/tree.rt: $in_code"
+    newest=$(sed -n 's/^## \([^ ,]*\), 20[0-9-]*$/\1/p' CHANGELOG.md | head -n 1)
+    [ "$newest" = "$version" ] || echo "another version than $version: CHANGELOG.md: $newest"
+}
+
 # Scripts that no page names.
 unnamed_scripts() {
     for script in tests/*.sh bin/* deploy/*; do
@@ -163,7 +173,7 @@ unnamed_scripts() {
         stale_edits "$crate"
     done
 } >"$found"
-[ -z "$whole" ] || unnamed_scripts >>"$found"
+[ -z "$whole" ] || { other_versions; unnamed_scripts; } >>"$found"
 cat "$found"
 echo "$(wc -l <"$found") slips"
 [ ! -s "$found" ]

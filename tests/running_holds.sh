@@ -71,7 +71,8 @@ for file in clubdesk passtool; do
     cmp "$top/man/$file.1" "local/share/man/man1/$file.1"
     [ "$(stat -c %a "local/bin/$file")" = 755 ] || fail "local/bin/$file has another mode"
 done
-same 'the installed programs' 'clubdesk 0.1.0 passtool 0.1.0' "$(local/bin/clubdesk --version) $(local/bin/passtool --version)"
+version=$(cat "$top/VERSION")
+same 'the installed programs' "clubdesk $version passtool $version" "$(local/bin/clubdesk --version) $(local/bin/passtool --version)"
 
 # refused WHAT WORDS..: the installation is refused with a line on standard error, and the folder `local` and its files stay.
 refused() {
