@@ -1,6 +1,6 @@
 #!/bin/sh
-# Tries what docs/RUNNING.md says of running the desk: an installation, and those that fail; the unit, by systemd's own tools, and that
-# the desk makes no call of the system which the unit forbids; nginx with TLS before the desk, by its stored configuration; copies of
+# Tries what docs/RUNNING.md says of running the desk: an installation, and those that fail; the units, by systemd's own tools, and that
+# the desk makes no call of the system which its unit forbids; nginx with TLS before the desk, by its stored configuration; copies of
 # the club while it is written to, and one that is restored; a disk that gets full. Wants root. Installs Debian's packages where they
 # are missing. Not part of the gate.
 set -eu
@@ -100,18 +100,32 @@ refused_new
 [ ! -e local ] || fail 'a refused installation left its folders'
 "$top/bin/install" local >told
 
-# ---- The unit.
-unit=clubdesk.service
-sed "s,/usr/local/bin/,$PWD/local/bin/," "$top/deploy/$unit" >"$unit"
-systemd-analyze verify --man=no "./$unit" >said 2>&1 || fail "the unit: $(cat said)"
-[ ! -s said ] || fail "the unit: $(cat said)"
-exposure=$(systemd-analyze security --offline=yes --no-pager "./$unit" | sed -n 's/.*exposure level for [^:]*: \([0-9.]*\).*/\1/p')
-awk -v found="$exposure" 'BEGIN { exit !(found != "" && found < 1.5) }' || fail "the unit's exposure is $exposure"
-checks=$((checks + 2))
+# ---- The units: those that start something are whole, keep to themselves, and name what there is.
+mkdir units
+for file in "$top"/deploy/*.service "$top"/deploy/*.timer; do
+    sed "s,/usr/bin/clubdesk,$PWD/local/bin/clubdesk,; s,/usr/lib/clubdesk/,$top/deploy/,; s,/etc/clubdesk/,$PWD/," "$file" >"units/${file##*/}"
+done
+sed "s,/var/lib/clubdesk/club,$PWD/state/club," "$top/deploy/club.conf" >club.conf
+unit=units/clubdesk@.service
+exposure=
+for file in units/*; do
+    SYSTEMD_UNIT_PATH=$PWD/units: systemd-analyze verify --man=no "$(echo "$file" | sed 's/@/@club/')" >said 2>&1 || fail "$file: $(cat said)"
+    [ ! -s said ] || fail "$file: $(cat said)"
+    checks=$((checks + 1))
+    case $file in *report@* | *.timer) continue ;; esac
+    found=$(systemd-analyze security --offline=yes --no-pager "$file" | sed -n 's/.*exposure level for [^:]*: \([0-9.]*\).*/\1/p')
+    awk -v found="$found" 'BEGIN { exit !(found != "" && found < 1.5) }' || fail "the exposure of $file is $found"
+    exposure="$exposure $found"
+    checks=$((checks + 1))
+done
 
-# Its command, at another file and port, for another user, with its mask, under strace: a club that isn't there is made, a request is
-# answered, and each call is one that the unit allows.
-command=$(sed -n 's/^ExecStart=//p' "$unit" | sed "s,/var/lib/clubdesk/club,$PWD/state/club,; s/--port [0-9]*/--port 0/; s/--count [0-9]*/--count 2/")
+# Its command, with the variables of the example but another port, for another user, with its mask, under strace: a club that isn't there
+# is made, a request is answered, and each call is one that the unit allows. Before it, the unit looks whether the club is there.
+# shellcheck source=/dev/null # the configuration
+command=$(. ./club.conf; ZONE=$ZONE FILE=$FILE PORT=0 /usr/bin/python3 -c '
+import os, re, sys
+line = re.search("^ExecStart=(.*)$", open(sys.argv[1], encoding="utf-8").read(), re.M)[1]
+print(re.sub(r"\$\{(\w+)\}", lambda found: os.environ[found[1]], line).replace("--count 1000000", "--count 2"))' "$unit")
 mkdir -m 700 state
 chown nobody state
 mask=$(sed -n 's/^UMask=//p' "$unit")
@@ -155,7 +169,7 @@ if not made or lacking or families or written or both:
 PYTHON
 checks=$((checks + 1))
 same "a zone's rule" CET-1CEST,M3.5.0,M10.5.0/3 "$(tail -n 1 /usr/share/zoneinfo/Europe/Berlin)"
-grep -qF -- "--zone $(tail -n 1 /usr/share/zoneinfo/Europe/Berlin) " "$unit" || fail 'the unit has another zone'
+grep -qxF "ZONE=$(tail -n 1 /usr/share/zoneinfo/Europe/Berlin)" club.conf || fail 'the example has another zone'
 
 # ---- TLS.
 openssl req -x509 -newkey rsa:2048 -nodes -days 2 -subj /CN=desk.example.org -addext subjectAltName=DNS:desk.example.org \
@@ -328,4 +342,4 @@ rm "$disk/fill"
 same 'room again' '{"booking":"amy-1/99","charge":1,"left":49} 200' "$(asks PUT slots/court-1/2026-05-04/10/bookings/99 "$pass" '{"guests":0}')"
 stop "$server"
 server=
-echo "$checks checks of running the desk passed, $copies copies while it was written to, the unit's exposure $exposure"
+echo "$checks checks of running the desk passed, $copies copies while it was written to, the units' exposure$exposure"

@@ -1,0 +1,21 @@
+#!/bin/sh
+# The completions that bin/completions makes, in real shells (bash, zsh and fish), against `--help` of both programs: for each command
+# those words that begin so, its options, the values of its options, files for FILE; of nothing else. Installs Debian's shells where
+# they are missing. Not part of the gate.
+set -eu
+. "$(dirname -- "$0")/serving.sh"
+wants bash bash
+wants zsh zsh
+wants fish fish
+wants python3 python3
+for program in "$desk" "$tool"; do
+    for shell in bash zsh fish; do "$here/../bin/completions" "$shell" "$program" >"$(basename "$program").$shell"; done
+done
+bash -n clubdesk.bash && zsh -n clubdesk.zsh && fish --no-execute clubdesk.fish
+"$here/completions_hold.py" "$desk" "$tool"
+for words in '' 'bash' 'csh x' 'bash x y'; do
+    # shellcheck disable=SC2086 # words
+    if "$here/../bin/completions" $words >told 2>said; then echo "completions takes '$words'" >&2; exit 1; fi
+    [ ! -s told ] || exit 1
+done
+if "$here/../bin/completions" bash "$work/none" >told 2>said; then echo 'completions takes a program that is not there' >&2; exit 1; fi
