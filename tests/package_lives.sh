@@ -116,7 +116,7 @@ fi
 echo 'APT::Get::Assume-Yes "true";' >"$root/etc/apt/apt.conf.d/99yes"
 cp "first/$deb" ./*.deb first/*.tar.xz "$root/root/"
 # The packages that it needs are fetched before the machine is cut off.
-offline sh -c "apt-get update && apt-get install --download-only /root/$deb" >apt.log 2>&1 </dev/null || fail "apt-get: $(tail apt.log)"
+offline sh -c "apt-get update && apt-get install --download-only /root/$deb xz-utils" >apt.log 2>&1 </dev/null || fail "apt-get: $(tail apt.log)"
 offline sh -c 'dpkg --get-selections; find / -xdev \( -path /proc -o -path /var/cache -o -path /root -o -path /tmp -o -path /run \) -prune -o -print | sort' >told 2>&1
 boot
 
@@ -390,6 +390,7 @@ inside sh -c 'cp /var/lib/clubdesk/club /root/purged; cp /var/lib/clubdesk/club-
 same 'bookings after the purge' $((acknowledged + 1)) "$(inside sqlite3 /root/purged 'SELECT count(*) FROM bookings')"
 
 # ---- The archive for other systems, with the club that stayed.
+holds 'what unpacks it' inside apt-get install xz-utils
 blocks Install | grep -vE '^(bin/package|cd packages|apt install)' | sed 's,packages/,/root/,' | gives 'the archive'
 same 'the programs of the archive' "$(cd unpacked/usr/bin && sha256sum clubdesk passtool)" "$(inside sh -c 'cd /usr/local/bin && sha256sum clubdesk passtool')"
 gives 'its desk' <<'LINES'
