@@ -1,35 +1,23 @@
 #!/bin/sh
-# Tries the edits of crates/NAME/more-edits/, which the gate leaves out for time, as the gate tries those of must-fail/: in a
-# scratch copy of the tree as it stands, by `rt ci` over these crates and those below them. What it proved or tried on this machine
-# before isn't done anew. Run it for each crate whose code or contracts change. Prints what isn't refused; the status is 0 where the
-# prover refuses every edit.
-#   tests/more_edits.sh                         every crate that has such edits
+# Tries the wrong bodies of crates/NAME/must-fail/ and crates/NAME/more-edits/, of which the gate leaves out the latter for time, by
+# `rt check` in a scratch copy of the tree as it stands, and says of each how it is refused. Run it for each crate whose code or
+# contracts change. The status is 1 where one is proved, or can't be tried.
+#   tests/more_edits.sh                             every crate that has such edits
 #   tests/more_edits.sh club_core club_reference    these crates
-set -u
+#   tests/more_edits.sh club_core/charges_a_repeat  this edit
+#
+# The first word of a line:
+# - false: the check found values for which a goal is false, so no proof of this body ends well.
+# - goal: a goal stays open, and each name that its proof cites is there. The proof, which closes the goal of the right body, fails at
+#   what this one computes. So do the tactics, where no answer is written by hand.
+# - names: an answer that is written by hand cites what the edit took away: a goal is named after a condition, an arm or a call of the
+#   code. Without these answers a goal stays open. That may be the contract's doing or the shape's: the same body in other words may be
+#   proved. Such an edit counts for little. Write it again so that it changes a value and keeps the names.
+# - proved: the contract lets the body through, at once or without the answers whose names are gone.
+# - limit: the check met one of its own limits, and gives no verdict.
+# - bad: the edit can't be applied, or its text can't be read.
+# Refused by meaning are `false` and `goal`. Only `false` is shown: the check seldom finds values that break an equation of lists or a
+# bound on a product, so most wrong bodies are `goal`, though their goals are false too. `goal` says that this proof fails, and no
+# tactic finds another one.
 here=$(CDPATH='' cd -P -- "$(dirname -- "$0")" && pwd)
-root=$(dirname "$here")
-copy=$(mktemp -d) || exit 2
-trap 'rm -rf "$copy"' EXIT
-trap 'exit 2' INT TERM
-
-[ $# -gt 0 ] || set -- $(cd "$root/crates" && ls -d -- */more-edits | cut -d / -f 1)
-for crate; do
-    if [ ! -d "$root/crates/$crate/more-edits" ]; then
-        echo "$crate: has no more-edits/" >&2
-        exit 2
-    fi
-done
-
-(cd "$root" && tar cf - --exclude='./crates/*/out' --exclude='./crates/*/must-fail' .) | tar xf - -C "$copy" || exit 2
-for crate; do
-    mv "$copy/crates/$crate/more-edits" "$copy/crates/$crate/must-fail" || exit 2
-done
-
-cd "$copy" || exit 2
-rt ci "$@" >"$copy/told" 2>&1
-status=$?
-[ $status = 0 ] || tail -n 20 "$copy/told"
-# For `rt ci` an edit that can't be applied or read is only a warning.
-if grep 'must-fail.*\(NOT REFUSED\|NOT TRIED\|BAD EDIT\)' "$copy/told"; then status=1; fi
-echo "$(grep -c 'refused, as it must be' "$copy/told") edits refused"
-exit $status
+exec python3 "$here/more_edits.py" "$@"
