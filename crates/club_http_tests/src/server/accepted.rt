@@ -3,7 +3,7 @@
 //! exchange that reads or writes less over its socket, or by other limits.
 
 use super::noon;
-use crate::expect::{expect_bytes, expect_eq};
+use crate::expect::expect_bytes;
 use crate::rows::{expect_row, moment};
 use crate::sockets::{client_of, loopback_listener};
 use club_core::{Reply, Request};
@@ -237,34 +237,39 @@ fn exchanges_of_each_day(rt: HostRuntime) {
     }
 }
 
-/// The milliseconds from the connection to its exchange, and those that the responder takes; and
-/// whether it is asked. The client has ten seconds for its request, from its connection on, and as
-/// long for the reply, from its first byte on, however long the desk takes.
-static LIMITS: [(u64, u64, bool); 5] = [
-    (0, 0, true),
-    (9_999, 0, true),
-    (9_999, 1_000_000, true),
-    (10_000, 0, false),
-    (1_000_000, 0, false),
+/// The milliseconds from the connection to its exchange, and those that the responder takes; how
+/// often it is asked, and the fault of the exchange. The client has ten seconds for its request,
+/// from its connection on, and as long for the reply, from its first byte on, however long the desk
+/// takes.
+static LIMITS: [(u64, u64, u64, Option<AnswerFault>); 5] = [
+    (0, 0, 1, None),
+    (9_999, 0, 1, None),
+    (9_999, 1_000_000, 1, None),
+    (10_000, 0, 0, Some(AnswerFault::Read)),
+    (1_000_000, 0, 0, Some(AnswerFault::Read)),
 ];
+
+/// How often a responder that takes so long is asked in an exchange, and the fault of that.
+fn asked_after(
+    rt: &(impl Abort + Alloc<A = Global>),
+    listener: &TcpListener,
+    waited: u64,
+    takes: u64,
+) -> (u64, Option<AnswerFault>) {
+    let clock = HandSet(Cell::new(0));
+    let mut desk = Recorder::new(&clock, takes, BOOKED_7.reply().expect(rt, "a reply"));
+    let outcome = exchanges_after(rt, listener, noon(rt).moment, waited, &mut desk);
+    (desk.calls, outcome.err())
+}
 
 fn keeps_limits(
     rt: &(impl Abort + Alloc<A = Global> + Net<Listener = TcpListener, Stream = TcpStream>),
-    (waited, takes, asked): &(u64, u64, bool),
+    (waited, takes, calls, fault): &(u64, u64, u64, Option<AnswerFault>),
 ) {
     let listener = loopback_listener(rt);
     let _client = client_of(rt, &listener, exchanges::BOOK_7.as_bytes());
-    let clock = HandSet(Cell::new(0));
-    let reply = BOOKED_7.reply().expect(rt, "a reply");
-    let mut desk = Recorder::new(&clock, *takes, reply);
-    let outcome = exchanges_after(rt, &listener, noon(rt).moment, *waited, &mut desk);
-    let want = if *asked {
-        Ok(reply)
-    } else {
-        Err(AnswerFault::Read)
-    };
-    expect_row(rt, &outcome, &want, &(waited, takes));
-    expect_eq(rt, &desk.calls, &u64::from(*asked));
+    let returned = asked_after(rt, &listener, *waited, *takes);
+    expect_row(rt, &returned, &(*calls, *fault), waited);
 }
 
 #[test]
