@@ -24,6 +24,8 @@ mod orders;
 #[cfg(test)]
 mod others;
 #[cfg(test)]
+mod ports;
+#[cfg(test)]
 mod runs;
 #[cfg(test)]
 mod served;
