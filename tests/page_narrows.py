@@ -15,18 +15,16 @@ import threading
 from collections import Counter
 from datetime import date, timedelta
 
-from selenium import webdriver
-from selenium.webdriver.chrome.service import Service
 from selenium.webdriver.common.action_chains import ActionChains
 from selenium.webdriver.common.keys import Keys
+
+from page_browser import Browser, check, CONTRASTS, SMALL_TARGETS
 
 PAGE = pathlib.Path(sys.argv[1]).resolve()
 TOOL, PICTURES = sys.argv[2:]
 PASSES = 1000
 SPOILED = 2000
 CAVEATS = 2000
-# How many passes or texts go to the page in one call.
-BATCH = 25
 FORMS = ["v1", "v2", "json"]
 FAULTS = {"This text is too long for a pass.": 1, "This text isn't a whole pass.": 2, "This pass has a third-party caveat.": 3,
           "This pass has too many limits.": 4}
@@ -36,11 +34,6 @@ WEEKDAYS = ["mon", "tue", "wed", "thu", "fri", "sat", "sun"]
 CHOICES = ["kind", "facility", "actions", "days", "weekday", "hours", "until", "guests", "spend"]
 AMY = "AgEJY2x1Yi1kZXNrAglrZXk6YW15LTEAAAYgDsU-vMVpq3Ex5_BQk6D5VX6TimC0IfCk7Dn6nv7TIJk"
 draw = random.Random(20260501)
-
-
-def check(holds, *what):
-    if not holds:
-        sys.exit("doesn't hold: " + "\n  ".join(str(each) for each in what))
 
 
 # ---- The formats
@@ -175,82 +168,8 @@ const read = (text) => {
 """
 
 
-class Browser:
-    """A chromium in which names lead nowhere but as the rules say; a script may run before the page's own."""
-
-    def __init__(self, rules="MAP * ~NOTFOUND", before=""):
-        options = webdriver.ChromeOptions()
-        for word in ["headless=new", "no-sandbox", "disable-gpu", "disable-dev-shm-usage", "lang=en-US", f"host-resolver-rules={rules}",
-                     "disable-features=HttpsUpgrades,HttpsFirstBalancedMode,HttpsFirstBalancedModeAutoEnable"]:
-            options.add_argument(f"--{word}")
-        options.set_capability("goog:loggingPrefs", {"browser": "ALL", "performance": "ALL"})
-        self.driver = webdriver.Chrome(options=options, service=Service("/usr/bin/chromedriver"))
-        self.driver.set_script_timeout(60)
-        if before:
-            self.command("Page.addScriptToEvaluateOnNewDocument", source=before)
-
-    def __enter__(self):
-        return self
-
-    def __exit__(self, *fault):
-        self.driver.quit()
-
-    def command(self, name, **words):
-        return self.driver.execute_cdp_cmd(name, words)
-
-    def open(self, address):
-        # By way of another page, so that an address with another end behind # is loaded anew.
-        self.driver.get("about:blank")
-        self.driver.get(address)
-
-    def run(self, script, *words):
-        return self.driver.execute_script(HELPERS + script, *words)
-
-    def each(self, function, items):
-        """What the helper returns of each item."""
-        script = HELPERS + f"""
-            const [items, done] = arguments;
-            (async () => {{
-              const answers = [];
-              for (const item of items) answers.push(await {function}(item));
-              done(answers);
-            }})();"""
-        answers = []
-        for place in range(0, len(items), BATCH):
-            answers += self.driver.execute_async_script(script, items[place:place + BATCH])
-        return answers
-
-    def press(self, *keys):
-        chain = ActionChains(self.driver)
-        for key in keys:
-            chain.send_keys(key)
-        chain.perform()
-
-    def click(self, name):
-        self.driver.find_element("id", name).click()
-
-    def focused(self):
-        return self.run("return document.activeElement.id || document.activeElement.value")
-
-    def sees(self, width, scheme, height=900):
-        self.command("Emulation.setEmulatedMedia", features=[{"name": "prefers-color-scheme", "value": scheme}])
-        self.command("Emulation.setDeviceMetricsOverride", width=width, height=height, deviceScaleFactor=1, mobile=width < 600)
-
-    def picture(self, top=0, height=None):
-        """A PNG in base64: of the whole page, or of a stripe of it."""
-        width, whole = self.run("const { offsetWidth, offsetHeight } = document.documentElement; return [offsetWidth, offsetHeight];")
-        clip = {"x": 0, "y": top, "width": width, "height": height or whole, "scale": 1}
-        return self.command("Page.captureScreenshot", captureBeyondViewport=True, clip=clip)["data"]
-
-    def sent_nothing(self, page):
-        """Nothing was loaded beside the page, and the console has no complaint."""
-        check(self.run("return performance.getEntriesByType('resource').length") == 0, "the page loads something")
-        messages = [json.loads(entry["message"])["message"] for entry in self.driver.get_log("performance")]
-        asked = [each["params"]["request"]["url"] for each in messages if each["method"] == "Network.requestWillBeSent"]
-        others = [address for address in asked if not address.startswith((page, "about:", "data:"))]
-        check(any(address.startswith(page) for address in asked) and not others, "the page asks for", others)
-        complaints = self.driver.get_log("browser")
-        check(not complaints, "the console says", complaints)
+class NarrowingPage(Browser):
+    helpers = HELPERS
 
 
 # ---- Drawn passes and caveats
@@ -877,12 +796,12 @@ def hands_on(page):
 
 def shares(address):
     record = "navigator.share = async (what) => { globalThis.shared = what; };"
-    with Browser(before=record) as page:
+    with NarrowingPage(before=record) as page:
         page.open(address)
         answer = page.each("narrow", [(AMY, [("kind", ["court"])])])[0]
         page.click("share")
         check(page.run("return globalThis.shared") == {"text": answer["text"]}, "what is shared")
-    with Browser(before="navigator.clipboard.writeText = async () => { throw new Error(); };") as page:
+    with NarrowingPage(before="navigator.clipboard.writeText = async () => { throw new Error(); };") as page:
         page.open(address)
         answer = page.each("narrow", [(AMY, [("kind", ["court"])])])[0]
         page.click("copy")
@@ -905,7 +824,7 @@ def only_shows_where_it_cannot_sign():
     """Over http from a name that isn't this machine's, browsers don't sign. All that is asked of the server is the page."""
     server = http.server.ThreadingHTTPServer(("127.0.0.1", 0), Folder)
     threading.Thread(target=server.serve_forever, daemon=True).start()
-    with Browser(rules="MAP club.example 127.0.0.1, MAP * ~NOTFOUND") as page:
+    with NarrowingPage(rules="MAP club.example 127.0.0.1, MAP * ~NOTFOUND") as page:
         address = f"http://club.example:{server.server_port}/pass.html"
         page.open(f"{address}#{AMY}")
         check(page.run("return window.isSecureContext") is False, "a page over http is no secure context")
@@ -938,32 +857,6 @@ def policy_holds():
     misplaced = r"innerHTML|outerHTML|insertAdjacentHTML|document\.write|eval\(|fetch\(|XMLHttpRequest|localStorage|WebSocket"
     check(not re.search(misplaced, text), "calls that have no place in the page")
     check(not re.search(r"url\(|@import", text), "styles that load something")
-
-
-CONTRASTS = """
-const channels = (color) => color.match(/[0-9.]+/g).map(Number);
-const bright = (color) => channels(color).slice(0, 3).map((c) => c / 255)
-  .map((c) => c <= 0.04045 ? c / 12.92 : ((c + 0.055) / 1.055) ** 2.4)
-  .reduce((sum, c, place) => sum + c * [0.2126, 0.7152, 0.0722][place], 0);
-const ground = (each) => {
-  const color = getComputedStyle(each).backgroundColor;
-  return (channels(color)[3] ?? 1) > 0 ? color : each.parentElement ? ground(each.parentElement) : "rgb(255, 255, 255)";
-};
-const faint = [];
-let count = 0;
-for (const each of document.querySelectorAll("body *")) {
-  const hasText = [...each.childNodes].some((node) => node.nodeType === 3 && node.data.trim()) || each.matches("input, select, textarea");
-  if (!hasText || each.offsetParent === null || each.tagName === "SCRIPT") continue;
-  const [a, b] = [bright(getComputedStyle(each).color), bright(ground(each))].sort((x, y) => y - x);
-  count += 1;
-  if ((a + 0.05) / (b + 0.05) < 4.5) faint.push(`${each.tagName} ${each.className} ${(a + 0.05) / (b + 0.05)}: ${each.textContent}`);
-}
-return [count, faint];
-"""
-SMALL_TARGETS = """
-return [...document.querySelectorAll("button, select, textarea, input:not([type=radio]):not([type=checkbox]), .options label")]
-  .filter((each) => each.offsetParent !== null && each.getBoundingClientRect().height < 44).map((each) => each.outerHTML.slice(0, 80));
-"""
 
 
 def named_for_screen_readers(page):
@@ -1035,7 +928,7 @@ def looks_right(page):
 def main():
     policy_holds()
     address = PAGE.as_uri()
-    with Browser() as page:
+    with NarrowingPage() as page:
         page.open(address)
         check(page.run("return window.isSecureContext && crypto.subtle !== undefined"), "a browser that signs in a page from a folder")
         narrows_as_passtool(page)

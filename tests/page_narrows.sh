@@ -23,4 +23,4 @@ command -v chromium >/dev/null && command -v chromedriver >/dev/null && "$python
 work=$(mktemp -d) || exit 2
 trap 'rm -rf "$work"' EXIT
 trap 'exit 2' INT TERM
-"$python" "$here/page_narrows.py" "$root/web/pass.html" "$tool" "${1:-$work}"
+PYTHONDONTWRITEBYTECODE=1 "$python" "$here/page_narrows.py" "$root/web/pass.html" "$tool" "${1:-$work}"

@@ -1,0 +1,122 @@
+"""A browser for the scripts that drive the pages, and what they look at in both: contrasts, targets, names for screen readers.
+
+Read by page_narrows.py and page_books.py. Wants Debian's chromium, chromium-driver and python3-selenium."""
+import json
+import sys
+
+from selenium import webdriver
+from selenium.webdriver.chrome.service import Service
+from selenium.webdriver.common.action_chains import ActionChains
+
+
+def check(holds, *what):
+    if not holds:
+        sys.exit("doesn't hold: " + "\n  ".join(str(each) for each in what))
+
+
+class Browser:
+    """A chromium in which names lead nowhere but as the rules say; a script may run before the page's own."""
+
+    helpers = ""  # functions for the scripts that `run` and `each` run
+    batch = 25  # how many items go to the page in one call
+
+    def __init__(self, rules="MAP * ~NOTFOUND", before="", language="en-US", words=()):
+        options = webdriver.ChromeOptions()
+        for word in ["headless=new", "no-sandbox", "disable-gpu", "disable-dev-shm-usage", f"lang={language}", f"host-resolver-rules={rules}",
+                     "disable-features=HttpsUpgrades,HttpsFirstBalancedMode,HttpsFirstBalancedModeAutoEnable", *words]:
+            options.add_argument(f"--{word}")
+        options.add_experimental_option("prefs", {"intl.accept_languages": language})
+        options.set_capability("goog:loggingPrefs", {"browser": "ALL", "performance": "ALL"})
+        self.driver = webdriver.Chrome(options=options, service=Service("/usr/bin/chromedriver"))
+        self.driver.set_script_timeout(60)
+        if before:
+            self.command("Page.addScriptToEvaluateOnNewDocument", source=before)
+
+    def __enter__(self):
+        return self
+
+    def __exit__(self, *fault):
+        self.driver.quit()
+
+    def command(self, name, **words):
+        return self.driver.execute_cdp_cmd(name, words)
+
+    def open(self, address):
+        # By way of another page, so that an address with another end behind # is loaded anew.
+        self.driver.get("about:blank")
+        self.driver.get(address)
+
+    def run(self, script, *words):
+        return self.driver.execute_script(self.helpers + script, *words)
+
+    def each(self, function, items):
+        """What the helper returns of each item."""
+        script = self.helpers + f"""
+            const [items, done] = arguments;
+            (async () => {{
+              const answers = [];
+              for (const item of items) answers.push(await {function}(item));
+              done(answers);
+            }})();"""
+        answers = []
+        for place in range(0, len(items), self.batch):
+            answers += self.driver.execute_async_script(script, items[place:place + self.batch])
+        return answers
+
+    def press(self, *keys):
+        chain = ActionChains(self.driver)
+        for key in keys:
+            chain.send_keys(key)
+        chain.perform()
+
+    def click(self, name):
+        self.driver.find_element("id", name).click()
+
+    def focused(self):
+        return self.run("return document.activeElement.id || document.activeElement.value")
+
+    def sees(self, width, scheme, height=900):
+        self.command("Emulation.setEmulatedMedia", features=[{"name": "prefers-color-scheme", "value": scheme}])
+        self.command("Emulation.setDeviceMetricsOverride", width=width, height=height, deviceScaleFactor=1, mobile=width < 600)
+
+    def picture(self, top=0, height=None):
+        """A PNG in base64: of the whole page, or of a stripe of it."""
+        width, whole = self.run("const { offsetWidth, offsetHeight } = document.documentElement; return [offsetWidth, offsetHeight];")
+        clip = {"x": 0, "y": top, "width": width, "height": height or whole, "scale": 1}
+        return self.command("Page.captureScreenshot", captureBeyondViewport=True, clip=clip)["data"]
+
+    def sent_nothing(self, page):
+        """Nothing was loaded beside the page, and the console has no complaint."""
+        check(self.run("return performance.getEntriesByType('resource').length") == 0, "the page loads something")
+        messages = [json.loads(entry["message"])["message"] for entry in self.driver.get_log("performance")]
+        asked = [each["params"]["request"]["url"] for each in messages if each["method"] == "Network.requestWillBeSent"]
+        others = [address for address in asked if not address.startswith((page, "about:", "data:"))]
+        check(any(address.startswith(page) for address in asked) and not others, "the page asks for", others)
+        complaints = self.driver.get_log("browser")
+        check(not complaints, "the console says", complaints)
+
+
+CONTRASTS = """
+const channels = (color) => color.match(/[0-9.]+/g).map(Number);
+const bright = (color) => channels(color).slice(0, 3).map((c) => c / 255)
+  .map((c) => c <= 0.04045 ? c / 12.92 : ((c + 0.055) / 1.055) ** 2.4)
+  .reduce((sum, c, place) => sum + c * [0.2126, 0.7152, 0.0722][place], 0);
+const ground = (each) => {
+  const color = getComputedStyle(each).backgroundColor;
+  return (channels(color)[3] ?? 1) > 0 ? color : each.parentElement ? ground(each.parentElement) : "rgb(255, 255, 255)";
+};
+const faint = [];
+let count = 0;
+for (const each of document.querySelectorAll("body *")) {
+  const hasText = [...each.childNodes].some((node) => node.nodeType === 3 && node.data.trim()) || each.matches("input, select, textarea");
+  if (!hasText || each.offsetParent === null || each.tagName === "SCRIPT") continue;
+  const [a, b] = [bright(getComputedStyle(each).color), bright(ground(each))].sort((x, y) => y - x);
+  count += 1;
+  if ((a + 0.05) / (b + 0.05) < 4.5) faint.push(`${each.tagName} ${each.className} ${(a + 0.05) / (b + 0.05)}: ${each.textContent}`);
+}
+return [count, faint];
+"""
+SMALL_TARGETS = """
+return [...document.querySelectorAll("button, select, textarea, input:not([type=radio]):not([type=checkbox]), .options label")]
+  .filter((each) => each.offsetParent !== null && each.getBoundingClientRect().height < 44).map((each) => each.outerHTML.slice(0, 80));
+"""

@@ -1,0 +1,70 @@
+// Caveats: each line that the desk understands, with its values, and the requests that it allows. All are far shorter than the 256 bytes
+// that a line may have.
+import { characters } from "./bytes.mjs";
+import { isDate, WEEKDAYS, weekdayOf } from "./dates.mjs";
+
+export const NAME = "[a-z0-9][a-z0-9-]{0,23}";
+const DATE = "20[0-9]{2}-[0-9]{2}-[0-9]{2}";
+export const KINDS = ["court", "boat", "room"];
+export const ACTIONS = ["view", "book", "cancel", "account"];
+
+// Of each kind of line: its pattern, and its values of what the pattern found, null where they are none.
+const LINES = {
+  facility: [`facility = (${NAME}(?:,${NAME}){0,7})`, (names) => ({ facilities: [...new Set(names.split(","))] })],
+  kind: [`kind = (${KINDS.join("|")})`, (kind) => ({ kind })],
+  hours: ["hours = ([0-9]{2})-([0-9]{2})", (from, to) => from < to && to <= "24" ? { from: Number(from), to: Number(to) } : null],
+  days: [`days = (${DATE})\\.\\.(${DATE})`, (first, last) => isDate(first) && isDate(last) && first <= last ? { first, last } : null],
+  weekday: ["weekday = ([a-z,]+)", (words) => chosenWords(words, WEEKDAYS)],
+  until: [`until < (${DATE})T((?:[01][0-9]|2[0-3]):[0-5][0-9])`, (date, time) => isDate(date) ? { date, time } : null],
+  guests: ["guests <= (0|[1-9]|[1-4][0-9])", (most) => ({ most: Number(most) })],
+  spend: ["spend <= (0|[1-9][0-9]{0,8})", (most) => ({ most: Number(most) })],
+  actions: ["actions = ([a-z,]+)", (words) => chosenWords(words, ACTIONS)],
+};
+const PATTERNS = Object.entries(LINES).map(([name, [pattern, values]]) => ({ name, pattern: new RegExp(`^${pattern}$`), values }));
+
+// A list with commas of some of the words, in their order.
+function chosenWords(text, known) {
+  const words = text.split(",");
+  const inOrder = known.filter((word) => words.includes(word));
+  return inOrder.join() === text ? { words } : null;
+}
+
+// The caveat with its name and values, or null where the desk doesn't understand it.
+export function readCaveat(bytes) {
+  const text = characters(bytes);
+  for (const { name, pattern, values } of PATTERNS) {
+    const found = pattern.exec(text);
+    if (found === null) continue;
+    const read = values(...found.slice(1));
+    return read === null ? null : { name, ...read };
+  }
+  return null;
+}
+
+// Whether a caveat allows what is asked: an action, at a moment of the club; of a slot its facility, kind (null for one that the club
+// hasn't), day and hour; of a booking its guests, what it owes, and what the key has spent. What isn't known is undefined, and then no
+// reason to deny: the desk decides.
+const TESTS = {
+  facility: (caveat, { slot }) => slot !== undefined && caveat.facilities.includes(slot.facility),
+  kind: (caveat, { slot }) => slot !== undefined && slot.kind === caveat.kind,
+  hours: (caveat, { slot }) => slot !== undefined && caveat.from <= slot.hour && slot.hour < caveat.to,
+  days: (caveat, { slot }) => slot !== undefined && caveat.first <= slot.day && slot.day <= caveat.last,
+  weekday: (caveat, { slot }) => slot !== undefined && caveat.words.includes(WEEKDAYS[weekdayOf(slot.day)]),
+  until: (caveat, { moment }) => moment < `${caveat.date}T${caveat.time}`,
+  guests: (caveat, { action, guests = 0 }) => action !== "book" || guests <= caveat.most,
+  spend: (caveat, { owed = 0, spent = 0 }) => owed === 0 || owed + spent <= caveat.most,
+  actions: (caveat, { action }) => caveat.words.includes(action),
+};
+
+export function allows(caveat, ask) {
+  return TESTS[caveat.name](caveat, ask);
+}
+
+// The number of the first caveat of a pass that denies what is asked, from 1, or 0 where each allows it. One that isn't understood denies.
+export function firstDenial(pass, ask) {
+  const place = pass.caveats.findIndex((bytes) => {
+    const caveat = readCaveat(bytes);
+    return caveat === null || !allows(caveat, ask);
+  });
+  return place + 1;
+}

@@ -1,0 +1,49 @@
+// Days, hours and minutes of the club's wall clock. Days are texts YYYY-MM-DD, moments texts YYYY-MM-DDTHH:MM. UTC only counts them:
+// no time zone comes in but in `momentIn`.
+
+export const WEEKDAYS = ["mon", "tue", "wed", "thu", "fri", "sat", "sun"];
+
+export function isDate(text) {
+  const date = new Date(`${text}T00:00Z`);
+  return !Number.isNaN(date.getTime()) && date.toISOString().startsWith(text);
+}
+
+// 0 is Monday.
+export function weekdayOf(day) {
+  return (new Date(`${day}T00:00Z`).getUTCDay() + 6) % 7;
+}
+
+export function daysLater(day, count) {
+  const date = new Date(`${day}T00:00Z`);
+  date.setUTCDate(date.getUTCDate() + count);
+  return date.toISOString().slice(0, 10);
+}
+
+export function hourText(hour) {
+  return String(hour).padStart(2, "0");
+}
+
+export function minutesOf(moment) {
+  return Date.parse(`${moment}Z`) / 60000;
+}
+
+export function startOf(slot) {
+  return `${slot.day}T${hourText(slot.hour)}:00`;
+}
+
+// The moment that a wall clock of the zone shows at an instant, which is in milliseconds.
+export function momentIn(zone, instant) {
+  const parts = new Intl.DateTimeFormat("en-u-ca-gregory-nu-latn", {
+    timeZone: zone, hourCycle: "h23", year: "numeric", month: "2-digit", day: "2-digit", hour: "2-digit", minute: "2-digit",
+  }).formatToParts(instant);
+  const value = Object.fromEntries(parts.map((each) => [each.type, each.value]));
+  return `${value.year.padStart(4, "0")}-${value.month}-${value.day}T${value.hour}:${value.minute}`;
+}
+
+export function isZone(name) {
+  try {
+    return typeof name === "string" && new Intl.DateTimeFormat("en", { timeZone: name }) !== null;
+  } catch {
+    return false;
+  }
+}

@@ -1,0 +1,288 @@
+// The page that narrows a pass. It loads and sends nothing.
+import { bytesOf, shown } from "./bytes.mjs";
+import { byName, element, put, sayAll } from "./elements.mjs";
+import { offerLanguages } from "./languages.mjs";
+import { canSign, FORM_NAMES, keyName, narrowed, pastedText, readPass, textOfFragment, writePass } from "./pass.mjs";
+import { Fault } from "./pass_faults.mjs";
+import { fact, faultContent, isAboutSlots, keyFacts, keyWarning, leavesOut, limitList, sentenceOf } from "./pass_words.mjs";
+import { say } from "./words.mjs";
+
+// ---- Choices: of each fieldset, by its id, the line that its fields make, "" where they are empty. In the order in which they are added.
+
+const CHOICES = {
+  kind: kindLine,
+  facility: facilityLine,
+  actions: (form) => listLine("actions", form),
+  days: daysLine,
+  weekday: (form) => listLine("weekday", form),
+  hours: hoursLine,
+  until: untilLine,
+  guests: (form) => numberLine("guests", form),
+  spend: (form) => numberLine("spend", form),
+};
+
+function kindLine(form) {
+  const kind = form.get("kind");
+  return kind && `kind = ${kind}`;
+}
+
+function untilLine(form) {
+  const moment = form.get("until");
+  return moment && `until < ${moment}`;
+}
+
+function facilityLine(form) {
+  const names = form.get("facility").split(/[\s,;]+/).filter((name) => name !== "");
+  return names.length > 0 ? `facility = ${names.join()}` : "";
+}
+
+function listLine(name, form) {
+  const words = form.getAll(name);
+  return words.length > 0 ? `${name} = ${words.join()}` : "";
+}
+
+function daysLine(form) {
+  const first = form.get("days-first");
+  const last = form.get("days-last");
+  return first || last ? `days = ${first}..${last}` : "";
+}
+
+function hoursLine(form) {
+  const from = form.get("hours-from");
+  const to = form.get("hours-to");
+  return from || to ? `hours = ${from}-${to}` : "";
+}
+
+function numberLine(name, form) {
+  const number = form.get(name).trim();
+  return number && `${name} <= ${number}`;
+}
+
+// ---- The page
+
+const given = byName("given");
+const choices = byName("choices");
+const narrowButton = byName("narrow");
+const result = byName("result");
+
+// The pass that was read from what is entered, or null.
+let pass = null;
+// How often a result was taken back. Signing takes a moment, and what was entered or chosen meanwhile makes its result an old one.
+let round = 0;
+
+function addressOf(text) {
+  return `${location.href.split("#")[0]}#${encodeURIComponent(text)}`;
+}
+
+function readGiven() {
+  const text = pastedText(given.value);
+  const isEntered = /[^ \t\r\n]/.test(text);
+  pass = null;
+  put("given-fault");
+  put("given-pass");
+  clearResult();
+  try {
+    if (isEntered) pass = readPass(text);
+  } catch (fault) {
+    if (!(fault instanceof Fault)) throw fault;
+    put("given-fault", ...faultContent(fault));
+  }
+  given.setAttribute("aria-invalid", String(isEntered && pass === null));
+  if (pass !== null) put("given-pass", ...passContent(pass, pass.caveats.length));
+}
+
+// What a pass says: whose key, and each of its limits. Those after the first `old` ones are marked as new.
+function passContent(shownPass, old) {
+  const { location, form } = shownPass;
+  const where = location.length > 0 ? say("location-hint", { location: shown(location) }) : say("none");
+  const facts = element("dl", "", ...keyFacts(shownPass), ...fact(say("form"), FORM_NAMES[form]), ...fact(say("location"), where));
+  return [facts, ...keyWarning(shownPass), limitList(shownPass, old)];
+}
+
+function fieldsIn(id) {
+  return [...byName(id).querySelectorAll("input, select")];
+}
+
+// The line that a fieldset makes: "" where it is empty, null where it is wrong.
+function chosenLine(id, form) {
+  if (fieldsIn(id).some((field) => field.validity.badInput)) return null; // a date that is half entered has no value
+  const line = CHOICES[id](form);
+  return line === "" || sentenceOf(bytesOf(line)) !== null ? line : null;
+}
+
+function chosenLines() {
+  const form = new FormData(choices);
+  return new Map(Object.keys(CHOICES).map((id) => [id, chosenLine(id, form)]));
+}
+
+// Shows below a fieldset what it adds. What is wrong comes when the person leaves it or narrows, not at the first key.
+function showChoice(id) {
+  const line = chosenLine(id, new FormData(choices));
+  put(`${id}-made`, ...(line ? [sentenceOf(bytesOf(line)), element("code", "", line)] : []));
+  if (line !== null) showWrong(id, false);
+}
+
+function changeChoice(event) {
+  clearResult();
+  showChoice(event.target.closest("fieldset").id);
+}
+
+function showWrong(id, isWrong) {
+  put(`${id}-wrong`, ...(isWrong ? [say(`wrong-${id}`)] : []));
+  for (const field of fieldsIn(id)) {
+    if (isWrong) field.setAttribute("aria-invalid", "true");
+    else field.removeAttribute("aria-invalid");
+  }
+}
+
+function leaveChoice(event) {
+  const fieldset = event.target.closest("fieldset");
+  // The button says it too, and would move away from under a mouse.
+  if (fieldset === null || fieldset.contains(event.relatedTarget) || event.relatedTarget === narrowButton) return;
+  showWrong(fieldset.id, chosenLine(fieldset.id, new FormData(choices)) === null);
+}
+
+// What is to be done before the pass can be narrowed, and where; null where nothing is.
+function obstacle(lines) {
+  if (!canSign()) return { field: given, message: say("obstacle-sign") };
+  if (pass === null) return { field: given, message: say("obstacle-pass") };
+  const wrong = [...lines.keys()].filter((id) => lines.get(id) === null);
+  for (const id of wrong) showWrong(id, true);
+  if (wrong.length > 0) return { field: fieldsIn(wrong[0])[0], message: say("obstacle-wrong") };
+  if ([...lines.values()].every((line) => line === "")) {
+    return { field: choices.querySelector("input"), message: say("obstacle-none") };
+  }
+  return null;
+}
+
+async function narrowChosen(event) {
+  event.preventDefault();
+  clearResult();
+  const lines = chosenLines();
+  const found = obstacle(lines);
+  if (found !== null) {
+    put("narrow-fault", found.message);
+    found.field.focus();
+    return;
+  }
+  const begun = round;
+  const old = pass.caveats.length;
+  try {
+    const narrower = await narrowed(pass, [...lines.values()].filter((line) => line !== ""));
+    if (begun === round) showResult(narrower, writePass(narrower), old);
+  } catch (fault) {
+    if (!(fault instanceof Fault)) throw fault;
+    put("narrow-fault", ...faultContent(fault, say("not-narrowed-title"), say("not-narrowed-advice")));
+  }
+}
+
+function showResult(narrower, text, old) {
+  put("result-pass", ...passContent(narrower, old));
+  put("result-notes", ...notesOn(narrower).map(([title, words]) => element("p", "note", element("strong", "", title), " ", words)));
+  byName("narrowed").value = text;
+  byName("address").value = addressOf(text);
+  put("address-note", location.protocol === "file:" ? say("address-local") : "");
+  result.hidden = false;
+  put("outcome", say("narrowed", { count: narrower.caveats.length - old }));
+  byName("result-title").focus();
+  result.scrollIntoView();
+}
+
+function clearResult() {
+  round += 1;
+  result.hidden = true;
+  for (const id of ["narrow-fault", "outcome", "narrowed-message", "address-message"]) put(id);
+}
+
+// What a person should know before handing this pass to somebody: titles with words.
+function notesOn(narrower) {
+  const { caveats } = narrower;
+  if (caveats.some((caveat) => sentenceOf(caveat) === null)) return [[say("note-refused-title"), say("note-refused")]];
+  const key = keyName(narrower) ?? say("the-key");
+  const notes = [];
+  if (!caveats.some((caveat) => leavesOut(caveat, "cancel"))) notes.push([say("note-cancel-title"), say("note-cancel", { key })]);
+  if (!caveats.some((caveat) => leavesOut(caveat, "account") || isAboutSlots(caveat))) {
+    notes.push([say("note-account-title"), say("note-account")]);
+  }
+  if (caveats.some((caveat) => shown(caveat).startsWith("spend <= "))) notes.push([say("note-points-title"), say("note-points", { key })]);
+  return notes;
+}
+
+// ---- Handing on
+
+async function copyField(id, what) {
+  const field = byName(id);
+  try {
+    await navigator.clipboard.writeText(field.value);
+    put(`${id}-message`, say(`copied-${what}`));
+  } catch {
+    field.focus();
+    field.select();
+    put(`${id}-message`, say(`selected-${what}`));
+  }
+}
+
+async function share() {
+  try {
+    await navigator.share({ text: byName("narrowed").value });
+    put("narrowed-message", say("shared"));
+  } catch {
+    put("narrowed-message", say("not-shared"));
+  }
+}
+
+// ---- The start
+
+function fillHours() {
+  const hours = Array.from({ length: 25 }, (_, hour) => String(hour).padStart(2, "0"));
+  byName("hours-from").append(...hours.slice(0, 24).map((hour) => new Option(`${hour}:00`, hour)));
+  byName("hours-to").append(...hours.slice(1).map((hour) => new Option(`${hour}:00`, hour)));
+}
+
+// Below each fieldset: what it adds, and what is wrong in it, which a screen reader says with its fields.
+function addMessages(id) {
+  const made = element("p", "made");
+  made.id = `${id}-made`;
+  made.setAttribute("role", "status");
+  const wrong = element("p", "wrong");
+  wrong.id = `${id}-wrong`;
+  wrong.setAttribute("role", "alert");
+  byName(id).append(made, wrong);
+  for (const field of fieldsIn(id)) {
+    const others = field.getAttribute("aria-describedby") ?? "";
+    field.setAttribute("aria-describedby", `${wrong.id} ${others}`.trim());
+  }
+}
+
+function takeFragment() {
+  if (location.hash.length < 2) return;
+  given.value = textOfFragment(location.hash);
+  readGiven();
+}
+
+// Says everything, from the beginning or in another language. A result is made once more by whoever wants it.
+function sayPage() {
+  sayAll();
+  if (!canSign()) put("unsigned", element("strong", "", say("unsigned-title")), say("unsigned"));
+  readGiven(); // a browser may have kept what was entered
+  Object.keys(CHOICES).forEach(showChoice);
+}
+
+function start() {
+  fillHours();
+  Object.keys(CHOICES).forEach(addMessages);
+  given.addEventListener("input", readGiven);
+  choices.addEventListener("input", changeChoice);
+  choices.addEventListener("focusout", leaveChoice);
+  choices.addEventListener("submit", narrowChosen);
+  byName("copy").addEventListener("click", () => copyField("narrowed", "pass"));
+  byName("copy-address").addEventListener("click", () => copyField("address", "address"));
+  byName("share").addEventListener("click", share);
+  byName("share").hidden = navigator.share === undefined;
+  window.addEventListener("hashchange", takeFragment);
+  narrowButton.disabled = !canSign();
+  offerLanguages(sayPage);
+  takeFragment();
+}
+
+start();

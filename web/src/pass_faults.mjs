@@ -1,0 +1,43 @@
+// Why a text is no pass that the desk takes, in the order in which it is looked for. A fault has a kind, and a sentence as the key of
+// the words' table with values; a value may itself be such a key.
+
+export const LONGEST_TEXT = 8192; // bytes
+export const MOST_CAVEATS = 64;
+
+export const TOO_LONG = "too-long";
+export const MALFORMED = "malformed";
+export const THIRD_PARTY = "third-party";
+export const TOO_MANY = "too-many";
+
+export class Fault extends Error {
+  constructor(kind, key, values = {}) {
+    super(key);
+    this.kind = kind;
+    this.key = key;
+    this.values = values;
+  }
+}
+
+export function malformed(key, values) {
+  throw new Fault(MALFORMED, key, values);
+}
+
+// What a sentence speaks of: the pass, a name of its JSON, a caveat, or a name of that.
+export const IT = { key: "subject-it" };
+
+export function itsName(name) {
+  return { key: "subject-its", values: { name } };
+}
+
+export function caveatNumber(number) {
+  return { key: "subject-caveat", values: { number } };
+}
+
+export function caveatName(number, name) {
+  return { key: "subject-caveats", values: { number, name } };
+}
+
+// The part of a pass in which something is wrong.
+export function part(name) {
+  return { key: `part-${name}` };
+}

@@ -1,0 +1,75 @@
+// What a pass says to a person, on both pages.
+import { characters, shown } from "./bytes.mjs";
+import { readCaveat } from "./caveats.mjs";
+import { hourText } from "./dates.mjs";
+import { element } from "./elements.mjs";
+import { keyName } from "./pass.mjs";
+import { dateText, listed, say } from "./words.mjs";
+
+// Of each kind of line what it says.
+const SENTENCES = {
+  facility: ({ facilities }) => say("limit-only", { what: listed(facilities) }),
+  kind: ({ kind }) => say("limit-only", { what: say(`kinds-${kind}`) }),
+  hours: ({ from, to }) => say("limit-hours", { from: hourText(from), to: hourText(to) }),
+  days: ({ first, last }) => first === last
+    ? say("limit-day", { day: dateText(first) })
+    : say("limit-days", { first: dateText(first), last: dateText(last) }),
+  weekday: ({ words }) => say("limit-weekday", { days: listed(words.map((word) => say(`on-${word}`))) }),
+  until: ({ date, time }) => say("limit-until", { day: dateText(date), time }),
+  guests: ({ most }) => most === 0 ? say("limit-no-guests") : say("limit-guests", { count: most }),
+  spend: ({ most }) => most === 0 ? say("limit-no-points") : say("limit-points", { count: most }),
+  actions: ({ words }) => say("limit-actions", { actions: listed(words.map((word) => say(`action-${word}`))) }),
+};
+
+// What a caveat says to a person, or null where the desk doesn't understand it.
+export function sentenceOf(bytes) {
+  const caveat = readCaveat(bytes);
+  return caveat === null ? null : SENTENCES[caveat.name](caveat);
+}
+
+export function faultText(fault) {
+  return say(fault.key, fault.values);
+}
+
+// Title, message and advice, each an element.
+export function faultContent(fault, title = say(`${fault.kind}-title`), advice = say(`${fault.kind}-advice`)) {
+  return [element("strong", "", title), element("span", "", faultText(fault)), element("span", "", advice)];
+}
+
+export function keyFacts(pass) {
+  const name = keyName(pass);
+  return name !== null ? fact(say("key"), name, "key") : fact(say("identifier"), shown(pass.identifier) || say("empty"), "key");
+}
+
+export function fact(name, value, className = "") {
+  return [element("dt", "", name), element("dd", className, value)];
+}
+
+export function keyWarning(pass) {
+  if (keyName(pass) !== null) return [];
+  return [element("p", "note", element("strong", "", say("no-key-title")), " ", say("no-key"))];
+}
+
+// The limits of a pass as a list. Those after the first `old` ones are marked as new.
+export function limitList(pass, old = pass.caveats.length) {
+  const limits = element("ol", "limits", ...pass.caveats.map((caveat, index) => limitContent(caveat, index >= old)));
+  limits.setAttribute("aria-label", say("limits"));
+  return pass.caveats.length > 0 ? limits : element("p", "", say("no-limits"));
+}
+
+function limitContent(caveat, isNew) {
+  const sentence = sentenceOf(caveat);
+  const words = sentence === null ? element("span", "odd", say("limit-odd")) : element("span", "", sentence);
+  const mark = isNew ? [" ", element("span", "new", say("new"))] : [];
+  return element("li", "", words, ...mark, element("code", "", shown(caveat) || say("empty")));
+}
+
+// Of lines that are understood: whether one leaves an action out, and whether it allows no request that isn't about a slot.
+export function leavesOut(bytes, action) {
+  const line = characters(bytes);
+  return line.startsWith("actions = ") && !line.includes(action);
+}
+
+export function isAboutSlots(bytes) {
+  return /^(?:facility|kind|hours|days|weekday) /.test(characters(bytes));
+}
