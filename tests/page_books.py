@@ -1,0 +1,1285 @@
+"""Drives the page on which a member looks, books and cancels, against the desk behind nginx with TLS.
+
+Run by page_books.sh in a folder of its own, with key.pem and certificate.pem: TOP CLUBDESK PASSTOOL FOLDER KILLS BOOKINGS, the
+repository's top and the folder for pictures."""
+import atexit
+import base64
+import contextlib
+import hashlib
+import json
+import os
+import pathlib
+import random
+import re
+import shutil
+import signal
+import socket
+import sqlite3
+import subprocess
+import sys
+import threading
+import time
+from collections import Counter
+from datetime import datetime, timedelta, timezone
+
+from selenium.webdriver.common.keys import Keys
+
+from page_browser import Browser, check, CONTRASTS, SMALL_TARGETS
+
+TOP, DESK, TOOL, PICTURES = sys.argv[1:5]
+KILLS, BOOKINGS = int(sys.argv[5]), int(sys.argv[6])
+ROOT = "00112233445566778899aabbccddeeff"
+draw = random.Random(20260501)
+# The club is in a zone of whole hours in which it is about noon now, so that today has hours before and after. Etc's names have the sign
+# turned round, as have POSIX's rules.
+AHEAD = 12 - datetime.now(timezone.utc).hour
+ZONE = f"Etc/GMT{-AHEAD:+d}" if AHEAD else "Etc/GMT"
+RULE = f"<{AHEAD:+03d}>{-AHEAD}" if AHEAD else "GMT0"
+FACILITIES = [("court-1", "Court 1", "court", 4, 200, 8, 22), ("court-2", "Court 2", "court", 4, 200, 8, 22),
+              ("court-3", "Court 3 (indoor)", "court", 2, 300, 8, 22), ("boat-1", "Double scull", "boat", 2, 150, 6, 22),
+              ("boat-2", "Coxed four", "boat", 4, 250, 6, 22), ("room-1", None, "room", 1, 601, 8, 22)]
+CELLS = sum(shuts - opens for *_, opens, shuts in FACILITIES)
+
+
+def now():
+    return datetime.now(timezone.utc) + timedelta(hours=AHEAD)
+
+
+def day(count=0):
+    return f"{(now() + timedelta(days=count)).date()}"
+
+
+# ---- The desk, the proxy, and what is between them
+
+
+def free_port():
+    with socket.create_server(("127.0.0.1", 0)) as found:
+        return found.getsockname()[1]
+
+
+class Server:
+    """clubdesk's server over the file `club`, which can be killed and started again at the same port."""
+
+    def __init__(self):
+        self.port, self.process = free_port(), None
+
+    def start(self):
+        words = [DESK, "serve", "club", "--port", str(self.port), "--count", "1000000", "--zone", RULE, "--log"]
+        self.process = subprocess.Popen(words, stdout=subprocess.PIPE, stderr=open("log", "ab"), text=True)
+        check(self.process.stdout.readline().startswith("listening"), "the server ended", self.process.poll())
+
+    def kill(self):
+        if self.process is not None:
+            self.process.kill()
+            self.process.wait()
+            self.process = None
+
+    def asked(self):
+        """How often each method and path was asked, by the server's log."""
+        with open("log", encoding="utf-8") as log:
+            return Counter(tuple(line.split()[1:3]) for line in log)
+
+
+class Between:
+    """Passes connections on to the desk. `fates` says what becomes of the next ones whose request begins with a method, in order."""
+
+    def __init__(self, server):
+        self.server, self.fates, self.delay = server, {}, 0
+        self.listener = socket.create_server(("127.0.0.1", 0), backlog=200)
+        self.port = self.listener.getsockname()[1]
+        threading.Thread(target=self.listen, daemon=True).start()
+
+    def listen(self):
+        while True:
+            client, _ = self.listener.accept()
+            threading.Thread(target=self.serve, args=[client], daemon=True).start()
+
+    def serve(self, client):
+        with contextlib.suppress(OSError), client:
+            request = b""
+            while b"\r\n\r\n" not in request:
+                request += client.recv(4096)
+            length = re.search(rb"content-length: (\d+)", request, re.I)
+            while length and len(request.split(b"\r\n\r\n", 1)[1]) < int(length[1]):
+                request += client.recv(4096)
+            waiting = self.fates.get(request.split()[0].decode(), [])
+            self.fulfil(client, request, waiting.pop(0) if waiting else "reply")
+
+    def fulfil(self, client, request, fate):
+        kind, _, detail = fate.partition(" ")
+        if kind == "answer":
+            status, body = detail.split(" ", 1)
+            client.sendall(f"HTTP/1.1 {status} X\r\nContent-Length: {len(body)}\r\nConnection: close\r\n\r\n{body}".encode())
+        elif kind == "slow":
+            time.sleep(float(detail))
+            self.fulfil(client, request, "reply")
+        elif kind == "late":  # it is carried out, and the reply comes late
+            reply = self.exchanged(request)
+            time.sleep(float(detail))
+            client.sendall(reply)
+        elif kind != "silent":
+            reply = self.exchanged(request)
+            client.sendall(reply[:{"swallowed": 0, "head-cut": 40, "body-cut": len(reply) - 5}.get(kind, len(reply))])
+
+    def exchanged(self, request):
+        with socket.create_connection(("127.0.0.1", self.server.port)) as desk:
+            desk.sendall(request)
+            reply = b""
+            while piece := desk.recv(4096):
+                reply += piece
+        return reply
+
+
+def start_proxy(upstream):
+    """nginx by the stored configuration, at another port, before another desk, with the pages of the folder `www`."""
+    front = free_port()
+    site = pathlib.Path(TOP, "deploy/nginx.conf").read_text()
+    here = os.getcwd()
+    for old, new in [("/etc/ssl/clubdesk/", f"{here}/"), (":8080", f":{upstream}"), ("/var/www/clubdesk", f"{here}/www"),
+                     ("    listen [::]:443 ssl http2;\n", ""), ("listen 443", f"listen 127.0.0.1:{front}")]:
+        check(old in site, "the stored configuration has no", old)
+        site = site.replace(old, new)
+    pathlib.Path("site.conf").write_text(site)
+    pathlib.Path("nginx.conf").write_text(f"user root;\npid {here}/nginx.pid;\nerror_log {here}/error.log;\nevents {{}}\n"
+                                          f"http {{ include {here}/site.conf; }}\n")
+    process = subprocess.Popen(["nginx", "-c", f"{here}/nginx.conf", "-g", "daemon off;"])
+    atexit.register(process.terminate)
+    for _ in range(100):
+        with contextlib.suppress(OSError), socket.create_connection(("127.0.0.1", front)):
+            return front
+        time.sleep(0.1)
+    return sys.exit("nginx doesn't listen")
+
+
+def office(*words, given=None):
+    done = subprocess.run([DESK, words[0], "club", *map(str, words[1:])], input=given, capture_output=True, text=True)
+    check(done.returncode == 0, words, done.stderr)
+    return done.stdout.strip()
+
+
+def narrowed(text, *lines):
+    return subprocess.run([TOOL, "narrow", *lines], input=text, capture_output=True, text=True, check=True).stdout.strip()
+
+
+def rows(question, *values):
+    """Rows of the club, from a copy of the file as deploy/back_up makes it."""
+    pathlib.Path("copy").unlink(missing_ok=True)
+    subprocess.run([f"{TOP}/deploy/back_up", "club", "copy"], check=True, stdout=subprocess.DEVNULL)
+    with contextlib.closing(sqlite3.connect("copy")) as club:
+        return club.execute(question, values).fetchall()
+
+
+def make_club():
+    """The club of all tests, and the passes of its keys."""
+    passes = {}
+    for name, quota in [("amy", 99), ("bob", 2), ("hall", 0)]:
+        office("add-member", name, quota)
+    office("credit", "amy", 999999)
+    office("credit", "bob", 700)
+    for name, _, *rest in FACILITIES:
+        office("add-facility", name, *rest)
+    for place, (key, member) in enumerate([("amy-1", "amy"), ("amy-phone", "amy"), ("bob-1", "bob"), ("bob-2", "bob"), ("hall-screen", "hall"),
+                                           ("kill-1", "amy"), ("amy-son", "amy"), ("other", "amy"),
+                                           ("fails-1", "amy"), ("ends-1", "amy"), ("tabs-1", "amy"), ("browser-1", "amy"), ("full-1", "amy")]):
+        passes[key] = office("add-key", key, member, f"{place:02x}" + ROOT)
+    return passes
+
+
+def club_list(titles="titles"):
+    pathlib.Path("titles").write_text("".join(f"{name} {title}\n" for name, title, *_ in FACILITIES if title))
+    environment = {**os.environ, "RULE": RULE, "CLUB": "Rowing & tennis", "TITLES": titles}
+    return subprocess.run([f"{TOP}/deploy/club_json", "club", ZONE], env=environment, capture_output=True, text=True)
+
+
+# ---- The browser
+
+HELPERS = """
+const shownText = (id) => byName(id).innerText.trim();
+const isShown = (id) => byName(id).offsetParent !== null;
+const cellAt = (facility, hour) => cells.get(`${facility} ${hour}`);
+const dialogText = () => byName("dialog").open ? byName("dialog").innerText : "";
+const settled = async (holds, limit = 20000) => {
+  const end = Date.now() + limit;
+  while (!holds()) {
+    if (Date.now() > end) return false;
+    await new Promise((next) => setTimeout(next, 20));
+  }
+  return true;
+};
+const dayIsThere = () => byName("progress").hidden && byName("looked").textContent.includes(":");
+const pressIn = (root, words) => {
+  const found = [...root.querySelectorAll("button")].find((each) => each.offsetParent !== null && !each.disabled
+    && (each.textContent.trim() === words || each.getAttribute("aria-label") === words));
+  if (found === undefined) throw new Error(`no button ${words} in ${root.innerText}`);
+  found.click();
+};
+"""
+
+
+class BookingPage(Browser):
+    helpers = HELPERS
+
+    def __init__(self, front, before="", language="en-US", words=(), zone="America/New_York"):
+        self.address = f"https://desk.example.org:{front}/book.html"
+        super().__init__(rules="MAP desk.example.org 127.0.0.1, MAP * ~NOTFOUND", before=before, language=language,
+                         words=["ignore-certificate-errors", *words])
+        self.command("Emulation.setTimezoneOverride", timezoneId=zone)
+
+    def when(self, condition, *what, limit=20):
+        found = self.driver.execute_async_script(self.helpers + f"""
+            const done = arguments[0];
+            settled(() => {condition}, {limit * 1000}).then(done);""")
+        check(found, *what, condition, self.run("return document.body.innerText"), self.driver.get_log("browser"))
+
+    def enter(self, text):
+        self.open(f"{self.address}#{text}" if text else self.address)
+        if text:
+            self.when("isShown('day') && dayIsThere()", "the day of a pass")
+
+    def go(self, wanted):
+        self.run("showDay(arguments[0])", wanted)
+        self.when(f"shownDay() === '{wanted}' && dayIsThere()", "a day")
+
+    def offer(self, facility, hour):
+        self.run("cellAt(...arguments).button.click()", facility, hour)
+
+    def press(self, words, root="dialog"):
+        self.run("pressIn(byName(arguments[0]), arguments[1])", root, words)
+
+    def keys(self, *keys):
+        super().press(*keys)
+
+    def book(self, facility, hour, guests=0):
+        """Books in the dialog, without waiting for what comes of it."""
+        self.offer(facility, hour)
+        for _ in range(guests):
+            self.press("One guest more")
+        self.run("byName('dialog').querySelector('.main').click()")
+
+    def booked(self, facility, hour, guests=0):
+        self.book(facility, hour, guests)
+        self.when("dialogText().includes('Booked.')", "a booking", facility, hour)
+        self.press("Close")
+        return self.entries()[-1]
+
+    def entries(self):
+        return self.driver.execute_async_script("""
+            const done = arguments[0];
+            state.store.all().then((entries) => done(entries.sort((a, b) => a.asked - b.asked)));""")
+
+    def view(self, name):
+        self.run("byName(`to-${arguments[0]}`).click()", name)
+
+    def requests(self):
+        """What was asked of the network since the last call: methods and addresses."""
+        messages = [json.loads(entry["message"])["message"] for entry in self.driver.get_log("performance")]
+        sent = [each["params"]["request"] for each in messages if each["method"] == "Network.requestWillBeSent"]
+        return [(each["method"], each["url"]) for each in sent]
+
+    def complaints(self):
+        """What the console says but for replies that are refusals."""
+        return [each["message"] for each in self.driver.get_log("browser") if "the server responded with a status" not in each["message"]
+                and "net::ERR_" not in each["message"]]
+
+
+def amounts(key):
+    """What the file has of a key: facility, day, hour, guests, charge, left, cancelled, refund by number."""
+    found = rows("SELECT number, facility, date(day * 86400, 'unixepoch'), hour, guests, charge, remains, cancelled, refund FROM bookings "
+                 "WHERE pass_key = ?", key)
+    return {number: tuple(rest) for number, *rest in found}
+
+
+def recorded(entries, key):
+    """The same of the page's record."""
+    return {each["number"]: (each["facility"], each["day"], each["hour"], each["guests"], each["book"]["charge"], each["book"]["left"],
+                             int("cancel" in each), (each.get("cancel") or {}).get("refund", 0))
+            for each in entries if each["key"] == key and "fault" not in (each["book"] or {})}
+
+
+def same_record(page, key):
+    found, wanted = recorded(page.entries(), key), amounts(key)
+    check(found == wanted, "the record and the file differ", sorted(set(found.items()) ^ set(wanted.items())))
+    return len(found)
+
+
+def totals_are_sums():
+    for question in ("SELECT name FROM members WHERE used <> (SELECT total(charge - refund) FROM bookings JOIN keys ON keys.name = pass_key"
+                     " WHERE member = members.name)",
+                     "SELECT * FROM slots s WHERE taken <> (SELECT total(guests + 1) FROM bookings b WHERE cancelled = 0"
+                     " AND b.facility = s.facility AND b.day = s.day AND b.hour = s.hour)"):
+        check(not rows(question), "totals that aren't the sums", rows(question))
+
+
+# ---- The checks
+
+
+def books_and_cancels(page, passes):
+    """A member who got a link: looks, books, sees and cancels."""
+    page.enter(passes["amy-1"])
+    check("#" not in page.driver.current_url, "the address is cleaned", page.driver.current_url)
+    check(page.run("return document.documentElement.scrollWidth <= innerWidth"), "sideways scrolling")
+    page.press("Keep it", "notices")
+    page.go(day(2))
+    looks = page.run("return cellAt('court-1', 18).button.innerText.split('\\n')")
+    check(looks == ["4 of 4 free", "200 points"], "a free slot", looks)
+    check(page.run("return cellAt('room-1', 18).button.innerText.split('\\n')") == ["Free", "601 points"], "a free room")
+    page.offer("court-1", 18)
+    page.press("One guest more")
+    page.press("One guest more")
+    text = page.run("return dialogText()")
+    for words in ("Book Court 1", "18:00", "4 places are free", "600 points", "999,399 points", "1 of 99", "Book for 600 points"):
+        check(words in text, "what a booking costs", words, text)
+    page.press("Book for 600 points")
+    page.when("dialogText().includes('Booked.')", "a booking")
+    check("600 points. Number" in page.run("return dialogText()"), "what came of it")
+    page.press("Close")
+    page.when("cellAt('court-1', 18).button.innerText.includes('Yours, 3 persons')", "my slot")
+    same_record(page, "amy-1")
+    page.view("bookings")
+    card = page.run("return byName('to-come').innerText")
+    for words in ("Court 1", "Booked", "3 persons", "600 points", "cancelling gives back all, 600 points"):
+        check(words in card, "a booking in the list", words, card)
+    page.run("byName('to-come').querySelector('button').click()")
+    check("Cancelling now gives back 600 points" in page.run("return dialogText()"), "one question")
+    page.press("Cancel the booking")
+    page.when("dialogText().includes('600 points came back')", "a cancellation")
+    page.press("Close")
+    page.when("byName('to-come').innerText.includes('Cancelled, 600 points came back')", "what is cancelled")
+    # Less than a day ahead half comes back.
+    page.view("day")
+    page.go(day(0))
+    hour = now().hour + 2
+    entry = page.booked("room-1", hour)
+    page.view("bookings")
+    page.run("byName('to-come').querySelector('.booked button').click()")
+    check("gives back 300 points" in page.run("return dialogText()"), "half of it", page.run("return dialogText()"))
+    page.press("Cancel the booking")
+    page.when("dialogText().includes('300 points came back')", "half of it")
+    page.press("Close")
+    check(amounts("amy-1")[entry["number"]][-1] == 300, "the refund in the file")
+    same_record(page, "amy-1")
+    page.view("account")
+    page.when("byName('account-facts').innerText.includes('999,698')", "the account")
+    check("0 of 99" in page.run("return byName('account-facts').innerText"), "the account")
+    # The pass is kept: another visit needs no link, and forgets it where the member says so.
+    page.open(page.address)
+    page.when("isShown('day') && dayIsThere()", "another visit")
+    page.view("account")
+    check("The pass is kept in this browser." in page.run("return shownText('account')"), "where the pass is")
+    page.press("Forget the pass", "account")
+    page.press("Forget the pass")
+    page.when("isShown('welcome')", "a forgotten pass")
+    page.open(page.address)
+    page.when("isShown('welcome')", "a forgotten pass, at the next visit")
+    check("Cancelled" in page.run("return byName('other-part').hidden ? '' : byName('others').textContent"), "its record stays")
+    # By paste, for the tab.
+    page.run("byName('given').value = `https://desk.example.org/book.html#${arguments[0]}\\n`; byName('use').click()", passes["amy-1"])
+    page.when("isShown('day') && dayIsThere()", "a pasted pass")
+    page.driver.refresh()
+    page.when("isShown('day') && dayIsThere()", "a pass of this tab")
+    page.driver.switch_to.new_window("tab")
+    page.open(page.address)
+    page.when("isShown('welcome')", "a pass of another tab")
+    page.driver.close()
+    page.driver.switch_to.window(page.driver.window_handles[0])
+    print("a member who got a link books and cancels, whole and half; the pass is kept, forgotten, pasted")
+
+
+def day_says_what_is(page, passes):
+    """Each state of a slot; the days that can be chosen."""
+    office("close-slot", "court-2", day(3), "10")
+    page.enter(passes["bob-1"])
+    page.go(day(3))
+    words = {place: page.run("return cellAt(...arguments).button.innerText.replace(/\\s+/g, ' ')", *place) for place in [("court-2", 10), ("court-2", 11)]}
+    check(words[("court-2", 10)] == "Closed" and words[("court-2", 11)] == "4 of 4 free 200 points", "a closed slot", words)
+    check(page.run("return cellAt('court-2', 10).button.disabled"), "a closed slot can't be pressed")
+    other = passes["other"]
+    number = draw.randrange(1, 10**9)
+    reply = curl(page, "PUT", f"/slots/court-2/{day(3)}/12/bookings/{number}", other, '{"guests":3}')
+    check(reply.endswith("200"), "another member's booking", reply)
+    page.run("look()")
+    page.when("cellAt('court-2', 12).button.innerText === 'Full'", "a full slot")
+    curl(page, "DELETE", f"/slots/court-2/{day(3)}/12/bookings/{number}", other)
+    # Today: what has begun is over, by the club's clock, and is not asked for.
+    page.requests()
+    page.go(day(0))
+    hour = now().hour
+    check(page.run("return cellAt('court-1', arguments[0]).button.innerText", hour) == "Over", "an hour that has begun")
+    check("free" in page.run("return cellAt('court-1', arguments[0]).button.innerText", hour + 1), "the next hour")
+    asked = [address for method, address in page.requests() if f"/slots/" in address and method == "GET"]
+    check(asked and all(int(address[-2:]) > hour for address in asked), "hours that are over aren't asked for", asked)
+    check(page.run("return byName('day-before').disabled"), "no day before today")
+    page.go(day(60))
+    check(page.run("return byName('day-after').disabled"), "no day after the last")
+    check(page.run("return cellAt('court-1', arguments[0]).button.innerText", hour) != "Not yet", "60 days ahead")
+    check(page.run("return cellAt('court-1', arguments[0]).button.innerText", hour + 1) == "Not yet", "more than 60 days ahead")
+    for wanted, words in [(day(61), "You can book from today"), (day(-1), "This day is over")]:
+        page.run("showDay(arguments[0])", wanted)
+        page.when("dayIsThere()", "a day out of the 60")
+        check(words in page.run("return shownText('day-fault')"), "a day out of the 60", wanted, page.run("return shownText('day-fault')"))
+        check(page.run("return [...cells.values()].every((cell) => cell.button.disabled)"), "nothing to press", wanted)
+    print("closed, full, over, not yet; nothing to press out of the 60 days")
+
+
+def curl(page, method, path, text, body=None):
+    port = page.address.split(":")[2].split("/")[0]
+    words = ["curl", "-sS", "--noproxy", "*", "--cacert", "certificate.pem", "--resolve", f"desk.example.org:{port}:127.0.0.1", "-w", " %{http_code}",
+             "-X", method, "-H", f"Authorization: Bearer {text}", f"https://desk.example.org:{port}{path}"]
+    return subprocess.run([*words, *(["-d", body] if body else [])], capture_output=True, text=True, check=True).stdout
+
+
+def leaves_out_what_the_pass_denies(page, passes):
+    whole = passes["amy-1"]
+    page.enter(narrowed(whole, "kind = court"))
+    heads = page.run("return [...byName('slots').querySelectorAll('th.facility')].map((each) => each.textContent)")
+    check(heads == ["Court 1", "Court 2", "Court 3 (indoor)"], "a pass of courts shows no rooms", heads)
+    page.view("account")
+    page.when("byName('account-facts').innerText.includes('Only courts.')", "a pass of courts shows no account")
+    page.enter(narrowed(whole, "actions = view,book", "hours = 10-12", "guests <= 1"))
+    page.go(day(4))
+    cells = page.run("return [9, 10, 11, 12].map((hour) => cellAt('court-1', hour).button.innerText.split('\\n')[0])")
+    check(cells == ["Not with your pass", "4 of 4 free", "4 of 4 free", "Not with your pass"], "a pass of hours", cells)
+    page.offer("court-1", 10)
+    page.press("One guest more")
+    check(page.run("return [...byName('dialog').querySelectorAll('.step-button')][1].disabled"), "no more guests than the pass allows")
+    page.run("byName('dialog').querySelector('.main').click()")
+    page.when("dialogText().includes('Booked.')", "a booking under a narrowed pass")
+    page.press("Close")
+    page.view("bookings")
+    check(page.run("return byName('to-come').querySelector('.booked button') === null"), "a pass without cancel shows no button to cancel")
+    limits = page.run("byName('to-account').click(); return [...document.querySelectorAll('#pass-limits li span')].map((each) => each.textContent)")
+    check(limits == ["Only to look at slots or book.", "Only slots that begin at 10:00 or later and before 12:00.", "Bookings with at most 1 guest."],
+          "what a pass allows", limits)
+    page.enter(narrowed(whole, "actions = view"))
+    check(page.run("return [...cells.values()].every((cell) => cell.button.disabled)"), "a pass that looks books nothing")
+    page.enter(narrowed(whole, "until < 2026-01-01T00:00"))
+    text = page.run("return shownText('day-fault')")
+    check("Until Thursday 1 January 2026, 00:00." in text, "a pass whose time is over", text)
+    page.enter(narrowed(whole, "actions = book,cancel"))
+    page.go(day(5))
+    check(page.run("return cellAt('court-1', 15).button.innerText") == "Book", "a pass that doesn't look books")
+    page.booked("court-1", 15)
+    # The desk decides: a limit of points that the page can't see bites.
+    page.enter(narrowed(whole, "spend <= 0"))
+    page.go(day(5))
+    page.book("court-1", 16)
+    page.when("dialogText().includes('Not booked.')", "a refusal")
+    text = page.run("return dialogText()")
+    check("Your pass doesn't allow this: Nothing that costs points." in text, "why", text)
+    page.press("Close")
+    check(not page.run("return isDialogOpen()"), "a closed dialog")
+    same_record(page, "amy-1")
+    print("what a pass leaves out isn't shown, and the desk decides")
+
+
+def refusals_say_what_to_do(page, passes, between):
+    """Those that a member meets, by the desk; the others as somebody in between would send them; each in both languages."""
+    page.enter(passes["bob-1"])
+    page.go(day(6))
+    page.booked("court-1", 9)
+    page.booked("court-1", 10)
+    page.book("court-1", 11)
+    page.when("dialogText().includes('as many open bookings as you may have')", "fault 19")
+    page.press("Close")
+    page.run("offerCancellation(ownEntries()[0], () => {})")
+    page.press("Cancel the booking")
+    page.when("dialogText().includes('came back')", "a cancellation")
+    page.press("Close")
+    page.book("room-1", 11)
+    page.when("dialogText().includes('enough points')", "fault 20")
+    page.press("Close")
+    # A slot that fills, or is closed, between the look and the press.
+    curl(page, "PUT", f"/slots/court-3/{day(6)}/12/bookings/77", passes["other"], '{"guests":1}')
+    page.book("court-3", 12)
+    page.when("dialogText().includes('Not enough places are free any more')", "fault 18")
+    page.press("Close")
+    curl(page, "DELETE", f"/slots/court-3/{day(6)}/12/bookings/77", passes["other"])
+    office("close-slot", "court-3", day(6), "13")
+    page.book("court-3", 13)
+    page.when("dialogText().includes('The office closed this slot')", "fault 17")
+    page.press("Close")
+    page.when("cellAt('court-3', 13).button.innerText === 'Closed'", "a slot that was looked at again")
+    # A number that the key used already: another one is taken by itself.
+    used = 123456789
+    curl(page, "PUT", f"/slots/court-2/{day(6)}/12/bookings/{used}", passes["amy-1"], '{"guests":1}')
+    curl(page, "DELETE", f"/slots/court-2/{day(6)}/12/bookings/{used}", passes["amy-1"])
+    page.enter(passes["amy-1"])
+    page.go(day(6))
+    page.run("""const numbers = [arguments[0], 987654321]; state.sender.draw = () => numbers.shift();""", used)
+    page.book("court-2", 13)
+    page.when("dialogText().includes('Booked.')", "a booking after fault 13")
+    check("987654321" in page.run("return dialogText()"), "another number", page.run("return dialogText()"))
+    page.press("Close")
+    sentences = {}
+    for language in ("en", "de"):
+        page.run("useWords(WORDS, arguments[0])", language)
+        for fault in range(1, 23):
+            for action in ("book", "cancel"):
+                text = page.run("return refusalText({ fault: arguments[0], caveat: 1 }, arguments[1])", fault, action)
+                check(len(text) > 20 and "{" not in text and "undefined" not in text, "a fault without a sentence", language, fault, text)
+                sentences.setdefault(text, []).append((language, fault))
+        page.run("useWords(WORDS, 'en')")
+    check(all(len({fault for _, fault in of}) == 1 for of in sentences.values()), "two faults with one sentence", sentences)
+    # Refusals of the pass: the day says it once.
+    for fault, status, words in [(9, 401, "doesn't know this pass"), (10, 403, "was revoked"), (4, 401, "didn't arrive")]:
+        between.fates["GET"] = [f'answer {status} {{"fault":{fault},"text":"x"}}'] * 200
+        page.run("showDay()")
+        page.when(f"shownText('day-fault').includes(\"{words}\")", "a refused pass", fault)
+        between.fates.clear()
+    print("each of the 22 faults has its own sentence in both languages; those that a member meets were met")
+
+
+FAILURES = ["silent", "answer 502 <html>bad gateway</html>", "answer 504 <html>gateway timeout</html>", "answer 200 <html>a page</html>",
+            'answer 500 {"error":"proxy"}', 'answer 503 {"fault":22,"text":"unavailable"}', "swallowed", "head-cut", "body-cut"]
+
+
+def survives_failures(page, passes, between):
+    """A booking and a cancellation whose requests get lost in each way: once each."""
+    page.enter(passes["fails-1"])
+    page.go(day(7))
+    for place, failure in enumerate(FAILURES):
+        between.fates["PUT"] = [failure]
+        entry = page.booked("boat-1", 8 + place)
+        check(not between.fates["PUT"], "a failure that wasn't met", failure)
+        between.fates["DELETE"] = [failure]
+        page.run("offerCancellation(ownEntries().find((each) => each.number === arguments[0]), () => {})", entry["number"])
+        page.press("Cancel the booking")
+        page.when("dialogText().includes('came back')", "a cancellation after", failure)
+        page.press("Close")
+    between.fates["PUT"] = list(FAILURES)
+    page.booked("boat-1", 20)
+    # What takes longer than a second is seen, and what it means after ten.
+    between.fates["PUT"] = ["silent"] * 12
+    page.book("boat-1", 21)
+    page.when("dialogText().includes('Sending again, try')", "sending again")
+    page.when("dialogText().includes('nothing is booked twice')", "a long wait")
+    between.fates["PUT"] = []
+    page.when("dialogText().includes('Booked.')", "a booking at last")
+    page.press("Close")
+    # A slot that gets no answer says so, spoils no other, and is looked at again where it is pressed.
+    between.fates["GET"] = ["silent"] * 5
+    page.run("lookAt(cellAt('boat-2', 10), round)")
+    page.when("cellAt('boat-2', 10).button.innerText.includes('No answer')", "a slot without an answer")
+    between.fates["GET"] = []
+    check("free" in page.run("return cellAt('boat-2', 11).button.innerText"), "its neighbour")
+    page.offer("boat-2", 10)
+    page.when("cellAt('boat-2', 10).button.innerText.includes('free')", "a slot that is looked at again")
+    count = same_record(page, "fails-1")
+    totals_are_sums()
+    print(f"requests lost in {len(FAILURES)} ways: each of {count} bookings once, as the file has it")
+
+
+def pages_end(page, passes, between, server):
+    """A page that ends before its request was sent, while it is under way, or before its reply came: the next visit finishes it."""
+    page.enter(passes["ends-1"])
+    page.press("Keep it", "notices")
+    page.go(day(8))
+    before = len(amounts("ends-1"))
+    for place, fate in enumerate(["slow 3", "late 3", "silent"]):
+        page.go(day(8))
+        between.fates["PUT"] = [fate]
+        page.book("court-2", 9 + place)
+        page.when("state.entries.some((each) => each.book === null)", "a booking on record")
+        time.sleep(0.3)
+        page.driver.get("about:blank")
+        page.open(page.address)
+        page.when("state.entries.length > 0 && state.entries.every((each) => unfinished(each) === null)", "a booking that the next visit finishes")
+    check(len(amounts("ends-1")) == before + 3, "bookings of pages that ended")
+    # It ends between the record and the sending.
+    page.go(day(8))
+    page.run("""state.sender.run = async () => {}; return state.sender.book({ facility: "court-2", day: arguments[0], hour: 14 }, 0, false)""", day(8))
+    check(len(amounts("ends-1")) == before + 3, "nothing was sent")
+    page.open(page.address)
+    page.when("state.entries.every((each) => unfinished(each) === null)", "a booking that was written down and not sent")
+    # A cancellation likewise.
+    number = page.entries()[-1]["number"]
+    between.fates["DELETE"] = ["late 3"]
+    page.when("isShown('day')", "the page")
+    page.run("offerCancellation(ownEntries().find((each) => each.number === arguments[0]), () => {})", number)
+    page.press("Cancel the booking")
+    time.sleep(0.3)
+    page.driver.get("about:blank")
+    page.open(page.address)
+    page.when("state.entries.length > 0 && state.entries.every((each) => unfinished(each) === null)", "a cancellation that the next visit finishes")
+    check(amounts("ends-1")[number][-2] == 1, "it is cancelled")
+    # The desk is away for a while.
+    page.go(day(8))
+    server.kill()
+    page.book("court-2", 16)
+    page.when("dialogText().includes('Sending again')", "a desk that is away")
+    server.start()
+    page.when("dialogText().includes('Booked.')", "a desk that is back")
+    page.press("Close")
+    same_record(page, "ends-1")
+    totals_are_sums()
+    print("pages that end before, in and after a request, and a desk that is away: each booking once")
+
+
+def tabs_send_nothing_twice(page, passes, between, server):
+    page.enter(passes["tabs-1"])
+    page.press("Keep it", "notices")
+    page.go(day(9))
+    page.driver.switch_to.new_window("tab")
+    page.open(page.address)
+    page.when("isShown('day') && dayIsThere()", "a second tab")
+    page.go(day(9))
+    first, second = page.driver.window_handles
+    asked = server.asked()
+    between.fates["PUT"] = ["late 2"]
+    page.book("court-1", 9)
+    time.sleep(0.3)
+    page.driver.switch_to.window(first)
+    page.when("cellAt('court-1', 9).button.innerText === 'Being sent' && cellAt('court-1', 9).button.disabled", "the slot in another tab")
+    second_entry = page.run("return state.sender.book({ facility: 'court-1', day: arguments[0], hour: 9 }, 0, false)", day(9))
+    check("second" in second_entry, "a second booking of the slot isn't made by another tab", second_entry)
+    page.booked("court-1", 10)
+    page.driver.switch_to.window(second)
+    page.when("dialogText().includes('Booked.')", "the first tab's booking")
+    page.press("Close")
+    page.when("cellAt('court-1', 10).button.innerText.includes('Yours')", "what the other tab booked")
+    # Both tabs have something to send, and the browser one writer.
+    between.fates["PUT"] = ["silent"] * 6
+    page.run("return Promise.all([11, 12, 13].map((hour) => state.sender.book({ facility: 'court-1', day: arguments[0], hour }, 0, false)))", day(9))
+    page.run("state.sender.run()")
+    page.driver.switch_to.window(first)
+    page.run("state.sender.run()")
+    page.when("state.entries.every((each) => unfinished(each) === null)", "both tabs are done")
+    puts = {path: count - asked[method, path] for (method, path), count in server.asked().items() if method == "PUT" and day(9) in path}
+    puts = {path: count for path, count in puts.items() if count}
+    check(len(puts) == 5 and set(puts.values()) == {1}, "a request that was sent twice", puts)
+    # A second booking of one slot, where it is meant.
+    page.offer("court-1", 10)
+    page.press("Book a second time")
+    page.run("byName('dialog').querySelector('.main').click()")
+    page.when("dialogText().includes('Booked.')", "a second booking")
+    page.press("Close")
+    # A double press books once.
+    page.offer("court-1", 14)
+    page.run("const press = byName('dialog').querySelector('.main'); press.click(); press.click(); press.click();")
+    page.when("dialogText().includes('Booked.')", "a double press")
+    page.press("Close")
+    check(sum(each["hour"] == 14 and each["day"] == day(9) for each in page.entries()) == 1, "a double press books once")
+    page.driver.switch_to.window(second)
+    page.driver.close()
+    page.driver.switch_to.window(first)
+    same_record(page, "tabs-1")
+    print("two tabs and a double press send nothing twice; a second booking is asked for")
+
+
+def survives_kills(front, passes, server):
+    """Bookings and cancellations while the server is killed: the record is the table."""
+    with BookingPage(front) as page:
+        page.enter(passes["kill-1"])
+        page.run("""
+            globalThis.made = 0;
+            const slots = [];
+            for (let ahead = 10; ahead < 50; ahead += 1) for (const facility of ["court-1", "court-2", "boat-2"]) {
+              for (let hour = 8; hour < 22; hour += 1) slots.push({ facility, day: daysLater(clubMoment().slice(0, 10), ahead), hour });
+            }
+            globalThis.work = (async () => {
+              for (const slot of slots.slice(0, arguments[0])) {
+                const entry = await state.sender.book(slot, made % 3, false);
+                await state.sender.run();
+                if (made % 9) {
+                  const now = (await state.sender.entries()).find((each) => isLive(each) && isAt(each, slot));
+                  await state.sender.cancel(now.key, now.number);
+                  await state.sender.run();
+                }
+                made += 1;
+              }
+            })();""", BOOKINGS)
+        kills = 0
+        while page.run("return made") < BOOKINGS:
+            time.sleep(draw.uniform(0.05, 0.5))
+            if kills < KILLS:
+                server.kill()
+                kills += 1
+                time.sleep(draw.uniform(0, 0.1))
+                server.start()
+        check(kills == KILLS, "fewer kills", kills)
+        count = same_record(page, "kill-1")
+        check(count == BOOKINGS, "bookings", count)
+    totals_are_sums()
+    print(f"{count} bookings, most of them cancelled, while the server was killed {kills} times: the record is the table of bookings, and the "
+          "totals are its sums")
+
+
+def browser_ends(front, passes, between):
+    """A browser that is killed while its booking has no reply goes on when it is there again."""
+    folder = os.path.abspath("profile")
+    with BookingPage(front, words=[f"user-data-dir={folder}"]) as page:
+        page.enter(passes["browser-1"])
+        page.press("Keep it", "notices")
+        page.go(day(10))
+        between.fates["PUT"] = ["late 5"]
+        page.book("boat-2", 9, 1)
+        page.when("state.entries.some((each) => each.book === null)", "a booking on record")
+        time.sleep(0.5)
+        for process in pathlib.Path("/proc").glob("[0-9]*/cmdline"):
+            with contextlib.suppress(OSError):
+                line = process.read_bytes()
+                if f"--user-data-dir={folder}".encode() in line and b"chromedriver" not in line.split(b"\0")[0]:
+                    os.kill(int(process.parent.name), signal.SIGKILL)
+    for name in pathlib.Path(folder).glob("Singleton*"):
+        name.unlink()
+    between.fates.clear()
+    with BookingPage(front, words=[f"user-data-dir={folder}"]) as page:
+        page.open(page.address)
+        page.when("isShown('day') && state.entries.length === 1 && unfinished(state.entries[0]) === null", "a browser that is there again")
+        check(same_record(page, "browser-1") == 1, "its booking")
+    shutil.rmtree(folder)
+    print("a browser that was killed in a booking finishes it when it is there again")
+
+
+BROKEN = {
+    "no storage": ("Object.defineProperty(globalThis, 'indexedDB', { value: { open() { throw new DOMException('no', 'SecurityError'); } } });",
+                   "doesn't let the page write anything down"),
+    "no storage, later": ("IDBFactory.prototype.open = function () { const request = new EventTarget(); request.error = new Error('no'); "
+                          "setTimeout(() => request.dispatchEvent(new Event('error'))); return request; };", "doesn't let the page write anything down"),
+    "no locks": ("Object.defineProperty(navigator, 'locks', { value: undefined });", "This browser is too old to book with"),
+}
+
+
+def broken_browsers(front, passes, server):
+    for what, (script, words) in BROKEN.items():
+        with BookingPage(front, before=script) as page:
+            page.enter(passes["full-1"])
+            page.when("isShown('notices')", what)
+            check(words in page.run("return shownText('notices')"), what, page.run("return shownText('notices')"))
+            page.go(day(11))
+            check("free" in page.run("return cellAt('court-1', 9).button.innerText"), what, "it looks")
+            check(page.run("return [...cells.values()].every((cell) => cell.button.disabled)"), what, "it books nothing")
+    full = "IDBObjectStore.prototype.put = function () { throw new DOMException('full', 'QuotaExceededError'); };"
+    with BookingPage(front, before=full) as page:
+        asked = server.asked().total()
+        page.enter(passes["full-1"])
+        page.go(day(11))
+        looked = server.asked()
+        page.book("court-1", 9)
+        page.when("dialogText().includes('Nothing was sent.')", "a full storage")
+        page.press("Close")
+        check(all(method == "GET" for method, _ in (server.asked() - looked)), "nothing was sent", server.asked() - looked, asked)
+    # Full once the reply is there: it is shown, and asked for again at the next visit.
+    later = """const put = IDBObjectStore.prototype.put;
+        IDBObjectStore.prototype.put = function (entry) { if (entry.book) throw new DOMException('full', 'QuotaExceededError'); return put.call(this, entry); };"""
+    with BookingPage(front) as page:
+        page.enter(passes["full-1"])
+        page.go(day(11))
+        page.run(later)
+        page.book("court-1", 10)
+        page.when("dialogText().includes('Booked.')", "a storage that gets full")
+        check("couldn't write the answer down" in page.run("return dialogText()"), "it says so")
+        page.driver.refresh()
+        page.when("isShown('day') && state.entries.length === 1 && unfinished(state.entries[0]) === null", "the reply again")
+        number = page.entries()[0]["number"]
+        check(amounts("full-1")[number][0:3] == ("court-1", day(11), 10), "the booking in the file")
+    # Storage for passes refused: the pass is there as long as the page is.
+    refused = "for (const name of ['localStorage', 'sessionStorage']) Object.defineProperty(globalThis, name, { get() { throw new DOMException('no', 'SecurityError'); } });"
+    with BookingPage(front, before=refused) as page:
+        page.enter(passes["full-1"])
+        page.press("Keep it", "notices")
+        page.when("shownText('notices').includes('This browser keeps nothing')", "a pass that can't be kept")
+    print(f"{len(BROKEN) + 3} browsers that keep nothing, too little or only at first: nothing is sent that can't be written down, and each says so")
+
+
+def clocks(front, passes):
+    ahead = "const now = Date.now; Date.now = () => now() + 3 * 3600000 + 120000;"
+    with BookingPage(front, before=ahead, zone="Pacific/Auckland") as page:
+        page.enter(passes["amy-1"])
+        page.when("shownText('notices').includes('differs from the club')", "a clock that is wrong")
+        check("182 minutes" in page.run("return shownText('notices')"), "by how much", page.run("return shownText('notices')"))
+        hour = now().hour
+        check("free" in page.run("return cellAt('court-1', arguments[0]).button.innerText", hour + 1), "the next hour can be booked")
+        check(page.run("return cellAt('court-1', arguments[0]).button.innerText", hour) == "Over", "this hour can't")
+        check(page.run("return shownDay()") == day(0), "today is the club's")
+    print("a clock three hours ahead in a zone of the other side of the world: the club's day and hours")
+
+
+def odd_passes(page, passes):
+    whole = passes["amy-1"]
+    rows_of = [("", "isn't a whole pass"), ("nonsense!", "isn't a whole pass"), (whole[:-1], "isn't a whole pass"), (whole[:20], "isn't a whole pass"),
+               ("A" * 8193, "too long for a pass"), ("{" * 100, "isn't a whole pass")]
+    page.open(page.address)
+    for text, words in rows_of[1:]:
+        page.run("byName('given').value = arguments[0]; byName('use').click()", text)
+        page.when(f"shownText('given-fault').includes(\"{words}\")", "an odd pass", text)
+        check(page.run("return document.activeElement === byName('given') && byName('given').getAttribute('aria-invalid') === 'true'"), "where it is")
+        page.open(f"{page.address}#{text}")
+        page.when(f"shownText('given-fault').includes(\"{words}\")", "an odd pass in a link", text)
+        check("#" not in page.driver.current_url, "its address is cleaned")
+    # A pass in each form is a pass.
+    for form in ("v1", "v2", "json"):
+        text = subprocess.run([TOOL, "convert", "--form", form], input=whole, capture_output=True, text=True).stdout.strip()
+        check(text, "passtool convert", form)
+        page.run("byName('given').value = arguments[0]; byName('use').click()", f"  {text}\n")
+        page.when("isShown('day') && dayIsThere()", "a pass in", form)
+        page.run("dropPass(); forgetPass()")
+    # A pass that the desk doesn't know, one that has an unknown limit, one that names no key.
+    page.enter("")
+    forged = subprocess.run([TOOL, "mint", "--root", ROOT, "--id", "key:amy-1"], capture_output=True, text=True, check=True).stdout.strip()
+    other = subprocess.run([TOOL, "mint", "--root", ROOT, "--id", "amy"], capture_output=True, text=True, check=True).stdout.strip()
+    for text, words in [(forged, "doesn't know this pass"), (other, "doesn't know this pass")]:
+        page.open(f"{page.address}#{text}")
+        page.when(f"shownText('day-fault').includes(\"{words}\")", "a pass that the desk refuses", text)
+    print(f"{len(rows_of) - 1} odd passes, entered and in links, have their sentences; passes of each form are taken")
+
+
+def odd_clubs(page, passes):
+    good = pathlib.Path("www/club.json").read_text()
+    for text, words in [(None, "can't find the club's list"), ("", "isn't as it must be"), ("{}", "isn't as it must be"), ("<html>", "isn't as it must be"),
+                        (good.replace(ZONE, "Nowhere/None"), "isn't as it must be"), (good.replace('"court"', '"pool"'), "isn't as it must be")]:
+        pathlib.Path("www/club.json").unlink(missing_ok=True)
+        if text is not None:
+            pathlib.Path("www/club.json").write_text(text)
+        page.open(f"{page.address}#{passes['amy-1']}")
+        page.when(f"shownText('notices').includes(\"{words}\")", "an odd list", text)
+        page.view("bookings")
+        page.view("account")
+        page.when("byName('account-facts').innerText.includes('of 99')", "the account, without the list")
+    pathlib.Path("www/club.json").write_text(good)
+    page.view("day")
+    page.press("Try again", "notices")
+    page.when("isShown('day') && dayIsThere()", "the list is there again")
+    print("a missing or odd club.json is said, and looked for again; the rest goes on")
+
+
+def rotations(front, passes, between):
+    """A rotated key: the old pass is refused, an open booking goes on under the new one."""
+    with BookingPage(front) as page:
+        page.enter(passes["amy-son"])
+        page.go(day(12))
+        between.fates["PUT"] = ["swallowed"] + ["silent"] * 100
+        page.book("court-1", 9)
+        page.when("dialogText().includes('Sending again')", "no reply")
+        new = office("rotate-key", "amy-son", "99" + ROOT, "2000-01-01T00:00")
+        between.fates.clear()
+        page.when("dialogText().includes(\"isn't known\")", "a pass that is refused meanwhile")
+        page.press("Close")
+        page.view("bookings")
+        check("Whether this is booked isn't known" in page.run("return byName('to-come').innerText"), "a booking of which nothing is known")
+        page.open(f"{page.address}#{new}")
+        page.when("isShown('day') && state.entries.every((each) => unfinished(each) === null && each.stopped === undefined)", "the new pass")
+        check(same_record(page, "amy-son") == 1, "one booking")
+        # A pass of another key waits for its own.
+        between.fates["PUT"] = ["silent"] * 100
+        page.go(day(12))
+        page.book("court-1", 10)
+        page.when("dialogText().includes('Sending again')", "no reply")
+        page.open(f"{page.address}#{passes['bob-2']}")
+        between.fates.clear()
+        page.when("isShown('day') && dayIsThere()", "another key's pass")
+        page.view("bookings")
+        page.when("shownText('needs-pass').includes('1 request of amy-son has no answer yet')", "a request that needs its pass")
+        page.open(f"{page.address}#{new}")
+        page.when("isShown('day') && state.entries.every((each) => unfinished(each) === null)", "its pass again")
+        check(same_record(page, "amy-son") == 2, "two bookings")
+    print("a rotated key, and passes of two keys: what had no reply goes on under its own key")
+
+
+def devices(front, passes, server):
+    """The record to another browser by text, by QR code and from the office; a booking of which number and slot are known."""
+    with BookingPage(front) as page:
+        page.enter(passes["amy-phone"])
+        page.go(day(13))
+        for hour in (9, 10, 11):
+            page.booked("court-1", hour, 1)
+        page.view("account")
+        text = page.run("return byName('export-text').value")
+        check(text.startswith("record of amy-phone\n") and text.count("\n") == 4, "the record as a text", text)
+        page.sees(390, "light")
+        page.run("byName('export-qr').scrollIntoView()")
+        box = page.run("const { left, top, width, height } = byName('export-qr').querySelector('svg').getBoundingClientRect(); return [left + scrollX, top + scrollY, width, height]")
+        clip = dict(zip(["x", "y", "width", "height"], box), scale=2)
+        pathlib.Path("qr.png").write_bytes(base64.b64decode(page.command("Page.captureScreenshot", captureBeyondViewport=True, clip=clip)["data"]))
+        link = subprocess.run(["zbarimg", "-q", "--raw", "qr.png"], capture_output=True, text=True).stdout.strip()
+        check(link.startswith(f"{page.address}#record=amy-phone;"), "the QR code", link)
+    by_office = subprocess.run([f"{TOP}/deploy/record", "club", "amy-phone"], capture_output=True, text=True, check=True).stdout
+    check(len(by_office.splitlines()) >= 5, "what the office prints", by_office)
+    with BookingPage(front) as page:
+        page.enter(passes["amy-phone"])
+        page.driver.get(link)
+        page.when("dialogText().includes('3 bookings of amy-phone') || dialogText().includes('4 bookings of amy-phone')", "a record in a link")
+        page.press("Add to this browser")
+        page.when("state.entries.length >= 3", "its bookings")
+        check("#" not in page.driver.current_url, "its address is cleaned")
+        page.view("account")
+        page.run("byName('import-text').value = arguments[0]; byName('import').requestSubmit()", by_office)
+        page.when("shownText('import-news') !== ''", "the office's record")
+        check(same_record(page, "amy-phone") == len(by_office.splitlines()) - 1, "what the office printed is the record")
+        page.run("byName('import').requestSubmit()")
+        page.when("shownText('import-news').includes('were here already')", "the same again")
+        page.run("byName('import-text').value = 'record of amy-phone\\n12 court-1'; byName('import').requestSubmit()")
+        page.when("shownText('import-news').includes(\"Line 2 isn't one\")", "an odd record")
+        page.view("bookings")
+        page.run("byName('to-come').querySelector('.booked button').click()")
+        page.press("Cancel the booking")
+        page.when("dialogText().includes('came back')", "a cancellation of what another browser booked")
+        page.press("Close")
+        same_record(page, "amy-phone")
+    number = max(amounts("amy-phone"), key=lambda each: amounts("amy-phone")[each][2] if not amounts("amy-phone")[each][-2] else 0)
+    slot = amounts("amy-phone")[number]
+    with BookingPage(front) as page:
+        page.enter(passes["amy-phone"])
+        page.view("account")
+        page.run("byName('lost-part').open = true")
+        unused = next(each for each in range(1, 1000) if each not in amounts("amy-phone"))
+        fill = "byName('lost-number').value = arguments[0]; byName('lost-facility').value = arguments[1]; byName('lost-day').value = arguments[2]; " \
+               "byName('lost-hour').value = arguments[3]; byName('lost').requestSubmit()"
+        page.run(fill, "0", slot[0], slot[1], str(slot[2]))
+        page.when("shownText('lost-news').includes('A number from 1')", "no number")
+        before = amounts("amy-phone")
+        page.run(fill, str(unused), slot[0], slot[1], str(slot[2]))
+        page.when("shownText('lost-news').includes('never used this number')", "a number that the key never used")
+        page.run(fill, str(number), slot[0], slot[1], str(slot[2]))
+        page.when("shownText('lost-news').includes('Noted')", "number and slot")
+        check(amounts("amy-phone") == before, "the question changes nothing")
+        page.view("bookings")
+        page.when("byName('to-come').innerText.includes('Noted by its number')", "in the list")
+        page.run("byName('to-come').querySelector('button').click()")
+        page.press("Cancel the booking")
+        page.when("dialogText().includes('came back')", "a cancellation by number and slot")
+        check(amounts("amy-phone")[number][-2] == 1, "it is cancelled")
+    print("the record goes to other browsers by text, by QR code and from the office; number and slot suffice to cancel")
+
+
+def cancelled_by_the_office(front, passes, server):
+    with BookingPage(front) as page:
+        page.enter(passes["bob-2"])
+        page.go(day(14))
+        entry = page.booked("boat-2", 9, 1)
+        page.view("bookings")
+        page.when("byName('to-come').innerText.includes('Booked')", "a booking")
+        check("may have cancelled" not in page.run("return byName('to-come').innerText"), "no mark yet")
+        server.kill()
+        with contextlib.closing(sqlite3.connect("club")) as club:
+            club.executescript(f"""
+                BEGIN IMMEDIATE;
+                UPDATE members SET used = used - {entry['book']['charge']} WHERE name = 'bob';
+                UPDATE slots SET taken = taken - 2 WHERE facility = 'boat-2' AND day = strftime('%s', '{day(14)}') / 86400 AND hour = 9;
+                UPDATE bookings SET cancelled = 1, refund = charge WHERE pass_key = 'bob-2' AND number = {entry['number']};
+                COMMIT;""")
+        server.start()
+        page.view("day")
+        page.view("bookings")
+        page.when("byName('to-come').innerText.includes('The office may have cancelled this.')", "a booking that the office cancelled")
+    print("a booking that the office cancelled is marked")
+
+
+def goes_by_keyboard(page, passes):
+    page.open(page.address)
+    page.when("isShown('welcome')", "the page")
+    page.sees(1280, "light")
+
+    def tab_to(condition, *what):
+        for _ in range(120):
+            page.keys(Keys.TAB)
+            outline = page.run("const style = getComputedStyle(document.activeElement); return [style.outlineStyle, style.outlineWidth];")
+            # Of a date the browser marks the part that has the focus.
+            is_date = page.run("return document.activeElement.type === 'date'")
+            check(is_date or outline == ["solid", "3px"], "a focus that can't be seen", page.run("return document.activeElement.outerHTML.slice(0, 120)"), outline)
+            if page.run(f"const at = document.activeElement; return {condition}"):
+                return
+        check(False, "not reached by keyboard", *what, condition)
+
+    tab_to("at.id === 'given'")
+    page.keys(passes["amy-1"])
+    tab_to("at.id === 'keep'")
+    tab_to("at.id === 'use'")
+    page.keys(Keys.ENTER)
+    page.when("isShown('day') && dayIsThere()", "a pass by keyboard")
+    tab_to("at.id === 'day-after'")
+    for _ in range(15):
+        page.keys(Keys.ENTER)
+    page.when(f"shownDay() === '{day(15)}' && dayIsThere()", "a day by keyboard")
+    tab_to("at === cellAt('boat-1', 6).button")
+    page.keys(Keys.ARROW_RIGHT, Keys.ARROW_DOWN, Keys.ARROW_DOWN, Keys.ARROW_LEFT, Keys.ARROW_LEFT, Keys.ARROW_LEFT)
+    check(page.run("return document.activeElement === cellAt('court-2', 8).button"), "arrows", page.run("return document.activeElement.getAttribute('aria-label')"))
+    page.keys(Keys.ENTER)
+    check(page.run("return document.activeElement.id") == "dialog-title", "the dialog has the focus")
+    tab_to("at.getAttribute('aria-label') === 'One guest more'")
+    page.keys(Keys.ENTER)
+    tab_to("at.textContent === 'Book for 400 points'")
+    page.keys(Keys.ENTER)
+    page.when("dialogText().includes('Booked.')", "a booking by keyboard")
+    page.when("document.activeElement.textContent === 'Close'", "what closes it has the focus")
+    page.keys(Keys.ENTER)
+    check(page.run("return document.activeElement === cellAt('court-2', 8).button"), "the slot has the focus again")
+    page.run("document.body.focus()")
+    page.run("byName('to-bookings').focus()")
+    page.keys(Keys.ENTER)
+    tab_to("at.textContent === 'Cancel' && at.getAttribute('aria-label').startsWith('Cancel Court 2')", "the button that cancels")
+    page.keys(Keys.ENTER)
+    tab_to("at.textContent === 'Cancel the booking'")
+    page.keys(Keys.ENTER)
+    page.when("dialogText().includes('400 points came back')", "a cancellation by keyboard")
+    page.keys(Keys.ESCAPE)
+    check(not page.run("return isDialogOpen()"), "Escape closes the dialog")
+    print("the whole way by keyboard: pass, day, slot, guests, booking, cancellation")
+
+
+def named_for_screen_readers(page, states):
+    tree = [node for node in page.command("Accessibility.getFullAXTree")["nodes"] if not node["ignored"]]
+    for node in tree:
+        properties = {each["name"]: each["value"].get("value") for each in node.get("properties", [])}
+        if properties.get("focusable") or node["role"]["value"] in ("region", "group", "dialog", "navigation", "table"):
+            check(node["name"]["value"].strip(), "no name for a screen reader", states, node["role"], node.get("description"))
+    live = page.run("return [...document.querySelectorAll('[role=status], [role=alert], [aria-live]')].map((each) => each.id)")
+    check({"notices", "day-fault", "given-fault", "account-facts"} <= set(live), "what a screen reader hears of when it changes", live)
+
+
+def looks_right(front, passes):
+    """Pictures; no sideways scrolling from 320 pixels to a wall; contrasts, targets and names, in each view, language and scheme."""
+    texts = 0
+    for language in ("en-US", "de-DE"):
+        with BookingPage(front, language=language) as page:
+            views = {
+                "welcome": lambda: page.open(page.address), "day": lambda: (page.enter(passes["amy-1"]), page.go(day(2))),
+                "offer": lambda: page.offer("court-1", 10), "booked": lambda: (page.run("byName('dialog').querySelector('.main').click()"),
+                                                                            page.when("byName('dialog').querySelector('.done') !== null", "a booking")),
+                "second": lambda: (page.run("closeDialog()"), page.offer("court-1", 10)),
+                "bookings": lambda: (page.run("closeDialog()"), page.view("bookings")),
+                "cancel": lambda: page.run("byName('to-come').querySelector('.booked button').click()"),
+                "account": lambda: (page.run("closeDialog()"), page.view("account"), page.when("byName('account-facts').innerText.includes('99')", "the account")),
+            }
+            page.sees(360, "light", 740)
+            for name, show in views.items():
+                show()
+                time.sleep(0.3)
+                check(page.run("return document.documentElement.lang") == language[:2], "the language")
+                for scheme in ("light", "dark"):
+                    for width in (320, 360, 768, 1280, 1920):
+                        page.sees(width, scheme, 740 if width < 600 else 900)
+                        across = page.run("return document.documentElement.scrollWidth")
+                        check(across <= width, "sideways scrolling", name, language, width, across)
+                        if width in (360, 768, 1280):
+                            whole = name in ("day", "bookings", "account")
+                            picture = page.picture() if whole else page.command("Page.captureScreenshot")["data"]
+                            keep(f"book-{name}-{language[:2]}-{width}-{scheme}.png", picture)
+                    page.sees(360, scheme, 740)
+                    time.sleep(0.25)
+                    count, faint = page.run(CONTRASTS)
+                    check(not faint, "faint texts", name, scheme, *faint)
+                    texts += count
+                small = page.run(SMALL_TARGETS)
+                check(not small, "small targets", name, *small)
+                named_for_screen_readers(page, name)
+            if language == "de-DE":
+                said = page.run("return document.body.innerText")
+                check("Andere Geräte" in said and "Offene Buchungen" in said, "German", said)
+                page.run("byName('language').value = 'en'; byName('language').dispatchEvent(new Event('change'))")
+                check("Other devices" in page.run("return document.body.innerText"), "another language")
+                page.driver.refresh()
+                page.when("byName('to-day').textContent === 'Book'", "the language is kept")
+            page.run("for (const entry of ownEntries().filter(isLive)) state.sender.cancel(entry.key, entry.number)")
+            page.driver.refresh()
+            page.when("isShown('day') && state.entries.every((each) => unfinished(each) === null)", "all is cancelled")
+            check(not page.complaints(), "the console says", page.complaints())
+    print(f"{texts} texts with a contrast of at least 4.5, targets of 44 pixels, names for screen readers, no sideways scrolling from 320 to 1920 "
+          "pixels, in both languages and schemes")
+
+
+def keep(name, picture):
+    pathlib.Path(PICTURES, name).write_bytes(base64.b64decode(picture))
+
+
+def hall_screen(front, passes, server):
+    screen = narrowed(passes["hall-screen"], "actions = view")
+    with BookingPage(front) as page:
+        page.sees(1920, "dark", 1080)
+        asked = server.asked()
+        page.open(f"{page.address}#screen={screen}")
+        page.when("document.querySelectorAll('#screen td.free').length > 50", "the screen")
+        check(page.driver.current_url.endswith("/book.html#screen"), "the address is cleaned", page.driver.current_url)
+        check(page.run("return [...document.querySelectorAll('button, input, select, textarea')].every((each) => each.offsetParent === null)"), "no buttons")
+        check(page.run("return document.documentElement.scrollHeight <= innerHeight && document.documentElement.scrollWidth <= innerWidth"), "one sight")
+        keep("screen-1920-dark.png", page.command("Page.captureScreenshot")["data"])
+        first = {path: count - asked[method, path] for (method, path), count in server.asked().items() if count > asked[method, path]}
+        check(set(first.values()) == {1}, "one request a slot", Counter(first.values()))
+        hours = {(path.split("/")[3], int(path.split("/")[4])) for path in first}
+        check(all(each_day == day(1) or (each_day == day(0) and hour > now().hour) for each_day, hour in hours), "only hours to come", hours)
+        number = draw.randrange(1, 10**9)
+        curl(page, "PUT", f"/slots/room-1/{day(1)}/20/bookings/{number}", passes["other"], '{"guests":0}')
+        time.sleep(40)
+        again = {path: count - asked[method, path] for (method, path), count in server.asked().items() if method == "GET" and count > asked[method, path]}
+        check(set(again.values()) == {1}, "no second request within a minute", Counter(again.values()))
+        full = page.run("return document.querySelectorAll('#screen td.full').length")
+        page.when(f"document.querySelectorAll('#screen td.full').length === {full + 1}", "it is renewed each minute", limit=40)
+        curl(page, "DELETE", f"/slots/room-1/{day(1)}/20/bookings/{number}", passes["other"])
+        page.driver.get("about:blank")
+        page.open(f"{page.address}#screen")
+        page.when("document.querySelectorAll('#screen td.free').length > 50", "the screen keeps its pass")
+        check(not page.complaints(), "the console says", page.complaints())
+    with BookingPage(front) as page:
+        page.open(f"{page.address}#screen")
+        page.when("shownText('screen').includes('needs a pass')", "a screen without a pass")
+    print("the hall's screen: one request a slot and minute, for hours to come; it is renewed")
+
+
+def offline(page, passes):
+    page.enter(passes["amy-1"])
+    page.go(day(3))
+    page.booked("court-1", 20)
+    page.command("Network.enable")
+    page.command("Network.emulateNetworkConditions", offline=True, latency=0, downloadThroughput=-1, uploadThroughput=-1)
+    page.when("shownText('notices').includes('You are offline')", "offline")
+    page.view("bookings")
+    check("Court" in page.run("return byName('to-come').innerText + byName('past').innerText"), "the record, offline")
+    page.command("Network.emulateNetworkConditions", offline=False, latency=0, downloadThroughput=-1, uploadThroughput=-1)
+    page.when("!shownText('notices').includes('You are offline')", "online again")
+    print("offline it says so, and shows the record")
+
+
+def is_quick_and_small(front, passes):
+    """How long the day takes over loopback with TLS, and what the pages are as they are sent."""
+    base = f"https://desk.example.org:{front}"
+    words = ["curl", "-sS", "--noproxy", "*", "--cacert", "certificate.pem", "--resolve", f"desk.example.org:{front}:127.0.0.1"]
+    sizes = {}
+    for name in ("book.html", "pass.html"):
+        printed = subprocess.run([*words, "-o", name, "-D", "head", "-H", "Accept-Encoding: gzip", "-w", "%{size_download} %{http_version}", f"{base}/{name}"],
+                                 capture_output=True, text=True, check=True).stdout.split()
+        sizes[name] = int(printed[0])
+        check(sizes[name] < 60000 and printed[1] == "2", "as it is sent", name, printed)
+        head = pathlib.Path("head").read_text().lower()
+        for field in ("content-encoding: gzip", "cache-control: no-cache", "strict-transport-security: max-age=", "frame-ancestors 'none'",
+                      "referrer-policy: no-referrer", "x-content-type-options: nosniff", "content-type: text/html; charset=utf-8"):
+            check(field in head, "a field of", name, field, head)
+        mark = re.search("etag: (.*)", head)[1].strip()
+        status = subprocess.run([*words, "-o", "none", "-H", f"If-None-Match: {mark}", "-H", "Accept-Encoding: gzip", "-w", "%{http_code}", f"{base}/{name}"],
+                                capture_output=True, text=True, check=True).stdout
+        check(status == "304", "a page that is the same", name, status)
+    to = subprocess.run([*words, "-o", "none", "-w", "%{http_code} %{redirect_url}", f"{base}/"], capture_output=True, text=True, check=True).stdout
+    check(to == f"302 {base}/book.html", "/ leads to the page", to)
+    head = subprocess.run([*words, "-o", "none", "-D", "-", f"{base}/account"], capture_output=True, text=True, check=True).stdout.lower()
+    check("cache-control: no-store" in head and "content-encoding" not in head and " 401" in head, "a reply of the desk", head)
+    took, paints = [], []
+    with BookingPage(front) as page:
+        page.sees(1280, "light")
+        page.enter(passes["amy-1"])
+        for ahead in range(16, 21):
+            took.append(page.driver.execute_async_script(HELPERS + """
+                const [wanted, done] = arguments;
+                const begun = performance.now();
+                showDay(wanted);
+                settled(() => shownDay() === wanted && dayIsThere()).then(() => done(performance.now() - begun));""", day(ahead)))
+        check(page.run("return cells.size") == CELLS and page.run("return [...cells.values()].every((cell) => cell.view !== null)"), "a whole day")
+        for _ in range(3):
+            page.enter(passes["amy-1"])
+            paints.append(page.run("""const paint = performance.getEntriesByType("paint").at(-1).startTime;
+                const asked = performance.getEntriesByType("resource").filter((each) => each.name.includes("/slots/"));
+                return [paint, Math.max(...asked.map((each) => each.responseEnd))]"""))
+    check(all(paint < last for paint, last in paints), "the first paint doesn't wait for the day", paints)
+    took.sort()
+    check(took[len(took) // 2] < 500, "a day of six facilities", took)
+    print(f"a day of {CELLS} slots in {took[0]:.0f} to {took[-1]:.0f} ms; first paint after {min(each for each, _ in paints):.0f} ms; as they are "
+          f"sent book.html has {sizes['book.html']:,} bytes, pass.html {sizes['pass.html']:,}")
+
+
+def policy_holds():
+    text = pathlib.Path(TOP, "web/book.html").read_text()
+    policy = re.search('http-equiv="Content-Security-Policy" content="([^"]*)"', text)[1]
+    rules = dict(rule.strip().split(" ", 1) for rule in policy.split(";"))
+    for tag in ("script", "style"):
+        found = re.findall(f"<{tag}>(.*?)</{tag}>", text, re.DOTALL)
+        check(len(found) == 1 and text.count(f"<{tag}") == 1, f"one {tag}", len(found))
+        digest = base64.b64encode(hashlib.sha256(found[0].encode()).digest()).decode()
+        check(rules[f"{tag}-src"] == f"'sha256-{digest}'", f"the policy's hash of the {tag}")
+    check(rules["default-src"] == "'none'" and rules["connect-src"] == "'self'" and "unsafe" not in policy, "a strict policy", policy)
+    outside = re.sub("<(script|style)>.*?</", "", text, flags=re.DOTALL)
+    check(not re.search(r'\s(on[a-z]+|style|src|action|srcset)=', outside), "attributes that load or run something")
+    check(all(link.startswith("data:") or link == "pass.html" for link in re.findall('href="([^"]*)"', outside)), "links")
+    check(not re.search(r"innerHTML|outerHTML|insertAdjacentHTML|document\.write|eval\(|new Function|XMLHttpRequest|WebSocket|sendBeacon", text), "calls")
+    check(not re.search(r"url\(|@import", text), "styles that load something")
+
+
+def letters(passes):
+    """The office's letter: its link and its QR code are the pass's, and nothing else is taken."""
+    for words in ("en", "de"):
+        done = subprocess.run([f"{TOP}/deploy/letter", "amy-1"], input=passes["amy-1"] + "\n", capture_output=True, text=True,
+                              env={**os.environ, "DESK": "https://desk.example.org", "CLUB": "Rowing & tennis", "WORDS": words})
+        check(done.returncode == 0 and "Rowing &amp; tennis" in done.stdout, "a letter", done.stderr)
+        link = f"https://desk.example.org/book.html#{passes['amy-1']}"
+        check(done.stdout.count(link) == 2, "its link", done.stdout)
+        pathlib.Path("letter.html").write_text(done.stdout)
+        with Browser() as browser:
+            browser.driver.get(pathlib.Path("letter.html").absolute().as_uri())
+            browser.sees(800, "light")
+            keep(f"letter-{words}.png", browser.picture())
+            browser.command("Emulation.setDeviceMetricsOverride", width=800, height=900, deviceScaleFactor=3, mobile=False)
+            pathlib.Path("letter.png").write_bytes(base64.b64decode(browser.picture()))
+        read = subprocess.run(["zbarimg", "-q", "--raw", "letter.png"], capture_output=True, text=True).stdout.strip()
+        check(read == link, "its QR code", read)
+    for key, given, desk in [("bob-1", passes["amy-1"], "https://desk.example.org"), ("amy-1", "00" + ROOT, "https://desk.example.org"),
+                             ("amy-1", "", "https://desk.example.org"), ("amy-1", passes["amy-1"], "http://desk.example.org"),
+                             ("amy-1", passes["amy-1"], ""), ("AMY", passes["amy-1"], "https://desk.example.org"),
+                             ("amy-1", passes["amy-1"] + "\nmore", "https://desk.example.org"), ("amy-1", passes["amy-1"], 'https://x"><b>')]:
+        done = subprocess.run([f"{TOP}/deploy/letter", key], input=given, capture_output=True, text=True, env={**os.environ, "DESK": desk})
+        check(done.returncode == 1 and not done.stdout and done.stderr.startswith("letter: "), "a letter that is refused", key, given, desk, done.stdout, done.stderr)
+    for words, told in [((["club", "Etc/GMT+9"] if AHEAD != -9 else ["club", "Etc/GMT+8"]), "another zone"), (["club", "Nowhere/None"], "no zone"),
+                        (["club", "../passwd"], "no name of a zone"), (["missing", ZONE], "there is no file")]:
+        done = subprocess.run([f"{TOP}/deploy/club_json", *words], capture_output=True, text=True, env={**os.environ, "RULE": RULE})
+        check(done.returncode == 1 and told in done.stderr and not done.stdout, "a list that is refused", words, done.stderr, done.stdout)
+    done = club_list(titles="missing")
+    check(done.returncode == 1 and "there is no file missing" in done.stderr, "titles", done.stderr)
+    pathlib.Path("odd").write_text("court-9 Nowhere\n")
+    done = club_list(titles="odd")
+    check(done.returncode == 1 and "court-9" in done.stderr, "titles of what isn't there", done.stderr)
+    pathlib.Path("odd").write_text("court-1 It's \"1\" <b> \\n \u00e4\n")
+    listed = json.loads(club_list(titles="odd").stdout)
+    check(listed["facilities"][0]["title"] == "It's \"1\" <b> \\n \u00e4" and "title" not in listed["facilities"][1], "odd titles", listed)
+    for key, told in [("nobody", "no key nobody"), ("Amy", "no name of a key"), ("a'b", "no name of a key")]:
+        done = subprocess.run([f"{TOP}/deploy/record", "club", key], capture_output=True, text=True)
+        check(done.returncode == 1 and told in done.stderr and not done.stdout, "a record that is refused", key, done.stderr)
+    print("letters, lists and records of the office, and what they refuse")
+
+
+def main():
+    policy_holds()
+    passes = make_club()
+    os.mkdir("www")
+    for name in ("book.html", "pass.html"):
+        shutil.copy(f"{TOP}/web/{name}", "www")
+    listed = club_list()
+    check(listed.returncode == 0, "club_json", listed.stderr)
+    pathlib.Path("www/club.json").write_text(listed.stdout)
+    names = [(each["name"], each.get("title"), each["kind"], each["opens"], each["shuts"]) for each in json.loads(listed.stdout)["facilities"]]
+    check(names == [(name, title, kind, opens, shuts) for name, title, kind, _, _, opens, shuts in FACILITIES], "club.json", names)
+    server = Server()
+    atexit.register(server.kill)
+    server.start()
+    between = Between(server)
+    front = start_proxy(between.port)
+    only = sys.argv[7:]
+
+    def wanted(check_function):
+        return not only or check_function.__name__ in only
+
+    def one_browser(*steps):
+        if not any(wanted(step) for step, *_ in steps):
+            return
+        with BookingPage(front) as page:
+            for step, *words in steps:
+                if wanted(step):
+                    step(page, *words)
+            others = [address for _, address in page.requests() if not address.startswith((page.address.rsplit("/", 1)[0], "about:", "data:", "blob:"))]
+            check(not others, "the page asks for", others)
+            check(not page.complaints(), "the console says", page.complaints())
+
+    one_browser((books_and_cancels, passes), (day_says_what_is, passes), (leaves_out_what_the_pass_denies, passes))
+    one_browser((refusals_say_what_to_do, passes, between),)
+    for function, words in [(letters, [passes])]:
+        if wanted(function):
+            function(*words)
+    for step, words in [(survives_failures, (passes, between)), (pages_end, (passes, between, server)), (tabs_send_nothing_twice, (passes, between, server)),
+                        (goes_by_keyboard, (passes,)), (odd_passes, (passes,)), (odd_clubs, (passes,)), (offline, (passes,))]:
+        one_browser((step, *words))
+    for function, words in [(browser_ends, (front, passes, between)), (broken_browsers, (front, passes, server)), (clocks, (front, passes)),
+                            (rotations, (front, passes, between)), (devices, (front, passes, server)), (cancelled_by_the_office, (front, passes, server)),
+                            (survives_kills, (front, passes, server)), (is_quick_and_small, (front, passes)), (looks_right, (front, passes)),
+                            (hall_screen, (front, passes, server))]:
+        if wanted(function):
+            function(*words)
+    totals_are_sums()
+    print("the page books")
+
+
+main()

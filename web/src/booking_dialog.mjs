@@ -1,0 +1,229 @@
+// Booking and cancelling: what it costs, one press, and what came of it.
+import { titleOf } from "./club.mjs";
+import { hourText, startOf } from "./dates.mjs";
+import { closeDialog, isDialogOpen, openDialog } from "./dialog.mjs";
+import { button, element } from "./elements.mjs";
+import { fact } from "./pass_words.mjs";
+import { refundAt, stateOf, unfinished } from "./record.mjs";
+import { refusalText } from "./refusals.mjs";
+import { NotStored } from "./sender.mjs";
+import { clubMoment, denial, liveAt, state } from "./state.mjs";
+import { dateText, dayText, say } from "./words.mjs";
+
+const MOST_GUESTS = 49;
+const SEEN_AFTER = 1000; // milliseconds until a person hears that there is no answer yet
+const LONG_AFTER = 10000;
+
+export function slotText({ day, hour }, words = dateText) {
+  return say("slot-time", { day: words(day), from: `${hourText(hour)}:00`, to: `${hourText(hour + 1)}:00` });
+}
+
+function faultBox(title, words) {
+  const box = element("div", "fault", element("strong", "", title), element("span", "", words));
+  box.setAttribute("role", "alert");
+  return box;
+}
+
+// How many guests may be brought: as many as places and the pass allow.
+function mostGuests(slot, view) {
+  let most = view === null ? MOST_GUESTS : Math.min(MOST_GUESTS, view.places - view.taken - 1);
+  while (most > 0 && denial("book", slot, { guests: most }) > 0) most -= 1;
+  return Math.max(most, 0);
+}
+
+// ---- Booking
+
+// `view` is the desk's reply about the slot, or null where the pass doesn't show it.
+export function offerBooking(slot, view, whenDone) {
+  const mine = liveAt(slot);
+  const title = say("book-this", { facility: titleOf(state.club, slot.facility) });
+  if (mine.length > 0) offerSecond(slot, view, mine, title, whenDone);
+  else offerFirst(slot, view, title, false, whenDone);
+}
+
+function offerSecond(slot, view, mine, title, whenDone) {
+  const facility = titleOf(state.club, slot.facility);
+  const isKnown = mine.every((entry) => entry.guests !== null);
+  const count = mine.reduce((sum, entry) => sum + (entry.guests ?? 0) + 1, 0);
+  const words = isKnown ? say("second", { facility, count }) : say("second-unknown", { facility });
+  const isToCancel = mine.length === 1 && stateOf(mine[0]) === "booked" && denial("cancel", slot) === 0;
+  const hasRoom = view === null || (!view.closed && view.taken < view.places);
+  openDialog(say("second-title"), [
+    element("p", "slot-time", slotText(slot)), element("p", "", words),
+    element("div", "buttons",
+      button("main", say("back"), closeDialog),
+      ...(isToCancel ? [button("danger", say("cancel-yes"), () => offerCancellation(mine[0], whenDone))] : []),
+      ...(hasRoom && denial("book", slot) === 0 ? [button("", say("second-yes"), () => offerFirst(slot, view, title, true, whenDone))] : [])),
+  ], whenDone);
+}
+
+function offerFirst(slot, view, title, isMeant, whenDone) {
+  const most = mostGuests(slot, view);
+  let guests = 0;
+  const number = element("output", "count");
+  const facts = element("dl", "cost");
+  const press = button("main wide-button", "", () => send());
+  const outcome = element("div", "outcome-box");
+  outcome.setAttribute("aria-live", "polite");
+  const fewer = button("step-button", "\u2212", () => change(-1));
+  const more = button("step-button", "+", () => change(1));
+  fewer.setAttribute("aria-label", say("fewer"));
+  more.setAttribute("aria-label", say("more"));
+  const change = (by) => {
+    guests = Math.min(most, Math.max(0, guests + by));
+    show();
+  };
+  const show = () => {
+    number.textContent = String(guests);
+    fewer.disabled = guests === 0;
+    more.disabled = guests === most;
+    facts.replaceChildren(...costFacts(view, guests));
+    press.textContent = view === null || view.price === 0 ? say("book-free") : say("book-for", { count: view.price * (guests + 1) });
+  };
+  const stepper = element("div", "stepper", element("span", "label", say("guests-label")), fewer, number, more);
+  stepper.setAttribute("role", "group");
+  stepper.setAttribute("aria-label", say("guests-label"));
+  const places = element("p", "hint", view === null ? "" : say("places-left", { count: view.places - view.taken }));
+  const send = () => {
+    press.disabled = true;
+    fewer.disabled = true;
+    more.disabled = true;
+    sendBooking({ slot, guests, isMeant, outcome, press, whenDone, again, done: () => [places, stepper, facts].forEach((each) => each.remove()) });
+  };
+  const again = () => {
+    press.disabled = false;
+    show();
+  };
+  show();
+  openDialog(title, [element("p", "slot-time", slotText(slot)), places, stepper, facts, outcome, element("div", "buttons", press)], whenDone);
+}
+
+function costFacts(view, guests) {
+  if (view === null) return [];
+  const charge = view.price * (guests + 1);
+  const facts = fact(say("charge"), say("charged", { count: charge }), "key");
+  if (guests > 0) facts.push(...fact("", say("price-each", { count: view.price })));
+  if (state.account !== null) {
+    facts.push(...fact(say("balance-after"), say("charged", { count: Math.max(0, state.account.balance - charge) })));
+    facts.push(...fact(say("open-after"), say("of-quota", { open: state.account.open + 1, quota: state.account.quota })));
+  }
+  return facts;
+}
+
+// Says after a second that no answer came yet, and after ten what that means. What it returns ends it.
+function waitingWords(outcome) {
+  const begun = Date.now();
+  outcome.replaceChildren(element("p", "sending", say("sending")));
+  const timer = setInterval(() => {
+    const waited = Date.now() - begun;
+    if (waited < SEEN_AFTER) return;
+    const count = state.sender.tries + 1;
+    const lines = [element("p", "sending", say("sending-again", { count }))];
+    if (waited >= LONG_AFTER) lines.push(element("p", "note", say("sending-long")));
+    outcome.replaceChildren(...lines);
+  }, 500);
+  return () => clearInterval(timer);
+}
+
+// `again` lets it be pressed once more, after a refusal; `done` takes away what was chosen.
+async function sendBooking({ slot, guests, isMeant, outcome, press, whenDone, again, done }) {
+  const end = waitingWords(outcome);
+  try {
+    const entry = await state.sender.book(slot, guests, isMeant);
+    if (entry.second !== undefined) {
+      end();
+      offerBooking(slot, null, whenDone);
+      return;
+    }
+    state.sender.follow(entry, (now) => {
+      if (unfinished(now) === "book" && now.stopped === undefined) return;
+      end();
+      outcome.replaceChildren(...outcomeOfBooking(now));
+      if (stateOf(now) === "refused") {
+        again();
+        return;
+      }
+      done();
+      finish(press);
+    });
+    await state.sender.run();
+  } catch (fault) {
+    end();
+    again();
+    if (!(fault instanceof NotStored)) throw fault;
+    outcome.replaceChildren(faultBox(say("not-stored-title"), say("not-stored")));
+  }
+}
+
+// The press closes the dialog from now on.
+function finish(press) {
+  const close = button("main wide-button", say("close"), closeDialog);
+  const hadFocus = document.activeElement === press || document.activeElement === document.body;
+  press.replaceWith(close);
+  if (hadFocus && isDialogOpen()) close.focus();
+}
+
+function outcomeOfBooking(entry) {
+  if (entry.stopped !== undefined) return [faultBox(say("unknown-booked"), refusalText(entry.stopped))];
+  if (stateOf(entry) === "refused") return [faultBox(say("not-booked"), refusalText(entry.book))];
+  const { charge, left } = entry.book;
+  const lines = [element("strong", "", say("booked")), " ", say("booked-detail", { count: charge, number: String(entry.number) })];
+  return [element("p", "done", ...lines, " ", say("booked-left", { count: left })), ...unsavedNote()];
+}
+
+function unsavedNote() {
+  return state.sender.unsaved.size > 0 ? [element("p", "note", say("reply-not-stored"))] : [];
+}
+
+// ---- Cancelling
+
+export function offerCancellation(entry, whenDone) {
+  const facility = titleOf(state.club, entry.facility);
+  const moment = clubMoment();
+  const back = moment === null ? null : refundAt(entry, moment);
+  const outcome = element("div", "outcome-box");
+  outcome.setAttribute("aria-live", "polite");
+  const keep = button("", say("cancel-no"), closeDialog);
+  const press = button("main danger", say("cancel-yes"), async () => {
+    press.disabled = true;
+    keep.remove();
+    await sendCancellation(entry, outcome, press);
+  });
+  openDialog(say("cancel-question"), [
+    element("p", "slot-time", facility, element("br"), slotText(entry)),
+    ...(back === null ? [] : [element("p", "", say("gives-back", { count: back }))]),
+    outcome, element("div", "buttons", press, keep),
+  ], whenDone);
+}
+
+async function sendCancellation(entry, outcome, press) {
+  const end = waitingWords(outcome);
+  try {
+    await state.sender.cancel(entry.key, entry.number);
+    state.sender.follow(entry, (now) => {
+      if (unfinished(now) !== null && now.stopped === undefined) return;
+      end();
+      outcome.replaceChildren(...outcomeOfCancellation(now));
+      finish(press);
+    });
+    await state.sender.run();
+  } catch (fault) {
+    end();
+    press.disabled = false;
+    if (!(fault instanceof NotStored)) throw fault;
+    outcome.replaceChildren(faultBox(say("not-stored-title"), say("not-stored")));
+  }
+}
+
+function outcomeOfCancellation(entry) {
+  if (entry.notCancelled !== undefined) return [faultBox(say("not-cancelled-title"), refusalText(entry.notCancelled, "cancel"))];
+  if (entry.stopped !== undefined) return [faultBox(say("not-cancelled-title"), refusalText(entry.stopped, "cancel"))];
+  const words = [element("strong", "", say("cancelled")), " ", say("cancelled-detail", { count: entry.cancel?.refund ?? 0 })];
+  return [element("p", "done", ...words), ...unsavedNote()];
+}
+
+// As "Fri 1 May, 18:00": the moment until which a cancellation gives back all.
+export function fullRefundUntil(entry) {
+  const until = new Date(Date.parse(`${startOf(entry)}Z`) - 86400000).toISOString();
+  return { day: dayText(until.slice(0, 10)), time: until.slice(11, 16) };
+}

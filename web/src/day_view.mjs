@@ -1,0 +1,307 @@
+// The day: facilities across, hours down. One request a slot, at most six at a time; on a narrow screen one facility is shown, and its
+// slots are asked for first.
+import { hoursOf, titleOf } from "./club.mjs";
+import { offerBooking } from "./booking_dialog.mjs";
+import { daysLater, hourText, isDate } from "./dates.mjs";
+import { ask, eachAtOnce } from "./desk.mjs";
+import { byName, element, put } from "./elements.mjs";
+import { DAYS_AHEAD, hasBegun, isTooFarAhead, stateOf } from "./record.mjs";
+import { limitText, refusalText } from "./refusals.mjs";
+import { CAVEAT_DENIES, NoReply } from "./replies.mjs";
+import { canSend, clubMoment, clubTime, denial, liveAt, state } from "./state.mjs";
+import { dateText, dayText, say } from "./words.mjs";
+
+const SWIPE = 50; // pixels
+
+let day = null;
+let chosen = null; // the facility of a narrow screen
+let cells = new Map(); // by facility and hour: the slot, its button, and what is known of it
+let round = 0; // of looking: what an older one finds isn't shown
+let lookedAt = 0;
+
+export function shownDay() {
+  return day;
+}
+
+function today() {
+  return clubMoment().slice(0, 10);
+}
+
+function lastDay() {
+  return daysLater(today(), DAYS_AHEAD);
+}
+
+function cellName(slot) {
+  return `${slot.facility} ${slot.hour}`;
+}
+
+function slotsOf(facility) {
+  return hoursOf(facility).map((hour) => ({ facility: facility.name, day, hour }));
+}
+
+function isOpenToPass(slot) {
+  return denial("view", slot) === 0 || denial("book", slot) === 0;
+}
+
+// ---- The table
+
+export function showDay(wanted = day) {
+  if (state.club === null || state.pass === null) return;
+  day = wanted ?? today();
+  const facilities = state.club.facilities.filter((facility) => slotsOf(facility).some(isOpenToPass));
+  if (!facilities.some((facility) => facility.name === chosen)) chosen = facilities[0]?.name ?? null;
+  showDayBar();
+  cells = new Map();
+  put("day-fault", ...dayFault(facilities));
+  put("facility-choice", ...facilities.map(choiceOf));
+  byName("facility-bar").hidden = facilities.length < 2;
+  put("slots", ...(facilities.length > 0 ? tableParts(facilities) : []));
+  choose(chosen);
+  look();
+}
+
+function dayFault(facilities) {
+  if (day < today()) return [say("past-day")];
+  if (day > lastDay()) return [say("outside-days", { day: dateText(lastDay()) })];
+  if (facilities.length > 0) return [];
+  const slot = state.club.facilities.length > 0 ? { facility: state.club.facilities[0].name, day, hour: state.club.facilities[0].opens } : undefined;
+  const number = slot === undefined ? 0 : denial("view", slot);
+  return [say("no-facilities"), ...(number > 0 ? [" ", limitText(number)] : [])];
+}
+
+function showDayBar() {
+  put("day-title", dayText(day));
+  const field = byName("day-field");
+  field.min = today();
+  field.max = lastDay();
+  field.value = day;
+  byName("day-before").disabled = day <= today();
+  byName("day-after").disabled = day >= lastDay();
+  byName("today").disabled = day === today();
+}
+
+function choiceOf(facility) {
+  const choice = element("button", "chip", facility.title);
+  choice.type = "button";
+  choice.dataset.facility = facility.name;
+  choice.addEventListener("click", () => choose(facility.name));
+  return choice;
+}
+
+function tableParts(facilities) {
+  const heads = facilities.map((facility) => {
+    const head = element("th", "facility", facility.title);
+    head.scope = "col";
+    head.dataset.facility = facility.name;
+    return head;
+  });
+  const corner = element("th", "hour", say("hour"));
+  corner.scope = "col";
+  const first = Math.min(...facilities.map((facility) => facility.opens));
+  const last = Math.max(...facilities.map((facility) => facility.shuts));
+  const rows = Array.from({ length: last - first }, (_, place) => rowOf(first + place, facilities));
+  return [element("thead", "", element("tr", "", corner, ...heads)), element("tbody", "", ...rows)];
+}
+
+function rowOf(hour, facilities) {
+  const head = element("th", "hour", `${hourText(hour)}:00`);
+  head.scope = "row";
+  return element("tr", "", head, ...facilities.map((facility) => {
+    const cell = element("td", "");
+    cell.dataset.facility = facility.name;
+    if (hour >= facility.opens && hour < facility.shuts) cell.append(slotButton({ facility: facility.name, day, hour }));
+    return cell;
+  }));
+}
+
+function slotButton(slot) {
+  const made = element("button", "slot");
+  made.type = "button";
+  const cell = { slot, button: made, view: null, state: "waiting" };
+  cells.set(cellName(slot), cell);
+  made.addEventListener("click", () => press(cell));
+  showCell(cell);
+  return made;
+}
+
+// ---- Cells
+
+// What a cell is: its class, its words, a line below them, and whether it can be pressed.
+function looksOf({ slot, view, state: known }) {
+  const moment = clubMoment();
+  const mine = liveAt(slot);
+  const price = view === null ? "" : say("cell-price", { count: view.price });
+  const isOver = hasBegun(slot, moment);
+  if (mine.some((entry) => stateOf(entry) === "asked")) return { looks: "mine", words: say("cell-asked"), below: "", isFree: false };
+  if (mine.length > 0) {
+    const isKnown = mine.every((entry) => entry.guests !== null);
+    const count = mine.reduce((sum, entry) => sum + (entry.guests ?? 0) + 1, 0);
+    const isFree = !isOver && view !== null && !view.closed && view.taken < view.places;
+    return { looks: "mine", words: isKnown ? say("cell-mine", { count }) : say("cell-mine-only"), below: isOver ? say("cell-past") : "", isFree };
+  }
+  if (isOver) return { looks: "past", words: say("cell-past"), below: "", isFree: false };
+  if (isTooFarAhead(slot, moment)) return { looks: "past", words: say("cell-far"), below: "", isFree: false };
+  if (known === "failed") return { looks: "failed", words: say("cell-failed"), below: say("try-again"), isFree: true };
+  if (known === "denied" || !isOpenToPass(slot)) return { looks: "past", words: say("cell-denied"), below: "", isFree: false };
+  if (denial("view", slot) > 0) return { looks: "free", words: say("cell-unseen"), below: "", isFree: true };
+  if (view === null) return { looks: "waiting", words: "\u00a0", below: "\u00a0", isFree: false };
+  if (view.closed) return { looks: "closed", words: say("cell-closed"), below: "", isFree: false };
+  const left = view.places - view.taken;
+  if (left <= 0) return { looks: "full", words: say("cell-full"), below: "", isFree: false };
+  const words = view.places === 1 ? say("cell-one-free") : say("cell-free", { left, places: view.places });
+  return { looks: "free", words, below: price, isFree: denial("book", slot) === 0 };
+}
+
+function showCell(cell) {
+  const { looks, words, below, isFree } = looksOf(cell);
+  const { button, slot } = cell;
+  button.className = `slot ${looks}`;
+  button.disabled = !isFree || (looks !== "failed" && !canSend());
+  button.replaceChildren(element("span", "", words), ...(below === "" ? [] : [element("small", "", below)]));
+  const facility = titleOf(state.club, slot.facility);
+  const sentence = [words, below].map((each) => each.trim()).filter((each) => each !== "").join(", ");
+  button.setAttribute("aria-label", say("cell-label", { facility, hour: `${hourText(slot.hour)}:00`, state: sentence }));
+}
+
+export function showCells() {
+  for (const cell of cells.values()) showCell(cell);
+}
+
+function press(cell) {
+  if (cell.state === "failed") {
+    cell.state = "waiting";
+    showCell(cell);
+    lookAt(cell, round);
+    return;
+  }
+  offerBooking(cell.slot, cell.view, () => {
+    showCells();
+    lookAt(cell, round);
+    cell.button.focus();
+  });
+}
+
+// ---- Looking
+
+// Asks for each slot of the day that the pass shows and that isn't over.
+export async function look() {
+  round += 1;
+  const mine = round;
+  const moment = clubMoment();
+  const wanted = [...cells.values()]
+    .filter(({ slot }) => denial("view", slot) === 0 && !hasBegun(slot, moment) && !isTooFarAhead(slot, moment))
+    .sort((a, b) => (b.slot.facility === chosen) - (a.slot.facility === chosen));
+  let done = 0;
+  lookedAt = Date.now();
+  showProgress(done, wanted.length);
+  await eachAtOnce(wanted, async (cell) => {
+    await lookAt(cell, mine);
+    done += 1;
+    if (mine === round) showProgress(done, wanted.length);
+  }, () => mine === round);
+  if (mine === round) showLooked();
+}
+
+function showProgress(done, all) {
+  const bar = byName("progress");
+  bar.hidden = done === all;
+  bar.max = Math.max(all, 1);
+  bar.value = done;
+  bar.setAttribute("aria-label", say("looking", { done, all }));
+  put("looked", say("looking", { done, all }));
+}
+
+function showLooked() {
+  const failed = [...cells.values()].filter((cell) => cell.state === "failed").length;
+  put("looked", say("looked", { time: clubTime() }));
+  put("day-news", ...(failed > 0 ? [say("cells-failed", { count: failed })] : []));
+}
+
+async function lookAt(cell, mine) {
+  if (denial("view", cell.slot) > 0) return;
+  try {
+    const reply = await ask(state.text, "view", cell.slot);
+    if (mine !== round) return;
+    if (reply.fault === undefined) Object.assign(cell, { view: reply, state: "known" });
+    else refused(cell, reply);
+  } catch (fault) {
+    if (!(fault instanceof NoReply)) throw fault;
+    if (mine === round) cell.state = "failed";
+  }
+  if (mine === round) showCell(cell);
+}
+
+// A refusal of one slot is that cell's; one of the pass is the whole day's.
+function refused(cell, reply) {
+  cell.state = "denied";
+  if (reply.fault === CAVEAT_DENIES || reply.fault > CAVEAT_DENIES) return;
+  round += 1;
+  byName("progress").hidden = true;
+  put("looked");
+  put("day-fault", refusalText(reply));
+}
+
+// Looks again where the page comes back after a while.
+export function lookWhenBack() {
+  if (day === null || state.club === null || state.pass === null) return;
+  if (day < today()) showDay(today());
+  else if (Date.now() - lookedAt > 15000) look();
+  else showCells();
+}
+
+// ---- Moving about
+
+function choose(name) {
+  chosen = name;
+  for (const each of byName("day").querySelectorAll("[data-facility]")) each.classList.toggle("chosen", each.dataset.facility === name);
+  for (const row of byName("slots").rows) row.classList.toggle("away", row.querySelector("td.chosen:empty") !== null);
+  for (const chip of byName("facility-choice").children) {
+    const isChosen = chip.dataset.facility === name;
+    chip.setAttribute("aria-pressed", String(isChosen));
+    if (isChosen) byName("facility-choice").scrollTo({ left: chip.offsetLeft - byName("facility-choice").clientWidth / 3 });
+  }
+}
+
+function chooseBeside(step) {
+  const chips = [...byName("facility-choice").children];
+  const place = chips.findIndex((chip) => chip.dataset.facility === chosen) + step;
+  if (chips[place] !== undefined) choose(chips[place].dataset.facility);
+}
+
+// The arrow keys go from slot to slot.
+const ARROWS = { ArrowLeft: [-1, 0], ArrowRight: [1, 0], ArrowUp: [0, -1], ArrowDown: [0, 1] };
+
+function moveFocus(event) {
+  const step = ARROWS[event.key];
+  const cell = event.target.closest("td");
+  if (step === undefined || cell === null) return;
+  const rows = [...byName("slots").tBodies[0].rows];
+  let [x, y] = [cell.cellIndex, rows.indexOf(cell.parentElement)];
+  do {
+    x += step[0];
+    y += step[1];
+    const next = rows[y]?.cells[x]?.querySelector("button:not(:disabled)");
+    if (next && next.offsetParent !== null) {
+      event.preventDefault();
+      next.focus();
+      return;
+    }
+  } while (rows[y]?.cells[x] !== undefined);
+}
+
+export function setUpDay() {
+  byName("day-before").addEventListener("click", () => showDay(daysLater(day, -1)));
+  byName("day-after").addEventListener("click", () => showDay(daysLater(day, 1)));
+  byName("today").addEventListener("click", () => showDay(today()));
+  byName("reload").addEventListener("click", look);
+  byName("day-field").addEventListener("change", (event) => { if (isDate(event.target.value)) showDay(event.target.value); });
+  const table = byName("slots");
+  table.addEventListener("keydown", moveFocus);
+  let from = null;
+  table.addEventListener("touchstart", ({ touches }) => { from = touches.length === 1 ? touches[0] : null; }, { passive: true });
+  table.addEventListener("touchend", ({ changedTouches: [to] }) => {
+    if (from === null) return;
+    const [dx, dy] = [to.clientX - from.clientX, to.clientY - from.clientY];
+    if (Math.abs(dx) > SWIPE && Math.abs(dy) < Math.abs(dx) / 2) chooseBeside(dx < 0 ? 1 : -1);
+  }, { passive: true });
+}

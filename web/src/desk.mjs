@@ -1,0 +1,84 @@
+// Requests to the desk, which is at the page's own origin.
+import { hourText } from "./dates.mjs";
+import { NoReply, readReply } from "./replies.mjs";
+
+const TIMEOUT = 15000; // milliseconds
+const FIRST_PAUSE = 200;
+const LONGEST_PAUSE = 5000;
+const AT_ONCE = 6;
+
+// Of each kind of request its method, path and body.
+export const REQUESTS = {
+  view: ({ facility, day, hour }) => ["GET", `/slots/${facility}/${day}/${hourText(hour)}`],
+  book: ({ number, guests, ...slot }) => ["PUT", `${REQUESTS.view(slot)[1]}/bookings/${number}`, JSON.stringify({ guests })],
+  cancel: ({ number, ...slot }) => ["DELETE", `${REQUESTS.view(slot)[1]}/bookings/${number}`],
+  account: () => ["GET", "/account"],
+};
+
+// The moment of the server's clock, which the proxy puts into each reply, less this browser's, in milliseconds. Null until one came.
+let clockLead = null;
+
+export function serverTime() {
+  return Date.now() + (clockLead ?? 0);
+}
+
+export function clockDifference() {
+  return clockLead;
+}
+
+export function noteClock(response) {
+  const date = Date.parse(response.headers.get("Date") ?? "");
+  if (!Number.isNaN(date)) clockLead = date + 500 - Date.now(); // the field has whole seconds
+}
+
+// Asks once. Throws NoReply where nothing came that is the desk's.
+export async function exchange(pass, action, asked) {
+  const [method, path, body] = REQUESTS[action](asked);
+  const stop = new AbortController();
+  const timer = setTimeout(() => stop.abort(), TIMEOUT);
+  try {
+    const response = await fetch(path, {
+      method, body, headers: { Authorization: `Bearer ${pass}` }, cache: "no-store", credentials: "omit", redirect: "error",
+      referrerPolicy: "no-referrer", signal: stop.signal,
+    });
+    noteClock(response);
+    return readReply(action, asked, response.status, await response.text());
+  } catch (fault) {
+    throw fault instanceof NoReply ? fault : new NoReply(String(fault));
+  } finally {
+    clearTimeout(timer);
+  }
+}
+
+// How long to wait before the try of this number, from 1: drawn at random, twice as long at most each time.
+export function pauseBefore(number, random = Math.random) {
+  return random() * Math.min(FIRST_PAUSE * 2 ** (number - 1), LONGEST_PAUSE);
+}
+
+export function paused(milliseconds) {
+  return new Promise((done) => setTimeout(done, milliseconds));
+}
+
+// Asks what changes nothing, again for so many tries. The last NoReply is thrown.
+export async function ask(pass, action, asked, tries = 4) {
+  for (let number = 1; ; number += 1) {
+    try {
+      return await exchange(pass, action, asked);
+    } catch (fault) {
+      if (number === tries) throw fault;
+    }
+    await paused(pauseBefore(number));
+  }
+}
+
+// Does a task with each item, a few at once, in their order, until `goesOn` says that it isn't wanted any more.
+export async function eachAtOnce(items, task, goesOn = () => true) {
+  let next = 0;
+  const work = async () => {
+    while (next < items.length && goesOn()) {
+      next += 1;
+      await task(items[next - 1]);
+    }
+  };
+  await Promise.all(Array.from({ length: AT_ONCE }, work));
+}

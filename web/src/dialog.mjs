@@ -1,0 +1,59 @@
+// The one dialog of the page: what it asks comes to the front, and where it was opened from gets the focus back.
+import { button, byName, element } from "./elements.mjs";
+import { say } from "./words.mjs";
+
+let closed = null; // what is to be done once it closes, or null where it is closed
+
+export function openDialog(title, content, whenClosed = () => {}) {
+  if (isDialogOpen()) closeDialog();
+  closed = whenClosed;
+  const heading = element("h2", "", title);
+  heading.id = "dialog-title";
+  heading.tabIndex = -1;
+  const close = button("close", "\u00d7", closeDialog);
+  close.setAttribute("aria-label", say("close"));
+  const dialog = byName("dialog");
+  dialog.replaceChildren(element("div", "dialog-head", heading, close), ...content);
+  dialog.showModal();
+  heading.focus();
+}
+
+// The browser's own event comes later, when another one may be open: so all is done here.
+export function closeDialog() {
+  const whenClosed = closed;
+  closed = null;
+  byName("dialog").close();
+  byName("dialog").replaceChildren();
+  whenClosed?.();
+}
+
+export function isDialogOpen() {
+  return byName("dialog").open;
+}
+
+export function setUpDialog() {
+  const dialog = byName("dialog");
+  dialog.addEventListener("cancel", (event) => {
+    event.preventDefault();
+    closeDialog();
+  });
+  // Escape, twice, closes it without a question.
+  dialog.addEventListener("close", () => { if (!dialog.open && closed !== null) closeDialog(); });
+  // So does a press beside it.
+  dialog.addEventListener("click", (event) => { if (event.target === dialog) closeDialog(); });
+}
+
+// A question with two answers; whether the first was given.
+export function question(title, words, yes, no) {
+  return new Promise((done) => {
+    let answer = false;
+    const decide = (value) => () => {
+      answer = value;
+      closeDialog();
+    };
+    openDialog(title, [
+      ...words.map((each) => each instanceof Node ? each : element("p", "", each)),
+      element("div", "buttons", button("main", yes, decide(true)), button("", no, decide(false))),
+    ], () => done(answer));
+  });
+}

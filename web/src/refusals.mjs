@@ -1,0 +1,18 @@
+// What a refusal of the desk says to a person, with what to do.
+import { sentenceOf } from "./pass_words.mjs";
+import { CAVEAT_DENIES, CAVEAT_NOT_UNDERSTOOD, NUMBER_USED } from "./replies.mjs";
+import { state } from "./state.mjs";
+import { say } from "./words.mjs";
+
+export function refusalText(reply, action = "book") {
+  if (reply.fault === NUMBER_USED) return say(action === "cancel" ? "fault-13-cancel" : "fault-13-book");
+  if (reply.fault === CAVEAT_DENIES) return say("fault-12", { limit: limitText(reply.caveat) });
+  if (reply.fault === CAVEAT_NOT_UNDERSTOOD) return say("fault-11", { caveat: reply.caveat ?? "" });
+  return say(`fault-${reply.fault}`);
+}
+
+// The sentence of a limit of the pass, by its number from 1.
+export function limitText(number) {
+  const caveat = state.pass?.caveats[number - 1];
+  return caveat === undefined ? "" : sentenceOf(caveat) ?? say("limit-odd");
+}

@@ -1,0 +1,51 @@
+// What comes back from the desk. A reply is the desk's where its body is JSON of the shape that was asked for, or a fault of the desk's
+// with its status; whatever else comes is no reply, and says nothing of what became of the request.
+
+// The statuses of the faults, by their numbers.
+const STATUSES = {
+  1: 400, 2: 404, 3: 405, 4: 401, 5: 400, 6: 400, 7: 400, 8: 400, 9: 401, 10: 403, 11: 403, 12: 403,
+  13: 409, 14: 404, 15: 404, 16: 409, 17: 409, 18: 409, 19: 409, 20: 402, 21: 409, 22: 503,
+};
+export const NOT_VERIFIED = 9;
+export const KEY_REVOKED = 10;
+export const CAVEAT_NOT_UNDERSTOOD = 11;
+export const CAVEAT_DENIES = 12;
+export const NUMBER_USED = 13;
+export const NO_SUCH_BOOKING = 15;
+export const SLOT_HAS_BEGUN = 21;
+const UNAVAILABLE = 22;
+
+export class NoReply extends Error {}
+
+function isCount(value) {
+  return Number.isInteger(value) && value >= 0;
+}
+
+// Of each kind of request whether a body is a reply to it.
+const SHAPES = {
+  view: (body, { facility, day, hour }) => body.facility === facility && body.day === day && body.hour === hour
+    && isCount(body.price) && isCount(body.places) && isCount(body.taken) && typeof body.closed === "boolean",
+  book: (body, { key, number }) => body.booking === `${key}/${number}` && isCount(body.charge) && isCount(body.left),
+  cancel: (body, { key, number }) => body.booking === `${key}/${number}` && isCount(body.refund),
+  account: (body) => typeof body.member === "string" && [body.balance, body.quota, body.open, body.spent].every(isCount),
+};
+
+// The reply of a status and the text of a body to a request; throws NoReply where it is none.
+export function readReply(action, asked, status, text) {
+  let body;
+  try {
+    body = JSON.parse(text);
+  } catch {
+    throw new NoReply(`status ${status}`);
+  }
+  if (typeof body !== "object" || body === null) throw new NoReply(`status ${status}`);
+  if (status === 200 && SHAPES[action](body, asked)) return body;
+  if (status === 200 || !isCount(body.fault) || STATUSES[body.fault] !== status || body.fault === UNAVAILABLE) throw new NoReply(`status ${status}`);
+  return body;
+}
+
+// Whether a refusal is of the request's words or its pass, and not of what is asked: then it says nothing of an earlier try of the same
+// request, which may have been served.
+export function isOfPass(reply) {
+  return reply.fault <= CAVEAT_DENIES;
+}

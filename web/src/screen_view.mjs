@@ -1,0 +1,94 @@
+// The hall's screen: today and tomorrow, without buttons, renewed each minute. A slot is asked for once a minute at most, and only before
+// it begins.
+import { hoursOf } from "./club.mjs";
+import { daysLater, hourText } from "./dates.mjs";
+import { eachAtOnce, exchange } from "./desk.mjs";
+import { element, put } from "./elements.mjs";
+import { hasBegun, slotName } from "./record.mjs";
+import { refusalText } from "./refusals.mjs";
+import { NoReply } from "./replies.mjs";
+import { clubMoment, clubTime, denial, state } from "./state.mjs";
+import { dayText, say } from "./words.mjs";
+
+const MINUTE = 60000;
+const STALE = 3 * MINUTE;
+
+const slotReplies = new Map(); // by slot
+let trouble = "";
+let newsAt = null; // when a reply came, by this browser's clock
+let newsTime = ""; // the same at the club
+
+function slotsOn(day) {
+  const moment = clubMoment();
+  return state.club.facilities.flatMap((facility) => hoursOf(facility).map((hour) => ({ facility: facility.name, day, hour })))
+    .filter((slot) => !hasBegun(slot, moment) && denial("view", slot) === 0);
+}
+
+// `loadClub` loads the club's list, or leaves that of before.
+export async function runScreen(loadClub) {
+  for (;;) {
+    const next = Date.now() + MINUTE;
+    await loadClub();
+    if (state.club !== null && state.pass !== null) await renew();
+    else put("screen", element("p", "screen-words", say(state.pass === null ? "screen-no-pass" : "club-missing")));
+    await new Promise((done) => setTimeout(done, Math.max(1000, next - Date.now())));
+  }
+}
+
+async function renew() {
+  const today = clubMoment().slice(0, 10);
+  const days = [today, daysLater(today, 1)];
+  for (const name of slotReplies.keys()) if (!days.includes(name.split(" ")[1])) slotReplies.delete(name);
+  showScreen(days);
+  await eachAtOnce(days.flatMap(slotsOn), async (slot) => {
+    try {
+      const reply = await exchange(state.text, "view", slot);
+      trouble = reply.fault === undefined ? "" : refusalText(reply);
+      if (reply.fault === undefined) {
+        slotReplies.set(slotName(slot), reply);
+        newsAt = Date.now();
+        newsTime = clubTime();
+      }
+    } catch (fault) {
+      if (!(fault instanceof NoReply)) throw fault;
+    }
+  });
+  showScreen(days);
+}
+
+function showScreen(days) {
+  const rows = Math.max(...days.map((day) => new Set(slotsOn(day).map((slot) => slot.hour)).size));
+  document.documentElement.style.setProperty("--rows", String(rows + 3));
+  document.documentElement.style.setProperty("--columns", String(state.club.facilities.length + 1));
+  const isStale = newsAt !== null && Date.now() - newsAt > STALE;
+  const stand = newsAt === null ? "" : say(isStale ? "screen-stale" : "screen-stand", { time: newsTime });
+  const clock = element("p", "screen-clock", element("strong", "", clubTime()), " ", element("span", isStale ? "wrong" : "", stand));
+  const tables = days.map((day, place) => tableOf(day, say(place === 0 ? "screen-today" : "screen-tomorrow", { day: dayText(day) }), place));
+  put("screen", clock, ...(trouble === "" ? [] : [element("p", "fault", trouble)]), element("div", "screen-days", ...tables));
+}
+
+function tableOf(day, title, place) {
+  const slots = slotsOn(day);
+  const part = element("section", "screen-day", element("h2", "", title));
+  if (slots.length === 0) {
+    part.append(element("p", "screen-words", say(place === 0 ? "screen-over" : "no-facilities")));
+    return part;
+  }
+  const facilities = state.club.facilities.filter((facility) => slots.some((slot) => slot.facility === facility.name));
+  const hours = [...new Set(slots.map((slot) => slot.hour))].sort((a, b) => a - b);
+  const head = element("tr", "", element("th", "hour", say("hour")), ...facilities.map((facility) => element("th", "facility", facility.title)));
+  const rows = hours.map((hour) => element("tr", "", element("th", "hour", `${hourText(hour)}:00`), ...facilities.map((facility) => {
+    const isThere = slots.some((slot) => slot.facility === facility.name && slot.hour === hour);
+    return isThere ? cellOf(slotReplies.get(slotName({ facility: facility.name, day, hour }))) : element("td", "");
+  })));
+  part.append(element("table", "screen-table", element("thead", "", head), element("tbody", "", ...rows)));
+  return part;
+}
+
+function cellOf(view) {
+  if (view === undefined) return element("td", "waiting", "\u2026");
+  if (view.closed) return element("td", "closed", say("cell-closed"));
+  const left = view.places - view.taken;
+  if (left <= 0) return element("td", "full", say("cell-full"));
+  return element("td", "free", view.places === 1 ? say("cell-one-free") : say("screen-free", { left }));
+}

@@ -1,0 +1,157 @@
+// Sends what the record has of bookings and cancellations, until the desk answers: each is written down before it is sent, and its reply
+// after it came. One tab of a browser sends at a time, and looks into the record before it does, so that two tabs send nothing twice.
+import { pauseBefore } from "./desk.mjs";
+import {
+  answered, drawnNumber, isAt, isLive, newBooking, unfinished, wantsOtherNumber, withCancellation,
+} from "./record.mjs";
+import { NoReply } from "./replies.mjs";
+
+// The record could not be written, so nothing was sent.
+export class NotStored extends Error {}
+
+export class Sender {
+  // `store` keeps the entries; `exchange(pass, action, entry)` asks the desk once; `lock(work)` does work while no other tab does;
+  // `pause(milliseconds)`; `changed()` is called after each change; `now()` in milliseconds.
+  constructor({ store, exchange, lock, pause, changed, now = Date.now, draw = drawnNumber }) {
+    Object.assign(this, { store, exchange, lock, pause, changed, now, draw });
+    this.pass = null; // its text, and the key that it is of
+    this.key = null;
+    this.fresh = new Set(); // what this tab wrote down and didn't send yet
+    this.stopped = new Set(); // what the desk refused for this pass
+    this.unsaved = new Map(); // what the browser couldn't write down after it was answered
+    this.followers = new Map(); // who waits for what becomes of a booking
+    this.tries = 0; // without a reply, one after the other
+    this.running = false;
+  }
+
+  usePass(pass, key) {
+    this.pass = pass;
+    this.key = key;
+    this.stopped.clear();
+    return this.run();
+  }
+
+  async entries() {
+    const stored = await this.store.all();
+    return stored.map((entry) => this.unsaved.get(`${entry.key}/${entry.number}`) ?? entry);
+  }
+
+  // Books under a new number: the entry, or `second` where the key has this slot already and a second booking isn't meant.
+  async book(slot, guests, isMeant) {
+    const entry = await this.lock(async () => {
+      const entries = await this.entries();
+      const own = entries.filter((each) => each.key === this.key);
+      const second = own.find((each) => isLive(each) && isAt(each, slot));
+      if (second !== undefined && !isMeant) return { second };
+      const made = newBooking(this.key, this.draw(new Set(own.map((each) => each.number))), slot, guests, this.now());
+      this.fresh.add(`book ${made.key}/${made.number}`);
+      await this.written(made);
+      return made;
+    });
+    return entry;
+  }
+
+  async cancel(key, number) {
+    await this.lock(async () => {
+      const entry = await this.store.get(key, number);
+      if (entry === undefined || entry.cancel !== undefined) return;
+      this.fresh.add(`cancel ${key}/${number}`);
+      await this.written(withCancellation(entry));
+    });
+  }
+
+  async written(...entries) {
+    try {
+      await this.store.put(...entries);
+    } catch (fault) {
+      throw new NotStored(String(fault));
+    }
+    this.changed();
+  }
+
+  // What becomes of an entry: calls back at each change, with the entry of now, also where it got another number.
+  follow(entry, call) {
+    this.followers.set(`${entry.key}/${entry.number}`, call);
+  }
+
+  tell(entry, before = entry) {
+    const name = `${before.key}/${before.number}`;
+    const call = this.followers.get(name);
+    if (call === undefined) return;
+    this.followers.delete(name);
+    this.followers.set(`${entry.key}/${entry.number}`, call);
+    call(entry);
+  }
+
+  // Sends all that is unfinished of the pass's key, until nothing is. A second call while the first runs leaves it to that.
+  async run() {
+    if (this.running) return;
+    this.running = true;
+    try {
+      for (;;) {
+        const open = (await this.entries()).filter((entry) => this.isToSend(entry)).sort((a, b) => a.asked - b.asked);
+        if (open.length === 0) return;
+        await this.round(open);
+      }
+    } finally {
+      this.running = false;
+    }
+  }
+
+  isToSend(entry) {
+    return entry.key === this.key && unfinished(entry) !== null && !this.stopped.has(`${entry.key}/${entry.number}`);
+  }
+
+  async round(open) {
+    let replies = 0;
+    for (const entry of open) {
+      if (entry.key !== this.key) return;
+      replies += await this.lock(() => this.send(entry.key, entry.number)) ? 1 : 0;
+    }
+    this.tries = replies > 0 ? 0 : this.tries + 1;
+    this.changed();
+    if (replies === 0) await this.pause(pauseBefore(this.tries));
+  }
+
+  // Sends once what is unfinished of an entry, if it still is. Whether the desk replied, or there was nothing to send.
+  async send(key, number) {
+    const name = `${key}/${number}`;
+    const entry = this.unsaved.get(name) ?? await this.store.get(key, number);
+    const action = entry === undefined ? null : unfinished(entry);
+    if (action === null || key !== this.key) {
+      if (entry !== undefined) this.tell(entry);
+      return true;
+    }
+    const isFirst = this.fresh.delete(`${action} ${name}`);
+    try {
+      const reply = await this.exchange(this.pass, action, entry);
+      await this.keep(entry, answered({ ...entry, unsure: entry.unsure || !isFirst }, action, reply));
+      return true;
+    } catch (fault) {
+      if (!(fault instanceof NoReply)) throw fault;
+      this.tell(entry);
+      return false;
+    }
+  }
+
+  // Writes down what an entry became. One whose number somebody else used is booked anew, under another number.
+  async keep(entry, next) {
+    const name = `${entry.key}/${entry.number}`;
+    if (unfinished(next) !== null && next.stopped !== undefined) this.stopped.add(name);
+    const entries = [next];
+    if (unfinished(entry) === "book" && wantsOtherNumber(next)) {
+      const used = new Set((await this.entries()).filter((each) => each.key === entry.key).map((each) => each.number));
+      entries.push(newBooking(entry.key, this.draw(used), entry, entry.guests, entry.asked));
+      this.fresh.add(`book ${entry.key}/${entries[1].number}`);
+    }
+    try {
+      await this.store.put(...entries);
+      this.unsaved.delete(name);
+    } catch (fault) {
+      if (entries.length > 1) throw new NotStored(String(fault));
+      this.unsaved.set(name, next);
+    }
+    this.tell(entries.at(-1), entry);
+    this.changed();
+  }
+}

@@ -1,0 +1,50 @@
+// What the page knows at the moment, and what follows from it for all views.
+import { firstDenial } from "./caveats.mjs";
+import { momentIn } from "./dates.mjs";
+import { serverTime } from "./desk.mjs";
+import { facilityOf } from "./club.mjs";
+import { isAt, isLive } from "./record.mjs";
+
+export const state = {
+  club: null, // from club.json
+  pass: null, // as it was read, with its text as it is sent and the name of its key
+  text: "",
+  key: null,
+  isKept: false,
+  store: null, // null where the browser keeps nothing
+  sender: null,
+  entries: [], // the record, of all keys
+  account: null, // the reply, with `at`, the moment when it came
+};
+
+// The moment at the club, or null where its zone isn't known.
+export function clubMoment() {
+  return state.club === null ? null : momentIn(state.club.zone, serverTime());
+}
+
+export function clubTime() {
+  return clubMoment()?.slice(11) ?? "";
+}
+
+export function withKind(slot) {
+  return { ...slot, kind: facilityOf(state.club, slot.facility)?.kind ?? null };
+}
+
+// The number of the caveat that denies what is asked, from 1, or 0: as far as the page can tell, before the desk decides.
+export function denial(action, slot, more = {}) {
+  const place = slot === undefined ? undefined : withKind(slot);
+  return firstDenial(state.pass, { action, moment: clubMoment() ?? "2000-01-01T00:00", slot: place, ...more });
+}
+
+export function ownEntries() {
+  return state.entries.filter((entry) => entry.key === state.key);
+}
+
+export function liveAt(slot) {
+  return ownEntries().filter((entry) => isLive(entry) && isAt(entry, slot));
+}
+
+// Whether something may be sent that has to be written down first.
+export function canSend() {
+  return state.sender !== null && state.key !== null;
+}

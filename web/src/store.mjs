@@ -1,0 +1,53 @@
+// Where the record lies: IndexedDB. A promise of `put` is kept once the browser has it on the disk.
+
+const DATABASE = "desk";
+const ENTRIES = "bookings";
+
+function finished(request) {
+  return new Promise((done, fail) => {
+    request.addEventListener("success", () => done(request.result));
+    request.addEventListener("error", () => fail(request.error));
+    request.addEventListener("blocked", () => fail(new Error("blocked")));
+  });
+}
+
+export class Store {
+  constructor(database) {
+    this.database = database;
+  }
+
+  // Throws where the browser keeps nothing.
+  static async open() {
+    const request = indexedDB.open(DATABASE, 1);
+    request.addEventListener("upgradeneeded", () => request.result.createObjectStore(ENTRIES, { keyPath: ["key", "number"] }));
+    const database = await finished(request);
+    database.addEventListener("versionchange", () => database.close());
+    return new Store(database);
+  }
+
+  all() {
+    return finished(this.database.transaction(ENTRIES).objectStore(ENTRIES).getAll());
+  }
+
+  get(key, number) {
+    return finished(this.database.transaction(ENTRIES).objectStore(ENTRIES).get([key, number]));
+  }
+
+  // Writes all of these entries or none.
+  put(...entries) {
+    return this.change((entriesOf) => entries.forEach((entry) => entriesOf.put(entry)));
+  }
+
+  remove(key, number) {
+    return this.change((entriesOf) => entriesOf.delete([key, number]));
+  }
+
+  change(work) {
+    return new Promise((done, fail) => {
+      const transaction = this.database.transaction(ENTRIES, "readwrite", { durability: "strict" });
+      transaction.addEventListener("complete", () => done());
+      transaction.addEventListener("abort", () => fail(transaction.error ?? new Error("aborted")));
+      work(transaction.objectStore(ENTRIES));
+    });
+  }
+}

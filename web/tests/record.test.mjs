@@ -1,0 +1,93 @@
+// The record: its numbers, its states, what it gives back, and its text.
+import assert from "node:assert/strict";
+import { test } from "node:test";
+import {
+  answered, drawnNumber, fragmentOfRecord, hasBegun, isLive, isTooFarAhead, merged, newBooking, readRecord, recordOfFragment, recordText,
+  refundAt, stateOf, unfinished, wantsOtherNumber, withCancellation,
+} from "../src/record.mjs";
+
+const SLOT = { facility: "court-1", day: "2026-05-01", hour: 18 };
+const ASKED = newBooking("amy-1", 7, SLOT, 2, 1000);
+const BOOKED = answered(ASKED, "book", { booking: "amy-1/7", charge: 601, left: 1 });
+
+test("numbers are drawn from all of them, and none twice", () => {
+  const draws = [4294967295, 4294967293, 999999998, 0, 5];
+  const next = (array) => { array[0] = draws.shift(); };
+  const random = (array) => { next(array); return array; };
+  assert.equal(drawnNumber(new Set([999999999]), random), 1);
+  assert.equal(drawnNumber(new Set(), random), 6);
+  for (let round = 0; round < 1000; round += 1) {
+    const number = drawnNumber(new Set());
+    assert.ok(number >= 1 && number <= 999999999);
+  }
+});
+
+test("a booking from its request to its cancellation", () => {
+  assert.deepEqual([stateOf(ASKED), unfinished(ASKED), isLive(ASKED)], ["asked", "book", true]);
+  assert.deepEqual([stateOf(BOOKED), unfinished(BOOKED), isLive(BOOKED)], ["booked", null, true]);
+  const cancelling = withCancellation(BOOKED);
+  assert.deepEqual([stateOf(cancelling), unfinished(cancelling), isLive(cancelling)], ["cancelling", "cancel", true]);
+  const cancelled = answered(cancelling, "cancel", { booking: "amy-1/7", refund: 601 });
+  assert.deepEqual([stateOf(cancelled), unfinished(cancelled), isLive(cancelled)], ["cancelled", null, false]);
+  const late = answered(cancelling, "cancel", { fault: 21, text: "slot has begun" });
+  assert.deepEqual([stateOf(late), unfinished(late), late.notCancelled.fault], ["booked", null, 21]);
+  assert.equal(unfinished(withCancellation(ASKED)), "book");
+});
+
+test("a refusal decides, but one of the pass after a request that may have been served", () => {
+  const full = answered({ ...ASKED, unsure: true }, "book", { fault: 18, text: "no places" });
+  assert.equal(stateOf(full), "refused");
+  const first = answered(ASKED, "book", { fault: 9, text: "not verified" });
+  assert.equal(stateOf(first), "refused");
+  const later = answered({ ...ASKED, unsure: true }, "book", { fault: 9, text: "not verified" });
+  assert.deepEqual([stateOf(later), later.stopped.fault], ["asked", 9]);
+  const again = answered(later, "book", { booking: "amy-1/7", charge: 601, left: 1 });
+  assert.deepEqual([stateOf(again), again.stopped], ["booked", undefined]);
+  assert.ok(wantsOtherNumber(answered(ASKED, "book", { fault: 13, text: "number used" })));
+});
+
+test("what a cancellation gives back", () => {
+  const rows = [["2026-04-30T18:00", 601], ["2026-04-30T18:01", 300], ["2026-05-01T17:59", 300], ["2026-05-01T18:00", null]];
+  for (const [moment, refund] of rows) assert.equal(refundAt(BOOKED, moment), refund, moment);
+  assert.equal(refundAt({ ...BOOKED, book: {} }, "2026-04-30T18:00"), null);
+});
+
+test("when a slot begins, and how far ahead it may be", () => {
+  assert.deepEqual([hasBegun(SLOT, "2026-05-01T17:59"), hasBegun(SLOT, "2026-05-01T18:00")], [false, true]);
+  assert.deepEqual([isTooFarAhead(SLOT, "2026-03-02T18:00"), isTooFarAhead(SLOT, "2026-03-02T17:59")], [false, true]);
+});
+
+test("the record as a text, there and back", () => {
+  const entries = [
+    BOOKED, { ...ASKED, number: 8 }, { ...BOOKED, number: 9, cancel: null }, { ...BOOKED, number: 10, cancel: { booking: "amy-1/10", refund: 300 } },
+    { ...ASKED, number: 11, guests: null, book: {} }, { ...ASKED, number: 12, book: { fault: 18 } }, { ...BOOKED, key: "bob-1" },
+  ];
+  const text = recordText("amy-1", entries);
+  assert.equal(text, "record of amy-1\n7 court-1 2026-05-01 18 guests 2 charge 601 left 1\n8 court-1 2026-05-01 18 guests 2\n"
+    + "9 court-1 2026-05-01 18 guests 2 charge 601 left 1 cancel\n10 court-1 2026-05-01 18 guests 2 charge 601 left 1 refund 300\n"
+    + "11 court-1 2026-05-01 18\n");
+  const read = readRecord(text, 5);
+  assert.equal(read.key, "amy-1");
+  assert.deepEqual(read.entries.map(stateOf), ["booked", "asked", "cancelling", "cancelled", "booked"]);
+  assert.equal(recordText("amy-1", read.entries), text);
+  assert.ok(read.entries.every((entry) => entry.unsure));
+  assert.equal(recordOfFragment(`#${fragmentOfRecord(text)}`), text);
+  assert.equal(recordOfFragment("#AgEJY2x1Yi1kZXNr"), null);
+  assert.equal(readRecord(text.replaceAll("\n", "\r\n\r\n"), 5).entries.length, 5);
+});
+
+test("a text that is no record says which line", () => {
+  const lines = ["7 court-1 2026-05-01 18 guests 2 charge 601", "0 court-1 2026-05-01 18", "1000000000 court-1 2026-05-01 18", "7 court-1 2026-02-30 18",
+    "7 court-1 2026-05-01 24", "7 Court 2026-05-01 18", "7 court-1 2026-05-01 18 guests 50", "7 court-1 2026-05-01 18 guests 2 guests 2",
+    "7 court-1 2026-05-01 18 left", "7 court-1 2026-05-01 18 tip 5", "7 court-1 2026-05-01 18 guests 02", "7", "record of amy-1"];
+  for (const line of lines) assert.deepEqual(readRecord(`record of amy-1\n8 court-1 2026-05-01 18\n${line}\n`, 5), { wrong: 3 }, line);
+  for (const text of ["", "record of Amy", "record", "7 court-1 2026-05-01 18"]) assert.deepEqual(readRecord(text, 5), { wrong: 1 }, text);
+});
+
+test("of two entries of one number the one that knows more is kept", () => {
+  const cancelled = { ...BOOKED, cancel: { booking: "amy-1/7", refund: 0 } };
+  const known = { ...ASKED, guests: null, book: {} };
+  for (const [own, other, kept] of [[undefined, ASKED, ASKED], [ASKED, BOOKED, BOOKED], [BOOKED, ASKED, BOOKED], [BOOKED, cancelled, cancelled],
+    [cancelled, BOOKED, cancelled], [known, BOOKED, BOOKED], [BOOKED, known, BOOKED], [BOOKED, BOOKED, BOOKED],
+    [BOOKED, { ...cancelled, hour: 19 }, BOOKED]]) assert.equal(merged(own, other), kept);
+});
