@@ -1,9 +1,9 @@
 -- One event more after a list of events that was followed.
 use Rattle.std.proofs.Common.{◌≡◌, ℕ, ◌+◌, ◌<◌, ◌∙◌, take, get_or, add-one, inl, inr, Bool, true, false, cond, List, [], ◌∷◌, ◌++◌, length, All, Contains}
-use Rattle.std.proofs.Common.{Option, Some, None, Result, Ok, Err, refl, sym, ap, subst, arith}
+use Rattle.std.proofs.Common.{Option, Some, None, Result, Ok, Err, refl, sym, ap, subst, arith, append_assoc}
 use Rattle.std.proofs.Math.Seq.{take-suc}
-use Rattle.std.proofs.lemmas.List.{map-append, length-map, length-take}
-use Rattle.std.proofs.lemmas.List.Elements.{All-nil, All-cons, All-weaker, All-contains_itself, Contains-append_left, Contains-append_right}
+use Rattle.std.proofs.lemmas.List.{map-append, length-append, length-map, length-take}
+use Rattle.std.proofs.lemmas.List.Elements.{All-nil, All-cons, All-append, All-weaker, All-contains_itself}
 use Rattle.club_core.specs.declared.change.Change.{Change}
 use Rattle.club_core.specs.declared.command.OfficeFault.{OfficeFault}
 use Rattle.club_core.specs.declared.store.StoreFault.{StoreFault}
@@ -15,7 +15,8 @@ use Rattle.club_gate.specs.Desk.{IsAnsweredBy, IsRefusedBy, Steps, change_by, ch
 use Rattle.club_gate.specs.declared.event.Event.{Event as DeskEvent}
 use Rattle.club_gate.specs.declared.event.EventReply.{EventReply}
 use Rattle.club_gate.specs.Runs.AreHandled.{one_event}
-use Rattle.club_gate.specs.Runs.{AreHandled, IsFollowed, IsHandled, IsLeftBehind, DeskResponse, machine_events, events_failed, responses_of}
+use Rattle.club_gate.specs.Runs.{AreHandled, FailedLast, IsFollowed, IsHandled, MakesNoChange, MayBeLeft}
+use Rattle.club_gate.specs.Runs.{DeskResponse, machine_events, events_answered, responses_of}
 use Rattle.club_gate.specs.Response.{machine_event, response_of, desk_presentation}
 
 -- the first events of a list, and the next one
@@ -55,42 +56,87 @@ ran_more club last next (other ∷ events) [] event one h s = absurd h
 ran_more club last next (other ∷ events) (first ∷ responses) event one h s = (h.0, h.1, ran_more h.0 last next events responses event one h.2 s)
 
 one_before : (is_failed : Bool) (event : Event) (front rest : List Event)
-    → cond is_failed (event ∷ front ++ rest) (front ++ rest) ≡ cond is_failed (event ∷ front) front ++ rest
+    → cond is_failed (front ++ rest) (event ∷ front ++ rest) ≡ cond is_failed front (event ∷ front) ++ rest
 one_before true event front rest = refl
 one_before false event front rest = refl
 
--- the failed events of a list, and of one event after it
-failed_more : (events : List Event) (responses : List DeskResponse) (event : Event) (one : DeskResponse) → length responses ≡ length events
-    → events_failed (events ++ event ∷ []) (responses ++ one ∷ []) ≡ events_failed events responses ++ events_failed (event ∷ []) (one ∷ [])
-failed_more [] [] event one e = refl
-failed_more [] (other ∷ responses) event one e = absurd (omega arith)
-failed_more (other ∷ events) [] event one e = absurd (omega arith)
-failed_more (other ∷ events) (first ∷ responses) event one e =
-    rw (failed_more events responses event one (omega arith))
-    (one_before (has_failed desk_presentation other first) other (events_failed events responses) (events_failed (event ∷ []) (one ∷ [])))
+-- the answered events of a list, and of one event after it
+answered_and_one : (events : List Event) (responses : List DeskResponse) (event : Event) (one : DeskResponse) → length responses ≡ length events
+    → events_answered (events ++ event ∷ []) (responses ++ one ∷ []) ≡ events_answered events responses ++ events_answered (event ∷ []) (one ∷ [])
+answered_and_one [] [] event one e = refl
+answered_and_one [] (other ∷ responses) event one e = absurd (omega arith)
+answered_and_one (other ∷ events) [] event one e = absurd (omega arith)
+answered_and_one (other ∷ events) (first ∷ responses) event one e =
+    rw (answered_and_one events responses event one (omega arith))
+    (one_before (has_failed desk_presentation other first) other (events_answered events responses) (events_answered (event ∷ []) (one ∷ [])))
 
-among_failed : (event : Event) (one : DeskResponse) → has_failed desk_presentation event one ≡ true → Contains (events_failed (event ∷ []) (one ∷ [])) event
-among_failed event one h = rw h (0, omega arith, refl)
+abbrev Keeps : Club → Event → Type 0
+Keeps last event = change_of last event ≡ None
 
--- the possible crash states after more events that failed
-left_with_more : (club : Club) (others : List Club) (last : Club) (refused more : List Event) (left : Club) → IsLeftBehind club others last refused left
-    → IsLeftBehind club others last (refused ++ more) left
-left_with_more club others last refused more left (inl h) = inl h
-left_with_more club others last refused more left (inr h) = inr (h.0, Contains-append_left refused more h.0 h.1, h.2)
+-- an event that failed makes no change, and neither does one that is answered without one
+none_by_failure : (last : Club) (event : Event) (one : DeskResponse) → has_failed desk_presentation event one ≡ true
+    → MakesNoChange last (event ∷ []) (one ∷ [])
+none_by_failure last event one h = rw h (All-nil (Keeps last))
 
-all_with_more : (club : Club) (others : List Club) (last : Club) (refused more all : List Event) (left : List Club) → all ≡ refused ++ more
-    → All (IsLeftBehind club others last refused) left → All (IsLeftBehind club others last all) left
-all_with_more club others last refused more all left e h =
-    subst (λ (events : List Event). All (IsLeftBehind club others last events) left) (sym e)
-    (All-weaker (IsLeftBehind club others last refused) (IsLeftBehind club others last (refused ++ more)) (left_with_more club others last refused more) left h)
+none_by_answer : (last : Club) (event : Event) (one : DeskResponse) → has_failed desk_presentation event one ≡ false → change_of last event ≡ None
+    → MakesNoChange last (event ∷ []) (one ∷ [])
+none_by_answer last event one h e = rw h (All-cons (Keeps last) event [] e (All-nil (Keeps last)))
+
+no_change_more : (last : Club) (events : List Event) (responses : List DeskResponse) (event : Event) (one : DeskResponse)
+    → length responses ≡ length events → MakesNoChange last events responses → MakesNoChange last (event ∷ []) (one ∷ [])
+    → MakesNoChange last (events ++ event ∷ []) (responses ++ one ∷ [])
+no_change_more last events responses event one e before more =
+    rw (answered_and_one events responses event one e)
+    (All-append (Keeps last) (events_answered events responses) (events_answered (event ∷ []) (one ∷ [])) before more)
+
+-- as many responses as events come after a place with as many before it
+rest_beside : (events front rest : List Event) (event : Event) (responses before since : List DeskResponse) (response : DeskResponse)
+    → events ≡ front ++ event ∷ rest → responses ≡ before ++ response ∷ since → length before ≡ length front → length responses ≡ length events
+    → length since ≡ length rest
+rest_beside events front rest event responses before since response place among beside e =
+    let all : length events ≡ length front + (1 + length rest) = ap length place ∙ simp length-append (omega arith) in
+    let returned : length responses ≡ length before + (1 + length since) = ap length among ∙ simp length-append (omega arith) in
+    omega arith
+
+-- the possible crash states after one event more that makes no change
+module _ (club : Club) (others : List Club) (last : Club) (events : List Event) (responses : List DeskResponse) (event : Event) (one : DeskResponse)
+    (e : length responses ≡ length events) (none : MakesNoChange last (event ∷ []) (one ∷ [])) where
+  failed_before : (other : Event) → FailedLast last events responses other → FailedLast last (events ++ event ∷ []) (responses ++ one ∷ []) other
+  failed_before other f = record {
+    front = f.front;
+    rest = f.rest ++ event ∷ [];
+    before = f.before;
+    response = f.response;
+    since = f.since ++ one ∷ [];
+    place = ap (λ (es : List Event). es ++ event ∷ []) f.place ∙ append_assoc f.front (other ∷ f.rest) (event ∷ []);
+    response_place = ap (λ (rs : List DeskResponse). rs ++ one ∷ []) f.response_place ∙ append_assoc f.before (f.response ∷ f.since) (one ∷ []);
+    beside = f.beside;
+    failure = f.failure;
+    no_change =
+        no_change_more last f.rest f.since event one
+        (rest_beside events f.front f.rest other responses f.before f.since f.response f.place f.response_place f.beside e) f.no_change none;
+  }
+
+  left_with_more : (left : Club) → MayBeLeft club others last events responses left
+      → MayBeLeft club others last (events ++ event ∷ []) (responses ++ one ∷ []) left
+  left_with_more left (inl h) = inl (h.0, no_change_more last events responses event one e h.1 none, h.2)
+  left_with_more left (inr h) = inr (h.0, failed_before h.0 h.1, h.2)
+
+  all_with_more : (left : List Club) → All (MayBeLeft club others last events responses) left
+      → All (MayBeLeft club others last (events ++ event ∷ []) (responses ++ one ∷ [])) left
+  all_with_more left h = All-weaker (MayBeLeft club others last events responses)
+      (MayBeLeft club others last (events ++ event ∷ []) (responses ++ one ∷ [])) left_with_more left h
 
 -- the possible crash states after an event that was answered
-left_by_answer : (club : Club) (others : List Club) (last : Club) (all : List Event) (event : Event) (left : List Club) (change : Option Change)
-    → change_of last event ≡ change → All (IsLeftBehind club others last all) left
-    → All (IsLeftBehind club others (step last event).club all) (others_after change left)
-left_by_answer club others last all event left None e h =
-    subst (λ (c : Club). All (IsLeftBehind club others c all) left) (sym (kept_by last event e)) h
-left_by_answer club others last all event left (Some change) e h = All-nil (IsLeftBehind club others (step last event).club all)
+left_by_answer : (club : Club) (others : List Club) (last : Club) (events : List Event) (responses : List DeskResponse) (event : Event) (one : DeskResponse)
+    (left : List Club) (change : Option Change) → length responses ≡ length events → has_failed desk_presentation event one ≡ false
+    → change_of last event ≡ change → All (MayBeLeft club others last events responses) left
+    → All (MayBeLeft club others (step last event).club (events ++ event ∷ []) (responses ++ one ∷ [])) (others_after change left)
+left_by_answer club others last events responses event one left None e success is h =
+    subst (λ (c : Club). All (MayBeLeft club others c (events ++ event ∷ []) (responses ++ one ∷ [])) left) (sym (kept_by last event is))
+    (all_with_more club others last events responses event one e (none_by_answer last event one success is) left h)
+left_by_answer club others last events responses event one left (Some change) e success is h =
+    All-nil (MayBeLeft club others (step last event).club (events ++ event ∷ []) (responses ++ one ∷ []))
 
 module _ {S : Type 0} (Represents : S → Club → List Club → Type 0) where
   answered_more : (new : S) (now : S) (club : Club) (others : List Club) (events : List Event) (responses : List DeskResponse) (event : Event)
@@ -98,18 +144,13 @@ module _ {S : Type 0} (Represents : S → Club → List Club → Type 0) where
       → length responses ≡ length events → (f : IsFollowed Represents now club others events responses) → IsAnsweredBy Represents new f.last f.left event one
       → IsFollowed Represents new club others (events ++ event ∷ []) (responses ++ one ∷ [])
   answered_more new now club others events responses event one e f a =
-      let refused = events_failed events responses in
-      let more = events_failed (event ∷ []) (one ∷ []) in
-      let all = events_failed (events ++ event ∷ []) (responses ++ one ∷ []) in
       let next = (step f.last event).club in
       record {
         last = next;
         ran = ran_more club f.last next events responses event one f.ran (inl (record { success = a.success; reply = a.reply; steps_club = refl }));
         left = others_after (change_of f.last event) f.left;
         represents = a.represents;
-        each =
-            left_by_answer club others f.last all event f.left (change_of f.last event) refl
-            (all_with_more club others f.last refused more all f.left (failed_more events responses event one e) f.each);
+        each = left_by_answer club others f.last events responses event one f.left (change_of f.last event) e a.success refl f.each;
       }
 
   refused_more : (new : S) (now : S) (club : Club) (others : List Club) (events : List Event) (responses : List DeskResponse) (event : Event)
@@ -117,15 +158,23 @@ module _ {S : Type 0} (Represents : S → Club → List Club → Type 0) where
       → length responses ≡ length events → (f : IsFollowed Represents now club others events responses) → IsRefusedBy Represents new f.last f.left event one
       → IsFollowed Represents new club others (events ++ event ∷ []) (responses ++ one ∷ [])
   refused_more new now club others events responses event one e f r =
-      let refused = events_failed events responses in
-      let more = events_failed (event ∷ []) (one ∷ []) in
-      let all = events_failed (events ++ event ∷ []) (responses ++ one ∷ []) in
-      let Left : Club → Type 0 = IsLeftBehind club others f.last all in
+      let all = events ++ event ∷ [] in
+      let returned = responses ++ one ∷ [] in
+      let Left : Club → Type 0 = MayBeLeft club others f.last all returned in
       let ran = ran_more club f.last f.last events responses event one f.ran (inr (record { failure = r.failure; kept = refl })) in
-      let each = all_with_more club others f.last refused more all f.left (failed_more events responses event one e) f.each in
-      let among : Contains all event =
-      rw (failed_more events responses event one e) (Contains-append_right refused more event (among_failed event one r.failure))
-      in
+      let each = all_with_more club others f.last events responses event one e (none_by_failure f.last event one r.failure) f.left f.each in
+      let failed : FailedLast f.last all returned event = record {
+        front = events;
+        rest = [];
+        before = responses;
+        response = one;
+        since = [];
+        place = refl;
+        response_place = refl;
+        beside = e;
+        failure = r.failure;
+        no_change = All-nil (Keeps f.last);
+      } in
       elim r.represents [
         | inl same ↦ record { last = f.last; ran = ran; left = f.left; represents = same; each = each }
         | inr changed ↦ record {
@@ -133,7 +182,7 @@ module _ {S : Type 0} (Represents : S → Club → List Club → Type 0) where
           ran = ran;
           left = (step f.last event).club ∷ f.left;
           represents = changed;
-          each = All-cons Left (step f.last event).club f.left (inr (event, among, refl)) each;
+          each = All-cons Left (step f.last event).club f.left (inr (event, failed, refl)) each;
         }
       ]
 
@@ -144,7 +193,9 @@ module _ {S : Type 0} (Represents : S → Club → List Club → Type 0) where
     ran = refl;
     left = others;
     represents = h;
-    each = All-weaker (Contains others) (IsLeftBehind club others club []) (λ left among. inl (refl, among)) others (All-contains_itself others);
+    each =
+        All-weaker (Contains others) (MayBeLeft club others club [] []) (λ left among. inl (refl, All-nil (Keeps club), among)) others
+        (All-contains_itself others);
   }
 
   pub followed_more : (new : S) (now : S) (club : Club) (others : List Club) (events : List Event) (responses : List DeskResponse) (event : Event)

@@ -1,6 +1,5 @@
 -- The laws of runs, for a list of events that was followed.
 use Rattle.std.proofs.Common.{◌≡◌, inl, inr, List, ◌∷◌, ◌++◌, All, Some, Result, Ok, Err, IfOk, OnOk, sym, subst}
-use Rattle.std.proofs.lemmas.List.Elements.{All-weaker}
 use Rattle.club_core.specs.Club.{Club, empty_club, member_named, IsSound}
 use Rattle.club_core.specs.Events.{IsEvent}
 use Rattle.club_core.specs.Run.{Event, Asked, replies_of}
@@ -11,7 +10,7 @@ use Rattle.club_laws.specs.Conservation.{IsConserved, SoundClubsHavePlaces}
 use Rattle.club_laws.specs.Failed.{IsRun, LeavesOutFailed}
 use Rattle.club_gate.specs.declared.event.OfficeReply.{OfficeReply}
 use Rattle.club_gate.specs.Runs.{Conserves, IsAnsweredRun, IsAsInAnother, IsFollowed, IsNeverNegative, IsNeverOverbooked, IsOnce, IsSolo}
-use Rattle.club_gate.specs.Runs.{IsLeftBehind, LeavesClub, MayBeLeft, DeskResponse, events_answered, club_left, events_failed}
+use Rattle.club_gate.specs.Runs.{LeavesClub, MayBeLeft, DeskResponse, events_answered, club_left}
 use Rattle.club_gate.specs.Response.{desk_presentation}
 
 -- a property of the responses to a followed list holds of the responses that the desk returns
@@ -35,19 +34,13 @@ module _ {S : Type 0} (Represents : S → Club → List Club
   pub leaves_club : RepeatsAfterOneMore OfficeReply → LeavesClub Represents new club others events responses
   leaves_club law =
       let last = club_left club events responses in
-      let refused = events_failed events responses in
       let again = law desk_presentation club last events responses answered_by in
       let At : Club → Type 0 = λ c. RepeatsServedReplies c events responses in
-      let one : (c : Club) → IsLeftBehind club others last refused c → MayBeLeft club others events responses c =
-      λ c is. elim is [ inl before ↦ inl before | inr after ↦ inr (after, subst At (sym after.2) (again.1 after.0)) ]
-      in
       record {
         left = f.left;
         represents = subst (λ (c : Club). Represents new c f.left) left_by f.represents;
-        again = again.0;
-        each =
-            All-weaker (IsLeftBehind club others last refused) (MayBeLeft club others events responses) one f.left
-            (subst (λ (c : Club). All (IsLeftBehind club others c refused) f.left) left_by f.each);
+        each = subst (λ (c : Club). All (MayBeLeft club others c events responses) f.left) left_by f.each;
+        again = λ now near. elim near [ inl same ↦ subst At (sym same) again.0 | inr one ↦ subst At (sym one.1) (again.1 one.0) ];
       }
 
   pub solo_by : SoloLawWithFailures OfficeReply → IsSound club → IsSolo club events responses

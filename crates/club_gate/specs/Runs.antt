@@ -1,6 +1,6 @@
 -- The responses to a list of events, and the club and crash states of the store after it (ours). An event failed if its response says that
 -- memory or storage was refused.
-use Rattle.std.specs.Prelude.{◌≡◌, ◌⊎◌, ℕ, ◌≤◌, IsFalse, List, [], ◌∷◌, ◌++◌, length, map, sum_by, All, Contains, Option, Some, if◌then◌else◌}
+use Rattle.std.specs.Prelude.{◌≡◌, ◌⊎◌, ℕ, ◌≤◌, IsTrue, IsFalse, List, [], ◌∷◌, ◌++◌, length, map, sum_by, All, Contains, Option, Some, None}
 use Rattle.club_values.specs.declared.slot.Slot.{Slot}
 use Rattle.club_rows.specs.declared.member.Member.{Member}
 use Rattle.club_core.specs.declared.change.Change.{Change}
@@ -18,7 +18,7 @@ use Rattle.club_laws.specs.Conservation.{IsConserved, HasPlaces}
 use Rattle.club_laws.specs.Failed.{ToMember, has_failed, IsRun, answered_events, answers}
 use Rattle.club_laws.specs.Failed as laws
 use Rattle.club_laws.specs.SoloLaw.{replies_to}
-use Rattle.club_gate.specs.Desk.{FailsForCause, NamesItsFault, OfItsClub, Steps}
+use Rattle.club_gate.specs.Desk.{FailsForCause, NamesItsFault, OfItsClub, Steps, change_of}
 use Rattle.club_gate.specs.declared.event.Event.{Event}
 use Rattle.club_gate.specs.declared.event.Event.TheVariants as events
 use Rattle.club_gate.specs.declared.event.EventReply.{EventReply}
@@ -37,14 +37,9 @@ machine_events events = map machine_event events
 abbrev pub responses_of : List EventReply → List DeskResponse
 responses_of replies = map response_of replies
 
--- the events that were answered, and those that failed
+-- the events that were answered
 abbrev pub events_answered : List machine.Event → List DeskResponse → List machine.Event
 events_answered events responses = answered_events desk_presentation events responses
-
-abbrev pub events_failed : List machine.Event → List DeskResponse → List machine.Event
-events_failed (event ∷ events) (response ∷ replies) =
-    if has_failed desk_presentation event response then event ∷ events_failed events replies else events_failed events replies
-events_failed events replies = []
 
 -- the club after the answered events
 abbrev pub club_left : Club → List machine.Event → List DeskResponse → Club
@@ -54,29 +49,47 @@ club_left club events responses = club_after club (events_answered events respon
 abbrev pub IsAnsweredRun : Club → List machine.Event → List DeskResponse → Type 0
 IsAnsweredRun club events responses = IsRun desk_presentation club events responses (club_left club events responses)
 
--- if nothing was changed: a possible crash state of before
-abbrev pub WasLeftBefore : Club → List Club → Club → Club → Type 0
-WasLeftBefore club others last left = (last ≡ club) × Contains others left
+-- none of these events changed the club
+abbrev pub MakesNoChange : Club → List machine.Event → List DeskResponse → Type 0
+MakesNoChange club events responses = All (λ event. change_of club event ≡ None) (events_answered events responses)
 
--- the last club after one of these events
-abbrev pub IsAfterOneOf : Club → List machine.Event → Club → Type 0
-IsAfterOneOf last events left = (event : machine.Event) × Contains events event × (left ≡ (step last event).club)
+-- The event failed, and no event after it changed the last club.
+pub record FailedLast (last : Club) (events : List machine.Event) (responses : List DeskResponse) (event : machine.Event) : Type 0 where
+  pub front : List machine.Event
+  pub rest : List machine.Event
+  pub before : List DeskResponse
+  pub response : DeskResponse
+  pub since : List DeskResponse
+  pub place : events ≡ front ++ event ∷ rest
+  pub response_place : responses ≡ before ++ response ∷ since
+  pub beside : length before ≡ length front
+  pub failure : IsTrue (has_failed desk_presentation event response)
+  pub no_change : MakesNoChange last rest since
 
--- Another possible crash state after a run. If nothing was changed: one of before. Otherwise the current club after one event that failed;
--- there a repeat of what was served gets the same response, and changes nothing.
-abbrev pub MayBeLeft : Club → List Club → List machine.Event → List DeskResponse → Club → Type 0
-MayBeLeft club others events responses left =
-    WasLeftBefore club others (club_left club events responses) left
-    ⊎ (IsAfterOneOf (club_left club events responses) (events_failed events responses) left × RepeatsServedReplies left events responses)
+-- if the run changed nothing: a possible crash state of before
+abbrev pub WasLeftBefore : Club → List Club → Club → List machine.Event → List DeskResponse → Club → Type 0
+WasLeftBefore club others last events responses left = (last ≡ club) × MakesNoChange last events responses × Contains others left
 
--- The store represents the club after the answered events. There a repeat of what was served gets the same response, and changes nothing.
--- There are no other possible crash states than these.
+-- the last club after one event that failed since the last change
+abbrev pub IsLeftByFailure : Club → List machine.Event → List DeskResponse → Club → Type 0
+IsLeftByFailure last events responses left = (event : machine.Event) × FailedLast last events responses event × (left ≡ (step last event).club)
+
+-- another possible crash state after a run that began with a club and its possible crash states, and that leaves the last club
+abbrev pub MayBeLeft : Club → List Club → Club → List machine.Event → List DeskResponse → Club → Type 0
+MayBeLeft club others last events responses left = WasLeftBefore club others last events responses left ⊎ IsLeftByFailure last events responses left
+
+-- this club, or another one after one event
+abbrev pub IsWithinOneEvent : Club → Club → Type 0
+IsWithinOneEvent club now = (now ≡ club) ⊎ ((event : machine.Event) × (now ≡ (step club event).club))
+
+-- The store represents the club after the answered events, and there are no other possible crash states than these. In that club, and in each
+-- that is one event from it, a repeat of what was served gets the same response, and changes nothing.
 pub record LeavesClub {S : Type 0} (Represents : S → Club → List Club → Type 0) (new : S) (club : Club) (others : List Club) (events : List machine.Event)
     (responses : List DeskResponse) : Type 0 where
   pub left : List Club
   pub represents : Represents new (club_left club events responses) left
-  pub again : RepeatsServedReplies (club_left club events responses) events responses
-  pub each : All (MayBeLeft club others events responses) left
+  pub each : All (MayBeLeft club others (club_left club events responses) events responses) left
+  pub again : (now : Club) → IsWithinOneEvent (club_left club events responses) now → RepeatsServedReplies now events responses
 
 -- the replies to a member's requests are those that the member's part and own events give
 abbrev pub IsSolo : Club → List machine.Event → List DeskResponse → Type 0
@@ -160,10 +173,6 @@ module _ {S : Type 0} (IsClean : S → Type 0) (Represents : S → Club → List
     one_event : (events : List Event) (replies : List EventReply) (event : Event) (reply : EventReply) (now new : S) → AreHandled old events replies now
         → IsHandled now event reply new → AreHandled old (events ++ event ∷ []) (replies ++ reply ∷ []) new
 
--- another possible crash state: one of before, or the last club after one of the events that failed
-abbrev pub IsLeftBehind : Club → List Club → Club → List machine.Event → Club → Type 0
-IsLeftBehind club others last refused left = WasLeftBefore club others last left ⊎ IsAfterOneOf last refused left
-
 -- The desk has handled a list of events in their order: each was answered or failed.
 pub record IsFollowed {S : Type 0} (Represents : S → Club → List Club → Type 0) (new : S) (club : Club) (others : List Club) (events : List machine.Event)
     (responses : List DeskResponse) : Type 0 where
@@ -171,4 +180,4 @@ pub record IsFollowed {S : Type 0} (Represents : S → Club → List Club → Ty
   pub ran : IsRun desk_presentation club events responses last
   pub left : List Club
   pub represents : Represents new last left
-  pub each : All (IsLeftBehind club others last (events_failed events responses)) left
+  pub each : All (MayBeLeft club others last events responses) left

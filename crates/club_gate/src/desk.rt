@@ -272,7 +272,8 @@ impl<S: ClubStore> Desk<S> {
 
     /// Answers an event, by `ask` or `office`.
     pub(crate) fn event(&mut self, event: &Event) -> EventReply
-        ensures { IsHandled S.disk_is_clean S.represents S.fails self.old event.now result self.new }
+        ensures { IsHandled S.disk_is_clean S.represents S.fails self.old event.now result
+            self.new }
     {
         match event {
             Event::Asked { words, moment } => EventReply::Replied(self.ask(*moment, words)),

@@ -50,7 +50,10 @@ impl<S: ClubStore> Desk<S> {
         // Each event was answered by one step, or the store failed in it, as at `ask` and `office`.
         ensures handled { IfOk result (λ replies. AreHandled S.disk_is_clean S.represents S.fails
             self.old events.now replies.items self.new) }
-        // A crash leaves the club of the answered events, or that after one event that failed.
+        // After a crash the store holds the club of the answered events; or that club after one
+        // event that failed since the last change; or, if the run changed nothing, what a crash
+        // could leave before it. In the first, and in each of the others that is one event from
+        // it, a repeat of what was served gets the same reply and changes nothing.
         ensures represents { S.disk_is_clean self.new → (club : Club) (others : List Club)
             → S.represents self.old club others
             → IfOk result (λ replies. LeavesClub S.represents self.new club others

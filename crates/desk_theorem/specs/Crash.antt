@@ -3,19 +3,20 @@ use Rattle.std.specs.Prelude.{◌≡◌, ◌⊎◌, List, [], Contains}
 use Rattle.sqlite_disk.specs.declared.Disk as disk
 use Rattle.sqlite.specs.declared.FileStore.{FileStore}
 use Rattle.sqlite.specs.FileStore as file
-use Rattle.sqlite.specs.Files.{file_state, over_files}
+use Rattle.sqlite.specs.Files.{file_state, over_files, IsOpened}
 use Rattle.sqlite.specs.Held.{Held}
 use Rattle.sqlite.specs.Recovery.{Image}
+use Rattle.sqlite.specs.Start.{FindsIn}
 use Rattle.sqlite.specs.State.{State}
 use Rattle.sqlite.specs.View.{IsClean}
 use Rattle.club_core.specs.Club.{Club}
 use Rattle.club_core.specs.Run as machine
 use Rattle.club_laws.specs.RunsWithFailures.{RepeatsServedReplies}
-use Rattle.club_store.specs.Crash.{CrashLeaves}
+use Rattle.club_store.specs.Crash.{CrashLeaves, IsOpenedOn, RepresentsOne}
 use Rattle.club_store.specs.Opening.{OpensFrom}
 use Rattle.club_tables.specs.Tables.{Represents}
 use Rattle.club_tables.specs.ReadsAndChanges.{sound_in}
-use Rattle.club_gate.specs.Runs.{MayBeLeft, DeskResponse, club_left}
+use Rattle.club_gate.specs.Runs.{IsWithinOneEvent, MayBeLeft, DeskResponse, club_left}
 
 -- The state represents exactly one of these clubs, and no crash leaves another. An accepted repeat gets the same reply.
 pub record RecoversOne (state : State) (clubs : List Club) (events : List machine.Event) (returned : List DeskResponse) : Type 0 where
@@ -34,19 +35,29 @@ SurvivesCrash before after clubs events returned =
 abbrev pub CrashMayLeave : {D : Type 0} {d : disk.Ghosts D} → FileStore D d → Image → Type 0
 CrashMayLeave store left = IsClean (file.view store) × (file.state store).may_leave left
 
--- the club that the answered events leave; a repeat of a served request gets the same reply in it, and changes nothing
-abbrev pub IsLast : Club → List machine.Event → List DeskResponse → Club → Type 0
-IsLast club events returned now = (now ≡ club_left club events returned) × RepeatsServedReplies now events returned
+-- A store is opened on a file and a log of this image by `Store::adopt`, over a connection that was opened on them.
+pub record IsAdoptedFrom {E : Type 0} {e : disk.Ghosts E} (start : Image) (now : Held (FileStore E e)) : Type 0 where
+  pub was : Held (FileStore E e)
+  pub opening : IsOpened was
+  pub found : FindsIn start (file_state was)
+  pub again : (clubs : List Club) → IsOpenedOn (file_state was) clubs → RepresentsOne (file_state now) clubs
 
--- After a run and a crash, a reopened store holds exactly one club, and no further crash leaves another: the club that the answered
--- events leave, or another possible crash state of the run.
+-- the same by `Store::open_file`, or by `Store::adopt`
+abbrev pub IsReopened : {E : Type 0} {e : disk.Ghosts E} → Image → Held (FileStore E e) → Type 0
+IsReopened start now = OpensFrom start now ⊎ IsAdoptedFrom start now
+
+-- After a run and a crash, a reopened store holds exactly one club, and no further crash leaves another: the club that the answered events
+-- leave, or another possible crash state of the run. If it is that club or one event from it, a repeat of a served request gets the same
+-- reply, and changes nothing.
 pub record RecoversAfterRun {E : Type 0} {e : disk.Ghosts E} (opened : Held (FileStore E e)) (club : Club) (others : List Club) (events : List machine.Event)
     (returned : List DeskResponse) : Type 0 where
   pub now : Club
-  pub is : IsLast club events returned now ⊎ MayBeLeft club others events returned now
+  pub is : (now ≡ club_left club events returned) ⊎ MayBeLeft club others (club_left club events returned) events returned now
+  pub again : IsWithinOneEvent (club_left club events returned) now → RepeatsServedReplies now events returned
   pub represents : sound_in over_files opened now []
 
 -- Every store that is opened on what a crash may leave of this one's file and log, after a run from this club.
 abbrev pub OpensAgain : {D E : Type 0} {d : disk.Ghosts D} → disk.Ghosts E → FileStore D d → Club → List Club → List machine.Event → List DeskResponse → Type 0
 OpensAgain {E = E} e store club others events returned =
-    (left : Image) (opened : Held (FileStore E e)) → CrashMayLeave store left → OpensFrom left opened → ∥ RecoversAfterRun opened club others events returned ∥₁
+    (left : Image) (opened : Held (FileStore E e)) → CrashMayLeave store left → IsReopened left opened
+    → ∥ RecoversAfterRun opened club others events returned ∥₁

@@ -49,8 +49,11 @@ pub fn run_and_leave<D: Disk + Drop, E: Disk>(
         → (club : Club) (others : List Club)
         → sound_in over_files desk club others
         → IsAnsweredRun club (machine_events events.now) (responses_of left.0.items)) }
-    // After any crash, a reopened store holds the club of the answered events, or that after one
-    // event that failed. A repeat of a served request gets the same reply there.
+    // After any crash, a store that is opened by `open_file` or `adopt` holds the club of the
+    // answered events; or that club after one event that failed since the last change; or, if the
+    // run changed nothing, what a crash could leave before it. In the first, and in each of the
+    // others that is one event from it, a repeat of a served request gets the same reply and
+    // changes nothing.
     ensures again { IfOk result (λ left. (club : Club) (others : List Club)
         → sound_in over_files desk club others
         → OpensAgain E.Disk left.1 club others (machine_events events.now)
