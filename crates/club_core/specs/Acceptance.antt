@@ -1,9 +1,8 @@
 -- Which passes are accepted, and which requests an accepted pass allows (ours).
-use Rattle.std.specs.Prelude.{◌≡◌, ◌≢◌, ℕ, All, true, false, Option, Some, None, Ok}
+use Rattle.std.specs.Prelude.{◌≡◌, ◌≢◌, ℕ, All, false, Option, Some, None, Ok}
 use Rattle.pass_caveats.specs.declared.ask.Ask.{Ask}
 use Rattle.pass_caveats.specs.declared.caveat.Caveat.{Caveat}
 use Rattle.pass_caveats.specs.Caveat.{Permits}
-use Rattle.pass_caveats.specs.computed.CaveatOf.{first_fault_of}
 use Rattle.club_core.specs.declared.refusal.Refusal.{Refusal}
 use Rattle.club_core.specs.declared.reply.Reply.{Reply}
 use Rattle.club_core.specs.declared.reply.Reply.TheVariants.{Refused}
@@ -13,7 +12,6 @@ use Rattle.club_core.specs.Answer.{ask_of}
 use Rattle.club_core.specs.Basis.{Basis, basis_of, view_of}
 use Rattle.club_core.specs.Club.{Club, key_named}
 use Rattle.club_core.specs.Pass.{Pass, IsSignedUnder, Words}
-use Rattle.club_core.specs.computed.Pass.{is_signed_under}
 
 -- any reply but a refusal
 abbrev pub IsServed : Reply → Type 0
@@ -24,11 +22,12 @@ abbrev pub IsAllowedBy : Ask → Option Caveat → Type 0
 IsAllowedBy ask None = ⊥
 IsAllowedBy ask (Some caveat) = Permits caveat ask
 
--- the pass is accepted for the request: it is signed under the view's key, the key isn't revoked, and no caveat is at fault
+-- the pass is accepted for the request: it is signed under a root of the view's key that is good at the moment, the key isn't revoked, and each
+-- of its caveats allows the request
 pub record IsAcceptedPass (pass : Pass) (request : Request) (moment : ℕ) (view : View) : Type 0 where
-  pub signed : is_signed_under pass view.key moment ≡ true
+  pub signed : IsSignedUnder pass view.key moment
   pub not_revoked : view.key.revoked ≡ false
-  pub faultless : first_fault_of pass.caveats (ask_of view request moment) ≡ None
+  pub permission : All (IsAllowedBy (ask_of view request moment)) pass.caveats
 
 -- the text is a pass, it names a key of the club, and it is accepted
 pub record IsAcceptedIn (club : Club) (words : Words) (moment : ℕ) : Type 0 where

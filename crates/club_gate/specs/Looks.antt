@@ -22,7 +22,7 @@ use Rattle.club_core.specs.declared.view.View.{View}
 use Rattle.club_core.specs.Basis.{view_in}
 use Rattle.club_core.specs.Club.{Club}
 use Rattle.club_core.specs.Store.{IsRead, KeepsClub}
-use Rattle.club_core.specs.Verdict.{account_verdict, view_verdict}
+use Rattle.club_core.specs.Verdict.{account_verdict, verdict_of, view_verdict}
 use Rattle.club_gate.specs.Desk.{OfItsClub}
 use Rattle.club_gate.specs.Reading.{first_view, with_slot}
 use Rattle.club_gate.specs.declared.fault.Fault.{Fault}
@@ -93,9 +93,20 @@ unless_refused reply = Some reply
 abbrev pub slot_reply : Club → Slot → Key → Option Reply
 slot_reply club slot key = unless_refused (view_verdict (slot_view club slot key) slot).reply
 
+-- the lines of a reply
+abbrev pub reply_lines : Option Reply → Option (List ℕ)
+reply_lines reply = option_map (λ r. lines (named_values r)) reply
+
 -- what a look at a slot shows, by whichever key
 abbrev pub slot_look : Club → Slot → Key → Option (List ℕ)
-slot_look club slot key = option_map (λ reply. lines (named_values reply)) (slot_reply club slot key)
+slot_look club slot key = reply_lines (slot_reply club slot key)
+
+-- A look at a slot shows the values of the reply that each key of the club gets for the slot, at whatever moment; and nothing if that is a refusal.
+abbrev pub ShowsSlotsToKeys : Type 0
+ShowsSlotsToKeys =
+    (club : Club) (slot : Slot) (key : Key) (name : List ℕ) (moment : ℕ) (view : View)
+    → view_in club name (asked.View slot) moment ≡ Some view
+    → slot_look club slot key ≡ reply_lines (unless_refused (verdict_of view (asked.View slot) moment).reply)
 
 -- why a look gives no text: there is nothing of the name; or memory or storage was refused
 abbrev pub IsUnshown : Option (List ℕ) → Fault → Type 0

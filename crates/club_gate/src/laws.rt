@@ -2,6 +2,7 @@
 
 ghost use Rattle.club_gate.specs.Identifier.{FindsNames};
 ghost use Rattle.club_gate.specs.DecodedPass.{ReadsNoLackOfMemory};
+ghost use Rattle.club_gate.specs.Looks.{ShowsSlotsToKeys};
 
 use club_values::laws::reads_names;
 use pass_json::laws::reads_any_form_exactly;
@@ -19,3 +20,8 @@ pub fn reads_no_lack_of_memory()
 {
     reads_any_form_exactly();
 }
+
+/// What `Desk::show_slot` shows is the club's reply to each of its keys that asks for the slot.
+pub fn shows_slots_to_keys()
+    ensures { ShowsSlotsToKeys }
+{}

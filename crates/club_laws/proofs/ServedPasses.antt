@@ -3,7 +3,7 @@ use Rattle.std.proofs.Common.{◌≡◌, ℕ, ◌+◌, Bool, true, false, not, c
 use Rattle.std.proofs.Common.{All, refl, sym, ap, ◌∙◌, subst}
 use Rattle.std.proofs.lemmas.Bool.{not-false, false_from_ne_true}
 use Rattle.std.proofs.lemmas.Option.{same_Some}
-use Rattle.std.proofs.lemmas.List.Elements.{All-nil, All-cons}
+use Rattle.std.proofs.lemmas.List.Elements.{All-nil, All-cons, All-head, All-tail}
 use Rattle.pass_caveats.specs.declared.ask.Ask.{Ask}
 use Rattle.pass_caveats.specs.declared.caveat.Caveat.{Caveat}
 use Rattle.pass_caveats.specs.declared.fault.CaveatFault.{CaveatFault}
@@ -38,9 +38,15 @@ served_caveats None rest h = refl
 served_caveats (Some (NotUnderstood n)) rest h = absurd (h (CaveatNotUnderstood n) refl)
 served_caveats (Some (Denied n)) rest h = absurd (h (CaveatDenies n) refl)
 
--- what is served is accepted
-pub served_under : (pass : Pass) (request : Request) (moment : ℕ) (view : View) → IsServed (answer_to (Ok pass) request moment (Some view)).reply
-    → IsAcceptedPass pass request moment view
+-- the pass passes the tests of the answer
+pub record PassesTests (pass : Pass) (request : Request) (moment : ℕ) (view : View) : Type 0 where
+  pub signed : is_signed_under pass view.key moment ≡ true
+  pub not_revoked : view.key.revoked ≡ false
+  pub faultless : first_fault_of pass.caveats (ask_of view request moment) ≡ None
+
+-- what is served passes the tests
+served_under : (pass : Pass) (request : Request) (moment : ℕ) (view : View) → IsServed (answer_to (Ok pass) request moment (Some view)).reply
+    → PassesTests pass request moment view
 served_under pass request moment view h =
     let signed = is_signed_under pass view.key moment in
     let fault = first_fault_of pass.caveats (ask_of view request moment) in
@@ -49,10 +55,10 @@ served_under pass request moment view h =
     let two = served_line view.key.revoked KeyRevoked decided one.1 in
     record { signed = not-false signed one.0; not_revoked = two.0; faultless = served_caveats fault (verdict_of view request moment) two.1 }
 
--- and what is accepted, the decision answers
-pub accepted_under : (pass : Pass) (request : Request) (moment : ℕ) (view : View) → IsAcceptedPass pass request moment view
+-- and what passes them, the decision answers
+passing_under : (pass : Pass) (request : Request) (moment : ℕ) (view : View) → PassesTests pass request moment view
     → answer_to (Ok pass) request moment (Some view) ≡ verdict_of view request moment
-accepted_under pass request moment view h =
+passing_under pass request moment view h =
     let verdict = verdict_of view request moment in
     let lines : Bool → Bool → Option CaveatFault → Verdict =
     λ signed revoked fault. cond (not signed) (refusal_verdict NotVerified) (cond revoked (refusal_verdict KeyRevoked) (after_caveats fault verdict))
@@ -71,6 +77,25 @@ all_allowed tests n (None ∷ caveats) ask e = absurd (cc)
 all_allowed tests n (Some caveat ∷ caveats) ask e =
     let parts = permitted_first (permits caveat ask) (first_fault_from (n + 1) caveats ask) n e in
     All-cons (IsAllowedBy ask) (Some caveat) caveats ((tests caveat ask).1 parts.0) (all_allowed tests (n + 1) caveats ask parts.1)
+
+-- and a list whose caveats all allow the request has no fault
+none_at_fault : TestsTheSet → (n : ℕ) (caveats : List (Option Caveat)) (ask : Ask) → All (IsAllowedBy ask) caveats → first_fault_from n caveats ask ≡ None
+none_at_fault tests n [] ask h = refl
+none_at_fault tests n (None ∷ caveats) ask h = absurd (All-head (IsAllowedBy ask) None caveats h)
+none_at_fault tests n (Some caveat ∷ caveats) ask h =
+    let permitted = (tests caveat ask).0 (All-head (IsAllowedBy ask) (Some caveat) caveats h) in
+    let rest = none_at_fault tests (n + 1) caveats ask (All-tail (IsAllowedBy ask) (Some caveat) caveats h) in
+    ap (λ (b : Bool). cond b (first_fault_from (n + 1) caveats ask) (Some (Denied n))) permitted ∙ rest
+
+-- what is accepted, the decision answers
+pub accepted_under : TestsTheSet → TestsTheSignature → (pass : Pass) (request : Request) (moment : ℕ) (view : View)
+    → IsAcceptedPass pass request moment view → answer_to (Ok pass) request moment (Some view) ≡ verdict_of view request moment
+accepted_under set signature pass request moment view h =
+    passing_under pass request moment view (record {
+      signed = (signature pass view.key moment).1 h.signed;
+      not_revoked = h.not_revoked;
+      faultless = none_at_fault set 1 pass.caveats (ask_of view request moment) h.permission;
+    })
 
 -- a list without a fault has none with its end cut off
 pub faultless_front : (n : ℕ) (caveats more : List (Option Caveat)) (ask : Ask) → first_fault_from n (caveats ++ more) ask ≡ None
@@ -151,10 +176,10 @@ wide_under wide narrow more request moment (Some view) e signed h =
     let accepted = served_under narrow request moment view h in
     let ask = ask_of view request moment in
     let faultless = subst (λ (caveats : List (Option Caveat)). first_fault_from 1 caveats ask ≡ None) e accepted.faultless in
-    let wider : IsAcceptedPass wide request moment view =
+    let wider : PassesTests wide request moment view =
     record { signed = signed view refl; not_revoked = accepted.not_revoked; faultless = faultless_front 1 wide.caveats more ask faultless }
     in
-    accepted_under wide request moment view wider ∙ sym (accepted_under narrow request moment view accepted)
+    passing_under wide request moment view wider ∙ sym (passing_under narrow request moment view accepted)
 
 -- the same in a club: both passes have one view, which rests on the row of their key
 pub wide_in : TestsTheSignature → (wide narrow : Pass) (more : List (Option Caveat)) (key : Key) (request : Request) (moment : ℕ) (club : Club)

@@ -3,18 +3,29 @@
 ghost use Rattle.club_laws.specs.Repeats.{RepeatsReturnTheSame, RepeatsMayBeLeftOut};
 ghost use Rattle.club_laws.specs.ExampleRuns.{AcceptsARepeat};
 
+use club_core::laws::tests_the_signature;
+use pass_caveats::laws::tests_the_set;
+
 /// A repeat of a served booking or cancellation gets the first reply, and changes nothing.
 pub fn repeats_return_the_same()
     ensures { RepeatsReturnTheSame }
-{}
+{
+    tests_the_set();
+    tests_the_signature();
+}
 
 /// A run without such a repeat gives the same other replies, and ends in the same club.
 pub fn repeats_may_be_left_out()
     ensures { RepeatsMayBeLeftOut }
-{}
+{
+    tests_the_set();
+    tests_the_signature();
+}
 
 /// An example: a cancelled booking is repeated when its slot has begun, under a pass that may spend
 /// nothing. The repeat is accepted.
 pub fn accepts_a_repeat()
     ensures { AcceptsARepeat }
-{}
+{
+    tests_the_set();
+}

@@ -11,6 +11,9 @@ ghost use Rattle.club_laws.specs.RunsWithFailures.{
   RepeatsWithFailures,
 };
 
+use club_core::laws::tests_the_signature;
+use pass_caveats::laws::tests_the_set;
+
 /// A run from a sound club ends in a sound club.
 pub fn keeps_sound<O>()
     ensures { SoundWithFailures O }
@@ -29,13 +32,19 @@ pub fn never_overbooks<O>()
 /// A repeat of a served booking or cancellation gets the first response, and may be left out.
 pub fn repeats_return_the_same<O>()
     ensures { RepeatsWithFailures O }
-{}
+{
+    tests_the_set();
+    tests_the_signature();
+}
 
 /// A repeat of a served request gets the same reply in the club at the end of the run, and in each
 /// club that one more event would leave.
 pub fn repeats_after_one_more<O>()
     ensures { RepeatsAfterOneMore O }
-{}
+{
+    tests_the_set();
+    tests_the_signature();
+}
 
 /// The replies to a member's requests follow from the member's part and own events alone.
 pub fn solo_law<O>()

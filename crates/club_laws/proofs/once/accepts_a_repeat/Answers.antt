@@ -1,11 +1,32 @@
-use Rattle.std.proofs.Common.{[], ◌∷◌, Some, None, Ok, refl}
+use Rattle.std.proofs.Common.{[], ◌∷◌, Some, None, Ok, refl, inl}
 use Rattle.std.specs.Prelude.{true, false, codes}
+use Rattle.std.proofs.lemmas.List.Elements.{All-nil, All-cons}
 use Rattle.club_values.specs.declared.kind.Kind.TheVariants.{Court}
+use Rattle.pass_caveats.specs.declared.ask.Ask.{Ask}
 use Rattle.pass_caveats.specs.declared.caveat.Caveat.TheVariants.{Spend}
 use Rattle.pass_caveats.specs.computed.CaveatOf.{permits}
 use Rattle.club_core.specs.declared.request.Request.TheVariants as asked
-use Rattle.club_core.specs.Examples.{slot_at, noon, root, ask}
+use Rattle.club_core.specs.Acceptance.{IsAllowedBy}
+use Rattle.club_core.specs.Answer.{ask_of}
+use Rattle.club_core.specs.Basis.{Basis, view_of}
+use Rattle.club_core.specs.Examples.{slot_at, noon, late, root, ask}
+use Rattle.club_laws.specs.ExampleRuns.{words_again}
 use Rattle.club_laws.proofs.once.accepts_a_repeat.Goals as goal
+
+-- the rows that the repeat names
+abbrev named : Basis
+named = record {
+  key = record { name = codes "amy-1"; member = codes "amy"; root = root; older = None; revoked = false };
+  member = record { name = codes "amy"; credited = 10_000; quota = 5 };
+  bookings = record { key = codes "amy-1"; number = 7; slot = slot_at 18; guests = 2; charge = 600; left = 1; cancelled = true; refund = 600 } ∷ [];
+  state = record {
+    facility = Some (record { name = codes "court-1"; kind = Court; places = 4; price = 200; opens = 8; shuts = 22 });
+    held = record { taken = 0; closed = false };
+  };
+}
+
+abbrev asked_again : Ask
+asked_again = ask_of (view_of named words_again.request late) words_again.request late
 
 pub returns : goal.returns
 unfolding permits
@@ -26,17 +47,14 @@ returns c = record {
   };
   acceptance = record {
     pass = record { key = Some (codes "amy-1"); caveats = Some (Spend 0) ∷ []; is_signed = λ _. true };
-    basis = record {
-      key = record { name = codes "amy-1"; member = codes "amy"; root = root; older = None; revoked = false };
-      member = record { name = codes "amy"; credited = 10_000; quota = 5 };
-      bookings = record { key = codes "amy-1"; number = 7; slot = slot_at 18; guests = 2; charge = 600; left = 1; cancelled = true; refund = 600 } ∷ [];
-      state = record {
-        facility = Some (record { name = codes "court-1"; kind = Court; places = 4; price = 200; opens = 8; shuts = 22 });
-        held = record { taken = 0; closed = false };
-      };
-    };
+    basis = named;
     read = refl;
     known = refl;
-    acceptance = record { signed = refl; not_revoked = refl; faultless = refl };
+    acceptance = record {
+      signed = record { root = root; good = inl refl; signed = refl };
+      not_revoked = refl;
+      permission = All-cons (IsAllowedBy asked_again) (Some (Spend 0)) [] ((c.tests_the_set.ensures (Spend 0) asked_again).1 refl)
+          (All-nil (IsAllowedBy asked_again));
+    };
   };
 }
