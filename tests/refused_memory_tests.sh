@@ -93,7 +93,7 @@ build() {
 # Whether a test that failed ended with out of memory: what it passed on, or what it got in place of another value, is that fault and
 # nothing beside it, in an `Err` or the like. One that names the fault elsewhere, as what it had expected, failed otherwise.
 ends_without_memory() {
-    fault='([A-Za-z]+\()*(Memory|AllocError|AllocFailed( \{[^}]*\})?)\)*'
+    fault='([A-Za-z]+\()*((OutOf)?Memory|AllocError|AllocFailed \{ \.\. \}|Os \{ code: 12, kind: OutOfMemory, .*\})\)*'
     if grep -q '^assertion ' "$1"; then
         grep -Eqx "  left: $fault" "$1" && ! grep -Eqx " right: $fault" "$1"
     else
