@@ -15,6 +15,7 @@ FALSE = re.compile(r"the facts known there allow values at which this goal is fa
 # What it says of a proof file that names what isn't there, and of what rests on that.
 NAMES = re.compile(r"has no field|is not in scope|has no `|was not admitted|no item `")
 FAULT = re.compile(r"(?:note: )?(?:\./)?((?:src|specs|proofs)/\S+?):(\d+):\d+: (error: .*|it is not proved .*)")
+WANTED = re.compile(r"no proof: expected answers in (?:\./)?(\S+);")
 HEAD = re.compile(r"(?:pub )?([^\s:]+) : ")
 
 
@@ -108,6 +109,19 @@ def without_answers(crate, lines):
     return texts
 
 
+def open_goal(lines, gone):
+    """The line of a goal that is open for another cause than a name that is gone: its answer is there, and fails; or no answer is
+    wanted from a proof file that lost some."""
+    for line in lines:
+        found = FAULT.match(line)
+        if found and found[1].startswith("proofs/") and found[3].startswith("error") and not NAMES.search(found[3]):
+            return line
+        wanted = WANTED.search(line)
+        if wanted and wanted[1] not in gone:
+            return line
+    return None
+
+
 class Trial:
     """A crate of the copy, which is as it was between two tries."""
 
@@ -137,7 +151,7 @@ class Trial:
         bad = unreadable(lines, texts)
         if bad:
             raise BadEdit(bad)
-        gone = False
+        gone = set()
         # Answers that rest on one that went may lose their names next.
         for _ in range(4):
             false = next((line for line in lines if FALSE.search(line)), None)
@@ -146,13 +160,15 @@ class Trial:
             fewer = without_answers(self.crate, lines)
             if not fewer:
                 break
-            gone = True
+            gone |= set(fewer)
             self.put(fewer)
             lines, proved = check(self.crate)
             if proved:
                 return "proved", "without the answers whose names it took away the crate is proved"
-        first = next((line for line in lines if FAULT.match(line) and not NAMES.search(line)), lines[0])
-        return ("names" if gone else "goal"), first
+        left = open_goal(lines, gone)
+        if left:
+            return "goal", left
+        return "names", next((line for line in lines if FAULT.match(line)), lines[0])
 
 
 def try_crate(copy, name, wanted, counts):

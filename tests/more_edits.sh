@@ -10,9 +10,9 @@
 # - false: the check found values for which a goal is false, so no proof of this body ends well.
 # - goal: a goal stays open, and each name that its proof cites is there. The proof, which closes the goal of the right body, fails at
 #   what this one computes. So do the tactics, where no answer is written by hand.
-# - names: an answer that is written by hand cites what the edit took away: a goal is named after a condition, an arm or a call of the
-#   code. Without these answers a goal stays open. That may be the contract's doing or the shape's: the same body in other words may be
-#   proved. Such an edit counts for little. Write it again so that it changes a value and keeps the names.
+# - names: all that fails are answers that are written by hand and cite what the edit took away: a goal is named after a condition, an
+#   arm or a call of the code. Without these answers their goals stay open. That may be the contract's doing or the shape's: the same
+#   body in other words may be proved. Such an edit counts for little. Write it again so that it changes a value and keeps the names.
 # - proved: the contract lets the body through, at once or without the answers whose names are gone.
 # - limit: the check met one of its own limits, and gives no verdict.
 # - bad: the edit can't be applied, or its text can't be read.
