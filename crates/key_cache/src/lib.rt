@@ -39,14 +39,21 @@ impl KeptKeys {
     }
 
     /// The cached key of this name, if it is derived from this root.
-    fn kept(&mut self, name: &Name, root: &Root) -> Option<[u8; 32]>
+    fn kept(&self, name: &Name, root: &Root) -> Option<[u8; 32]>
         ensures { IfSome result (λ derived. derived ≡ derived_key root.now) }
     {
-        let kept = self.cache.as_mut()?.get(name)?;
+        let kept = self.cache.as_ref()?.peek(name)?;
         if kept.root != *root {
             return None;
         }
         Some(kept.derived)
+    }
+
+    /// Notes that the cached key of this name was used.
+    fn promote(&mut self, name: &Name) {
+        if let Some(cache) = &mut self.cache {
+            let _ = cache.promote(name);
+        }
     }
 
     /// Caches a derived key under this name, in place of any other. If an allocation fails the
@@ -63,9 +70,9 @@ impl KeptKeys {
         }
     }
 
-    /// The derived key of an older root, 32 bytes: from the cache if present, else computed; never
-    /// evicts an entry.
-    pub fn derived_before(&mut self, name: &Name, root: &Root) -> [u8; 32]
+    /// The derived key of an older root, 32 bytes: from the cache if present, else computed. The
+    /// cache is unchanged.
+    pub fn derived_before(&self, name: &Name, root: &Root) -> [u8; 32]
         ensures { result ≡ derived_key root.now }
     {
         match self.kept(name, root) {
@@ -80,6 +87,7 @@ impl KeptKeys {
         ensures { result ≡ derived_key root.now }
     {
         if let Some(derived) = self.kept(name, root) {
+            self.promote(name);
             return derived;
         }
         let derived = derive(root.as_bytes());

@@ -27,18 +27,16 @@ fn root(rt: &impl Abort, bytes: &[u8; 16]) -> Root {
     Root::new(bytes).expect(rt, "a root")
 }
 
-fn expect_kept(
-    rt: &impl Abort,
-    keys: &mut KeptKeys,
-    name: &Name,
-    root: &Root,
-    want: Option<[u8; 32]>,
-) {
+fn expect_kept(rt: &impl Abort, keys: &KeptKeys, name: &Name, root: &Root, want: Option<[u8; 32]>) {
     expect_eq(rt, &keys.kept(name, root), &want);
 }
 
 fn expect_derived(rt: &impl Abort, keys: &mut KeptKeys, name: &Name, root: &Root, want: &[u8; 32]) {
     expect_eq(rt, &keys.derived(name, root), want);
+}
+
+fn expect_older(rt: &impl Abort, keys: &KeptKeys, name: &Name, root: &Root, want: &[u8; 32]) {
+    expect_eq(rt, &keys.derived_before(name, root), want);
 }
 
 // The key isn't cached with this root; it is computed, and cached then.
@@ -92,8 +90,35 @@ fn keeps_the_last_of_many_keys(rt: HostRuntime) {
     let root = root(&rt, ROOT);
     let mut keys = KeptKeys::new(rt.alloc());
     derive_many(&rt, &mut keys, &root, 65);
-    expect_kept(&rt, &mut keys, &name(&rt, b"01"), &root, Some(*DERIVED));
+    expect_kept(&rt, &keys, &name(&rt, b"01"), &root, Some(*DERIVED));
     is_derived_anew(&rt, &mut keys, &name(&rt, b"00"), &root, DERIVED);
+}
+
+// Of 65 keys the first stays cached if it was used again, and the second is evicted.
+#[test]
+fn keeps_a_key_that_is_used_again(rt: HostRuntime) {
+    let root = root(&rt, ROOT);
+    let mut keys = KeptKeys::new(rt.alloc());
+    derive_many(&rt, &mut keys, &root, 64);
+    expect_derived(&rt, &mut keys, &name(&rt, b"00"), &root, DERIVED);
+    expect_derived(&rt, &mut keys, &name(&rt, b"amy-1"), &root, DERIVED);
+    expect_kept(&rt, &keys, &name(&rt, b"00"), &root, Some(*DERIVED));
+    expect_kept(&rt, &keys, &name(&rt, b"01"), &root, None);
+}
+
+// The key of an older root isn't cached, and leaves the name's cached key there.
+#[test]
+fn keeps_no_older_root(rt: HostRuntime) {
+    let (root, older) = (root(&rt, ROOT), root(&rt, OTHER_ROOT));
+    let name = name(&rt, b"amy-1");
+    let mut keys = KeptKeys::new(rt.alloc());
+    expect_older(&rt, &keys, &name, &older, OTHER_DERIVED);
+    expect_kept(&rt, &keys, &name, &older, None);
+    expect_derived(&rt, &mut keys, &name, &root, DERIVED);
+    expect_older(&rt, &keys, &name, &older, OTHER_DERIVED);
+    expect_kept(&rt, &keys, &name, &older, None);
+    expect_kept(&rt, &keys, &name, &root, Some(*DERIVED));
+    expect_older(&rt, &keys, &name, &root, DERIVED);
 }
 
 // Without memory for the cache each key is computed.
@@ -102,6 +127,6 @@ fn derives_without_a_cache(rt: HostRuntime) {
     let (name, root) = (name(&rt, b"amy-1"), root(&rt, ROOT));
     let mut keys = KeptKeys { cache: None };
     expect_derived(&rt, &mut keys, &name, &root, DERIVED);
-    expect_kept(&rt, &mut keys, &name, &root, None);
+    expect_kept(&rt, &keys, &name, &root, None);
     expect_derived(&rt, &mut keys, &name, &root, DERIVED);
 }
