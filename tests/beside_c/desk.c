@@ -37,7 +37,8 @@ static const char *const texts[STATEMENTS] = {
     [BEGIN] = "BEGIN",
     [ADD_BOOKING] = "INSERT INTO bookings (pass_key, number, facility, day, hour, guests, charge,"
         " remains, cancelled, refund) VALUES (?1, ?2, ?3, ?4, ?5, ?6, ?7, ?8, ?9, ?10)",
-    [ADD_USED] = "UPDATE members SET used = used + ?2 WHERE name = ?1",
+    [ADD_USED] = "UPDATE members SET used = used + ?2 WHERE name = ?1"
+        " AND EXISTS (SELECT 1 FROM keys WHERE keys.name = ?3 AND keys.member = ?1)",
     [ADD_TAKEN] = "INSERT INTO slots (facility, day, hour, closed, taken)"
         " VALUES (?1, ?2, ?3, 0, ?4)"
         " ON CONFLICT (facility, day, hour) DO UPDATE SET taken = taken + ?4",
@@ -394,7 +395,9 @@ static void write_booking(const struct row *row, const struct request *it, int c
     run(ADD_BOOKING);
     set_text(ADD_USED, 1, row->member);
     set_number(ADD_USED, 2, charge);
+    set_text(ADD_USED, 3, row->key);
     run(ADD_USED);
+    if (sqlite3_changes(database) == 0) fail("used");
     set_text(ADD_TAKEN, 1, it->facility);
     set_number(ADD_TAKEN, 2, it->day);
     set_number(ADD_TAKEN, 3, it->hour);

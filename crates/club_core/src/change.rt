@@ -4,7 +4,7 @@ use club_rows::{Booking, Facility, Key, Member, Root};
 use club_values::{Moment, Name, Slot};
 
 /// A change of the club's rows. It carries what its decision found in them, so that a store makes
-/// it without a read.
+/// it without a read first, and refuses it if that isn't true.
 #[derive(Clone, Copy, Debug, PartialEq, Eq)]
 pub enum Change {
     InsertMember(Member),
@@ -17,8 +17,8 @@ pub enum Change {
     MarkRevoked {
         key: Name,
     },
-    /// Gives a key a new root. Its former root becomes the older root, good until the moment; any
-    /// older root before that is dropped.
+    /// Gives a key with the former root a new one. The former root becomes the older root, good
+    /// until the moment; any older root before that is dropped.
     ReplaceRoot {
         key: Name,
         former: Root,
@@ -32,7 +32,7 @@ pub enum Change {
         member: Name,
     },
     /// Marks a booking under a key of the member cancelled, with its refund. The booking is as it
-    /// is on record. A cancelled booking is unchanged.
+    /// is on record, and isn't cancelled.
     MarkCancelled {
         booking: Booking,
         member: Name,

@@ -36,7 +36,8 @@ impl Error for StoreFault {}
 /// A store of the rows of a club. Its promises hold while its disk is clean: while the disk returns
 /// what was written, and nobody else writes to it.
 pub trait ClubStore {
-    ghost use Rattle.std.specs.Prelude.{◌≡◌, ◌∷◌, [], All, IfErr, List, MatchResult, Option, Some};
+    ghost use Rattle.std.specs.Prelude.{◌≡◌, ◌∷◌, [], All, IfErr, IsErr, List, MatchResult};
+    ghost use Rattle.std.specs.Prelude.{Option, Some};
     ghost use Rattle.club_core.specs.declared.change.Change.{Change};
     ghost use Rattle.club_core.specs.declared.store.StoreFault.{StoreFault};
     ghost use Rattle.club_core.specs.After.{after};
@@ -45,7 +46,7 @@ pub trait ClubStore {
     ghost use Rattle.club_core.specs.Sheet.{AreRowsOf};
     ghost use Rattle.club_core.specs.Basis.{account_named, slot_use};
     ghost use Rattle.club_core.specs.Sums.{booking_under, count_to_come, spent_under};
-    ghost use Rattle.club_core.specs.Store.{FitsClub, KeepsClub, ReadsOrFails, Returns};
+    ghost use Rattle.club_core.specs.Store.{IsTrueOf, KeepsClub, ReadsOrFails, Returns};
 
     // the current club, and the other possible crash states: the clubs that the store may recover
     // to after a crash
@@ -130,16 +131,21 @@ pub trait ClubStore {
             (λ club rows. AreRowsOf club day rows.items) }
         ensures failed { disk_is_clean self.new → ReadsOrFails fails self.old self.new result };
 
-    /// Makes a change that fits. If it fails the club is unchanged, but after a crash the store may
-    /// recover to the changed club.
+    /// Makes a change, if what it says of the club's rows is true. If it isn't, the call fails, and
+    /// leaves nothing of the change. If the call fails, the club is unchanged; after a crash the
+    /// store may recover to the changed club, if the change was true.
     fn apply(&mut self, change: &Change) -> Result<(), StoreFault>
         ensures was_clean { disk_is_clean self.new → disk_is_clean self.old }
         ensures changed { disk_is_clean self.new → (club : Club) (others : List Club)
             → represents self.old club others
-            → FitsClub change.now club
+            → IsSound (after change.now club)
             → MatchResult result
-            (λ _. represents self.new (after change.now club) [])
+            (λ _. IsTrueOf change.now club × represents self.new (after change.now club) [])
             (λ _. represents self.new club (after change.now club ∷ others)) }
+        ensures untrue { disk_is_clean self.new → (club : Club) (others : List Club)
+            → represents self.old club others
+            → ¬ IsTrueOf change.now club
+            → IsErr result × represents self.new club others }
         ensures failed { disk_is_clean self.new → IfErr result
             (λ fault. fails (Some change.now) self.old fault self.new) };
 

@@ -1,10 +1,10 @@
--- What a change carries of the club's rows is true, and so it fits.
+-- What a change says of the club's rows is true, and so it fits.
 use Rattle.std.proofs.Common.{◌≡◌, ℕ, List, Option, Some, None, Ok, Err, refl, sym, subst}
 use Rattle.std.specs.Prelude.{Result}
 use Rattle.club_rows.specs.declared.booking.Booking.{Booking}
 use Rattle.club_core.specs.declared.change.Change.{Change}
 use Rattle.club_core.specs.declared.command.Command.{Command}
-use Rattle.club_core.specs.declared.command.Command.TheVariants.{RotateKey}
+use Rattle.club_core.specs.declared.command.Command.TheVariants.{Credit, AddKey, RevokeKey, RotateKey}
 use Rattle.club_core.specs.declared.command.OfficeFault.{OfficeFault}
 use Rattle.club_core.specs.declared.verdict.Verdict.{Verdict}
 use Rattle.club_core.specs.Answer.{verdict_in}
@@ -57,6 +57,9 @@ true_order : (club : Club) (command : Command) → IsTrueIfOk club (office_verdi
 true_order club command = order_cases (IsTrueIfOk club) club (λ fault. tt) command (done command)
   where
     done : (c : Command) (r : OrderRestsOn club c) → IsTrueIfOk club (Ok (change_of club c r))
+    done (Credit name points) r = (r.0, r.1)
+    done (AddKey name member root) r = refl
+    done (RevokeKey name) r = (r.0, r.1)
     done (RotateKey name root until) r = (r.0, r.1, refl)
     done c r = tt
 

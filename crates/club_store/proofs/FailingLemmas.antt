@@ -1,5 +1,5 @@
 -- What fails after a reading has failed since before it.
-use Rattle.std.specs.Prelude.{Option, Some, None, Result, Ok, Err}
+use Rattle.std.specs.Prelude.{Option, Some, None, Result, Ok, Err, IfErr}
 use Rattle.sqlite.specs.Store.{Ghosts}
 use Rattle.sqlite.specs.State.{HasCleanDisk}
 use Rattle.sqlite.specs.Held.{Held, state}
@@ -7,7 +7,7 @@ use Rattle.club_core.specs.declared.change.Change.{Change}
 use Rattle.club_core.specs.declared.store.StoreFault.{StoreFault}
 use Rattle.club_core.specs.Club.{Club}
 use Rattle.club_core.specs.Store.{ReadsOrFails}
-use Rattle.club_tables.specs.ReadsAndChanges.{ReadsClub}
+use Rattle.club_tables.specs.ReadsAndChanges.{ChangesClub, ReadsClub}
 use Rattle.club_store.specs.Failing.{Fails}
 use Rattle.club_store.proofs.ReadingLemmas.{change_fault, later_fault}
 
@@ -22,3 +22,12 @@ pub reads_or_fails : {S A : Type 0} (g : Ghosts S) (old new : Held S) (result : 
     → ReadsClub g old new result IsReturned → HasCleanDisk (state g new) → ReadsOrFails (Fails g) old new result
 reads_or_fails g old new (Ok answer) IsReturned reads clean = fails_since g old new (Ok answer) IsReturned reads clean
 reads_or_fails g old new (Err fault) IsReturned reads clean = reads.fault clean
+
+-- a change that failed
+pub change_failed : {S : Type 0} (g : Ghosts S) (change : Change) (old new : Held S) (result : Result (Unit {0}) StoreFault)
+    → ChangesClub g change old new result → HasCleanDisk (state g new) → IfErr result (λ fault. Fails g (Some change) old fault new)
+change_failed g change old new (Ok done) made clean = tt
+change_failed g change old new (Err fault) made clean = record {
+  cause = made.fault clean;
+  error_if_fits = λ club others represents fits. made.fault_if_fits clean club others represents fits;
+}

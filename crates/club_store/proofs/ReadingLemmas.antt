@@ -11,7 +11,8 @@ use Rattle.club_tables.specs.Transaction.{IsUntouched, MayCommit}
 use Rattle.club_tables.specs.Answers.{IsAfterReadings, IsReadFault}
 use Rattle.club_tables.specs.Opening.{IsOpeningBatch}
 use Rattle.club_store.specs.Opening.{SurvivesOpening}
-use Rattle.club_tables.specs.ReadsAndChanges.{ReadsClub, IsChangeFault}
+use Rattle.club_store.specs.Failing.{FailsToChange}
+use Rattle.club_tables.specs.ReadsAndChanges.{ReadsClub}
 
 pub untouched_then : (a b c : State) → (HasCleanDisk c → HasCleanDisk b) → IsUntouched a b → IsUntouched b c → IsUntouched a c
 untouched_then a b c earlier first next rest clean is_open =
@@ -88,16 +89,22 @@ read_failed g a b c one fault result IsOne IsTwo IsReturned first next is =
     (λ club was none. err_is_never_ok result (λ other. other ≡ fault) (IsReturned club) is)
     (λ P p. passed_on fault result P is p)
 
--- a fault of a change after a reading
+-- a change that failed after a reading
 pub change_fault : {S A : Type 0} (g : Ghosts S) (a b c : Held S) (first : Result A StoreFault) (IsFirst : Club → A → Type 0) (change : Change)
-    (fault : StoreFault) → HasCleanDisk (state g b) → ReadsClub g a b first IsFirst → IsChangeFault g change b c fault → IsChangeFault g change a c fault
-change_fault g a b c first IsFirst change fault clean reads (inl run) =
-    inl (record { from = run.from; after = after_reading g a b run.from first IsFirst clean reads run.after; failure = run.failure })
-change_fault g a b c first IsFirst change fault clean reads (inr refused) = inr refused
+    (fault : StoreFault) → HasCleanDisk (state g b) → ReadsClub g a b first IsFirst → FailsToChange g change b fault c → FailsToChange g change a fault c
+change_fault g a b c first IsFirst change fault clean reads it = record {
+  cause = elim it.cause [
+    | inl run ↦
+        inl (record { from = run.from; after = after_reading g a b run.from first IsFirst clean reads run.after; failure = run.failure })
+    | inr refused ↦ inr refused
+  ];
+  error_if_fits = λ club others represents fits. let run = it.error_if_fits club others (reads.kept clean club others represents) fits in
+      record { from = run.from; after = after_reading g a b run.from first IsFirst clean reads run.after; failure = run.failure };
+}
 
 -- nothing is opened
 pub opens_nothing : {S : Type 0} (g : Ghosts S) (held : Held S) → SurvivesOpening g held held
 opens_nothing g held =
-    survives_then (state g held) (state g held) (state g held) (λ _. ⊥) (λ _. ⊥) (MayCommit g IsOpeningBatch held) (λ _ db none. absurd none) (λ _ db none.
+    survives_then (state g held) (state g held) (state g held) (λ _. ⊥) (λ _. ⊥) (MayCommit g 0 IsOpeningBatch held) (λ _ db none. absurd none) (λ _ db none.
     absurd none)
     (survives_same (state g held)) (survives_same (state g held))

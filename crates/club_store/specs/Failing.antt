@@ -1,13 +1,22 @@
 -- How a call of a store fails (ours).
-use Rattle.std.specs.Prelude.{Option, Some, None}
+use Rattle.std.specs.Prelude.{List, Option, Some, None}
 use Rattle.sqlite.specs.Store.{Ghosts}
 use Rattle.sqlite.specs.Held.{Held}
 use Rattle.club_core.specs.declared.change.Change.{Change}
 use Rattle.club_core.specs.declared.store.StoreFault.{StoreFault}
+use Rattle.club_core.specs.Club.{Club}
+use Rattle.club_core.specs.Store.{FitsClub}
 use Rattle.club_tables.specs.Answers.{IsReadFault}
-use Rattle.club_tables.specs.ReadsAndChanges.{IsChangeFault}
+use Rattle.club_tables.specs.ChangeStatements.{statements_of}
+use Rattle.club_tables.specs.ReadsAndChanges.{IsChangeFault, IsRunFault, represents_in}
+
+-- a change failed with this fault; if it fits the club, because of an error, and not for want of a row
+pub record FailsToChange {S : Type 0} (g : Ghosts S) (change : Change) (old : Held S) (fault : StoreFault) (new : Held S) : Type 0 where
+  pub cause : IsChangeFault g change old new fault
+  pub error_if_fits : (club : Club) (others : List Club) → represents_in g old club others → FitsClub change club
+      → IsRunFault g 0 (statements_of change) old new fault
 
 -- from the first state to the second, a read failed with this fault, or this change did
 abbrev pub Fails : {S : Type 0} → Ghosts S → Option Change → Held S → StoreFault → Held S → Type 0
 Fails g None old fault new = IsReadFault g old new fault
-Fails g (Some change) old fault new = IsChangeFault g change old new fault
+Fails g (Some change) old fault new = FailsToChange g change old fault new

@@ -30,7 +30,7 @@ use Rattle.club_store.specs.Crash.{HoldsOneOf, IsOpenedOn, RepresentsOne, OneIsF
 
 -- the possible crash states: those of before, and what the opening's one batch left
 abbrev pub SurvivesOpening : {S : Type 0} → Ghosts S → Held S → Held S → Type 0
-SurvivesOpening g old new = Survives (state g old) (state g new) (MayCommit g IsOpeningBatch old)
+SurvivesOpening g old new = Survives (state g old) (state g new) (MayCommit g 0 IsOpeningBatch old)
 
 -- A connection that is returned because its tables aren't accepted: the same club is found in it, a connection in no transaction holds the same
 -- database, and the possible crash states are those of before, and what the opening's one batch left.

@@ -398,8 +398,14 @@ impl<S: Alter> Store<S> {
         Ok(Some(view))
     }
 
-    /// Makes a change that fits, in one transaction. If it fails, the club is unchanged; after a
-    /// crash the store may hold the changed club.
+    /// Makes a change, in one transaction, if what it says of the club's rows is true. If it isn't,
+    /// the call fails, and leaves nothing of the change. If the call fails, the club is unchanged;
+    /// after a crash the store may hold the changed club, if the change was true.
+    ///
+    /// # Errors
+    ///
+    /// The database refused a statement or the commit, or a statement inserted or updated no row,
+    /// which is `Storage`. A new key with an older root is `Storage`.
     pub fn apply(&mut self, change: &Change) -> Result<(), StoreFault>
         ensures makes { ChangesClub S.Store change.now self.old self.new result }
     {

@@ -25,6 +25,8 @@ mod store;
 #[cfg(test)]
 mod tables;
 #[cfg(test)]
+mod untrue;
+#[cfg(test)]
 mod versions;
 #[cfg(test)]
 mod write;

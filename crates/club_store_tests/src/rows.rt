@@ -70,6 +70,15 @@ pub(crate) fn member(rt: &impl Abort, credited: u32) -> Member {
     amy(credited, 5).expect(rt, "a member")
 }
 
+/// A member of this name with amy's quota, to whom so many points were credited.
+pub(crate) fn member_of(rt: &impl Abort, text: &str, credited: u32) -> Member {
+    Member {
+        name: name(rt, text),
+        credited,
+        quota: member(rt, credited).quota,
+    }
+}
+
 pub(crate) fn facility(rt: &impl Abort, facility: &PlainFacility) -> Facility {
     facility.facility().expect(rt, "a facility")
 }

@@ -4,8 +4,8 @@ ghost use Rattle.std.specs.Prelude.{◌≡◌, false};
 
 use crate::expect::expect_eq;
 use crate::rows::{
-    AMY_1, Kept, Older, booking, booking_of, day, facility_of, key, key_of, member, moment, name,
-    number, older_root_of, slot,
+    AMY_1, Kept, Older, booking_of, day, facility_of, key_of, member_of, moment, name, number,
+    older_root_of, slot,
 };
 use crate::write::{Write, change};
 use club_core::{Change, SlotUse, StoreFault};
@@ -30,8 +30,8 @@ pub(crate) enum Step {
     /// Finds the tables that are there.
     Opens,
     Writes(Write),
-    /// Adds a key that has an older root, which is refused.
-    Refuses(Kept),
+    /// Refuses a change as a fault of storage.
+    Refuses(Write),
     Expects(Expected),
 }
 
@@ -100,7 +100,7 @@ impl Tables {
         match step {
             Step::Opens => expect_eq(rt, &open_tables(&mut self.conn), &Ok(())),
             Step::Writes(write) => self.makes(rt, &change(rt, write)),
-            Step::Refuses(kept) => self.refuses(rt, kept),
+            Step::Refuses(write) => self.refuses(rt, &change(rt, write)),
             Step::Expects(expected) => self.expects(rt, expected),
         }
     }
@@ -135,9 +135,8 @@ impl Tables {
         }
     }
 
-    fn refuses(&mut self, rt: &impl Abort, kept: &Kept) {
-        let refused = writes::insert_key(&mut self.conn, &key(rt, kept));
-        expect_eq(rt, &refused, &Err(StoreFault::Storage));
+    fn refuses(&mut self, rt: &impl Abort, change: &Change) {
+        expect_eq(rt, &self.make(change), &Err(StoreFault::Storage));
     }
 
     fn expects(&mut self, rt: &(impl Abort + Alloc<A = Global>), expected: &Expected) {
@@ -158,7 +157,7 @@ impl Tables {
         let found = reads::member(&mut self.conn, &name(rt, text)).expect(rt, "an answer");
         match (found, points) {
             (Some(row), Some(points)) => {
-                expect_eq(rt, &row.member, &member(rt, points.0));
+                expect_eq(rt, &row.member, &member_of(rt, text, points.0));
                 expect_eq(rt, &row.used, &points.1);
             }
             (found, points) => expect_eq(rt, &found.is_some(), &points.is_some()),

@@ -1,6 +1,8 @@
 //! Changes of a club, from plain data.
 
-use crate::rows::{Kept, Older, booking, facility, key, member, moment, name, root, slot};
+use crate::rows::{
+    Kept, Older, booking, facility, key, member, member_of, moment, name, root, slot,
+};
 use club_core::Change;
 use std::process::Abort;
 use test_kit::{PlainBooking, PlainFacility, PlainSlot};
@@ -9,6 +11,8 @@ use test_kit::{PlainBooking, PlainFacility, PlainSlot};
 pub(crate) enum Write {
     /// Amy, to whom so many points were credited.
     Member(u32),
+    /// Ben, to whom so many points were credited, and who has no key.
+    Ben(u32),
     /// So many points for amy.
     Credit(u32),
     Facility(PlainFacility),
@@ -19,8 +23,12 @@ pub(crate) enum Write {
     Rotate(&'static str, Older, &'static [u8]),
     Close(PlainSlot),
     Book(PlainBooking),
+    /// A booking that is charged to ben.
+    BookForBen(PlainBooking),
     /// Cancels a booking with a refund.
     Cancel(PlainBooking, u32),
+    /// Cancels a booking with a refund to ben.
+    CancelForBen(PlainBooking, u32),
 }
 
 fn credit_change(rt: &impl Abort, points: u32) -> Change {
@@ -45,17 +53,17 @@ fn rotate_change(rt: &impl Abort, key: &str, former: &Older, to: &[u8]) -> Chang
     }
 }
 
-fn booking_change(rt: &impl Abort, booked: &PlainBooking) -> Change {
+fn booking_change(rt: &impl Abort, booked: &PlainBooking, member: &str) -> Change {
     Change::InsertBooking {
         booking: booking(rt, booked),
-        member: name(rt, "amy"),
+        member: name(rt, member),
     }
 }
 
-fn cancel_change(rt: &impl Abort, booked: &PlainBooking, refund: u32) -> Change {
+fn cancel_change(rt: &impl Abort, booked: &PlainBooking, member: &str, refund: u32) -> Change {
     Change::MarkCancelled {
         booking: booking(rt, booked),
-        member: name(rt, "amy"),
+        member: name(rt, member),
         refund,
     }
 }
@@ -63,13 +71,16 @@ fn cancel_change(rt: &impl Abort, booked: &PlainBooking, refund: u32) -> Change 
 pub(crate) fn change(rt: &impl Abort, write: &Write) -> Change {
     match write {
         Write::Member(credited) => Change::InsertMember(member(rt, *credited)),
+        Write::Ben(credited) => Change::InsertMember(member_of(rt, "ben", *credited)),
         Write::Credit(points) => credit_change(rt, *points),
         Write::Facility(place) => Change::InsertFacility(facility(rt, place)),
         Write::Key(kept) => Change::InsertKey(key(rt, kept)),
         Write::Revoke => revoke_change(rt),
         Write::Rotate(key, former, to) => rotate_change(rt, key, former, to),
         Write::Close(at) => Change::MarkClosed(slot(rt, at)),
-        Write::Book(row) => booking_change(rt, row),
-        Write::Cancel(row, refund) => cancel_change(rt, row, *refund),
+        Write::Book(row) => booking_change(rt, row, "amy"),
+        Write::BookForBen(row) => booking_change(rt, row, "ben"),
+        Write::Cancel(row, refund) => cancel_change(rt, row, "amy", *refund),
+        Write::CancelForBen(row, refund) => cancel_change(rt, row, "ben", *refund),
     }
 }

@@ -70,12 +70,12 @@ fn a_rotation_and_a_revoked_key(rt: HostRuntime) {
 
 /// A new key has no older root.
 static REFUSES: [Step; 3] = [
-    Step::Refuses(Kept {
+    Step::Refuses(Write::Key(Kept {
         name: "amy-2",
         root: ROOT,
         older: Some(OLDER),
         revoked: false,
-    }),
+    })),
     Step::Expects(Expected::Key("amy-2", None)),
     Step::Expects(Expected::OlderRoot("amy-2", None)),
 ];

@@ -2,10 +2,15 @@
 
 pub mod AddLemmas
 pub mod ChangeLemmas
+pub mod KeyChangeLemmas
 pub mod CancelLemmas
 pub mod CancelStored
 pub mod OlderLemmas
 pub mod UpsertLemmas
 pub mod StoredLemmas
+pub mod TotalsLemmas
+pub mod TrueLemmas
+pub mod PartLemmas
 pub mod MadeLemmas
+pub mod EnoughLemmas
 pub mod WriteLemmas

@@ -4,6 +4,8 @@ pub mod SelectLemmas
 pub mod JoinLemmas
 pub mod OrderLemmas
 pub mod InsertLemmas
+pub mod PassLemmas
+pub mod CountedLemmas
 pub mod UpdateLemmas
 pub mod ReplaceLemmas
 pub mod PutLemmas

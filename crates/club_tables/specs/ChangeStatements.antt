@@ -1,5 +1,5 @@
 -- The statements that make each change, with the values of their parameters (ours).
-use Rattle.std.specs.Prelude.{◌≡◌, ℕ, pos, neg_ℤ, List, [], ◌∷◌, ◌++◌}
+use Rattle.std.specs.Prelude.{◌≡◌, ℕ, ℤ, pos, neg_ℤ, List, [], ◌∷◌, ◌++◌}
 use Rattle.sqlite_value.specs.declared.value.Value.TheVariants.{Int, Text, Blob}
 use Rattle.sqlite_value.specs.Order.{Row}
 use Rattle.club_values.specs.declared.slot.Slot.{Slot}
@@ -38,27 +38,31 @@ revoking key = (REVOKE_KEY.now, Text key ∷ []) ∷ []
 abbrev pub closing : Slot → List BoundStatement
 closing slot = (CLOSE_SLOT.now, name_values slot) ∷ []
 
--- the older root is stored, and the key's root set
+-- the older root is stored, and the key's root set, which was the older one
 abbrev pub rotating : Row → Row → List BoundStatement
 rotating put set = (PUT_OLDER_ROOT.now, put) ∷ (SET_ROOT.now, set) ∷ []
 
 abbrev pub replacing_root : List ℕ → List ℕ → OlderRoot → List BoundStatement
-replacing_root key root older = rotating (Text key ∷ older_root_values older) (Text key ∷ Blob root ∷ [])
+replacing_root key root older = rotating (Text key ∷ older_root_values older) (Text key ∷ Blob root ∷ Blob older.root ∷ [])
 
 -- a statement on a booking, and the additions to the totals of its member and its slot
 abbrev pub with_totals : List ℕ → Row → Row → Row → List BoundStatement
 with_totals text booking used taken = (text, booking) ∷ (ADD_USED.now, used) ∷ (ADD_TAKEN.now, taken) ∷ []
 
+-- what is added to the total of a member whose key this is
+abbrev pub used_values : List ℕ → ℤ → List ℕ → Row
+used_values member points key = Text member ∷ Int points ∷ Text key ∷ []
+
 -- a booking under a key of the member
 abbrev pub adding_booking : Booking → List ℕ → List BoundStatement
 adding_booking booking member =
-    with_totals ADD_BOOKING.now (booking_values booking) (Text member ∷ Int (pos (cost_of booking)) ∷ [])
+    with_totals ADD_BOOKING.now (booking_values booking) (used_values member (pos (cost_of booking)) booking.key)
     (name_values booking.slot ++ Int (pos (persons_taken booking)) ∷ [])
 
--- a booking of the member is marked, and subtracted from the totals
+-- a booking of the member that is on record as it is given is marked, and subtracted from the totals
 abbrev pub cancelling : Booking → List ℕ → ℕ → List BoundStatement
 cancelling booking member refund =
-    with_totals CANCEL_BOOKING.now (Text booking.key ∷ whole booking.number ∷ whole refund ∷ []) (Text member ∷ Int (neg_ℤ (pos refund)) ∷ [])
+    with_totals CANCEL_BOOKING.now (booking_values booking ++ whole refund ∷ []) (used_values member (neg_ℤ (pos refund)) booking.key)
     (name_values booking.slot ++ Int (neg_ℤ (pos (persons_of booking))) ∷ [])
 
 -- the statements of a change

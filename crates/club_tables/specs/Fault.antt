@@ -1,5 +1,5 @@
 -- How a call fails: with the fault to which the database's error maps (ours).
-use Rattle.std.specs.Prelude.{◌≡◌, ◌⊎◌, ℕ, ◌≤◌, List, [], ◌∷◌, Result, Ok, Err, IfErr, IsTrue, OnOk, OnErr}
+use Rattle.std.specs.Prelude.{◌≡◌, ◌⊎◌, ℕ, ◌<◌, ◌≤◌, List, [], ◌∷◌, Result, Ok, Err, IfErr, IsTrue, OnOk, OnErr}
 use Rattle.sqlite.specs.Store.{Ghosts}
 use Rattle.sqlite.specs.Effect.{Database}
 use Rattle.sqlite.specs.State.{HasCleanDisk, Survives, FailsToQuery, IsNotRun, Executes, ExecutesInside}
@@ -7,6 +7,7 @@ use Rattle.sqlite.specs.Steps.{FailsToCommit}
 use Rattle.sqlite.specs.Held.{Held, state}
 use Rattle.sqlite.specs.declared.error.Error.{Error}
 use Rattle.club_core.specs.declared.store.StoreFault.{StoreFault}
+use Rattle.club_core.specs.declared.store.StoreFault.TheVariants.{Storage}
 use Rattle.club_tables.specs.Transaction.{BoundStatement, Ran, IsKept, transaction_start, fault_by}
 
 -- the database refused a query with an error that maps to the fault; the count of the disk's failures doesn't shrink
@@ -25,25 +26,34 @@ pub record FailsToPrepare {S : Type 0} (g : Ghosts S) (sql : List ℕ) (old new 
   pub fault_count : (state g mid).faults ≤ (state g new).faults
   pub fault_is : fault ≡ fault_by error
 
--- the statements ran in order, within a transaction, up to one that was refused; or all ran, and the commit was refused
-abbrev pub FailsInTurn : {S : Type 0} → Ghosts S → List BoundStatement → Held S → Held S → Error → Type 0
-FailsInTurn g [] old new error = FailsToCommit (state g old) (state g new) error
-FailsInTurn {S} g (statement ∷ more) old new error =
-    ExecutesInside 0 statement.0 statement.1 (state g old) (state g new) (Err error)
-    ⊎ ((mid : Held S) × (count : ℕ) × Executes statement.0 statement.1 (state g old) (state g mid) (Ok count) × FailsInTurn g more mid new error)
+-- a statement was refused, with an error that maps to the fault; or it inserted or updated fewer rows than it has to, which is Storage
+abbrev pub StopsAt : {S : Type 0} → Ghosts S → ℕ → BoundStatement → Held S → Held S → StoreFault → Type 0
+StopsAt g fewest statement old new fault =
+    ((error : Error) × ExecutesInside 0 statement.0 statement.1 (state g old) (state g new) (Err error) × (fault ≡ fault_by error))
+    ⊎ ((count : ℕ) × Executes statement.0 statement.1 (state g old) (state g new) (Ok count) × (count < fewest) × (fault ≡ Storage)
+    × IsTrue (state g old).is_open)
+
+-- the statements ran in order, within a transaction, up to one that stopped them; or all ran, and the commit was refused
+abbrev pub FailsInTurn : {S : Type 0} → Ghosts S → ℕ → List BoundStatement → Held S → Held S → StoreFault → Type 0
+FailsInTurn g fewest [] old new fault = (error : Error) × FailsToCommit (state g old) (state g new) error × (fault ≡ fault_by error)
+FailsInTurn {S} g fewest (statement ∷ more) old new fault =
+    StopsAt g fewest statement old new fault
+    ⊎ ((mid : Held S) × (count : ℕ) × Executes statement.0 statement.1 (state g old) (state g mid) (Ok count) × FailsInTurn g fewest more mid new fault
+    × (fewest ≤ count) × IsTrue (state g old).is_open)
 
 -- the same for statements in a transaction of their own
-pub record FailsToRun {S : Type 0} (g : Ghosts S) (all : List BoundStatement) (old new : Held S) (fault : StoreFault) : Type 0 where
+pub record FailsToRun {S : Type 0} (g : Ghosts S) (fewest : ℕ) (all : List BoundStatement) (old new : Held S) (fault : StoreFault) : Type 0 where
   pub mid : Held S
-  pub error : Error
-  pub failure : FailsInTurn g all (transaction_start old) mid error
+  pub failure : FailsInTurn g fewest all (transaction_start old) mid fault
   pub fault_count : (state g mid).faults ≤ (state g new).faults
-  pub fault_is : fault ≡ fault_by error
 
--- Statements in a transaction of their own: all ran and were committed, or the committed state is unchanged. After a crash their effects may be there.
-pub record Commits {S : Type 0} (g : Ghosts S) (all : List BoundStatement) (old new : Held S) (result : Result (Unit {0}) StoreFault) : Type 0 where
-  pub ran : HasCleanDisk (state g new) → OnOk result (IsTrue (state g new).is_open × Ran g all old (state g new).committed
-      × ((state g new).now ≡ (state g new).committed))
-  pub kept : OnErr result (IsKept (state g old) (state g new))
-  pub survives : Survives (state g old) (state g new) (λ trees. (db : Database) × Ran g all old db × (trees ≡ db.trees))
-  pub fault : HasCleanDisk (state g new) → IfErr result (FailsToRun g all old new)
+-- Statements in a transaction of their own, each of which has to insert or update at least so many rows: all ran and were committed, or the committed
+-- state is unchanged. After a crash their effects may be there.
+pub record Commits {S : Type 0} (g : Ghosts S) (fewest : ℕ) (all : List BoundStatement) (old new : Held S) (result : Result (Unit {0}) StoreFault)
+    : Type 0
+  where
+    pub ran : HasCleanDisk (state g new) → OnOk result (IsTrue (state g new).is_open × Ran g fewest all old (state g new).committed
+        × ((state g new).now ≡ (state g new).committed))
+    pub kept : OnErr result (IsKept (state g old) (state g new))
+    pub survives : Survives (state g old) (state g new) (λ trees. (db : Database) × Ran g fewest all old db × (trees ≡ db.trees))
+    pub fault : HasCleanDisk (state g new) → IfErr result (FailsToRun g fewest all old new)

@@ -102,14 +102,14 @@ pub record Upgrade (version : ℕ) (texts : List (List ℕ)) (statements : List 
   pub from : Held S
   pub found : FoundReady version texts (state g old) (state g from)
   pub same : (state g from).now ≡ (state g old).committed
-  pub ran : Ran g statements from (state g new).committed
+  pub ran : Ran g 0 statements from (state g new).committed
 
 -- each text was a statement over the tables, and this whole batch ran over them
 abbrev pub HasRunOver : List (List ℕ) → List BoundStatement → {S : Type 0} → Ghosts S → Held S → Held S → Type 0
 HasRunOver texts statements {S} g old new =
     (from : Held S) × IsTrue (state g old).is_open × Understands g texts old
     × ((state g from).committed ≡ (state g old).committed)
-    × ((state g from).now ≡ (state g old).committed) × Ran g statements from (state g new).committed
+    × ((state g from).now ≡ (state g old).committed) × Ran g 0 statements from (state g new).committed
 
 -- tables of version 1 were there, and the whole migration ran over them
 abbrev pub Migrated : {S : Type 0} → Ghosts S → Held S → Held S → Type 0
@@ -126,7 +126,7 @@ AddsIndex g old new = Upgrade 2 texts_by_key index_batch g old new
 abbrev pub HasOrGetsIndex : {S : Type 0} → Ghosts S → Held S → Held S → Type 0
 HasOrGetsIndex {S} g old new =
     (IsUnderstood (state g old).now.schema index_text × IsKept (state g old) (state g new))
-    ⊎ ((from : Held S) × HasCleanDisk (state g from) × IsKept (state g old) (state g from) × Ran g index_batch from (state g new).committed)
+    ⊎ ((from : Held S) × HasCleanDisk (state g from) × IsKept (state g old) (state g from) × Ran g 0 index_batch from (state g new).committed)
 
 -- each text, and that of the index, was a statement, and nothing was changed; or each text was one, and the index was made
 abbrev pub EnsuresIndex : {S : Type 0} → Ghosts S → Held S → Held S → Type 0
@@ -138,7 +138,7 @@ pub record MadeAll {S : Type 0} (g : Ghosts S) (old new : Held S) : Type 0 where
   pub from : Held S
   pub same : (state g from).now ≡ (state g old).committed
   pub no_desk_table : HasNoDesk (state g old).committed.schema
-  pub ran : Ran g table_batch from (state g new).committed
+  pub ran : Ran g 0 table_batch from (state g new).committed
 
 -- what an opening accepts: tables of version 2 with the index of the bookings; without it, once the index is made; tables of version 1, once they
 -- are migrated; or no version, once the whole batch has made the tables
@@ -162,7 +162,7 @@ pub record FailsToPrepareOne {S : Type 0} (g : Ghosts S) (texts : List (List ℕ
 abbrev pub FailsToTake : {S : Type 0} → Ghosts S → Held S → Held S → StoreFault → Type 0
 FailsToTake g old new fault =
     ((fault ≡ Memory) × (FailsToAsk g (version_text, []) old new fault ⊎ FailsToPrepare g index_text old new fault))
-    ⊎ (((statements : List BoundStatement) × IsOpeningBatch statements × FailsToRun g statements old new fault)
+    ⊎ (((statements : List BoundStatement) × IsOpeningBatch statements × FailsToRun g 0 statements old new fault)
     ⊎ (OneOf (λ text. FailsToPrepare g text old new fault) texts_by_key
     ⊎ ((fault ≡ Storage) × (rows : List Row) × Asked g version_text [] old rows × (rows ≢ version_values 2 ∷ []) × (rows ≢ version_values 1 ∷ []))))
 
@@ -189,10 +189,10 @@ pub record Opens {S : Type 0} (g : Ghosts S) (Before : Held S → Club → List 
     pub done : HasCleanDisk (state g new) → OnOk result (Done old new)
     pub keeps_club : HasCleanDisk (state g new) → OnErr result (KeepsClub Before old new)
     pub fault : HasCleanDisk (state g new) → IfErr result (Fails old new)
-    pub survives : Survives (state g old) (state g new) (MayCommit g IsOpeningBatch old)
+    pub survives : Survives (state g old) (state g new) (MayCommit g 0 IsOpeningBatch old)
 
 -- a step that runs a whole batch
 abbrev pub RunsBatch : {S : Type 0} → Ghosts S → (Held S → Club → List Club → Type 0) → List BoundStatement → Held S → Held S
     → Result (Unit {0}) StoreFault → Type 0
 RunsBatch g Before statements =
-    Opens g Before (λ old new. Ran g statements old (state g new).committed) (FailsToRun g statements)
+    Opens g Before (λ old new. Ran g 0 statements old (state g new).committed) (FailsToRun g 0 statements)

@@ -1,5 +1,5 @@
 -- What statements return or write in a transaction of their own.
-use Rattle.std.specs.Prelude.{◌≡◌, ℕ, ◌<◌, true, List, [], ◌∷◌, length, Ok, IsTrue, is_ok}
+use Rattle.std.specs.Prelude.{◌≡◌, ℕ, ◌<◌, ◌≤◌, true, List, [], ◌∷◌, length, Ok, IsTrue, is_ok}
 use Rattle.sqlite.specs.Store.{Ghosts}
 use Rattle.sqlite.specs.Order.{Row}
 use Rattle.sqlite.specs.Effect.{Database}
@@ -53,26 +53,28 @@ BoundStatement = List ℕ × Row
 abbrev pub bound_statement : Statement → BoundStatement
 bound_statement statement = (statement.text.now, bound statement.params.now)
 
--- these statements ran in order, within a transaction
-abbrev pub RanInTurn : {S : Type 0} → Ghosts S → List BoundStatement → Held S → Held S → Type 0
-RanInTurn g [] old new = new ≡ old
-RanInTurn {S} g (statement ∷ more) old new =
-    (mid : Held S) × (count : ℕ) × Executes statement.0 statement.1 (state g old) (state g mid) (Ok count) × RanInTurn g more mid new
+-- these statements ran in order, within a transaction, over an open connection, and each inserted or updated at least so many rows
+abbrev pub RanInTurn : {S : Type 0} → Ghosts S → ℕ → List BoundStatement → Held S → Held S → Type 0
+RanInTurn g fewest [] old new = new ≡ old
+RanInTurn {S} g fewest (statement ∷ more) old new =
+    (mid : Held S) × (count : ℕ) × Executes statement.0 statement.1 (state g old) (state g mid) (Ok count) × RanInTurn g fewest more mid new
+    × (fewest ≤ count) × IsTrue (state g old).is_open
 
--- these statements ran in order, in a transaction of their own, and left this database
-pub record Ran {S : Type 0} (g : Ghosts S) (all : List BoundStatement) (old : Held S) (db : Database) : Type 0 where
+-- these statements ran in order, in a transaction of their own, each on at least so many rows, and left this database
+pub record Ran {S : Type 0} (g : Ghosts S) (fewest : ℕ) (all : List BoundStatement) (old : Held S) (db : Database) : Type 0 where
   pub last : Held S
   pub was_open : 0 < length all → IsTrue (state g old).is_open
-  pub turns : RanInTurn g all (transaction_start old) last
+  pub turns : RanInTurn g fewest all (transaction_start old) last
   pub is : db ≡ (state g last).now
 
--- these trees may be there after a crash: statements of this kind left them, over a connection in the same state as this one
-pub record MayCommit {S : Type 0} (g : Ghosts S) (AreStatements : List BoundStatement → Type 0) (old : Held S) (trees : Trees) : Type 0 where
+-- these trees may be there after a crash: statements of this kind, each on at least so many rows, left them, over a connection in the same state as
+-- this one
+pub record MayCommit {S : Type 0} (g : Ghosts S) (fewest : ℕ) (AreStatements : List BoundStatement → Type 0) (old : Held S) (trees : Trees) : Type 0 where
   pub from : Held S
   pub same : IsUntouched (state g old) (state g from)
   pub clean : HasCleanDisk (state g from)
   pub statements : List BoundStatement
   pub are : AreStatements statements
   pub db : Database
-  pub ran : Ran g statements from db
+  pub ran : Ran g fewest statements from db
   pub left : trees ≡ db.trees

@@ -14,4 +14,4 @@ pub mod writes;
 pub use open::open_tables;
 pub use params::Rotation;
 pub use row::MemberRow;
-pub use transaction::{Statement, ask, fault_of, prepare, run};
+pub use transaction::{Statement, ask, fault_of, prepare, run, write};

@@ -20,7 +20,7 @@ ghost use Rattle.club_tables.specs.Columns.{
   name_values,
 };
 
-use club_rows::{Booking, BookingNumber, Facility, Key, Member, OlderRoot, Root};
+use club_rows::{Booking, Facility, Key, Member, OlderRoot, Root};
 use club_values::{Name, Slot};
 use sqlite::types::ValueRef;
 
@@ -88,13 +88,15 @@ pub(crate) fn of_older_root(rotation: &Rotation) -> [ValueRef<'_>; 3]
     ]
 }
 
-/// A key, and its new root.
-pub(crate) fn of_root(rotation: &Rotation) -> [ValueRef<'_>; 2]
-    ensures { bound result ≡ TextValue rotation.now.key ∷ BlobValue rotation.now.root ∷ [] }
+/// A key, its new root, and its former root.
+pub(crate) fn of_root(rotation: &Rotation) -> [ValueRef<'_>; 3]
+    ensures { bound result ≡ TextValue rotation.now.key ∷ BlobValue rotation.now.root ∷ BlobValue
+        rotation.now.older.root ∷ [] }
 {
     [
         ValueRef::Text(rotation.key.as_bytes()),
         ValueRef::Blob(rotation.root.as_bytes()),
+        ValueRef::Blob(rotation.older.root.as_bytes()),
     ]
 }
 
@@ -120,14 +122,10 @@ pub(crate) fn of_booking(booking: &Booking) -> [ValueRef<'_>; 10]
 pub(crate) fn of_credit(member: &Name, points: u32) -> [ValueRef<'_>; 2]
     ensures { bound result ≡ TextValue member.now ∷ whole points ∷ [] }
 {
-    of_points(member, i64::from(points))
-}
-
-/// A member, and points to be added.
-fn of_points(member: &Name, points: i64) -> [ValueRef<'_>; 2]
-    ensures { bound result ≡ TextValue member.now ∷ IntValue points ∷ [] }
-{
-    [ValueRef::Text(member.as_bytes()), ValueRef::Int(points)]
+    [
+        ValueRef::Text(member.as_bytes()),
+        ValueRef::Int(i64::from(points)),
+    ]
 }
 
 /// A slot.
@@ -141,19 +139,37 @@ pub(crate) fn of_slot(slot: &Slot) -> [ValueRef<'_>; 3]
     ]
 }
 
-/// A member, and what a booking costs.
-pub(crate) fn of_cost<'a>(member: &'a Name, booking: &Booking) -> [ValueRef<'a>; 2]
-    ensures { bound result ≡ TextValue member.now ∷ IntValue (pos (cost_of booking.now)) ∷ [] }
+/// A member, points to be added to what the member's bookings have cost, and the booking's key.
+fn of_used<'a>(member: &'a Name, points: i64, key: &'a Name) -> [ValueRef<'a>; 3]
+    ensures { bound result ≡ TextValue member.now ∷ IntValue points ∷ TextValue key.now ∷ [] }
 {
-    let cost = booking.charge.saturating_sub(booking.refund);
-    of_points(member, i64::from(cost))
+    [
+        ValueRef::Text(member.as_bytes()),
+        ValueRef::Int(points),
+        ValueRef::Text(key.as_bytes()),
+    ]
 }
 
-/// A member, and a refund, which is subtracted from what the member's bookings have cost.
-pub(crate) fn of_return(member: &Name, refund: u32) -> [ValueRef<'_>; 2]
-    ensures { bound result ≡ TextValue member.now ∷ IntValue (neg_ℤ (pos refund)) ∷ [] }
+/// A member, what a booking costs, and the booking's key.
+pub(crate) fn of_cost<'a>(member: &'a Name, booking: &'a Booking) -> [ValueRef<'a>; 3]
+    ensures { bound result ≡ TextValue member.now ∷ IntValue (pos (cost_of booking.now)) ∷ TextValue
+        booking.now.key ∷ [] }
 {
-    of_points(member, -i64::from(refund))
+    let cost = booking.charge.saturating_sub(booking.refund);
+    of_used(member, i64::from(cost), &booking.key)
+}
+
+/// A member, a refund, which is subtracted from what the member's bookings have cost, and the
+/// booking's key.
+pub(crate) fn of_return<'a>(
+    member: &'a Name,
+    booking: &'a Booking,
+    refund: u32,
+) -> [ValueRef<'a>; 3]
+    ensures { bound result ≡ TextValue member.now ∷ IntValue (neg_ℤ (pos refund)) ∷ TextValue
+        booking.now.key ∷ [] }
+{
+    of_used(member, -i64::from(refund), &booking.key)
 }
 
 /// A slot, and persons to be added.
@@ -190,13 +206,21 @@ pub(crate) fn of_freed(booking: &Booking) -> [ValueRef<'_>; 4]
     of_persons(&booking.slot, -persons)
 }
 
-/// A key, a booking's number, and its refund.
-pub(crate) fn of_refund(key: &Name, number: BookingNumber, refund: u32) -> [ValueRef<'_>; 3]
-    ensures { bound result ≡ TextValue key.now ∷ whole number ∷ whole refund ∷ [] }
+/// The columns of a booking as it is on record, and its refund.
+pub(crate) fn of_refund(booking: &Booking, refund: u32) -> [ValueRef<'_>; 11]
+    ensures { bound result ≡ booking_values booking.now ++ whole refund ∷ [] }
 {
     [
-        ValueRef::Text(key.as_bytes()),
-        ValueRef::Int(i64::from(number.get())),
+        ValueRef::Text(booking.key.as_bytes()),
+        ValueRef::Int(i64::from(booking.number.get())),
+        ValueRef::Text(booking.slot.facility.as_bytes()),
+        ValueRef::Int(i64::from(booking.slot.day.number())),
+        ValueRef::Int(i64::from(booking.slot.hour.number())),
+        ValueRef::Int(i64::from(booking.guests.get())),
+        ValueRef::Int(i64::from(booking.charge)),
+        ValueRef::Int(i64::from(booking.left)),
+        ValueRef::Int(bool_as_number(booking.cancelled)),
+        ValueRef::Int(i64::from(booking.refund)),
         ValueRef::Int(i64::from(refund)),
     ]
 }

@@ -108,8 +108,12 @@ pub(crate) const ADD_MEMBER: &str = "\
 
 pub(crate) const ADD_CREDIT: &str = "UPDATE members SET credited = credited + ?2 WHERE name = ?1";
 
-/// Adds to what the bookings of a member have cost; a negative number gives points back.
-pub(crate) const ADD_USED: &str = "UPDATE members SET used = used + ?2 WHERE name = ?1";
+/// Adds to what the bookings of a member have cost, if the key of the booking is the member's; a
+/// negative number gives points back.
+pub(crate) const ADD_USED: &str = "\
+    UPDATE members \
+    SET used = used + ?2 \
+    WHERE name = ?1 AND EXISTS (SELECT 1 FROM keys WHERE keys.name = ?3 AND keys.member = ?1)";
 
 pub(crate) const ADD_FACILITY: &str = "\
     INSERT INTO facilities (name, kind, places, price, opens, shuts) \
@@ -128,7 +132,8 @@ pub(crate) const PUT_OLDER_ROOT: &str = "\
     ON CONFLICT (pass_key) \
     DO UPDATE SET root = ?2, until = ?3";
 
-pub(crate) const SET_ROOT: &str = "UPDATE keys SET root = ?2 WHERE name = ?1";
+/// Sets the root of a key, if its former root is the last parameter.
+pub(crate) const SET_ROOT: &str = "UPDATE keys SET root = ?2 WHERE name = ?1 AND root = ?3";
 
 pub(crate) const CLOSE_SLOT: &str = "\
     INSERT INTO slots (facility, day, hour, closed, taken) \
@@ -149,10 +154,13 @@ pub(crate) const ADD_BOOKING: &str = "\
     cancelled, refund) \
     VALUES (?1, ?2, ?3, ?4, ?5, ?6, ?7, ?8, ?9, ?10)";
 
+/// Marks a booking cancelled, if its row is as the first ten parameters say, and isn't cancelled.
 pub(crate) const CANCEL_BOOKING: &str = "\
     UPDATE bookings \
-    SET cancelled = 1, refund = ?3 \
-    WHERE pass_key = ?1 AND number = ?2 AND cancelled = 0";
+    SET cancelled = 1, refund = ?11 \
+    WHERE pass_key = ?1 AND number = ?2 AND facility = ?3 AND day = ?4 AND hour = ?5 \
+    AND guests = ?6 AND charge = ?7 AND remains = ?8 AND cancelled = ?9 AND refund = ?10 \
+    AND cancelled = 0";
 
 pub(crate) const COSTS_UNDER_KEY: &str = "SELECT charge, refund FROM bookings WHERE pass_key = ?1";
 

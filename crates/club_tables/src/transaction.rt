@@ -100,14 +100,48 @@ pub fn run<S: Alter>(
 ) -> Result<(), StoreFault>
     requires { conn.old.in_transaction ≡ false }
     ensures idle { conn.new.in_transaction ≡ false }
-    ensures commits { Commits S.Store (map bound_statement statements.now)
+    ensures commits { Commits S.Store 0 (map bound_statement statements.now)
+        conn.old conn.new result }
+{
+    run_on_rows(conn, statements, 0)
+}
+
+/// Runs statements as `run` does, each of which has to insert or update a row.
+///
+/// # Errors
+///
+/// `Storage` if a statement inserted or updated no row, and those of `run`.
+pub fn write<S: Alter>(
+    conn: &mut Connection<S>,
+    statements: &[Statement<'_>],
+) -> Result<(), StoreFault>
+    requires { conn.old.in_transaction ≡ false }
+    ensures idle { conn.new.in_transaction ≡ false }
+    ensures commits { Commits S.Store 1 (map bound_statement statements.now)
+        conn.old conn.new result }
+{
+    run_on_rows(conn, statements, 1)
+}
+
+/// Runs statements as `run` does, each of which has to insert or update at least so many rows.
+fn run_on_rows<S: Alter>(
+    conn: &mut Connection<S>,
+    statements: &[Statement<'_>],
+    fewest: usize,
+) -> Result<(), StoreFault>
+    requires { conn.old.in_transaction ≡ false }
+    ensures idle { conn.new.in_transaction ≡ false }
+    ensures commits { Commits S.Store fewest (map bound_statement statements.now)
         conn.old conn.new result }
 {
     let mut tx = conn.transaction();
     for statement in statements {
-        match tx.execute(statement.text, statement.params) {
-            Ok(_) => {}
+        let count = match tx.execute(statement.text, statement.params) {
+            Ok(count) => count,
             Err(error) => return Err(fault_of(error)),
+        };
+        if count < fewest {
+            return Err(StoreFault::Storage);
         }
     }
     match tx.commit() {

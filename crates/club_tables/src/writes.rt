@@ -30,7 +30,7 @@ ghost use Rattle.club_tables.specs.ChangeStatements.{
 ghost use Rattle.club_tables.specs.ReadsAndChanges.{ChangesClub};
 
 use crate::params::Rotation;
-use crate::transaction::{Statement, run};
+use crate::transaction::{Statement, write};
 use crate::{params, texts};
 use club_core::StoreFault;
 use club_rows::{Booking, Facility, Key, Member};
@@ -42,11 +42,11 @@ use sqlite::{Alter, Connection};
 pub fn insert_member<S: Alter>(conn: &mut Connection<S>, member: &Member) -> Result<(), StoreFault>
     requires { conn.old.in_transaction ≡ false }
     ensures idle { conn.new.in_transaction ≡ false }
-    ensures commits { Commits S.Store (adding_member member.now) conn.old conn.new result }
+    ensures commits { Commits S.Store 1 (adding_member member.now) conn.old conn.new result }
     ensures makes { ChangesClub S.Store (InsertMember member.now) conn.old conn.new result }
 {
     let values = params::of_member(member);
-    run(
+    write(
         conn,
         &[Statement {
             text: texts::ADD_MEMBER,
@@ -62,11 +62,11 @@ pub fn insert_facility<S: Alter>(
 ) -> Result<(), StoreFault>
     requires { conn.old.in_transaction ≡ false }
     ensures idle { conn.new.in_transaction ≡ false }
-    ensures commits { Commits S.Store (adding_facility facility.now) conn.old conn.new result }
+    ensures commits { Commits S.Store 1 (adding_facility facility.now) conn.old conn.new result }
     ensures makes { ChangesClub S.Store (InsertFacility facility.now) conn.old conn.new result }
 {
     let values = params::of_facility(facility);
-    run(
+    write(
         conn,
         &[Statement {
             text: texts::ADD_FACILITY,
@@ -79,7 +79,7 @@ pub fn insert_facility<S: Alter>(
 pub fn insert_key<S: Alter>(conn: &mut Connection<S>, key: &Key) -> Result<(), StoreFault>
     requires { conn.old.in_transaction ≡ false }
     ensures idle { conn.new.in_transaction ≡ false }
-    ensures commits { key.now.older ≡ None → Commits S.Store (adding_key key.now)
+    ensures commits { key.now.older ≡ None → Commits S.Store 1 (adding_key key.now)
         conn.old conn.new result }
     ensures makes { ChangesClub S.Store (InsertKey key.now) conn.old conn.new result }
 {
@@ -87,7 +87,7 @@ pub fn insert_key<S: Alter>(conn: &mut Connection<S>, key: &Key) -> Result<(), S
         return Err(StoreFault::Storage);
     }
     let values = params::of_key(key);
-    run(
+    write(
         conn,
         &[Statement {
             text: texts::ADD_KEY,
@@ -104,11 +104,11 @@ pub fn add_credit<S: Alter>(
 ) -> Result<(), StoreFault>
     requires { conn.old.in_transaction ≡ false }
     ensures idle { conn.new.in_transaction ≡ false }
-    ensures commits { Commits S.Store (adding_credit member.now points) conn.old conn.new result }
+    ensures commits { Commits S.Store 1 (adding_credit member.now points) conn.old conn.new result }
     ensures makes { ChangesClub S.Store (AddCredit member.now points) conn.old conn.new result }
 {
     let values = params::of_credit(member, points);
-    run(
+    write(
         conn,
         &[Statement {
             text: texts::ADD_CREDIT,
@@ -121,11 +121,11 @@ pub fn add_credit<S: Alter>(
 pub fn revoke_key<S: Alter>(conn: &mut Connection<S>, key: &Name) -> Result<(), StoreFault>
     requires { conn.old.in_transaction ≡ false }
     ensures idle { conn.new.in_transaction ≡ false }
-    ensures commits { Commits S.Store (revoking key.now) conn.old conn.new result }
+    ensures commits { Commits S.Store 1 (revoking key.now) conn.old conn.new result }
     ensures makes { ChangesClub S.Store (MarkRevoked key.now) conn.old conn.new result }
 {
     let values = [ValueRef::Text(key.as_bytes())];
-    run(
+    write(
         conn,
         &[Statement {
             text: texts::REVOKE_KEY,
@@ -135,13 +135,14 @@ pub fn revoke_key<S: Alter>(conn: &mut Connection<S>, key: &Name) -> Result<(), 
 }
 
 /// Gives a key a new root. Its former root becomes its older root, and replaces an earlier one.
+/// Fails, and changes nothing, if the key has another former root.
 pub fn replace_root<S: Alter>(
     conn: &mut Connection<S>,
     rotation: &Rotation,
 ) -> Result<(), StoreFault>
     requires { conn.old.in_transaction ≡ false }
     ensures idle { conn.new.in_transaction ≡ false }
-    ensures commits { Commits S.Store
+    ensures commits { Commits S.Store 1
         (replacing_root rotation.now.key rotation.now.root rotation.now.older)
         conn.old conn.new result }
     ensures makes { ChangesClub S.Store
@@ -161,10 +162,10 @@ fn run_rotation<S: Alter>(
 ) -> Result<(), StoreFault>
     requires { conn.old.in_transaction ≡ false }
     ensures idle { conn.new.in_transaction ≡ false }
-    ensures commits { Commits S.Store (rotating (bound put.now) (bound set.now))
+    ensures commits { Commits S.Store 1 (rotating (bound put.now) (bound set.now))
         conn.old conn.new result }
 {
-    run(
+    write(
         conn,
         &[
             Statement {
@@ -183,11 +184,11 @@ fn run_rotation<S: Alter>(
 pub fn close_slot<S: Alter>(conn: &mut Connection<S>, slot: &Slot) -> Result<(), StoreFault>
     requires { conn.old.in_transaction ≡ false }
     ensures idle { conn.new.in_transaction ≡ false }
-    ensures commits { Commits S.Store (closing slot.now) conn.old conn.new result }
+    ensures commits { Commits S.Store 1 (closing slot.now) conn.old conn.new result }
     ensures makes { ChangesClub S.Store (MarkClosed slot.now) conn.old conn.new result }
 {
     let values = params::of_slot(slot);
-    run(
+    write(
         conn,
         &[Statement {
             text: texts::CLOSE_SLOT,
@@ -207,11 +208,11 @@ fn run_with_totals<S: Alter>(
 ) -> Result<(), StoreFault>
     requires { conn.old.in_transaction ≡ false }
     ensures idle { conn.new.in_transaction ≡ false }
-    ensures commits { Commits S.Store
+    ensures commits { Commits S.Store 1
         (with_totals text.now (bound booking.now) (bound used.now) (bound taken.now))
         conn.old conn.new result }
 {
-    run(
+    write(
         conn,
         &[
             Statement {
@@ -231,7 +232,8 @@ fn run_with_totals<S: Alter>(
 }
 
 /// Inserts a booking under a key of the member, adds what it costs to what the member's have cost,
-/// and its persons to those of its slot.
+/// and its persons to those of its slot. Fails, and changes nothing, if the key is another
+/// member's.
 pub fn insert_booking<S: Alter>(
     conn: &mut Connection<S>,
     booking: &Booking,
@@ -239,7 +241,7 @@ pub fn insert_booking<S: Alter>(
 ) -> Result<(), StoreFault>
     requires { conn.old.in_transaction ≡ false }
     ensures idle { conn.new.in_transaction ≡ false }
-    ensures commits { Commits S.Store (adding_booking booking.now member.now)
+    ensures commits { Commits S.Store 1 (adding_booking booking.now member.now)
         conn.old conn.new result }
     ensures makes { ChangesClub S.Store (InsertBooking booking.now member.now)
         conn.old conn.new result }
@@ -251,7 +253,8 @@ pub fn insert_booking<S: Alter>(
 }
 
 /// Marks a booking cancelled with its refund, gives the refund back to the member, and the places
-/// to the slot.
+/// to the slot. Fails, and changes nothing, if the booking isn't on record as it is given, is
+/// cancelled, or is under a key of another member.
 pub fn cancel_booking<S: Alter>(
     conn: &mut Connection<S>,
     booking: &Booking,
@@ -260,13 +263,13 @@ pub fn cancel_booking<S: Alter>(
 ) -> Result<(), StoreFault>
     requires { conn.old.in_transaction ≡ false }
     ensures idle { conn.new.in_transaction ≡ false }
-    ensures commits { Commits S.Store (cancelling booking.now member.now refund)
+    ensures commits { Commits S.Store 1 (cancelling booking.now member.now refund)
         conn.old conn.new result }
     ensures makes { ChangesClub S.Store (MarkCancelled booking.now member.now refund)
         conn.old conn.new result }
 {
-    let mark = params::of_refund(&booking.key, booking.number, refund);
-    let used = params::of_return(member, refund);
+    let mark = params::of_refund(booking, refund);
+    let used = params::of_return(member, booking, refund);
     let taken = params::of_freed(booking);
     run_with_totals(conn, texts::CANCEL_BOOKING, &mark, &used, &taken)
 }

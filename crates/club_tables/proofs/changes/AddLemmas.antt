@@ -1,5 +1,5 @@
 -- What the statements that insert a row make of the tables.
-use Rattle.std.proofs.Common.{◌≡◌, ℕ, pos, Ok, List, [], ◌∷◌, ◌++◌, refl, sym, subst}
+use Rattle.std.proofs.Common.{◌≡◌, ◌≤◌, ℕ, pos, Ok, List, [], ◌∷◌, ◌++◌, refl, sym, subst}
 use Rattle.sqlite_tied.specs.Compute.{everything}
 use Rattle.sqlite_value.specs.declared.value.Value.TheVariants.{Null, Int, Text}
 use Rattle.sqlite.specs.Table.{Table}
@@ -46,14 +46,16 @@ new_row member = record { member = member; used = 0 }
 
 pub member_put : (old new : State) (rows : Rows) → HoldsRows old.now rows → (member : Member) (count : ℕ)
     → Executes ADD_MEMBER.now (Text member.name ∷ whole member.credited ∷ whole member.quota ∷ []) old new (Ok count)
-    → HoldsRows new.now (record rows { members = rows.members ++ (new_row member) ∷ [] })
+    → HoldsRows new.now (record rows { members = rows.members ++ (new_row member) ∷ [] }) × (1 ≤ count)
 member_put old new rows holds_rows member count ran =
     let put = inserts old new club_schema holds_rows.schema ADD_MEMBER.now member_plain 1 member_table member_terms 5 (Text member.name ∷ whole member.credited
     ∷ whole member.quota ∷ []) (member_values (new_row member)) refl member_is refl refl refl
-    (rw (cast_null, cast_int (pos member.credited), cast_int (pos member.quota), cast_int (pos 0))) (λ row. refl) count ran in
-    on_members old.now new.now rows holds_rows put.0 put.3 put.2 (rows.members ++ (new_row member) ∷ [])
-    (subst (λ rs. Holds member_values rs (rows.members ++ (new_row member) ∷ [])) (sym put.1)
-    (holds_more member_values _ rows.members (new_row member) holds_rows.members))
+    (rw (cast_null, cast_int (pos member.credited), cast_int (pos member.quota), cast_int (pos 0))) (λ row. refl) count ran in (
+      on_members old.now new.now rows holds_rows put.0 put.3 put.2 (rows.members ++ (new_row member) ∷ [])
+          (subst (λ rs. Holds member_values rs (rows.members ++ (new_row member) ∷ [])) (sym put.1)
+          (holds_more member_values _ rows.members (new_row member) holds_rows.members)),
+      put.4,
+    )
 
 -- ---- facilities
 
@@ -73,15 +75,17 @@ facility_plain = (refl, refl)
 
 pub facility_put : (old new : State) (rows : Rows) → HoldsRows old.now rows → (facility : Facility) (count : ℕ)
     → Executes ADD_FACILITY.now (facility_values facility) old new (Ok count)
-    → HoldsRows new.now (record rows { facilities = rows.facilities ++ facility ∷ [] })
+    → HoldsRows new.now (record rows { facilities = rows.facilities ++ facility ∷ [] }) × (1 ≤ count)
 facility_put old new rows holds_rows facility count ran =
     let put = inserts old new club_schema holds_rows.schema ADD_FACILITY.now facility_plain 2 facility_table facility_terms 7 (facility_values facility)
     (facility_values facility) refl facility_is refl refl refl
     (rw (cast_null, cast_int (pos facility.places), cast_int (pos facility.price), cast_int (pos facility.opens), cast_int (pos facility.shuts))) (λ row.
-    refl) count ran in
-    on_facilities old.now new.now rows holds_rows put.0 put.3 put.2 (rows.facilities ++ facility ∷ [])
-    (subst (λ rs. Holds facility_values rs (rows.facilities ++ facility ∷ [])) (sym put.1)
-    (holds_more facility_values _ rows.facilities facility holds_rows.facilities))
+    refl) count ran in (
+      on_facilities old.now new.now rows holds_rows put.0 put.3 put.2 (rows.facilities ++ facility ∷ [])
+          (subst (λ rs. Holds facility_values rs (rows.facilities ++ facility ∷ [])) (sym put.1)
+          (holds_more facility_values _ rows.facilities facility holds_rows.facilities)),
+      put.4,
+    )
 
 -- ---- keys
 
@@ -100,13 +104,15 @@ unfolding understood everything
 key_plain = (refl, refl)
 
 pub key_put : (old new : State) (rows : Rows) → HoldsRows old.now rows → (key : Key) (count : ℕ) → Executes ADD_KEY.now (key_values key) old new (Ok count)
-    → HoldsRows new.now (record rows { keys = rows.keys ++ key ∷ [] })
+    → HoldsRows new.now (record rows { keys = rows.keys ++ key ∷ [] }) × (1 ≤ count)
 key_put old new rows holds_rows key count ran =
     let put = inserts old new club_schema holds_rows.schema ADD_KEY.now key_plain 3 key_table key_terms 5 (key_values key)
     (key_values key) refl key_is refl refl refl
-    (rw (cast_null, cast_int (pos (truth key.revoked)))) (λ row. refl) count ran in
-    on_keys old.now new.now rows holds_rows put.0 put.3 put.2 (rows.keys ++ key ∷ [])
-    (subst (λ rs. Holds key_values rs (rows.keys ++ key ∷ [])) (sym put.1) (holds_more key_values _ rows.keys key holds_rows.keys))
+    (rw (cast_null, cast_int (pos (truth key.revoked)))) (λ row. refl) count ran in (
+      on_keys old.now new.now rows holds_rows put.0 put.3 put.2 (rows.keys ++ key ∷ [])
+          (subst (λ rs. Holds key_values rs (rows.keys ++ key ∷ [])) (sym put.1) (holds_more key_values _ rows.keys key holds_rows.keys)),
+      put.4,
+    )
 
 -- ---- bookings
 
@@ -126,7 +132,7 @@ booking_plain = (refl, refl)
 
 pub booking_put : (old new : State) (rows : Rows) → HoldsRows old.now rows → (booking : Booking) (count : ℕ)
     → Executes ADD_BOOKING.now (booking_values booking) old new (Ok count)
-    → HoldsRows new.now (record rows { bookings = rows.bookings ++ booking ∷ [] })
+    → HoldsRows new.now (record rows { bookings = rows.bookings ++ booking ∷ [] }) × (1 ≤ count)
 booking_put old new rows holds_rows booking count ran =
     let put = inserts old new club_schema holds_rows.schema ADD_BOOKING.now booking_plain 5 booking_table booking_terms 11 (booking_values booking)
     (booking_values booking) refl booking_is refl refl refl
@@ -141,6 +147,8 @@ booking_put old new rows holds_rows booking count ran =
       cast_int (pos (truth booking.cancelled)),
       cast_int (pos booking.refund),
     )) (λ row.
-    refl) count ran in
-    on_bookings old.now new.now rows holds_rows put.0 put.3 put.2 (rows.bookings ++ booking ∷ [])
-    (subst (λ rs. Holds booking_values rs (rows.bookings ++ booking ∷ [])) (sym put.1) (holds_more booking_values _ rows.bookings booking holds_rows.bookings))
+    refl) count ran in (
+      on_bookings old.now new.now rows holds_rows put.0 put.3 put.2 (rows.bookings ++ booking ∷ [])
+          (subst (λ rs. Holds booking_values rs (rows.bookings ++ booking ∷ [])) (sym put.1) (holds_more booking_values _ rows.bookings booking holds_rows.bookings)),
+      put.4,
+    )

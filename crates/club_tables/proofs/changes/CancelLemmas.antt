@@ -1,6 +1,8 @@
 -- What the statement that cancels a booking makes of the tables.
-use Rattle.std.proofs.Common.{◌≡◌, ℕ, ◌≤◌, pos, ℤ, Ok, Bool, true, false, not, ◌&&◌, ◌||◌, ◌==◌, cond, List, [], ◌∷◌, length, map, refl, sym, ap, subst, ◌∙◌}
-use Rattle.std.specs.Prelude.{filter, AllPairs}
+use Rattle.std.proofs.Common.{◌≡◌, ◌≢◌, ℕ, ◌≤◌, pos, ℤ, Ok, Some, Bool, true, false, ◌&&◌, ◌||◌, ◌==◌, cond, List, [], ◌∷◌, ◌++◌, length, map}
+use Rattle.std.proofs.Common.{refl, sym, ap, subst, ◌∙◌, arith}
+use Rattle.std.specs.Prelude.{filter, find, AllPairs}
+use Rattle.std.specs.List.{AllByRecursion, AllZip}
 use Rattle.std.specs.Cmp.{unsigned_Decides}
 use Rattle.std.proofs.lemmas.Slice.Eq.{bytes_eq-Decides}
 use Rattle.std.proofs.lemmas.Bool.{and_parts}
@@ -10,10 +12,15 @@ use Rattle.sqlite_value.specs.declared.value.Value.TheVariants.{Int, Text}
 use Rattle.sqlite_value.specs.declared.keys.Collation.TheVariants.{Binary}
 use Rattle.sqlite_sql.specs.declared.ops.BinaryOp.TheVariants.{Compare}
 use Rattle.sqlite_sql.specs.declared.ops.CompareOp.TheVariants.{Eq}
+use Rattle.sqlite_sql.specs.Ops.{binary, is_true}
 use Rattle.sqlite.specs.Order.{Row}
 use Rattle.sqlite.specs.Table.{Table}
 use Rattle.sqlite.specs.Term.{Term, lit, col, op2}
 use Rattle.sqlite.specs.Query.{inner, end}
+use Rattle.sqlite.specs.Rowids.TheVariants.{Given}
+use Rattle.sqlite.specs.Edit.{edit_of, edited}
+use Rattle.sqlite_rules.specs.Calls.{ids_of}
+use Rattle.sqlite.specs.Effect.{IsDatabase, Answers}
 use Rattle.sqlite.specs.Command.TheVariants.{Update}
 use Rattle.sqlite.specs.Listing.{understood}
 use Rattle.sqlite.specs.State.{State, Executes}
@@ -21,6 +28,7 @@ use Rattle.sqlite.proofs.Callers.{IsPlain, command_of}
 use Rattle.club_rows.specs.Columns.{truth}
 use Rattle.club_rows.specs.declared.booking.Booking.{Booking}
 use Rattle.club_core.specs.After.{cancelled_booking, is_marked}
+use Rattle.club_core.specs.Sums.{is_under, booking_under}
 use Rattle.club_tables.specs.declared.texts.TheConstants.{CANCEL_BOOKING}
 use Rattle.club_tables.specs.Schema.{bookings_table, club_schema}
 use Rattle.club_tables.specs.Columns.{whole, flag, booking_values}
@@ -29,10 +37,13 @@ use Rattle.club_tables.specs.Stored.{Rows}
 use Rattle.club_tables.specs.Tables.{HoldsRows, Holds, bookings_tree}
 use Rattle.club_tables.proofs.statements.HoldsRowsLemmas.{on_bookings}
 use Rattle.club_tables.proofs.statements.InsertLemmas.{cast_int}
-use Rattle.club_tables.proofs.statements.SelectLemmas.{text_equal, whole_equal, apart_from_pairs, one_passes}
+use Rattle.club_tables.proofs.statements.PassLemmas.{contains_counts, rows_found}
+use Rattle.club_tables.proofs.statements.PassLemmas.{Implies, each_row, some_found, agree, found_by_both, zip_agree}
+use Rattle.club_tables.proofs.statements.SelectLemmas.{text_equal, whole_equal, apart_from_pairs, one_passes, test, shows, answered}
 use Rattle.club_tables.proofs.statements.UpdateLemmas.{updates}
-use Rattle.club_tables.proofs.statements.ReplaceLemmas.{replaced}
+use Rattle.club_tables.proofs.statements.ReplaceLemmas.{replaced_where}
 use Rattle.club_tables.proofs.changes.ChangeLemmas.{nothing_more, or_true, or_false}
+use Rattle.club_tables.proofs.lists.FindLemmas.{found}
 
 abbrev booking_table : Table
 booking_table = record bookings_table { tree = bookings_tree }
@@ -42,10 +53,12 @@ abbrev is_uncancelled : Term
 is_uncancelled = op2 (Compare Eq Binary) (col 1 9) (lit (Int (pos 0)))
 
 abbrev cancel_tests : List Term
-cancel_tests = is_given 1 0 ∷ is_given 2 1 ∷ is_uncancelled ∷ []
+cancel_tests =
+    is_given 1 0 ∷ is_given 2 1 ∷ is_given 3 2 ∷ is_given 4 3 ∷ is_given 5 4 ∷ is_given 6 5 ∷ is_given 7 6 ∷ is_given 8 7 ∷ is_given 9 8 ∷ is_given 10 9
+    ∷ is_uncancelled ∷ []
 
 abbrev cancel_terms : List Term
-cancel_terms = col 1 0 ∷ col 1 0 ∷ col 1 1 ∷ col 1 2 ∷ col 1 3 ∷ col 1 4 ∷ col 1 5 ∷ col 1 6 ∷ col 1 7 ∷ col 1 8 ∷ lit (Int (pos 1)) ∷ col 0 2 ∷ []
+cancel_terms = col 1 0 ∷ col 1 0 ∷ col 1 1 ∷ col 1 2 ∷ col 1 3 ∷ col 1 4 ∷ col 1 5 ∷ col 1 6 ∷ col 1 7 ∷ col 1 8 ∷ lit (Int (pos 1)) ∷ col 0 10 ∷ []
 
 cancel_is : command_of (understood club_schema CANCEL_BOOKING.now) ≡ Update 5 (record {
   lets = [];
@@ -58,19 +71,6 @@ cancel_is = refl
 cancel_plain : IsPlain (understood club_schema CANCEL_BOOKING.now)
 unfolding understood everything
 cancel_plain = (refl, refl)
-
-no_truth : (b : Bool) → (truth b == 0) ≡ not b
-no_truth true = refl
-no_truth false = refl
-
-pub three : (a b c : Bool) → (a && (b && (c && true))) ≡ (a && b && c)
-three true true true = refl
-three true true false = refl
-three true false c = refl
-three false b c = refl
-
-three_tests : (a a' b b' c c' : Bool) → a ≡ a' → b ≡ b' → c ≡ c' → (a && (b && (c && true))) ≡ (a' && b' && c')
-three_tests a a' b b' c c' p q r = let e = three a b c in cc
 
 -- keys and numbers identify the bookings
 pub one_marked : (key : List ℕ) (number : ℕ) (bookings : List Booking) → AllPairs (λ (a : Booking) (b : Booking). ¬ ((a.key ≡ b.key)
@@ -87,43 +87,186 @@ one_marked key number bookings unique =
     ))
     (apart_from_pairs R bookings unique)
 
-pub booking_cancelled : (old new : State) (rows : Rows) → HoldsRows old.now rows
-    → AllPairs (λ (a : Booking) (b : Booking). ¬ ((a.key ≡ b.key) × (a.number ≡ b.number))) rows.bookings → (key : List ℕ) (number refund count : ℕ)
-    → Executes CANCEL_BOOKING.now (Text key ∷ whole number ∷ whole refund ∷ []) old new (Ok count)
-    → HoldsRows new.now (record rows { bookings = map (cancelled_booking key number refund) rows.bookings })
-booking_cancelled old new rows holds_rows unique key number refund count ran =
-    let params = Text key ∷ whole number ∷ whole refund ∷ [] in
-    let p : Booking → Bool = is_marked key number in
-    let change = cancelled_booking key number refund in
-    let put = updates old new holds_rows.schema CANCEL_BOOKING.now cancel_plain 5 booking_table
-    (select (inner bookings_tree end) cancel_tests cancel_terms) params
-    refl cancel_is count ran in
-    let as_marked : Booking → Bool → Booking = λ booking b. record booking { cancelled = booking.cancelled || b; refund = cond b refund booking.refund } in
-    let same : (booking : Booking) → p booking ≡ false → change booking ≡ booking = λ booking fails.
-    ap (as_marked booking) fails ∙ ap (λ b. let k : Booking = record booking { cancelled = b } in k) (or_false booking.cancelled) in
-    let shown : ℤ → Booking → Value → Value → Row = λ id b v w. Int id ∷ Int id ∷ Text b.key ∷ whole b.number ∷ Text b.slot.facility ∷ whole b.slot.day
-    ∷ whole b.slot.hour ∷ whole b.guests ∷ whole b.charge ∷ whole b.left ∷ v ∷ w ∷ [] in
-    let tested = λ (id : ℤ) (booking : Booking).
-    let key_is = text_equal booking.key key in
-    let number_is = whole_equal booking.number number in
-    let uncancelled_is = whole_equal (truth booking.cancelled) 0 ∙ no_truth booking.cancelled in
-    three_tests _ _ _ _ _ _ key_is number_is uncancelled_is in
-    let bookings = replaced booking_values p change same params cancel_tests cancel_terms tested booking_table
-    (record { schema = club_schema; trees = old.now.trees }) rows.bookings put.0 (λ _. Unit {0}) (nothing_more rows.bookings)
-    (λ id booking _ passes.
-    ap (λ v. shown id booking v (whole refund)) (sym (ap (λ b. flag (booking.cancelled || b)) passes ∙ ap flag (or_true booking.cancelled)))
-    ∙ ap (λ w. shown id booking (flag (change booking).cancelled) w) (sym (ap (λ b. whole (cond b refund booking.refund)) passes)))
-    (λ id booking. rw (
-      cast_int id,
-      cast_int (pos booking.number),
-      cast_int (pos booking.slot.day),
-      cast_int (pos booking.slot.hour),
-      cast_int (pos booking.guests),
-      cast_int (pos booking.charge),
-      cast_int (pos booking.left),
-      cast_int (pos (truth booking.cancelled)),
-      cast_int (pos booking.refund),
+-- a booking of this key and number
+abbrev pub is_numbered : List ℕ → ℕ → Booking → Bool
+is_numbered key number booking = is_under key booking && booking.number == number
+
+abbrev pub AreBookingsOnce : List Booking → Type 0
+AreBookingsOnce = AllPairs (λ (a : Booking) (b : Booking). ¬ ((a.key ≡ b.key) × (a.number ≡ b.number)))
+
+one_numbered : (key : List ℕ) (number : ℕ) (bookings : List Booking) → AreBookingsOnce bookings → length (filter (is_numbered key number) bookings) ≤ 1
+one_numbered key number bookings unique =
+    let R : Booking → Booking → Type 0 = λ a b. ¬ ((a.key ≡ b.key) × (a.number ≡ b.number)) in
+    one_passes R (is_numbered key number) bookings (λ x y a b apart.
+    let p = and_parts _ _ a in
+    let q = and_parts _ _ b in
+    apart (
+      (bytes_eq-Decides x.key key).0 p.0 ∙ sym ((bytes_eq-Decides y.key key).0 q.0),
+      (unsigned_Decides x.number number).0 p.1
+          ∙ sym ((unsigned_Decides y.number number).0 q.1),
     ))
-    holds_rows.bookings (one_marked key number rows.bookings unique) put.1 in
-    on_bookings old.now new.now rows holds_rows put.2 put.5 put.4 (map change rows.bookings)
-    (subst (λ rs. Holds booking_values rs (map change rows.bookings)) (sym put.3) bookings)
+    (apart_from_pairs R bookings unique)
+
+same_truth : (a b : Bool) → truth a ≡ truth b → a ≡ b
+same_truth true true h = refl
+same_truth true false h = absurd (omega arith)
+same_truth false true h = absurd (omega arith)
+same_truth false false h = refl
+
+abbrev booking_of : List ℕ → ℕ → List ℕ → ℕ → ℕ → ℕ → ℕ → ℕ → Bool → ℕ → Booking
+booking_of key number facility day hour guests charge left cancelled refund = record {
+  key = key;
+  number = number;
+  slot = record { facility = facility; day = day; hour = hour };
+  guests = guests;
+  charge = charge;
+  left = left;
+  cancelled = cancelled;
+  refund = refund;
+}
+
+module _ (old new : State) (rows : Rows) (holds_rows : HoldsRows old.now rows) (unique : AreBookingsOnce rows.bookings) (booking : Booking)
+    (refund count : ℕ) (ran : Executes CANCEL_BOOKING.now (booking_values booking ++ whole refund ∷ []) old new (Ok count)) where
+  abbrev params : Row
+  params = booking_values booking ++ whole refund ∷ []
+
+  abbrev hit : Row → Bool
+  hit = test params cancel_tests cancel_terms
+
+  -- the tests read no rowid
+  abbrev is_as_given : Booking → Bool
+  is_as_given b = hit (Int (pos 0) ∷ booking_values b)
+
+  cancel_put : (rs : List Row) × Answers (record { schema = club_schema; trees = old.now.trees }) (record {
+    lets = [];
+    body =
+        select (inner bookings_tree end) cancel_tests cancel_terms;
+  }) params rs × (new.now.schema ≡ club_schema)
+      × (new.now.trees bookings_tree ≡ edited old.now.trees (edit_of old.now.trees booking_table (ids_of rs) Given 1 rs))
+      × AllByRecursion (λ (t : Table). t.tree ≢ bookings_tree → new.now.trees t.tree ≡ old.now.trees t.tree) club_schema.tables × IsDatabase new.now
+      × (count ≡ length rs)
+  cancel_put = updates old new holds_rows.schema CANCEL_BOOKING.now cancel_plain 5 booking_table
+      (select (inner bookings_tree end) cancel_tests cancel_terms) params refl cancel_is count ran
+
+  hits : AllZip (λ row x. hit row ≡ is_as_given x) (old.now.trees bookings_tree) rows.bookings
+  hits = each_row booking_values hit is_as_given (λ id b. refl) (old.now.trees bookings_tree) rows.bookings holds_rows.bookings.same
+
+  text_same : (a b : List ℕ) → is_true (binary (Compare Eq Binary) (Text a) (Text b)) ≡ true → a ≡ b
+  text_same a b h = (bytes_eq-Decides a b).0 (sym (text_equal a b) ∙ h)
+
+  whole_same : (m n : ℕ) → is_true (binary (Compare Eq Binary) (Int (pos m)) (Int (pos n))) ≡ true → m ≡ n
+  whole_same m n h = (unsigned_Decides m n).0 (sym (whole_equal m n) ∙ h)
+
+  -- a booking that passes is the one that was given, and isn't cancelled
+  as_given : (b : Booking) → is_as_given b ≡ true → (b ≡ booking) × (b.cancelled ≡ false)
+  as_given b h =
+      let t1 = and_parts _ _ h in
+      let t2 = and_parts _ _ t1.1 in
+      let t3 = and_parts _ _ t2.1 in
+      let t4 = and_parts _ _ t3.1 in
+      let t5 = and_parts _ _ t4.1 in
+      let t6 = and_parts _ _ t5.1 in
+      let t7 = and_parts _ _ t6.1 in
+      let t8 = and_parts _ _ t7.1 in
+      let t9 = and_parts _ _ t8.1 in
+      let t10 = and_parts _ _ t9.1 in
+      let t11 = and_parts _ _ t10.1 in
+      let key : b.key ≡ booking.key = text_same b.key booking.key t1.0 in
+      let number : b.number ≡ booking.number = whole_same b.number booking.number t2.0 in
+      let facility : b.slot.facility ≡ booking.slot.facility = text_same b.slot.facility booking.slot.facility t3.0 in
+      let day : b.slot.day ≡ booking.slot.day = whole_same b.slot.day booking.slot.day t4.0 in
+      let hour : b.slot.hour ≡ booking.slot.hour = whole_same b.slot.hour booking.slot.hour t5.0 in
+      let guests : b.guests ≡ booking.guests = whole_same b.guests booking.guests t6.0 in
+      let charge : b.charge ≡ booking.charge = whole_same b.charge booking.charge t7.0 in
+      let left : b.left ≡ booking.left = whole_same b.left booking.left t8.0 in
+      let cancelled : b.cancelled ≡ booking.cancelled =
+      same_truth b.cancelled booking.cancelled (whole_same (truth b.cancelled) (truth booking.cancelled) t9.0) in
+      let refunded : b.refund ≡ booking.refund = whole_same b.refund booking.refund t10.0 in
+      let none : truth b.cancelled ≡ truth false = whole_same (truth b.cancelled) 0 t11.0 in
+      let same : booking_of b.key b.number b.slot.facility b.slot.day b.slot.hour b.guests b.charge b.left b.cancelled b.refund
+      ≡ booking_of booking.key booking.number booking.slot.facility booking.slot.day booking.slot.hour booking.guests booking.charge booking.left
+      booking.cancelled booking.refund = cc in
+      (same, same_truth b.cancelled false none)
+
+  named : Implies is_as_given (is_numbered booking.key booking.number)
+  named b h = let same = (as_given b h).0 in subst (λ (x : Booking). is_numbered booking.key booking.number x ≡ true) (sym same)
+      (rw ((bytes_eq-Decides booking.key booking.key).1 refl, (unsigned_Decides booking.number booking.number).1 refl) refl)
+
+  marked : Implies is_as_given (is_marked booking.key booking.number)
+  marked b h = rw (named b h, (as_given b h).1) refl
+
+  -- where the booking is on record as it is given, its row is updated
+  pub cancel_some : booking_under booking.key booking.number rows.bookings ≡ Some booking → booking.cancelled ≡ false → 1 ≤ count
+  cancel_some on_record uncancelled =
+      let it = found (is_numbered booking.key booking.number) rows.bookings booking on_record in
+      let text = λ (a : List ℕ). let e : is_true (binary (Compare Eq Binary) (Text a) (Text a)) ≡ true = text_equal a a ∙ (bytes_eq-Decides a a).1 refl in
+      e in
+      let number = λ (n : ℕ). let e : is_true (binary (Compare Eq Binary) (Int (pos n)) (Int (pos n))) ≡ true =
+      whole_equal n n ∙ (unsigned_Decides n n).1 refl in e in
+      let none : is_true (binary (Compare Eq Binary) (Int (pos (truth booking.cancelled))) (Int (pos 0))) ≡ true =
+      ap (λ (b : Bool). is_true (binary (Compare Eq Binary) (Int (pos (truth b))) (Int (pos 0)))) uncancelled ∙ number 0 in
+      let passes : is_as_given booking ≡ true = rw (
+        text booking.key,
+        number booking.number,
+        text booking.slot.facility,
+        number booking.slot.day,
+        number booking.slot.hour,
+        number booking.guests,
+        number booking.charge,
+        number booking.left,
+        number (truth booking.cancelled),
+        number booking.refund,
+        none,
+      ) refl in
+      let some = rows_found hit (shows params cancel_tests cancel_terms) is_as_given (old.now.trees bookings_tree) cancel_put.0 rows.bookings hits
+      (answered params cancel_tests cancel_terms bookings_tree (record { schema = club_schema; trees = old.now.trees }) cancel_put.0 cancel_put.1)
+      (contains_counts is_as_given rows.bookings booking it.0 passes) in
+      omega (arith, some, cancel_put.6)
+
+  module _ (some : 1 ≤ count) where
+    passing : (b : Booking) × (find is_as_given rows.bookings ≡ Some b)
+    passing = some_found hit (shows params cancel_tests cancel_terms) is_as_given (old.now.trees bookings_tree) cancel_put.0 rows.bookings hits
+        (answered params cancel_tests cancel_terms bookings_tree (record { schema = club_schema; trees = old.now.trees }) cancel_put.0 cancel_put.1)
+        (omega (arith, some, cancel_put.6))
+
+    -- the booking is on record as it was given
+    pub cancel_found : (booking_under booking.key booking.number rows.bookings ≡ Some booking) × (booking.cancelled ≡ false)
+    cancel_found =
+        let one = passing.0 in
+        let given = as_given one (found is_as_given rows.bookings one passing.1).1 in
+        let both = agree is_as_given (is_numbered booking.key booking.number) named rows.bookings one
+        (one_numbered booking.key booking.number rows.bookings unique) passing.1 in (
+          sym (found_by_both is_as_given (is_numbered booking.key booking.number) rows.bookings both) ∙ passing.1 ∙ ap Some given.0,
+          sym (ap (λ (x : Booking). x.cancelled) given.0) ∙ given.1,
+        )
+
+    pub booking_cancelled : HoldsRows new.now (record rows { bookings = map (cancelled_booking booking.key booking.number refund) rows.bookings })
+    booking_cancelled =
+        let p : Booking → Bool = is_marked booking.key booking.number in
+        let change = cancelled_booking booking.key booking.number refund in
+        let as_marked : Booking → Bool → Booking = λ b c. record b { cancelled = b.cancelled || c; refund = cond c refund b.refund } in
+        let same : (b : Booking) → p b ≡ false → change b ≡ b = λ b fails.
+        ap (as_marked b) fails ∙ ap (λ c. let k : Booking = record b { cancelled = c } in k) (or_false b.cancelled) in
+        let shown : ℤ → Booking → Value → Value → Row = λ id b v w. Int id ∷ Int id ∷ Text b.key ∷ whole b.number ∷ Text b.slot.facility ∷ whole b.slot.day
+        ∷ whole b.slot.hour ∷ whole b.guests ∷ whole b.charge ∷ whole b.left ∷ v ∷ w ∷ [] in
+        let both = agree is_as_given p marked rows.bookings passing.0 (one_marked booking.key booking.number rows.bookings unique) passing.1 in
+        let bookings = replaced_where booking_values p change same params cancel_tests cancel_terms booking_table
+        (record { schema = club_schema; trees = old.now.trees }) rows.bookings cancel_put.0 (λ _. Unit {0}) (nothing_more rows.bookings)
+        (λ id b _ passes.
+        ap (λ v. shown id b v (whole refund)) (sym (ap (λ c. flag (b.cancelled || c)) passes ∙ ap flag (or_true b.cancelled)))
+        ∙ ap (λ w. shown id b (flag (change b).cancelled) w) (sym (ap (λ c. whole (cond c refund b.refund)) passes)))
+        (λ id b. rw (
+          cast_int id,
+          cast_int (pos b.number),
+          cast_int (pos b.slot.day),
+          cast_int (pos b.slot.hour),
+          cast_int (pos b.guests),
+          cast_int (pos b.charge),
+          cast_int (pos b.left),
+          cast_int (pos (truth b.cancelled)),
+          cast_int (pos b.refund),
+        ))
+        (zip_agree hit is_as_given p (old.now.trees bookings_tree) rows.bookings hits both)
+        holds_rows.bookings (one_marked booking.key booking.number rows.bookings unique) cancel_put.1 in
+        on_bookings old.now new.now rows holds_rows cancel_put.2 cancel_put.5 cancel_put.4 (map change rows.bookings)
+        (subst (λ rs. Holds booking_values rs (map change rows.bookings)) (sym cancel_put.3) bookings)

@@ -1,37 +1,51 @@
--- What the statements that change a row of a member or of a key make of the tables.
-use Rattle.std.proofs.Common.{◌≡◌, ◌+◌, ℕ, ℤ, pos, Ok, Some, Bool, true, false, ◌||◌, cond, if◌then◌else◌, List, [], ◌∷◌, map, ◌≢◌, refl, sym, ap, subst, ◌∙◌}
-use Rattle.std.specs.Prelude.{AllPairs}
-use Rattle.std.specs.List.{AllByRecursion}
+-- What the statements that change a row of a member make of the tables.
+use Rattle.std.proofs.Common.{◌≡◌, ◌+◌, ◌≤◌, ℕ, ℤ, pos, Ok, Some, Bool, true, false, ◌&&◌, ◌||◌, cond, if◌then◌else◌, List, [], ◌∷◌, length, map, ◌≢◌}
+use Rattle.std.proofs.Common.{refl, sym, ap, subst, ◌∙◌, arith}
+use Rattle.std.specs.Prelude.{filter, find, AllPairs, IsPermutation}
+use Rattle.std.specs.List.{AllByRecursion, AllZip, list_all}
 use Rattle.std.specs.Str.{bytes_eq}
+use Rattle.std.proofs.lemmas.Bool.{and_parts}
+use Rattle.std.proofs.lemmas.Slice.Eq.{bytes_eq-Decides}
 use Rattle.sqlite_tied.specs.Compute.{everything}
-use Rattle.sqlite_value.specs.declared.value.Value.TheVariants.{Int, Text, Blob}
-use Rattle.sqlite_sql.specs.declared.ops.BinaryOp.TheVariants.{Arith}
+use Rattle.sqlite_value.specs.declared.value.Value.TheVariants.{Int, Text}
+use Rattle.sqlite_value.specs.declared.keys.Collation.TheVariants.{Binary}
+use Rattle.sqlite_sql.specs.declared.ops.BinaryOp.TheVariants.{Arith, Compare}
 use Rattle.sqlite_sql.specs.declared.ops.ArithOp.TheVariants.{Add}
+use Rattle.sqlite_sql.specs.declared.ops.CompareOp.TheVariants.{Eq}
 use Rattle.sqlite_sql.specs.Ops.{binary}
 use Rattle.sqlite.specs.Cast.{cast_row}
 use Rattle.sqlite.specs.Table.{Table}
-use Rattle.sqlite.specs.Term.{Term, lit, col, op2}
-use Rattle.sqlite.specs.Query.{inner, end}
+use Rattle.sqlite.specs.Order.{Row}
+use Rattle.sqlite.specs.Term.{Term, col, op2, holds}
+use Rattle.sqlite.specs.Query.{Query, inner, end, counted}
+use Rattle.sqlite.specs.Rowids.TheVariants.{Given}
+use Rattle.sqlite.specs.Edit.{edit_of, edited}
+use Rattle.sqlite_rules.specs.Calls.{ids_of}
+use Rattle.sqlite.specs.Effect.{IsDatabase, Answers}
 use Rattle.sqlite.specs.Command.TheVariants.{Update}
 use Rattle.sqlite.specs.Listing.{understood}
 use Rattle.sqlite.specs.State.{State, Executes}
 use Rattle.sqlite.proofs.Callers.{IsPlain, command_of}
-use Rattle.club_rows.specs.Columns.{truth}
 use Rattle.club_rows.specs.declared.key.Key.{Key}
-use Rattle.club_core.specs.After.{credited_member, revoked_key, good_until, rotated_key}
+use Rattle.club_core.specs.After.{credited_member}
 use Rattle.club_tables.specs.declared.row.MemberRow.{MemberRow}
-use Rattle.club_tables.specs.declared.texts.TheConstants.{ADD_CREDIT, ADD_USED, REVOKE_KEY, SET_ROOT}
-use Rattle.club_tables.specs.Schema.{members_table, keys_table, club_schema}
-use Rattle.club_tables.specs.Columns.{whole, flag, member_values, key_values}
+use Rattle.club_tables.specs.declared.texts.TheConstants.{ADD_CREDIT, ADD_USED}
+use Rattle.club_tables.specs.Schema.{members_table, club_schema}
+use Rattle.club_tables.specs.ChangeStatements.{used_values}
+use Rattle.club_tables.specs.Columns.{whole, member_values, key_values}
 use Rattle.club_tables.specs.Statements.{select, is_given}
 use Rattle.club_tables.specs.Stored.{Rows}
 use Rattle.club_tables.specs.Tables.{HoldsRows, Holds, members_tree, keys_tree}
 use Rattle.club_tables.proofs.statements.InsertLemmas.{cast_int}
 use Rattle.club_tables.proofs.queries.KeyLemmas.{and_true, one_named}
-use Rattle.club_tables.proofs.statements.HoldsRowsLemmas.{on_members, on_keys}
+use Rattle.club_tables.proofs.statements.HoldsRowsLemmas.{on_members}
+use Rattle.club_tables.proofs.statements.CountedLemmas.{is_counted, some_counted, counted_some, passes, shown, count_in, with_count, answered_counted, counts_elements}
+use Rattle.club_tables.proofs.statements.PassLemmas.{contains_counts, found_counts, rows_found, updated_rows}
+use Rattle.club_tables.proofs.statements.PassLemmas.{each_row, find_some, some_found, updated_found, agree, found_by_both, zip_agree}
 use Rattle.club_tables.proofs.statements.SelectLemmas.{text_equal}
 use Rattle.club_tables.proofs.statements.UpdateLemmas.{updates}
-use Rattle.club_tables.proofs.statements.ReplaceLemmas.{replaced}
+use Rattle.club_tables.proofs.statements.ReplaceLemmas.{replaced, replaced_by}
+use Rattle.club_tables.proofs.lists.FindLemmas.{found}
 
 pub nothing_more : {X : Type 0} (xs : List X) → AllByRecursion (λ _. Unit {0}) xs
 nothing_more [] = tt
@@ -45,78 +59,17 @@ pub or_false : (b : Bool) → (b || false) ≡ b
 or_false true = refl
 or_false false = refl
 
--- ---- a key is revoked
+-- ---- keys by their names
 
-abbrev key_table : Table
-key_table = record keys_table { tree = keys_tree }
+abbrev pub AreKeysOnce : List Key → Type 0
+AreKeysOnce = AllPairs (λ (a : Key) (b : Key). a.name ≢ b.name)
 
-abbrev revoke_terms : List Term
-revoke_terms = col 1 0 ∷ col 1 0 ∷ col 1 1 ∷ col 1 2 ∷ col 1 3 ∷ lit (Int (pos 1)) ∷ []
+-- a key of this name is stored
+abbrev pub StoresKey : List ℕ → List Key → Key → Type 0
+StoresKey name keys key = find (λ (key : Key). bytes_eq key.name name) keys ≡ Some key
 
-revoke_is : command_of (understood club_schema REVOKE_KEY.now) ≡ Update 3 (record {
-  lets = [];
-  body =
-      select (inner keys_tree end) (is_given 1 0 ∷ []) revoke_terms;
-})
-unfolding understood everything
-revoke_is = refl
-
-revoke_plain : IsPlain (understood club_schema REVOKE_KEY.now)
-unfolding understood everything
-revoke_plain = (refl, refl)
-
-pub key_revoked : (old new : State) (rows : Rows) → HoldsRows old.now rows → AllPairs (λ (a : Key) (b : Key). a.name ≢ b.name) rows.keys
-    → (name : List ℕ) (count : ℕ) → Executes REVOKE_KEY.now (Text name ∷ []) old new (Ok count)
-    → HoldsRows new.now (record rows { keys = map (revoked_key name) rows.keys })
-key_revoked old new rows holds_rows unique name count ran =
-    let params = Text name ∷ [] in
-    let p : Key → Bool = λ key. bytes_eq key.name name in
-    let put = updates old new holds_rows.schema REVOKE_KEY.now revoke_plain 3 key_table
-    (select (inner keys_tree end) (is_given 1 0 ∷ []) revoke_terms) params refl
-    revoke_is count ran in
-    let marked : (key : Key) → p key ≡ true → flag (revoked_key name key).revoked ≡ whole 1 = λ key passes. ap (λ b. flag (key.revoked || b)) passes
-    ∙ ap flag (or_true key.revoked) in
-    let same : (key : Key) → p key ≡ false → revoked_key name key ≡ key = λ key fails.
-    ap (λ b. let k : Key = record key { revoked = key.revoked || b } in k) fails
-    ∙ ap (λ b. let k : Key = record key { revoked = b } in k) (or_false key.revoked) in
-    let keys = replaced key_values p (revoked_key name) same params (is_given 1 0 ∷ []) revoke_terms (λ id key. and_true _ ∙ text_equal key.name name) key_table
-    (record { schema = club_schema; trees = old.now.trees }) rows.keys put.0 (λ _. Unit {0}) (nothing_more rows.keys)
-    (λ id key _ passes. ap (λ v. Int id ∷ Int id ∷ Text key.name ∷ Text key.member ∷ Blob key.root ∷ v ∷ []) (sym (marked key passes)))
-    (λ id key. rw (cast_int id, cast_int (pos (truth key.revoked)))) holds_rows.keys (one_named (λ (key : Key). key.name) name rows.keys unique) put.1 in
-    on_keys old.now new.now rows holds_rows put.2 put.5 put.4 (map (revoked_key name) rows.keys)
-    (subst (λ rs. Holds key_values rs (map (revoked_key name) rows.keys)) (sym put.3) keys)
-
--- ---- a key gets a new root
-
-abbrev root_terms : List Term
-root_terms = col 1 0 ∷ col 1 0 ∷ col 1 1 ∷ col 1 2 ∷ col 0 1 ∷ col 1 4 ∷ []
-
-root_is : command_of (understood club_schema SET_ROOT.now) ≡ Update 3 (record { lets = []; body = select (inner keys_tree end) (is_given 1 0 ∷ []) root_terms })
-unfolding understood everything
-root_is = refl
-
-root_plain : IsPlain (understood club_schema SET_ROOT.now)
-unfolding understood everything
-root_plain = (refl, refl)
-
--- the columns don't hold the older root
-pub root_set : (old new : State) (rows : Rows) → HoldsRows old.now rows → AllPairs (λ (a : Key) (b : Key). a.name ≢ b.name) rows.keys
-    → (name root : List ℕ) (until count : ℕ) → Executes SET_ROOT.now (Text name ∷ Blob root ∷ []) old new (Ok count)
-    → HoldsRows new.now (record rows { keys = map (rotated_key name root until) rows.keys })
-root_set old new rows holds_rows unique name root until count ran =
-    let params = Text name ∷ Blob root ∷ [] in
-    let p : Key → Bool = λ key. bytes_eq key.name name in
-    let change = rotated_key name root until in
-    let put = updates old new holds_rows.schema SET_ROOT.now root_plain 3 key_table
-    (select (inner keys_tree end) (is_given 1 0 ∷ []) root_terms) params refl root_is
-    count ran in
-    let same : (key : Key) → p key ≡ false → change key ≡ key = λ key fails.
-    ap (λ b. let k : Key = record key { root = if b then root else key.root; older = if b then Some (good_until until key.root) else key.older } in k) fails in
-    let keys = replaced key_values p change same params (is_given 1 0 ∷ []) root_terms (λ id key. and_true _ ∙ text_equal key.name name) key_table
-    (record { schema = club_schema; trees = old.now.trees }) rows.keys put.0 (λ _. Unit {0}) (nothing_more rows.keys)
-    (λ id key _ passes. ap (λ b. Int id ∷ Int id ∷ Text key.name ∷ Text key.member ∷ Blob (if b then root else key.root) ∷ flag key.revoked ∷ []) (sym passes))
-    (λ id key. rw (cast_int id, cast_int (pos (truth key.revoked)))) holds_rows.keys (one_named (λ (key : Key). key.name) name rows.keys unique) put.1 in
-    on_keys old.now new.now rows holds_rows put.2 put.5 put.4 (map change rows.keys) (subst (λ rs. Holds key_values rs (map change rows.keys)) (sym put.3) keys)
+pub both_tests : (a a' b b' : Bool) → a ≡ a' → b ≡ b' → (a && (b && true)) ≡ (a' && b')
+both_tests a a' b b' p q = let e = and_true b in cc
 
 -- ---- the numbers of a member's row
 
@@ -148,14 +101,19 @@ credit_plain : IsPlain (understood club_schema ADD_CREDIT.now)
 unfolding understood everything
 credit_plain = (refl, refl)
 
+abbrev owner_tests : List Term
+owner_tests = op2 (Compare Eq Binary) (col 2 1) (col 0 2) ∷ op2 (Compare Eq Binary) (col 2 2) (col 0 0) ∷ []
+
+abbrev used_tests : List Term
+used_tests = is_given 1 0 ∷ col 2 0 ∷ []
+
 abbrev used_terms : List Term
 used_terms = col 1 0 ∷ col 1 0 ∷ col 1 1 ∷ col 1 2 ∷ col 1 3 ∷ op2 (Arith Add) (col 1 4) (col 0 1) ∷ []
 
-used_is : command_of (understood club_schema ADD_USED.now) ≡ Update 1 (record {
-  lets = [];
-  body =
-      select (inner members_tree end) (is_given 1 0 ∷ []) used_terms;
-})
+abbrev used_query : Query
+used_query = select (inner members_tree (counted 1 (inner keys_tree end) owner_tests end)) used_tests used_terms
+
+used_is : command_of (understood club_schema ADD_USED.now) ≡ Update 1 (record { lets = []; body = used_query })
 unfolding understood everything
 used_is = refl
 
@@ -176,6 +134,32 @@ Credits name points row = bytes_eq row.member.name name ≡ true → binary (Ari
 
 abbrev pub Uses : List ℕ → ℤ → (ℕ → ℕ) → MemberRow → Type 0
 Uses name points next row = bytes_eq row.member.name name ≡ true → binary (Arith Add) (whole row.used) (Int points) ≡ whole (next row.used)
+
+-- the member is there
+pub credit_found : (old new : State) (rows : Rows) → HoldsRows old.now rows → (name : List ℕ) (points : ℕ) (count : ℕ) → 1 ≤ count
+    → Executes ADD_CREDIT.now (Text name ∷ whole points ∷ []) old new (Ok count)
+    → (row : MemberRow) × (find (λ (row : MemberRow). bytes_eq (name_of row) name) rows.members ≡ Some row)
+credit_found old new rows holds_rows name points count some ran =
+    let params = Text name ∷ whole points ∷ [] in
+    let put = updates old new holds_rows.schema ADD_CREDIT.now credit_plain 1 member_table
+    (select (inner members_tree end) (is_given 1 0 ∷ []) credit_terms) params refl credit_is count ran in
+    updated_found member_values (λ (row : MemberRow). bytes_eq (name_of row) name) params (is_given 1 0 ∷ []) credit_terms (λ id row. and_true _
+    ∙ text_equal row.member.name name) members_tree (record { schema = club_schema; trees = old.now.trees }) rows.members put.0 holds_rows.members put.1
+    (omega (arith, some, put.6))
+
+-- where the member is there, its row is updated
+pub credit_some : (old new : State) (rows : Rows) → HoldsRows old.now rows → (name : List ℕ) (points : ℕ) (row : MemberRow)
+    → find (λ (row : MemberRow). bytes_eq (name_of row) name) rows.members ≡ Some row → (count : ℕ)
+    → Executes ADD_CREDIT.now (Text name ∷ whole points ∷ []) old new (Ok count) → 1 ≤ count
+credit_some old new rows holds_rows name points row stores count ran =
+    let params = Text name ∷ whole points ∷ [] in
+    let is_named : MemberRow → Bool = λ row. bytes_eq (name_of row) name in
+    let put = updates old new holds_rows.schema ADD_CREDIT.now credit_plain 1 member_table
+    (select (inner members_tree end) (is_given 1 0 ∷ []) credit_terms) params refl credit_is count ran in
+    let some = updated_rows member_values is_named params (is_given 1 0 ∷ []) credit_terms (λ id row. and_true _
+    ∙ text_equal row.member.name name) members_tree (record { schema = club_schema; trees = old.now.trees }) rows.members put.0 holds_rows.members put.1
+    (found_counts is_named rows.members row stores) in
+    omega (arith, some, put.6)
 
 pub member_credited : (old new : State) (rows : Rows) → HoldsRows old.now rows → AreNamedOnce rows.members → (name : List ℕ) (points : ℕ)
     → AllByRecursion (Credits name points) rows.members
@@ -200,24 +184,101 @@ member_credited old new rows holds_rows unique name points sums count ran =
     on_members old.now new.now rows holds_rows put.2 put.5 put.4 (map change rows.members)
     (subst (λ rs. Holds member_values rs (map change rows.members)) (sym put.3) members)
 
-pub member_used : (old new : State) (rows : Rows) → HoldsRows old.now rows → AreNamedOnce rows.members → (name : List ℕ) (points : ℤ) (next : ℕ → ℕ)
-    → AllByRecursion (Uses name points next) rows.members
-    → (count : ℕ) → Executes ADD_USED.now (Text name ∷ Int points ∷ []) old new (Ok count)
-    → HoldsRows new.now (record rows { members = map (used_row name next) rows.members })
-member_used old new rows holds_rows unique name points next sums count ran =
-    let params = Text name ∷ Int points ∷ [] in
-    let p : MemberRow → Bool = λ row. bytes_eq row.member.name name in
-    let change = used_row name next in
-    let put = updates old new holds_rows.schema ADD_USED.now used_plain 1 member_table
-    (select (inner members_tree end) (is_given 1 0 ∷ []) used_terms) params refl
-    used_is count ran in
-    let same : (row : MemberRow) → p row ≡ false → change row ≡ row = λ row fails.
-    ap (λ b. let m : MemberRow = record row { used = cond b (next row.used) row.used } in m) fails in
-    let members = replaced member_values p change same params (is_given 1 0 ∷ []) used_terms (λ id row. and_true _
-    ∙ text_equal row.member.name name) member_table
-    (record { schema = club_schema; trees = old.now.trees }) rows.members put.0 (Uses name points next) sums
-    (λ id row sum passes. ap (λ v. Int id ∷ Int id ∷ Text row.member.name ∷ whole row.member.credited ∷ whole row.member.quota ∷ v ∷ [])
-    (sum passes ∙ ap (λ b. whole (cond b (next row.used) row.used)) (sym passes)))
-    casts_member holds_rows.members (one_named name_of name rows.members unique) put.1 in
-    on_members old.now new.now rows holds_rows put.2 put.5 put.4 (map change rows.members)
-    (subst (λ rs. Holds member_values rs (map change rows.members)) (sym put.3) members)
+module _ (old new : State) (rows : Rows) (holds_rows : HoldsRows old.now rows) (name : List ℕ) (points : ℤ) (key : List ℕ) (count : ℕ)
+    (ran : Executes ADD_USED.now (used_values name points key) old new (Ok count)) where
+  abbrev used_params : Row
+  used_params = used_values name points key
+
+  abbrev owns : Key → Bool
+  owns k = bytes_eq k.name key && bytes_eq k.member name
+
+  abbrev is_owned : Bool
+  is_owned = is_counted (length (filter owns rows.keys))
+
+  abbrev is_member : MemberRow → Bool
+  is_member row = bytes_eq row.member.name name
+
+  abbrev is_owner : MemberRow → Bool
+  is_owner row = is_member row && is_owned
+
+  abbrev others : List Row
+  others = old.now.trees keys_tree
+
+  abbrev used_hit : Row → Bool
+  used_hit = passes used_params owner_tests used_tests used_terms others
+
+  used_put : (rs : List Row) × Answers (record { schema = club_schema; trees = old.now.trees }) (record { lets = []; body = used_query }) used_params rs
+      × (new.now.schema ≡ club_schema)
+      × (new.now.trees members_tree ≡ edited old.now.trees (edit_of old.now.trees member_table (ids_of rs) Given 1 rs))
+      × AllByRecursion (λ (t : Table). t.tree ≢ members_tree → new.now.trees t.tree ≡ old.now.trees t.tree) club_schema.tables × IsDatabase new.now
+      × (count ≡ length rs)
+  used_put = updates old new holds_rows.schema ADD_USED.now used_plain 1 member_table used_query used_params refl used_is count ran
+
+  used_count : (row : Row) → count_in used_params owner_tests used_tests used_terms others row ≡ length (filter owns rows.keys)
+  used_count = counts_elements used_params owner_tests used_tests used_terms key_values owns
+      (λ id row k. both_tests _ _ _ _ (text_equal k.name key) (text_equal k.member name)) others rows.keys holds_rows.keys
+
+  used_hits : AllZip (λ row x. used_hit row ≡ is_owner x) (old.now.trees members_tree) rows.members
+  used_hits = each_row member_values used_hit is_owner (λ id row.
+      let as_row : Row = Int id ∷ member_values row in
+      let counted_so : used_hit as_row ≡ list_all (holds (with_count used_params owner_tests used_tests used_terms (length (filter owns rows.keys)) as_row))
+      used_tests =
+      ap (λ n. list_all (holds (with_count used_params owner_tests used_tests used_terms n as_row)) used_tests) (used_count as_row) in
+      counted_so ∙ both_tests _ _ _ _ (text_equal row.member.name name) refl) (old.now.trees members_tree) rows.members holds_rows.members.same
+
+  used_answer : IsPermutation (map (shown used_params owner_tests used_tests used_terms others) (filter used_hit (old.now.trees members_tree))) used_put.0
+  used_answer = answered_counted used_params owner_tests used_tests used_terms members_tree keys_tree
+      (record { schema = club_schema; trees = old.now.trees }) used_put.0 used_put.1
+
+  -- where the key is the member's, the member's row is updated
+  pub used_some : (k : Key) → StoresKey key rows.keys k → k.member ≡ name → (row : MemberRow) → find is_member rows.members ≡ Some row → 1 ≤ count
+  used_some k stores same row stored =
+      let is_key : Key → Bool = λ k. bytes_eq k.name key in
+      let it = found is_key rows.keys k stores in
+      let passes : owns k ≡ true = rw (it.1, (bytes_eq-Decides k.member name).1 same) refl in
+      let owned = counted_some (filter owns rows.keys) (contains_counts owns rows.keys k it.0 passes) in
+      let one = found is_member rows.members row stored in
+      let is_hit : is_owner row ≡ true = ap (λ b. is_member row && b) owned ∙ and_true (is_member row) ∙ one.1 in
+      let some = rows_found used_hit (shown used_params owner_tests used_tests used_terms others) is_owner (old.now.trees members_tree) used_put.0
+      rows.members used_hits used_answer (contains_counts is_owner rows.members row one.0 is_hit) in
+      omega (arith, some, used_put.6)
+
+  module _ (some : 1 ≤ count) where
+    used_passes : (row : MemberRow) × (find is_owner rows.members ≡ Some row)
+    used_passes = some_found used_hit (shown used_params owner_tests used_tests used_terms others) is_owner (old.now.trees members_tree) used_put.0 rows.members
+        used_hits used_answer (omega (arith, some, used_put.6))
+
+    owned : is_owned ≡ true
+    owned = (and_parts (is_member used_passes.0) is_owned (found is_owner rows.members used_passes.0 used_passes.1).1).1
+
+    -- the key is the member's
+    pub owner_found : AreKeysOnce rows.keys → (k : Key) × StoresKey key rows.keys k × (k.member ≡ name)
+    owner_found unique =
+        let one = find_some owns rows.keys (some_counted (filter owns rows.keys) owned) in
+        let is_key : Key → Bool = λ k. bytes_eq k.name key in
+        let both = agree owns is_key (λ k h. (and_parts (is_key k) _ h).0) rows.keys one.0 (one_named (λ (k : Key). k.name) key rows.keys unique) one.1 in (
+          one.0,
+          sym (found_by_both owns is_key rows.keys both) ∙ one.1,
+          (bytes_eq-Decides one.0.member name).0 (and_parts (is_key one.0) (bytes_eq one.0.member name) (found owns rows.keys one.0 one.1).1).1,
+        )
+
+    -- any member passes that has this name
+    all_agree : (ms : List MemberRow) → AllByRecursion (λ (row : MemberRow). is_owner row ≡ is_member row) ms
+    all_agree [] = tt
+    all_agree (row ∷ ms) = (ap (λ b. is_member row && b) owned ∙ and_true (is_member row), all_agree ms)
+
+    pub member_used : AreNamedOnce rows.members → (next : ℕ → ℕ) → AllByRecursion (Uses name points next) rows.members
+        → HoldsRows new.now (record rows { members = map (used_row name next) rows.members })
+    member_used unique next sums =
+        let change = used_row name next in
+        let same : (row : MemberRow) → is_member row ≡ false → change row ≡ row = λ row fails.
+        ap (λ b. let m : MemberRow = record row { used = cond b (next row.used) row.used } in m) fails in
+        let members = replaced_by member_values is_member change same used_hit (shown used_params owner_tests used_tests used_terms others) member_table
+        (record { schema = club_schema; trees = old.now.trees }) rows.members used_put.0 (Uses name points next) sums
+        (λ id row sum passes. ap (λ v. Int id ∷ Int id ∷ Text row.member.name ∷ whole row.member.credited ∷ whole row.member.quota ∷ v ∷ [])
+        (sum passes ∙ ap (λ b. whole (cond b (next row.used) row.used)) (sym passes)))
+        casts_member
+        (zip_agree used_hit is_owner is_member (old.now.trees members_tree) rows.members used_hits (all_agree rows.members)) holds_rows.members
+        (one_named name_of name rows.members unique) used_answer in
+        on_members old.now new.now rows holds_rows used_put.2 used_put.5 used_put.4 (map change rows.members)
+        (subst (λ rs. Holds member_values rs (map change rows.members)) (sym used_put.3) members)

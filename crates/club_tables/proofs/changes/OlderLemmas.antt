@@ -1,5 +1,5 @@
 -- The rows of older roots, once one is put.
-use Rattle.std.proofs.Common.{◌≡◌, ◌≢◌, ℕ, ℤ, pos, Bool, true, false, ◌||◌, cond, if◌then◌else◌, Some, None, Option, Ok, List, [], ◌∷◌, ◌++◌, map, refl, sym}
+use Rattle.std.proofs.Common.{◌≡◌, ◌≢◌, ◌≤◌, ℕ, ℤ, pos, Bool, true, false, ◌||◌, cond, if◌then◌else◌, Some, None, Option, Ok, List, [], ◌∷◌, ◌++◌, map, refl, sym}
 use Rattle.std.proofs.Common.{ap, subst, ◌∙◌, true≢false}
 use Rattle.std.specs.Prelude.{find, AllPairs, option_map}
 use Rattle.std.specs.List.{AllByRecursion, list_any}
@@ -215,7 +215,7 @@ module _ (key : List ℕ) (older : OlderRoot) where
 pub older_represents : (old new : State) (rows : Rows) → HoldsRows old.now rows → AllPairs (λ (a : OlderRow) (b : OlderRow). a.key ≢ b.key) rows.olders
     → (key : List ℕ) (older : OlderRoot) (count : ℕ)
     → Executes PUT_OLDER_ROOT.now (Text key ∷ older_root_values older) old new (Ok count)
-    → HoldsRows new.now (record rows { olders = put_older key older rows.olders })
+    → HoldsRows new.now (record rows { olders = put_older key older rows.olders }) × (1 ≤ count)
 older_represents old new rows holds_rows once key older count executed =
     let params = Text key ∷ older_root_values older in
     let t = old_roots_table in
@@ -229,4 +229,4 @@ older_represents old new rows holds_rows once key older count executed =
     (lone key older rows.olders (apart_from_pairs (λ (a : OlderRow) (b : OlderRow). a.key ≢ b.key) rows.olders once))
     (λ _. refl) (λ there. refl) (yields_each key older _ (λ x id there passes.
     ap (λ b. Int id ∷ Int id ∷ Text x.key ∷ older_root_values (if b then older else x.older)) (sym passes)) rows.olders) count executed in
-    on_olders old.now new.now rows holds_rows put.0 put.3 put.2 (put_older key older rows.olders) put.1
+    (on_olders old.now new.now rows holds_rows put.0 put.3 put.2 (put_older key older rows.olders) put.1, put.4)

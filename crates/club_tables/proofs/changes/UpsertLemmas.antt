@@ -1,5 +1,5 @@
 -- What the statements that put the row of a slot make of the tables.
-use Rattle.std.proofs.Common.{◌≡◌, ◌≢◌, ℕ, ◌/◌, pos, ℤ, Bool, true, false, if◌then◌else◌, Some, Option, Ok, List, [], ◌∷◌, ◌++◌, length, refl, sym, ap, ◌∙◌}
+use Rattle.std.proofs.Common.{◌≡◌, ◌≢◌, ◌≤◌, ℕ, ◌/◌, pos, ℤ, Bool, true, false, if◌then◌else◌, Some, Option, Ok, List, [], ◌∷◌, ◌++◌, length, refl, sym, ap, ◌∙◌}
 use Rattle.std.specs.Prelude.{AllPairs}
 use Rattle.std.specs.List.{AllByRecursion, list_any}
 use Rattle.sqlite_tied.specs.Compute.{everything}
@@ -95,7 +95,7 @@ module _ (text : List ℕ) (terms sets : List Term) (at : ℕ) (clause : Upsert)
   slot_put : (list_any (λ (row : SlotRow). same_slot row.slot slot) rows.slots ≡ false → closed ∷ taken ∷ [] ≡ use_values (change no_slot_use))
       → ((there : Row) → column (params ++ rowid there ∷ shown slot_table new_row) at ≡ rowid there)
       → AllByRecursion YieldsUse rows.slots → (count : ℕ) → Executes text params old new (Ok count)
-      → HoldsRows new.now (record rows { slots = put_slot slot change rows.slots })
+      → HoldsRows new.now (record rows { slots = put_slot slot change rows.slots }) × (1 ≤ count)
   slot_put values ids yields count executed =
       let t = slots_table in
       let kept : (x : SlotRow) → same_slot x.slot slot ≡ false → changed slot change x ≡ x =
@@ -109,7 +109,7 @@ module _ (text : List ℕ) (terms sets : List Term) (at : ℕ) (clause : Upsert)
       (λ id x. rw (cast_int id, cast_int (pos x.slot.day), cast_int (pos x.slot.hour), cast_int (pos (truth x.held.closed)), cast_int (pos x.held.taken)) refl)
       rows.slots holds_rows.slots (lone slot rows.slots (apart_from_pairs (λ (a : SlotRow) (b : SlotRow). a.slot ≢ b.slot) rows.slots once))
       (λ none. ap (λ vs. name_values slot ++ vs) (values none)) ids (each_yields rows.slots yields) count executed in
-      on_slots old.now new.now rows holds_rows left.0 left.3 left.2 (put_slot slot change rows.slots) left.1
+      (on_slots old.now new.now rows holds_rows left.0 left.3 left.2 (put_slot slot change rows.slots) left.1, left.4)
 
 -- ---- a slot is closed
 
@@ -147,7 +147,7 @@ each_slot P h (x ∷ xs) = (h x, each_slot P h xs)
 
 pub slot_closed : (old new : State) (rows : Rows) → HoldsRows old.now rows → AllPairs (λ (a : SlotRow) (b : SlotRow). a.slot ≢ b.slot) rows.slots
     → (slot : Slot) (count : ℕ)
-    → Executes CLOSE_SLOT.now (name_values slot) old new (Ok count) → HoldsRows new.now (record rows { slots = put_slot slot close_use rows.slots })
+    → Executes CLOSE_SLOT.now (name_values slot) old new (Ok count) → HoldsRows new.now (record rows { slots = put_slot slot close_use rows.slots }) × (1 ≤ count)
 slot_closed old new rows holds_rows once slot count executed =
     slot_put CLOSE_SLOT.now close_terms close_sets 3 close_clause close_is close_plain close_target close_update old new rows holds_rows once slot
     (name_values slot)
@@ -203,7 +203,7 @@ pub slot_taken : (old new : State) (rows : Rows) → HoldsRows old.now rows → 
     → AllByRecursion (Takes slot persons next) rows.slots → (list_any (λ (row : SlotRow). same_slot row.slot slot) rows.slots ≡ false → persons ≡ pos (next 0))
     → (count : ℕ)
     → Executes ADD_TAKEN.now (name_values slot ++ Int persons ∷ []) old new (Ok count)
-    → HoldsRows new.now (record rows { slots = put_slot slot (take_use next) rows.slots })
+    → HoldsRows new.now (record rows { slots = put_slot slot (take_use next) rows.slots }) × (1 ≤ count)
 slot_taken old new rows holds_rows once slot persons next sums fresh count executed =
     slot_put ADD_TAKEN.now taken_terms taken_sets 4 taken_clause taken_is taken_plain taken_target taken_update old new rows holds_rows once slot
     (name_values slot

@@ -1,20 +1,22 @@
 -- Which club is represented after statements that write, whether they succeed or fail.
 use Rattle.std.proofs.Common.{◌≡◌, ◌<◌, length, List, [], ◌∷◌, IsTrue, Result, Ok, Err, OnOk, OnErr, inl, inr, refl, sym, subst, ◌∙◌, arith}
-use Rattle.std.specs.Prelude.{MatchResult}
+use Rattle.std.specs.Prelude.{IsErr, MatchResult}
+use Rattle.sqlite.specs.Tree.{Trees}
 use Rattle.sqlite.specs.Store.{Ghosts}
 use Rattle.sqlite.specs.Effect.{Database}
 use Rattle.sqlite.specs.State.{HasCleanDisk, Survives}
 use Rattle.sqlite.specs.Held.{Held, state}
 use Rattle.club_core.specs.declared.change.Change.{Change}
 use Rattle.club_core.specs.After.{after}
-use Rattle.club_core.specs.Store.{FitsClub}
+use Rattle.club_core.specs.Store.{FitsClub, IsTrueOf}
 use Rattle.club_core.specs.Club.{Club}
 use Rattle.club_core.specs.declared.store.StoreFault.{StoreFault}
 use Rattle.club_core.specs.declared.store.StoreFault.TheVariants.{Storage}
-use Rattle.club_tables.specs.Tables.{HoldsClub, Represents}
-use Rattle.club_tables.specs.ReadsAndChanges.{ChangesClub, HasOlderRoot, IsChangeFault}
-use Rattle.club_tables.specs.Transaction.{BoundStatement, Ran, IsKept}
-use Rattle.club_tables.specs.Fault.{Commits, FailsToRun}
+use Rattle.club_tables.specs.Tables.{HoldsClub, IsLeftOf, Represents}
+use Rattle.club_tables.specs.ReadsAndChanges.{ChangesClub, HasOlderRoot, IsChangeFault, IsRunFault}
+use Rattle.club_tables.specs.Transaction.{BoundStatement, Ran, IsKept, transaction_start}
+use Rattle.club_tables.specs.Fault.{Commits, FailsInTurn, FailsToRun}
+use Rattle.club_core.specs.declared.change.Change.TheVariants.{InsertKey}
 use Rattle.club_tables.specs.ChangeStatements.{AreStatementsOf, statements_of}
 use Rattle.club_tables.proofs.opening.OpenLemmas.{IsSettled, settles}
 use Rattle.club_tables.proofs.crashes.RepresentsLemmas.{on_err, survives_same}
@@ -22,66 +24,108 @@ use Rattle.club_tables.proofs.queries.ReadLemmas.{at_once, fault_if}
 use Rattle.club_tables.proofs.crashes.SurviveLemmas.{kept_when_idle, may_commit, commits_nothing}
 
 module _ {S : Type 0} (g : Ghosts S) (all : List BoundStatement) (some : 0 < length all) (old new : Held S)
-    (survives : Survives (state g old) (state g new) (λ trees. (db : Database) × Ran g all old db × (trees ≡ db.trees)))
-    (clean : HasCleanDisk (state g new)) (club next : Club) (others : List Club) (represents : Represents (state g old) club others)
-    (makes : (db : Database) → HoldsClub (state g old).now club → Ran g all old db → HoldsClub db next) where
+    (survives : Survives (state g old) (state g new) (λ trees. (db : Database) × Ran g 1 all old db × (trees ≡ db.trees)))
+    (clean : HasCleanDisk (state g new)) (club : Club) (others : List Club) (represents : Represents (state g old) club others) where
   earlier : HasCleanDisk (state g old)
   earlier = omega (arith, survives.clean)
 
-  made : (db : Database) → Ran g all old db → HoldsClub db next
-  made db ran = makes db
-      (subst (λ (d : Database). HoldsClub d club) (sym (represents.idle earlier (ran.was_open some))) (represents.held earlier (ran.was_open some))) ran
+  held : (db : Database) → Ran g 1 all old db → HoldsClub (state g old).now club
+  held db ran = subst (λ (d : Database). HoldsClub d club) (sym (represents.idle earlier (ran.was_open some))) (represents.held earlier (ran.was_open some))
 
-  pub written : IsSettled (state g new) → IsTrue (state g new).is_open → Ran g all old (state g new).committed → (state g new).now ≡ (state g new).committed
-      → Represents (state g new) next []
-  written settled is_open ran same = settles (state g new) next [] (λ _ _. made (state g new).committed ran) (λ _. is_open) same settled
-
-  pub unwritten : IsKept (state g old) (state g new) → Represents (state g new) club (next ∷ others)
-  unwritten kept = record {
+  -- nothing was committed
+  kept_as : (clubs : List Club) → ((trees : Trees) (db : Database) → Ran g 1 all old db → trees ≡ db.trees → IsLeftOf trees (club ∷ clubs))
+      → ((trees : Trees) → IsLeftOf trees (club ∷ others) → IsLeftOf trees (club ∷ clubs)) → IsKept (state g old) (state g new)
+      → Represents (state g new) club clubs
+  kept_as clubs leaves was_left kept = record {
     held = λ clean is_open. let k = kept clean is_open in subst (λ db. HoldsClub db club) (sym k.2) (represents.held earlier k.0);
     idle = λ clean is_open. let k = kept clean is_open in k.1 ∙ sym k.2;
     left = λ clean trees may. elim (survives.crash clean trees may) [
-      | inl was ↦ elim (represents.left earlier trees was) [ inl here ↦ inl here | inr there ↦ inr (inr there) ]
-      | inr new ↦ inr (inl (new.0, sym new.2, inl (inl (made new.0 new.1))))
+      | inl was ↦ was_left trees (represents.left earlier trees was)
+      | inr new ↦ leaves trees new.0 new.1 new.2
     ];
   }
 
-  pub wrote : {E : Type 0} (r : Result (Unit {0}) E) → OnOk r (IsTrue (state g new).is_open × Ran g all old (state g new).committed
-      × ((state g new).now ≡ (state g new).committed)) → OnErr r (IsKept (state g old) (state g new))
-      → IsSettled (state g new) → MatchResult r (λ _. Represents (state g new) next []) (λ _. Represents (state g new) club (next ∷ others))
-  wrote (Ok done) ok err settled = written settled ok.0 ok.1 ok.2
-  wrote (Err e) ok err settled = unwritten err
+  -- what a change leaves that isn't true of the club: nothing
+  pub refused : {E : Type 0} (r : Result (Unit {0}) E) (IsTrueOfIt : Type 0) → ((db : Database) → HoldsClub (state g old).now club → Ran g 1 all old db
+      → IsTrueOfIt) → OnOk r (IsTrue (state g new).is_open × Ran g 1 all old (state g new).committed × ((state g new).now ≡ (state g new).committed))
+      → OnErr r (IsKept (state g old) (state g new)) → ¬ IsTrueOfIt → IsErr r × Represents (state g new) club others
+  refused (Ok done) IsTrueOfIt truth ok err untrue = absurd (untrue (truth _ (held _ ok.1) ok.1))
+  refused (Err e) IsTrueOfIt truth ok err untrue =
+      (refl, kept_as others (λ trees db ran is. absurd (untrue (truth db (held db ran) ran))) (λ trees left. left) err)
+
+  module _ (next : Club) (IsTrueOfIt : Type 0) (makes : (db : Database) → HoldsClub (state g old).now club → Ran g 1 all old db
+      → IsTrueOfIt × HoldsClub db next) where
+    made : (db : Database) → Ran g 1 all old db → IsTrueOfIt × HoldsClub db next
+    made db ran = makes db (held db ran) ran
+
+    written : IsSettled (state g new) → IsTrue (state g new).is_open → Ran g 1 all old (state g new).committed → (state g new).now ≡ (state g new).committed
+        → IsTrueOfIt × Represents (state g new) next []
+    written settled is_open ran same = (
+      (made (state g new).committed ran).0,
+      settles (state g new) next [] (λ _ _. (made (state g new).committed ran).1) (λ _. is_open) same settled,
+    )
+
+    pub wrote : {E : Type 0} (r : Result (Unit {0}) E) → OnOk r (IsTrue (state g new).is_open × Ran g 1 all old (state g new).committed
+        × ((state g new).now ≡ (state g new).committed)) → OnErr r (IsKept (state g old) (state g new))
+        → IsSettled (state g new)
+        → MatchResult r (λ _. IsTrueOfIt × Represents (state g new) next []) (λ _. Represents (state g new) club (next ∷ others))
+    wrote (Ok done) ok err settled = written settled ok.0 ok.1 ok.2
+    wrote (Err e) ok err settled = kept_as (next ∷ others) (λ trees db ran is. inr (inl (db, sym is, inl (inl (made db ran).1)))) (λ trees left.
+        elim left [ inl here ↦ inl here | inr there ↦ inr (inr there) ]) err
 
 -- statements that were run in a transaction of their own make the change
 pub makes : {S : Type 0} (g : Ghosts S) (change : Change) → 0 < length (statements_of change) → (old new : Held S) (r : Result (Unit {0}) StoreFault)
-    → Commits g (statements_of change) old new r
+    → Commits g 1 (statements_of change) old new r
     → IsSettled (state g new)
-    → ((db : Database) (club : Club) → HoldsClub (state g old).now club → FitsClub change club → Ran g (statements_of change) old db
+    → ((db : Database) (club : Club) → HoldsClub (state g old).now club → Ran g 1 (statements_of change) old db → IsTrueOf change club)
+    → ((db : Database) (club : Club) → HoldsClub (state g old).now club → FitsClub change club → Ran g 1 (statements_of change) old db
     → HoldsClub db (after change club))
+    → ((club : Club) → FitsClub change club → (IsTrue (state g old).is_open → HoldsClub (state g old).now club) → (mid : Held S) (fault : StoreFault)
+    → FailsInTurn g 1 (statements_of change) (transaction_start old) mid fault → FailsInTurn g 0 (statements_of change) (transaction_start old) mid fault)
     → ChangesClub g change old new r
-makes g change some old new r commits settled made =
+makes g change some old new r commits settled truth made less =
     let all = statements_of change in
     let earlier = λ (clean : HasCleanDisk (state g new)). let e : HasCleanDisk (state g old) = omega (arith, commits.survives.clean) in e in
     record {
       was_clean = earlier;
-      effect = λ clean club others represents fits. wrote g all some old new commits.survives clean club (after change club) others represents
-          (λ db tables ran. made db club tables fits ran) r (commits.ran clean) commits.kept settled;
+      effect = λ clean club others represents sound. wrote g all some old new commits.survives clean club others represents (after change club)
+          (IsTrueOf change club) (λ db tables ran. let carries = truth db club tables ran in
+          (carries, made db club tables (record { carries = carries; sound = sound }) ran)) r (commits.ran clean) commits.kept settled;
+      untrue = λ clean club others represents no. refused g all some old new commits.survives clean club others represents r (IsTrueOf change club)
+          (λ db tables ran. truth db club tables ran) (commits.ran clean) commits.kept no;
       no_change = on_err r commits.kept (λ kept rest. kept);
-      survives = may_commit g all (AreStatementsOf change) refl old new commits.survives;
-      fault = λ clean. fault_if (FailsToRun g all old new) (IsChangeFault g change old new) r (commits.fault clean) (λ fault failed.
+      survives = may_commit g 1 all (AreStatementsOf change) refl old new commits.survives;
+      fault = λ clean. fault_if (FailsToRun g 1 all old new) (IsChangeFault g change old new) r (commits.fault clean) (λ fault failed.
           inl (record { from = old; after = at_once g old (earlier clean); failure = failed }));
+      fault_if_fits = λ clean club others represents fits. fault_if (FailsToRun g 1 all old new) (IsRunFault g 0 all old new) r (commits.fault clean) (λ fault
+          failed. record {
+            from = old;
+            after = at_once g old (earlier clean);
+            failure = record {
+              mid = failed.mid;
+              failure = less club fits (λ is_open. subst (λ (d : Database). HoldsClub d club) (sym (represents.idle (earlier clean) is_open))
+                  (represents.held (earlier clean) is_open)) failed.mid fault failed.failure;
+              fault_count = failed.fault_count;
+            };
+          });
     }
 
+never_fits : (change : Change) → HasOlderRoot change → (club : Club) → ¬ FitsClub change club
+never_fits (InsertKey key) older club fits = absurd (let e = rw fits.carries at older in cc)
+never_fits change older club fits = absurd older
+
 -- a refusal before the first statement
-pub unmade : {S : Type 0} (g : Ghosts S) (held : Held S) (change : Change) → HasOlderRoot change → ChangesClub g change held held (Err Storage)
-unmade g held change older = record {
+pub unmade : {S : Type 0} (g : Ghosts S) (same : Held S) (change : Change) → HasOlderRoot change → ChangesClub g change same same (Err Storage)
+unmade g same change older = record {
   was_clean = λ clean. clean;
-  effect = λ clean club others represents fits. record {
+  effect = λ clean club others represents sound. record {
     held = represents.held;
     idle = represents.idle;
     left = λ clean trees may. elim (represents.left clean trees may) [ inl here ↦ inl here | inr there ↦ inr (inr there) ];
   };
-  no_change = kept_when_idle (state g held);
-  survives = commits_nothing g (AreStatementsOf change) held held (survives_same (state g held));
+  untrue = λ clean club others represents no. (refl, represents);
+  no_change = kept_when_idle (state g same);
+  survives = commits_nothing g 1 (AreStatementsOf change) same same (survives_same (state g same));
   fault = λ clean. inr (older, refl);
+  fault_if_fits = λ clean club others represents fits. absurd (never_fits change older club fits);
 }

@@ -1,5 +1,5 @@
 -- What a crash may leave of statements in a transaction, and of readings before them.
-use Rattle.std.proofs.Common.{◌≡◌, List, inl, inr, refl, sym, ◌∙◌, arith}
+use Rattle.std.proofs.Common.{◌≡◌, ℕ, List, inl, inr, refl, sym, ◌∙◌, arith}
 use Rattle.sqlite.specs.Store.{Ghosts}
 use Rattle.sqlite.specs.Tree.{Trees}
 use Rattle.sqlite.specs.Effect.{Database}
@@ -34,13 +34,13 @@ untouched_then a b c earlier first next rest clean is_open =
     let before = kept after.0 in
     (before.0, after.1 ∙ before.2, after.2 ∙ before.2)
 
-module _ {S : Type 0} (g : Ghosts S) where
+module _ {S : Type 0} (g : Ghosts S) (fewest : ℕ) where
   -- these statements
   pub may_commit : (all : List BoundStatement) (AreStatements : List BoundStatement → Type 0) → AreStatements all → (old new : Held S)
-      → Survives (state g old) (state g new) (λ trees. (db : Database) × Ran g all old db × (trees ≡ db.trees))
-      → Survives (state g old) (state g new) (MayCommit g AreStatements old)
+      → Survives (state g old) (state g new) (λ trees. (db : Database) × Ran g fewest all old db × (trees ≡ db.trees))
+      → Survives (state g old) (state g new) (MayCommit g fewest AreStatements old)
   may_commit all AreStatements are old new survives =
-      survives_as (state g old) (state g new) (λ trees. (db : Database) × Ran g all old db × (trees ≡ db.trees)) (MayCommit g AreStatements old) survives
+      survives_as (state g old) (state g new) (λ trees. (db : Database) × Ran g fewest all old db × (trees ≡ db.trees)) (MayCommit g fewest AreStatements old) survives
       (λ clean trees left. record {
         from = old;
         same = kept_when_idle (state g old);
@@ -54,18 +54,18 @@ module _ {S : Type 0} (g : Ghosts S) where
 
   -- none
   pub commits_nothing : (AreStatements : List BoundStatement → Type 0) (old new : Held S) → Survives (state g old) (state g new) (λ _. ⊥)
-      → Survives (state g old) (state g new) (MayCommit g AreStatements old)
-  commits_nothing AreStatements old new survives = survives_as (state g old) (state g new) (λ _. ⊥) (MayCommit g AreStatements old) survives
+      → Survives (state g old) (state g new) (MayCommit g fewest AreStatements old)
+  commits_nothing AreStatements old new survives = survives_as (state g old) (state g new) (λ _. ⊥) (MayCommit g fewest AreStatements old) survives
       (λ _ _ none. absurd none)
 
   -- some, after a reading
   pub commits_after : (AreStatements : List BoundStatement → Type 0) (a b c : Held S) → IsUntouched (state g a) (state g b)
       → Survives (state g a) (state g b) (λ _. ⊥)
-      → Survives (state g b) (state g c) (MayCommit g AreStatements b)
-      → Survives (state g a) (state g c) (MayCommit g AreStatements a)
+      → Survives (state g b) (state g c) (MayCommit g fewest AreStatements b)
+      → Survives (state g a) (state g c) (MayCommit g fewest AreStatements a)
   commits_after AreStatements a b c untouched first next =
-      let P = MayCommit g AreStatements a in
-      survives_then (state g a) (state g b) (state g c) (λ _. ⊥) (MayCommit g AreStatements b) P (λ _ db none. absurd none)
+      let P = MayCommit g fewest AreStatements a in
+      survives_then (state g a) (state g b) (state g c) (λ _. ⊥) (MayCommit g fewest AreStatements b) P (λ _ db none. absurd none)
       (λ clean db may. let earlier : HasCleanDisk (state g b) = omega (arith, next.clean) in let p : P db = record {
         from = may.from;
         same = untouched_then (state g a) (state g b) (state g may.from) (λ _. earlier) untouched may.same;
@@ -77,6 +77,7 @@ module _ {S : Type 0} (g : Ghosts S) where
         left = may.left;
       } in p) first next
 
+module _ {S : Type 0} (g : Ghosts S) where
   -- readings after readings
   pub after_then : (a b c : Held S) → IsAfterReadings g a b → IsAfterReadings g b c → IsAfterReadings g a c
   after_then a b c first next = record {

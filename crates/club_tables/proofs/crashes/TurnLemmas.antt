@@ -1,72 +1,81 @@
 -- Statements that are run in turn.
-use Rattle.std.proofs.Common.{◌≡◌, ℕ, ◌+◌, ◌<◌, ◌≤◌, List, [], ◌∷◌, ◌++◌, length, map, take, get_or, zero, suc, Ok, Err}
+use Rattle.std.proofs.Common.{◌≡◌, ℕ, ◌+◌, ◌<◌, ◌≤◌, List, [], ◌∷◌, ◌++◌, length, map, take, get_or, zero, suc, Ok}
 use Rattle.std.proofs.Common.{IsTrue, inl, inr, refl, sym, subst, add-one, arith}
 use Rattle.std.proofs.Math.Seq.{take-suc, take_all}
 use Rattle.std.proofs.lemmas.List.{length-map, map-append}
 use Rattle.sqlite.specs.Store.{Ghosts}
 use Rattle.sqlite.specs.Tree.{Trees}
 use Rattle.sqlite.specs.Effect.{Database}
-use Rattle.sqlite.specs.State.{HasCleanDisk, Survives, Executes, ExecutesInside}
+use Rattle.sqlite.specs.State.{HasCleanDisk, Survives, Executes}
 use Rattle.sqlite.specs.Steps.{FailsToCommit}
 use Rattle.sqlite.specs.Held.{Held, state}
 use Rattle.sqlite.specs.declared.error.Error.{Error}
 use Rattle.sqlite.proofs.StateLemmas.{survives_then}
 use Rattle.sqlite.proofs.Callers.{survives_begin}
 use Rattle.club_tables.specs.declared.transaction.Statement.{Statement}
-use Rattle.club_tables.specs.Transaction.{BoundStatement, bound_statement, Ran, RanInTurn, transaction_start}
-use Rattle.club_tables.specs.Fault.{FailsInTurn}
+use Rattle.club_core.specs.declared.store.StoreFault.{StoreFault}
+use Rattle.club_tables.specs.Transaction.{BoundStatement, bound_statement, Ran, RanInTurn, transaction_start, fault_by}
+use Rattle.club_tables.specs.Fault.{StopsAt, FailsInTurn}
 
-module _ {S : Type 0} (g : Ghosts S) where
+module _ {S : Type 0} (g : Ghosts S) (fewest : ℕ) where
   -- one statement more
-  pub turn_more : (all : List BoundStatement) (statement : BoundStatement) (a b c : Held S) (count : ℕ) → RanInTurn g all a b
-      → Executes statement.0 statement.1 (state g b) (state g c) (Ok count) → RanInTurn g (all ++ statement ∷ []) a c
-  turn_more [] statement a b c count before one = (c, count, subst (λ h. Executes statement.0 statement.1 (state g h) (state g c) (Ok count)) before one, refl)
-  turn_more (first ∷ all) statement a b c count before one = (before.0, before.1, before.2, turn_more all statement before.0 b c count before.3 one)
+  pub turn_more : (all : List BoundStatement) (statement : BoundStatement) (a b c : Held S) (count : ℕ) → RanInTurn g fewest all a b
+      → Executes statement.0 statement.1 (state g b) (state g c) (Ok count) → fewest ≤ count → IsTrue (state g b).is_open
+      → RanInTurn g fewest (all ++ statement ∷ []) a c
+  turn_more [] statement a b c count before one enough opened = (
+    c,
+    count,
+    subst (λ h. Executes statement.0 statement.1 (state g h) (state g c) (Ok count)) before one,
+    refl,
+    enough,
+    subst (λ h. IsTrue (state g h).is_open) before opened,
+  )
+  turn_more (first ∷ all) statement a b c count before one enough opened =
+      (before.0, before.1, before.2, turn_more all statement before.0 b c count before.3 one enough opened, before.4, before.5)
 
   pub turn_at : (statements : List Statement) (at : ℕ) (d : Statement) (a b c : Held S) (count : ℕ) → at < length statements
-      → RanInTurn g (map bound_statement (take at statements)) a b
+      → RanInTurn g fewest (map bound_statement (take at statements)) a b
       → Executes (bound_statement (get_or statements at d)).0 (bound_statement (get_or statements at d)).1 (state g b) (state g c) (Ok count)
-      → RanInTurn g (map bound_statement (take (at + 1) statements)) a c
-  turn_at statements at d a b c count within before one =
+      → fewest ≤ count → IsTrue (state g b).is_open → RanInTurn g fewest (map bound_statement (take (at + 1) statements)) a c
+  turn_at statements at d a b c count within before one enough opened =
       let front = map bound_statement (take at statements) in
       let more : map bound_statement (take (at + 1) statements) ≡ front ++ bound_statement (get_or statements at d) ∷ [] =
       rw (add-one, take-suc statements at d within, map-append bound_statement (take at statements) (get_or statements at d ∷ [])) in
-      subst (λ all. RanInTurn g all a c) (sym more) (turn_more front (bound_statement (get_or statements at d)) a b c count before one)
+      subst (λ all. RanInTurn g fewest all a c) (sym more) (turn_more front (bound_statement (get_or statements at d)) a b c count before one enough opened)
 
-  pub turn_all : (statements : List Statement) (at : ℕ) (a b : Held S) → length statements ≤ at → RanInTurn g (map bound_statement (take at statements)) a b
-      → RanInTurn g (map bound_statement statements) a b
-  turn_all statements at a b past before = subst (λ all. RanInTurn g (map bound_statement all) a b) (take_all at statements past) before
+  pub turn_all : (statements : List Statement) (at : ℕ) (a b : Held S) → length statements ≤ at
+      → RanInTurn g fewest (map bound_statement (take at statements)) a b → RanInTurn g fewest (map bound_statement statements) a b
+  turn_all statements at a b past before = subst (λ all. RanInTurn g fewest (map bound_statement all) a b) (take_all at statements past) before
 
-  -- after those before it, a statement is refused
-  pub fails_at : (statements : List Statement) (at : ℕ) (d : Statement) (a b c : Held S) (error : Error) → at < length statements
-      → RanInTurn g (map bound_statement (take at statements)) a b
-      → ExecutesInside 0 (bound_statement (get_or statements at d)).0 (bound_statement (get_or statements at d)).1 (state g b) (state g c) (Err error)
-      → FailsInTurn g (map bound_statement statements) a c error
-  fails_at [] at d a b c error within before one = absurd (omega arith)
-  fails_at (s ∷ statements) zero d a b c error within before one =
-      inl (subst (λ h. ExecutesInside 0 (bound_statement s).0 (bound_statement s).1 (state g h) (state g c) (Err error)) before one)
-  fails_at (s ∷ statements) (suc at) d a b c error within before one =
-      inr (before.0, before.1, before.2, fails_at statements at d before.0 b c error (omega arith) before.3 one)
+  -- after those before it, a statement stops them
+  pub fails_at : (statements : List Statement) (at : ℕ) (d : Statement) (a b c : Held S) (fault : StoreFault) → at < length statements
+      → RanInTurn g fewest (map bound_statement (take at statements)) a b → StopsAt g fewest (bound_statement (get_or statements at d)) b c fault
+      → FailsInTurn g fewest (map bound_statement statements) a c fault
+  fails_at [] at d a b c fault within before one = absurd (omega arith)
+  fails_at (s ∷ statements) zero d a b c fault within before one = inl (subst (λ h. StopsAt g fewest (bound_statement s) h c fault) before one)
+  fails_at (s ∷ statements) (suc at) d a b c fault within before one =
+      inr (before.0, before.1, before.2, fails_at statements at d before.0 b c fault (omega arith) before.3 one, before.4, before.5)
 
-  -- after all of them, their commit is
-  pub fails_last : (all : List BoundStatement) (a b c : Held S) (error : Error) → RanInTurn g all a b → FailsToCommit (state g b) (state g c) error
-      → FailsInTurn g all a c error
-  fails_last [] a b c error before last = subst (λ h. FailsToCommit (state g h) (state g c) error) before last
-  fails_last (statement ∷ all) a b c error before last = inr (before.0, before.1, before.2, fails_last all before.0 b c error before.3 last)
+  -- after all of them, their commit is refused
+  pub fails_last : (all : List BoundStatement) (a b c : Held S) (error : Error) (fault : StoreFault) → RanInTurn g fewest all a b
+      → FailsToCommit (state g b) (state g c) error → fault ≡ fault_by error → FailsInTurn g fewest all a c fault
+  fails_last [] a b c error fault before last is = (error, subst (λ h. FailsToCommit (state g h) (state g c) error) before last, is)
+  fails_last (statement ∷ all) a b c error fault before last is =
+      inr (before.0, before.1, before.2, fails_last all before.0 b c error fault before.3 last is, before.4, before.5)
 
   -- a commit after all of them, whether it succeeds or fails: a crash may leave what they leave
   pub commit_survives : (statements : List Statement) (at : ℕ) (old mid new : Held S) → length statements ≤ at
       → Survives (state g (transaction_start old)) (state g mid) (λ _. ⊥)
-      → (HasCleanDisk (state g mid) → RanInTurn g (map bound_statement (take at statements)) (transaction_start old) mid)
+      → (HasCleanDisk (state g mid) → RanInTurn g fewest (map bound_statement (take at statements)) (transaction_start old) mid)
       → (HasCleanDisk (state g mid) → 0 < at → IsTrue (state g old).is_open)
       → Survives (state g mid) (state g new) (λ trees. trees ≡ (state g mid).now.trees)
-      → Survives (state g old) (state g new) (λ trees. (db : Database) × Ran g (map bound_statement statements) old db × (trees ≡ db.trees))
+      → Survives (state g old) (state g new) (λ trees. (db : Database) × Ran g fewest (map bound_statement statements) old db × (trees ≡ db.trees))
   commit_survives statements at old mid new past begun ran was_open commit =
       let all = map bound_statement statements in
-      let P = λ (trees : Trees). (db : Database) × Ran g all old db × (trees ≡ db.trees) in
+      let P = λ (trees : Trees). (db : Database) × Ran g fewest all old db × (trees ≡ db.trees) in
       let made = λ (clean : HasCleanDisk (state g new)) (trees : Trees) (is : trees ≡ (state g mid).now.trees).
       let earlier : HasCleanDisk (state g mid) = omega (arith, commit.clean) in
-      let turn : RanInTurn g all (transaction_start old) mid = turn_all statements at (transaction_start old) mid past (ran earlier) in
+      let turn : RanInTurn g fewest all (transaction_start old) mid = turn_all statements at (transaction_start old) mid past (ran earlier) in
       let was = λ (some : 0 < length all). let more : 0 < length statements = subst (λ n. 0 < n) (length-map statements bound_statement) some in
       was_open earlier (omega arith) in
       let p : P trees = ((state g mid).now, record { last = mid; was_open = was; turns = turn; is = refl }, is) in p in

@@ -18,7 +18,7 @@ use Rattle.club_tables.proofs.statements.InsertLemmas.{indexes}
 use Rattle.club_tables.proofs.opening.MakesLemmas.{makes_bookings_by_key, bookings_made, indexes_again, drops_none}
 use Rattle.club_tables.proofs.crashes.RepresentsLemmas.{keeps_second}
 
-module _ {S : Type 0} (g : Ghosts S) (old : Held S) (db : Database) (ran : Ran g index_batch old db) where
+module _ {S : Type 0} (g : Ghosts S) (old : Held S) (db : Database) (ran : Ran g 0 index_batch old db) where
   -- every row stays
   indexed_rows : (rows : Rows) → HoldsRowsWith unindexed_schema (state g old).now rows → HoldsRows db rows
   indexed_rows rows holds_rows =
@@ -53,7 +53,7 @@ module _ {S : Type 0} (g : Ghosts S) (old : Held S) (db : Database) (ran : Ran g
       true≢false (sym (ap is_ok statement.is) ∙ ap (λ s. is_ok (understood s MAKE_BOOKINGS_BY_KEY.now)) has ∙ indexes_again)
 
 -- the tables with the index hold the same club
-pub holds_second : {S : Type 0} (g : Ghosts S) (old : Held S) (db : Database) → Ran g index_batch old db → HasCleanDisk (state g old)
+pub holds_second : {S : Type 0} (g : Ghosts S) (old : Held S) (db : Database) → Ran g 0 index_batch old db → HasCleanDisk (state g old)
     → (club : Club) (others : List Club) → RepresentsVersion2 (state g old) club others → HoldsClub db club
 holds_second g old db ran clean club others second =
     let is_open = ran.was_open (omega arith) in

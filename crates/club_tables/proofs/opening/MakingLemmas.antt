@@ -92,7 +92,7 @@ empty_is_stored = record {
   olders_once = λ i j d less low. absurd (omega arith);
 }
 
-module _ {S : Type 0} (g : Ghosts S) (old : Held S) (db : Database) (ran : Ran g table_batch old db) where
+module _ {S : Type 0} (g : Ghosts S) (old : Held S) (db : Database) (ran : Ran g 0 table_batch old db) where
   -- over no tables it makes those of the empty club
   pub made_tables : (state g old).now.schema ≡ no_schema → HoldsClub db empty_club
   made_tables has =

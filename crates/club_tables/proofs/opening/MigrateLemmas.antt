@@ -42,7 +42,7 @@ version_plain : IsPlain (understood club_schema SET_VERSION.now)
 unfolding understood everything
 version_plain = (refl, refl)
 
-module _ {S : Type 0} (g : Ghosts S) (old : Held S) (db : Database) (ran : Ran g migration old db) where
+module _ {S : Type 0} (g : Ghosts S) (old : Held S) (db : Database) (ran : Ran g 0 migration old db) where
   -- every row stays, and no key has an older root
   migrated_rows : (rows : Rows) → HoldsRowsVersion1 (state g old).now rows → HoldsRows db rows
   migrated_rows rows holds_rows =
@@ -86,7 +86,7 @@ module _ {S : Type 0} (g : Ghosts S) (old : Held S) (db : Database) (ran : Ran g
       record { rows = first.rows; holds_rows = migrated_rows first.rows first.holds_rows; storage = first.storage; sound = first.sound }
 
 -- the migrated tables hold the same club
-pub holds_first : {S : Type 0} (g : Ghosts S) (old : Held S) (db : Database) → Ran g migration old db → HasCleanDisk (state g old)
+pub holds_first : {S : Type 0} (g : Ghosts S) (old : Held S) (db : Database) → Ran g 0 migration old db → HasCleanDisk (state g old)
     → (club : Club) (others : List Club) → RepresentsVersion1 (state g old) club others → HoldsClub db club
 holds_first g old db ran clean club others first =
     let is_open = ran.was_open (omega arith) in

@@ -47,9 +47,9 @@ settles now club others held opens same settled = record {
 
 -- a batch that leaves the club that was there
 module _ {S : Type 0} (g : Ghosts S) (IsHeld : Database → Club → Type 0) (statements : List BoundStatement) (old new : Held S)
-    (holds : (db : Database) → Ran g statements old db → HasCleanDisk (state g old) → (club : Club) (others : List Club)
+    (holds : (db : Database) → Ran g 0 statements old db → HasCleanDisk (state g old) → (club : Club) (others : List Club)
     → RepresentsBy IsHeld (state g old) club others → HoldsClub db club) (result : Result (Unit {0}) StoreFault)
-    (commits : Commits g statements old new result) where
+    (commits : Commits g 0 statements old new result) where
   earlier : HasCleanDisk (state g new) → HasCleanDisk (state g old)
   earlier = was_clean (state g old) (state g new) _ commits.survives
 
@@ -72,11 +72,11 @@ module _ {S : Type 0} (g : Ghosts S) (IsHeld : Database → Club → Type 0) (st
     done = λ clean. on_ok result (commits.ran clean) (λ ran. ran.1);
     keeps_club = λ clean. on_err result commits.kept (λ kept club others before. refused kept club others before);
     fault = commits.fault;
-    survives = may_commit g statements IsOpeningBatch are old new commits.survives;
+    survives = may_commit g 0 statements IsOpeningBatch are old new commits.survives;
   }
 
 -- what the whole batch leaves holds the club that was found
-pub holds_found : {S : Type 0} (g : Ghosts S) (old : Held S) (db : Database) → Ran g table_batch old db → HasCleanDisk (state g old)
+pub holds_found : {S : Type 0} (g : Ghosts S) (old : Held S) (db : Database) → Ran g 0 table_batch old db → HasCleanDisk (state g old)
     → (club : Club) (others : List Club) → IsFound (state g old) club others → HoldsClub db club
 holds_found g old db ran clean club others found =
     let is_open = ran.was_open (omega arith) in

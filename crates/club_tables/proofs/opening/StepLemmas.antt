@@ -17,7 +17,7 @@ use Rattle.club_tables.proofs.queries.ReadLemmas.{fault_if}
 
 -- a batch that is refused after a read
 pub batch_failed : {S : Type 0} (g : Ghosts S) (statements : List BoundStatement) → IsOpeningBatch statements → (old mid new : Held S) (fault : StoreFault)
-    → IsAfterReadings g old mid → FailsToRun g statements mid new fault → IsOpeningFault g old new fault
+    → IsAfterReadings g old mid → FailsToRun g 0 statements mid new fault → IsOpeningFault g old new fault
 batch_failed g statements are old mid new fault first failed = record { from = mid; after = first; failure = inr (inl (statements, are, failed)) }
 
 module _ {S : Type 0} (g : Ghosts S) (old mid : Held S) (untouched : IsUntouched (state g old) (state g mid))
@@ -37,7 +37,7 @@ module _ {S : Type 0} (g : Ghosts S) (old mid : Held S) (untouched : IsUntouched
     done = λ clean. tt;
     keeps_club = λ clean club others before. keeps_after IsHeld clean club others before;
     fault = failed;
-    survives = commits_nothing g IsOpeningBatch old mid quiet;
+    survives = commits_nothing g 0 IsOpeningBatch old mid quiet;
   }
 
   -- a step follows the read
@@ -58,5 +58,5 @@ module _ {S : Type 0} (g : Ghosts S) (old mid : Held S) (untouched : IsUntouched
             back club others (keeps club others (into (earlier clean) club others before)));
         fault = λ clean. fault_if (Fails mid new) (IsOpeningFault g old new) result (step.fault clean) (λ fault failed.
             fails fault (after_one g old mid (earlier clean) untouched quiet) failed);
-        survives = commits_after g IsOpeningBatch old mid new untouched quiet step.survives;
+        survives = commits_after g 0 IsOpeningBatch old mid new untouched quiet step.survives;
       }

@@ -1,7 +1,9 @@
 -- An INSERT of one row, and CREATE TABLE.
-use Rattle.std.proofs.Common.{◌≡◌, ◌≢◌, ◌⊎◌, inl, inr, ℕ, ◌/◌, Bool, true, false, cond, None, Some, Ok, Err, Result, List, [], ◌∷◌, length, slice_get, refl}
-use Rattle.std.proofs.Common.{sym, ap, subst, ◌∙◌, append-nil}
-use Rattle.std.specs.Prelude.{MatchBool}
+use Rattle.std.proofs.Common.{◌≡◌, ◌≢◌, ◌⊎◌, ◌≤◌, inl, inr, ℕ, ◌/◌, Bool, true, false, cond, None, Some, Ok, Err, Result, List, [], ◌∷◌, length, map, slice_get, refl}
+use Rattle.std.proofs.Common.{sym, ap, subst, ◌∙◌, append-nil, arith}
+use Rattle.std.specs.Prelude.{MatchBool, drop, unwrap_or}
+use Rattle.std.proofs.lemmas.List.{length-map}
+use Rattle.sqlite_rules.proofs.RowLemmas.{length-numbered}
 use Rattle.std.specs.List.{AllByRecursion}
 use Rattle.sqlite_value.specs.declared.value.Value.{Value}
 use Rattle.sqlite_value.specs.declared.value.Value.TheVariants.{Null, Int}
@@ -26,7 +28,7 @@ use Rattle.sqlite_rules.specs.Action.{works, Writes as ActionWrites}
 use Rattle.sqlite.specs.Rowids.{Rowids}
 use Rattle.sqlite_schema.specs.declared.schema.Keys.TheVariants.{Enforced}
 use Rattle.sqlite.specs.Does.{Tally, Does, lacks_sequence}
-use Rattle.sqlite.specs.Rows.{Written, stamped, count_of}
+use Rattle.sqlite.specs.Rows.{Written, stamped, count_of, rowids_for}
 use Rattle.sqlite.specs.Effect.{Database, IsDatabase, value_rows}
 use Rattle.sqlite.specs.Listing.{understood}
 use Rattle.sqlite.specs.State.{State, mode_of, Writes, Executes}
@@ -109,7 +111,7 @@ module _ (old new : State) (schema : Schema) (has : old.now.schema ≡ schema) (
       → ((row : Row) → works schema Enforced 0 table.tree [] (row ∷ []) ≡ [])
       → (count : ℕ) → Executes text params old new (Ok count)
       → (new.now.schema ≡ schema) × (new.now.trees table.tree ≡ put_row (Int (next_rowid (old.now.trees table.tree)) ∷ values) (old.now.trees table.tree))
-      × AllByRecursion (λ t. t.tree ≢ table.tree → new.now.trees t.tree ≡ old.now.trees t.tree) schema.tables × IsDatabase new.now
+      × AllByRecursion (λ t. t.tree ≢ table.tree → new.now.trees t.tree ≡ old.now.trees t.tree) schema.tables × IsDatabase new.now × (1 ≤ count)
   inserts at table terms width params values listed is uncounted unstamped gives casts still count h =
       let db = old.now.trees in
       let command = Insert at (Values terms width) in
@@ -118,7 +120,8 @@ module _ (old new : State) (schema : Schema) (has : old.now.schema ≡ schema) (
       let does = subst (λ s. Does old.step_limit (mode_of old) params (record old.now { schema = s }) statement None command (Ok (w.tally, new.now))) has
       w.changed in
       let done = went (rw listed at does) in
-      let now = ap (λ (p : Tally × Database). p.1) (same_value (went (went done.2).2).2) in
+      let noted = same_value (went (went done.2).2).2 in
+      let now = ap (λ (p : Tally × Database). p.1) noted in
       let given = went done.1 in
       let stamp : stamped table params ≡ params = rw unstamped (append-nil params) in
       let sourced : given.0 ≡ (Null ∷ values) ∷ [] = given.1.1 ∙ ap (λ p. value_rows p width (length terms / width) terms) stamp ∙ gives in
@@ -128,6 +131,13 @@ module _ (old new : State) (schema : Schema) (has : old.now.schema ≡ schema) (
       let top : Ok written_count.0 ≡ Ok written.0 = uncounts table.is_counted _ _ _ uncounted written_count.1 in
       let trees : done.0.trees ≡ written.0 = ap (λ (it : Written). it.trees) (same_value written_count.2) ∙ same_value top in
       let edit_from : Rowids → List Row → Edit = λ rowids rows. edit_of db table [] rowids 0 rows in
+      let news = (edit_from (rowids_for table (count_of c1.0)) given.0).news in
+      let rows : done.0.rows ≡ news = ap (λ (it : Written). it.rows) (same_value written_count.2) in
+      let counted : count ≡ length done.0.rows = w.counted ∙ ap (λ (p : Tally × Database). unwrap_or p.0.rows 0) noted in
+      let numbered : length news ≡ length given.0 =
+      length-numbered (rowids_for table (count_of c1.0)) _ (map (λ (s : Row). cast_row table (drop 0 s)) given.0)
+      ∙ length-map given.0 (λ (s : Row). cast_row table (drop 0 s)) in
+      let one : length given.0 ≡ 1 = ap length sourced in
       let chosen : ActionWrites schema Enforced db (edit_from Chosen given.0) (Ok written.0) =
       subst (λ b. ActionWrites schema Enforced db (edit_from (cond b (Above (count_of c1.0)) Chosen) given.0) (Ok written.0)) uncounted written.1 in
       let edit : Edit = record { table = table; gone = []; news = (Int (next_rowid (db table.tree)) ∷ values) ∷ [] } in
@@ -141,4 +151,5 @@ module _ (old new : State) (schema : Schema) (has : old.now.schema ≡ schema) (
         ap (λ (t : Trees). t table.tree) whole ∙ applied.rows,
         subst (λ (trees : Trees). AllByRecursion (λ t. t.tree ≢ table.tree → trees t.tree ≡ db t.tree) schema.tables) (sym whole) applied.tables,
         w.sound,
+        omega (arith, counted, ap length rows, numbered, one),
       )

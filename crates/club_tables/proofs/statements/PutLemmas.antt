@@ -1,6 +1,9 @@
 -- What a statement leaves that puts a row by its key: an INSERT with ON CONFLICT DO UPDATE.
-use Rattle.std.proofs.Common.{◌≡◌, ◌≢◌, inl, inr, ℕ, ◌/◌, ℤ, Bool, true, false, None, Some, Option, Ok, List, [], ◌∷◌, ◌++◌, length, map, slice_get}
-use Rattle.std.proofs.Common.{if◌then◌else◌, refl, sym, ap, subst, ◌∙◌, append-nil}
+use Rattle.std.proofs.Common.{◌≡◌, ◌≢◌, ◌≤◌, inl, inr, ℕ, ◌/◌, ℤ, Bool, true, false, None, Some, Option, Ok, List, [], ◌∷◌, ◌++◌, length, map, slice_get}
+use Rattle.std.proofs.Common.{if◌then◌else◌, refl, sym, ap, subst, ◌∙◌, append-nil, arith}
+use Rattle.std.specs.Prelude.{drop, unwrap_or}
+use Rattle.std.proofs.lemmas.List.{length-map}
+use Rattle.sqlite_rules.proofs.RowLemmas.{length-numbered}
 use Rattle.std.specs.List.{AllByRecursion, AllZip, list_any, list_all}
 use Rattle.sqlite_value.specs.declared.value.Value.TheVariants.{Null, Int}
 use Rattle.sqlite_value.specs.declared.keys.Collation.TheVariants.{Binary}
@@ -42,7 +45,8 @@ use Rattle.club_tables.proofs.lists.RowLemmas.{holds_more}
 use Rattle.club_tables.proofs.statements.InsertLemmas.{went, same_value}
 use Rattle.club_tables.proofs.statements.UpdateLemmas.{no_works}
 use Rattle.club_tables.proofs.queries.KeyLemmas.{and_true}
-use Rattle.club_tables.proofs.statements.SelectLemmas.{Apart, one_passes}
+use Rattle.club_tables.proofs.statements.PassLemmas.{any_counts, rows_found}
+use Rattle.club_tables.proofs.statements.SelectLemmas.{Apart, one_passes, test, shows, answered}
 use Rattle.club_tables.proofs.statements.ReplaceLemmas.{replaced_where}
 use Rattle.club_tables.proofs.lists.PutRows.{AreRows, IsLone, has_id, met_at, meets_one, meets_none, hits, put_among, id_equal}
 
@@ -99,21 +103,26 @@ module _ (name : List ℕ) (columns : List Column) (keys : List (List ℕ)) (che
       cleared [] h = h
       cleared (x ∷ found) h = h
 
-      put_alone : cast_row table new ≡ new → Puts task new db (Ok one) → Leaves db one.trees (put_row new (db tree))
+      put_alone : cast_row table new ≡ new → Puts task new db (Ok one) → Leaves db one.trees (put_row new (db tree)) × (1 ≤ length one.rows)
       put_alone casts h =
           let put = went h in
           let edit : Row → Edit = λ row. record { table = table; gone = []; news = row ∷ [] } in
           let wrote : ActionWrites club_schema Enforced db (edit new) (Ok put.0) =
           subst (λ row. ActionWrites club_schema Enforced db (edit row) (Ok put.0)) casts put.1 in
           let applied = one_step club_schema Enforced db put.0 (edit new) (no_works tree [] (new ∷ [])) wrote in
-          let is : one.trees ≡ put.0 = ap (λ (it : Written). it.trees) (same_value put.2) in (
-            ap (λ (t : Trees). t tree) is ∙ applied.rows,
-            subst (λ (trees : Trees). AllByRecursion (λ (t : Table). t.tree ≢ tree → trees t.tree ≡ db t.tree) club_schema.tables) (sym is) applied.tables,
+          let is : one.trees ≡ put.0 = ap (λ (it : Written). it.trees) (same_value put.2) in
+          let rows : length one.rows ≡ 1 = ap (λ (it : Written). length it.rows) (same_value put.2) in (
+            (
+              ap (λ (t : Trees). t tree) is ∙ applied.rows,
+              subst (λ (trees : Trees). AllByRecursion (λ (t : Table). t.tree ≢ tree
+                  → trees t.tree ≡ db t.tree) club_schema.tables) (sym is) applied.tables,
+            ),
+            omega (arith, rows),
           )
 
       -- a row that meets none is put beside the others
       made : cast_row table new ≡ new → clause.target ≡ target → ((r : Row) → Has (db tree) r → hit new r ≡ true → ⊥) → Met
-          → Leaves db one.trees (put_row new (db tree))
+          → Leaves db one.trees (put_row new (db tree)) × (1 ≤ length one.rows)
       made casts aims none met =
           let found = subst (λ target. AreConflicts target club_schema.indexes table (db tree) new met.0) aims met.1 in
           let empty = no_conflicts new (db tree) met.0 none found in
@@ -127,17 +136,20 @@ module _ (name : List ℕ) (columns : List Column) (keys : List (List ℕ)) (che
       abbrev Updated : Program → Type 0
       Updated q = (there : Row) × (r : Row) × Has (db tree) r × (hit new r ≡ true) × (rowid there ≡ rowid r)
           × (rows : List Row) × Answers (record { schema = club_schema; trees = db }) q (given there) rows
-          × Leaves db one.trees (edited db (edit_of db table (ids_of rows) Given 1 rows))
+          × Leaves db one.trees (edited db (edit_of db table (ids_of rows) Given 1 rows)) × (length one.rows ≡ length rows)
 
       resolved : (q : Program) (there : Row) → Updates task q (given there) db (Ok one) → (rows : List Row)
           × Answers (record { schema = club_schema; trees = db }) q (given there) rows
-          × Leaves db one.trees (edited db (edit_of db table (ids_of rows) Given 1 rows))
+          × Leaves db one.trees (edited db (edit_of db table (ids_of rows) Given 1 rows)) × (length one.rows ≡ length rows)
       resolved q there h =
           let asked = went h in
           let written = went asked.2 in
           let edit = edit_of db table (ids_of asked.0) Given 1 asked.0 in
           let applied = one_step club_schema Enforced db written.0 edit (no_works tree (taken_by db edit) edit.news) written.1 in
-          let is : one.trees ≡ written.0 = ap (λ (it : Written). it.trees) (same_value written.2) in (
+          let is : one.trees ≡ written.0 = ap (λ (it : Written). it.trees) (same_value written.2) in
+          let rows : one.rows ≡ edit.news = ap (λ (it : Written). it.rows) (same_value written.2) in
+          let numbered : length edit.news ≡ length asked.0 =
+          length-numbered Given _ (map (λ (s : Row). cast_row table (drop 1 s)) asked.0) ∙ length-map asked.0 (λ (s : Row). cast_row table (drop 1 s)) in (
             asked.0,
             asked.1,
             (
@@ -145,6 +157,7 @@ module _ (name : List ℕ) (columns : List Column) (keys : List (List ℕ)) (che
               subst (λ (trees : Trees). AllByRecursion (λ (t : Table). t.tree ≢ tree
                   → trees t.tree ≡ db t.tree) club_schema.tables) (sym is) applied.tables,
             ),
+            ap length rows ∙ numbered,
           )
 
       updated : (q : Program) → clause.target ≡ target → clause.update ≡ Some q → (r : Row) → Has (db tree) r → hit new r ≡ true → Met → Updated q
@@ -157,7 +170,7 @@ module _ (name : List ℕ) (columns : List Column) (keys : List (List ℕ)) (che
               let it = are.sound x (inl refl) in
               let some : Resolves task new db x (Some q) (Ok one) = subst (λ u. Resolves task new db x u (Ok one)) by h in
               let done = resolved q x some in
-              (x, it.0, it.1, it.2, ap rowid it.3, done.0, done.1, done.2)
+              (x, it.0, it.1, it.2, ap rowid it.3, done.0, done.1, done.2, done.3)
 
     -- ---- a statement of this form
 
@@ -177,14 +190,15 @@ module _ (name : List ℕ) (columns : List Column) (keys : List (List ℕ)) (che
       env there = params ++ rowid there ∷ shown table new_row
 
       -- what the statement met, and what it left
-      record Ran : Type 0 where
+      record Ran (count : ℕ) : Type 0 where
         one : Written
+        counted : count ≡ length one.rows
         schema : new.now.schema ≡ club_schema
         trees : new.now.trees ≡ one.trees
         sound : IsDatabase new.now
         meets : Met old.step_limit params new_row db one clause
 
-      ran : (count : ℕ) → Executes text params old new (Ok count) → Ran
+      ran : (count : ℕ) → Executes text params old new (Ok count) → Ran count
       ran count h =
           let command = InsertOr at Abort (Values terms width) (clause ∷ []) in
           let w = runs_as text params old new club_schema has command is plain count h in
@@ -192,7 +206,8 @@ module _ (name : List ℕ) (columns : List Column) (keys : List (List ℕ)) (che
           let does = subst (λ s. Does old.step_limit (mode_of old) params (record old.now { schema = s }) statement None command (Ok (w.tally, new.now))) has
           w.changed in
           let done = went (rw listed at does) in
-          let now = ap (λ (p : Tally × Database). p.1) (same_value (went (went done.2).2).2) in
+          let noted = same_value (went (went done.2).2).2 in
+          let now = ap (λ (p : Tally × Database). p.1) noted in
           let given = went done.1 in
           let counter = went given.2 in
           let tried = went counter.2 in
@@ -204,16 +219,19 @@ module _ (name : List ℕ) (columns : List Column) (keys : List (List ℕ)) (che
           subst (λ row. Tries (task_of old.step_limit params) Abort (clause ∷ []) (with_rowid Chosen (db tree) row) db (Ok first.0)) casts_source first.1 in
           let last : tried.0.0.trees ≡ first.0.trees = ap (λ (p : Written × ℤ). p.0.trees) (same_value first.2) in
           let trees : done.0.trees ≡ first.0.trees = ap (λ (it : Written). it.trees) (same_value written_count.2) ∙ same_value written_count.1 ∙ last in
+          let rows : done.0.rows ≡ first.0.rows = ap (λ (it : Written). it.rows) (same_value written_count.2)
+          ∙ ap (λ (p : Written × ℤ). p.0.rows) (same_value first.2) in
           record {
             one = first.0;
+            counted = w.counted ∙ ap (λ (p : Tally × Database). unwrap_or p.0.rows 0) noted ∙ ap length rows;
             schema = ap (λ (d : Database). d.schema) now;
             trees = ap (λ (d : Database). d.trees) now ∙ trees;
             sound = w.sound;
             meets = met old.step_limit params new_row db first.0 clause alone;
           }
 
-      others_left : (it : Ran) (left : List Row) → Leaves db it.one.trees left → Leaves db new.now.trees left
-      others_left it left h = subst (λ trees. Leaves db trees left) (sym it.trees) h
+      others_left : (count : ℕ) (it : Ran count) (left : List Row) → Leaves db it.one.trees left → Leaves db new.now.trees left
+      others_left count it left h = subst (λ trees. Leaves db trees left) (sym it.trees) h
 
       module _ {X : Type 0} (values : X → Row) (p : X → Bool) (change : X → X) (kept : (x : X) → p x ≡ false
           → change x ≡ x) (first : X) (hit_is : (id : ℤ) (x : X) → hit new_row (Int id ∷ values x) ≡ p x)
@@ -224,16 +242,17 @@ module _ (name : List ℕ) (columns : List Column) (keys : List (List ℕ)) (che
         Yields x = (id : ℤ) (there : Row) → p x ≡ true → eval_all sets (env there ∷ (Int id ∷ values x) ∷ []) ≡ Int id ∷ Int id ∷ values (change x)
 
         -- a row is put behind the others
-        put_new : source ≡ values first → list_any p xs ≡ false → (it : Ran) → (left : List Row) × Leaves db new.now.trees left
-            × Holds values left (xs ++ first ∷ [])
-        put_new same none it =
+        put_new : source ≡ values first → list_any p xs ≡ false → (count : ℕ) (it : Ran count) → (left : List Row) × Leaves db new.now.trees left
+            × Holds values left (xs ++ first ∷ []) × (1 ≤ count)
+        put_new same none count it =
             let left = made old.step_limit params new_row db it.one clause (casts_new (next_rowid (db tree))) aims
             (meets_none values p (hit new_row) hit_is (db tree) xs held.same none) it.meets in
             let as_row : new_row ≡ Int (next_rowid (db tree)) ∷ values first = ap (λ vs. Int (next_rowid (db tree)) ∷ vs) same in (
               _,
-              others_left it _ left,
+              others_left count it _ left.0,
               subst (λ row. Holds values (put_row row (db tree)) (xs ++ first ∷ [])) (sym as_row)
                   (holds_more values (db tree) xs first held),
+              omega (arith, it.counted, left.1),
             )
 
         tests : (before : List Row) (ys : List X) → AreRows values p before ys → (there : Row) (id : ℤ) → column (env there) there_at ≡ Int id
@@ -247,9 +266,9 @@ module _ (name : List ℕ) (columns : List Column) (keys : List (List ℕ)) (che
             (one ∙ found.0, tests before ys same.1 there id of found.1)
 
         -- the row that is met is changed
-        put_old : ((there : Row) → column (env there) there_at ≡ rowid there) → AllByRecursion Yields xs → list_any p xs ≡ true → (it : Ran) → (left : List Row)
-            × Leaves db new.now.trees left × Holds values left (map change xs)
-        put_old ids yields any it =
+        put_old : ((there : Row) → column (env there) there_at ≡ rowid there) → AllByRecursion Yields xs → list_any p xs ≡ true → (count : ℕ)
+            (it : Ran count) → (left : List Row) × Leaves db new.now.trees left × Holds values left (map change xs) × (1 ≤ count)
+        put_old ids yields any count it =
             let q : Program = record { lets = []; body = select (inner tree end) (is_there there_at ∷ []) sets } in
             let one = meets_one values p (hit new_row) hit_is (db tree) xs held.same any in
             let up = updated old.step_limit params new_row db it.one clause q aims by one.0 one.1 one.2 it.meets in
@@ -258,31 +277,35 @@ module _ (name : List ℕ) (columns : List Column) (keys : List (List ℕ)) (che
             let id_is : rowid there ≡ Int place.0 = up.4 ∙ place.1 in
             let found = hits values p place.0 (db tree) xs held.rising held.same lone place.2 in
             let low = one_passes (IsLone values p) p xs (λ x y a b apart. apart (a, b)) lone in
+            let tested = tests (db tree) xs held.same there place.0 (ids there ∙ id_is) found in
             let after = replaced_where values p change kept (env there) (is_there there_at ∷ []) sets table
             (record { schema = club_schema; trees = db }) xs up.5
-            Yields yields (λ id x yields_it passes. yields_it id there passes) casts
-            (tests (db tree) xs held.same there place.0 (ids there ∙ id_is) found) held low up.6 in
-            (_, others_left it _ up.7, after)
+            Yields yields (λ id x yields_it passes. yields_it id there passes) casts tested held low up.6 in
+            let some = rows_found (test (env there) (is_there there_at ∷ []) sets) (shows (env there) (is_there there_at ∷ []) sets) p (db tree) up.5 xs tested
+            (answered (env there) (is_there there_at ∷ []) sets tree (record { schema = club_schema; trees = db }) up.5 up.6) (any_counts p xs any) in
+            (_, others_left count it _ up.7, after, omega (arith, it.counted, up.8, some))
 
         -- the row is put, where there was one and where there was none
         pub row_put : (list_any p xs ≡ false → source ≡ values first) → ((there : Row) → column (env there) there_at ≡ rowid there) → AllByRecursion Yields xs
             → (count : ℕ) → Executes text params old new (Ok count)
             → (new.now.schema ≡ club_schema) × Holds values (new.now.trees tree) (put_among values p change first xs)
-            × AllByRecursion (λ (t : Table). t.tree ≢ tree → new.now.trees t.tree ≡ db t.tree) club_schema.tables × IsDatabase new.now
+            × AllByRecursion (λ (t : Table). t.tree ≢ tree → new.now.trees t.tree ≡ db t.tree) club_schema.tables × IsDatabase new.now × (1 ≤ count)
         row_put same ids yields count executed = let it = ran count executed in go it (list_any p xs) refl
           where
-            go : (it : Ran) (b : Bool) → list_any p xs ≡ b
+            go : (it : Ran count) (b : Bool) → list_any p xs ≡ b
                 → (new.now.schema ≡ club_schema) × Holds values (new.now.trees tree) (if b then map change xs else xs ++ first ∷ [])
-                × AllByRecursion (λ (t : Table). t.tree ≢ tree → new.now.trees t.tree ≡ db t.tree) club_schema.tables × IsDatabase new.now
-            go it true any = let put = put_old ids yields any it in (
+                × AllByRecursion (λ (t : Table). t.tree ≢ tree → new.now.trees t.tree ≡ db t.tree) club_schema.tables × IsDatabase new.now × (1 ≤ count)
+            go it true any = let put = put_old ids yields any count it in (
               it.schema,
               subst (λ rows. Holds values rows (map change xs)) (sym put.1.0) put.2,
               put.1.1,
               it.sound,
+              put.3,
             )
-            go it false none = let put = put_new (same none) none it in (
+            go it false none = let put = put_new (same none) none count it in (
               it.schema,
               subst (λ rows. Holds values rows (xs ++ first ∷ [])) (sym put.1.0) put.2,
               put.1.1,
               it.sound,
+              put.3,
             )

@@ -108,29 +108,29 @@ module _ {X : Type 0} (values : X → Row) (p : X → Bool) (change : X → X) (
       subst (λ ys. AllZip R ys (change x ∷ map change xs)) (sym put)
       (subst (λ y. R r y) (sym there.0) same.0, swapped rows xs id one table.1 same.1 there.1)
 
-  module _ (params : Row) (tests project : List Term) where
+  module _ (hit : Row → Bool) (shown : Row → Row) where
     -- the row is the element's, and passes where it does
     abbrev pub IsHit : Row → X → Type 0
-    IsHit row x = IsRowOf (values x) row × (test params tests project row ≡ p x)
+    IsHit row x = IsRowOf (values x) row × (hit row ≡ p x)
 
-    none_left : (rows : List Row) (xs : List X) → AllZip IsHit rows xs → filter p xs ≡ [] → filter (test params tests project) rows ≡ []
+    none_left : (rows : List Row) (xs : List X) → AllZip IsHit rows xs → filter p xs ≡ [] → filter (hit) rows ≡ []
     none_left [] xs h none = refl
     none_left (r ∷ rows) [] h none = absurd h
     none_left (r ∷ rows) (x ∷ xs) h none = go (p x) refl none (none_left rows xs h.1)
       where
-        go : (b : Bool) → p x ≡ b → cond b (x ∷ filter p xs) (filter p xs) ≡ [] → (filter p xs ≡ [] → filter (test params tests project) rows ≡ [])
-            → filter (test params tests project) (r ∷ rows) ≡ []
+        go : (b : Bool) → p x ≡ b → cond b (x ∷ filter p xs) (filter p xs) ≡ [] → (filter p xs ≡ [] → filter (hit) rows ≡ [])
+            → filter (hit) (r ∷ rows) ≡ []
         go true is some more = absurd cc
         go false is none more =
-            let fails : test params tests project r ≡ false = h.0.1 ∙ is in
-            ap (λ b. cond b (r ∷ filter (test params tests project) rows) (filter (test params tests project) rows)) fails ∙ more none
+            let fails : hit r ≡ false = h.0.1 ∙ is in
+            ap (λ b. cond b (r ∷ filter (hit) rows) (filter (hit) rows)) fails ∙ more none
 
     nothing_passes : (xs : List X) → length (filter p xs) ≤ 0 → filter p xs ≡ []
     nothing_passes xs low = elim (filter p xs) as (λ ys. length ys ≤ 0 → ys ≡ []) [ [] ↦ λ _. refl | y ∷ ys ↦ λ l. absurd (omega arith) ] low
 
     abbrev Found : List Row → List X → Type 0
-    Found rows xs = ((filter (test params tests project) rows ≡ []) × (map change xs ≡ xs))
-        ⊎ ((id : ℤ) × (one : X) × (p one ≡ true) × (filter (test params tests project) rows ≡ (Int id ∷ values one) ∷ []) × IsOne rows xs id one)
+    Found rows xs = ((filter (hit) rows ≡ []) × (map change xs ≡ xs))
+        ⊎ ((id : ℤ) × (one : X) × (p one ≡ true) × (filter (hit) rows ≡ (Int id ∷ values one) ∷ []) × IsOne rows xs id one)
 
     find_one : (rows : List Row) (xs : List X) → AllZip IsHit rows xs → length (filter p xs) ≤ 1 → Found rows xs
     find_one [] [] h low = inl (refl, refl)
@@ -138,24 +138,24 @@ module _ {X : Type 0} (values : X → Row) (p : X → Bool) (change : X → X) (
     find_one (r ∷ rows) [] h low = absurd h
     find_one (r ∷ rows) (x ∷ xs) h low = go (p x) refl low (find_one rows xs h.1)
       where
-        passes : test params tests project r ≡ p x
+        passes : hit r ≡ p x
         passes = h.0.1
 
         go : (b : Bool) → p x ≡ b → length (cond b (x ∷ filter p xs) (filter p xs)) ≤ 1 → (length (filter p xs) ≤ 1 → Found rows xs) → Found (r ∷ rows) (x ∷ xs)
         go true is low more =
             let none : filter p xs ≡ [] = nothing_passes xs (omega arith) in
-            let no_rows : filter (test params tests project) rows ≡ [] = none_left rows xs h.1 none in
+            let no_rows : filter (hit) rows ≡ [] = none_left rows xs h.1 none in
             let row : r ≡ Int h.0.0.0 ∷ values x = h.0.0.1 in
             inr (
               h.0.0.0,
               x,
               is,
-              ap (λ b. cond b (r ∷ filter (test params tests project) rows) (filter (test params tests project) rows)) (passes ∙ is)
+              ap (λ b. cond b (r ∷ filter (hit) rows) (filter (hit) rows)) (passes ∙ is)
                   ∙ cc (no_rows, row),
               inl (row, refl, none_change xs none),
             )
         go false is low more =
-            let skip = ap (λ b. cond b (r ∷ filter (test params tests project) rows) (filter (test params tests project) rows)) (passes ∙ is) in
+            let skip = ap (λ b. cond b (r ∷ filter (hit) rows) (filter (hit) rows)) (passes ∙ is) in
             let stays : change x ≡ x = kept x is in
             elim (more low) [
               | inl none ↦ let same : map change xs ≡ xs = none.1 in inl (skip ∙ none.0, cc)
@@ -169,7 +169,7 @@ module _ {X : Type 0} (values : X → Row) (p : X → Bool) (change : X → X) (
     one_has Q (r ∷ rows) (x ∷ xs) id one all (inl here) = subst Q here.1 all.0
     one_has Q (r ∷ rows) (x ∷ xs) id one all (inr there) = one_has Q rows xs id one all.1 there.1
 
-    both : (rows : List Row) (xs : List X) → AllZip (λ row x. IsRowOf (values x) row) rows xs → AllZip (λ row x. test params tests project row ≡ p x) rows xs
+    both : (rows : List Row) (xs : List X) → AllZip (λ row x. IsRowOf (values x) row) rows xs → AllZip (λ row x. hit row ≡ p x) rows xs
         → AllZip IsHit rows xs
     both [] [] same hits = tt
     both [] (x ∷ xs) same hits = absurd same
@@ -177,29 +177,28 @@ module _ {X : Type 0} (values : X → Row) (p : X → Bool) (change : X → X) (
     both (r ∷ rows) (x ∷ xs) same hits = ((same.0, hits.0), both rows xs same.1 hits.1)
 
     -- an UPDATE whose terms compute `change` leaves the changed list
-    pub replaced_where : (table : Table) (db : Database) (xs : List X) (rows : List Row) (Q : X → Type 0) → AllByRecursion Q xs
-        → ((id : ℤ) (x : X) → Q x → p x ≡ true → eval_all project (params ∷ (Int id ∷ values x) ∷ []) ≡ Int id ∷ Int id ∷ values (change x))
+    pub replaced_by : (table : Table) (db : Database) (xs : List X) (rows : List Row) (Q : X → Type 0) → AllByRecursion Q xs
+        → ((id : ℤ) (x : X) → Q x → p x ≡ true → shown (Int id ∷ values x) ≡ Int id ∷ Int id ∷ values (change x))
         → ((id : ℤ) (x : X) → cast_row table (Int id ∷ values x) ≡ Int id ∷ values x)
-        → AllZip (λ row x. test params tests project row ≡ p x) (db.trees table.tree) xs
+        → AllZip (λ row x. hit row ≡ p x) (db.trees table.tree) xs
         → Holds values (db.trees table.tree) xs → length (filter p xs) ≤ 1
-        → Answers db (record { lets = []; body = select (inner table.tree end) tests project }) params rows
+        → IsPermutation (map shown (filter hit (db.trees table.tree))) rows
         → Holds values (edited db.trees (edit_of db.trees table (ids_of rows) Given 1 rows)) (map change xs)
-    replaced_where table db xs rows Q all sets casts hits held low answers =
+    replaced_by table db xs rows Q all sets casts hits held low same =
         let before = db.trees table.tree in
-        let same = answered params tests project table.tree db rows answers in
         elim (find_one before xs (both before xs held.same hits) low) [
           | inl none ↦
               let no_rows : rows ≡ [] = short_permutation [] rows (omega arith)
-              (subst (λ ys. IsPermutation (map (shows params tests project) ys) rows) none.0 same) in
+              (subst (λ ys. IsPermutation (map shown ys) rows) none.0 same) in
               subst (λ ys. Holds values (edited db.trees (edit_of db.trees table (ids_of ys) Given 1 ys)) (map change xs)) (sym no_rows)
               (subst (Holds values before) (sym none.1) held)
           | inr some ↦
               let id = some.0 in
               let one = some.1 in
               let new = Int id ∷ values (change one) in
-              let single : rows ≡ shows params tests project (Int id ∷ values one) ∷ [] =
-              short_permutation (shows params tests project (Int id ∷ values one) ∷ []) rows (omega arith)
-              (subst (λ ys. IsPermutation (map (shows params tests project) ys) rows) some.3 same) in
+              let single : rows ≡ shown (Int id ∷ values one) ∷ [] =
+              short_permutation (shown (Int id ∷ values one) ∷ []) rows (omega arith)
+              (subst (λ ys. IsPermutation (map shown ys) rows) some.3 same) in
               let one_row : rows ≡ (Int id ∷ new) ∷ [] = single ∙ ap (λ row. row ∷ []) (sets id one (one_has Q before xs id one all some.4) some.2) in
               let put : Holds values (put_row new (without_rowid id before)) (map change xs) = record {
                 rising = IsTable-put_row new (without_rowid id before) (IsTable-filter (λ r. not (has_rowid id r)) before held.rising);
@@ -208,6 +207,19 @@ module _ {X : Type 0} (values : X → Row) (p : X → Bool) (change : X → X) (
               subst (λ ys. Holds values (edited db.trees (edit_of db.trees table (ids_of ys) Given 1 ys)) (map change xs)) (sym one_row)
               (subst (λ row. Holds values (put_row row (without_rowid id before)) (map change xs)) (sym (casts id (change one))) put)
         ]
+
+  module _ (params : Row) (tests project : List Term) where
+    -- the same of an UPDATE of one table
+    pub replaced_where : (table : Table) (db : Database) (xs : List X) (rows : List Row) (Q : X → Type 0) → AllByRecursion Q xs
+        → ((id : ℤ) (x : X) → Q x → p x ≡ true → eval_all project (params ∷ (Int id ∷ values x) ∷ []) ≡ Int id ∷ Int id ∷ values (change x))
+        → ((id : ℤ) (x : X) → cast_row table (Int id ∷ values x) ≡ Int id ∷ values x)
+        → AllZip (λ row x. test params tests project row ≡ p x) (db.trees table.tree) xs
+        → Holds values (db.trees table.tree) xs → length (filter p xs) ≤ 1
+        → Answers db (record { lets = []; body = select (inner table.tree end) tests project }) params rows
+        → Holds values (edited db.trees (edit_of db.trees table (ids_of rows) Given 1 rows)) (map change xs)
+    replaced_where table db xs rows Q all sets casts hits held low answers =
+        replaced_by (test params tests project) (shows params tests project) table db xs rows Q all sets casts hits held low
+        (answered params tests project table.tree db rows answers)
 
     -- the same, where the tests see the columns alone
     pub replaced : ((id : ℤ) (x : X) → list_all (holds (params ∷ (Int id ∷ values x) ∷ [])) tests ≡ p x)

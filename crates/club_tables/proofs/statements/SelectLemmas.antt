@@ -8,9 +8,9 @@ use Rattle.std.specs.Ordering.{is_eq, int_cmp}
 use Rattle.std.proofs.lemmas.Bool.Decides.{nat_tests}
 use Rattle.std.proofs.lemmas.Map.Text.{is_eq-slice_cmp}
 use Rattle.std.proofs.lemmas.List.Sorted.{IsPermutation-map, length_permutation}
-use Rattle.sqlite_value.specs.declared.value.Value.TheVariants.{Int, Text, Null}
+use Rattle.sqlite_value.specs.declared.value.Value.TheVariants.{Int, Text, Blob, Null}
 use Rattle.sqlite_value.specs.declared.keys.Collation.TheVariants.{Binary}
-use Rattle.sqlite_value.proofs.OrderLemmas.{value_cmp-Int, value_cmp-Text}
+use Rattle.sqlite_value.proofs.OrderLemmas.{value_cmp-Int, value_cmp-Text, value_cmp-Blob}
 use Rattle.sqlite_sql.specs.declared.ops.BinaryOp.TheVariants.{Compare}
 use Rattle.sqlite_sql.specs.declared.ops.CompareOp.TheVariants.{Eq}
 use Rattle.sqlite_sql.specs.Ops.{binary, is_true, from_truth}
@@ -35,6 +35,11 @@ from_truth_is false = refl
 pub text_equal : (a b : List ℕ) → is_true (binary (Compare Eq Binary) (Text a) (Text b)) ≡ bytes_eq a b
 unfolding binary
 text_equal a b = from_truth_is _ ∙ ap is_eq (value_cmp-Text a b) ∙ is_eq-slice_cmp a b
+
+-- `=` of bytes
+pub blob_equal : (a b : List ℕ) → is_true (binary (Compare Eq Binary) (Blob a) (Blob b)) ≡ bytes_eq a b
+unfolding binary
+blob_equal a b = from_truth_is _ ∙ ap is_eq (value_cmp-Blob a b) ∙ is_eq-slice_cmp a b
 
 int_eq : (m n : ℕ) → is_eq (int_cmp (pos m) (pos n)) ≡ (m == n)
 int_eq m n = grind (arith, nat_tests)

@@ -1,6 +1,9 @@
 -- An UPDATE that changes one row at most.
-use Rattle.std.proofs.Common.{◌≡◌, ◌≢◌, ℕ, ◌==◌, true, false, None, Some, Ok, List, [], length, slice_get, refl, sym, ap, subst, ◌∙◌}
-use Rattle.std.specs.Prelude.{flat_map}
+use Rattle.std.proofs.Common.{◌≡◌, ◌≢◌, ℕ, ◌==◌, true, false, None, Some, Ok, List, [], length, map, slice_get, refl, sym, ap, subst, ◌∙◌}
+use Rattle.std.specs.Prelude.{flat_map, drop, unwrap_or}
+use Rattle.std.proofs.lemmas.List.{length-map}
+use Rattle.sqlite.specs.Cast.{cast_row}
+use Rattle.sqlite_rules.proofs.RowLemmas.{length-numbered}
 use Rattle.std.specs.List.{AllByRecursion, filter_map}
 use Rattle.sqlite.specs.Order.{Row}
 use Rattle.sqlite.specs.Tree.{Trees}
@@ -39,6 +42,7 @@ module _ (old new : State) (has : old.now.schema ≡ club_schema) (text : List �
       × (new.now.schema ≡ club_schema)
       × (new.now.trees table.tree ≡ edited old.now.trees (edit_of old.now.trees table (ids_of rows) Given 1 rows))
       × AllByRecursion (λ t. t.tree ≢ table.tree → new.now.trees t.tree ≡ old.now.trees t.tree) club_schema.tables × IsDatabase new.now
+      × (count ≡ length rows)
   updates at table query params listed is count h =
       let db = old.now.trees in
       let command = Update at (record { lets = []; body = query }) in
@@ -47,17 +51,23 @@ module _ (old new : State) (has : old.now.schema ≡ club_schema) (text : List �
       let does = subst (λ s. Does old.step_limit (mode_of old) params (record old.now { schema = s }) statement None command (Ok (w.tally, new.now))) has
       w.changed in
       let done = went (rw listed at does) in
-      let now = ap (λ (p : Tally × Database). p.1) (same_value (went (went done.2).2).2) in
+      let noted = same_value (went (went done.2).2).2 in
+      let now = ap (λ (p : Tally × Database). p.1) noted in
       let asked = went done.1 in
       let written = went asked.2 in
       let trees : done.0.trees ≡ written.0 = ap (λ (it : Written). it.trees) (same_value written.2) in
       let edit = edit_of db table (ids_of asked.0) Given 1 asked.0 in
       let applied = one_step club_schema Enforced db written.0 edit (no_works table.tree (taken_by db edit) edit.news) written.1 in
-      let whole : new.now.trees ≡ written.0 = ap (λ (d : Database). d.trees) now ∙ trees in (
+      let whole : new.now.trees ≡ written.0 = ap (λ (d : Database). d.trees) now ∙ trees in
+      let rows : done.0.rows ≡ edit.news = ap (λ (it : Written). it.rows) (same_value written.2) in
+      let counted : count ≡ length done.0.rows = w.counted ∙ ap (λ (p : Tally × Database). unwrap_or p.0.rows 0) noted in
+      let numbered : length edit.news ≡ length asked.0 =
+      length-numbered Given _ (map (λ (s : Row). cast_row table (drop 1 s)) asked.0) ∙ length-map asked.0 (λ (s : Row). cast_row table (drop 1 s)) in (
         asked.0,
         asked.1,
         ap (λ (d : Database). d.schema) now,
         ap (λ (t : Trees). t table.tree) whole ∙ applied.rows,
         subst (λ (trees : Trees). AllByRecursion (λ t. t.tree ≢ table.tree → trees t.tree ≡ db t.tree) club_schema.tables) (sym whole) applied.tables,
         w.sound,
+        counted ∙ ap length rows ∙ numbered,
       )

@@ -21,7 +21,7 @@ returns-in-Ok-clause-opens g c =
       done = λ clean. inl (c.in-Ok.ensures.understood clean, c.prepare.ensures.kept);
       keeps_club = λ clean. tt;
       fault = λ clean. tt;
-      survives = commits_nothing g.S.Store IsOpeningBatch old mid c.prepare.ensures.survives;
+      survives = commits_nothing g.S.Store 0 IsOpeningBatch old mid c.prepare.ensures.survives;
     }
 
 pub returns-in-Err-Memory-clause-opens : goal.returns-in-Err-Memory-clause-opens
@@ -40,7 +40,7 @@ returns-in-Err-Storage-clause-opens g c =
     let old = c.args.conn.now in
     let mid = c.prepare.new.conn in
     opens_after g.S.Store old mid (λ rest. c.prepare.ensures.kept) c.prepare.ensures.survives (version_2_in g.S.Store) (version_2_in g.S.Store)
-    (HasOrGetsIndex g.S.Store) (λ from to. Ran g.S.Store index_batch from (state g.S.Store to).committed) (FailsToRun g.S.Store index_batch)
+    (HasOrGetsIndex g.S.Store) (λ from to. Ran g.S.Store 0 index_batch from (state g.S.Store to).committed) (FailsToRun g.S.Store 0 index_batch)
     c.add_index.new.conn c.add_index.result c.add_index.ensures.opens
     (keeps_after g.S.Store old mid (λ rest. c.prepare.ensures.kept) c.prepare.ensures.survives HoldsClubVersion2) (λ club others second. second)
     (λ earlier clean ran. inr (mid, earlier, c.prepare.ensures.kept, ran)) (batch_failed g.S.Store index_batch (inr (inr refl)) old mid c.add_index.new.conn)

@@ -21,7 +21,7 @@ returns-in-Ok-clause-opens g c =
     let quiet = c.prepare_all.ensures.survives in
     opens_after g.S.Store old mid kept quiet (version_1_in g.S.Store) (version_1_in g.S.Store)
     (λ (from to : Held _). IsIdle (state g.S.Store from) → HasMigrated g.S.Store from to)
-    (λ from to. Ran g.S.Store migration from (state g.S.Store to).committed) (FailsToRun g.S.Store migration)
+    (λ from to. Ran g.S.Store 0 migration from (state g.S.Store to).committed) (FailsToRun g.S.Store 0 migration)
     c.add_old_roots.new.conn c.add_old_roots.result c.add_old_roots.ensures.opens
     (keeps_after g.S.Store old mid kept quiet HoldsClubVersion1) (λ club others first. first)
     (λ earlier clean ran rest.

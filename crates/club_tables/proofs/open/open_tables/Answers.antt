@@ -92,8 +92,8 @@ returns-in-Err-Storage-clause-opens g c =
     let mid = c.version.new.conn in
     let new = c.make_tables.new.conn in
     opens_after g.S.Store old mid (λ rest. c.version.ensures.kept) c.version.ensures.survives (found_in g.S.Store) (found_in g.S.Store)
-    (WhenIdle g.S.Store (AcceptsTables g.S.Store)) (λ from to. Ran g.S.Store table_batch from (state g.S.Store to).committed)
-    (FailsToRun g.S.Store table_batch) new c.make_tables.result c.make_tables.ensures.opens
+    (WhenIdle g.S.Store (AcceptsTables g.S.Store)) (λ from to. Ran g.S.Store 0 table_batch from (state g.S.Store to).committed)
+    (FailsToRun g.S.Store 0 table_batch) new c.make_tables.result c.make_tables.ensures.opens
     (keeps_after g.S.Store old mid (λ rest. c.version.ensures.kept) c.version.ensures.survives HoldsClubAnyVersion) (λ club others found. found)
     (λ earlier clean ran is_open rest.
     let same = (c.version.ensures.kept earlier (ran.was_open (omega arith))).1 in

@@ -1,0 +1,160 @@
+//! Tests of changes that aren't true of the club: each is a fault of storage, and leaves every row
+//! and total.
+
+use crate::rows::{AMY_1, CANCELLED_8, DAY, Older};
+use crate::steps::{Asked, Shown, Start, Step as StoreStep, plays_from};
+use crate::tables::{Expected, Step, plays_filled};
+use crate::write::Write;
+use std::test::*;
+use test_kit::roots::{SECOND_ROOT, THIRD_ROOT};
+use test_kit::{BOOKING_7, BOOKING_8, COURT_AT_18, COURT_AT_19, PlainBooking, ROOM_AT_18};
+
+/// The court's booking, cancelled for half its price.
+const CANCELLED_7: PlainBooking = PlainBooking {
+    refund: Some(300),
+    ..BOOKING_7
+};
+
+/// As it was on record, and as it is.
+static CANCELS_AGAIN: [Step; 9] = [
+    Step::Writes(Write::Cancel(BOOKING_7, 300)),
+    Step::Refuses(Write::Cancel(BOOKING_7, 300)),
+    Step::Refuses(Write::Cancel(CANCELLED_7, 300)),
+    Step::Expects(Expected::Booking(7, Some(CANCELLED_7))),
+    Step::Expects(Expected::Spent("amy-1", 300)),
+    Step::Expects(Expected::Member("amy", Some((10_000, 300)))),
+    Step::Expects(Expected::Slot(COURT_AT_18, 0, false)),
+    Step::Expects(Expected::Open("amy", "2026-04-20T12:00", 0)),
+    Step::Expects(Expected::Day(DAY, None)),
+];
+
+#[test]
+fn a_cancellation_of_a_cancelled_booking(rt: HostRuntime) {
+    plays_filled(&rt, &CANCELS_AGAIN);
+}
+
+/// A key that isn't there.
+const UNKNOWN_KEY: PlainBooking = PlainBooking {
+    key: "amy-2",
+    ..BOOKING_7
+};
+
+/// A booking of the slot, and of a slot that nobody booked.
+static UNDER_AN_UNKNOWN_KEY: [Step; 9] = [
+    Step::Refuses(Write::Cancel(UNKNOWN_KEY, 300)),
+    Step::Refuses(Write::Book(PlainBooking {
+        slot: COURT_AT_19,
+        ..UNKNOWN_KEY
+    })),
+    Step::Expects(Expected::Booking(7, Some(BOOKING_7))),
+    Step::Expects(Expected::Spent("amy-1", 600)),
+    Step::Expects(Expected::Spent("amy-2", 0)),
+    Step::Expects(Expected::Member("amy", Some((10_000, 600)))),
+    Step::Expects(Expected::Slot(COURT_AT_18, 3, false)),
+    Step::Expects(Expected::Slot(COURT_AT_19, 0, false)),
+    Step::Expects(Expected::Day(DAY, Some(BOOKING_7))),
+];
+
+#[test]
+fn a_change_under_an_unknown_key(rt: HostRuntime) {
+    plays_filled(&rt, &UNDER_AN_UNKNOWN_KEY);
+}
+
+/// A booking that is as on record but for its persons, its slot, or its charge.
+static OTHER_WORDS: [Step; 7] = [
+    Step::Refuses(Write::Cancel(
+        PlainBooking {
+            guests: 0,
+            ..BOOKING_7
+        },
+        300,
+    )),
+    Step::Refuses(Write::Cancel(
+        PlainBooking {
+            slot: COURT_AT_19,
+            ..BOOKING_7
+        },
+        300,
+    )),
+    Step::Refuses(Write::Cancel(
+        PlainBooking {
+            charge: 601,
+            ..BOOKING_7
+        },
+        300,
+    )),
+    Step::Expects(Expected::Booking(7, Some(BOOKING_7))),
+    Step::Expects(Expected::Member("amy", Some((10_000, 600)))),
+    Step::Expects(Expected::Slot(COURT_AT_18, 3, false)),
+    Step::Expects(Expected::Slot(COURT_AT_19, 0, false)),
+];
+
+#[test]
+fn a_cancellation_in_other_words(rt: HostRuntime) {
+    plays_filled(&rt, &OTHER_WORDS);
+}
+
+/// Neither a booking under amy's key nor its refund is ben's.
+static FOR_BEN: [Step; 9] = [
+    Step::Writes(Write::Ben(1_000)),
+    Step::Refuses(Write::BookForBen(PlainBooking {
+        number: 9,
+        slot: COURT_AT_19,
+        ..BOOKING_7
+    })),
+    Step::Refuses(Write::CancelForBen(BOOKING_7, 300)),
+    Step::Expects(Expected::Booking(9, None)),
+    Step::Expects(Expected::Booking(7, Some(BOOKING_7))),
+    Step::Expects(Expected::Member("ben", Some((1_000, 0)))),
+    Step::Expects(Expected::Member("amy", Some((10_000, 600)))),
+    Step::Expects(Expected::Slot(COURT_AT_18, 3, false)),
+    Step::Expects(Expected::Slot(COURT_AT_19, 0, false)),
+];
+
+#[test]
+fn a_booking_with_another_members_name(rt: HostRuntime) {
+    plays_filled(&rt, &FOR_BEN);
+}
+
+/// A root that the key never had.
+static OTHER_ROOT: [Step; 3] = [
+    Step::Refuses(Write::Rotate("amy-1", Older(SECOND_ROOT, "2026-04-25T00:00"), THIRD_ROOT)),
+    Step::Expects(Expected::Key("amy-1", Some(AMY_1))),
+    Step::Expects(Expected::OlderRoot("amy-1", None)),
+];
+
+#[test]
+fn a_rotation_of_another_root(rt: HostRuntime) {
+    plays_filled(&rt, &OTHER_ROOT);
+}
+
+/// By the store's calls, the first two with what a key sees afterwards.
+static BY_THE_STORE: [StoreStep; 6] = [
+    StoreStep::Refuses(Write::Cancel(CANCELLED_8, 300)),
+    StoreStep::Refuses(Write::Cancel(UNKNOWN_KEY, 300)),
+    StoreStep::Refuses(Write::BookForBen(PlainBooking {
+        number: 9,
+        slot: COURT_AT_19,
+        ..BOOKING_8
+    })),
+    StoreStep::Shows(Shown::Slot(ROOM_AT_18, 0, false)),
+    StoreStep::Shows(Shown::Slot(COURT_AT_19, 0, false)),
+    StoreStep::Shows(Shown::View(Asked::Cancel(7), 3, Some(BOOKING_7))),
+];
+
+#[test]
+fn a_store_refuses_them(rt: HostRuntime) {
+    plays_from(&rt, Start::Bookings, &[&BY_THE_STORE]);
+}
+
+/// Points for nobody, and a key that isn't there.
+static OF_NOBODY: [StoreStep; 3] = [
+    StoreStep::Refuses(Write::Credit(5)),
+    StoreStep::Refuses(Write::Revoke),
+    StoreStep::Shows(Shown::Member(None)),
+];
+
+#[test]
+fn a_store_refuses_unknown_names(rt: HostRuntime) {
+    plays_from(&rt, Start::Empty, &[&OF_NOBODY]);
+}

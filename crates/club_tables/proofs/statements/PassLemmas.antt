@@ -1,0 +1,159 @@
+-- What an UPDATE found that wrote a row.
+use Rattle.std.proofs.Common.{◌≡◌, ℕ, zero, suc, ◌≤◌, ℤ, Contains, Bool, true, false, ◌||◌, cond, Some, List, [], ◌∷◌, length, map, refl, sym, ap, subst, ◌∙◌, arith, true≢false}
+use Rattle.std.specs.Prelude.{filter, find, IsPermutation}
+use Rattle.std.specs.List.{AllByRecursion, AllZip, list_any}
+use Rattle.std.proofs.lemmas.List.{length-map}
+use Rattle.std.proofs.lemmas.List.Sorted.{length_permutation}
+use Rattle.sqlite_value.specs.declared.value.Value.TheVariants.{Int}
+use Rattle.sqlite.specs.Order.{Row}
+use Rattle.sqlite.specs.Term.{Term}
+use Rattle.sqlite.specs.Query.{inner, end}
+use Rattle.sqlite.specs.Effect.{Database, Answers}
+use Rattle.club_tables.specs.Statements.{select}
+use Rattle.club_tables.specs.Tables.{IsRowOf, Holds}
+use Rattle.club_tables.proofs.statements.SelectLemmas.{test, shows, answered}
+
+-- as many rows pass as elements
+pub as_many : {X : Type 0} (hit : Row → Bool) (p : X → Bool) (rows : List Row) (xs : List X) → AllZip (λ row x. hit row ≡ p x) rows xs
+    → length (filter hit rows) ≡ length (filter p xs)
+as_many hit p [] [] same = refl
+as_many hit p [] (x ∷ xs) same = absurd same
+as_many hit p (r ∷ rows) [] same = absurd same
+as_many {X} hit p (r ∷ rows) (x ∷ xs) same =
+    let more = as_many hit p rows xs same.1 in
+    subst (λ b. length (cond b (r ∷ filter hit rows) (filter hit rows)) ≡ length (filter p (x ∷ xs))) (sym same.0)
+    (elim (p x) as (λ b. length (cond b (r ∷ filter hit rows) (filter hit rows)) ≡ length (cond b (x ∷ filter p xs) (filter p xs)))
+    [ true ↦ omega arith | false ↦ more ])
+
+-- a test of the columns passes where the element does
+pub each_row : {X : Type 0} (values : X → Row) (hit : Row → Bool) (p : X → Bool) → ((id : ℤ) (x : X) → hit (Int id ∷ values x) ≡ p x) → (rows : List Row)
+    (xs : List X) → AllZip (λ row x. IsRowOf (values x) row) rows xs → AllZip (λ row x. hit row ≡ p x) rows xs
+each_row values hit p tested [] [] same = tt
+each_row values hit p tested [] (x ∷ xs) same = absurd same
+each_row values hit p tested (r ∷ rows) [] same = absurd same
+each_row values hit p tested (r ∷ rows) (x ∷ xs) same =
+    (ap hit same.0.1 ∙ tested same.0.0 x, each_row values hit p tested rows xs same.1)
+
+-- an element passes, and so the first that does is found
+pub find_some : {X : Type 0} (p : X → Bool) (xs : List X) → 1 ≤ length (filter p xs) → (x : X) × (find p xs ≡ Some x)
+find_some p [] some = absurd (omega arith)
+find_some {X} p (x ∷ xs) some = go (p x) refl some (find_some p xs)
+  where
+    go : (b : Bool) → p x ≡ b → 1 ≤ length (cond b (x ∷ filter p xs) (filter p xs)) → (1 ≤ length (filter p xs) → (y : X) × (find p xs ≡ Some y))
+        → (y : X) × (cond b (Some x) (find p xs) ≡ Some y)
+    go true is some more = (x, refl)
+    go false is some more = more some
+
+-- where rows were written, an element passes
+pub some_found : {X : Type 0} (hit : Row → Bool) (shown : Row → Row) (p : X → Bool) (before rows : List Row) (xs : List X)
+    → AllZip (λ row x. hit row ≡ p x) before xs → IsPermutation (map shown (filter hit before)) rows → 1 ≤ length rows → (x : X) × (find p xs ≡ Some x)
+some_found hit shown p before rows xs same permuted some =
+    let lengths = length_permutation (map shown (filter hit before)) rows permuted in
+    let mapped = length-map (filter hit before) shown in
+    find_some p xs (omega (arith, lengths, mapped, as_many hit p before xs same, some))
+
+-- and where an element passes, rows were written
+pub rows_found : {X : Type 0} (hit : Row → Bool) (shown : Row → Row) (p : X → Bool) (before rows : List Row) (xs : List X)
+    → AllZip (λ row x. hit row ≡ p x) before xs → IsPermutation (map shown (filter hit before)) rows → 1 ≤ length (filter p xs) → 1 ≤ length rows
+rows_found hit shown p before rows xs same permuted some =
+    let lengths = length_permutation (map shown (filter hit before)) rows permuted in
+    let mapped = length-map (filter hit before) shown in
+    omega (arith, lengths, mapped, as_many hit p before xs same, some)
+
+pub any_counts : {X : Type 0} (p : X → Bool) (xs : List X) → list_any p xs ≡ true → 1 ≤ length (filter p xs)
+any_counts p [] any = absurd cc
+any_counts {X} p (x ∷ xs) any = go (p x) any (any_counts p xs)
+  where
+    go : (b : Bool) → (b || list_any p xs) ≡ true → (list_any p xs ≡ true → 1 ≤ length (filter p xs)) → 1 ≤ length (cond b (x ∷ filter p xs) (filter p xs))
+    go true any more = omega arith
+    go false any more = more any
+
+pub contains_counts : {X : Type 0} (p : X → Bool) (xs : List X) (one : X) → Contains xs one → p one ≡ true → 1 ≤ length (filter p xs)
+contains_counts p [] one has passes = absurd (omega (arith, has.1))
+contains_counts {X} p (x ∷ xs) one (zero, low, is) passes =
+    let here : p x ≡ true = ap p is ∙ passes in
+    subst (λ b. 1 ≤ length (cond b (x ∷ filter p xs) (filter p xs))) (sym here) (omega arith)
+contains_counts {X} p (x ∷ xs) one (suc k, low, is) passes =
+    let later = contains_counts p xs one (k, omega (arith, low), is) passes in
+    elim (p x) as (λ b. 1 ≤ length (cond b (x ∷ filter p xs) (filter p xs))) [ true ↦ omega arith | false ↦ later ]
+
+-- the same of an UPDATE of one table
+pub updated_found : {X : Type 0} (values : X → Row) (p : X → Bool) (params : Row) (tests project : List Term) → ((id : ℤ) (x : X)
+    → test params tests project (Int id ∷ values x) ≡ p x) → (tree : ℕ) (db : Database) (xs : List X) (rows : List Row) → Holds values (db.trees tree) xs
+    → Answers db (record { lets = []; body = select (inner tree end) tests project }) params rows → 1 ≤ length rows → (x : X) × (find p xs ≡ Some x)
+updated_found values p params tests project tested tree db xs rows held answers some =
+    some_found (test params tests project) (shows params tests project) p (db.trees tree) rows xs
+    (each_row values (test params tests project) p tested (db.trees tree) xs held.same) (answered params tests project tree db rows answers) some
+
+pub updated_rows : {X : Type 0} (values : X → Row) (p : X → Bool) (params : Row) (tests project : List Term) → ((id : ℤ) (x : X)
+    → test params tests project (Int id ∷ values x) ≡ p x) → (tree : ℕ) (db : Database) (xs : List X) (rows : List Row) → Holds values (db.trees tree) xs
+    → Answers db (record { lets = []; body = select (inner tree end) tests project }) params rows → 1 ≤ length (filter p xs) → 1 ≤ length rows
+updated_rows values p params tests project tested tree db xs rows held answers some =
+    rows_found (test params tests project) (shows params tests project) p (db.trees tree) rows xs
+    (each_row values (test params tests project) p tested (db.trees tree) xs held.same) (answered params tests project tree db rows answers) some
+
+-- what passes the one test passes the other
+abbrev pub Implies : {X : Type 0} → (X → Bool) → (X → Bool) → Type 0
+Implies {X} p q = (x : X) → p x ≡ true → q x ≡ true
+
+fails_too : {X : Type 0} (p q : X → Bool) → Implies p q → (x : X) → q x ≡ false → p x ≡ false
+fails_too p q implies x fails = go (p x) refl
+  where
+    go : (b : Bool) → p x ≡ b → p x ≡ false
+    go false is = is
+    go true is = absurd (true≢false (sym (implies x is) ∙ fails))
+
+none_found : {X : Type 0} (p q : X → Bool) → Implies p q → (xs : List X) → length (filter q xs) ≤ 0 → AllByRecursion (λ x. p x ≡ q x) xs
+none_found p q implies [] none = tt
+none_found p q implies (x ∷ xs) none = go (q x) refl none (none_found p q implies xs)
+  where
+    go : (b : Bool) → q x ≡ b → length (cond b (x ∷ filter q xs) (filter q xs)) ≤ 0
+        → (length (filter q xs) ≤ 0 → AllByRecursion (λ y. p y ≡ q y) xs) → AllByRecursion (λ y. p y ≡ q y) (x ∷ xs)
+    go true is none more = absurd (omega arith)
+    go false is none more = (fails_too p q implies x is ∙ sym is, more none)
+
+pub found_counts : {X : Type 0} (p : X → Bool) (xs : List X) (one : X) → find p xs ≡ Some one → 1 ≤ length (filter p xs)
+found_counts p [] one found = absurd cc
+found_counts {X} p (x ∷ xs) one found = go (p x) found (found_counts p xs one)
+  where
+    go : (b : Bool) → cond b (Some x) (find p xs) ≡ Some one → (find p xs ≡ Some one → 1 ≤ length (filter p xs))
+        → 1 ≤ length (cond b (x ∷ filter p xs) (filter p xs))
+    go true found more = omega arith
+    go false found more = more found
+
+fewer : {X : Type 0} (p q : X → Bool) → Implies p q → (xs : List X) → length (filter p xs) ≤ length (filter q xs)
+fewer p q implies [] = omega arith
+fewer {X} p q implies (x ∷ xs) = go (p x) (q x) refl refl (fewer p q implies xs)
+  where
+    go : (b c : Bool) → p x ≡ b → q x ≡ c → length (filter p xs) ≤ length (filter q xs)
+        → length (cond b (x ∷ filter p xs) (filter p xs)) ≤ length (cond c (x ∷ filter q xs) (filter q xs))
+    go true true is also more = omega arith
+    go true false is fails more = absurd (true≢false (sym (implies x is) ∙ fails))
+    go false true is also more = omega arith
+    go false false is fails more = more
+
+-- where one element passes at most, and one passes a narrower test, both tests are passed by the same elements
+pub agree : {X : Type 0} (p q : X → Bool) → Implies p q → (xs : List X) (one : X) → length (filter q xs) ≤ 1 → find p xs ≡ Some one
+    → AllByRecursion (λ x. p x ≡ q x) xs
+agree p q implies [] one low found = tt
+agree {X} p q implies (x ∷ xs) one low found = go (p x) (q x) refl refl low found (agree p q implies xs one)
+  where
+    go : (b c : Bool) → p x ≡ b → q x ≡ c → length (cond c (x ∷ filter q xs) (filter q xs)) ≤ 1 → cond b (Some x) (find p xs) ≡ Some one
+        → (length (filter q xs) ≤ 1 → find p xs ≡ Some one → AllByRecursion (λ y. p y ≡ q y) xs) → AllByRecursion (λ y. p y ≡ q y) (x ∷ xs)
+    go true true is also low found more = (is ∙ sym also, none_found p q implies xs (omega arith))
+    go true false is fails low found more = absurd (true≢false (sym (implies x is) ∙ fails))
+    go false false is fails low found more = (is ∙ sym fails, more low found)
+    go false true is also low found more = absurd (omega (arith, low, found_counts p xs one found, fewer p q implies xs))
+
+-- and both find the same
+pub found_by_both : {X : Type 0} (p q : X → Bool) (xs : List X) → AllByRecursion (λ x. p x ≡ q x) xs → find p xs ≡ find q xs
+found_by_both p q [] same = refl
+found_by_both p q (x ∷ xs) same =
+    subst (λ b. find p (x ∷ xs) ≡ cond b (Some x) (find q xs)) same.0 (ap (cond (p x) (Some x)) (found_by_both p q xs same.1))
+
+pub zip_agree : {X : Type 0} (hit : Row → Bool) (p q : X → Bool) (rows : List Row) (xs : List X) → AllZip (λ row x. hit row ≡ p x) rows xs
+    → AllByRecursion (λ x. p x ≡ q x) xs → AllZip (λ row x. hit row ≡ q x) rows xs
+zip_agree hit p q [] [] same both = tt
+zip_agree hit p q [] (x ∷ xs) same both = absurd same
+zip_agree hit p q (r ∷ rows) [] same both = absurd same
+zip_agree hit p q (r ∷ rows) (x ∷ xs) same both = (same.0 ∙ both.0, zip_agree hit p q rows xs same.1 both.1)
