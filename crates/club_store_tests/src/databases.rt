@@ -25,18 +25,13 @@ static INDEX: [&str; 1] = [
 
 impl Contents {
     /// The statements that make it.
-    fn statements(self) -> [&'static [&'static str]; 3] {
+    pub fn statements(self) -> [&'static [&'static str]; 3] {
         match self {
             Contents::Nothing => [&[], &[], &[]],
             Contents::First => [&STATEMENTS, &[], &[]],
             Contents::Unindexed => [&STATEMENTS, &OLDER_ROOTS, &[]],
             Contents::Second => [&STATEMENTS, &OLDER_ROOTS, &INDEX],
         }
-    }
-
-    /// Makes it in a database that holds nothing.
-    pub fn make<S: Alter>(self, rt: &impl Abort, connection: &mut Connection<S>) {
-        runs_all(rt, connection, &self.statements());
     }
 
     /// The version that is read in it.
@@ -57,7 +52,11 @@ pub(crate) fn runs<S: Alter>(rt: &impl Abort, connection: &mut Connection<S>, te
 }
 
 /// Runs these lists of statements.
-fn runs_all<S: Alter>(rt: &impl Abort, connection: &mut Connection<S>, lists: &[&[&str]]) {
+pub(crate) fn runs_all<S: Alter>(
+    rt: &impl Abort,
+    connection: &mut Connection<S>,
+    lists: &[&[&str]],
+) {
     for texts in lists {
         runs(rt, connection, texts);
     }
@@ -79,6 +78,14 @@ pub(crate) fn database(
     contents: Contents,
 ) -> Connection<MemStore> {
     database_after(rt, &contents.statements())
+}
+
+/// How many bookings a database has, where it has a table of them.
+pub(crate) fn bookings<S: Alter>(connection: &mut Connection<S>) -> Option<i64> {
+    let row = connection
+        .query_row("SELECT count(*) FROM bookings", &[])
+        .ok()?;
+    row.get(0).ok()
 }
 
 /// The version of a database, where it has one.

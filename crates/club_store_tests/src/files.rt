@@ -1,7 +1,7 @@
 //! Real files of a test. `do_in_file` and `make_file` alone open stores in them: the proof of each
 //! takes half a minute or more.
 
-use crate::databases::Contents;
+use crate::databases::{bookings, runs_all};
 use crate::steps::{Step, plays};
 use club_core::StoreFault;
 use club_store::{Remains, Store};
@@ -18,6 +18,8 @@ pub enum Left {
     Files,
     /// The files, which another program holds.
     Held,
+    /// The open file, with so many bookings; `None` if it has no table of them.
+    Open(Option<i64>),
     Nothing,
 }
 
@@ -56,14 +58,17 @@ pub fn do_in_file(
         }
         Err((fault, Remains::Held)) => Err((fault, Left::Held)),
         Err((fault, Remains::Files(None))) => Err((fault, Left::Nothing)),
-        Err((fault, _)) => Err((fault, Left::Files)),
+        Err((fault, Remains::Files(Some(_)))) => Err((fault, Left::Files)),
+        Err((fault, Remains::Connection(mut connection))) => {
+            Err((fault, Left::Open(bookings(&mut connection))))
+        }
     }
 }
 
-/// Makes these tables in a file that isn't there yet.
-pub fn make_file(host: &HostRuntime, rt: &impl Abort, path: &str, contents: Contents) {
+/// Runs these lists of statements in a file that isn't there yet.
+pub fn make_file(host: &HostRuntime, rt: &impl Abort, path: &str, lists: &[&[&str]]) {
     let mut connection = Connection::open(host, path).expect(rt, "a file");
-    contents.make(rt, &mut connection);
+    runs_all(rt, &mut connection, lists);
     connection.close().expect(rt, "closed");
 }
 

@@ -1,13 +1,18 @@
-//! Openings of a file that another program has, and of one that can't be opened.
+//! Openings of a file that another program has, of one that can't be opened, and of one whose
+//! tables are refused.
 
 use crate::expect::expect_eq;
-use crate::files::{FileWork, Left, do_in_file, path_of, plays_in_file, remove};
+use crate::files::{FileWork, Left, do_in_file, make_file, path_of, plays_in_file, remove};
 use club_store::Store;
 use sqlite::Alter;
 use std::alloc::Global;
 use std::fs;
 use std::process::Abort;
 use std::test::Fail;
+use test_kit::version_1::STATEMENTS;
+
+/// A version that no store knows.
+static NINTH: [&str; 1] = ["UPDATE desk SET version = 9"];
 
 /// What an opening leaves if it fails.
 fn left_by_opening(
@@ -51,5 +56,19 @@ fn a_held_file(rt: HostRuntime) -> Result<(), Fail> {
     fs::write(&rt, path, [b'x'; 100])?;
     expect_eq(&rt, &left_by_opening(&rt, &rt, path), &Some(Left::Files));
     let _ = fs::remove_file(&rt, path);
+    Ok(())
+}
+
+/// A file whose tables are refused is left open, with its rows: at the next opening too.
+#[test]
+fn a_file_of_refused_tables(rt: HostRuntime) -> Result<(), Fail> {
+    let path = path_of(&rt)?;
+    let path = path.as_str();
+    make_file(&rt, &rt, path, &[&STATEMENTS, &NINTH]);
+    for _ in 0..2 {
+        let left = left_by_opening(&rt, &rt, path);
+        expect_eq(&rt, &left, &Some(Left::Open(Some(2))));
+    }
+    remove(&rt, path)?;
     Ok(())
 }

@@ -115,7 +115,7 @@ fn opens_file(
     contents: Contents,
 ) -> Result<(), Fail> {
     let path = path_of(host)?;
-    make_file(host, rt, path.as_str(), contents);
+    make_file(host, rt, path.as_str(), &contents.statements());
     opens_at(host, rt, path.as_str(), contents);
     remove(host, path.as_str())
 }
