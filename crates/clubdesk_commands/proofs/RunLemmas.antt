@@ -6,6 +6,7 @@ use Rattle.clap.specs.Words.{IsAmong, Kinds, Text}
 use Rattle.clap.specs.Walk.{is_empty}
 use Rattle.clap.specs.declared.error.kind.ErrorKind.{ErrorKind}
 use Rattle.clap.specs.declared.error.kind.ErrorKind.TheVariants as kind
+use Rattle.club_core.specs.declared.command.Command.{Command}
 use Rattle.club_core.specs.Club.{Club}
 use Rattle.club_core.specs.declared.change.Change.{Change}
 use Rattle.club_core.specs.declared.store.StoreFault.{StoreFault}
@@ -19,8 +20,8 @@ use Rattle.clubdesk_arguments.specs.Application.{refusals}
 use Rattle.clubdesk_arguments.specs.JobModel.{JobModel}
 use Rattle.clubdesk_commands.specs.Looks as looks
 use Rattle.clubdesk_commands.specs.Office as office
-use Rattle.clubdesk_commands.specs.Office.{PrintsReply, PrintsSheet, fault_of_desk}
-use Rattle.clubdesk_commands.specs.Output.{Output, WritesText}
+use Rattle.clubdesk_commands.specs.Office.{Gives, GivesReply, IsAnswered, fault_of_desk}
+use Rattle.clubdesk_commands.specs.Output.{Output, Prints, WritesText}
 use Rattle.desk_server.specs.Databases.{Closing, Opening}
 use Rattle.clubdesk_arguments.specs.Fault.{fault_of_opening}
 use Rattle.clubdesk_commands.specs.Run.{Announces, AnswersWords, Does, EndsFor, IsOfTask, IsSilent, Performs, job_of}
@@ -100,11 +101,6 @@ pub record EndsWell (Silent : Type 0) (result : Result Unit Fault) : Type 0 wher
   pub of_task : IfErr result IsOfTask
   pub silent : IfErr result (λ fault. IsSilent fault → Silent)
 
-of_desk : (Silent : Type 0) (fault : DeskFault) (result : Result Unit Fault) → result ≡ Err (fault_of_desk fault) → Silent → EndsWell Silent result
-of_desk Silent (desk.Refused refusal) result is silent = rw is (record { of_task = tt; silent = λ s. silent })
-of_desk Silent (desk.Store store.Memory) result is silent = rw is (record { of_task = tt; silent = λ s. silent })
-of_desk Silent (desk.Store store.Storage) result is silent = rw is (record { of_task = tt; silent = λ s. silent })
-
 text_ends : (written : Output) (text : List ℕ) (result : Result Unit Fault) → WritesText text written result → EndsWell written.no_change result
 text_ends written text (Ok done) h = record { of_task = tt; silent = tt }
 text_ends written text (Err InputOutput) h = record { of_task = tt; silent = λ s. absurd s }
@@ -115,18 +111,10 @@ text_ends written text (Err Memory) h = absurd h
 text_ends written text (Err Storage) h = absurd h
 text_ends written text (Err ClockOutOfRange) h = absurd h
 
-module _ (written : Output) (result : Result Unit Fault) where
-  of_text : (text : List ℕ) → WritesText text written result → EndsWell written.no_change result
-  of_text text h = text_ends written text result h
-
-  of_order : (text : List ℕ) (reply : OfficeReply) → PrintsReply text written result reply → EndsWell written.no_change result
-  of_order text (replies.Refused fault) h = of_desk written.no_change fault result h.0 h.1
-  of_order text replies.Done h = of_text text h
-  of_order text (replies.Key signature) h = of_text text h
-
-  of_sheet : (read : Result (List ℕ) DeskFault) → PrintsSheet written result read → EndsWell written.no_change result
-  of_sheet (Ok text) h = of_text text h
-  of_sheet (Err fault) h = of_desk written.no_change fault result h.0 h.1
+prints_well : (written : Output) (answer : Result (List ℕ) Fault) (result : Result Unit Fault) → IfErr answer IsOfTask → Prints answer written result
+    → EndsWell written.no_change result
+prints_well written (Ok text) result of_task prints = text_ends written text result prints
+prints_well written (Err fault) result of_task prints = rw prints.0 (record { of_task = of_task; silent = λ s. prints.1 })
 
 of_server : (port : ℕ) (written : Output) (result : Result Unit Fault) → Announces port written result → EndsWell written.no_change result
 of_server port written (Ok done) h = record { of_task = tt; silent = tt }
@@ -138,21 +126,38 @@ of_server port written (Err (Words error)) h = absurd h
 of_server port written (Err BadValue) h = absurd h
 of_server port written (Err Storage) h = absurd h
 
-module _ {S : Type 0} (Clean : S → Type 0) (Represents : S → Club → List Club → Type 0) (old new : S) (written : Output) (result : Result Unit Fault) where
-  ends_well : (task : Task) → Does Clean Represents task written result old new → EndsWell written.no_change result
-  ends_well (Order given) h = of_order written result _ h.reply h.prints
-  ends_well (AddKey name member root form) (office.out_of_memory memory untouched) = rw memory (record { of_task = tt; silent = λ s. untouched.1 })
-  ends_well (AddKey name member root form) (office.order_given line made h) = of_order written result line h.reply h.prints
-  ends_well (RotateKey name root until form) (office.out_of_memory memory untouched) = rw memory (record { of_task = tt; silent = λ s. untouched.1 })
-  ends_well (RotateKey name root until form) (office.order_given line made h) = of_order written result line h.reply h.prints
-  ends_well (Sheet day) h = of_sheet written result h.1.read h.1.prints
-  ends_well (Serve service) h = absurd h
-  ends_well (Pause seconds) h = absurd h
-  ends_well (AddKeyByInput name member form) h = absurd h
-  ends_well (RotateKeyByInput name until form) h = absurd h
-  ends_well (ShowAccount key clock) (looks.at_moment moment shows h) = of_sheet written result h.shown h.gives
-  ends_well (ShowAccount key clock) (looks.at_none shows h) = rw h.out_of_range (record { of_task = tt; silent = λ s. h.silent })
-  ends_well (ShowSlot slot) h = of_sheet written result h.shown h.gives
+-- an answer of the desk is no fault of the words
+desk_faults : (fault : DeskFault) → IsOfTask (fault_of_desk fault)
+desk_faults (desk.Refused refusal) = tt
+desk_faults (desk.Store store.Memory) = tt
+desk_faults (desk.Store store.Storage) = tt
+
+of_reply : (text : List ℕ) (answer : Result (List ℕ) Fault) (reply : OfficeReply) → GivesReply text answer reply → IfErr answer IsOfTask
+of_reply text answer (replies.Refused fault) is = rw is (desk_faults fault)
+of_reply text answer replies.Done is = rw is tt
+of_reply text answer (replies.Key signature) is = rw is tt
+
+of_read : (answer : Result (List ℕ) Fault) (read : Result (List ℕ) DeskFault) → Gives answer read → IfErr answer IsOfTask
+of_read answer (Ok text) is = rw is tt
+of_read answer (Err fault) is = rw is (desk_faults fault)
+
+module _ {S : Type 0} (Clean : S → Type 0) (Represents : S → Club → List Club → Type 0) (old new : S) (answer : Result (List ℕ) Fault) where
+  of_order : (order : Command) (IsText : List ℕ → Type 0) → IsAnswered Represents (Clean new) old new order IsText answer → IfErr answer IsOfTask
+  of_order order IsText (office.out_of_memory memory) = rw memory.0 tt
+  of_order order IsText (office.order_given text made h) = of_reply text answer h.reply h.answers
+
+  of_task : (task : Task) → Does Clean Represents task answer old new → IfErr answer IsOfTask
+  of_task (Order given) h = of_order given _ h
+  of_task (AddKey name member root form) h = of_order _ _ h
+  of_task (RotateKey name root until form) h = of_order _ _ h
+  of_task (Sheet day) h = of_read answer h.1.read h.1.gives
+  of_task (Serve service) h = absurd h
+  of_task (Pause seconds) h = absurd h
+  of_task (AddKeyByInput name member form) h = absurd h
+  of_task (RotateKeyByInput name until form) h = absurd h
+  of_task (ShowAccount key clock) (looks.at_moment moment shows h) = of_read answer h.shown h.gives
+  of_task (ShowAccount key clock) (looks.at_none shows h) = rw h.out_of_range tt
+  of_task (ShowSlot slot) h = of_read answer h.shown h.gives
 
 of_opening : (Silent : Type 0) (fault : StoreFault) (result : Result Unit Fault) → result ≡ Err (fault_of_opening fault) → Silent
     → EndsWell Silent result
@@ -167,9 +172,10 @@ module _ {D S : Type 0} (Opens : Opening D S) (Closes : Closing D S) (FindsWish 
     pub performs_well : Performs Opens Closes FindsWish Clean Represents Fails job old new written Noted result → EndsWell written.no_change result
     performs_well (spec.out_of_memory memory same silent nothing) = rw memory (record { of_task = tt; silent = λ s. silent })
     performs_well (spec.not_opened fault opens is silent nothing) = of_opening written.no_change fault result is silent
-    performs_well (spec.task_done store left between opens does closes nothing) = ends_well Clean Represents store left written result job.task does
+    performs_well (spec.task_done answer store left between opens does closes prints nothing) =
+        prints_well written answer result (of_task Clean Represents store left answer job.task does) prints
     performs_well (spec.server_done service store between is opens serves) = of_server service.port written result serves.announces
-    performs_well (spec.pause_done seconds store between is opens closes wrote nothing) = of_text written result (codes "done\n") wrote
+    performs_well (spec.pause_done seconds store between is opens closes wrote nothing) = text_ends written (codes "done\n") result wrote
     performs_well (spec.pause_failed seconds is storage same silent nothing) = rw storage (record { of_task = tt; silent = λ s. silent })
 
     -- what isn't a server's task notes nothing, whatever a log would note
@@ -178,7 +184,8 @@ module _ {D S : Type 0} (Opens : Opening D S) (Closes : Closing D S) (FindsWish 
         → Performs Opens Closes FindsWish Clean Represents Fails job old new written Noted result
     notes_nothing none noted (spec.out_of_memory memory same silent nothing) = spec.out_of_memory memory same silent noted
     notes_nothing none noted (spec.not_opened fault opens is silent nothing) = spec.not_opened fault opens is silent noted
-    notes_nothing none noted (spec.task_done store left between opens does closes nothing) = spec.task_done store left between opens does closes noted
+    notes_nothing none noted (spec.task_done answer store left between opens does closes prints nothing) =
+        spec.task_done answer store left between opens does closes prints noted
     notes_nothing none noted (spec.server_done service store between is opens serves) = absurd (none service is)
     notes_nothing none noted (spec.pause_done seconds store between is opens closes wrote nothing) =
         spec.pause_done seconds store between is opens closes wrote noted

@@ -7,8 +7,7 @@ use Rattle.club_core.specs.Store.{KeepsClub}
 use Rattle.club_gate.specs.Looks.{IsUnshown, account_look, slot_look}
 use Rattle.club_gate.specs.declared.fault.Fault.{Fault as DeskFault}
 use Rattle.club_clock.specs.Zone.{IsShown}
-use Rattle.clubdesk_commands.specs.Office.{PrintsSheet}
-use Rattle.clubdesk_commands.specs.Output.{Output}
+use Rattle.clubdesk_commands.specs.Office.{Gives}
 use Rattle.clubdesk_arguments.specs.declared.clock.Clock.{Clock}
 use Rattle.clubdesk_arguments.specs.declared.clock.Clock.TheVariants.{Fixed, InZone}
 use Rattle.clubdesk_arguments.specs.declared.fault.Fault.{Fault}
@@ -31,7 +30,7 @@ ShowsAccount key moment club shown = GivesLook (account_look club key moment) sh
 abbrev pub ShowsSlot : Slot → Club → Result (List ℕ) DeskFault → Type 0
 ShowsSlot slot club shown = (key : Key) → GivesLook (slot_look club slot key) shown
 
--- The desk was asked for a look at the club, which is unchanged, and what it returned was written.
+-- The desk was asked for a look at the club, which is unchanged, and what it returned was given.
 pub record Looks {S : Type 0} (Clean : S → Type 0) (Represents : S → Club → List Club → Type 0) (old new : S)
     (Shows : Club → Result (List ℕ) DeskFault → Type 0) (Gives : Result (List ℕ) DeskFault → Type 0) : Type 0 where
   pub kept : Clean new → KeepsClub Represents old new
@@ -40,18 +39,16 @@ pub record Looks {S : Type 0} (Clean : S → Type 0) (Represents : S → Club �
   pub gives : Gives shown
 
 -- the clock showed no moment of the club's, and nothing was done
-pub record StopsLook {S : Type 0} (old new : S) (written : Output) (result : Result Unit Fault) : Type 0 where
-  pub out_of_range : result ≡ Err ClockOutOfRange
+pub record StopsLook {S : Type 0} (old new : S) (answer : Result (List ℕ) Fault) : Type 0 where
+  pub out_of_range : answer ≡ Err ClockOutOfRange
   pub same : new ≡ old
-  pub silent : written.no_change
 
 -- A look at a moment of the clock, or none where it shows none.
 pub data LooksByClock (clock : Clock) (Stopped : Type 0) (Looked : ℕ → Type 0) : Type 0 where
   at_moment : (moment : ℕ) → IsMomentOf clock (Some moment) → Looked moment → LooksByClock clock Stopped Looked
   at_none : IsMomentOf clock None → Stopped → LooksByClock clock Stopped Looked
 
--- An account is looked at, at a moment of the clock, and what the desk shows of it is written.
-abbrev pub IsAccountShown : {S : Type 0} → (S → Type 0) → (S → Club → List Club → Type 0) → List ℕ → Clock → Output → Result Unit Fault → S → S → Type 0
-IsAccountShown Clean Represents key clock written result old new =
-    LooksByClock clock (StopsLook old new written result)
-    (λ moment. Looks Clean Represents old new (ShowsAccount key moment) (PrintsSheet written result))
+-- An account is looked at, at a moment of the clock, and what the desk shows of it is the answer.
+abbrev pub IsAccountShown : {S : Type 0} → (S → Type 0) → (S → Club → List Club → Type 0) → List ℕ → Clock → Result (List ℕ) Fault → S → S → Type 0
+IsAccountShown Clean Represents key clock answer old new =
+    LooksByClock clock (StopsLook old new answer) (λ moment. Looks Clean Represents old new (ShowsAccount key moment) (Gives answer))

@@ -1,5 +1,6 @@
 -- What was written (ours).
-use Rattle.std.specs.Prelude.{◌≡◌, ℕ, List, Option, Result, Ok, Err}
+use Rattle.std.specs.Prelude.{◌≡◌, ℕ, List, Option, Result, Ok, Err, String}
+use Rattle.std.specs.String.{string_bytes}
 use Rattle.std.specs.Io.KnownBytes.{Appends}
 use Rattle.command_line.specs.Output.{AppendsFront}
 use Rattle.clubdesk_arguments.specs.declared.fault.Fault.{Fault}
@@ -30,3 +31,13 @@ abbrev pub WritesText : List ℕ → Output → Result Unit Fault → Type 0
 WritesText text written (Ok done) = Appends written.before written.after text
 WritesText text written (Err InputOutput) = AppendsFront written.before written.after text
 WritesText text written (Err fault) = ⊥
+
+-- the bytes of an answer's text
+abbrev pub text_of : {Z : Type 0} → Result (String Z) Fault → Result (List ℕ) Fault
+text_of (Ok text) = Ok (string_bytes text)
+text_of (Err fault) = Err fault
+
+-- the text of an answer was written; or it is a fault, which is the result, and nothing was written
+abbrev pub Prints : Result (List ℕ) Fault → Output → Result Unit Fault → Type 0
+Prints (Ok text) written result = WritesText text written result
+Prints (Err fault) written result = (result ≡ Err fault) × written.no_change

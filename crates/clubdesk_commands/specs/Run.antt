@@ -17,11 +17,11 @@ use Rattle.command_line.specs.Output.{AppendsFront}
 use Rattle.desk_server.specs.Databases.{Closing, Opening}
 use Rattle.clubdesk_commands.specs.AtNeed.{Access, AnswersAtNeed, GivesWay, LetsGo, access}
 use Rattle.clubdesk_arguments.specs.JobModel.{JobModel}
-use Rattle.clubdesk_commands.specs.Office.{IsOrdered, IsPassOrdered, IsSheetPrinted, PrintsReply, PrintsSheet, pass_text}
+use Rattle.clubdesk_commands.specs.Office.{Gives, IsAnswered, IsPassLine, IsSheetRead, pass_text}
 use Rattle.clubdesk_commands.specs.Input.{IsWholeInput, TakesRoot, asks_root, awaits_root}
 use Rattle.clubdesk_commands.specs.Looks.{IsAccountShown, IsMomentOf, Looks, ShowsSlot}
 use Rattle.clubdesk_arguments.specs.Fault.{fault_of_opening}
-use Rattle.clubdesk_commands.specs.Output.{Output, WritesText}
+use Rattle.clubdesk_commands.specs.Output.{Output, Prints, WritesText}
 use Rattle.clubdesk_arguments.specs.Words.{AsksText, IsFaultOf, asked_job}
 use Rattle.clubdesk_arguments.specs.declared.clock.Clock.{Clock}
 use Rattle.clubdesk_arguments.specs.declared.fault.Fault.{Fault}
@@ -102,21 +102,21 @@ Announces asked written (Err fault) = StopsBefore asked written fault
 
 -- ---- a task
 
--- What a task of the office writes, how it ends, and how it changes a store, by the store's trait.
-abbrev pub Does : {S : Type 0} → (S → Type 0) → (S → Club → List Club → Type 0) → Task → Output → Result Unit Fault → S → S → Type 0
-Does Clean Represents (Order given) written result old new = IsOrdered Represents (Clean new) old new given (PrintsReply (codes "done\n") written result)
-Does Clean Represents (AddKey name member root form) written result old new =
-    IsPassOrdered Represents (Clean new) old new (order.AddKey name member root) (pass_text name root form) written result
-Does Clean Represents (RotateKey name root until form) written result old new =
-    IsPassOrdered Represents (Clean new) old new (order.RotateKey name root until) (pass_text name root form) written result
-Does Clean Represents (Sheet day) written result old new =
-    (Clean new → KeepsClub Represents old new) × IsSheetPrinted Represents (Clean new) old day (PrintsSheet written result)
-Does Clean Represents (Serve service) written result old new = ⊥
-Does Clean Represents (Pause seconds) written result old new = ⊥
-Does Clean Represents (AddKeyByInput name member form) written result old new = ⊥
-Does Clean Represents (RotateKeyByInput name until form) written result old new = ⊥
-Does Clean Represents (ShowAccount key clock) written result old new = IsAccountShown Clean Represents key clock written result old new
-Does Clean Represents (ShowSlot slot) written result old new = Looks Clean Represents old new (ShowsSlot slot) (PrintsSheet written result)
+-- What a task of the office answers, and how it changes a store, by the store's trait.
+abbrev pub Does : {S : Type 0} → (S → Type 0) → (S → Club → List Club → Type 0) → Task → Result (List ℕ) Fault → S → S → Type 0
+Does Clean Represents (Order given) answer old new = IsAnswered Represents (Clean new) old new given (λ line. line ≡ codes "done\n") answer
+Does Clean Represents (AddKey name member root form) answer old new =
+    IsAnswered Represents (Clean new) old new (order.AddKey name member root) (IsPassLine (pass_text name root form)) answer
+Does Clean Represents (RotateKey name root until form) answer old new =
+    IsAnswered Represents (Clean new) old new (order.RotateKey name root until) (IsPassLine (pass_text name root form)) answer
+Does Clean Represents (Sheet day) answer old new =
+    (Clean new → KeepsClub Represents old new) × IsSheetRead Represents (Clean new) old day (Gives answer)
+Does Clean Represents (Serve service) answer old new = ⊥
+Does Clean Represents (Pause seconds) answer old new = ⊥
+Does Clean Represents (AddKeyByInput name member form) answer old new = ⊥
+Does Clean Represents (RotateKeyByInput name until form) answer old new = ⊥
+Does Clean Represents (ShowAccount key clock) answer old new = IsAccountShown Clean Represents key clock answer old new
+Does Clean Represents (ShowSlot slot) answer old new = Looks Clean Represents old new (ShowsSlot slot) (Gives answer)
 
 -- a task of the office
 abbrev pub IsOffice : Task → Type 0
@@ -141,15 +141,16 @@ module _ {Databases Store : Type 0} (Opens : Opening Databases Store) (Closes : 
     pub announces : Announces service.port written result
     pub ends : LetsGo Closes last (access new None)
 
-  -- A run with a task. It opened the database of the task's name; then it did the office's task and closed the database, or served over it,
-  -- or closed it for a pause and wrote `done`. Or the database couldn't be opened, or servers couldn't be kept away for a pause, or memory
+  -- A run with a task. It opened the database of the task's name; then it did the office's task, closed the database and wrote the
+  -- answer, or served over it, or closed it for a pause and wrote `done`. Or the database couldn't be opened, or servers couldn't be kept away for a pause, or memory
   -- ran out before. Only a server's log notes anything.
   pub data Performs (job : JobModel) (old new : Databases) (written : Output) (Noted : List Fate → Type 0) (result : Result Unit Fault) : Type 0 where
     out_of_memory : result ≡ Err Memory → new ≡ old → written.no_change → Noted [] → Performs job old new written Noted result
     not_opened : (fault : StoreFault) → Opens old job.file (Err fault) new → result ≡ Err (fault_of_opening fault) → written.no_change → Noted []
         → Performs job old new written Noted result
-    task_done : (store left : Store) (between : Databases) → Opens old job.file (Ok store) between
-        → Does Clean Represents job.task written result store left → Closes between left new → Noted [] → Performs job old new written Noted result
+    task_done : (answer : Result (List ℕ) Fault) (store left : Store) (between : Databases) → Opens old job.file (Ok store) between
+        → Does Clean Represents job.task answer store left → Closes between left new → Prints answer written result → Noted []
+        → Performs job old new written Noted result
     server_done : (service : Service) (store : Store) (between : Databases) → job.task ≡ Serve service → Opens old job.file (Ok store) between
         → ServesFile job.file service between store new written Noted result → Performs job old new written Noted result
     pause_done : (seconds : ℕ) (store : Store) (between : Databases) → job.task ≡ Pause seconds → Opens old job.file (Ok store) between

@@ -2,74 +2,65 @@
 
 ghost use Rattle.club_core.specs.Store.{KeepsClub};
 ghost use Rattle.clubdesk_commands.specs.Looks as spec;
-ghost use Rattle.clubdesk_commands.specs.Office.{PrintsSheet};
-ghost use Rattle.clubdesk_commands.specs.Output.{output};
+ghost use Rattle.clubdesk_commands.specs.Office.{Gives};
+ghost use Rattle.clubdesk_commands.specs.Output.{text_of};
 
-use crate::office::{fault_of_desk, written};
+use crate::office::fault_of_desk;
 use club_clock::{ClockIn, Moments};
 use club_core::ClubStore;
 use club_gate::Desk;
 use club_values::{Moment, Name, Slot};
 use clubdesk_arguments::{Clock, Fault};
-use std::io::Write;
 use std::time;
 
-/// Writes what the desk shows of the account of the key of this name, at the moment of the clock.
+/// What the desk shows of the account of the key of this name, at the moment of the clock.
 ///
 /// # Errors
 ///
-/// `ClockOutOfRange` where the clock shows no moment of the club's; `Refused` where there is no
-/// such key; `Memory` and `Storage` if the desk fails so: then nothing was written.
-/// `InputOutput` where the writer failed. The club is as it was.
-pub fn show_account<S: ClubStore, C: time::Clock, W: Write>(
+/// `ClockOutOfRange` if the clock shows no moment of the club's; `Refused` if there is no such key;
+/// `Memory` and `Storage` if the desk fails so. The club is unchanged.
+pub fn show_account<S: ClubStore, C: time::Clock>(
     machine: &C,
     desk: &mut Desk<S>,
     key: &Name,
     clock: Clock<'_>,
-    writer: &mut W,
-) -> Result<(), Fault>
+) -> Result<String, Fault>
     ensures { spec.IsAccountShown S.disk_is_clean S.represents key.now clock.entry
-        (output W.contents writer.old writer.new) result desk.old desk.new }
+        (text_of result) desk.old desk.new }
 {
     match moment_of(machine, clock) {
-        Some(moment) => show_account_at(desk, key, moment, writer),
+        Some(moment) => show_account_at(desk, key, moment),
         None => Err(Fault::ClockOutOfRange),
     }
 }
 
-/// Writes what the desk shows of a slot.
+/// What the desk shows of a slot.
 ///
 /// # Errors
 ///
-/// `Refused` where there is no such facility; `Memory` and `Storage` if the desk fails so: then
-/// nothing was written. `InputOutput` where the writer failed. The club is as it was.
-pub fn show_slot<S: ClubStore, W: Write>(
-    desk: &mut Desk<S>,
-    slot: &Slot,
-    writer: &mut W,
-) -> Result<(), Fault>
+/// `Refused` if there is no such facility; `Memory` and `Storage` if the desk fails so. The club is
+/// unchanged.
+pub fn show_slot<S: ClubStore>(desk: &mut Desk<S>, slot: &Slot) -> Result<String, Fault>
     ensures { spec.Looks S.disk_is_clean S.represents desk.old desk.new (spec.ShowsSlot slot.now)
-        (PrintsSheet (output W.contents writer.old writer.new) result) }
+        (Gives (text_of result)) }
 {
     match desk.show_slot(slot) {
-        Ok(text) => written(writer, text.as_str()),
+        Ok(text) => Ok(text),
         Err(fault) => Err(fault_of_desk(fault)),
     }
 }
 
-// Writes what the desk shows of an account at a moment.
-fn show_account_at<S: ClubStore, W: Write>(
+// What the desk shows of an account at a moment.
+fn show_account_at<S: ClubStore>(
     desk: &mut Desk<S>,
     key: &Name,
     moment: Moment,
-    writer: &mut W,
-) -> Result<(), Fault>
+) -> Result<String, Fault>
     ensures { spec.Looks S.disk_is_clean S.represents desk.old desk.new
-        (spec.ShowsAccount key.now moment)
-        (PrintsSheet (output W.contents writer.old writer.new) result) }
+        (spec.ShowsAccount key.now moment) (Gives (text_of result)) }
 {
     match desk.show_account(key, moment) {
-        Ok(text) => written(writer, text.as_str()),
+        Ok(text) => Ok(text),
         Err(fault) => Err(fault_of_desk(fault)),
     }
 }

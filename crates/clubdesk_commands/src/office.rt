@@ -4,7 +4,7 @@ ghost use Rattle.std.specs.Prelude.{◌≡◌, ◌++◌, ◌∷◌, [], IfSome, 
 ghost use Rattle.std.specs.String.{string_bytes};
 ghost use Rattle.club_core.specs.Store.{KeepsClub};
 ghost use Rattle.clubdesk_commands.specs.Office as spec;
-ghost use Rattle.clubdesk_commands.specs.Output.{WritesText, output};
+ghost use Rattle.clubdesk_commands.specs.Output.{WritesText, output, text_of};
 
 use club_core::{ClubStore, Command};
 use club_gate::{Desk, OfficeReply, key_signature, minted};
@@ -17,69 +17,73 @@ use pass_json::write_any;
 use std::alloc::Global;
 use std::io::Write;
 
-/// The output of an order that makes no pass, and of a pause.
+/// The answer to an order that makes no pass, and to a pause.
 pub(crate) const DONE: &str = "done\n";
 
-/// Gives an order to the desk, and writes `done`.
+/// Gives an order to the desk, and returns the line `done`.
 ///
 /// # Errors
 ///
-/// `Refused`, `Memory` and `Storage` if the desk returns them: then the club is unchanged, and
-/// nothing was written. `InputOutput` if the writer failed: then the order was carried out.
-pub fn give_order<S: ClubStore, W: Write>(
+/// `Refused`, `Memory` and `Storage` if the desk returns them: then the club is unchanged. `Memory`
+/// also if there was none for the line, and then no order was given.
+pub fn give_order<S: ClubStore>(
+    alloc: Global,
     desk: &mut Desk<S>,
     order: &Command,
-    writer: &mut W,
-) -> Result<(), Fault>
-    ensures { spec.IsOrdered S.represents (S.disk_is_clean desk.new) desk.old desk.new order.now
-        (spec.PrintsReply (codes "done\n") (output W.contents writer.old writer.new) result) }
+) -> Result<String, Fault>
+    ensures { spec.IsAnswered S.represents (S.disk_is_clean desk.new) desk.old desk.new order.now
+        (λ line. line ≡ codes "done\n") (text_of result) }
 {
-    carry_out(desk, order, DONE, writer)
+    match done_line(alloc) {
+        None => Err(Fault::Memory),
+        Some(line) => carry_out(desk, order, line),
+    }
 }
 
 /// Makes the text of a key's pass under a root, then gives the order that adds the key or changes
-/// its root, and then writes the text.
+/// its root, and returns the text.
 ///
 /// # Errors
 ///
 /// As for an order; `Memory` also if there was none for the text, and then no order was given.
-pub fn order_pass<S: ClubStore, W: Write>(
+pub fn order_pass<S: ClubStore>(
     alloc: Global,
     desk: &mut Desk<S>,
     name: &Name,
     root: &Root,
     form: Form,
     order: &Command,
-    writer: &mut W,
-) -> Result<(), Fault>
-    ensures { spec.IsPassOrdered S.represents (S.disk_is_clean desk.new) desk.old desk.new order.now
-        (spec.pass_text name.now root.now form) (output W.contents writer.old writer.new) result }
+) -> Result<String, Fault>
+    ensures { spec.IsAnswered S.represents (S.disk_is_clean desk.new) desk.old desk.new order.now
+        (spec.IsPassLine (spec.pass_text name.now root.now form)) (text_of result) }
 {
     match pass_line(alloc, name, root, form) {
         None => Err(Fault::Memory),
-        Some(text) => carry_out(desk, order, text.as_str(), writer),
+        Some(line) => carry_out(desk, order, line),
     }
 }
 
-/// Writes the sheet of a day.
+/// The sheet of a day.
 ///
 /// # Errors
 ///
-/// `Memory` and `Storage` if the desk returns them, and then nothing was written; `InputOutput` if
-/// the writer failed. The club is unchanged.
-pub fn show_sheet<S: ClubStore, W: Write>(
-    desk: &mut Desk<S>,
-    day: Day,
-    writer: &mut W,
-) -> Result<(), Fault>
+/// `Memory` and `Storage` if the desk returns them. The club is unchanged.
+pub fn show_sheet<S: ClubStore>(desk: &mut Desk<S>, day: Day) -> Result<String, Fault>
     ensures kept { S.disk_is_clean desk.new → KeepsClub S.represents desk.old desk.new }
-    ensures returned { spec.IsSheetPrinted S.represents (S.disk_is_clean desk.new) desk.old day
-        (spec.PrintsSheet (output W.contents writer.old writer.new) result) }
+    ensures returned { spec.IsSheetRead S.represents (S.disk_is_clean desk.new) desk.old day
+        (spec.Gives (text_of result)) }
 {
     match desk.sheet(day) {
-        Ok(text) => written(writer, text.as_str()),
+        Ok(text) => Ok(text),
         Err(fault) => Err(fault_of_desk(fault)),
     }
+}
+
+// The line `done`; `None` if memory ran out.
+fn done_line(alloc: Global) -> Option<String>
+    ensures { IfSome result (λ line. string_bytes line ≡ codes "done\n") }
+{
+    format!(in alloc; "done\n").ok()
 }
 
 // The line of a key's pass under a root; `None` if memory ran out. A pass this short has a text in
@@ -94,19 +98,18 @@ fn pass_line(alloc: Global, name: &Name, root: &Root, form: Form) -> Option<Stri
     Some(line)
 }
 
-// Gives an order to the desk, and writes a text if it is carried out.
-fn carry_out<S: ClubStore, W: Write>(
+// Gives an order to the desk, and returns a text if it is carried out.
+fn carry_out<S: ClubStore>(
     desk: &mut Desk<S>,
     order: &Command,
-    text: &str,
-    writer: &mut W,
-) -> Result<(), Fault>
+    text: String,
+) -> Result<String, Fault>
     ensures { spec.IsOrdered S.represents (S.disk_is_clean desk.new) desk.old desk.new order.now
-        (spec.PrintsReply text.now (output W.contents writer.old writer.new) result) }
+        (spec.GivesReply (string_bytes text) (text_of result)) }
 {
     match desk.office(order) {
         OfficeReply::Refused(fault) => Err(fault_of_desk(fault)),
-        OfficeReply::Done | OfficeReply::Key { .. } => written(writer, text),
+        OfficeReply::Done | OfficeReply::Key { .. } => Ok(text),
     }
 }
 

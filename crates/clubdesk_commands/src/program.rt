@@ -3,13 +3,13 @@
 ghost use Rattle.std.specs.Prelude.{◌≡◌, IfErr, false, [], map};
 ghost use Rattle.clubdesk_commands.specs.ByTraits.{PerformsOver, Runs, log_change};
 ghost use Rattle.clubdesk_commands.specs.Input.{awaits_root};
-ghost use Rattle.clubdesk_commands.specs.Output.{input, output};
+ghost use Rattle.clubdesk_commands.specs.Output.{Prints, input, output, text_of};
 ghost use Rattle.clubdesk_commands.specs.Run as spec;
 ghost use Rattle.clubdesk_arguments.specs.Words.{asked_job};
 
 use crate::input::with_root;
 use crate::looks::{show_account, show_slot};
-use crate::office::{give_order, order_pass, show_sheet};
+use crate::office::{give_order, order_pass, show_sheet, written};
 use crate::turns::{pause, serve_file};
 use club_core::{ClubStore, Command};
 use club_gate::Desk;
@@ -130,7 +130,8 @@ fn perform<C: Clock, D: Databases, W: Write, G: Log>(
     }
 }
 
-// Opens the database, does a task of the office at it, and closes it.
+// Opens the database, does a task of the office at it, and closes it. Only then it writes the
+// answer, so that a writer that waits doesn't keep the database.
 fn work<C: Clock, D: Databases, W: Write>(
     alloc: Global,
     machine: &C,
@@ -147,28 +148,37 @@ fn work<C: Clock, D: Databases, W: Write>(
     match databases.open(file) {
         Ok(store) => {
             let mut desk = Desk::new(alloc, store);
-            let outcome = carry_out(alloc, machine, &mut desk, task, writer);
+            let answer = carry_out(alloc, machine, &mut desk, task);
             databases.close(desk.into_store());
-            outcome
+            print(answer, writer)
         }
         Err(fault) => Err(Fault::from(fault)),
     }
 }
 
-// Does a task of the office at a desk.
-fn carry_out<C: Clock, S: ClubStore, W: Write>(
+// Writes the answer to a task.
+fn print<W: Write>(answer: Result<String, Fault>, writer: &mut W) -> Result<(), Fault>
+    ensures { Prints (text_of answer) (output W.contents writer.old writer.new) result }
+{
+    match answer {
+        Ok(text) => written(writer, text.as_str()),
+        Err(fault) => Err(fault),
+    }
+}
+
+// Does a task of the office at a desk, and returns the answer.
+fn carry_out<C: Clock, S: ClubStore>(
     alloc: Global,
     machine: &C,
     desk: &mut Desk<S>,
     task: Task<'_>,
-    writer: &mut W,
-) -> Result<(), Fault>
+) -> Result<String, Fault>
     requires { spec.IsOffice task }
-    ensures { spec.Does S.disk_is_clean S.represents task.entry
-        (output W.contents writer.old writer.new) result desk.old desk.new }
+    ensures { spec.Does S.disk_is_clean S.represents task.entry (text_of result)
+        desk.old desk.new }
 {
     match task {
-        Task::Order(order) => give_order(desk, &order, writer),
+        Task::Order(order) => give_order(alloc, desk, &order),
         Task::AddKey {
             name,
             member,
@@ -176,7 +186,7 @@ fn carry_out<C: Clock, S: ClubStore, W: Write>(
             form,
         } => {
             let order = Command::AddKey { name, member, root };
-            order_pass(alloc, desk, &name, &root, form, &order, writer)
+            order_pass(alloc, desk, &name, &root, form, &order)
         }
         Task::RotateKey {
             name,
@@ -185,11 +195,11 @@ fn carry_out<C: Clock, S: ClubStore, W: Write>(
             form,
         } => {
             let order = Command::RotateKey { name, root, until };
-            order_pass(alloc, desk, &name, &root, form, &order, writer)
+            order_pass(alloc, desk, &name, &root, form, &order)
         }
-        Task::Sheet(day) => show_sheet(desk, day, writer),
-        Task::ShowAccount { key, clock } => show_account(machine, desk, &key, clock, writer),
-        Task::ShowSlot(slot) => show_slot(desk, &slot, writer),
+        Task::Sheet(day) => show_sheet(desk, day),
+        Task::ShowAccount { key, clock } => show_account(machine, desk, &key, clock),
+        Task::ShowSlot(slot) => show_slot(desk, &slot),
         Task::Serve(_)
         | Task::Pause(_)
         | Task::AddKeyByInput { .. }

@@ -7,9 +7,11 @@ use crate::terminal::{Input, NO_INPUT};
 use club_core::{ClubStore, StoreFault};
 use club_http::WriteOutlet;
 use club_store::Store;
-use clubdesk_commands::run_with_clock;
-use desk_server::{Databases, LogLines};
+use clubdesk_commands::{run, run_with_clock};
+use desk_server::{Databases, LogLines, Unlogged};
 use std::alloc::AllocError;
+use std::cell::Cell;
+use std::io::{self, Write};
 use std::test::Fail;
 
 /// The name of the database.
@@ -22,18 +24,23 @@ struct InMemory<'a, S: ClubStore + Drop> {
     store: Option<S>,
     fault: Option<StoreFault>,
     opened: u64,
-    closed: u64,
+    closed: &'a Cell<u64>,
     others: Others<'a>,
 }
 
 impl<'a, S: ClubStore + Drop> InMemory<'a, S> {
-    // A database that nobody opened yet.
-    fn new(store: S, fault: Option<StoreFault>, script: OthersScript<'a>) -> InMemory<'a, S> {
+    // A database that nobody opened yet, and where its closings are counted.
+    fn new(
+        store: S,
+        fault: Option<StoreFault>,
+        script: OthersScript<'a>,
+        closed: &'a Cell<u64>,
+    ) -> InMemory<'a, S> {
         InMemory {
             store: Some(store),
             fault,
             opened: 0,
-            closed: 0,
+            closed,
             others: Others::new(script),
         }
     }
@@ -75,7 +82,7 @@ impl<S: ClubStore + Drop> Databases for InMemory<'_, S> {
     }
 
     fn close(&mut self, store: S) {
-        self.closed = self.closed.saturating_add(1);
+        self.closed.set(self.closed.get().saturating_add(1));
         self.store = Some(store);
     }
 
@@ -224,12 +231,13 @@ fn play_over<S: ClubStore + Drop>(
     scene: &Scene<'_>,
     line: &str,
 ) -> Result<SceneOutcome, Fail> {
-    let mut databases = InMemory::new(store, scene.fault, scene.script);
+    let closed = Cell::new(0);
+    let mut databases = InMemory::new(store, scene.fault, scene.script, &closed);
     let output = run_scene(rt, &mut databases, scene, line)?;
     Ok(SceneOutcome {
         output,
         opened: databases.opened,
-        closed: databases.closed,
+        closed: closed.get(),
         looks: databases.others.looks(),
         waited: databases.others.seconds_waited(),
     })
@@ -300,6 +308,73 @@ fn fails_to_open(rt: &HostRuntime, fault: StoreFault, row: &Row<'_>) -> Result<(
 fn openings_that_fail(rt: HostRuntime) -> Result<(), Fail> {
     for (fault, row) in &FAILING {
         fails_to_open(&rt, *fault, row)?;
+    }
+    Ok(())
+}
+
+/// A writer that looks how often a database was closed when it is written to first.
+#[derive(Drop)]
+struct Watching<'a> {
+    closed: &'a Cell<u64>,
+    found: Option<u64>,
+}
+
+impl Write for Watching<'_> {
+    fn write(&mut self, bytes: &[u8]) -> io::Result<usize> {
+        if self.found.is_none() {
+            self.found = Some(self.closed.get());
+        }
+        Ok(bytes.len())
+    }
+
+    fn flush(&mut self) -> io::Result<()> {
+        Ok(())
+    }
+}
+
+// How often the database was closed when a run on this line wrote first.
+fn watch_over<S: ClubStore + Drop>(
+    rt: &HostRuntime,
+    store: S,
+    line: &str,
+) -> Result<Option<u64>, Fail> {
+    let closed = Cell::new(0);
+    let mut databases = InMemory::new(store, None, NOBODY, &closed);
+    let mut writer = Watching {
+        closed: &closed,
+        found: None,
+    };
+    let words = words_of(rt, line)?;
+    let words = words.as_slice();
+    let mut input = NO_INPUT;
+    let outcome = run(
+        rt,
+        &mut databases,
+        words,
+        &mut input,
+        &mut writer,
+        &mut Unlogged,
+    );
+    if outcome.is_err() {
+        return Err("a run that failed".into());
+    }
+    Ok(writer.found)
+}
+
+/// An order, and a sheet.
+static ANSWERED: [&str; 2] = [
+    "clubdesk add-member club amy 5",
+    "clubdesk sheet club 2026-05-01",
+];
+
+// A pager that isn't read on, or a terminal that is stopped, doesn't keep the database.
+#[test]
+fn closed_before_the_answer_is_written(rt: HostRuntime) -> Result<(), Fail> {
+    for line in &ANSWERED {
+        let found = watch_over(&rt, Store::open_in_memory(rt.alloc())?, line)?;
+        if found != Some(1) {
+            return Err("written to while the database was open".into());
+        }
     }
     Ok(())
 }

@@ -6,4 +6,4 @@ pub returns-in-Some : goal.returns-in-Some
 returns-in-Some g c = spec.at_moment c.in-Some.moment c.in-Some.ensures c.show_account_at.ensures
 
 pub returns-in-None : goal.returns-in-None
-returns-in-None g c = spec.at_none c.in-None.ensures (record { out_of_range = refl; same = refl; silent = refl })
+returns-in-None g c = spec.at_none c.in-None.ensures (record { out_of_range = refl; same = refl })

@@ -7,7 +7,7 @@ returns-in-Ok g c = record {
   kept = c.in-Ok.ensures.kept;
   shown = Ok (string_bytes c.in-Ok.text);
   is = c.in-Ok.ensures.shown;
-  gives = rw c.as_str.ensures.value at c.written.ensures;
+  gives = refl;
 }
 
 pub returns-in-Err : goal.returns-in-Err
@@ -15,5 +15,5 @@ returns-in-Err g c = record {
   kept = c.in-Err.ensures.kept;
   shown = Err c.in-Err.fault;
   is = c.in-Err.ensures.shown;
-  gives = (ap Err c.fault_of_desk.ensures, refl);
+  gives = ap Err c.fault_of_desk.ensures;
 }

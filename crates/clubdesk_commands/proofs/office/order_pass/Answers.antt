@@ -3,4 +3,4 @@ use Rattle.clubdesk_commands.specs.Office as spec
 use Rattle.clubdesk_commands.proofs.office.order_pass.Goals as goal
 
 pub returns-in-Some : goal.returns-in-Some
-returns-in-Some g c = spec.order_given (string_bytes c.in-Some.text) c.in-Some.ensures (rw c.as_str.ensures.value at c.carry_out.ensures)
+returns-in-Some g c = spec.order_given (string_bytes c.in-Some.line) c.in-Some.ensures c.carry_out.ensures

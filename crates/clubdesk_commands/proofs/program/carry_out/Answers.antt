@@ -1,5 +1,8 @@
 use Rattle.clubdesk_commands.proofs.program.carry_out.Goals as goal
 
+pub returns-in-Order : goal.returns-in-Order
+returns-in-Order g c = rw c.in-Order.is c.give_order.ensures
+
 pub returns-in-AddKey : goal.returns-in-AddKey
 returns-in-AddKey g c = rw c.in-AddKey.is c.order_pass.ensures
 
