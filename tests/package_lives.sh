@@ -271,6 +271,40 @@ systemctl reset-failed
 rm -r /etc/clubdesk/broken.conf /etc/clubdesk/silent.conf /var/lib/clubdesk/broken /var/backups/clubdesk/broken /var/backups/clubdesk/silent
 LINES
 
+# ---- A clerk without root, by sudo: a club of hers, from its file to a correction, which ends the server, and systemd starts it again.
+if [ -e unpacked/usr/bin/office ]; then
+    gives 'the clerks' <<'LINES'
+visudo -c
+useradd -m -G office anna
+useradd -m carl
+printf 'FILE=/var/lib/clubdesk/tennis\nZONE=UTC0\nPORT=8083\n' >/etc/clubdesk/tennis.conf
+LINES
+    # office CLERK WORD..: as that clerk.
+    office() {
+        who=$1
+        shift
+        inside runuser -u "$who" -- sh -c 'cd ~'"$who"' && exec office tennis "$@"' sh "$@"
+    }
+    same 'a new club' 'done' "$(office anna new)"
+    holds "its desk's start" inside systemctl enable --now clubdesk@tennis
+    answers 8083
+    for words in 'add-member eve 5' 'credit eve 1000' 'add-facility court-1 court 4 10 0 24' 'add-key eve-1 eve --to eve-1'; do
+        # shellcheck disable=SC2086 # a command's words
+        holds "$words" office anna $words
+    done
+    before=$(inside systemctl show --value -p MainPID clubdesk@tennis)
+    holds 'a correction' office anna set-quota eve 7 --yes
+    answers 8083
+    [ "$(inside systemctl show --value -p MainPID clubdesk@tennis)" != "$before" ] || fail 'a correction beside a running desk'
+    same 'the account after it' '{"member":"eve","balance":1000,"quota":7,"open":0,"spent":0}' \
+        "$(inside sh -c 'curl -sS -H "Authorization: Bearer $(cat /home/anna/eve-1)" http://127.0.0.1:8083/account')"
+    office anna log >told
+    [ "$(grep -c anna told)" -ge 6 ] || fail "the book: $(cat told)"
+    if office carl credit eve 1000 >told 2>&1; then fail 'a credit by somebody who is no clerk'; fi
+    same 'what a clerk reads of the clubs' '' "$(inside runuser -u anna -- sh -c 'cat /var/lib/clubdesk/* /var/backups/clubdesk/* 2>/dev/null' || :)"
+    same 'what a clerk reads of the sheets' "$today" "$(inside runuser -u anna -- ls /var/spool/clubdesk/rowing)"
+fi
+
 # ---- Back-ups, while the desk runs; old ones go.
 gives 'old copies' <<'LINES'
 mkdir -p /var/backups/clubdesk/club
