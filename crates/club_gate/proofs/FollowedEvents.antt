@@ -101,7 +101,8 @@ rest_beside events front rest event responses before since response place among 
 -- the possible crash states after one event more that makes no change
 module _ (club : Club) (others : List Club) (last : Club) (events : List Event) (responses : List DeskResponse) (event : Event) (one : DeskResponse)
     (e : length responses ≡ length events) (none : MakesNoChange last (event ∷ []) (one ∷ [])) where
-  failed_before : (other : Event) → FailedLast last events responses other → FailedLast last (events ++ event ∷ []) (responses ++ one ∷ []) other
+  failed_before : (other : Event) → FailedLast club last events responses other
+      → FailedLast club last (events ++ event ∷ []) (responses ++ one ∷ []) other
   failed_before other f = record {
     front = f.front;
     rest = f.rest ++ event ∷ [];
@@ -111,6 +112,7 @@ module _ (club : Club) (others : List Club) (last : Club) (events : List Event) 
     place = ap (λ (es : List Event). es ++ event ∷ []) f.place ∙ append_assoc f.front (other ∷ f.rest) (event ∷ []);
     response_place = ap (λ (rs : List DeskResponse). rs ++ one ∷ []) f.response_place ∙ append_assoc f.before (f.response ∷ f.since) (one ∷ []);
     beside = f.beside;
+    ran = f.ran;
     failure = f.failure;
     no_change =
         no_change_more last f.rest f.since event one
@@ -163,7 +165,7 @@ module _ {S : Type 0} (Represents : S → Club → List Club → Type 0) where
       let Left : Club → Type 0 = MayBeLeft club others f.last all returned in
       let ran = ran_more club f.last f.last events responses event one f.ran (inr (record { failure = r.failure; kept = refl })) in
       let each = all_with_more club others f.last events responses event one e (none_by_failure f.last event one r.failure) f.left f.each in
-      let failed : FailedLast f.last all returned event = record {
+      let failed : FailedLast club f.last all returned event = record {
         front = events;
         rest = [];
         before = responses;
@@ -172,6 +174,7 @@ module _ {S : Type 0} (Represents : S → Club → List Club → Type 0) where
         place = refl;
         response_place = refl;
         beside = e;
+        ran = f.ran;
         failure = r.failure;
         no_change = All-nil (Keeps f.last);
       } in

@@ -49,12 +49,12 @@ club_left club events responses = club_after club (events_answered events respon
 abbrev pub IsAnsweredRun : Club → List machine.Event → List DeskResponse → Type 0
 IsAnsweredRun club events responses = IsRun desk_presentation club events responses (club_left club events responses)
 
--- none of these events changed the club
+-- none of these events changes the club
 abbrev pub MakesNoChange : Club → List machine.Event → List DeskResponse → Type 0
 MakesNoChange club events responses = All (λ event. change_of club event ≡ None) (events_answered events responses)
 
--- The event failed, and no event after it changed the last club.
-pub record FailedLast (last : Club) (events : List machine.Event) (responses : List DeskResponse) (event : machine.Event) : Type 0 where
+-- The event failed after the last change: the events before it leave the last club, and no event after it changes that.
+pub record FailedLast (club last : Club) (events : List machine.Event) (responses : List DeskResponse) (event : machine.Event) : Type 0 where
   pub front : List machine.Event
   pub rest : List machine.Event
   pub before : List DeskResponse
@@ -63,6 +63,7 @@ pub record FailedLast (last : Club) (events : List machine.Event) (responses : L
   pub place : events ≡ front ++ event ∷ rest
   pub response_place : responses ≡ before ++ response ∷ since
   pub beside : length before ≡ length front
+  pub ran : IsRun desk_presentation club front before last
   pub failure : IsTrue (has_failed desk_presentation event response)
   pub no_change : MakesNoChange last rest since
 
@@ -71,12 +72,14 @@ abbrev pub WasLeftBefore : Club → List Club → Club → List machine.Event �
 WasLeftBefore club others last events responses left = (last ≡ club) × MakesNoChange last events responses × Contains others left
 
 -- the last club after one event that failed since the last change
-abbrev pub IsLeftByFailure : Club → List machine.Event → List DeskResponse → Club → Type 0
-IsLeftByFailure last events responses left = (event : machine.Event) × FailedLast last events responses event × (left ≡ (step last event).club)
+abbrev pub IsLeftByFailure : Club → Club → List machine.Event → List DeskResponse → Club → Type 0
+IsLeftByFailure club last events responses left =
+    (event : machine.Event) × FailedLast club last events responses event × (left ≡ (step last event).club)
 
 -- another possible crash state after a run that began with a club and its possible crash states, and that leaves the last club
 abbrev pub MayBeLeft : Club → List Club → Club → List machine.Event → List DeskResponse → Club → Type 0
-MayBeLeft club others last events responses left = WasLeftBefore club others last events responses left ⊎ IsLeftByFailure last events responses left
+MayBeLeft club others last events responses left =
+    WasLeftBefore club others last events responses left ⊎ IsLeftByFailure club last events responses left
 
 -- this club, or another one after one event
 abbrev pub IsWithinOneEvent : Club → Club → Type 0
