@@ -1,18 +1,25 @@
 //! Reading the input.
 
-ghost use Rattle.std.specs.Prelude.{◌≡◌, ◌+◌, ◌<◌, ◌≤◌, take, drop, length, IfOk, OnErr};
+ghost use Rattle.std.specs.Prelude.{◌≡◌, ◌≢◌, ◌+◌, ◌<◌, ◌≤◌, take, drop, length, IfErr, IfOk, OnErr};
 ghost use Rattle.std.specs.Io.KnownBytes.{Consumes, IsAtEnd, Keeps};
 ghost use Rattle.std.specs.Io.BufRead.{strip_last};
+ghost use Rattle.std.specs.IoError.{error_kind};
 ghost use Rattle.command_line.specs.Input.{ReadsAtMost};
 
+use crate::signal::is_interrupted;
 use std::io::{self, ErrorKind, Read};
 
 /// Reads to the end of the input, or until the buffer is full, and returns the number of bytes
 /// read. A read that a signal interrupts is tried again.
+///
+/// # Errors
+///
+/// The reader's error, but never that a signal interrupted it.
 pub fn fill<R: Read>(reader: &mut R, buffer: &mut [u8]) -> io::Result<usize>
-    ensures { IfOk result (λ count. (count ≤ length buffer.new)
+    ensures bytes { IfOk result (λ count. (count ≤ length buffer.new)
         × ReadsAtMost (length buffer.new) (R.remaining reader.old) (R.remaining reader.new)
         (take count buffer.new)) }
+    ensures retried { IfErr result (λ error. error_kind error ≢ ErrorKind.Interrupted) }
 {
     let mut filled = 0;
     'filling: for _ in 0..u64::MAX {
@@ -23,7 +30,7 @@ pub fn fill<R: Read>(reader: &mut R, buffer: &mut [u8]) -> io::Result<usize>
             Ok(0) => return Ok(filled),
             Ok(count) => filled += count,
             Err(error) => {
-                if error.kind() != ErrorKind::Interrupted {
+                if !is_interrupted(&error) {
                     return Err(error);
                 }
             }

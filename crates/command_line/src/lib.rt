@@ -10,6 +10,7 @@ mod options;
 mod output;
 mod process;
 mod root;
+mod signal;
 mod tree;
 mod words;
 
@@ -17,7 +18,7 @@ pub use errors::{WordsFault, form_fault, text_fault, words_fault};
 pub use form_names::{form_name, form_named};
 pub use input::{fill, without_line_feed};
 pub use options::{is_set, make_flag, make_form, make_form_or_v2, make_option, value_of};
-pub use output::write_text;
+pub use output::{flush, write_text};
 pub use process::report;
 pub use root::Root;
 pub use tree::{make_program, new_command, with_argument, with_command};

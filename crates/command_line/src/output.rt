@@ -1,23 +1,46 @@
 //! Writing a text.
 
-ghost use Rattle.std.specs.Prelude.{◌+◌, ◌≤◌, IfOk, OnErr, OnOk, drop, length, take};
+ghost use Rattle.std.specs.Prelude.{◌≢◌, ◌+◌, ◌≤◌, IfErr, IfOk, OnErr, OnOk, drop, length, take};
 ghost use Rattle.std.specs.Io.KnownBytes.{Appends, Keeps};
+ghost use Rattle.std.specs.IoError.{error_kind};
 ghost use Rattle.command_line.specs.Output.{AppendsFront};
 
+use crate::signal::is_interrupted;
 use std::io::{self, ErrorKind, Write};
 
-/// Writes a text and flushes the writer. A write that a signal interrupts is tried again.
+/// Writes a text and flushes the writer. A write or a flush that a signal interrupts is tried
+/// again.
 ///
 /// # Errors
 ///
-/// The writer's error. A beginning of the text, or all of it, may have been written by then.
+/// The writer's error, but never that a signal interrupted it. A beginning of the text, or all of
+/// it, may have been written by then.
 pub fn write_text<W: Write>(writer: &mut W, text: &str) -> io::Result<()>
     ensures ok { OnOk result (Appends (W.contents writer.old) (W.contents writer.new) text.now) }
     ensures err { OnErr result
         (AppendsFront (W.contents writer.old) (W.contents writer.new) text.now) }
+    ensures retried { IfErr result (λ error. error_kind error ≢ ErrorKind.Interrupted) }
 {
     write_bytes(writer, text.as_bytes())?;
-    writer.flush()
+    flush(writer)
+}
+
+/// Flushes the writer. A flush that a signal interrupts is tried again.
+///
+/// # Errors
+///
+/// The writer's error, but never that a signal interrupted it.
+pub fn flush<W: Write>(writer: &mut W) -> io::Result<()>
+    ensures bytes { Keeps (W.contents writer.old) (W.contents writer.new) }
+    ensures retried { IfErr result (λ error. error_kind error ≢ ErrorKind.Interrupted) }
+{
+    'flushing: for _ in 0..u64::MAX {
+        match writer.flush() {
+            Err(error) if is_interrupted(&error) => {}
+            flushed => return flushed,
+        }
+    }
+    Err(io::Error::from(ErrorKind::TimedOut))
 }
 
 // Writes until all bytes are taken. Unlike `write_all`, its contract states what an error leaves.
@@ -25,6 +48,7 @@ fn write_bytes<W: Write>(writer: &mut W, bytes: &[u8]) -> io::Result<()>
     ensures ok { OnOk result (Appends (W.contents writer.old) (W.contents writer.new) bytes.now) }
     ensures err { OnErr result
         (AppendsFront (W.contents writer.old) (W.contents writer.new) bytes.now) }
+    ensures retried { IfErr result (λ error. error_kind error ≢ ErrorKind.Interrupted) }
 {
     let mut written = 0;
     'writing: for _ in 0..u64::MAX {
@@ -35,7 +59,7 @@ fn write_bytes<W: Write>(writer: &mut W, bytes: &[u8]) -> io::Result<()>
             Ok(0) => return Err(io::Error::from(ErrorKind::WriteZero)),
             Ok(count) => written += count,
             Err(error) => {
-                if error.kind() != ErrorKind::Interrupted {
+                if !is_interrupted(&error) {
                     return Err(error);
                 }
             }

@@ -7,6 +7,7 @@ ghost use Rattle.passtool_commands.specs.declared.command.Command.{Command as Co
 
 use crate::answer::{Fault, Outcome};
 use crate::command::{Command, Request};
+use command_line::flush;
 use std::alloc::Global;
 use std::convert::AsStr;
 use std::io::{Read, Write};
@@ -57,6 +58,6 @@ fn show<W: Write>(text: &clap::Error, writer: &mut W) -> Result<Outcome, Fault>
         (λ fault. fault ≡ Fault.InputOutput) }
 {
     write!(writer, "{text}")?;
-    writer.flush()?;
+    flush(writer)?;
     Ok(Outcome::Done)
 }

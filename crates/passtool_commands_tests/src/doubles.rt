@@ -1,16 +1,33 @@
 //! Readers that give pieces or fail, and writers that take pieces or fail.
 
+use std::alloc::Global;
 use std::io::{self, ErrorKind, Read, Write};
 
-// Gives one byte a read, and then the end of the input or a failure.
+// Gives one byte a read, and then the end of the input or a failure. A signal interrupts the first
+// read and every other one.
 #[derive(Drop)]
 pub(crate) struct Pieces<'a> {
-    pub(crate) left: &'a [u8],
-    pub(crate) fails: bool,
+    left: &'a [u8],
+    fails: bool,
+    interrupted: bool,
+}
+
+impl<'a> Pieces<'a> {
+    pub(crate) fn new(left: &'a [u8], fails: bool) -> Pieces<'a> {
+        Pieces {
+            left,
+            fails,
+            interrupted: false,
+        }
+    }
 }
 
 impl Read for Pieces<'_> {
     fn read(&mut self, buf: &mut [u8]) -> io::Result<usize> {
+        self.interrupted = !self.interrupted;
+        if self.interrupted {
+            return Err(io::Error::from(ErrorKind::Interrupted));
+        }
         match self.left.split_first() {
             Some((byte, rest)) if !buf.is_empty() => {
                 buf[0] = *byte;
@@ -25,22 +42,36 @@ impl Read for Pieces<'_> {
 
 // Fails at its first read.
 pub(crate) fn no_input() -> Pieces<'static> {
-    Pieces {
-        left: b"",
-        fails: true,
-    }
+    Pieces::new(b"", true)
 }
 
-// Takes one byte a write and fails once it is full; flushing succeeds or fails.
+// Takes one byte a write and fails once it is full; flushing succeeds or fails. A signal interrupts
+// the first write or flush and every other one.
 #[derive(Drop)]
 pub(crate) struct Narrow {
     pub(crate) taken: Vec<u8>,
-    pub(crate) room: usize,
-    pub(crate) flushes: bool,
+    room: usize,
+    flushes: bool,
+    interrupted: bool,
+}
+
+impl Narrow {
+    pub(crate) fn new(alloc: Global, room: usize, flushes: bool) -> Narrow {
+        Narrow {
+            taken: Vec::new(alloc),
+            room,
+            flushes,
+            interrupted: false,
+        }
+    }
 }
 
 impl Write for Narrow {
     fn write(&mut self, buf: &[u8]) -> io::Result<usize> {
+        self.interrupted = !self.interrupted;
+        if self.interrupted {
+            return Err(io::Error::from(ErrorKind::Interrupted));
+        }
         match buf.first() {
             None => Ok(0),
             Some(_) if self.taken.len() >= self.room => {
@@ -54,6 +85,10 @@ impl Write for Narrow {
     }
 
     fn flush(&mut self) -> io::Result<()> {
+        self.interrupted = !self.interrupted;
+        if self.interrupted {
+            return Err(io::Error::from(ErrorKind::Interrupted));
+        }
         if self.flushes {
             Ok(())
         } else {

@@ -1,4 +1,4 @@
-//! Readers that give pieces or fail, and writers that fail.
+//! Readers that give pieces, are interrupted or fail, and writers that are interrupted or fail.
 
 use crate::doubles::{Narrow, Pieces};
 use crate::expect::{expect_end, expect_eq};
@@ -21,7 +21,7 @@ fn expect_of_pieces(
     fails: bool,
     end: &End,
 ) {
-    let mut reader = Pieces { left, fails };
+    let mut reader = Pieces::new(left, fails);
     expect_end(rt, &output_of(rt, words, &mut reader), end, words);
 }
 
@@ -63,11 +63,7 @@ fn expect_taken(
     flushes: bool,
     end: &End,
 ) {
-    let mut writer = Narrow {
-        taken: Vec::new(rt.alloc()),
-        room: front.len(),
-        flushes,
-    };
+    let mut writer = Narrow::new(rt.alloc(), front.len(), flushes);
     let output = ended_by(rt, run.words, &mut run.input.as_bytes(), &mut writer);
     expect_end(rt, &output, end, run.words);
     expect_eq(rt, &writer.taken.as_slice(), &front);
@@ -90,7 +86,12 @@ fn expect_text_and_fronts(rt: &(impl Abort + AllocGlobal), run: &Run) {
     expect_taken(rt, run, line.as_bytes(), false, &FAILED);
 }
 
-static WRITERS: [Run; 5] = [
+static WRITERS: [Run; 6] = [
+    Run {
+        words: &["passtool", "--version"],
+        input: "",
+        text: "passtool 0.1.0",
+    },
     Run {
         words: VERIFY,
         input: TEXT,

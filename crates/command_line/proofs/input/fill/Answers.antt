@@ -3,7 +3,7 @@ use Rattle.std.proofs.KnownBytes.{Consumes-kept}
 use Rattle.std.specs.Io.KnownBytes.{Consumes}
 use Rattle.command_line.proofs.InputLemmas.{filled_by}
 use Rattle.command_line.proofs.input.fill.Goals as goal
-use Rattle.command_line.proofs.input.fill.Goals.{in-Ok, in-Err+else-ne}
+use Rattle.command_line.proofs.input.fill.Goals.{in-Ok, in-Err+else-not-is_interrupted}
 
 pub filling-preserved : goal.filling-preserved
 filling-preserved g c =
@@ -13,5 +13,5 @@ filling-preserved g c =
     elim c.match-read_after.branch [
       | in-Ok w ↦ rw w.filled-is
           (w.in-Ok.ensures.fits, filled_by _ _ _ c.filling.buffer buffer c.filling.filled w.in-Ok.count front before w.in-Ok.ensures.bytes)
-      | in-Err+else-ne w ↦ rw w.filled-is (omega arith, subst (Consumes _ _) (sym front) (Consumes-kept _ _ _ _ before w.in-Err.ensures.err))
+      | in-Err+else-not-is_interrupted w ↦ rw w.filled-is (omega arith, subst (Consumes _ _) (sym front) (Consumes-kept _ _ _ _ before w.in-Err.ensures.err))
     ]
