@@ -5,7 +5,6 @@
 ghost use Rattle.std.specs.Prelude.{IfErr};
 ghost use Rattle.passtool_commands.specs.Fault.{IsNotText};
 
-use command_line::report;
 pub use passtool_commands::run;
 use passtool_commands::{Fault, Outcome, not_text};
 use std::alloc::AllocError;
@@ -16,7 +15,7 @@ fn main(rt: HostRuntime) -> ExitCode {
     let status = match run_here(&rt) {
         Ok(outcome) => outcome.status(),
         Err(fault) => {
-            report(&rt, &fault, matches!(&fault, Fault::Words(_)));
+            fault.report(&rt);
             fault.status()
         }
     };

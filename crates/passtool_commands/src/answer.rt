@@ -4,7 +4,7 @@ ghost use Rattle.std.specs.Prelude.{◌≡◌};
 ghost use Rattle.std.specs.String.{string_bytes};
 ghost use Rattle.passtool_commands.specs.Fault.{form_number};
 
-use command_line::WordsFault;
+use command_line::{WordsFault, report};
 use pass_forms::FormFault;
 use std::alloc::AllocError;
 use std::marker::Model;
@@ -104,6 +104,11 @@ impl Fault {
             Fault::BadRoot => 6,
             Fault::InputOutput => 7,
         }
+    }
+
+    /// Prints the line of the fault on standard error.
+    pub fn report(&self, rt: &impl Eprint) {
+        report(rt, self, matches!(self, Fault::Words(_)));
     }
 }
 

@@ -14,6 +14,8 @@ mod forms;
 #[cfg(test)]
 mod limits;
 #[cfg(test)]
+mod reports;
+#[cfg(test)]
 mod runs;
 #[cfg(test)]
 mod showing;
