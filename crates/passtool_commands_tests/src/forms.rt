@@ -210,6 +210,93 @@ fn mints_in_each_form(rt: HostRuntime) {
     expect_all_unread(&rt, &OTHERS_MINTED);
 }
 
+// The passes of keys with names of 1 and of 24 letters: the identifier, the form and the text.
+static NAMED: [(&str, &str, End); 6] = [
+    (
+        "key:a",
+        "v1",
+        Writes(
+            "MDAxN2xvY2F0aW9uIGNsdWItZGVzawowMDE1aWRlbnRpZmllciBrZXk6YQowMDJmc2lnbmF0dXJlINUNOO5RwGYyFrLLxURCWimOR2Ke7JygR9qsvDKEn0veCg",
+        ),
+    ),
+    (
+        "key:a",
+        "v2",
+        Writes("AgEJY2x1Yi1kZXNrAgVrZXk6YQAABiDVDTjuUcBmMhayy8VEQlopjkdinuycoEfarLwyhJ9L3g"),
+    ),
+    (
+        "key:a",
+        "json",
+        Writes(
+            "{\"c\":[],\"i\":\"key:a\",\"l\":\"club-desk\",\"s64\":\"1Q047lHAZjIWssvFREJaKY5HYp7snKBH2qy8MoSfS94\",\"v\":2}",
+        ),
+    ),
+    (
+        "key:abcdefghijklmnopqrstuvwx",
+        "v1",
+        Writes(
+            "MDAxN2xvY2F0aW9uIGNsdWItZGVzawowMDJjaWRlbnRpZmllciBrZXk6YWJjZGVmZ2hpamtsbW5vcHFyc3R1dnd4CjAwMmZzaWduYXR1cmUgE2VHhUaPyb3pmYgFRMdlNdU60H1ry2MS_d9DlLiV8XEK",
+        ),
+    ),
+    ("key:abcdefghijklmnopqrstuvwx", "v2", Writes(LONG_NAMED)),
+    (
+        "key:abcdefghijklmnopqrstuvwx",
+        "json",
+        Writes(
+            "{\"c\":[],\"i\":\"key:abcdefghijklmnopqrstuvwx\",\"l\":\"club-desk\",\"s64\":\"E2VHhUaPyb3pmYgFRMdlNdU60H1ry2MS_d9DlLiV8XE\",\"v\":2}",
+        ),
+    ),
+];
+
+const LONG_NAMED: &str =
+    "AgEJY2x1Yi1kZXNrAhxrZXk6YWJjZGVmZ2hpamtsbW5vcHFyc3R1dnd4AAAGIBNlR4VGj8m96ZmIBUTHZTXVOtB9a8tjEv3fQ5S4lfFx";
+
+fn expect_named(rt: &(impl Abort + AllocGlobal), id: &str, form: &str, end: &End) {
+    let root = "00112233445566778899aabbccddeeff";
+    let words = [
+        "passtool",
+        "mint",
+        "--root",
+        root,
+        "--id",
+        id,
+        "--location",
+        "club-desk",
+        "--form",
+        form,
+    ];
+    expect_unread(rt, &words, end);
+}
+
+static OF_A_LONG_NAME: [Row; 3] = [
+    Row(TO_V2, LONG_NAMED, Writes(LONG_NAMED)),
+    Row(
+        SHOW,
+        LONG_NAMED,
+        Writes(
+            "form v2\nlocation club-desk\nidentifier key:abcdefghijklmnopqrstuvwx\nsignature 13654785468fc9bde999880544c76535d53ad07d6bcb6312fddf4394b895f171",
+        ),
+    ),
+    Row(
+        &[
+            "passtool",
+            "verify",
+            "--root",
+            "00112233445566778899aabbccddeeff",
+        ],
+        LONG_NAMED,
+        Writes("signed"),
+    ),
+];
+
+#[test]
+fn prints_passes_of_short_and_long_names(rt: HostRuntime) {
+    for (id, form, end) in &NAMED {
+        expect_named(&rt, id, form, end);
+    }
+    expect_rows(&rt, &OF_A_LONG_NAME);
+}
+
 static NOT_UNDERSTOOD: [(Words, End); 3] = [
     (
         &["passtool", "narrow", "test = caveat"],

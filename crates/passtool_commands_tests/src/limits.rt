@@ -8,7 +8,7 @@ use crate::runs::{
 use base64::engine::general_purpose::URL_SAFE_NO_PAD;
 use std::process::Abort;
 use test_kit::End;
-use test_kit::End::{Begins, Prints};
+use test_kit::End::{Begins, Prints, Writes};
 
 // Puts bytes behind others, so often.
 fn append(rt: &impl Abort, bytes: &mut Vec<u8>, more: &[u8], count: usize) {
@@ -156,10 +156,7 @@ fn adds_no_sixty_fifth_caveat(rt: HostRuntime) {
 
 // The length of an identifier, that of what is told, and how the run ends. With the other parts of
 // the pass 6,104 bytes make 6,144 in V2, and 8,192 characters.
-static IDENTIFIERS: [(usize, usize, End); 2] = [
-    (6104, 8193, Begins(0, "")),
-    (6105, 17, Prints(3, "fault 1: too long")),
-];
+static IDENTIFIERS: [(usize, usize, End); 2] = [(6104, 8193, Begins(0, "")), (6105, 17, TOO_LONG)];
 
 fn expect_minted(rt: &(impl Abort + AllocGlobal), len: usize, text_len: usize, end: &End) {
     let letters = vec![in rt.alloc(); b'k'; len].expect(rt, "memory");
@@ -174,5 +171,43 @@ fn expect_minted(rt: &(impl Abort + AllocGlobal), len: usize, text_len: usize, e
 fn writes_no_text_above_the_limit(rt: HostRuntime) {
     for (len, text_len, end) in &IDENTIFIERS {
         expect_minted(&rt, *len, *text_len, end);
+    }
+}
+
+const TOO_LONG: End = Prints(3, "fault 1: too long");
+
+// What follows the 8,192 characters of a pass, of which one line feed is taken off, and how
+// `verify` ends.
+static BEHIND: [(&str, End); 6] = [
+    ("", Writes("signed")),
+    ("\n", Writes("signed")),
+    ("\nx", TOO_LONG),
+    ("\n\n", TOO_LONG),
+    ("\nxx", TOO_LONG),
+    ("x", TOO_LONG),
+];
+
+// A pass of 8,192 characters and a line feed, signed under a root of one zero byte.
+fn longest_line(rt: &(impl Abort + AllocGlobal)) -> String {
+    let letters = vec![in rt.alloc(); b'k'; 6104].expect(rt, "memory");
+    let identifier = str::from_utf8(&letters).ok().expect(rt, "text");
+    let words = ["passtool", "mint", "--root", "00", "--id", identifier];
+    output_of(rt, &words, &mut no_input()).text
+}
+
+fn expect_behind(rt: &(impl Abort + AllocGlobal), text: &str, behind: &str, end: &End) {
+    let input = format!(in rt.alloc(); "{text}{behind}").expect(rt, "memory");
+    let words = ["passtool", "verify", "--root", "00"];
+    let mut reader = input.as_bytes();
+    expect_end(rt, &output_of(rt, &words, &mut reader), end, &[behind]);
+}
+
+#[test]
+fn reads_a_byte_behind_the_longest_line(rt: HostRuntime) {
+    let line = longest_line(&rt);
+    let text = line.strip_suffix('\n').expect(&rt, "a line");
+    expect_eq(&rt, &text.len(), &8192);
+    for (behind, end) in &BEHIND {
+        expect_behind(&rt, text, behind, end);
     }
 }
