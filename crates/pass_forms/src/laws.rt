@@ -81,8 +81,8 @@ pub fn reads_texts_exactly()
     ensures { ReadsTextsExactly }
 {}
 
-/// The relation allows exactly one result of writing a pass in V1 and in V2: the computed one, a text
-/// or a fault.
+/// The relation allows exactly one result of writing a pass in V1 and in V2: the computed one, a
+/// text or a fault.
 pub fn writes_exactly()
     ensures { WritesExactly }
 {}
