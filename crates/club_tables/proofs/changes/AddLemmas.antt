@@ -149,6 +149,7 @@ booking_put old new rows holds_rows booking count ran =
     )) (λ row.
     refl) count ran in (
       on_bookings old.now new.now rows holds_rows put.0 put.3 put.2 (rows.bookings ++ booking ∷ [])
-          (subst (λ rs. Holds booking_values rs (rows.bookings ++ booking ∷ [])) (sym put.1) (holds_more booking_values _ rows.bookings booking holds_rows.bookings)),
+          (subst (λ rs. Holds booking_values rs (rows.bookings ++ booking ∷ [])) (sym put.1)
+          (holds_more booking_values _ rows.bookings booking holds_rows.bookings)),
       put.4,
     )

@@ -39,7 +39,8 @@ use Rattle.club_tables.specs.Tables.{HoldsRows, Holds, members_tree, keys_tree}
 use Rattle.club_tables.proofs.statements.InsertLemmas.{cast_int}
 use Rattle.club_tables.proofs.queries.KeyLemmas.{and_true, one_named}
 use Rattle.club_tables.proofs.statements.HoldsRowsLemmas.{on_members}
-use Rattle.club_tables.proofs.statements.CountedLemmas.{is_counted, some_counted, counted_some, passes, shown, count_in, with_count, answered_counted, counts_elements}
+use Rattle.club_tables.proofs.statements.CountedLemmas.{is_counted, some_counted, counted_some, passes, shown, count_in, with_count, answered_counted}
+use Rattle.club_tables.proofs.statements.CountedLemmas.{counts_elements}
 use Rattle.club_tables.proofs.statements.PassLemmas.{contains_counts, found_counts, rows_found, updated_rows}
 use Rattle.club_tables.proofs.statements.PassLemmas.{each_row, find_some, some_found, updated_found, agree, found_by_both, zip_agree}
 use Rattle.club_tables.proofs.statements.SelectLemmas.{text_equal}

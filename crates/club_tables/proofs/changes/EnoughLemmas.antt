@@ -167,7 +167,8 @@ module _ {S : Type 0} (g : Ghosts S) (old new : Held S) (fault : StoreFault) (cl
       (λ m1 opened n1 ran1 some1.
       let tables = tables_if opened in
       let first = (booking_first g old club tables booking member fits m1 n1 ran1).0 in
-      less_in_turn g _ taken m1 new fault (λ m2 still n2 ran2. owned_some tables m1 m2 _ first refl refl member booking.key (pos (cost_of booking)) n2 fits.carries
+      less_in_turn g _ taken m1 new fault
+      (λ m2 still n2 ran2. owned_some tables m1 m2 _ first refl refl member booking.key (pos (cost_of booking)) n2 fits.carries
       ran2) (λ m2 still n2 ran2 some2.
       let second = booking_second g old club tables booking member fits m1 m2 n2 first ran2 some2 in
       one_less g _ m2 new fault (λ m3 yet n3 ran3. (booking_third g old club tables booking member fits m2 m3 n3 second ran3).1)))
@@ -185,7 +186,8 @@ module _ {S : Type 0} (g : Ghosts S) (old new : Held S) (fault : StoreFault) (cl
       (λ m1 opened n1 ran1 some1.
       let tables = tables_if opened in
       let first = cancel_first g old club tables booking member refund fits m1 n1 ran1 some1 (unique tables) in
-      less_in_turn g _ taken m1 new fault (λ m2 still n2 ran2. owned_some tables m1 m2 _ first refl refl member booking.key (neg_ℤ (pos refund)) n2 fits.carries.1
+      less_in_turn g _ taken m1 new fault
+      (λ m2 still n2 ran2. owned_some tables m1 m2 _ first refl refl member booking.key (neg_ℤ (pos refund)) n2 fits.carries.1
       ran2) (λ m2 still n2 ran2 some2.
       let second = cancel_second g old club tables booking member refund fits m1 m2 n2 first ran2 some2 in
       one_less g _ m2 new fault (λ m3 yet n3 ran3. (cancel_third g old club tables booking member refund fits m2 m3 n3 second ran3).1)))

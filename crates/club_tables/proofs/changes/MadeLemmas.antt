@@ -94,7 +94,8 @@ module _ {S : Type 0} (g : Ghosts S) (old : Held S) (db : Database) (club : Club
       let t = one_turn g old db _ ran in
       held_by g old db _ t.mid t.left (record {
         rows = _;
-        holds_rows = key_revoked (state g (transaction_start old)) (state g t.mid) tables.rows tables.holds_rows (keys_once g old db club tables) name t.count t.ran;
+        holds_rows = key_revoked (state g (transaction_start old)) (state g t.mid) tables.rows tables.holds_rows (keys_once g old db club tables) name
+            t.count t.ran;
         storage = revoke_stored club tables.rows tables.storage name;
         sound = fits.sound;
       })

@@ -1,5 +1,6 @@
 -- The rows of older roots, once one is put.
-use Rattle.std.proofs.Common.{◌≡◌, ◌≢◌, ◌≤◌, ℕ, ℤ, pos, Bool, true, false, ◌||◌, cond, if◌then◌else◌, Some, None, Option, Ok, List, [], ◌∷◌, ◌++◌, map, refl, sym}
+use Rattle.std.proofs.Common.{◌≡◌, ◌≢◌, ◌≤◌, ℕ, ℤ, pos, Bool, true, false, ◌||◌, cond, if◌then◌else◌, Some, None, Option, Ok, List, [], ◌∷◌, ◌++◌, map, refl}
+use Rattle.std.proofs.Common.{sym}
 use Rattle.std.proofs.Common.{ap, subst, ◌∙◌, true≢false}
 use Rattle.std.specs.Prelude.{find, AllPairs, option_map}
 use Rattle.std.specs.List.{AllByRecursion, list_any}

@@ -1,5 +1,6 @@
 -- What the statements that put the row of a slot make of the tables.
-use Rattle.std.proofs.Common.{◌≡◌, ◌≢◌, ◌≤◌, ℕ, ◌/◌, pos, ℤ, Bool, true, false, if◌then◌else◌, Some, Option, Ok, List, [], ◌∷◌, ◌++◌, length, refl, sym, ap, ◌∙◌}
+use Rattle.std.proofs.Common.{◌≡◌, ◌≢◌, ◌≤◌, ℕ, ◌/◌, pos, ℤ, Bool, true, false, if◌then◌else◌, Some, Option, Ok, List, [], ◌∷◌, ◌++◌, length, refl, sym, ap}
+use Rattle.std.proofs.Common.{◌∙◌}
 use Rattle.std.specs.Prelude.{AllPairs}
 use Rattle.std.specs.List.{AllByRecursion, list_any}
 use Rattle.sqlite_tied.specs.Compute.{everything}
@@ -147,7 +148,8 @@ each_slot P h (x ∷ xs) = (h x, each_slot P h xs)
 
 pub slot_closed : (old new : State) (rows : Rows) → HoldsRows old.now rows → AllPairs (λ (a : SlotRow) (b : SlotRow). a.slot ≢ b.slot) rows.slots
     → (slot : Slot) (count : ℕ)
-    → Executes CLOSE_SLOT.now (name_values slot) old new (Ok count) → HoldsRows new.now (record rows { slots = put_slot slot close_use rows.slots }) × (1 ≤ count)
+    → Executes CLOSE_SLOT.now (name_values slot) old new (Ok count) → HoldsRows new.now (record rows { slots = put_slot slot close_use rows.slots }) ×
+    (1 ≤ count)
 slot_closed old new rows holds_rows once slot count executed =
     slot_put CLOSE_SLOT.now close_terms close_sets 3 close_clause close_is close_plain close_target close_update old new rows holds_rows once slot
     (name_values slot)

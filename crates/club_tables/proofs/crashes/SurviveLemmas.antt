@@ -40,7 +40,8 @@ module _ {S : Type 0} (g : Ghosts S) (fewest : ℕ) where
       → Survives (state g old) (state g new) (λ trees. (db : Database) × Ran g fewest all old db × (trees ≡ db.trees))
       → Survives (state g old) (state g new) (MayCommit g fewest AreStatements old)
   may_commit all AreStatements are old new survives =
-      survives_as (state g old) (state g new) (λ trees. (db : Database) × Ran g fewest all old db × (trees ≡ db.trees)) (MayCommit g fewest AreStatements old) survives
+      survives_as (state g old) (state g new) (λ trees. (db : Database) × Ran g fewest all old db × (trees ≡ db.trees))
+      (MayCommit g fewest AreStatements old) survives
       (λ clean trees left. record {
         from = old;
         same = kept_when_idle (state g old);

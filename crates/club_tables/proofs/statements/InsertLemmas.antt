@@ -1,5 +1,6 @@
 -- An INSERT of one row, and CREATE TABLE.
-use Rattle.std.proofs.Common.{◌≡◌, ◌≢◌, ◌⊎◌, ◌≤◌, inl, inr, ℕ, ◌/◌, Bool, true, false, cond, None, Some, Ok, Err, Result, List, [], ◌∷◌, length, map, slice_get, refl}
+use Rattle.std.proofs.Common.{◌≡◌, ◌≢◌, ◌⊎◌, ◌≤◌, inl, inr, ℕ, ◌/◌, Bool, true, false, cond, None, Some, Ok, Err, Result, List, [], ◌∷◌, length, map}
+use Rattle.std.proofs.Common.{slice_get, refl}
 use Rattle.std.proofs.Common.{sym, ap, subst, ◌∙◌, append-nil, arith}
 use Rattle.std.specs.Prelude.{MatchBool, drop, unwrap_or}
 use Rattle.std.proofs.lemmas.List.{length-map}

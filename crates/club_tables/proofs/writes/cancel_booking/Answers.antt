@@ -16,4 +16,5 @@ returns-clause-makes g c =
     (λ is_open trees may. g.met.S.Store.settled c.run_with_totals.new.conn.store trees is_open may)
     (λ db club tables ran. cancel_true g.S.Store c.args.conn.now db club tables c.args.booking.now c.args.member.now c.args.refund ran)
     (λ db club tables fits ran. cancel_made g.S.Store c.args.conn.now db club tables c.args.booking.now c.args.member.now c.args.refund fits ran)
-    (λ club fits tables mid fault failed. cancel_less g.S.Store c.args.conn.now mid fault club tables c.args.booking.now c.args.member.now c.args.refund fits failed)
+    (λ club fits tables mid fault failed. cancel_less g.S.Store c.args.conn.now mid fault club tables c.args.booking.now c.args.member.now c.args.refund fits
+    failed)

@@ -19,4 +19,5 @@ returns-clause-makes g c =
     rotate_true g.S.Store c.args.conn.now db club tables rotation.key rotation.root rotation.older.root rotation.older.until ran)
     (λ db club tables fits ran.
     rotate_made g.S.Store c.args.conn.now db club tables rotation.key rotation.root rotation.older.root rotation.older.until fits ran)
-    (λ club fits tables mid fault failed. rotate_less g.S.Store c.args.conn.now mid fault club tables rotation.key rotation.root rotation.older.root rotation.older.until fits failed)
+    (λ club fits tables mid fault failed. rotate_less g.S.Store c.args.conn.now mid fault club tables rotation.key rotation.root rotation.older.root
+    rotation.older.until fits failed)
