@@ -109,7 +109,7 @@ const faint = [];
 let count = 0;
 for (const each of document.querySelectorAll("body *")) {
   const hasText = [...each.childNodes].some((node) => node.nodeType === 3 && node.data.trim()) || each.matches("input, select, textarea");
-  if (!hasText || each.offsetParent === null || each.tagName === "SCRIPT") continue;
+  if (!hasText || !each.checkVisibility() || each.offsetParent === null || each.tagName === "SCRIPT") continue;
   const [a, b] = [bright(getComputedStyle(each).color), bright(ground(each))].sort((x, y) => y - x);
   count += 1;
   if ((a + 0.05) / (b + 0.05) < 4.5) faint.push(`${each.tagName} ${each.className} ${(a + 0.05) / (b + 0.05)}: ${each.textContent}`);
@@ -118,5 +118,5 @@ return [count, faint];
 """
 SMALL_TARGETS = """
 return [...document.querySelectorAll("button, select, textarea, input:not([type=radio]):not([type=checkbox]), .options label")]
-  .filter((each) => each.offsetParent !== null && each.getBoundingClientRect().height < 44).map((each) => each.outerHTML.slice(0, 80));
+  .filter((each) => each.offsetParent !== null && each.checkVisibility() && each.getBoundingClientRect().height < 44).map((each) => each.outerHTML.slice(0, 80));
 """

@@ -100,9 +100,16 @@ function takePass(text, isKept) {
   state.account = null;
 }
 
+// After the pass of before or another one is there.
 function begin() {
   show();
   showDay();
+  goOn();
+}
+
+// The account, and what is still to be sent.
+function goOn() {
+  showCells();
   lookAtAccount().then(showCells);
   state.sender?.usePass(state.text, state.key).catch(reportTrouble);
 }
@@ -236,7 +243,11 @@ function setUp() {
   for (const each of VIEWS) byName(`to-${each}`).addEventListener("click", () => go(each));
   for (const name of ["online", "offline"]) window.addEventListener(name, () => { show(); if (navigator.onLine) lookWhenBack(); });
   document.addEventListener("visibilitychange", () => { if (document.visibilityState === "visible") comeBack(); });
-  window.addEventListener("hashchange", () => { findPass(); afterPass(); });
+  window.addEventListener("hashchange", () => {
+    findPass();
+    if (state.pass !== null) begin();
+    offerLinkedRecord();
+  });
   window.addEventListener("storage", ({ key, newValue }) => { if (key === "pass" && newValue === null && state.isKept) forgetPass(); });
   setInterval(() => { if (document.visibilityState === "visible") { showNotices(); showCells(); } }, 30000);
   if (globalThis.BroadcastChannel !== undefined) {
@@ -250,14 +261,11 @@ function comeBack() {
   state.sender?.run().catch(reportTrouble);
 }
 
-function afterPass() {
-  if (state.pass !== null) begin();
-  else show();
-  if (recordInLink !== null && state.store !== null) {
-    const text = recordInLink;
-    recordInLink = null;
-    offerRecord(text, refresh);
-  }
+function offerLinkedRecord() {
+  if (recordInLink === null || state.store === null) return;
+  const text = recordInLink;
+  recordInLink = null;
+  offerRecord(text, refresh);
 }
 
 function startScreen() {
@@ -275,8 +283,12 @@ async function start() {
   if (isScreen) return startScreen();
   setUp();
   show();
-  await Promise.all([loadClub(), openStore()]);
-  afterPass();
+  const listed = loadClub();
+  await openStore();
+  await listed;
+  show();
+  if (state.pass !== null) goOn();
+  offerLinkedRecord();
 }
 
 start();

@@ -18,8 +18,9 @@ export function showBookings(whenDone) {
   const isPast = (entry) => moment !== null && hasBegun(entry, moment);
   const toCome = own.filter((entry) => !isPast(entry));
   const past = own.filter(isPast).reverse();
-  put("bookings-which", ...(state.pass === null ? [] : [say("bookings-which", { key: state.key })]));
-  byName("bookings-none").hidden = own.length > 0;
+  put("bookings-which", ...(state.key === null ? [] : [say("bookings-which", { key: state.key })]));
+  byName("bookings-none").hidden = state.entries.length > 0;
+  byName("to-come-title").hidden = toCome.length === 0;
   put("to-come", ...toCome.map((entry) => cardOf(entry, false, whenDone)));
   byName("past-part").hidden = past.length === 0;
   put("past", ...past.map((entry) => cardOf(entry, true, whenDone)));

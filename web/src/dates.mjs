@@ -31,11 +31,20 @@ export function startOf(slot) {
   return `${slot.day}T${hourText(slot.hour)}:00`;
 }
 
+const clocks = new Map(); // by zone: making one takes long
+
+function clockOf(zone) {
+  if (!clocks.has(zone)) {
+    clocks.set(zone, new Intl.DateTimeFormat("en-u-ca-gregory-nu-latn", {
+      timeZone: zone, hourCycle: "h23", year: "numeric", month: "2-digit", day: "2-digit", hour: "2-digit", minute: "2-digit",
+    }));
+  }
+  return clocks.get(zone);
+}
+
 // The moment that a wall clock of the zone shows at an instant, which is in milliseconds.
 export function momentIn(zone, instant) {
-  const parts = new Intl.DateTimeFormat("en-u-ca-gregory-nu-latn", {
-    timeZone: zone, hourCycle: "h23", year: "numeric", month: "2-digit", day: "2-digit", hour: "2-digit", minute: "2-digit",
-  }).formatToParts(instant);
+  const parts = clockOf(zone).formatToParts(instant);
   const value = Object.fromEntries(parts.map((each) => [each.type, each.value]));
   return `${value.year.padStart(4, "0")}-${value.month}-${value.day}T${value.hour}:${value.minute}`;
 }

@@ -100,6 +100,7 @@ function tableParts(facilities) {
   const first = Math.min(...facilities.map((facility) => facility.opens));
   const last = Math.max(...facilities.map((facility) => facility.shuts));
   const rows = Array.from({ length: last - first }, (_, place) => rowOf(first + place, facilities));
+  byName("slots").style.setProperty("--facilities", String(facilities.length));
   return [element("thead", "", element("tr", "", corner, ...heads)), element("tbody", "", ...rows)];
 }
 
@@ -153,6 +154,7 @@ function looksOf({ slot, view, state: known }) {
 }
 
 function showCell(cell) {
+  if (state.pass === null) return;
   const { looks, words, below, isFree } = looksOf(cell);
   const { button, slot } = cell;
   button.className = `slot ${looks}`;
@@ -165,6 +167,26 @@ function showCell(cell) {
 
 export function showCells() {
   for (const cell of cells.values()) showCell(cell);
+}
+
+// What changed is drawn a few times a second, and not with each reply.
+const DRAWN_EVERY = 80; // milliseconds
+const changed = new Set();
+
+function showSoon(cell, progress = null) {
+  if (changed.size === 0) setTimeout(showChanged, DRAWN_EVERY);
+  changed.add(cell);
+  soonProgress = progress ?? soonProgress;
+}
+
+let soonProgress = null;
+
+function showChanged() {
+  const drawn = [...changed];
+  changed.clear();
+  drawn.forEach(showCell);
+  if (soonProgress !== null) soonProgress();
+  soonProgress = null;
 }
 
 function press(cell) {
@@ -197,9 +219,12 @@ export async function look() {
   await eachAtOnce(wanted, async (cell) => {
     await lookAt(cell, mine);
     done += 1;
-    if (mine === round) showProgress(done, wanted.length);
+    const count = done;
+    if (mine === round) showSoon(cell, () => { if (mine === round) showProgress(count, wanted.length); });
   }, () => mine === round);
-  if (mine === round) showLooked();
+  if (mine !== round) return;
+  showChanged();
+  showLooked();
 }
 
 function showProgress(done, all) {
@@ -228,7 +253,7 @@ async function lookAt(cell, mine) {
     if (!(fault instanceof NoReply)) throw fault;
     if (mine === round) cell.state = "failed";
   }
-  if (mine === round) showCell(cell);
+  if (mine === round) showSoon(cell);
 }
 
 // A refusal of one slot is that cell's; one of the pass is the whole day's.

@@ -1,6 +1,6 @@
 // Requests to the desk, which is at the page's own origin.
 import { hourText } from "./dates.mjs";
-import { NoReply, readReply } from "./replies.mjs";
+import { NoReply, readReply, refuseTooMany } from "./replies.mjs";
 
 const TIMEOUT = 15000; // milliseconds
 const FIRST_PAUSE = 200;
@@ -42,6 +42,7 @@ export async function exchange(pass, action, asked) {
       referrerPolicy: "no-referrer", signal: stop.signal,
     });
     noteClock(response);
+    refuseTooMany(response.status, response.headers.get("Retry-After"));
     return readReply(action, asked, response.status, await response.text());
   } catch (fault) {
     throw fault instanceof NoReply ? fault : new NoReply(String(fault));
@@ -52,22 +53,27 @@ export async function exchange(pass, action, asked) {
 
 // How long to wait before the try of this number, from 1: drawn at random, twice as long at most each time.
 export function pauseBefore(number, random = Math.random) {
-  return random() * Math.min(FIRST_PAUSE * 2 ** (number - 1), LONGEST_PAUSE);
+  return random() * Math.min(FIRST_PAUSE * 2 ** (Math.max(1, number) - 1), LONGEST_PAUSE);
 }
 
 export function paused(milliseconds) {
   return new Promise((done) => setTimeout(done, milliseconds));
 }
 
-// Asks what changes nothing, again for so many tries. The last NoReply is thrown.
-export async function ask(pass, action, asked, tries = 4) {
-  for (let number = 1; ; number += 1) {
-    try {
-      return await exchange(pass, action, asked);
-    } catch (fault) {
-      if (number === tries) throw fault;
+const MOST_WAITS = 30;
+
+// Asks what changes nothing, again for so many tries, of which one that the proxy wants to come later is none. The last NoReply is thrown.
+export async function ask(pass, action, asked, tries = 4, waits = MOST_WAITS) {
+  try {
+    return await exchange(pass, action, asked);
+  } catch (fault) {
+    if (fault.wait > 0 ? waits === 0 : tries === 1) throw fault;
+    if (fault.wait > 0) {
+      await paused(fault.wait * (1 + Math.random()));
+      return ask(pass, action, asked, tries, waits - 1);
     }
-    await paused(pauseBefore(number));
+    await paused(pauseBefore(5 - tries));
+    return ask(pass, action, asked, tries - 1, waits);
   }
 }
 

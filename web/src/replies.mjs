@@ -15,7 +15,20 @@ export const NO_SUCH_BOOKING = 15;
 export const SLOT_HAS_BEGUN = 21;
 const UNAVAILABLE = 22;
 
-export class NoReply extends Error {}
+const TOO_MANY_REQUESTS = 429; // the proxy's
+
+// Nothing came that is the desk's. `wait` is how long the proxy wants the client to wait, in milliseconds, where it said so.
+export class NoReply extends Error {
+  constructor(what, wait = 0) {
+    super(what);
+    this.wait = wait;
+  }
+}
+
+// Throws where the proxy says that too many requests came at once.
+export function refuseTooMany(status, retryAfter) {
+  if (status === TOO_MANY_REQUESTS) throw new NoReply(`status ${status}`, 1000 * (Number(retryAfter) || 1));
+}
 
 function isCount(value) {
   return Number.isInteger(value) && value >= 0;

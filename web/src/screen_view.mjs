@@ -2,7 +2,7 @@
 // it begins.
 import { hoursOf } from "./club.mjs";
 import { daysLater, hourText } from "./dates.mjs";
-import { eachAtOnce, exchange } from "./desk.mjs";
+import { eachAtOnce, exchange, paused } from "./desk.mjs";
 import { element, put } from "./elements.mjs";
 import { hasBegun, slotName } from "./record.mjs";
 import { refusalText } from "./refusals.mjs";
@@ -27,11 +27,10 @@ function slotsOn(day) {
 // `loadClub` loads the club's list, or leaves that of before.
 export async function runScreen(loadClub) {
   for (;;) {
-    const next = Date.now() + MINUTE;
     await loadClub();
     if (state.club !== null && state.pass !== null) await renew();
     else put("screen", element("p", "screen-words", say(state.pass === null ? "screen-no-pass" : "club-missing")));
-    await new Promise((done) => setTimeout(done, Math.max(1000, next - Date.now())));
+    await paused(MINUTE);
   }
 }
 

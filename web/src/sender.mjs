@@ -21,6 +21,7 @@ export class Sender {
     this.unsaved = new Map(); // what the browser couldn't write down after it was answered
     this.followers = new Map(); // who waits for what becomes of a booking
     this.tries = 0; // without a reply, one after the other
+    this.wait = 0; // how long the proxy wants it to wait, in milliseconds
     this.running = false;
   }
 
@@ -110,7 +111,8 @@ export class Sender {
     }
     this.tries = replies > 0 ? 0 : this.tries + 1;
     this.changed();
-    if (replies === 0) await this.pause(pauseBefore(this.tries));
+    if (replies === 0) await this.pause(Math.max(pauseBefore(this.tries), this.wait));
+    this.wait = 0;
   }
 
   // Sends once what is unfinished of an entry, if it still is. Whether the desk replied, or there was nothing to send.
@@ -129,6 +131,7 @@ export class Sender {
       return true;
     } catch (fault) {
       if (!(fault instanceof NoReply)) throw fault;
+      this.wait = fault.wait;
       this.tell(entry);
       return false;
     }

@@ -17,9 +17,16 @@ export const state = {
   account: null, // the reply, with `at`, the moment when it came
 };
 
+let shownMoment = { minute: null, zone: null, text: "" };
+
 // The moment at the club, or null where its zone isn't known.
 export function clubMoment() {
-  return state.club === null ? null : momentIn(state.club.zone, serverTime());
+  if (state.club === null) return null;
+  const minute = Math.floor(serverTime() / 60000);
+  if (shownMoment.minute !== minute || shownMoment.zone !== state.club.zone) {
+    shownMoment = { minute, zone: state.club.zone, text: momentIn(state.club.zone, minute * 60000) };
+  }
+  return shownMoment.text;
 }
 
 export function clubTime() {

@@ -34,7 +34,7 @@ export function say(key, values = {}) {
 
 function valueText(value) {
   if (typeof value === "number") return grouped(value);
-  return typeof value === "object" ? say(value.key, value.values) : String(value);
+  return typeof value === "object" && value !== null ? say(value.key, value.values) : String(value ?? "");
 }
 
 export function grouped(number) {

@@ -2,7 +2,7 @@
 import assert from "node:assert/strict";
 import { test } from "node:test";
 import { pauseBefore, REQUESTS } from "../src/desk.mjs";
-import { isOfPass, NoReply, readReply } from "../src/replies.mjs";
+import { isOfPass, NoReply, readReply, refuseTooMany } from "../src/replies.mjs";
 import { VECTORS } from "./kit.mjs";
 
 const SLOT = { facility: "court-1", day: "2026-05-01", hour: 8 };
@@ -53,4 +53,11 @@ test("which refusals are of the pass", () => {
 test("pauses double up to five seconds", () => {
   assert.deepEqual([1, 2, 3, 5, 6, 20].map((number) => pauseBefore(number, () => 1)), [200, 400, 800, 3200, 5000, 5000]);
   assert.equal(pauseBefore(4, () => 0), 0);
+});
+
+test("a proxy that wants requests to come later says when", () => {
+  for (const [field, wait] of [["1", 1000], ["7", 7000], [null, 1000], ["soon", 1000]]) {
+    assert.throws(() => refuseTooMany(429, field), (fault) => fault instanceof NoReply && fault.wait === wait);
+  }
+  refuseTooMany(200, null);
 });
