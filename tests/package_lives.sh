@@ -183,8 +183,8 @@ same "the files' modes" '600 600' "$(inside stat -c %a /var/lib/clubdesk/club /v
 gives 'orders' <<'LINES'
 c=/var/lib/clubdesk/club
 desk() { runuser -u clubdesk -- clubdesk "$@"; }
+desk add-member $c amy 5
 desk credit $c amy 10000
-desk set-up 2>/dev/null && exit 1
 desk add-facility $c court-1 court 50 1 0 24
 openssl rand -hex 32 | desk add-key $c amy-1 amy --root-stdin >/root/amy-1
 LINES
@@ -194,8 +194,6 @@ gives 'a certificate' <<'LINES'
 mkdir -p /etc/ssl/clubdesk
 openssl req -x509 -newkey rsa:2048 -nodes -days 2 -subj /CN=desk.example.org -addext subjectAltName=DNS:desk.example.org \
     -keyout /etc/ssl/clubdesk/key.pem -out /etc/ssl/clubdesk/certificate.pem
-mkdir -p /var/www/clubdesk
-cp /usr/share/clubdesk/web/*.html /var/www/clubdesk/
 LINES
 blocks TLS | gives TLS
 inside sh -c 'printf "Authorization: Bearer %s\n" "$(cat /root/amy-1)" >/root/field'
@@ -206,6 +204,12 @@ by_tls() {
 }
 day=$(TZ=CET-1CEST,M3.5.0,M10.5.0/3 date -d '+2 days' +%F)
 same 'a booking behind TLS' '{"booking":"amy-1/7","charge":3,"left":47} 200' "$(by_tls PUT "slots/court-1/$day/18/bookings/7" '{"guests":2}')"
+for page in book.html pass.html; do
+    same "the page $page" "$(sha256sum <"$top/web/$page")" "$(inside curl -sS --cacert /etc/ssl/clubdesk/certificate.pem \
+        --resolve desk.example.org:443:127.0.0.1 "https://desk.example.org/$page" | sha256sum)"
+done
+same 'what the pages know of the club' 'Europe/Berlin court-1' \
+    "$(by_tls GET club.json | sed 's/ 200$//' | python3 -c 'import json, sys; club = json.load(sys.stdin); print(club["zone"], club["facilities"][0]["name"])')"
 same 'the account behind TLS' '{"member":"amy","balance":9997,"quota":5,"open":1,"spent":3} 200' "$(by_tls GET account)"
 
 # ---- Health.
@@ -221,16 +225,17 @@ same 'the pass of the check' '640 root clubdesk' "$(inside stat -c '%a %U %G' /e
 mkdir -p "$root/usr/sbin"
 printf '#!/bin/sh\n{ echo "== $*"; cat; } >>/var/mail/sent\n' >"$root/usr/sbin/sendmail"
 chmod 755 "$root/usr/sbin/sendmail"
+blocks 'Several clubs' | gives 'Several clubs'
 gives 'a second club' <<'LINES'
 install -o clubdesk -m 600 /dev/null /var/mail/sent
-printf 'FILE=/var/lib/clubdesk/rowing\nZONE=NZST-12NZDT,M9.5.0,M4.1.0/3\nPORT=8081\nSHEET_HOUR=0\nMAIL=cox@example.org\n' >/etc/clubdesk/rowing.conf
+sed -i 's/^ZONE=.*/ZONE=NZST-12NZDT,M9.5.0,M4.1.0\/3/; s/^SHEET_HOUR=.*/SHEET_HOUR=0/; s/^#MAIL=.*/MAIL=cox@example.org/' /etc/clubdesk/rowing.conf
 c=/var/lib/clubdesk/rowing
 desk() { runuser -u clubdesk -- sh -c 'umask 077; exec clubdesk "$@"' sh "$@"; }
 desk add-member $c ben 5
 desk credit $c ben 1000
 desk add-facility $c boat-1 boat 4 10 0 24
 openssl rand -hex 32 | desk add-key $c ben-1 ben --root-stdin >/root/ben-1
-systemctl enable --now clubdesk@rowing
+systemctl restart clubdesk@rowing
 LINES
 answers 8081
 there=NZST-12NZDT,M9.5.0,M4.1.0/3
@@ -272,38 +277,36 @@ rm -r /etc/clubdesk/broken.conf /etc/clubdesk/silent.conf /var/lib/clubdesk/brok
 LINES
 
 # ---- A clerk without root, by sudo: a club of hers, from its file to a correction, which ends the server, and systemd starts it again.
-if [ -e unpacked/usr/bin/office ]; then
-    gives 'the clerks' <<'LINES'
-visudo -c
-useradd -m -G office anna
-useradd -m carl
+blocks 'The clerks' | gives 'The clerks'
+gives 'a club of hers' <<'LINES'
+useradd --create-home carl
 printf 'FILE=/var/lib/clubdesk/tennis\nZONE=UTC0\nPORT=8083\n' >/etc/clubdesk/tennis.conf
 LINES
-    # office CLERK WORD..: as that clerk.
-    office() {
-        who=$1
-        shift
-        inside runuser -u "$who" -- sh -c 'cd ~'"$who"' && exec office tennis "$@"' sh "$@"
-    }
-    same 'a new club' 'done' "$(office anna new)"
-    holds "its desk's start" inside systemctl enable --now clubdesk@tennis
-    answers 8083
-    for words in 'add-member eve 5' 'credit eve 1000' 'add-facility court-1 court 4 10 0 24' 'add-key eve-1 eve --to eve-1'; do
-        # shellcheck disable=SC2086 # a command's words
-        holds "$words" office anna $words
-    done
-    before=$(inside systemctl show --value -p MainPID clubdesk@tennis)
-    holds 'a correction' office anna set-quota eve 7 --yes
-    answers 8083
-    [ "$(inside systemctl show --value -p MainPID clubdesk@tennis)" != "$before" ] || fail 'a correction beside a running desk'
-    same 'the account after it' '{"member":"eve","balance":1000,"quota":7,"open":0,"spent":0}' \
-        "$(inside sh -c 'curl -sS -H "Authorization: Bearer $(cat /home/anna/eve-1)" http://127.0.0.1:8083/account')"
-    office anna log >told
-    [ "$(grep -c anna told)" -ge 6 ] || fail "the book: $(cat told)"
-    if office carl credit eve 1000 >told 2>&1; then fail 'a credit by somebody who is no clerk'; fi
-    same 'what a clerk reads of the clubs' '' "$(inside runuser -u anna -- sh -c 'cat /var/lib/clubdesk/* /var/backups/clubdesk/* 2>/dev/null' || :)"
-    same 'what a clerk reads of the sheets' "$today" "$(inside runuser -u anna -- ls /var/spool/clubdesk/rowing)"
-fi
+# office USER WORD..: at home, as that user.
+office() {
+    user=$1
+    shift
+    # shellcheck disable=SC2016 # for the shell within
+    inside runuser -u "$user" -- sh -c 'cd "$0" && exec office tennis "$@"' "/home/$user" "$@"
+}
+same 'a new club' 'done' "$(office anna new)"
+holds "its desk's start" inside systemctl enable --now clubdesk@tennis
+answers 8083
+for words in 'add-member eve 5' 'credit eve 1000' 'add-facility court-1 court 4 10 0 24' 'add-key eve-1 eve --to eve-1'; do
+    # shellcheck disable=SC2086 # a command's words
+    holds "$words" office anna $words
+done
+before=$(inside systemctl show --value -p MainPID clubdesk@tennis)
+holds 'a correction' office anna set-quota eve 7 --yes
+answers 8083
+[ "$(inside systemctl show --value -p MainPID clubdesk@tennis)" != "$before" ] || fail 'a correction beside a running desk'
+same 'the account after it' '{"member":"eve","balance":1000,"quota":7,"open":0,"spent":0}' \
+    "$(inside sh -c 'curl -sS -H "Authorization: Bearer $(cat /home/anna/eve-1)" http://127.0.0.1:8083/account')"
+office anna log >told
+[ "$(grep -c anna told)" -ge 6 ] || fail "the book: $(cat told)"
+if office carl credit eve 1000 >told 2>&1; then fail 'a credit by somebody who is no clerk'; fi
+same 'what a clerk reads of the clubs' '' "$(inside runuser -u anna -- sh -c 'cat /var/lib/clubdesk/* /var/backups/clubdesk/* 2>/dev/null' || :)"
+same 'what a clerk reads of the sheets' "$today" "$(inside runuser -u anna -- ls /var/spool/clubdesk/rowing)"
 
 # ---- Back-ups, while the desk runs; old ones go.
 gives 'old copies' <<'LINES'
