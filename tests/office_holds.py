@@ -374,6 +374,24 @@ def in_the_journal():
     os.unlink("/run/systemd/journal/socket")
 
 
+def manual():
+    """The manual page has each command of --help with its words and options, and no other."""
+    page = {}
+    for line in open(os.path.join(os.path.dirname(os.path.abspath(__file__)), "..", "man", "office.1"), encoding="ascii"):
+        if line.startswith(".It Cm ") and line.split()[2] not in ("FILE", "STOP", "ZONE", "PORT", "BOOK"):
+            words = line.replace(" Ns - Ns Ar ", "-").split()[2:]
+            page[words[0]] = {f"-{w}" if w.startswith("-") else w for w in words[1:] if re.fullmatch(r"-[a-z-]+|[A-Z][A-Z-]+", w)}
+    told = run_as("anna", "office", "--help")[1]
+    commands = set(re.findall(r"^    ([a-z][a-z-]+)( |$)", told, re.M))
+    same("the commands of the manual page", set(page), {command for command, _ in commands})
+    for command, words in sorted(page.items()):
+        usage = run_as("anna", "office", "club", command, "--help")[1].split("\n\n")[0]
+        found = set(re.findall(r"--[a-z-]+|\b[A-Z]{2}[A-Z-]*", usage.replace("CLUB", "")))
+        always = {"--yes", "--at", "MOMENT"} if "--yes" in found and command != "import" else set()
+        same(f"the words of {command}", {w.strip("-") if w.isupper() else w for w in words}, {w.strip("-") if w.isupper() else w for w in found} - (always - words))
+
+
+manual()
 before_there_is_a_club()
 as_nobody_else()
 orders_and_looks()

@@ -1,18 +1,21 @@
 # Read by the tests of the office beside it: a machine of their own, of which nothing stays. In a mount namespace, folders are laid over
-# /usr/bin, /usr/lib, /etc, /var/lib and /home, with the group `office` and its clerks anna and ben, carl who is none, and the desk's
-# user; with office, clubdesk, back_up and the sudoers lines where a package puts them; and with a `systemctl` that knows one word,
-# `kill`, and hands it to a small manager of services (tests/office_room.py). Wants root.
+# /usr/bin, /usr/lib, /etc, /var/lib and /home, with the desk's user, the clerks anna and ben, and carl who is none; with clubdesk where
+# a package puts it; with what the lines of docs/RUNNING.md under "The clerks" put into place; and with a `systemctl` that knows one
+# word, `kill`, and hands it to a small manager of services (tests/office_room.py). Wants root.
+# Before it is read, `room_wants` may have COMMAND:PACKAGE pairs more, and `room_net` be not empty: then the room has a network of its own.
+PATH=/usr/sbin:/sbin:$PATH
 [ "$(id -u)" = 0 ] || { echo "$0 wants root, for other users and folders of its own" >&2; exit 2; }
-[ -n "${OFFICE_ROOM-}" ] || OFFICE_ROOM=yes exec unshare --mount --propagation private sh "$0" "$@"
+if [ -z "${OFFICE_ROOM-}" ]; then
+    for pair in sudo:sudo sqlite3:sqlite3 python3:python3 openssl:openssl setpriv:util-linux logger:bsdutils ip:iproute2 ${room_wants-}; do
+        command -v "${pair%%:*}" >/dev/null || apt-get install -y "${pair##*:}" >/dev/null 2>&1 ||
+            { apt-get update >/dev/null && apt-get install -y "${pair##*:}" >/dev/null; } || exit 2
+    done
+    [ -x /lib/systemd/systemd-journald ] || apt-get install -y systemd >/dev/null || exit 2
+    OFFICE_ROOM=yes exec unshare --mount ${room_net:+--net} --propagation private sh "$0" "$@"
+fi
+[ -z "${room_net-}" ] || ip link set lo up
 . "$(dirname -- "$0")/serving.sh"
 top=$(CDPATH='' cd -P -- "$here/.." && pwd)
-wants sudo sudo
-wants sqlite3 sqlite3
-wants python3 python3
-wants openssl openssl
-wants setpriv util-linux
-wants logger bsdutils
-[ -x /lib/systemd/systemd-journald ] || installs systemd
 
 chmod 755 "$work"
 # Its mounts end with its last process.
@@ -33,17 +36,24 @@ for folder in /run/systemd /run/log; do
 done
 [ ! -d /var/log/journal ] || mount -t tmpfs tmpfs /var/log/journal
 rm -f /etc/sudoers.d/*
-groupadd office
 adduser --system --group --home /var/lib/clubdesk --no-create-home clubdesk >/dev/null 2>&1 || useradd -r -U -d /var/lib/clubdesk clubdesk
-for clerk in anna ben; do useradd -m -G office "$clerk"; done
-useradd -m carl
-install -m 755 "$top/deploy/office" /usr/bin/office
+for user in anna ben carl; do useradd -m "$user"; done
 install -m 755 "$desk" /usr/bin/clubdesk
 install -m 755 "$tool" /usr/bin/passtool
-install -d /usr/lib/clubdesk
-install -m 755 "$top/deploy/back_up" /usr/lib/clubdesk/back_up
-install -m 440 "$top/deploy/office.sudoers" /etc/sudoers.d/clubdesk-office
-visudo -c >/dev/null
+
+# page_block HEADING: the lines of docs/RUNNING.md for root under this heading, but for those that install Debian's packages.
+page_block() {
+    awk -v heading="## $1" '
+        /^## / { here = $0 == heading; next }
+        here && /^```sh$/ { inside = 1; next }
+        /^```$/ { inside = 0 }
+        inside && !/^apt-get /' "$top/docs/RUNNING.md"
+}
+# The page's own lines put the office into place.
+page_block 'The clerks' >"$room/clerks"
+[ -s "$room/clerks" ] || { echo "docs/RUNNING.md has no lines under 'The clerks'" >&2; exit 1; }
+(cd "$top" && sh -e "$room/clerks") >/dev/null
+usermod -a -G office ben
 install -d -m 755 /etc/clubdesk
 install -d -o clubdesk -g clubdesk -m 700 /var/lib/clubdesk
 mkdir "$room/services"

@@ -1,4 +1,4 @@
-"""A club's new year: office_year.py BOOKINGS, run by office_year.sh."""
+"""A club's new year: office_year.py REQUESTS, run by office_year.sh."""
 
 import hashlib
 import os

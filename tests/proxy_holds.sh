@@ -1,21 +1,18 @@
 #!/bin/sh
-# Tries what docs/RUNNING.md says of the proxy beside TLS itself: a certificate by certbot over deploy/nginx-challenge.conf, from an
-# authority of the test's own (tests/acme_stand_in.py), and its renewal, after which the site has the new one; that nothing else is
-# answered at the port of the challenges; the limit of requests, with its sentence; and two clubs at one proxy. Installs Debian's packages
-# where they are missing. Not part of the gate.
+# Runs what docs/RUNNING.md has for root under "A certificate", "TLS" and "Several clubs", line by line, on a machine of its own
+# (tests/office_room.sh): certbot gets a certificate by nginx's site of the challenges, from an authority of the test's own
+# (tests/acme_stand_in.py), and renews it, after which the site has the new one. Then two clubs at one proxy, that nothing else is answered
+# at the port of the challenges, and the limit of requests, with its sentence. Wants root. Not part of the gate.
 set -eu
-. "$(dirname -- "$0")/serving.sh"
-top=$(CDPATH='' cd -P -- "$here/.." && pwd)
-PATH=/usr/sbin:/sbin:$PATH
-wants curl curl
-wants openssl openssl
-wants nginx nginx-light
-wants certbot certbot
-wants python3 python3
+room_wants='curl:curl nginx:nginx-light certbot:certbot'
+room_net=yes
+. "$(dirname -- "$0")/office_room.sh"
+[ -e /etc/nginx/sites-enabled/default ] || ln -s ../sites-available/default /etc/nginx/sites-enabled/default
 checks=0
 started=
 leave_all() {
-    for process in $started; do kill "$process" 2>/dev/null || :; done
+    nginx -s stop 2>/dev/null || :
+    for process in $started $(cat "$room/started" 2>/dev/null); do kill "$process" 2>/dev/null || :; done
     leave
 }
 trap leave_all EXIT
@@ -32,7 +29,7 @@ same() {
 $2
 $3"
 }
-free_port() { python3 -c 'import socket; s = socket.socket(); s.bind(("127.0.0.1", 0)); print(s.getsockname()[1])'; }
+
 # is_heard URL: until somebody listens there.
 is_heard() {
     for _ in $(seq 100); do
@@ -44,95 +41,119 @@ is_heard() {
     fail "nobody listens at $1"
 }
 
-# Two clubs, each with a server of its own.
-for club in tennis rowing; do
-    "$desk" add-member $club amy 99 >told
-    "$desk" credit $club amy 1000 >told
-    "$desk" add-facility $club $club-1 court 4 1 0 24 >told
-    openssl rand -hex 32 | "$desk" add-key $club amy-1 amy --root-stdin >$club-pass
-    serve $club 1000000 2026-04-20T12:00
-    started="$started $server"
-    server=
-    echo "$port" >$club-port
+for folder in /var/log /var/www /run; do
+    mkdir -p "$folder"
+    [ "$folder" = /run ] && mount -t tmpfs tmpfs "$folder" || over "$folder"
 done
-challenges=$(free_port)
-front=$(free_port)
-acme=$(free_port)
+mkdir -p /var/log/nginx /run/sudo
+# No name is asked for outside.
+sed -i 's/^hosts:.*/hosts: files/' /etc/nsswitch.conf
 
-# site CLUB NAME FOLDER: deploy/nginx.conf for a club, as docs/RUNNING.md says it, at this test's ports and certificate.
-site() {
-    sed "s/zone=clubdesk/zone=$1/; s/desk.example.org/$2/; s/:8080/:$(cat "$1-port")/; s,/etc/ssl/clubdesk/certificate.pem,$3/fullchain.pem,
-        s,/etc/ssl/clubdesk/key.pem,$3/privkey.pem,; /\[::\]/d; s/listen 443/listen 127.0.0.1:$front/" "$top/deploy/nginx.conf"
+# A systemctl that knows the page's words: a reload of nginx, and a club that is enabled, which is served by its configuration.
+cat >"$room/systemctl" <<SYSTEMCTL
+#!/bin/sh
+case "\$*" in
+    'reload nginx') exec nginx -s reload ;;
+    'enable --now clubdesk@'*)
+        club=\${3#clubdesk@}
+        . "/etc/clubdesk/\$club.conf"
+        setpriv --reuid clubdesk --regid clubdesk --clear-groups clubdesk serve "\$FILE" --port "\$PORT" --count 1000000 \\
+            --at 2026-04-20T12:00 >"$room/\$club.out" 2>&1 </dev/null &
+        echo \$! >>"$room/started"
+        ;;
+    *) exit 1 ;;
+esac
+SYSTEMCTL
+install -m 755 "$room/systemctl" /usr/bin/systemctl
+
+# The page's lines run at the top of a copy of deploy/, whose files have the club's name, and then its certificate, as the page says.
+mkdir "$room/top"
+cp -R "$top/deploy" "$room/top/deploy"
+by_page() {
+    page_block "$1" >"$room/lines"
+    [ -s "$room/lines" ] || fail "docs/RUNNING.md has no lines under '$1'"
+    (cd "$room/top" && sh -e "$room/lines") >said 2>&1 || fail "$1: $(cat said)"
+    echo "$1: $(wc -l <"$room/lines") lines run"
 }
-chmod 755 .
-mkdir -p challenge le authority
-sed "s,/var/www/challenge,$PWD/challenge,; /\[::\]/d; s/listen 80/listen 127.0.0.1:$challenges/" "$top/deploy/nginx-challenge.conf" >challenge.conf
-cat >nginx.conf <<CONF
-user www-data;
-pid $PWD/nginx.pid;
-error_log $PWD/error.log;
-events {}
-http { include $PWD/challenge.conf; include $PWD/site-*.conf; }
-CONF
-: >error.log
-nginx -t -q -c "$PWD/nginx.conf" || fail 'nginx refuses the site of the challenges'
-nginx -c "$PWD/nginx.conf" -g 'daemon off;' &
-started="$started $!"
-is_heard "http://127.0.0.1:$challenges/"
-code=0
-curl -s -o told "http://127.0.0.1:$challenges/account" || code=$?
-same 'nothing else is answered at that port' 52 "$code"
-same 'nor a challenge that is none' 404 "$(curl -s -o told -w '%{http_code}' "http://127.0.0.1:$challenges/.well-known/acme-challenge/x")"
 
-# ---- A certificate, and its renewal.
-python3 "$here/acme_stand_in.py" "$PWD/authority" "$acme" "$challenges" >ready 2>authority.log &
+# ---- The first club, as the page makes it, with a member.
+printf 'FILE=/var/lib/clubdesk/tennis\nZONE=UTC0\nPORT=8080\n' >/etc/clubdesk/tennis.conf
+club() {
+    office "$1" add-member amy 99
+    office "$1" credit amy 1000
+    office "$1" add-facility "$1-1" court 4 1 0 24
+    office "$1" add-key amy-1 amy --to "$work/$1-pass"
+}
+office tennis new >told
+club tennis >told
+systemctl enable --now clubdesk@tennis
+
+# ---- A certificate, and the site that has it.
+nginx
+mkdir -p "$room/authority" /etc/letsencrypt
+printf 'non-interactive = true\nagree-tos = true\nregister-unsafely-without-email = true\nserver = http://127.0.0.1:14000/directory\n' >/etc/letsencrypt/cli.ini
+python3 "$here/acme_stand_in.py" "$room/authority" 14000 80 >ready 2>authority.log &
 started="$started $!"
 for _ in $(seq 100); do [ ! -s ready ] || break; sleep 0.1; done
-bot() {
-    certbot "$@" --non-interactive --config-dir "$PWD/le" --work-dir "$PWD/le" --logs-dir "$PWD/le" >bot.log 2>&1 || fail "certbot $1: $(cat bot.log)"
-}
-for club in tennis rowing; do
-    bot certonly --webroot --webroot-path "$PWD/challenge" --domain "$club.example.org" --deploy-hook "nginx -c $PWD/nginx.conf -s reload" \
-        --server "http://127.0.0.1:$acme/directory" --agree-tos --register-unsafely-without-email
-    site $club $club.example.org "$PWD/le/live/$club.example.org" >site-$club.conf
-done
-nginx -t -q -c "$PWD/nginx.conf" || fail 'nginx refuses two clubs'
-nginx -c "$PWD/nginx.conf" -s reload
-is_heard "https://127.0.0.1:$front/"
-for club in tennis rowing; do printf 'resolve = "%s.example.org:%s:127.0.0.1"\n' $club "$front"; done >.curlrc
-printf 'cacert = "%s/authority/ca.pem"\nsilent\nshow-error\nnoproxy = "*"\n' "$PWD" >>.curlrc
-CURL_HOME=$PWD
-export CURL_HOME
-served() { openssl s_client -connect "127.0.0.1:$front" -servername tennis.example.org </dev/null 2>/dev/null | openssl x509 -noout -serial; }
+by_page 'A certificate'
+live=/etc/letsencrypt/live/desk.example.org
+sed -i "s,/etc/ssl/clubdesk/certificate.pem,$live/fullchain.pem,; s,/etc/ssl/clubdesk/key.pem,$live/privkey.pem," "$room/top/deploy/nginx.conf"
+by_page TLS
+is_heard https://127.0.0.1/
+code=0
+curl -s -o told http://127.0.0.1/account || code=$?
+same 'nothing else is answered at port 80' 52 "$code"
+same 'nor a challenge that is none' 404 "$(curl -s -o told -w '%{http_code}' http://127.0.0.1/.well-known/acme-challenge/x)"
+served() { openssl s_client -connect 127.0.0.1:443 -servername desk.example.org </dev/null 2>/dev/null | openssl x509 -noout -serial; }
 sleep 1
 old=$(served)
-same 'the site has the certificate' "$(openssl x509 -noout -serial -in le/live/tennis.example.org/cert.pem)" "$old"
-bot renew --force-renewal
+same 'the site has the certificate' "$(openssl x509 -noout -serial -in "$live/cert.pem")" "$old"
+certbot renew --force-renewal --no-random-sleep-on-renew >said 2>&1 || fail "certbot renew: $(cat said)"
 sleep 1
 [ "$(served)" != "$old" ] || fail 'after the renewal the site has the old certificate'
-same 'the site has the new one' "$(openssl x509 -noout -serial -in le/live/tennis.example.org/cert.pem)" "$(served)"
-same 'no challenge is left' '' "$(find challenge -type f)"
+same 'the site has the new one' "$(openssl x509 -noout -serial -in "$live/cert.pem")" "$(served)"
+same 'no challenge is left' '' "$(find /var/www/challenge -type f)"
 
-# ---- Two clubs: each name has its own.
-for club in tennis rowing; do
-    printf 'Authorization: Bearer %s' "$(cat $club-pass)" >field
-    same "the court of $club" "\"facility\":\"$club-1\"" "$(curl -H @field "https://$club.example.org:$front/slots/$club-1/2026-05-01/18" | grep -o '"facility":"[a-z0-9-]*"')"
+# ---- A second club: each name has its own.
+sed 's,tennis,rowing,; s,8080,8081,' /etc/clubdesk/tennis.conf >"$room/rowing.conf"
+# The page copies the first club's configuration, and then its lines are changed.
+cat >"$room/cp" <<CP
+#!/bin/sh
+/bin/cp "\$@" && [ "\$2" != /etc/clubdesk/rowing.conf ] || /bin/cp "$room/rowing.conf" /etc/clubdesk/rowing.conf
+CP
+chmod 755 "$room/cp"
+certbot certonly --webroot --webroot-path /var/www/challenge --domain rowing.example.org --deploy-hook 'systemctl reload nginx' >said 2>&1 ||
+    fail "certbot: $(cat said)"
+PATH=$room:$PATH by_page 'Several clubs'
+club rowing >told
+sed -i 's,/live/desk.example.org/,/live/rowing.example.org/,' /etc/nginx/sites-available/rowing
+nginx -t -q && systemctl reload nginx
+is_heard http://127.0.0.1:8081/
+sleep 1
+printf 'resolve = "desk.example.org:443:127.0.0.1"\nresolve = "rowing.example.org:443:127.0.0.1"\ncacert = "%s/authority/ca.pem"\n' "$room" >.curlrc
+printf 'silent\nshow-error\nnoproxy = "*"\n' >>.curlrc
+CURL_HOME=$PWD
+export CURL_HOME
+seen() {
+    printf 'Authorization: Bearer %s' "$(cat "$1-pass")" >field
+    curl -H @field "https://$2.example.org/$3"
+}
+for pair in tennis:desk rowing:rowing; do
+    same "the court of ${pair%:*}" "\"facility\":\"${pair%:*}-1\"" "$(seen "${pair%:*}" "${pair#*:}" "slots/${pair%:*}-1/2026-05-01/18" | grep -o '"facility":"[a-z0-9-]*"')"
 done
-same "a pass of the other club" '{"fault":9,"text":"not verified"}' "$(curl -H @field "https://tennis.example.org:$front/account")"
+same "a pass of the other club" '{"fault":9,"text":"not verified"}' "$(seen rowing desk account)"
 
 # ---- The limit: 200 at once pass, and then there is a sentence. Another second, and requests pass again.
-for n in $(seq 300); do
-    [ "$n" = 1 ] || echo next
-    cat .curlrc
-    printf 'url = https://tennis.example.org:%s/account\nheader = @field\noutput = got.%s\nwrite-out = "%%{http_code}\\n"\n' "$front" "$n"
-done >asked
+awk 'FILENAME != "-" { common = common $0 "\n"; next } { printf "%s%surl = https://desk.example.org/account\noutput = got.%d\nwrite-out = \"%%{http_code}\\n\"\n", FNR > 1 ? "next\n" : "", common, $1 }' .curlrc - >asked <<NUMBERS
+$(seq 300)
+NUMBERS
 sleep 2
 curl --no-progress-meter -Z --parallel-max 20 -K asked >statuses || :
 limited=$(grep -c '^429' statuses || :)
 passed=$(grep -c '^401' statuses || :)
-[ "$passed" -ge 200 ] && [ "$limited" -ge 30 ] && [ $((passed + limited)) = 300 ] || fail "of 300 at once $passed passed and $limited were limited"
+[ "$passed" -ge 200 ] && [ "$limited" -ge 20 ] && [ $((passed + limited)) = 300 ] || fail "of 300 at once $passed passed and $limited were limited"
 same 'the sentence' 'Too many requests at once. Send this one again in a second.' "$(grep -lF 'Too many' got.* | head -n 1 | xargs cat)"
 same 'as many sentences as refusals' "$limited" "$(grep -lF 'Send this one again in a second.' got.* | wc -l)"
 sleep 1.2
-same 'a second later' 200 "$(curl -o told -w '%{http_code}' -H "Authorization: Bearer $(cat tennis-pass)" "https://tennis.example.org:$front/account")"
+same 'a second later' 200 "$(curl -o told -w '%{http_code}' -H "Authorization: Bearer $(cat tennis-pass)" https://desk.example.org/account)"
 echo "$checks checks of the proxy passed: of 300 requests at once $passed were answered, $limited were not"
