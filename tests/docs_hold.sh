@@ -6,11 +6,12 @@
 # - Each ```rust, ```antt and ```text block is in a file of crates/, but for how far it is indented.
 # - Each link leads to a page, and to a heading of it. Each page of docs/ is in docs/INDEX.md.
 # - Each contract that docs/PROMISES.md names is there: the function in the section's crate, and its clause; each definition, and of
-#   `RECORD.FIELD` the field of that record. So are the clauses of README's law.
+#   `RECORD.FIELD` the field of that record. So are the clauses of the desk's law, there and in README.md.
 # - Each file that a page names is there, in a crate's page also each of its own folders, and each name `crate::..::name` or
 #   `Type::name` is defined. So is each name of a list of definitions (`Definitions: NAME, .. in FILE; NAME, .. in FILE`), in its file.
 # - docs/LAYERS.md has the layers and crates of crates.txt in their order, each with what it stands on; TRUST names each crate.
 # - docs/TOUR.md gives each answer as a path of three to six steps, each a file with a name that it defines.
+# - What README tries unproved by `rt try` prints `signed`, and ends in proved=no.
 # - The logic that README.md and docs/TRUST.md name by its sum is this toolchain's, and bin/demo prints what tests/demo_tells.sh wants.
 # Programs are proved and built by bin/proved where they have to be. Installs Debian's curl, sqlite3 and openssl where they are
 # missing. Not part of the gate.
@@ -281,16 +282,27 @@ hold_definitions() {
         }' "$work/index" "$1" >>"$faults"
 }
 
-# The lines of the law in README: behind the last colon a function and names of its clauses, or of other functions, held above.
+# The lines of the law in docs/PROMISES.md: behind the last colon a function and names of its clauses, or of other functions, held above.
+# README's table has the same laws in the same order, in its last cell a function, and of it a clause.
 hold_laws() {
-    grep -E '^[0-9]+\. \*\*' README.md | sed 's/.*: `/`/' | awk '
+    sed -n 's/^[0-9]*\. \*\*\(.*\)\.\*\*.*/\1/p' docs/PROMISES.md >"$work/laws"
+    sed -n '/^| Law |/,/^$/s/^| \([A-Z][a-z ]*\) |.*/\1/p' README.md | tail -n +2 | diff "$work/laws" - |
+        sed -n 's/^\([<>]\)/README.md: other laws than those of docs\/PROMISES.md (<): \1/p' >>"$faults"
+    sed -n '/^| Law |/,/^$/s/.* | \(`.*\) |$/\1/p' README.md | awk '
+        FILENAME == ARGV[1] { if ($3 == "clause") clauses[$4, $5]; if ($3 == "fn") functions[$4]; next }
+        {
+            split($0, piece, "`")
+            if (!(piece[2] in functions)) print "README.md: no function " piece[2]
+            if (piece[4] != "" && !((piece[2], piece[4]) in clauses)) print "README.md: no clause " piece[4] " of " piece[2]
+        }' "$work/index" - >>"$faults"
+    grep -E '^[0-9]+\. \*\*' docs/PROMISES.md | sed 's/.*: `/`/' | awk '
         FILENAME == ARGV[1] { if ($3 == "clause") clauses[$4, $5]; next }
         {
             count = split($0, piece, "`")
             carrier = piece[2]
             sub(/.*::/, "", carrier)
             for (p = 4; p <= count; p += 2)
-                if (piece[p] !~ /::/ && !((carrier, piece[p]) in clauses)) print "README.md: no clause " piece[p] " of " carrier
+                if (piece[p] !~ /::/ && !((carrier, piece[p]) in clauses)) print "docs/PROMISES.md: no clause " piece[p] " of " carrier
         }' "$work/index" - >>"$faults"
 }
 
@@ -396,6 +408,11 @@ if [ -n "$whole" ]; then
     for page in README.md docs/TRUST.md; do
         grep -qF "$(rt version | sed 's/.* logic //')" "$page" || echo "$page: another logic than that of $(rt version)" >>"$faults"
     done
+    if [ -n "$runs" ]; then
+        blocks README.md sh | sed -n '/^cd crates/,/rt try/p' >"$work/script"
+        [ "$(sh "$work/script" 2>"$work/said")" = signed ] && grep -q 'proved=no$' "$work/said" ||
+            { echo 'README.md: what it tries unproved:'; cat "$work/script" "$work/said"; } >>"$faults"
+    fi
     [ -z "$runs" ] || tests/demo_tells.sh || echo 'tests/demo_tells.sh: bin/demo prints something else' >>"$faults"
 fi
 if [ -s "$faults" ]; then
