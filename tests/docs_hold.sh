@@ -88,7 +88,7 @@ run_commands() {
         # It is built first, so that what its build prints isn't taken for what it prints.
         ! grep -q "$program" "$work/lines" || "bin/$program" --help >/dev/null || exit 2
     done
-    (cd "$work/room" && PATH=$root/bin:$PATH CURL_HOME=$work OUT=$work/out timeout 120 sh "$work/script") >"$work/out" 2>&1 </dev/null
+    (cd "$work/room" && PATH=$root/bin:$PATH CURL_HOME=$work OUT=$work/out timeout 600 sh "$work/script") >"$work/out" 2>&1 </dev/null
     squeezed <"$work/out" >"$work/printed"
     diff "$work/lines" "$work/printed" >"$work/diff" || {
         echo "$1: the page (<) and what its commands print (>) differ" >>"$faults"

@@ -80,7 +80,11 @@ def orders_beside_the_desk():
     hold_book(given)
     same("the desk serves", server.wait(), True)
     same("and answers", server.answer(text["zoe-1"], "GET", "/account")[0], 200)
-    same("nothing is left", [f for f in os.listdir(HOME) if f.startswith(".") and os.path.getmtime(f"{HOME}/{f}") < time.time() - 700], [])
+    for folder in ("/dev/shm", HOME):
+        for left in [file for file in os.listdir(folder) if file.startswith(".office-")]:
+            os.utime(f"{folder}/{left}", (0, 0))
+    done("members")
+    same("nothing is left", [file for folder in ("/dev/shm", HOME) for file in os.listdir(folder) if file.startswith(".office-")], [])
     server.stop()
 
 

@@ -29,8 +29,8 @@ over() {
     mount -t overlay overlay -o "lowerdir=$1,upperdir=$room/$called,workdir=$room/$called.work" "$1"
 }
 for folder in /usr/bin /usr/lib /etc /var/lib /home; do over "$folder"; done
-# For systemd's journal, and what it keeps.
-for folder in /run/systemd /run/log; do
+# For systemd's journal and what it keeps, and for copies of a club that are in use.
+for folder in /run/systemd /run/log /dev/shm; do
     mkdir -p "$folder"
     mount -t tmpfs tmpfs "$folder"
 done
