@@ -335,13 +335,13 @@ impl Write for Watching<'_> {
 // How often the database was closed when a run on this line wrote first.
 fn watch_over<S: ClubStore + Drop>(
     rt: &HostRuntime,
+    closed: &Cell<u64>,
     store: S,
     line: &str,
 ) -> Result<Option<u64>, Fail> {
-    let closed = Cell::new(0);
-    let mut databases = InMemory::new(store, None, NOBODY, &closed);
+    let mut databases = InMemory::new(store, None, NOBODY, closed);
     let mut writer = Watching {
-        closed: &closed,
+        closed,
         found: None,
     };
     let words = words_of(rt, line)?;
@@ -371,7 +371,8 @@ static ANSWERED: [&str; 2] = [
 #[test]
 fn closed_before_the_answer_is_written(rt: HostRuntime) -> Result<(), Fail> {
     for line in &ANSWERED {
-        let found = watch_over(&rt, Store::open_in_memory(rt.alloc())?, line)?;
+        let closed = Cell::new(0);
+        let found = watch_over(&rt, &closed, Store::open_in_memory(rt.alloc())?, line)?;
         if found != Some(1) {
             return Err("written to while the database was open".into());
         }
