@@ -1087,6 +1087,39 @@ def keep(name, picture):
     pathlib.Path(PICTURES, name).write_bytes(base64.b64decode(picture))
 
 
+def on_three_phones(front, passes):
+    """A day, a booking and my bookings side by side, as README shows them."""
+    with BookingPage(front) as page:
+        page.sees(360, "light", 740)
+        page.enter(passes["amy-phone"])
+        page.press("Not here", "notices")
+        page.go(day(27))
+        for hour, guests in [(9, 3), (12, 1), (18, 0)]:
+            number = draw.randrange(1, 10**9)
+            curl(page, "PUT", f"/slots/court-1/{day(27)}/{hour:02}/bookings/{number}", passes["other"], json.dumps({"guests": guests}))
+        entry = page.booked("court-1", 10, 1)
+        page.run("look(); window.scrollTo(0, 0)")
+        page.when("dayIsThere() && cellAt('court-1', 9).button.innerText === 'Full'", "a day with bookings")
+        stripes = [page.command("Page.captureScreenshot")["data"]]
+        page.offer("court-1", 11)
+        page.press("One guest more")
+        time.sleep(0.5)
+        stripes.append(page.command("Page.captureScreenshot")["data"])
+        page.press("Close")
+        page.view("bookings")
+        time.sleep(0.5)
+        stripes.append(page.command("Page.captureScreenshot")["data"])
+        page.run("return state.sender.cancel(arguments[0], arguments[1])", entry["key"], entry["number"])
+        page.run("return state.sender.run()")
+        page.open("about:blank")
+        page.sees(1120, "light", 740)
+        page.driver.execute_script("""document.body.style.cssText = "margin: 0; display: flex; gap: 20px; background: #c9d0ca";
+            for (const stripe of arguments[0]) document.body.append(Object.assign(new Image(), { src: "data:image/png;base64," + stripe }));
+            return Promise.all([...document.images].map((image) => image.decode()));""", stripes)
+        keep("booking-page.png", page.command("Page.captureScreenshot")["data"])
+    print("a picture of a day, a booking and my bookings")
+
+
 def hall_screen(front, passes, server):
     screen = narrowed(passes["hall-screen"], "actions = view")
     with BookingPage(front) as page:
@@ -1311,7 +1344,7 @@ def main():
     for function, words in [(browser_ends, (front, passes, between)), (broken_browsers, (front, passes, server)), (clocks, (front, passes)),
                             (rotations, (front, passes, between)), (devices, (front, passes, server)), (cancelled_by_the_office, (front, passes, server)),
                             (survives_kills, (front, passes, server)), (is_quick_and_small, (start_proxy(server.port), passes)),
-                            (waits_as_the_proxy_wants, (start_proxy(server.port, limit=True), passes)), (looks_right, (front, passes)),
+                            (waits_as_the_proxy_wants, (start_proxy(server.port, limit=True), passes)), (looks_right, (front, passes)), (on_three_phones, (front, passes)),
                             (hall_screen, (front, passes, server))]:
         if wanted(function):
             function(*words)

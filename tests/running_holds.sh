@@ -179,7 +179,8 @@ serve club 1000 2026-04-20T12:00
 upstream=$port
 front=$((port + 1))
 while grep -qi ":$(printf %04X "$front") " /proc/net/tcp; do front=$((front + 1)); done
-sed "s,/etc/ssl/clubdesk/,$PWD/,; s/:8080/:$upstream/; /\[::\]/d; s/listen 443/listen 127.0.0.1:$front/" "$top/deploy/nginx.conf" >site.conf
+sed "s,/etc/ssl/clubdesk/,$PWD/,; s,/usr/share/clubdesk/web,$PWD/web,; s,/var/www/club;,$PWD/www;,; s/:8080/:$upstream/; /\[::\]/d
+    s/listen 443/listen 127.0.0.1:$front/" "$top/deploy/nginx.conf" >site.conf
 cat >nginx.conf <<CONF
 user www-data;
 pid $PWD/nginx.pid;
@@ -227,6 +228,37 @@ same 'the health check' '{"member":"amy","balance":10000,"quota":99,"open":0,"sp
     "$(curl -fsS --max-time 5 --cacert certificate.pem -H @health-field "$base/account")"
 same 'a health pass books nothing' '{"fault":12,"text":"caveat denies","caveat":1} 403' "$(asks PUT $slot/bookings/8 "$health" '{"guests":0}')"
 same 'no TLS' 400 "$(curl -sS -o told -w '%{http_code}' "http://127.0.0.1:$front/account")"
+
+# The pages, put into place by the lines of docs/RUNNING.md, but for the package's and this test's folders.
+wants qrencode qrencode
+cp -r "$top/web" web
+mkdir etc www
+printf 'FILE=%s/club\nZONE="CET-1CEST,M3.5.0,M10.5.0/3"\nPORT=8080\n' "$PWD" >etc/club.conf
+CONFIGURATIONS=$PWD/etc
+export CONFIGURATIONS
+cp pass amy-1
+awk '/^## / { inside = ($0 == "## The pages") } /^```/ { block = inside && $0 == "```sh"; next } block && !/^apt-get /' "$top/docs/RUNNING.md" |
+    sed "s,/usr/lib/clubdesk/,$top/deploy/,; s,/var/www/club,$PWD/www,g; s,/etc/clubdesk,$PWD/etc,g; s,/var/lib/clubdesk/club,$PWD/club,; s,/record .*,& >listed," >lines
+[ "$(wc -l <lines)" = 6 ] || fail "RUNNING has other lines of the pages: $(cat lines)"
+sh -eu lines >told 2>&1 || fail "the lines of the pages: $(cat told)"
+same "the club's list" '{"name":"Our club","zone":"Europe/Berlin","facilities":[{"name":"court-1","title":"Court 1","kind":"court","opens":0,"shuts":24}]}' \
+    "$(curl -sS --cacert certificate.pem "$base/club.json")"
+same 'its mode' 644 "$(stat -c %a www/club.json)"
+same 'a lost list' "record of amy-1
+7 court-1 2026-05-01 18 guests 2 charge 3 left 47 refund 3" "$(cat listed)"
+same 'the link of a letter' 1 "$(grep -c "https://desk.example.org/book.html#$(cat pass)" amy-1.html)"
+same '/' "302 $base/book.html" "$(curl -sS -o told --cacert certificate.pem -w '%{http_code} %{redirect_url}' "$base/")"
+for page in book pass; do
+    curl -sS --compressed --cacert certificate.pem -D fields "$base/$page.html" | cmp - "$top/web/$page.html" || fail "$page.html is another page"
+    grep -qi '^content-encoding: gzip' fields || fail "$page.html isn't compressed"
+    checks=$((checks + 2))
+done
+sed -i 's/^ZONE=.*/ZONE=GMT0BST,M3.5.0\/1,M10.5.0/' etc/club.conf
+if "$top/deploy/club_json" "$PWD/club" Europe/Berlin >told 2>said; then fail "a zone that isn't the server's is taken"; fi
+grep -q 'one of them is another zone' said || fail "$(cat said)"
+"$top/deploy/club_json" "$PWD/club" Europe/London >told || fail 'the zone of the server is refused'
+checks=$((checks + 2))
+
 # A client that sends half of a request holds up nobody: the proxy waits for it, and not the desk.
 {
     printf 'PUT /%s/bookings/9 HTTP/1.1\r\nHost: desk.example.org\r\nContent-Length: 12\r\n' $slot
