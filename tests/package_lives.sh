@@ -113,11 +113,12 @@ if CLUBDESK=/bin/true "$top/bin/package" third >told 2>&1; then fail 'bin/packag
 if [ -n "${DEBIAN-}" ]; then cp -a "$DEBIAN" "$root"; else
     debootstrap --variant=minbase --include=systemd,systemd-sysv bookworm "$root" >debootstrap.log 2>&1 || fail "debootstrap: $(tail debootstrap.log)"
 fi
+echo desk >"$root/etc/hostname"
+echo '127.0.0.1 localhost desk' >"$root/etc/hosts"
 echo 'APT::Get::Assume-Yes "true";' >"$root/etc/apt/apt.conf.d/99yes"
 cp "first/$deb" ./*.deb first/*.tar.xz "$root/root/"
 # The packages that it needs are fetched before the machine is cut off.
 offline sh -c "apt-get update && apt-get install --download-only /root/$deb xz-utils" >apt.log 2>&1 </dev/null || fail "apt-get: $(tail apt.log)"
-offline sh -c 'dpkg --get-selections; find / -xdev \( -path /proc -o -path /var/cache -o -path /root -o -path /tmp -o -path /run \) -prune -o -print | sort' >told 2>&1
 boot
 
 # blocks HEADING: the lines for root of a section of RUNNING, as the package has it.
@@ -296,12 +297,14 @@ for words in 'add-member eve 5' 'credit eve 1000' 'add-facility court-1 court 4 
     # shellcheck disable=SC2086 # a command's words
     holds "$words" office anna $words
 done
+# The server has the file once a request under a pass has needed it.
+account() { inside sh -c 'curl -sS -H "Authorization: Bearer $(cat /home/anna/eve-1)" http://127.0.0.1:8083/account'; }
+same 'the account before it' '{"member":"eve","balance":1000,"quota":5,"open":0,"spent":0}' "$(account)"
 before=$(inside systemctl show --value -p MainPID clubdesk@tennis)
 holds 'a correction' office anna set-quota eve 7 --yes
 answers 8083
 [ "$(inside systemctl show --value -p MainPID clubdesk@tennis)" != "$before" ] || fail 'a correction beside a running desk'
-same 'the account after it' '{"member":"eve","balance":1000,"quota":7,"open":0,"spent":0}' \
-    "$(inside sh -c 'curl -sS -H "Authorization: Bearer $(cat /home/anna/eve-1)" http://127.0.0.1:8083/account')"
+same 'the account after it' '{"member":"eve","balance":1000,"quota":7,"open":0,"spent":0}' "$(account)"
 office anna log >told
 [ "$(grep -c anna told)" -ge 6 ] || fail "the book: $(cat told)"
 if office carl credit eve 1000 >told 2>&1; then fail 'a credit by somebody who is no clerk'; fi
