@@ -1,7 +1,7 @@
 # Read by the tests of the office beside it: a machine of their own, of which nothing stays. In a mount namespace, folders are laid over
-# /usr/bin, /usr/lib, /etc, /var/lib and /home, with the desk's user, the clerks anna and ben, and carl who is none; with clubdesk where
-# a package puts it; with what the lines of docs/RUNNING.md under "The clerks" put into place; and with a `systemctl` that knows one
-# word, `kill`, and hands it to a small manager of services (tests/office_room.py). Wants root.
+# those of the machine; what bin/package packs of deploy/, web/ and the programs lies there as a package puts it; the clerk anna is made
+# by the lines of docs/RUNNING.md under "The clerks", ben is another one, and carl is none. `systemctl` knows one word, `kill`, and hands
+# it to a small manager of services (tests/office_room.py). Wants root.
 # Before it is read, `room_wants` may have COMMAND:PACKAGE pairs more, and `room_net` be not empty: then the room has a network of its own.
 PATH=/usr/sbin:/sbin:$PATH
 [ "$(id -u)" = 0 ] || { echo "$0 wants root, for other users and folders of its own" >&2; exit 2; }
@@ -28,7 +28,7 @@ over() {
     mkdir "$room/$called" "$room/$called.work"
     mount -t overlay overlay -o "lowerdir=$1,upperdir=$room/$called,workdir=$room/$called.work" "$1"
 }
-for folder in /usr/bin /usr/lib /etc /var/lib /home; do over "$folder"; done
+for folder in /usr/bin /usr/lib /usr/share /etc /var/lib /home; do over "$folder"; done
 # For systemd's journal and what it keeps, and for copies of a club that are in use.
 for folder in /run/systemd /run/log /dev/shm; do
     mkdir -p "$folder"
@@ -37,9 +37,22 @@ done
 [ ! -d /var/log/journal ] || mount -t tmpfs tmpfs /var/log/journal
 rm -f /etc/sudoers.d/*
 adduser --system --group --home /var/lib/clubdesk --no-create-home clubdesk >/dev/null 2>&1 || useradd -r -U -d /var/lib/clubdesk clubdesk
-for user in anna ben carl; do useradd -m "$user"; done
+getent group office >/dev/null || groupadd -r office
+for user in ben carl; do useradd -m "$user"; done
+usermod -a -G office ben
 install -m 755 "$desk" /usr/bin/clubdesk
 install -m 755 "$tool" /usr/bin/passtool
+install -m 755 "$top/deploy/office" /usr/bin/office
+install -m 440 "$top/deploy/office.sudoers" /etc/sudoers.d/clubdesk-office
+mkdir -p /usr/lib/clubdesk /usr/share/doc/clubdesk/examples /usr/share/clubdesk/web
+for file in "$top"/deploy/*; do
+    case $file in
+        */office | */office.sudoers | *.service | *.timer) ;;
+        *.conf) install -m 644 "$file" /usr/share/doc/clubdesk/examples ;;
+        *) if [ -f "$file" ] && [ -x "$file" ]; then install -m 755 "$file" /usr/lib/clubdesk; fi ;;
+    esac
+done
+for file in "$top"/web/*; do [ ! -f "$file" ] || install -m 644 "$file" /usr/share/clubdesk/web; done
 
 # page_block HEADING: the lines of docs/RUNNING.md for root under this heading, but for those that install Debian's packages.
 page_block() {
@@ -49,11 +62,9 @@ page_block() {
         /^```$/ { inside = 0 }
         inside && !/^apt-get /' "$top/docs/RUNNING.md"
 }
-# The page's own lines put the office into place.
 page_block 'The clerks' >"$room/clerks"
 [ -s "$room/clerks" ] || { echo "docs/RUNNING.md has no lines under 'The clerks'" >&2; exit 1; }
 (cd "$top" && sh -e "$room/clerks") >/dev/null
-usermod -a -G office ben
 install -d -m 755 /etc/clubdesk
 install -d -o clubdesk -g clubdesk -m 700 /var/lib/clubdesk
 mkdir "$room/services"

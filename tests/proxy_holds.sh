@@ -1,5 +1,5 @@
 #!/bin/sh
-# Runs what docs/RUNNING.md has for root under "A certificate", "TLS" and "Several clubs", line by line, on a machine of its own
+# Runs what docs/RUNNING.md has for root under "A club", "A certificate", "TLS" and "Several clubs", line by line, on a machine of its own
 # (tests/office_room.sh): certbot gets a certificate by nginx's site of the challenges, from an authority of the test's own
 # (tests/acme_stand_in.py), and renews it, after which the site has the new one. Then two clubs at one proxy, that nothing else is answered
 # at the port of the challenges, and the limit of requests, with its sentence. Wants root. Not part of the gate.
@@ -66,27 +66,23 @@ esac
 SYSTEMCTL
 install -m 755 "$room/systemctl" /usr/bin/systemctl
 
-# The page's lines run at the top of a copy of deploy/, whose files have the club's name, and then its certificate, as the page says.
-mkdir "$room/top"
-cp -R "$top/deploy" "$room/top/deploy"
 by_page() {
     page_block "$1" >"$room/lines"
     [ -s "$room/lines" ] || fail "docs/RUNNING.md has no lines under '$1'"
-    (cd "$room/top" && sh -e "$room/lines") >said 2>&1 || fail "$1: $(cat said)"
+    (cd "$top" && sh -e "$room/lines") >said 2>&1 || fail "$1: $(cat said)"
     echo "$1: $(wc -l <"$room/lines") lines run"
 }
 
 # ---- The first club, as the page makes it, with a member.
-printf 'FILE=/var/lib/clubdesk/tennis\nZONE=UTC0\nPORT=8080\n' >/etc/clubdesk/tennis.conf
-club() {
+by_page 'A club'
+member_of() {
     office "$1" add-member amy 99
     office "$1" credit amy 1000
     office "$1" add-facility "$1-1" court 4 1 0 24
     office "$1" add-key amy-1 amy --to "$work/$1-pass"
 }
-office tennis new >told
-club tennis >told
-systemctl enable --now clubdesk@tennis
+member_of club >told
+systemctl enable --now clubdesk@club
 
 # ---- A certificate, and the site that has it.
 nginx
@@ -97,7 +93,8 @@ started="$started $!"
 for _ in $(seq 100); do [ ! -s ready ] || break; sleep 0.1; done
 by_page 'A certificate'
 live=/etc/letsencrypt/live/desk.example.org
-sed -i "s,/etc/ssl/clubdesk/certificate.pem,$live/fullchain.pem,; s,/etc/ssl/clubdesk/key.pem,$live/privkey.pem," "$room/top/deploy/nginx.conf"
+sed -i "s,/etc/ssl/clubdesk/certificate.pem,$live/fullchain.pem,; s,/etc/ssl/clubdesk/key.pem,$live/privkey.pem," \
+    /usr/share/doc/clubdesk/examples/nginx.conf
 by_page TLS
 is_heard https://127.0.0.1/
 code=0
@@ -115,17 +112,10 @@ same 'the site has the new one' "$(openssl x509 -noout -serial -in "$live/cert.p
 same 'no challenge is left' '' "$(find /var/www/challenge -type f)"
 
 # ---- A second club: each name has its own.
-sed 's,tennis,rowing,; s,8080,8081,' /etc/clubdesk/tennis.conf >"$room/rowing.conf"
-# The page copies the first club's configuration, and then its lines are changed.
-cat >"$room/cp" <<CP
-#!/bin/sh
-/bin/cp "\$@" && [ "\$2" != /etc/clubdesk/rowing.conf ] || /bin/cp "$room/rowing.conf" /etc/clubdesk/rowing.conf
-CP
-chmod 755 "$room/cp"
 certbot certonly --webroot --webroot-path /var/www/challenge --domain rowing.example.org --deploy-hook 'systemctl reload nginx' >said 2>&1 ||
     fail "certbot: $(cat said)"
-PATH=$room:$PATH by_page 'Several clubs'
-club rowing >told
+by_page 'Several clubs'
+member_of rowing >told
 sed -i 's,/live/desk.example.org/,/live/rowing.example.org/,' /etc/nginx/sites-available/rowing
 nginx -t -q && systemctl reload nginx
 is_heard http://127.0.0.1:8081/
@@ -138,9 +128,11 @@ seen() {
     printf 'Authorization: Bearer %s' "$(cat "$1-pass")" >field
     curl -H @field "https://$2.example.org/$3"
 }
-for pair in tennis:desk rowing:rowing; do
+for pair in club:desk rowing:rowing; do
     same "the court of ${pair%:*}" "\"facility\":\"${pair%:*}-1\"" "$(seen "${pair%:*}" "${pair#*:}" "slots/${pair%:*}-1/2026-05-01/18" | grep -o '"facility":"[a-z0-9-]*"')"
 done
+same 'the list of facilities for the page' club-1 "$(curl https://desk.example.org/club.json | grep -o 'club-1' | head -n 1)"
+same 'the page' 200 "$(curl -o told -w '%{http_code}' https://desk.example.org/book.html)"
 same "a pass of the other club" '{"fault":9,"text":"not verified"}' "$(seen rowing desk account)"
 
 # ---- The limit: 200 at once pass, and then there is a sentence. Another second, and requests pass again.
@@ -155,5 +147,5 @@ passed=$(grep -c '^401' statuses || :)
 same 'the sentence' 'Too many requests at once. Send this one again in a second.' "$(grep -lF 'Too many' got.* | head -n 1 | xargs cat)"
 same 'as many sentences as refusals' "$limited" "$(grep -lF 'Send this one again in a second.' got.* | wc -l)"
 sleep 1.2
-same 'a second later' 200 "$(curl -o told -w '%{http_code}' -H "Authorization: Bearer $(cat tennis-pass)" https://desk.example.org/account)"
+same 'a second later' 200 "$(curl -o told -w '%{http_code}' -H "Authorization: Bearer $(cat club-pass)" https://desk.example.org/account)"
 echo "$checks checks of the proxy passed: of 300 requests at once $passed were answered, $limited were not"
