@@ -284,20 +284,24 @@ def by_hand(sql):
     raise RuntimeError(told.stderr)
 
 
+def begun(words, errors=None):
+    """A command of the office that goes on."""
+    line = ["runuser", "-u", "anna", "--", "office", "club", *words]
+    return subprocess.Popen(line, stdin=subprocess.PIPE, stdout=subprocess.PIPE, stderr=errors or subprocess.PIPE, text=True, cwd="/home/anna")
+
+
 def takes_turns():
     """One order at a time: another one waits, and is done then."""
     with open(f"{HOME}/club-orders", "r+", encoding="ascii") as turn:
         fcntl.flock(turn, fcntl.LOCK_EX)
-        waiting = []
-        orders = [threading.Thread(target=lambda w=w: waiting.append(office(*w))) for w in (["credit", "amy", "1"], ["debit", "amy", "1", *YES])]
+        orders = [begun(words, subprocess.PIPE) for words in (["credit", "amy", "1"], ["debit", "amy", "1", *YES])]
         for order in orders:
-            order.start()
-        time.sleep(3)
-        same("both wait", waiting, [])
+            same("it says that it waits", order.stderr.readline(), "waiting for another order\n")
+        same("both wait", [order.poll() for order in orders], [None, None])
         balance = rows("SELECT credited - used FROM members WHERE name = 'amy'")
     for order in orders:
-        order.join()
-    same("both are done then", sorted((status, errors) for status, _, errors in waiting), [(0, "waiting for another order\n")] * 2)
+        order.communicate()
+    same("both are done then", [order.returncode for order in orders], [0, 0])
     same("and in turn", rows("SELECT credited - used FROM members WHERE name = 'amy'"), balance)
     threads = [threading.Thread(target=lambda: done("credit", "amy", "10", by="ben")) for _ in range(6)]
     threads += [threading.Thread(target=lambda: done("debit", "amy", "5", *YES)) for _ in range(1)]
@@ -312,9 +316,9 @@ def changed_meanwhile(server):
     """What was shown is what is done: where the club has changed since, nothing is."""
     text = done("add-key", "amy-5", "amy").strip()
     book(server, text, "court-2", 17, 1, 0)
-    line = ["runuser", "-u", "anna", "--", "office", "club", "close", DAY, "17-18", "court-2", *AT]
-    with subprocess.Popen(line, stdin=subprocess.PIPE, stdout=subprocess.PIPE, stderr=subprocess.PIPE, text=True, cwd="/home/anna") as asked:
-        time.sleep(2)
+    with begun(["close", DAY, "17-18", "court-2", *AT]) as asked:
+        same("what is shown", asked.stdout.readline(), f"cancels court-2 {DAY} 17:00, 1 persons, 200 points back: amy-5 1, amy\n")
+        asked.stdout.readline()
         book(server, text, "court-2", 17, 2, 0)
         _, errors = asked.communicate("y\n")
     same("a booking between the question and its answer", (asked.returncode, "has changed since" in errors), (1, True))
