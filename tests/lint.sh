@@ -2,6 +2,8 @@
 # Slips that a machine sees and the gate lets pass. Prints each, with its place; the status is 1 where there is one.
 # - one name that two specs modules define, of one crate or of two, but for those of one meaning that `twins` has;
 # - lines that are too long: code, comments and clauses past 100 columns, imports, specs and proofs past 160;
+# - limits of CONTRIBUTING: a function's body of 40 lines or more, a file of code of 800 or more, a proof of 400 or more, a crate that is
+#   none of tests with more than 100 functions;
 # - a number in a public docstring without a unit (a guess: it looks for a word behind the number, or a unit's word in the text);
 # - another version than that of VERSION: in the code, as both programs print it, or in the newest heading of CHANGELOG.md;
 # - files that nothing uses: modules of specs and proofs that no file imports, files of code that no `mod` names, scripts that no
@@ -9,6 +11,7 @@
 # Not part of the gate.
 #   tests/lint.sh                  every crate
 #   tests/lint.sh club_core ..     these crates
+# groups: quick
 set -u
 here=$(CDPATH='' cd -P -- "$(dirname -- "$0")" && pwd)
 cd "$here/.." || exit 2
@@ -65,6 +68,34 @@ by_file() {
     awk -F : -v columns="$1" '
         !count[$1]++ { first[$1] = $2 }
         END { for (file in count) print "past " columns " columns: " file ":" first[file] ": " count[file] " lines" }' | sort
+}
+
+# The limits of CONTRIBUTING. A body is what stands between a function's braces.
+too_large() {
+    find "crates/$1/src" -name '*.rt' -exec awk '
+        /^ *(pub(\([a-z]+\))? )?(const )?fn / { indent = $0; sub(/[^ ].*/, "", indent); name = $0; sub(/.*fn /, "", name); sub(/[^a-z0-9_].*/, "", name); start = 0; inside = 1 }
+        inside && !start && ($0 == indent "{" || (index($0, indent) == 1 && /^ *(\)|(pub|const|fn) ).*\{$/)) { start = FNR; next }
+        inside && start && $0 == indent "}" {
+            if (FNR - start > 40) print "a function of " FNR - start - 1 " lines: " FILENAME ":" start ": " name
+            inside = 0
+        }' {} +
+    find "crates/$1/src" -name '*.rt' | over 800
+    find "crates/$1/proofs" -name '*.antt' 2>/dev/null | over 400
+    case $1 in
+        *_tests) ;;
+        *)
+            functions=$(find "crates/$1/src" -name '*.rt' -exec cat {} + | grep -cE '^ *(pub(\([a-z]+\))? )?(const )?fn ')
+            [ "$functions" -le 100 ] || echo "more than 100 functions: $1 has $functions"
+            ;;
+    esac
+}
+
+# over LINES: of the files on standard input, those that have so many lines or more.
+over() {
+    while read -r file; do
+        lines=$(wc -l <"$file")
+        [ "$lines" -lt "$1" ] || echo "a file of $lines lines: $file"
+    done
 }
 
 # The sentences of a docstring above a public item, joined; a number in it wants a unit.
@@ -166,6 +197,7 @@ unnamed_scripts() {
     twice_defined "$@"
     for crate; do
         too_long "$crate"
+        too_large "$crate"
         without_unit "$crate"
         unused_modules "$crate" specs
         unused_modules "$crate" proofs
