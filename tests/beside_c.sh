@@ -4,6 +4,7 @@
 # pass and a forged one the medians in microseconds and their ratio, over so many bookings in the file, and for a member with
 # 10,000 of its own. The replies of both are compared byte for byte. Not part of the gate.
 #   tests/beside_c.sh [COUNT [ROUNDS [ROWS ..]]]      COUNT requests of each kind in a round, at most 600; without: 500 7 100 100000
+# groups: speed alone
 set -eu
 . "$(dirname -- "$0")/serving.sh"
 wants cc gcc libc6-dev

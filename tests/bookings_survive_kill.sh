@@ -4,6 +4,7 @@
 # totals are the sums. The same 200 requests, sent again, are told what the first ones were or would have been, and then all 200
 # bookings are there, once. Not part of the gate.
 #   tests/bookings_survive_kill.sh [ROUNDS]
+# groups: faults
 set -eu
 . "$(dirname -- "$0")/serving.sh"
 wants curl curl

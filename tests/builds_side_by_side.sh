@@ -3,6 +3,7 @@
 # is stale is built, and nothing else; libraries side by side, as many as PROVED_AT_ONCE says, each behind those below it; an edit in
 # the course of a build builds again; a build that is stopped ends each rt, leaves no rooms, and no program that counts as built, also
 # one that was there half or was killed; what fails is shown, with status 125; two calls at once build once. Not part of the gate.
+# groups: package
 set -u
 here=$(CDPATH='' cd -P -- "$(dirname -- "$0")" && pwd)
 work=$(mktemp -d) || exit 2

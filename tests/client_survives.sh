@@ -5,6 +5,7 @@
 # Then each command of client.py is called, with what it prints, and a proxy between client and desk fails in several ways. Not part
 # of the gate.
 #   tests/client_survives.sh [KILLS]
+# groups: programs faults
 set -eu
 . "$(dirname -- "$0")/serving.sh"
 wants python3 python3

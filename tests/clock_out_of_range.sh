@@ -3,6 +3,7 @@
 # them, in three zones. Where the clock tells a moment of the club's, each client has its reply. Where it tells none, or can't be
 # read, the first client has no byte, a second one isn't waited for, the server ends with status 6 and its line, and the club is
 # as it was. Not part of the gate.
+# groups: faults
 set -eu
 . "$(dirname -- "$0")/serving.sh"
 wants curl curl

@@ -6,6 +6,7 @@
 # - The order is killed after so many milliseconds.
 # Not part of the gate. With a number N, each Nth allocation alone is refused, which is faster.
 #   tests/club_stays_whole.sh [N]
+# groups: faults
 set -eu
 . "$(dirname -- "$0")/serving.sh"
 wants cc gcc libc6-dev

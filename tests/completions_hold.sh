@@ -2,6 +2,7 @@
 # The completions that bin/completions makes, in real shells (bash, zsh and fish), against `--help` of both programs: for each command
 # those words that begin so, its options, the values of its options, files for FILE; of nothing else. Installs Debian's shells where
 # they are missing. Not part of the gate.
+# groups: package
 set -eu
 . "$(dirname -- "$0")/serving.sh"
 wants bash bash

@@ -2,6 +2,7 @@
 # Runs bin/demo and compares what it prints with tests/demo.told. Then runs it where it can't go on: without curl and sqlite3, as root
 # and as somebody else; with a server that doesn't listen; and with one that a signal to the demo ends. It ends each time, says why,
 # and leaves no server. Installs Debian's curl and sqlite3 where they are missing.
+# groups: pages
 set -u
 root=$(CDPATH='' cd -P -- "$(dirname -- "$0")/.." && pwd)
 for package in curl sqlite3; do

@@ -18,6 +18,8 @@
 #   tests/docs_hold.sh                 every page
 #   tests/docs_hold.sh docs/DESK.md    these pages
 #   tests/docs_hold.sh -n [PAGE ..]    what wants no program of ours: all but the commands and the demo
+# groups: pages
+# groups: quick: -n
 set -u
 here=$(CDPATH='' cd -P -- "$(dirname -- "$0")" && pwd)
 root=$(dirname "$here")

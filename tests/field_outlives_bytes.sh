@@ -3,6 +3,7 @@
 # checker, and the same code without the misuse is proved. In a scratch copy of the crates that it stands on. Not part of the
 # gate, which wants edits that compile.
 #   tests/field_outlives_bytes.sh
+# groups: proofs
 set -eu
 here=$(CDPATH='' cd -P -- "$(dirname -- "$0")" && pwd)
 work=$(mktemp -d)

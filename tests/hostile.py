@@ -8,6 +8,8 @@ totals of the file are those of the reference. With --self-test each planted fau
 
     tests/hostile.py [--seed N] [--count M] [--plant FAULT | --self-test]
 """
+# groups: programs
+# groups: quick: --count 5000
 
 import argparse
 import random

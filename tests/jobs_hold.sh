@@ -3,6 +3,7 @@
 # three years, against the same rule in Python; the morning's sheet in three zones, by the clock and before its hour; checks of a desk that
 # is well, and of what isn't; mail to a mailer of the test's own. A job that is killed leaves nothing that the next one takes for its own.
 # Installs Debian's packages where they are missing. Not part of the gate.
+# groups: package
 set -eu
 . "$(dirname -- "$0")/serving.sh"
 wants curl curl

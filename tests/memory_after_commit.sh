@@ -5,6 +5,7 @@
 # part of the gate.
 #   tests/memory_after_commit.sh            the program of this tree, proved and built first where it has to be
 #   tests/memory_after_commit.sh PROGRAM    another one
+# groups: faults
 set -eu
 here=$(CDPATH='' cd -P -- "$(dirname -- "$0")" && pwd)
 root=$(dirname -- "$here")

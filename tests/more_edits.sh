@@ -19,5 +19,6 @@
 # Refused by meaning are `false` and `goal`. Only `false` is shown: the check seldom finds values that break an equation of lists or a
 # bound on a product, so most wrong bodies are `goal`, though their goals are false too. `goal` says that this proof fails, and no
 # tactic finds another one.
+# groups: proofs
 here=$(CDPATH='' cd -P -- "$(dirname -- "$0")" && pwd)
 exec python3 "$here/more_edits.py" "$@"

@@ -5,6 +5,7 @@
 # passtool writes them again. pymacaroons counts the letters of a location and of an identifier in V1 and not their bytes, so there
 # it gets the passes alone in which both are ASCII, as those of the desk are. Each narrowed pass is signed under its root. Installs
 # Debian's packages where they are missing. The program is that of the variable PASSTOOL, or bin/passtool. Not part of the gate.
+# groups: programs
 set -eu
 root=$(CDPATH='' cd -P -- "$(dirname -- "$0")/.." && pwd)
 tool=${PASSTOOL:-$root/bin/passtool}

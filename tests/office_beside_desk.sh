@@ -4,6 +4,7 @@
 # that are stale or odd, a server that is killed while the office waits, an office that is killed while the server waits, a pause
 # that ends in time and one that doesn't, and the modes of the files. Prints how long orders took. Not part of the gate.
 #   tests/office_beside_desk.sh
+# groups: programs faults
 set -eu
 . "$(dirname -- "$0")/serving.sh"
 wants python3 python3

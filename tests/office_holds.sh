@@ -4,6 +4,7 @@
 # and the totals; what it refuses; passes and their files; the book, in a file and in systemd's journal. Wants root, for a machine of
 # its own (tests/office_room.sh). Not part of the gate.
 #   tests/office_holds.sh
+# groups: package root
 set -eu
 . "$(dirname -- "$0")/office_room.sh"
 ROOM=$room python3 "$here/office_holds.py"

@@ -4,6 +4,7 @@
 # and after each of its orders, and 40 times at random: nobody is credited twice, and each pass that it leaves opens its account. Wants
 # root, for a machine of its own (tests/office_room.sh). Not part of the gate.
 #   tests/office_killed.sh [KILLS [SEED]]
+# groups: package faults root
 set -eu
 . "$(dirname -- "$0")/office_room.sh"
 number "${1-100}" 1 10000

@@ -4,6 +4,7 @@
 # those of before by sums; the server answers the same requests with the same bytes; and the command, killed at random, leaves the old
 # club or the new one. Wants root, for a machine of its own (tests/office_room.sh). Not part of the gate.
 #   tests/office_year.sh [REQUESTS]
+# groups: package root
 set -eu
 . "$(dirname -- "$0")/office_room.sh"
 number "${1-1500}" 10 100000

@@ -3,6 +3,7 @@
 # each operation is asked for: status, fields and body of the reply of clubdesk's server are those of the description, byte for byte,
 # and obey their schema. The faults and their statuses are those of docs/CLIENT.md's table. Installs Debian's packages where they are
 # missing. Not part of the gate.
+# groups: pages
 set -eu
 . "$(dirname -- "$0")/serving.sh"
 wants sqlite3 sqlite3

@@ -6,6 +6,7 @@
 # removed, installed again, and purged: no acknowledged booking is lost, and the clubs' files stay. At the end the archive for other
 # systems, below /usr/local. Wants root, and Debian's mirror for the fresh Debian: DEBIAN=FOLDER names one that is there already, made by
 # `debootstrap --variant=minbase --include=systemd,systemd-sysv bookworm FOLDER`, of which a copy is taken. Not part of the gate.
+# groups: package root
 set -eu
 . "$(dirname -- "$0")/serving.sh"
 [ "$(id -u)" = 0 ] || { echo "$0 wants root, for a fresh Debian" >&2; exit 2; }

@@ -14,6 +14,7 @@
 #   tests/page_books.sh FOLDER     and pictures of the page into this folder
 #   CLUBDESK=PROGRAM PASSTOOL=PROGRAM tests/page_books.sh ..   by these programs, which are proved and built first where they aren't given
 #   KILLS=3 BOOKINGS=20 tests/page_books.sh ..   with fewer kills and bookings than 30 and 200
+# groups: browser
 set -eu
 . "$(dirname -- "$0")/serving.sh"
 PATH=/usr/sbin:/sbin:$PATH

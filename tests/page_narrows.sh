@@ -10,6 +10,7 @@
 #   tests/page_narrows.sh            all of it
 #   tests/page_narrows.sh FOLDER     and pictures of the page into this folder
 #   PASSTOOL=PROGRAM tests/page_narrows.sh ..   by this passtool, instead of bin/passtool, which proves it first where it has to
+# groups: browser
 set -eu
 here=$(CDPATH='' cd -P -- "$(dirname -- "$0")" && pwd)
 root=$(dirname "$here")

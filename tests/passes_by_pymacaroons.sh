@@ -2,6 +2,7 @@
 # Runs clubdesk's server for 1,000 requests. Every second one comes with a pass that pymacaroons narrowed, the others with one
 # that passtool narrowed; passes come in V1, V2 and JSON, which pymacaroons reads and writes too. Each reply is compared with
 # what a program of another language makes of the same rules. Not part of the gate.
+# groups: programs
 set -eu
 . "$(dirname -- "$0")/serving.sh"
 python=/usr/bin/python3

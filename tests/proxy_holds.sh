@@ -3,6 +3,7 @@
 # (tests/office_room.sh): certbot gets a certificate by nginx's site of the challenges, from an authority of the test's own
 # (tests/acme_stand_in.py), and renews it, after which the site has the new one. Then two clubs at one proxy, that nothing else is answered
 # at the port of the challenges, and the limit of requests, with its sentence. Wants root. Not part of the gate.
+# groups: package root
 set -eu
 room_wants='curl:curl nginx:nginx-light certbot:certbot'
 room_net=yes

@@ -7,6 +7,7 @@
 #   tests/refused_memory_tests.sh                                              the tests of the list below
 #   tests/refused_memory_tests.sh club_store_tests                                  those of one crate
 #   tests/refused_memory_tests.sh club_store_tests store::shows_what_a_key_sees ..  any tests of a crate
+# groups: proofs
 set -eu
 here=$(CDPATH='' cd -P -- "$(dirname -- "$0")" && pwd)
 root=$(dirname -- "$here")

@@ -4,6 +4,7 @@
 # commands in front of a section's first table make the club, without bookings; the section's requests, and the commands behind them,
 # meet a copy. Blocks with a server of their own are left to tests/docs_hold.sh. Not part of the gate.
 #   tests/requests_of_pages.sh [PAGE ..]
+# groups: pages
 set -eu
 . "$(dirname -- "$0")/serving.sh"
 wants curl curl

@@ -3,6 +3,7 @@
 # the desk makes no call of the system which its unit forbids; nginx with TLS before the desk, by its stored configuration; copies of
 # the club while it is written to, and one that is restored; a disk that gets full. Wants root. Installs Debian's packages where they
 # are missing. Not part of the gate.
+# groups: pages package root
 set -eu
 . "$(dirname -- "$0")/serving.sh"
 [ "$(id -u)" = 0 ] || { echo "$0 wants root, for another user and a small disk" >&2; exit 2; }

@@ -5,6 +5,7 @@
 # the rounds' medians in microseconds, from before the client connects to the end of the reply, and their ratio. Then it prints how many
 # calls of the system the server makes for a request of each kind, by strace. Not part of the gate.
 #   tests/server_times.sh [COUNT [ROUNDS]]      COUNT times ROUNDS at most 3000; without them 400 7
+# groups: speed alone
 set -eu
 . "$(dirname -- "$0")/serving.sh"
 wants cc gcc libc6-dev

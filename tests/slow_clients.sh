@@ -4,6 +4,7 @@
 # reply in time. Then 1,000 requests with 1 to 100,000 bytes behind them, and 1,000 heads of 100,000 bytes, half of them in two pieces,
 # by clients that send all before they read; 200 requests in three, four and six pieces each, by a length and by chunks, and 100 beside
 # a server that is stopped and goes on: none loses its reply. Not part of the gate.
+# groups: faults
 set -eu
 . "$(dirname -- "$0")/serving.sh"
 wants python3 python3

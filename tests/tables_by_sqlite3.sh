@@ -3,6 +3,7 @@
 # limits of docs/TABLES.md; what sqlite3 changes within them, clubdesk tells; the lists and corrections of docs/RUNNING.md do what the
 # page says; and a file that holds no club, or a row out of its limits, is a fault of storage and stays as it was, byte for byte. Not
 # part of the gate.
+# groups: programs
 set -eu
 . "$(dirname -- "$0")/serving.sh"
 wants curl curl

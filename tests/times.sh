@@ -6,6 +6,7 @@
 #   tests/times.sh club_core ..    `rt ci club_core ..`: these crates, and those below them
 # Times are read from /proc once a second, so a process counts up to a second less than it took; running the programs and tests
 # isn't counted. Seconds vary by a quarter with what else the machine does. Not part of the gate.
+# groups: proofs alone
 set -u
 here=$(CDPATH='' cd -P -- "$(dirname -- "$0")" && pwd)
 root=$(dirname "$here")

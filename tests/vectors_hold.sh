@@ -2,6 +2,7 @@
 # Compares passtool and clubdesk's server with docs/vectors.json: each pass in each form, texts that are read as the same pass,
 # texts that are none, the verdict of each caveat on each request, and the reply to each request, byte for byte. The signatures are
 # computed once more by Python's standard library, and V1 and V2 by pymacaroons, where it writes the pass as it is. Not part of the gate.
+# groups: pages
 set -eu
 . "$(dirname -- "$0")/serving.sh"
 python=/usr/bin/python3

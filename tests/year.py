@@ -9,6 +9,8 @@ reference's, whether the first one was done or not.
 
     tests/year.py [--seed N] [--days N] [--requests N] [--self-test]
 """
+# groups: programs
+# groups: quick: --days 20
 
 import argparse
 import os
