@@ -125,7 +125,7 @@ sleep 0.3
 kill -KILL "$!"
 wait "$!" 2>/dev/null
 sleep 1
-[ "$(clone/crates/top/out/top)" = runs ] && [ -z "$(find clone/crates/*/src -newer clone/crates/top/out/top)" ] || fail 'the killed build has no program'
+{ [ "$(clone/crates/top/out/top)" = runs ] && [ -z "$(find clone/crates/*/src -newer clone/crates/top/out/top)" ]; } || fail 'the killed build has no program'
 rm -rf rooms/*
 : >calls
 built 'after a kill' 4

@@ -51,6 +51,7 @@ keeps_a_club() {
         137) cmp -s found rows.after || cmp -s found rows.before || fail "the file holds $(cat found)" ;;
         *) cmp -s found rows.before || fail "the file holds $(cat found)" ;;
     esac
+    # shellcheck disable=SC2094 # the first `sheet` is a command's name
     "$desk" sheet club 2026-05-01 >sheet 2>fault || fail 'the file is refused afterwards'
     rows club | cmp -s - found || fail 'clubdesk finds another club'
 }
@@ -92,8 +93,9 @@ refuse_storage() {
     for blocks in $(seq 0 50 2000); do
         cut="$*, $blocks blocks"
         begin
-        # Its output goes through pipes, which have no limit; so a fault stands for the status.
+        # shellcheck disable=SC2016 # another shell reads it
         limited='trap "" XFSZ; ulimit -f "$0"; exec "$@"'
+        # Its output goes through pipes, which have no limit; so a fault stands for the status.
         { sh -c "$limited" "$blocks" "$desk" "$@" | cat >out; } 2>&1 | cat >fault
         if [ -s fault ]; then status=5; fi
         ends 'storage failed' 5
@@ -127,7 +129,7 @@ cp opened rows.before
 : >before
 rm -f before-wal
 while IFS='|' read -r order change; do
-    # The words of an order hold no spaces.
+    # shellcheck disable=SC2086 # the words of an order hold no spaces
     set -- $order
     command=$1
     shift

@@ -20,6 +20,7 @@
 #   tests/docs_hold.sh -n [PAGE ..]    what wants no program of ours: all but the commands and the demo
 # groups: pages
 # groups: quick: -n
+# shellcheck disable=SC2016 # backquotes are Markdown's
 set -u
 here=$(CDPATH='' cd -P -- "$(dirname -- "$0")" && pwd)
 root=$(dirname "$here")
@@ -45,8 +46,8 @@ blocks() {
 # The commands of a page as a script that prints each before it runs it. `$?` is that of the command before. After a command that
 # ends in `&` the script waits until something more was printed.
 script_of() {
-    blocks "$1" console | sed "s/:8080/:$port/; s/--port 8080/--port $port/" | awk '
-        function quoted(text) { gsub(/'\''/, "'\''\\'\'''\''", text); return "'\''" text "'\''" }
+    blocks "$1" console | sed "s/:8080/:$port/; s/--port 8080/--port $port/" | awk -v quote="'" '
+        function quoted(text) { gsub(quote, quote "\\" quote quote, text); return quote text quote }
         BEGIN {
             print "trap '\''kill $(jobs -p) 2>/dev/null'\'' EXIT"
             print "again() { return \"$1\"; }"
@@ -100,6 +101,7 @@ run_commands() {
 }
 
 # Quoted lines, in one piece, in some file of crates/.
+# shellcheck disable=SC2046 # no file of crates/ has a space in its name
 find_quotes() {
     for language in rust antt text; do
         blocks "$1" "$language" | sed 's/^ *//' | awk -v room="$work" -v RS='' '{ printf "%s", $0 >(room "/quote." NR); close(room "/quote." NR) }'
@@ -109,10 +111,10 @@ find_quotes() {
                 FNR == 1 { if (index(text, quote)) exit; text = "" }
                 { sub(/^ */, ""); text = text $0 "\n" }
                 END { if (!index(text, quote)) exit 1 }' "$quote" $(cat "$work/files") || {
-                echo "$1: these lines are in no file of crates/:" >>"$faults"
-                cat "$quote" >>"$faults"
-                echo >>"$faults"
-            }
+                echo "$1: these lines are in no file of crates/:"
+                cat "$quote"
+                echo
+            } >>"$faults"
             rm "$quote"
         done
     done
@@ -140,7 +142,7 @@ follow_links() {
 # What crates/ defines, one a line: CRATE FILE KIND NAME, for a clause CRATE FILE clause FUNCTION LABEL, and for a field of a record of
 # specs/ also CRATE FILE field RECORD NAME.
 index_names() {
-    cat "$work/files" | tr ' ' '\n' | while read -r file; do
+    tr ' ' '\n' <"$work/files" | while read -r file; do
         crate=${file#crates/}
         crate=${crate%%/*}
         awk -v at="$crate $file" '
@@ -286,6 +288,7 @@ hold_definitions() {
 
 # The lines of the law in docs/PROMISES.md: behind the last colon a function and names of its clauses, or of other functions, held above.
 # README's table has the same laws in the same order, in its last cell a function, and of it a clause.
+# shellcheck disable=SC2129 # the first command has another end
 hold_laws() {
     sed -n 's/^[0-9]*\. \*\*\(.*\)\.\*\*.*/\1/p' docs/PROMISES.md >"$work/laws"
     sed -n '/^| Law |/,/^$/s/^| \([A-Z][a-z ]*\) |.*/\1/p' README.md | tail -n +2 | diff "$work/laws" - |
@@ -412,7 +415,7 @@ if [ -n "$whole" ]; then
     done
     if [ -n "$runs" ]; then
         blocks README.md sh | sed -n '/^cd crates/,/rt try/p' >"$work/script"
-        [ "$(sh "$work/script" 2>"$work/said")" = signed ] && grep -q 'proved=no$' "$work/said" ||
+        { [ "$(sh "$work/script" 2>"$work/said")" = signed ] && grep -q 'proved=no$' "$work/said"; } ||
             { echo 'README.md: what it tries unproved:'; cat "$work/script" "$work/said"; } >>"$faults"
     fi
     [ -z "$runs" ] || tests/demo_tells.sh || echo 'tests/demo_tells.sh: bin/demo prints something else' >>"$faults"

@@ -66,7 +66,7 @@ printf '#!/bin/sh\necho storage failed >&2\nexit 5\n' >refuses
 chmod +x refuses
 ends 'a copy that clubdesk refuses' 1 env CLUBDESK="$work/refuses" "$deploy/keep_copies" club copies
 grep -q "clubdesk can't open the copy" said || fail "it doesn't say so: $(cat said)"
-same 'what is left of them' "$old $name" "$(ls -A copies | xargs)"
+same 'what is left of them' "$old $name" "$(find copies -mindepth 1 -printf '%f\n' | sort | xargs)"
 # Killed while it works; the next one clears up. Two at once take turns.
 printf '#!/bin/sh\ntouch waits\nexec sleep 30\n' >waits.sh
 chmod +x waits.sh
@@ -77,14 +77,14 @@ for _ in $(seq 100); do [ ! -e waits ] || break; sleep 0.1; done
 pkill -P "$job" -x sleep || :
 kill -9 "$job"
 wait "$job" 2>/dev/null || :
-[ -n "$(ls -A copies | grep '^.new')" ] || fail 'a killed copy left nothing: was it killed?'
+[ -n "$(find copies -name '.new*')" ] || fail 'a killed copy left nothing: was it killed?'
 sleep 1
 "$deploy/keep_copies" club copies >first 2>&1 &
 job=$!
 sleep 1.1
 ends 'a second at once' 0 "$deploy/keep_copies" club copies
 wait "$job" || fail "two at once: $(cat first)"
-same 'the copies after all that' '3 0' "$(ls copies | wc -l) $(ls -A copies | grep -c '^.new' || :)"
+same 'the copies after all that' '3 0' "$(find copies -mindepth 1 ! -name '.*' | wc -l) $(find copies -name '.new*' | wc -l)"
 ends 'a day that is none' 2 "$deploy/old_copies" copies tomorrow
 ends 'no folder' 1 "$deploy/old_copies" nowhere 2026-05-01
 
@@ -147,7 +147,7 @@ ends 'a sheet at midnight' 0 "$deploy/morning_sheet" club "$midnight" 1 early
 touch -d '-40 days' 'sheets UTC0/2020-01-01' 'sheets UTC0/notes'
 rm "sheets UTC0/$(date -u +%F)"
 ends 'a sheet that is late' 0 "$deploy/morning_sheet" club UTC0 0 'sheets UTC0'
-same 'old sheets' "$(date -u +%F) notes" "$(ls 'sheets UTC0' | xargs)"
+same 'old sheets' "$(date -u +%F) notes" "$(find 'sheets UTC0' -mindepth 1 ! -name '.*' -printf '%f\n' | sort | xargs)"
 for hour in '' 24 x -1 007; do ends "the hour '$hour'" 2 "$deploy/morning_sheet" club UTC0 "$hour" odd; done
 ends 'a sheet of no club' 1 "$deploy/morning_sheet" none UTC0 0 odd
 ends 'a sheet that clubdesk refuses' 5 env CLUBDESK="$work/refuses" "$deploy/morning_sheet" club UTC0 0 odd

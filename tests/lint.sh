@@ -16,7 +16,14 @@ set -u
 here=$(CDPATH='' cd -P -- "$(dirname -- "$0")" && pwd)
 cd "$here/.." || exit 2
 whole=
-[ $# -gt 0 ] || { whole=yes; set -- $(ls crates); }
+if [ $# = 0 ]; then
+    whole=yes
+    set -- crates/*/
+    for crate; do
+        shift
+        set -- "$@" "$(basename "$crate")"
+    done
+fi
 found=$(mktemp) || exit 2
 trap 'rm -f "$found"' EXIT
 LC_ALL=C.UTF-8

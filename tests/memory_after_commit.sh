@@ -27,13 +27,14 @@ cd "$work"
 "$program" credit club amy 10000 >/dev/null
 "$program" add-facility club court-1 court 4 200 8 22 >/dev/null
 for form in v1 v2 json; do
+    # shellcheck disable=SC2094 # the word behind `--form` is no file
     "$program" add-key club "amy-$form" amy 00112233445566778899aabbccddeeff --form "$form" >"$form"
 done
 
 # Two bookings and a cancellation under each form: six commits of bookings, three of cancellations.
 CALLS_TOLD=$work/told LD_PRELOAD=$work/refuse.so "$program" serve club --port 0 --count 9 --at 2026-04-20T12:00 >address &
 server=$!
-for wait in $(seq 100); do [ ! -s address ] || break; sleep 0.1; done
+for _ in $(seq 100); do [ ! -s address ] || break; sleep 0.1; done
 slots=http://$(sed 's/listening on //' address)/slots/court-1/2026-05-01
 # ask FORM METHOD PATH [BODY]: one request, which has to be served.
 ask() {

@@ -7,6 +7,7 @@
 # systems, below /usr/local. Wants root, and Debian's mirror for the fresh Debian: DEBIAN=FOLDER names one that is there already, made by
 # `debootstrap --variant=minbase --include=systemd,systemd-sysv bookworm FOLDER`, of which a copy is taken. Not part of the gate.
 # groups: package root
+# shellcheck disable=SC2016 # a shell of the fresh Debian reads what is quoted
 set -eu
 . "$(dirname -- "$0")/serving.sh"
 [ "$(id -u)" = 0 ] || { echo "$0 wants root, for a fresh Debian" >&2; exit 2; }
@@ -68,7 +69,7 @@ offline() { systemd-nspawn -q -D "$root" --register=no --keep-unit --pipe -E DEB
 # What was entered from outside has to end first: it would keep the machine from its end.
 halt() {
     [ -n "$machine" ] || return 0
-    if [ -n "$client" ]; then inside touch /root/enough && wait "$client" || :; fi
+    if [ -n "$client" ]; then { inside touch /root/enough && wait "$client"; } || :; fi
     client=
     inside systemctl poweroff >/dev/null 2>&1 || kill "$machine" 2>/dev/null || :
     wait "$machine" || :
@@ -85,7 +86,7 @@ trap 'exit 1' INT TERM HUP
 holds 'bin/package' "$top/bin/package" first
 (umask 077 && cd / && LC_ALL=C.UTF-8 TZ=Asia/Tokyo HOME=/nonexistent "$top/bin/package" "$work/second" >"$work/told")
 for file in first/*; do same "$file, again" "$(sha256sum <"$file")" "$(sha256sum <"second/${file##*/}")"; done
-same 'what is made' "SHA256SUMS clubdesk-$version-amd64.tar.xz clubdesk_${version}_amd64.deb" "$(cd first && ls | xargs)"
+same 'what is made' "SHA256SUMS clubdesk-$version-amd64.tar.xz clubdesk_${version}_amd64.deb" "$(cd first && echo *)"
 (cd first && sha256sum --quiet -c SHA256SUMS)
 deb=clubdesk_${version}_amd64.deb
 # Root may run lintian, which else advises against it.

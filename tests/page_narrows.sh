@@ -17,9 +17,9 @@ root=$(dirname "$here")
 tool=${PASSTOOL:-$root/bin/passtool}
 # Debian's, which Debian's python3-selenium is for.
 python=/usr/bin/python3
-command -v chromium >/dev/null && command -v chromedriver >/dev/null && "$python" -c 'import selenium' 2>/dev/null || {
+if ! { command -v chromium >/dev/null && command -v chromedriver >/dev/null && "$python" -c 'import selenium' 2>/dev/null; }; then
     apt-get install -y --no-install-recommends chromium chromium-driver python3-selenium >/dev/null || exit 2
-}
+fi
 "$tool" --version >/dev/null || exit 2
 work=$(mktemp -d) || exit 2
 trap 'rm -rf "$work"' EXIT

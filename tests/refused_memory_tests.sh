@@ -51,6 +51,7 @@ fail() {
 add() {
     case " $crates " in *" $1 "*) return ;; esac
     [ -d "$root/crates/$1/src" ] || return 0
+    # shellcheck disable=SC2013 # its words, not its lines
     for below in $(sed -n "s/^$1\( [^:]*\)\{0,1\}:\([^#]*\).*/\2/p" "$root/crates.txt"); do
         add "$below"
     done
@@ -121,7 +122,7 @@ if [ "${1:-}" = --refuse ]; then
         else
             { echo "status $status"; cat "$room/$number/output"; } >"$work/bad/$number"
         fi
-        rm -rf "$room/$number"
+        rm -rf "${room:?}/$number"
     done
     exit 0
 fi
@@ -138,7 +139,7 @@ refuse() {
     seq "$(cat "$work/counted")" |
         xargs -r -P "$(nproc)" -n 20 "$here/refused_memory_tests.sh" --refuse "$work" "$room" "$program" "$test" ||
         fail "$crate $test: could not be run"
-    bad=$(ls "$work/bad" | sort -n | head -n 1)
+    bad=$(find "$work/bad" -type f -printf '%f\n' | sort -n | head -n 1)
     [ -z "$bad" ] || { cat "$work/bad/$bad" >&2; fail "$crate $test: fails otherwise where allocation $bad is refused"; }
     count=$(wc -l <"$work/refused")
     [ "$count" -gt 0 ] || fail "$crate $test: no allocation was seen"

@@ -122,7 +122,7 @@ done
 
 # Its command, with the variables of the example but another port, for another user, with its mask, under strace: a club that isn't there
 # is made, a request is answered, and each call is one that the unit allows. Before it, the unit looks whether the club is there.
-# shellcheck source=/dev/null # the configuration
+# shellcheck source=/dev/null disable=SC2153 # the configuration, which has FILE and ZONE
 command=$(. ./club.conf; ZONE=$ZONE FILE=$FILE PORT=0 /usr/bin/python3 -c '
 import os, re, sys
 line = re.search("^ExecStart=(.*)$", open(sys.argv[1], encoding="utf-8").read(), re.M)[1]

@@ -1,0 +1,20 @@
+#!/bin/sh
+# Linters without notes, or each with its reason where it stands: shellcheck over the shell scripts of tests/, bin/ and deploy/, and
+# pyflakes over the Python. Installs Debian's packages where they are missing. Not part of the gate.
+# groups: quick
+set -eu
+cd "$(dirname -- "$0")/.."
+command -v shellcheck >/dev/null || apt-get install -y shellcheck >/dev/null
+command -v pyflakes3 >/dev/null || apt-get install -y pyflakes3 >/dev/null
+
+# by_first_line PATTERN: the files whose first line says that they are of this language.
+by_first_line() {
+    find tests bin deploy -type f ! -path '*/out/*' -exec sh -c 'head -n 1 "$1" | grep -qE "$2" && echo "$1"' - {} "$1" \;
+}
+
+status=0
+# shellcheck disable=SC2046  # no name has a space
+shellcheck -x -P tests $(by_first_line '^#!/bin/(ba)?sh') || status=1
+# shellcheck disable=SC2046
+pyflakes3 $(by_first_line 'python3') $(find tests examples -name '*.py') || status=1
+exit $status
