@@ -175,14 +175,15 @@ def rows(question, *values):
 def make_club():
     """The club of all tests, and the passes of its keys."""
     passes = {}
-    for name, quota in [("amy", 99), ("bob", 2), ("hall", 0)]:
+    for name, quota in [("amy", 99), ("bob", 2), ("carol", 5), ("hall", 0)]:
         office("add-member", name, quota)
     office("credit", "amy", 999999)
     office("credit", "bob", 700)
+    office("credit", "carol", 9000)
     for name, _, *rest in FACILITIES:
         office("add-facility", name, *rest)
     for place, (key, member) in enumerate([("amy-1", "amy"), ("amy-phone", "amy"), ("bob-1", "bob"), ("bob-2", "bob"), ("hall-screen", "hall"),
-                                           ("kill-1", "amy"), ("amy-son", "amy"), ("other", "amy"),
+                                           ("kill-1", "amy"), ("amy-son", "amy"), ("other", "amy"), ("carol-1", "carol"),
                                            ("fails-1", "amy"), ("ends-1", "amy"), ("tabs-1", "amy"), ("browser-1", "amy"), ("full-1", "amy")]):
         passes[key] = office("add-key", key, member, f"{place:02x}" + ROOT)
     return passes
@@ -1091,7 +1092,7 @@ def on_three_phones(front, passes):
     """A day, a booking and my bookings side by side, as README shows them."""
     with BookingPage(front) as page:
         page.sees(360, "light", 740)
-        page.enter(passes["amy-phone"])
+        page.enter(passes["carol-1"])
         page.press("Not here", "notices")
         page.go(day(27))
         for hour, guests in [(9, 3), (12, 1), (18, 0)]:
@@ -1100,6 +1101,9 @@ def on_three_phones(front, passes):
         entry = page.booked("court-1", 10, 1)
         page.run("look(); window.scrollTo(0, 0)")
         page.when("dayIsThere() && cellAt('court-1', 9).button.innerText === 'Full'", "a day with bookings")
+        page.when("state.account.open === 1", "the account after the booking")
+        page.run("document.activeElement.blur()")
+        time.sleep(0.5)
         stripes = [page.command("Page.captureScreenshot")["data"]]
         page.offer("court-1", 11)
         page.press("One guest more")

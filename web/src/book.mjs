@@ -25,6 +25,7 @@ let view = "day";
 let clubTrouble = "";
 let storageTrouble = "";
 let keepQuestion = false; // whether the pass came in a link and nobody said yet if it is to be kept
+let otherKey = null; // whose pass is kept in this browser, where it isn't the one that is used
 let recordInLink = null;
 let others = null; // tells the other tabs that the record changed
 
@@ -56,12 +57,14 @@ function showNotices() {
   if (clubTrouble !== "") note(say(clubTrouble), button("", say("try-again"), loadClub));
   const minutes = Math.round(Math.abs(clockDifference() ?? 0) / 60000);
   if (minutes > CLOCK_TOLERANCE) note(say("clock-wrong", { count: minutes }), " ", say("moment", { time: clubTime() }));
-  const open = ownEntries().filter((entry) => unfinished(entry) !== null && entry.stopped === undefined).length;
+  const open = openRequests();
   if (open > 0 && state.pass !== null && state.sender?.tries > 0) note(say("unanswered", { count: open }));
+  if (otherKey !== null && state.pass !== null) note(say("other-pass-kept", { key: state.key, other: otherKey }));
   if (keepQuestion && state.pass !== null) {
     const answer = (isWanted) => () => {
       keepQuestion = false;
       if (isWanted) state.isKept = keepPass(state.text, true);
+      if (state.isKept) otherKey = null;
       if (isWanted && !state.isKept) storageTrouble = "keep-failed";
       show();
     };
@@ -81,11 +84,17 @@ function go(wanted) {
   if (view === "bookings") lookAfterBookings(() => showBookings(refresh));
 }
 
-// After the record changed, here or in another tab.
+// After the record changed, here or in another tab. Where something was answered, the account is another one.
 async function refresh() {
+  const open = openRequests();
   if (state.sender !== null) state.entries = await state.sender.entries();
   show();
   showCells();
+  if (openRequests() < open) lookAtAccount();
+}
+
+function openRequests() {
+  return ownEntries().filter((entry) => unfinished(entry) !== null && entry.stopped === undefined).length;
 }
 
 // ---- The pass
@@ -142,6 +151,7 @@ function useEntered(event) {
 
 function forgetPass() {
   Object.assign(state, { pass: null, text: "", key: null, account: null, isKept: false });
+  otherKey = null;
   if (state.sender !== null) Object.assign(state.sender, { pass: null, key: null });
   view = "day";
   keepQuestion = false;
@@ -165,18 +175,32 @@ function takeFragment() {
   return text === "" ? null : text;
 }
 
+// The key of the pass that this browser keeps for good, where it is another one than that of the pass that is used.
+function keyKept(kept) {
+  const text = kept?.forGood ? kept.text : kept?.other ?? null;
+  try {
+    const key = text === null ? null : keyName(readPass(text));
+    return key === state.key ? null : key;
+  } catch {
+    return null;
+  }
+}
+
 function findPass() {
   const linked = takeFragment();
   const kept = keptPass();
   try {
     if (linked !== null) {
       takePass(linked, false);
+      otherKey = keyKept(kept);
       keepQuestion = kept?.text !== state.text;
       if (keepQuestion) keepPass(state.text, false);
       else state.isKept = kept.forGood;
       return;
     }
-    if (kept !== null) takePass(kept.text, kept.forGood);
+    if (kept === null) return;
+    takePass(kept.text, kept.forGood);
+    otherKey = keyKept(kept);
   } catch (fault) {
     if (!(fault instanceof Fault)) throw fault;
     if (linked === null) dropPass();
