@@ -137,9 +137,10 @@ same 'the page' 200 "$(curl -o told -w '%{http_code}' https://desk.example.org/b
 same "a pass of the other club" '{"fault":9,"text":"not verified"}' "$(seen rowing desk account)"
 
 # ---- The limit: 200 at once pass, and then there is a sentence. Another second, and requests pass again.
-awk 'FILENAME != "-" { common = common $0 "\n"; next } { printf "%s%surl = https://desk.example.org/account\noutput = got.%d\nwrite-out = \"%%{http_code}\\n\"\n", FNR > 1 ? "next\n" : "", common, $1 }' .curlrc - >asked <<NUMBERS
-$(seq 300)
-NUMBERS
+seq 300 >numbers
+awk 'FILENAME == ".curlrc" { common = common $0 "\n"; next }
+    FNR > 1 { print "next" }
+    { printf "%surl = https://desk.example.org/account\noutput = got.%d\nwrite-out = \"%%{http_code}\\n\"\n", common, $1 }' .curlrc numbers >asked
 sleep 2
 curl --no-progress-meter -Z --parallel-max 20 -K asked >statuses || :
 limited=$(grep -c '^429' statuses || :)
