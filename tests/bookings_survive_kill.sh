@@ -1,8 +1,9 @@
 #!/bin/sh
-# Kills clubdesk's server in the middle of 200 bookings, at times drawn by a fixed seed, and looks into its file: each booking
-# that was acknowledged is there, once, to sqlite3, on the day sheets and to GETs; the one under way may be there too, whole. The
-# totals are the sums. The same 200 requests, sent again, are told what the first ones were or would have been, and then all 200
-# bookings are there, once. Not part of the gate.
+# Servers killed in the middle of 200 bookings: each that was acknowledged is in the file, once, and the same requests then get the same
+# replies.
+#
+# They are killed at times drawn by a fixed seed. sqlite3, the day sheets and GETs find each acknowledged booking; the one under way may be
+# there too, whole. The totals are the sums. At the end all 200 bookings are there, once. Not part of the gate.
 #   tests/bookings_survive_kill.sh [ROUNDS]
 # groups: faults
 set -eu

@@ -1,8 +1,11 @@
 #!/bin/sh
-# Tries bin/proved and bin/build_program over four small crates and a stand-in for rt, which writes down when it begins and ends: what
-# is stale is built, and nothing else; libraries side by side, as many as PROVED_AT_ONCE says, each behind those below it; an edit in
-# the course of a build builds again; a build that is stopped ends each rt, leaves no rooms, and no program that counts as built, also
-# one that was there half or was killed; what fails is shown, with status 125; two calls at once build once. Not part of the gate.
+# `bin/proved` builds what is stale and nothing else; an interrupted build leaves no program that counts as built, and two calls build
+# once.
+#
+# Over four small crates and a stand-in for rt, which writes down when it begins and ends. Libraries are built side by side, as many as
+# PROVED_AT_ONCE says, each behind those below it; an edit in the course of a build builds again; a build that is stopped ends each rt and
+# leaves no rooms; a program that was there half or was killed doesn't count either; what fails is shown, with status 125. Not part of the
+# gate.
 # groups: package
 set -u
 here=$(CDPATH='' cd -P -- "$(dirname -- "$0")" && pwd)

@@ -1,9 +1,10 @@
 #!/bin/sh
-# Runs examples/client.py against clubdesk's server, which is killed and started again 100 times; every fifth time the client is
-# killed too. The client books slots, each asked for once, and cancels most of them. At the end the file has each booking once:
-# those on the client's record, with the charges, places and refunds that were acknowledged, and no others. The totals are the sums.
-# Then each command of client.py is called, with what it prints, and a proxy between client and desk fails in several ways. Not part
-# of the gate.
+# `examples/client.py` against a server that is killed and started again 100 times, and behind a proxy that fails: nothing is booked
+# twice, and nothing that was acknowledged is lost.
+#
+# Every fifth time the client is killed too. It books slots, each asked for once, and cancels most of them. At the end the file has each
+# booking once: those on the client's record, with the charges, places and refunds that were acknowledged, and no others. The totals are the
+# sums. Then each command of client.py is called, with what it prints, and the proxy fails in several ways. Not part of the gate.
 #   tests/client_survives.sh [KILLS]
 # groups: programs faults
 set -eu

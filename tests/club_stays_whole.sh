@@ -1,6 +1,8 @@
 #!/bin/sh
-# Cuts orders of clubdesk short. An order that ends with a fault has written nothing and left the club as it was; one that is killed
-# has left it as it was, or done. Then sqlite3 finds the file sound, and clubdesk reads it.
+# Orders of `clubdesk`, and passes that it prints, with each allocation refused, with little storage, and killed: a fault wrote nothing
+# and left the club as it was, and a kill left it as it was or done.
+#
+# Then sqlite3 finds the file sound, and clubdesk reads it.
 # - Each allocation is refused in turn: the order ends with status 4, or 2 where clap met the refusal, or as with ample memory.
 # - The file may grow to so many blocks alone: the order ends with status 5, or as with ample storage.
 # - The order is killed after so many milliseconds.

@@ -1,7 +1,8 @@
 #!/bin/sh
-# The completions that bin/completions makes, in real shells (bash, zsh and fish), against `--help` of both programs: for each command
-# those words that begin so, its options, the values of its options, files for FILE; of nothing else. Installs Debian's shells where
-# they are missing. Not part of the gate.
+# bash, zsh and fish complete the commands, options and values of `--help`, and nothing else.
+#
+# In real shells, with what bin/completions makes, against `--help` of both programs: for each command those words that begin so, its options,
+# the values of its options, files for FILE. Installs Debian's shells where they are missing. Not part of the gate.
 # groups: package
 set -eu
 . "$(dirname -- "$0")/serving.sh"

@@ -1,7 +1,9 @@
 #!/bin/sh
-# Runs bin/demo and compares what it prints with tests/demo.told. Then runs it where it can't go on: without curl and sqlite3, as root
-# and as somebody else; with a server that doesn't listen; and with one that a signal to the demo ends. It ends each time, says why,
-# and leaves no server. Installs Debian's curl and sqlite3 where they are missing.
+# `bin/demo` prints what it is to print; without `curl` and `sqlite3` it installs them or says what is missing; it ends its server, also
+# one that doesn't listen, and after a signal.
+#
+# What it prints is tests/demo.told. Each time that it can't go on it ends and says why, as root and as somebody else. Installs Debian's curl
+# and sqlite3 where they are missing.
 # groups: pages
 set -u
 root=$(CDPATH='' cd -P -- "$(dirname -- "$0")/.." && pwd)

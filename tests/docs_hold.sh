@@ -1,5 +1,7 @@
 #!/bin/sh
-# Holds the pages against the repository: README.md, CONTRIBUTING.md, docs/, and the README.md of each crate.
+# The commands, outputs, links and names of the pages hold.
+#
+# Holds README.md, CONTRIBUTING.md, docs/, and the README.md of each crate against the repository.
 # - Each ```console block is run, the blocks of a page one after the other in a folder of its own, with bin/ on the path: a line
 #   that begins with `$ ` is a command, the lines behind it are what it prints, on standard output or standard error. Empty lines
 #   and spaces at the end of a line don't count, and another port may stand for 8080.
@@ -10,6 +12,7 @@
 # - Each file that a page names is there, in a crate's page also each of its own folders, and each name `crate::..::name` or
 #   `Type::name` is defined. So is each name of a list of definitions (`Definitions: NAME, .. in FILE; NAME, .. in FILE`), in its file.
 # - docs/LAYERS.md has the layers and crates of crates.txt in their order, each with what it stands on; TRUST names each crate.
+# - TRUST's table of scripts has what `tests/run --list` says of each.
 # - docs/TOUR.md gives each answer as a path of three to six steps, each a file with a name that it defines.
 # - What README tries unproved by `rt try` prints `signed`, and ends in proved=no.
 # - The logic that README.md and docs/TRUST.md name by its sum is this toolchain's, and bin/demo prints what tests/demo_tells.sh wants.
@@ -367,6 +370,14 @@ hold_tour() {
         END { close_question(); if (questions != 12) lacks(questions " questions") }' "$work/index" docs/TOUR.md >>"$faults"
 }
 
+# The table of scripts in docs/TRUST.md says of each what `tests/run --list` says, where a page of docs/ is no link.
+hold_scripts() {
+    grep -E '^\| `tests/[a-z_0-9]+\.(sh|py)` \| [^|]* \|$' docs/TRUST.md | sort >"$work/rows"
+    tests/run --list | sed -E -e 's/^([^ ]*) \([^)]*\): (.*)/| `\1` | \2 |/' -e 's,docs/([A-Z_]+)\.md,[\1](\1.md),g' \
+        -e 's,docs/(vectors\.json|openapi\.yaml),[\1](\1),g' | sort | diff "$work/rows" - |
+        sed -n 's/^\([<>]\)/docs\/TRUST.md: other rows than those of tests\/run --list (>): \1/p' >>"$faults"
+}
+
 # name_crates PAGE: the page names each crate of crates.txt.
 name_crates() {
     sed -nE 's/^([a-z][a-z_0-9]*)[ :].*/\1/p' crates.txt | while read -r crate; do
@@ -399,7 +410,10 @@ for page; do
         docs/GLOSSARY.md) hold_glossary ;;
         README.md) hold_laws ;;
         docs/LAYERS.md) hold_layers ;;
-        docs/TRUST.md) name_crates "$page" ;;
+        docs/TRUST.md)
+            name_crates "$page"
+            hold_scripts
+            ;;
         docs/TOUR.md) hold_tour ;;
         docs/INDEX.md)
             for other in docs/*.md; do

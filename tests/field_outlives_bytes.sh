@@ -1,8 +1,8 @@
 #!/bin/sh
-# Shows that a field can't be kept after the bytes that it is a part of are gone: code that does so is refused by the borrow
-# checker, and the same code without the misuse is proved. In a scratch copy of the crates that it stands on. Not part of the
-# gate, which wants edits that compile.
-#   tests/field_outlives_bytes.sh
+# Code that keeps a field of a pass longer than its bytes doesn't compile.
+#
+# The borrow checker refuses it, and the same code without the misuse is proved. In a scratch copy of the crates that it rests on. Not part
+# of the gate, which wants edits that compile.
 # groups: proofs
 set -eu
 here=$(CDPATH='' cd -P -- "$(dirname -- "$0")" && pwd)

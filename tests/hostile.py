@@ -1,10 +1,11 @@
 #!/usr/bin/env python3
-"""Random requests to clubdesk's server, most of them wrong somewhere: each reply is that of the rules in Python, byte for byte.
+"""Random requests, most of them wrong somewhere, and orders of the office: each reply is byte for byte that of the rules in Python
+(`tests/reference`, written from the pages on the desk, passes and caveats alone), and so are the rows and totals after each server. With
+`--self-test` each of eight planted faults of those rules is found.
 
-The rules are tests/reference, written from the pages alone. Requests are drawn by a seed: passes in three forms under current, older
-and other roots, narrowed by caveats at their limits, cut, changed in a byte, or a third party's; heads and bodies with other letters,
-line ends, lengths, fields and paths. Between two servers, each at a moment of its own, the office gives orders; then the rows and
-totals of the file are those of the reference. With --self-test each planted fault of the reference has to be found.
+Requests are drawn by a seed: passes in three forms under current, older and other roots, narrowed by caveats at their limits, cut,
+changed in a byte, or a third party's; heads and bodies with other letters, line ends, lengths, fields and paths. Servers follow one
+another, each at a moment of its own, and the office gives its orders between them.
 
     tests/hostile.py [--seed N] [--count M] [--plant FAULT | --self-test]
 """

@@ -1,7 +1,9 @@
 #!/bin/sh
-# What the package's timers start, by hand and without systemd: copies of a club that runs, and of what is none; which copies are kept over
-# three years, against the same rule in Python; the morning's sheet in three zones, by the clock and before its hour; checks of a desk that
-# is well, and of what isn't; mail to a mailer of the test's own. A job that is killed leaves nothing that the next one takes for its own.
+# What the timers start: copies of a running club, of what is none, that are killed or made two at once; which copies are kept, on each
+# day of three years, against the rule in Python; the sheet in four zones; checks of a desk that is well and of what isn't; mail and
+# reports.
+#
+# By hand and without systemd, with a mailer of the test's own. A job that is killed leaves nothing that the next one takes for its own.
 # Installs Debian's packages where they are missing. Not part of the gate.
 # groups: package
 set -eu

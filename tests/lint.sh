@@ -1,5 +1,8 @@
 #!/bin/sh
-# Slips that a machine sees and the gate lets pass. Prints each, with its place; the status is 1 where there is one.
+# Names defined twice, long lines, functions, files and crates past their limits, numbers without units, other versions, files that
+# nothing uses.
+#
+# Prints each, with its place; the status is 1 where there is one.
 # - one name that two specs modules define, of one crate or of two, but for those of one meaning that `twins` has;
 # - lines that are too long: code, comments and clauses past 100 columns, imports, specs and proofs past 160;
 # - limits of CONTRIBUTING: a function's body of 40 lines or more, a file of code of 800 or more, a proof of 400 or more, a crate that is

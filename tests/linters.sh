@@ -1,6 +1,8 @@
 #!/bin/sh
-# Linters without notes, or each with its reason where it stands: shellcheck over the shell scripts of tests/, bin/ and deploy/, and
-# pyflakes over the Python. Installs Debian's packages where they are missing. Not part of the gate.
+# Pyflakes and shellcheck have nothing to say of the scripts, or the reason is noted in place.
+#
+# The shell scripts of tests/, bin/ and deploy/ are read by shellcheck, the Python there and in examples/ by pyflakes. Installs Debian's
+# packages where they are missing. Not part of the gate.
 # groups: quick
 set -eu
 cd "$(dirname -- "$0")/.."

@@ -1,6 +1,7 @@
 #!/bin/sh
-# Holds man/ against the programs: mandoc finds nothing to say of a page, and each command of `--help` stands in it with its words and
-# options, each status too, and no others. Installs Debian's mandoc where it is missing. Not part of the gate.
+# The manual pages are clean to `mandoc`, and have the commands, options and statuses of `--help`.
+#
+# They have no others. Installs Debian's mandoc where it is missing. Not part of the gate.
 # groups: package quick
 set -eu
 . "$(dirname -- "$0")/serving.sh"

@@ -1,8 +1,9 @@
 #!/bin/sh
-# Counts what `clubdesk serve` allocates between the commit of an exchange and its reply: nothing, whether it books or cancels, under
-# a pass in any form. A refused allocation that the server passes over would change no byte, so no test over bytes can see one. The
-# commit is the last call that syncs the file before the reply is sent. Installs Debian's gcc and curl where they are missing. Not
-# part of the gate.
+# The server allocates nothing between a commit and its reply: six bookings and three cancellations in a file, under passes in V1, V2
+# and JSON.
+#
+# A refused allocation that the server passes over would change no byte, so no test over bytes can see one. The commit is the last call that
+# syncs the file before the reply is sent. Installs Debian's gcc and curl where they are missing. Not part of the gate.
 #   tests/memory_after_commit.sh            the program of this tree, proved and built first where it has to be
 #   tests/memory_after_commit.sh PROGRAM    another one
 # groups: faults

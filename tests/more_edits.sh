@@ -1,7 +1,9 @@
 #!/bin/sh
-# Tries the wrong bodies of crates/NAME/must-fail/ and crates/NAME/more-edits/, of which the gate leaves out the latter for time, by
-# `rt check` in a scratch copy of the tree as it stands, and says of each how it is refused. Run it for each crate whose code or
-# contracts change. The status is 1 where one is proved, or can't be tried.
+# Wrong bodies are refused, also those that the gate leaves out for time: whether a goal is found false or stays open, or a proof only
+# misses a name that the edit took away.
+#
+# Those of crates/NAME/must-fail/ and crates/NAME/more-edits/, by `rt check` in a scratch copy of the tree as it is. Run it for each crate
+# whose code or contracts change. The status is 1 where one is proved, or can't be tried.
 #   tests/more_edits.sh                             every crate that has such edits
 #   tests/more_edits.sh club_core club_reference    these crates
 #   tests/more_edits.sh club_core/charges_a_repeat  this edit

@@ -1,10 +1,12 @@
 #!/bin/sh
-# Narrows 1,000 passes, drawn by a fixed seed, by the programs of examples/ and by passtool, and compares: Python's standard
-# library and Node.js in V2, pymacaroons and Go's macaroon.v2 in V1, V2 and JSON. V1 and V2 are compared byte for byte. JSON may be
-# spelled in more than one way, and pymacaroons writes an empty location in V2, which passtool leaves out: these are compared as
-# passtool writes them again. pymacaroons counts the letters of a location and of an identifier in V1 and not their bytes, so there
-# it gets the passes alone in which both are ASCII, as those of the desk are. Each narrowed pass is signed under its root. Installs
-# Debian's packages where they are missing. The program is that of the variable PASSTOOL, or bin/passtool. Not part of the gate.
+# 1,000 passes, narrowed by Python's standard library, pymacaroons, Go's macaroon.v2 and Node.js, are those that `passtool` makes.
+#
+# They are drawn by a fixed seed and narrowed by the programs of examples/: Python's standard library and Node.js in V2, pymacaroons and Go's
+# macaroon.v2 in V1, V2 and JSON. V1 and V2 are compared byte for byte. JSON may be spelled in more than one way, and pymacaroons writes an
+# empty location in V2, which passtool leaves out: these are compared as passtool writes them again. pymacaroons counts the letters of a
+# location and of an identifier in V1 and not their bytes, so there it gets the passes alone in which both are ASCII, as those of the desk
+# are. Each narrowed pass is signed under its root. Installs Debian's packages where they are missing. The program is that of the variable
+# PASSTOOL, or bin/passtool. Not part of the gate.
 # groups: programs
 set -eu
 root=$(CDPATH='' cd -P -- "$(dirname -- "$0")/.." && pwd)

@@ -1,8 +1,9 @@
 #!/bin/sh
-# Holds docs/openapi.yaml: it obeys the schema of OpenAPI 3.0 that Debian's openapi-specification has. Each example of each response of
-# each operation is asked for: status, fields and body of the reply of clubdesk's server are those of the description, byte for byte,
-# and obey their schema. The faults and their statuses are those of docs/CLIENT.md's table. Installs Debian's packages where they are
-# missing. Not part of the gate.
+# docs/openapi.yaml obeys the schema of OpenAPI 3.0, and the server gives each of its examples.
+#
+# The schema is that of Debian's openapi-specification. Each example of each response of each operation is asked for: status, fields and body
+# of the reply are those of the description, byte for byte, and obey their schema. The faults and their statuses are those of
+# docs/CLIENT.md's table. Installs Debian's packages where they are missing. Not part of the gate.
 # groups: pages
 set -eu
 . "$(dirname -- "$0")/serving.sh"

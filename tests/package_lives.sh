@@ -1,11 +1,12 @@
 #!/bin/sh
-# The package's life in a fresh Debian, made by debootstrap and booted by systemd-nspawn, with its own systemd and without a network but
-# loopback. bin/package makes the same bytes twice, and lintian says nothing of them. Then the lines for root of docs/RUNNING.md are given
-# there, from the installation to the restore: the desk behind nginx with TLS, its timers and what they call, a second club in another
-# zone, mail, a machine that boots anew. The package is upgraded while a client books, upgraded to one whose program opens no club,
-# removed, installed again, and purged: no acknowledged booking is lost, and the clubs' files stay. At the end the archive for other
-# systems, below /usr/local. Wants root, and Debian's mirror for the fresh Debian: DEBIAN=FOLDER names one that is there already, made by
-# `debootstrap --variant=minbase --include=systemd,systemd-sysv bookworm FOLDER`, of which a copy is taken. Not part of the gate.
+# `bin/package` makes the same bytes twice, of which lintian complains nowhere; the package's life in a fresh Debian.
+#
+# Debian is made by debootstrap and booted by systemd-nspawn, with its own systemd and without a network but loopback. The lines for root of
+# docs/RUNNING.md are given there, from the installation to the restore: the desk behind nginx with TLS, its timers and what they call, a
+# second club in another zone, mail, a machine that boots anew. The package is upgraded while a client books, upgraded to one whose program
+# opens no club, removed, installed again, and purged: no acknowledged booking is lost, and the clubs' files stay. At the end the archive for
+# other systems, below /usr/local. Wants root, and Debian's mirror for the fresh Debian: DEBIAN=FOLDER names one that is there already, made
+# by `debootstrap --variant=minbase --include=systemd,systemd-sysv bookworm FOLDER`, of which a copy is taken. Not part of the gate.
 # groups: package root
 # shellcheck disable=SC2016 # a shell of the fresh Debian reads what is quoted
 set -eu

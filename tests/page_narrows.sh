@@ -1,11 +1,12 @@
 #!/bin/sh
-# Drives web/pass.html, the page that narrows a pass, in Debian's chromium by tests/page_narrows.py:
-# - 1,000 passes in V1, V2 and JSON, narrowed by one to five choices: byte for byte what passtool narrows, and what the formats say
-#   in Python;
-# - texts that are no pass, those of the formats' examples and 2,000 spoiled ones: each has its own answer, the one that passtool has;
-# - 2,000 texts of caveats: the page understands those that passtool does;
-# - what each choice says and adds, the whole way by keyboard, addresses, copying and sharing, a browser that doesn't sign;
-# - names for a screen reader, contrasts, widths of a phone; that nothing is sent, and nothing runs but what the page's policy names.
+# `web/pass.html` in Debian's chromium: 1,000 passes that it narrows in V1, V2 and JSON are byte for byte those of `passtool narrow`; it
+# reads 2,000 spoiled passes and 2,000 texts of caveats as `passtool` does, and says of each faulty text what is wrong; it is worked by
+# keyboard alone, fits a phone, and loads and sends nothing.
+#
+# By tests/page_narrows.py, which has the formats once more in Python:
+# - texts that are no pass, those of the formats' examples and the spoiled ones: each has its own answer, the one that passtool has;
+# - what each choice says and adds, addresses, copying and sharing, a browser that doesn't sign;
+# - names for a screen reader, contrasts; that nothing runs but what the page's policy names.
 # Installs Debian's chromium, chromium-driver and python3-selenium where they are missing. Not part of the gate.
 #   tests/page_narrows.sh            all of it
 #   tests/page_narrows.sh FOLDER     and pictures of the page into this folder

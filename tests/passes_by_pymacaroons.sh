@@ -1,7 +1,8 @@
 #!/bin/sh
-# Runs clubdesk's server for 1,000 requests. Every second one comes with a pass that pymacaroons narrowed, the others with one
-# that passtool narrowed; passes come in V1, V2 and JSON, which pymacaroons reads and writes too. Each reply is compared with
-# what a program of another language makes of the same rules. Not part of the gate.
+# 1,000 requests to the server, every second one under a pass that pymacaroons narrowed, in V1, V2 and JSON: each reply is that of the
+# rules in Python.
+#
+# The others come with passes that passtool narrowed; pymacaroons reads and writes these too. Not part of the gate.
 # groups: programs
 set -eu
 . "$(dirname -- "$0")/serving.sh"

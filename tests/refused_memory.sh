@@ -1,6 +1,8 @@
 #!/bin/sh
-# Runs each command of passtool with each of its first 400 allocations refused in turn, more than any makes. Each run must
-# end with status 4, `out of memory` and no output, or as it does with ample memory. Not part of the gate.
+# Each command of `passtool`, in each form, with each allocation refused in turn: it ends with status 4 and no output, or as if nothing
+# had been refused.
+#
+# Each of the first 400 is refused, more than any command makes. Not part of the gate.
 # groups: faults
 set -eu
 here=$(CDPATH='' cd -P -- "$(dirname -- "$0")" && pwd)

@@ -1,7 +1,11 @@
 #!/bin/sh
-# Runs tests with each of their allocations refused in turn: each run must end well, or with out of memory. It fails where a test
-# isn't there, fails with ample memory, or allocates nothing. Tests that are missing or older than their sources are proved and
-# built first. Not part of the gate.
+# Tests with each allocation refused in turn: the known passes read and written in each form, each opening of a store, each order of the
+# office, and the known booking through `Desk::ask`, `Desk::run` and `answer`. Each call answers as if nothing had been refused, or is
+# out of memory and has changed nothing.
+#
+# It fails where a test isn't there, fails with ample memory, or allocates nothing. Tests that are missing or older than their sources are
+# proved and built first. Not part of the gate.
+#
 # Name tests that pass each fault on, or compare what they get with out of memory and with the right answer: one that expects
 # another fault fails where memory is refused instead.
 #   tests/refused_memory_tests.sh                                              the tests of the list below

@@ -1,7 +1,8 @@
 #!/bin/sh
-# Runs clubdesk's server over small clubs in files, and asks by curl for each kind of reply: status line, fields and body are
-# compared, byte for byte, with those that stand here. What curl doesn't send, netcat does. Each request meets a server of its
-# own, so what a reply tells of earlier ones comes from the file. Not part of the gate.
+# Each kind of reply of the server over a file, byte for byte, by curl and netcat.
+#
+# Status line, fields and body are compared with those of this script. What curl doesn't send, netcat does. Each request meets a server of its
+# own, so what a reply says of earlier ones comes from the file. Not part of the gate.
 # groups: programs
 set -eu
 . "$(dirname -- "$0")/serving.sh"

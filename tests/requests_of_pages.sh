@@ -1,8 +1,9 @@
 #!/bin/sh
-# Tries docs/HANDING_ON.md and docs/CLIENT.md against clubdesk's server: runs the commands of a page's console blocks, and asks each
-# request of its tables under the pass and at the moment of the table's head. Status and body of each reply are those of the page. The
-# commands in front of a section's first table make the club, without bookings; the section's requests, and the commands behind them,
-# meet a copy. Blocks with a server of their own are left to tests/docs_hold.sh. Not part of the gate.
+# The server answers each request in the tables of docs/HANDING_ON.md and docs/CLIENT.md as the page says.
+#
+# Runs the commands of a page's console blocks, and asks each request of its tables under the pass and at the moment of the table's head. The
+# commands in front of a section's first table make the club, without bookings; the section's requests, and the commands behind them, meet a
+# copy. Blocks with a server of their own are left to tests/docs_hold.sh. Not part of the gate.
 #   tests/requests_of_pages.sh [PAGE ..]
 # groups: pages
 set -eu

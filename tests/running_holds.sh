@@ -1,8 +1,9 @@
 #!/bin/sh
-# Tries what docs/RUNNING.md says of running the desk: an installation, and those that fail; the units, by systemd's own tools, and that
-# the desk makes no call of the system which its unit forbids; nginx with TLS before the desk, by its stored configuration; copies of
-# the club while it is written to, and one that is restored; a disk that gets full. Wants root. Installs Debian's packages where they
-# are missing. Not part of the gate.
+# What docs/RUNNING.md says: installations whole or not at all; the units, and that the desk makes no call that its unit forbids; the
+# desk behind nginx with TLS; copies of a club that is written to, and a restored one; a full disk.
+#
+# The units are tried by systemd's own tools, the proxy by its stored configuration. Wants root. Installs Debian's packages where they are
+# missing. Not part of the gate.
 # groups: pages package root
 set -eu
 . "$(dirname -- "$0")/serving.sh"

@@ -1,9 +1,11 @@
 #!/bin/sh
-# How long clubdesk's server takes for a request, beside a plain server in C that reads once and writes 133 bytes: COUNT bookings, the
-# same bookings again and as many accounts, under a pass in V2 with three caveats, over a file with fifty members, each with a key.
-# One client asks both servers by turns, in ROUNDS rounds, each request over a connection of its own. Prints for each kind the median of
-# the rounds' medians in microseconds, from before the client connects to the end of the reply, and their ratio. Then it prints how many
-# calls of the system the server makes for a request of each kind, by strace. Not part of the gate.
+# How long the server of `clubdesk` takes for a booking, its repeat and an account, beside a plain server in C; how many calls of the
+# system each makes.
+#
+# COUNT bookings, the same bookings again and as many accounts, under a pass in V2 with three caveats, over a file with fifty members, each with
+# a key. The server in C reads once and writes 133 bytes. One client asks both servers by turns, in ROUNDS rounds, each request over a
+# connection of its own. Prints for each kind the median of the rounds' medians in microseconds, from before the client connects to the end of
+# the reply, and their ratio; then the calls of the system, by strace. Not part of the gate.
 #   tests/server_times.sh [COUNT [ROUNDS]]      COUNT times ROUNDS at most 3000; without them 400 7
 # groups: speed alone
 set -eu

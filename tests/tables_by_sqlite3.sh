@@ -1,8 +1,9 @@
 #!/bin/sh
-# Holds the tables against sqlite3: what clubdesk puts into a file, sqlite3 finds there, with the columns, keys, references and
-# limits of docs/TABLES.md; what sqlite3 changes within them, clubdesk tells; the lists and corrections of docs/RUNNING.md do what the
-# page says; and a file that holds no club, or a row out of its limits, is a fault of storage and stays as it was, byte for byte. Not
-# part of the gate.
+# What `clubdesk` puts into a file against SQLite's shell; the lists and corrections of docs/RUNNING.md; files that hold no club, and
+# rows out of their limits, are a fault of storage.
+#
+# With the columns, keys, references and limits of docs/TABLES.md. What sqlite3 changes within them, clubdesk shows; a file that is refused
+# stays as it was, byte for byte. Not part of the gate.
 # groups: programs
 set -eu
 . "$(dirname -- "$0")/serving.sh"

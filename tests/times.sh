@@ -1,7 +1,9 @@
 #!/bin/sh
-# Prints what the gate costs: runs `rt ci` in a scratch clone of HEAD, and adds up, crate by crate, the seconds of processor of the
-# compiler's processes: those of the crate's proof (with a program's builds), of its tests' proof and build, and of its must-fail
-# edits. Last come the sums, the wall time, and the gate's own last line. The status is the gate's.
+# What the gate costs: seconds of processor for the proof, the tests and the edits of each crate.
+#
+# Runs `rt ci` in a scratch clone of HEAD, and adds up the seconds of the compiler's processes: those of the crate's proof (with a program's
+# builds), of its tests' proof and build, and of its must-fail edits. Last come the sums, the wall time, and the gate's own last line. The
+# status is the gate's.
 #   tests/times.sh                 the whole gate
 #   tests/times.sh club_core ..    `rt ci club_core ..`: these crates, and those below them
 # Times are read from /proc once a second, so a process counts up to a second less than it took; running the programs and tests

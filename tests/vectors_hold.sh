@@ -1,7 +1,9 @@
 #!/bin/sh
-# Compares passtool and clubdesk's server with docs/vectors.json: each pass in each form, texts that are read as the same pass,
-# texts that are none, the verdict of each caveat on each request, and the reply to each request, byte for byte. The signatures are
-# computed once more by Python's standard library, and V1 and V2 by pymacaroons, where it writes the pass as it is. Not part of the gate.
+# `passtool` and the server agree with docs/vectors.json: passes, texts that are none, verdicts on caveats, replies to requests.
+#
+# Each pass in each form, texts that are read as the same pass, the verdict of each caveat on each request, each reply byte for byte. The
+# signatures are computed once more by Python's standard library, and V1 and V2 by pymacaroons, where it writes the pass as it is. Not part
+# of the gate.
 # groups: pages
 set -eu
 . "$(dirname -- "$0")/serving.sh"

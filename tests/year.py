@@ -1,7 +1,7 @@
 #!/usr/bin/env python3
-"""A club's year beside the rules in Python: members book under narrowed passes, the office credits, rotates, revokes and closes, servers
-and orders are killed, and the clock goes through both changes of summer time. Each reply, each order and each day sheet is that of
-tests/reference; each month the rows and totals of the file are. With --self-test each planted fault of the reference has to be found.
+"""A club's year beside the rules of `tests/reference`: narrowed passes, credits, rotations, revoked keys and closed slots, servers and
+orders that are killed, a clock that goes through both changes of summer time; each reply, order and day sheet, and each month the rows and
+totals. With `--self-test` each of the planted faults of those rules is found.
 
 The clock of each server is set by tests/set_clock.c, and the server turns it into the club's civil time by the zone's rule; the test
 does so by Python's zoneinfo. After a kill the client sends the request again, and an order is given again: the reply is the
