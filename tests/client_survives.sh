@@ -29,152 +29,7 @@ serve club 1 "$noon"
 curl -sS -o body "http://127.0.0.1:$port/account"
 finish
 
-cat >worker.py <<'PYTHON'
-"""Books each slot that isn't on the record yet, and cancels ten of eleven, so that no member reaches the quota of 99: worker.py EXAMPLES PORT."""
-import sys
-
-examples, port = sys.argv[1:]
-sys.path.insert(0, examples)
-sys.dont_write_bytecode = True
-from client import Client, NoReply, Record
-
-
-class Counting(Client):
-    """Prints a line for each request that got no reply, and so is sent again."""
-
-    def _exchange(self, *words):
-        try:
-            return super()._exchange(*words)
-        except NoReply:
-            print("again", flush=True)
-            raise
-
-
-def slots():
-    """Facility, day, hour and guests, each slot once."""
-    for place in range(10 * 30 * 14):
-        yield f"court-{place % 10}", f"2026-05-{1 + place // 10 % 30:02}", f"{8 + place // 300 % 14:02}", place % 3
-
-
-clients = []
-for key in range(8):
-    record = Record(f"record.{key}")
-    clients.append(Counting(f"http://127.0.0.1:{port}", open(f"pass.{key}").read().strip(), record))
-for client in clients:
-    client.repeat()
-for place, (facility, day, hour, guests) in enumerate(slots()):
-    client = clients[place % 8]
-    asked = {(b["facility"], b["day"], b["hour"]): number for number, b in client.record.bookings.items()
-             if b["book"] is None or b["book"].get("fault") != 13}
-    number = asked.get((facility, day, hour))
-    if number is None:
-        reply = client.book(facility, day, hour, guests)
-        if "fault" in reply:
-            sys.exit(f"{facility} {day} {hour}: {reply}")
-        number = int(reply["booking"].split("/")[1])
-        print(number, "book", reply["charge"], reply["left"], flush=True)
-    if place % 11 and "cancel" not in client.record.bookings[number]:
-        print(number, "cancel", client.cancel(number)["refund"], flush=True)
-PYTHON
-
-cat >killer.py <<'PYTHON'
-"""Runs the server and the worker, kills both, and compares the file with the records."""
-import atexit
-import random
-import sqlite3
-import subprocess
-import sys
-import time
-from datetime import date
-
-desk, examples, kills, port, moment = sys.argv[1:]
-draw = random.Random(20260501)
-
-
-running = []
-atexit.register(lambda: [program.kill() for program in running])
-
-
-def started():
-    words = [desk, "serve", "club", "--port", port, "--count", "1000000", "--at", moment]
-    server = subprocess.Popen(words, stdout=subprocess.PIPE, text=True)
-    running.append(server)
-    if not server.stdout.readline().startswith("listening"):
-        sys.exit(f"the server ended with status {server.wait()}")
-    return server
-
-
-def working():
-    worker = subprocess.Popen(["/usr/bin/python3", "worker.py", examples, port], stdout=open("acknowledged", "ab"))
-    running.append(worker)
-    return worker
-
-
-server, worker, ended = started(), working(), 0
-for kill in range(1, int(kills) + 1):
-    time.sleep(draw.uniform(0.05, 0.4))
-    server.kill()
-    server.wait()
-    if kill % 5 == 0:
-        if worker.poll() is None:
-            worker.kill()
-            ended += 1
-        worker.wait()
-    time.sleep(draw.uniform(0, 0.05))
-    server = started()
-    if worker.poll() is not None:
-        if worker.returncode > 0:
-            sys.exit(f"the worker ended with status {worker.returncode}")
-        worker = working()
-time.sleep(1)
-worker.kill()
-worker.wait()
-sys.path.insert(0, examples)
-sys.dont_write_bytecode = True
-from client import Client, Record
-
-recorded, repeated = {}, 0
-for key in range(8):
-    client = Client(f"http://127.0.0.1:{port}", open(f"pass.{key}").read().strip(), Record(f"record.{key}"))
-    repeated += len(client.repeat())
-    for number, booking in client.record.bookings.items():
-        reply, cancelled = booking["book"], booking.get("cancel")
-        if "fault" in reply:
-            if reply["fault"] != 13:
-                sys.exit(f"k{key}/{number}: {reply}")
-            continue
-        day = (date.fromisoformat(booking["day"]) - date(1970, 1, 1)).days
-        recorded[f"k{key}", number] = (booking["facility"], day, int(booking["hour"]), booking["guests"], reply["charge"], reply["left"],
-                                       int(cancelled is not None), cancelled["refund"] if cancelled else 0)
-server.kill()
-server.wait()
-subprocess.run([desk, "sheet", "club", "2026-05-01"], check=True, stdout=subprocess.DEVNULL)
-club = sqlite3.connect("club")
-rows = {(row[0], row[1]): row[2:] for row in club.execute("SELECT * FROM bookings")}
-if rows != recorded:
-    sys.exit(f"the file and the records differ: {sorted(set(rows.items()) ^ set(recorded.items()))[:6]}")
-slots = [row[:3] for row in rows.values()]
-if len(slots) != len(set(slots)):
-    sys.exit("a slot is booked twice")
-by_number = {number: row for (_, number), row in rows.items()}
-lines = [line.split() for line in open("acknowledged") if line.endswith("\n")]
-again = lines.count(["again"])
-acknowledged = [line for line in lines if line != ["again"]]
-for number, action, *numbers in acknowledged:
-    row = by_number[int(number)]
-    if [int(each) for each in numbers] != ([*row[4:6]] if action == "book" else [row[7]]):
-        sys.exit(f"{number} {action} {numbers} was acknowledged, and the file has {row}")
-for question in ("SELECT name FROM members WHERE used <> (SELECT total(charge - refund) FROM bookings JOIN keys ON keys.name = pass_key"
-                 " WHERE member = members.name)",
-                 "SELECT * FROM slots s WHERE taken <> (SELECT total(guests + 1) FROM bookings b WHERE cancelled = 0"
-                 " AND b.facility = s.facility AND b.day = s.day AND b.hour = s.hour)"):
-    if wrong := club.execute(question).fetchall():
-        sys.exit(f"totals that aren't the sums: {wrong}")
-cancelled = sum(row[6] for row in rows.values())
-print(f"{kills} servers and {ended} clients were killed: {len(rows)} bookings are in the file, each once, {cancelled} of them cancelled; "
-      f"{len(acknowledged)} acknowledgements hold; {again} times no reply came, and {repeated} requests were finished at the end")
-PYTHON
-"$python" killer.py "$desk" "$here/../examples" "$kills" "$port" "$noon"
+"$python" "$here/client_survives/killer.py" "$desk" "$here/../examples" "$kills" "$port" "$noon"
 
 # The commands of client.py, over a club of their own.
 "$desk" add-facility own court-1 court 4 200 8 22 >line
@@ -239,56 +94,13 @@ prints 1 borrow </dev/null
 echo 'each command of client.py prints what it is to print'
 
 # A proxy that fails in each way, once a request: the client books and cancels once, all the same.
-cat >proxy.py <<'PYTHON'
-import socket
-import sys
-
-port, kinds = int(sys.argv[1]), sys.argv[2:]
-FAILURES = {"bad-gateway": (502, "<html>bad gateway</html>"), "page": (200, "<html>a page</html>"), "json": (500, '{"error":"proxy"}'),
-            "unavailable": (503, '{"fault":22,"text":"unavailable"}')}
-
-
-def exchanged(request):
-    with socket.create_connection(("127.0.0.1", port)) as desk:
-        desk.sendall(request)
-        reply = b""
-        while piece := desk.recv(4096):
-            reply += piece
-    return reply
-
-
-def request_from(client):
-    """A head, and its body of as many bytes as it asks for."""
-    request = b""
-    while b"\r\n\r\n" not in request:
-        request += client.recv(4096)
-    head, body = request.split(b"\r\n\r\n", 1)
-    fields = dict(line.lower().split(b": ", 1) for line in head.split(b"\r\n")[1:])
-    while len(body) < int(fields.get(b"content-length", b"0")):
-        body += client.recv(4096)
-    return head + b"\r\n\r\n" + body
-
-
-listener = socket.create_server(("127.0.0.1", 0))
-print(listener.getsockname()[1], flush=True)
-for kind in kinds:
-    client, _ = listener.accept()
-    with client:
-        request = request_from(client)
-        if kind in FAILURES:
-            status, body = FAILURES[kind]
-            client.sendall(f"HTTP/1.1 {status} Failed\r\nContent-Length: {len(body)}\r\nConnection: close\r\n\r\n{body}".encode())
-        elif kind != "silent":
-            reply = exchanged(request)
-            client.sendall(reply[: {"swallowed": 0, "head-cut": 40, "body-cut": len(reply) - 5}.get(kind, len(reply))])
-PYTHON
 failures='silent bad-gateway page json unavailable swallowed head-cut body-cut'
 mkfifo proxy
 for order in 'book court-1 2026-05-03 18 0' cancel; do
     # Three of the failures come from behind the desk's reply, so the desk is asked four times.
     serve own 4 "$noon"
     # shellcheck disable=SC2086
-    "$python" proxy.py "$port" $failures whole >proxy &
+    "$python" "$here/client_survives/proxy.py" "$port" $failures whole >proxy &
     proxy=$!
     read -r port <proxy
     DESK=http://127.0.0.1:$port

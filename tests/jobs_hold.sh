@@ -76,8 +76,9 @@ CLUBDESK=$work/waits.sh "$deploy/keep_copies" club copies >told 2>said &
 job=$!
 for _ in $(seq 100); do [ ! -e waits ] || break; sleep 0.1; done
 [ -e waits ] || fail 'the copy is never opened'
-pkill -P "$job" -x sleep || :
+asleep=$(pgrep -P "$job" -x sleep || :)
 kill -9 "$job"
+[ -z "$asleep" ] || kill "$asleep"
 wait "$job" 2>/dev/null || :
 [ -n "$(find copies -name '.new*')" ] || fail 'a killed copy left nothing: was it killed?'
 sleep 1
@@ -92,42 +93,7 @@ ends 'no folder' 1 "$deploy/old_copies" nowhere 2026-05-01
 
 # Each day of three years a copy, or none, or two; then those go that are too old. What is left is what the rule says, each day.
 mkdir years
-/usr/bin/python3 - "$deploy/old_copies" years <<'PYTHON'
-import datetime
-import os
-import random
-import subprocess
-import sys
-
-script, folder = sys.argv[1:]
-chance = random.Random(56)
-day = datetime.date(2023, 12, 20)
-made = []  # all that ever were, whatever was removed since
-open(os.path.join(folder, "notes"), "w").close()
-for step in range(1100):
-    day += datetime.timedelta(days=1)
-    gap = 200 <= step < 260  # a machine that was off
-    for at in sorted(chance.sample(range(86400), 0 if gap else chance.choice((0, 1, 1, 1, 1, 2)))):
-        made.append(f"{day}T{at // 3600:02}{at // 60 % 60:02}{at % 60:02}Z")
-        open(os.path.join(folder, made[-1]), "w").close()
-    gone = subprocess.run([script, folder, str(day)], check=True, capture_output=True, text=True).stdout.split()
-    for name in gone:
-        os.remove(os.path.join(folder, name))
-    monday = day - datetime.timedelta(days=day.weekday())
-    wanted = {it for it in made if datetime.date.fromisoformat(it[:10]) > day - datetime.timedelta(days=14)}
-    for back in range(8):
-        begin = monday - datetime.timedelta(days=7 * back)
-        end = begin + datetime.timedelta(days=6)
-        wanted |= set(sorted(it for it in made if str(begin) <= it[:10] <= str(end))[:1])
-    for back in range(12):
-        year, month = divmod(day.year * 12 + day.month - 1 - back, 12)
-        wanted |= set(sorted(it for it in made if it.startswith(f"{year}-{month + 1:02}-"))[:1])
-    found = set(os.listdir(folder)) - {"notes"}
-    if found != wanted:
-        sys.exit(f"{day}: too many {sorted(found - wanted)}, too few {sorted(wanted - found)}")
-if len(made) < 1000 or len(found) > 50 or not os.path.exists(os.path.join(folder, "notes")):
-    sys.exit(f"{len(made)} copies were made, {len(found)} are left")
-PYTHON
+/usr/bin/python3 "$here/jobs_hold.py" "$deploy/old_copies" years
 checks=$((checks + 1100))
 
 # ---- The morning's sheet: of the zone's day, once, from its hour on.

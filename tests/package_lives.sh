@@ -349,36 +349,7 @@ answers 8080
 same 'the desk after a power cut' '{"booking":"amy-1/7","charge":3,"left":47} 200' "$(by_tls PUT "slots/court-1/$day/18/bookings/7" '{"guests":2}')"
 
 # ---- An upgrade while a client books: each booking that was acknowledged is in the file, and the program is another process.
-inside sh -c 'runuser -u clubdesk -- clubdesk credit /var/lib/clubdesk/club amy 100000; cat >/root/client' <<'PYTHON'
-import json
-import os
-import sys
-import time
-import urllib.request
-
-field = open("/root/field", encoding="ascii").read().split(": ", 1)[1].strip()
-number = 1000
-tries = 0
-while not os.path.exists("/root/enough"):
-    number += 1
-    for method in ("PUT", "DELETE") if number % 3 else ("PUT", "DELETE", "DELETE"):
-        while True:
-            request = urllib.request.Request(f"http://127.0.0.1:8080/slots/court-1/{sys.argv[1]}/20/bookings/{number}", method=method,
-                                             headers={"Authorization": field}, data=b'{"guests":0}' if method == "PUT" else None)
-            try:
-                with urllib.request.urlopen(request, timeout=20) as reply:
-                    print(number, method, json.loads(reply.read()), flush=True)
-                break
-            except urllib.error.HTTPError as fault:
-                if fault.code != 503:
-                    sys.exit(f"{method} {number}: {fault.code} {fault.read()}")
-            except OSError:
-                tries += 1
-                if tries > 2000:
-                    sys.exit("the desk doesn't come back")
-            time.sleep(0.05)
-print("tries", tries, file=sys.stderr)
-PYTHON
+inside sh -c 'runuser -u clubdesk -- clubdesk credit /var/lib/clubdesk/club amy 100000; cat >/root/client' <"$here/package_lives.py"
 inside sh -c "rm -f /root/enough; exec python3 /root/client $day" >booked 2>client.log &
 client=$!
 pid_of() { inside systemctl show --value -p MainPID "$1"; }
