@@ -1,11 +1,11 @@
 #!/bin/sh
-# Runs what docs/RUNNING.md has for root under "A club", "A certificate", "TLS" and "Several clubs", line by line, on a machine of its own
-# (tests/office_room.sh): certbot gets a certificate by nginx's site of the challenges, from an authority of the test's own
+# Runs what docs/RUNNING.md has for root under "A club", "The pages", "A certificate", "TLS" and "Several clubs", line by line, on a
+# machine of its own (tests/office_room.sh): certbot gets a certificate by nginx's site of the challenges, from an authority of the test's own
 # (tests/acme_stand_in.py), and renews it, after which the site has the new one. Then two clubs at one proxy, that nothing else is answered
 # at the port of the challenges, and the limit of requests, with its sentence. Wants root. Not part of the gate.
 # groups: package root
 set -eu
-room_wants='curl:curl nginx:nginx-light certbot:certbot'
+room_wants='curl:curl nginx:nginx-light certbot:certbot qrencode:qrencode'
 room_net=yes
 . "$(dirname -- "$0")/office_room.sh"
 [ -e /etc/nginx/sites-enabled/default ] || ln -s ../sites-available/default /etc/nginx/sites-enabled/default
@@ -67,10 +67,11 @@ esac
 SYSTEMCTL
 install -m 755 "$room/systemctl" /usr/bin/systemctl
 
+mkdir "$room/page"
 by_page() {
     page_block "$1" >"$room/lines"
     [ -s "$room/lines" ] || fail "docs/RUNNING.md has no lines under '$1'"
-    (cd "$top" && sh -e "$room/lines") >said 2>&1 || fail "$1: $(cat said)"
+    (cd "$room/page" && sh -e "$room/lines") >said 2>&1 || fail "$1: $(cat said)"
     echo "$1: $(wc -l <"$room/lines") lines run"
 }
 
@@ -79,10 +80,13 @@ by_page 'A club'
 member_of() {
     office "$1" add-member amy 99
     office "$1" credit amy 1000
-    office "$1" add-facility "$1-1" court 4 1 0 24
+    office "$1" add-facility "$2" court 4 1 0 24
     office "$1" add-key amy-1 amy --to "$work/$1-pass"
 }
-member_of club >told
+member_of club court-1 >told
+cp club-pass "$room/page/amy-1"
+by_page 'The pages'
+[ -s "$room/page/amy-1.html" ] || fail 'the page made no letter'
 systemctl enable --now clubdesk@club
 
 # ---- A certificate, and the site that has it.
@@ -116,7 +120,7 @@ same 'no challenge is left' '' "$(find /var/www/challenge -type f)"
 certbot certonly --webroot --webroot-path /var/www/challenge --domain rowing.example.org --deploy-hook 'systemctl reload nginx' >said 2>&1 ||
     fail "certbot: $(cat said)"
 by_page 'Several clubs'
-member_of rowing >told
+member_of rowing boat-1 >told
 sed -i 's,/live/desk.example.org/,/live/rowing.example.org/,' /etc/nginx/sites-available/rowing
 nginx -t -q && systemctl reload nginx
 is_heard http://127.0.0.1:8081/
@@ -129,10 +133,9 @@ seen() {
     printf 'Authorization: Bearer %s' "$(cat "$1-pass")" >field
     curl -H @field "https://$2.example.org/$3"
 }
-for pair in club:desk rowing:rowing; do
-    same "the court of ${pair%:*}" "\"facility\":\"${pair%:*}-1\"" "$(seen "${pair%:*}" "${pair#*:}" "slots/${pair%:*}-1/2026-05-01/18" | grep -o '"facility":"[a-z0-9-]*"')"
-done
-same 'the list of facilities for the page' club-1 "$(curl https://desk.example.org/club.json | grep -o 'club-1' | head -n 1)"
+same 'the court of the first' '"facility":"court-1"' "$(seen club desk slots/court-1/2026-05-01/18 | grep -o '"facility":"[a-z0-9-]*"')"
+same 'the boat of the second' '"facility":"boat-1"' "$(seen rowing rowing slots/boat-1/2026-05-01/18 | grep -o '"facility":"[a-z0-9-]*"')"
+same 'the list of facilities for the page' court-1 "$(curl https://desk.example.org/club.json | grep -o 'court-1' | head -n 1)"
 same 'the page' 200 "$(curl -o told -w '%{http_code}' https://desk.example.org/book.html)"
 same "a pass of the other club" '{"fault":9,"text":"not verified"}' "$(seen rowing desk account)"
 
