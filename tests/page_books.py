@@ -411,7 +411,7 @@ def day_says_what_is(page, passes):
     hour = now().hour
     check(page.run("return cellAt('court-1', arguments[0]).button.innerText", hour) == "Over", "an hour that has begun")
     check("free" in page.run("return cellAt('court-1', arguments[0]).button.innerText", hour + 1), "the next hour")
-    asked = [address for method, address in page.requests() if f"/slots/" in address and method == "GET"]
+    asked = [address for method, address in page.requests() if "/slots/" in address and method == "GET"]
     check(asked and all(int(address[-2:]) > hour for address in asked), "hours that are over aren't asked for", asked)
     check(page.run("return byName('day-before').disabled"), "no day before today")
     page.go(day(60))
@@ -1346,7 +1346,7 @@ def main():
     for function, words in [(browser_ends, (front, passes, between)), (broken_browsers, (front, passes, server)), (clocks, (front, passes)),
                             (rotations, (front, passes, between)), (devices, (front, passes, server)), (cancelled_by_the_office, (front, passes, server)),
                             (survives_kills, (front, passes, server)), (is_quick_and_small, (start_proxy(server.port), passes)),
-                            (waits_as_the_proxy_wants, (start_proxy(server.port, rate=5, burst=30), passes)), (looks_right, (front, passes)), (on_three_phones, (front, passes)),
+                            (waits_as_the_proxy_wants, (start_proxy(server.port, rate=3, burst=10), passes)), (looks_right, (front, passes)), (on_three_phones, (front, passes)),
                             (hall_screen, (front, passes, server))]:
         if wanted(function):
             function(*words)
