@@ -121,7 +121,7 @@ echo '127.0.0.1 localhost desk' >"$root/etc/hosts"
 echo 'APT::Get::Assume-Yes "true";' >"$root/etc/apt/apt.conf.d/99yes"
 cp "first/$deb" ./*.deb first/*.tar.xz "$root/root/"
 # The packages that it needs are fetched before the machine is cut off.
-offline sh -c "apt-get update && apt-get install --download-only /root/$deb xz-utils" >apt.log 2>&1 </dev/null || fail "apt-get: $(tail apt.log)"
+offline sh -c "apt-get update && apt-get install --download-only /root/$deb qrencode xz-utils" >apt.log 2>&1 </dev/null || fail "apt-get: $(tail apt.log)"
 boot
 
 # blocks HEADING: the lines for root of a section of RUNNING, as the package has it.
@@ -200,6 +200,7 @@ openssl req -x509 -newkey rsa:2048 -nodes -days 2 -subj /CN=desk.example.org -ad
     -keyout /etc/ssl/clubdesk/key.pem -out /etc/ssl/clubdesk/certificate.pem
 LINES
 blocks TLS | gives TLS
+blocks 'The pages' | gives 'The pages'
 inside sh -c 'printf "Authorization: Bearer %s\n" "$(cat /root/amy-1)" >/root/field'
 # by_tls METHOD PATH [BODY]
 by_tls() {
@@ -212,8 +213,9 @@ for page in book.html pass.html; do
     same "the page $page" "$(sha256sum <"$top/web/$page")" "$(inside curl -sS --cacert /etc/ssl/clubdesk/certificate.pem \
         --resolve desk.example.org:443:127.0.0.1 "https://desk.example.org/$page" | sha256sum)"
 done
-same 'what the pages know of the club' 'Europe/Berlin court-1' \
-    "$(by_tls GET club.json | sed 's/ 200$//' | python3 -c 'import json, sys; club = json.load(sys.stdin); print(club["zone"], club["facilities"][0]["name"])')"
+holds 'a letter' inside grep -q svg /root/amy-1.html
+same 'what the pages know of the club' 'Europe/Berlin court-1 Court 1' \
+    "$(by_tls GET club.json | sed 's/ 200$//' | python3 -c 'import json, sys; club = json.load(sys.stdin); court = club["facilities"][0]; print(club["zone"], court["name"], court["title"])')"
 same 'the account behind TLS' '{"member":"amy","balance":9997,"quota":5,"open":1,"spent":3} 200' "$(by_tls GET account)"
 
 # ---- Health.
