@@ -1,30 +1,23 @@
-"""Both programs against docs/vectors.json: vectors_hold.py CLUBDESK PASSTOOL VECTORS, run by vectors_hold.sh."""
+"""Both programs against docs/vectors.json, run by vectors_hold.sh: a test for each pass, text, caveat and run of it."""
+
 import hmac
 import json
-import shutil
-import socket
-import subprocess
-import sys
-from pathlib import Path
 
+import pytest
 from pymacaroons import Macaroon
 
-DESK, TOOL, VECTORS = sys.argv[1:]
+import desk
+from conftest import Club, request_bytes
+
+VECTORS = json.loads((desk.ROOT / "docs" / "vectors.json").read_text(encoding="utf-8"))
 FORMS = ["v1", "v2", "json"]
-checks = 0
+THIRD = VECTORS["passes"][2]
 
 
-def hold(what, wanted, got):
-    global checks
-    checks += 1
-    if wanted != got:
-        sys.exit(f"{what}: the vector has\n{wanted}\nand here is\n{got}")
-
-
-def run(*words, given=""):
-    """Status and both outputs of a program."""
-    ended = subprocess.run(words, input=given.encode(), capture_output=True)
-    return ended.returncode, (ended.stdout + ended.stderr).decode()
+def each(vectors):
+    """A test for each vector, named by what it is."""
+    names = [it if isinstance(it, str) else it.get("what") or it["caveat"] for it in vectors]
+    return pytest.mark.parametrize("vector", vectors, ids=names)
 
 
 def bytes_of(owner, name):
@@ -32,146 +25,122 @@ def bytes_of(owner, name):
 
 
 def caveats_of(vector):
-    return [bytes.fromhex(each["hex"]) if isinstance(each, dict) else each.encode() for each in vector["caveats"]]
+    return [bytes.fromhex(it["hex"]) if isinstance(it, dict) else it.encode() for it in vector["caveats"]]
 
 
 def shown(data):
     return "".join("\\\\" if b == 0x5C else chr(b) if 0x20 <= b <= 0x7E else f"\\x{b:02x}" for b in data)
 
 
-def hold_signatures(vector):
-    """By the standard library: the chain under the root."""
+def texts_of(vector):
+    """Location, identifier and caveats as words of a command line; None if one is no UTF-8."""
+    try:
+        return [it.decode() for it in (bytes_of(vector, "location"), bytes_of(vector, "identifier"), *caveats_of(vector))]
+    except UnicodeDecodeError:
+        return None
+
+
+WITH_A_ROOT = [it for it in VECTORS["passes"] if "root" in it]
+OF_WORDS = [it for it in WITH_A_ROOT if texts_of(it) is not None]
+
+
+@each(WITH_A_ROOT)
+def test_signatures_by_the_standard_library(vector):
+    """The chain under the root."""
     key = hmac.digest(b"macaroons-key-generator", bytes.fromhex(vector["root"]), "sha256")
     for text, wanted in zip([bytes_of(vector, "identifier"), *caveats_of(vector)], vector["signatures"], strict=True):
         key = hmac.digest(key, text, "sha256")
-        hold(vector["what"], wanted, key.hex())
-    hold(vector["what"], vector["signature"], key.hex())
+        assert key.hex() == wanted
+    assert key.hex() == vector["signature"]
 
 
-def hold_pymacaroons(vector):
+@each(WITH_A_ROOT)
+def test_texts_by_pymacaroons(vector):
     """Of ASCII, and in V2 with a location."""
-    texts = [bytes_of(vector, "location"), bytes_of(vector, "identifier"), *caveats_of(vector)]
-    if not all(text.isascii() for text in texts) or not texts[1]:
-        return
-    location, identifier, *caveats = (text.decode() for text in texts)
+    texts = texts_of(vector)
+    if texts is None or not all(it.isascii() for it in texts) or not texts[1]:
+        pytest.skip("pymacaroons counts letters, and wants an identifier")
+    location, identifier, *caveats = texts
     for version in (1, 2) if location else (1,):
         macaroon = Macaroon(location=location, identifier=identifier, key=bytes.fromhex(vector["root"]), version=version)
         for caveat in caveats:
             macaroon.add_first_party_caveat(caveat)
-        hold(vector["what"], vector[FORMS[version - 1]], macaroon.serialize())
+        assert macaroon.serialize() == vector[FORMS[version - 1]]
 
 
-def hold_pass(vector):
-    what, texts = vector["what"], None
-    if "root" in vector:
-        other_root = f"{int(vector['root'][:2], 16) ^ 1:02x}{vector['root'][2:]}"
-        hold_signatures(vector)
-        hold_pymacaroons(vector)
-        fields = [bytes_of(vector, "location"), bytes_of(vector, "identifier"), *caveats_of(vector)]
-        try:
-            texts = [field.decode() for field in fields]
-        except UnicodeDecodeError:
-            pass  # no words of a command line
-    for form in FORMS:
-        for other in FORMS:
-            hold(f"{what}, {form} to {other}", (0, vector[other] + "\n"), run(TOOL, "convert", "--form", other, given=vector[form]))
-        lines = [f"form {form}", f"location {shown(bytes_of(vector, 'location'))}", f"identifier {shown(bytes_of(vector, 'identifier'))}"]
-        lines += [f"caveat {n} {shown(caveat)}" for n, caveat in enumerate(caveats_of(vector), 1)] + [f"signature {vector['signature']}"]
-        hold(f"{what}, {form}", (0, "\n".join(lines) + "\n"), run(TOOL, "show", given=vector[form]))
-        if "root" in vector:
-            hold(f"{what}, {form}", (0, "signed\n"), run(TOOL, "verify", "--root", vector["root"], given=vector[form]))
-            hold(f"{what}, {form}", (1, "not signed\n"), run(TOOL, "verify", "--root", other_root, given=vector[form]))
-        if texts is not None:
-            location, identifier, *caveats = texts
-            words = ["--root", vector["root"], f"--id={identifier}", f"--location={location}", "--form", form, "--"]
-            hold(f"{what}, {form}", (0, vector[form] + "\n"), run(TOOL, "mint", *words, *caveats))
-            if caveats:
-                whole = run(TOOL, "mint", *words)[1]
-                hold(f"{what}, {form}", (0, vector[form] + "\n"), run(TOOL, "narrow", "--any", "--", *caveats, given=whole))
+@pytest.mark.parametrize("form", FORMS)
+@each(VECTORS["passes"])
+def test_pass_in_a_form(passtool, vector, form):
+    text = vector[form]
+    for other in FORMS:
+        assert passtool("convert", "--form", other, given=text) == (0, vector[other] + "\n")
+    lines = [f"form {form}", f"location {shown(bytes_of(vector, 'location'))}", f"identifier {shown(bytes_of(vector, 'identifier'))}"]
+    lines += [f"caveat {n} {shown(caveat)}" for n, caveat in enumerate(caveats_of(vector), 1)] + [f"signature {vector['signature']}"]
+    assert passtool("show", given=text) == (0, "\n".join(lines) + "\n")
+    if "root" not in vector:
+        return
+    other_root = f"{int(vector['root'][:2], 16) ^ 1:02x}{vector['root'][2:]}"
+    assert passtool("verify", "--root", vector["root"], given=text) == (0, "signed\n")
+    assert passtool("verify", "--root", other_root, given=text) == (1, "not signed\n")
 
 
-def served(club, at, request):
-    """The bytes of the reply of a server of its own."""
-    server = subprocess.Popen([DESK, "serve", club, "--port", "0", "--count", "1", "--at", at], stdout=subprocess.PIPE, text=True)
-    port = int(server.stdout.readline().rsplit(":", 1)[1])
-    with socket.create_connection(("127.0.0.1", port)) as client:
-        got = b""
-        # The desk replies once it knows enough, and closes the connection whatever it left unread: so a client may be cut off, and
-        # finds the reply all the same.
-        try:
-            client.sendall(request.encode())
-            client.shutdown(socket.SHUT_WR)
-        except OSError:
-            pass
-        try:
-            while piece := client.recv(4096):
-                got += piece
-        except ConnectionResetError:
-            pass
-    if server.wait(timeout=60) != 0:
-        sys.exit(f"the server ended with status {server.returncode}")
-    return got.decode()
+@pytest.mark.parametrize("form", FORMS)
+@each(OF_WORDS)
+def test_pass_is_minted_and_narrowed(passtool, vector, form):
+    location, identifier, *caveats = texts_of(vector)
+    words = ["--root", vector["root"], f"--id={identifier}", f"--location={location}", "--form", form, "--"]
+    assert passtool("mint", *words, *caveats) == (0, vector[form] + "\n")
+    if caveats:
+        assert passtool("narrow", "--any", "--", *caveats, given=passtool("mint", *words)[1]) == (0, vector[form] + "\n")
 
 
-def fresh():
-    """A copy of the club as it was made."""
-    for path in Path().glob("club*"):
-        path.unlink()
-    for path in Path().glob("start*"):
-        shutil.copy(path, path.name.replace("start", "club"))
+@each(VECTORS["also read as the third pass"])
+def test_another_text_of_the_third_pass(passtool, vector):
+    assert passtool("convert", "--form", "v2", given=vector["text"]) == (0, THIRD["v2"] + "\n")
+    assert passtool("show", given=vector["text"])[1].split("\n")[0] == f"form {vector['form']}"
 
 
-def made(commands):
-    """Makes the club; the passes that its commands print."""
-    printed = []
-    for command in commands:
-        status, text = run(DESK, *["start" if word == "CLUB" else word for word in command.split()[1:]])
-        if status != 0:
-            sys.exit(f"{command}: {text}")
-        if text != "done\n":
-            printed.append(text.rstrip("\n"))
-    return printed
+@each(VECTORS["not passes"])
+def test_text_that_is_no_pass(passtool, vector):
+    assert passtool("show", given=vector["text"]) == (3, vector["fault"] + "\n")
 
 
-def verdict(club_pass, caveat, ask):
+@pytest.fixture(scope="module")
+def made(clubdesk, tmp_path_factory):
+    """The club of the vectors, and amy's pass, the first that its commands print."""
+    club = Club(clubdesk, tmp_path_factory.mktemp("made") / "club")
+    printed = [club.order(*(it for it in command.split()[1:] if it != "CLUB")) for command in VECTORS["club"]["commands"]]
+    return club, next(it for it in printed if it != "done")
+
+
+@pytest.fixture
+def club(made, tmp_path):
+    return made[0].copied_to(tmp_path / "club")
+
+
+def verdict(passtool, ask, club, amy, caveat, asked):
     """Of the desk, on a pass with this caveat."""
-    status, text = run(TOOL, "narrow", "--any", "--", caveat, given=club_pass)
-    body = f'{{"guests":{ask["guests"]}}}' if "guests" in ask else ""
-    length = f"Content-Length: {len(body)}\r\n" if body else ""
-    fresh()
-    request = f"{ask['method']} {ask['path']} HTTP/1.1\r\nAuthorization: Bearer {text.strip()}\r\n{length}\r\n{body}"
-    reply = json.loads(served("club", ask["at"], request).split("\r\n\r\n", 1)[1])
-    if reply.get("caveat", 1) != 1:
-        sys.exit(f"{caveat}: {reply}")
+    passed = passtool("narrow", "--any", "--", caveat, given=amy)[1].strip()
+    body = f'{{"guests":{asked["guests"]}}}' if "guests" in asked else None
+    reply = ask(club, request_bytes(asked["method"], asked["path"], body, passed), asked["at"]).value
+    assert reply.get("caveat", 1) == 1
     return {11: "not understood", 12: "denies"}.get(reply.get("fault"), "allows")
 
 
-vectors = json.loads(Path(VECTORS).read_text(encoding="utf-8"))
-for vector in vectors["passes"]:
-    hold_pass(vector)
-third = vectors["passes"][2]
-for vector in vectors["also read as the third pass"]:
-    hold(vector["what"], (0, third["v2"] + "\n"), run(TOOL, "convert", "--form", "v2", given=vector["text"]))
-    hold(vector["what"], f"form {vector['form']}", run(TOOL, "show", given=vector["text"])[1].split("\n")[0])
-for vector in vectors["not passes"]:
-    hold(vector["what"], (3, vector["fault"] + "\n"), run(TOOL, "show", given=vector["text"]))
-print(f"{checks} comparisons with passtool")
+@pytest.mark.parametrize("name", VECTORS["asks"])
+@each(VECTORS["caveats"])
+def test_verdict_on_a_caveat(passtool, ask, club, made, vector, name):
+    assert verdict(passtool, ask, club, made[1], vector["caveat"], VECTORS["asks"][name]) == vector[name]
 
-before = checks
-amy = made(vectors["club"]["commands"])[0]
-asks = vectors["asks"]
-for vector in vectors["caveats"]:
-    for name, ask in asks.items():
-        hold(f"{vector['caveat']}, {name}", vector[name], verdict(amy, vector["caveat"], ask))
-for caveat in vectors["not understood"]:
-    for name in ("book", "account"):
-        hold(f"{caveat}, {name}", "not understood", verdict(amy, caveat, asks[name]))
-    hold(caveat, (5, "caveat 1 not understood\n"), run(TOOL, "narrow", "--", caveat, given=amy))
-print(f"{checks - before} verdicts on caveats")
 
-before = checks
-for each in vectors["runs"]:
-    fresh()
-    for exchange in each["exchanges"]:
-        hold(f"{each['what']}, {exchange['request']!r}", exchange["reply"], served("club", exchange["at"], exchange["request"]))
-print(f"{checks - before} replies to requests")
+@pytest.mark.parametrize("name", ["book", "account"])
+@each(VECTORS["not understood"])
+def test_caveat_that_is_not_understood(passtool, ask, club, made, vector, name):
+    assert verdict(passtool, ask, club, made[1], vector, VECTORS["asks"][name]) == "not understood"
+    assert passtool("narrow", "--", vector, given=made[1]) == (5, "caveat 1 not understood\n")
+
+
+@each(VECTORS["runs"])
+def test_replies_of_a_run(ask, club, vector):
+    for exchange in vector["exchanges"]:
+        assert ask(club, exchange["request"].encode(), exchange["at"]).whole.decode() == exchange["reply"]
