@@ -56,8 +56,10 @@ class Both:
         expect(f"order {order}", found, self.answer_of(order))
 
     def ask(self, server, data, moment):
-        """The bytes of a request to both, which reply alike."""
-        expect(data, programs.exchange(server.port, data), wire.exchange(self.club, data, moment))
+        """The bytes of a request to both, which reply alike; the reply."""
+        found = programs.exchange(server.port, data)
+        expect(data, found, wire.exchange(self.club, data, moment))
+        return found
 
     def compare_rows(self):
         """The rows and the totals of the file are those of the reference."""

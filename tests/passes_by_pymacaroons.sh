@@ -2,11 +2,12 @@
 # 1,000 requests to the server, every second one under a pass that pymacaroons narrowed, in V1, V2 and JSON: each reply is that of the
 # rules in Python.
 #
-# The others come with passes that passtool narrowed; pymacaroons reads and writes these too. Not part of the gate.
+# The rules are those of tests/reference. The others come with passes that passtool narrowed; pymacaroons reads and writes these too. Not
+# part of the gate.
 # groups: programs
 set -eu
 . "$(dirname -- "$0")/serving.sh"
 python=/usr/bin/python3
 "$python" -c 'import pymacaroons, nacl' 2>/dev/null || installs python3-pymacaroons
 
-"$python" "$here/passes_by_pymacaroons.py" "$desk" "$tool"
+CLUBDESK=$desk PASSTOOL=$tool "$python" -B "$here/passes_by_pymacaroons.py"
