@@ -11,6 +11,7 @@ another, each at a moment of its own, and the office gives its orders between th
 """
 # groups: programs
 # groups: quick: --count 5000
+# groups: programs: --self-test
 
 import argparse
 import random
@@ -18,6 +19,7 @@ import sys
 import tempfile
 from pathlib import Path
 
+sys.dont_write_bytecode = True
 import desk as programs
 from both import Both, spelled_day, spelled_moment
 from reference import caveats, club as rules, passes

@@ -11,6 +11,7 @@ reference's, whether the first one was done or not.
 """
 # groups: programs
 # groups: quick: --days 20
+# groups: programs: --self-test
 
 import argparse
 import os
@@ -24,6 +25,7 @@ from datetime import datetime, timedelta, timezone
 from pathlib import Path
 from zoneinfo import ZoneInfo
 
+sys.dont_write_bytecode = True
 import desk as programs
 from both import Both, expect, spelled_day, spelled_moment
 from reference import caveats, club as rules, passes
