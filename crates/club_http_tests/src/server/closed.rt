@@ -63,12 +63,12 @@ fn closes_before_its_line(
         lines: 0,
         closed: 0,
     };
-    let mut connections = Listening::new(&listener, rt, Duration::from_millis(20));
+    let mut arrivals = Listening::new(&listener, None, rt, Duration::from_millis(20));
     let mut face = Face::new(rt.alloc()).expect(rt, "a face");
     let mut moments = noon(rt);
-    let mut desk = Noting::new(moments.moment);
+    let mut desk = Noting::new(rt.alloc(), moments.moment);
     let served = serve_logged(
-        &mut connections,
+        &mut arrivals,
         1,
         &mut moments,
         &mut face,
