@@ -20,9 +20,9 @@ fn client_of(rt: &HostRuntime, listener: &TcpListener, request: &str) -> Result<
 }
 
 // Serves one request at noon of 2026-04-20.
-fn serve_at<S: ClubStore + Drop>(
-    rt: &HostRuntime,
-    listener: &TcpListener,
+fn serve_at<'x, S: ClubStore + Drop>(
+    rt: &'x HostRuntime,
+    listener: &'x TcpListener,
     store: S,
 ) -> Result<(), Fail> {
     let mut face = Face::new(rt.alloc())?;

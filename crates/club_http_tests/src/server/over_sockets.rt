@@ -21,7 +21,7 @@ fn patience() -> Duration {
 }
 
 /// The next two connections of the listener are served, and one request is asked.
-fn serves_two(rt: &(impl Abort + Alloc<A = Global> + Clock), listener: &TcpListener) {
+fn serves_two<'x>(rt: &'x (impl Abort + Alloc<A = Global> + Clock), listener: &'x TcpListener) {
     let mut arrivals = Listening::new(listener, None, rt, patience());
     let served = serves(rt, &mut arrivals, 2, &mut noon(rt));
     expect_eq(rt, &served, &(Ok(()), 1));
