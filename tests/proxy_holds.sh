@@ -44,7 +44,7 @@ is_heard() {
 
 for folder in /var/log /var/www /run; do
     mkdir -p "$folder"
-    [ "$folder" = /run ] && mount -t tmpfs tmpfs "$folder" || over "$folder"
+    if [ "$folder" = /run ]; then mount -t tmpfs tmpfs "$folder"; else over "$folder"; fi
 done
 mkdir -p /var/log/nginx /run/sudo
 # No name is asked for outside.
@@ -148,7 +148,7 @@ sleep 2
 curl --no-progress-meter -Z --parallel-max 20 -K asked >statuses || :
 limited=$(grep -c '^429' statuses || :)
 passed=$(grep -c '^401' statuses || :)
-[ "$passed" -ge 200 ] && [ "$limited" -ge 20 ] && [ $((passed + limited)) = 300 ] || fail "of 300 at once $passed passed and $limited were limited"
+{ [ "$passed" -ge 200 ] && [ "$limited" -ge 20 ] && [ $((passed + limited)) = 300 ]; } || fail "of 300 at once $passed passed and $limited were limited"
 same 'the sentence' 'Too many requests at once. Send this one again in a second.' "$(grep -lF 'Too many' got.* | head -n 1 | xargs cat)"
 same 'as many sentences as refusals' "$limited" "$(grep -lF 'Send this one again in a second.' got.* | wc -l)"
 sleep 1.2
