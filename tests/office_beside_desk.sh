@@ -144,7 +144,7 @@ done
 : >club-wanted
 echo '127.0.0.1:1' >club-serving
 serve club 1 "$noon"
-[ ! -e club-wanted ] && [ ! -e club-serving ] || fail "what an older version left stays"
+if [ -e club-wanted ] || [ -e club-serving ]; then fail "what an older version left stays"; fi
 account >status
 [ "$(cat status)" = 200 ] || fail "the last server answers $(cat status)"
 finish
