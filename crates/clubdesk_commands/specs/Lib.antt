@@ -1,9 +1,8 @@
 pub mod Output
 pub mod Office
 pub mod Looks
-pub mod Does
-pub mod Order
-pub mod OfficeDesk
+pub mod AtNeed
+pub mod DeskAtNeed
 pub mod Input
 pub mod Run
 pub mod ByTraits

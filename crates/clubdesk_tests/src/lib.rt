@@ -8,15 +8,11 @@ mod callers;
 #[cfg(test)]
 mod clubs;
 #[cfg(test)]
-mod door;
-#[cfg(test)]
 mod ends;
 #[cfg(test)]
 mod expect;
 #[cfg(test)]
 mod files;
-#[cfg(test)]
-mod handed_over;
 #[cfg(test)]
 mod input;
 #[cfg(test)]
@@ -25,6 +21,8 @@ mod looks;
 mod memory;
 #[cfg(test)]
 mod orders;
+#[cfg(test)]
+mod others;
 #[cfg(test)]
 mod ports;
 #[cfg(test)]
@@ -35,3 +33,5 @@ mod served;
 mod servers;
 #[cfg(test)]
 mod terminal;
+#[cfg(test)]
+mod turns;

@@ -6,25 +6,17 @@ use club_clock::Moments;
 use club_core::{Refusal, Reply};
 use club_http::{AnswerFault, Face, ReadInlet, Responder, WriteOutlet, answer};
 use club_values::Moment;
-use desk_server::{
-    Answer, Arrival, Arrivals, Carried, Connection, Handover, Office, RequestLine, TimedRead,
-    TimedWrite, Waited,
-};
+use desk_server::{Connection, Connections, IdleHook, TimedRead, TimedWrite, Waited};
 use http_request::Words;
-use std::alloc::Global;
 use std::cell::Cell;
 use std::io::{self, ErrorKind, Read, Write};
 use std::time::{Clock, Duration};
 
-/// What comes of waiting for an arrival.
+/// What comes of waiting for a connection.
 #[derive(Clone, Copy, Drop)]
 pub enum Wire<'a> {
-    /// Nobody: waiting failed.
+    /// None: `accept` failed.
     Absent,
-    /// A connection of the office with these bytes.
-    Order(&'a [u8]),
-    /// One whose order doesn't come whole.
-    Cut,
     /// One whose reader fails.
     Broken,
     /// One that sends these bytes, and then ends.
@@ -94,23 +86,7 @@ impl Connection for Wire<'_> {
     }
 }
 
-/// A connection of the office over memory.
-#[derive(Drop)]
-pub struct Letter<'a>(Option<&'a [u8]>);
-
-impl Handover for Letter<'_> {
-    fn carry_out<D: Office>(&mut self, desk: &mut D) -> Option<Carried> {
-        match self.0 {
-            Some(bytes) => {
-                let Answer { carried, text: _ } = desk.order(bytes);
-                Some(carried)
-            }
-            None => None,
-        }
-    }
-}
-
-/// Arrivals in turn.
+/// Connections in turn.
 #[derive(Drop)]
 pub struct Script<'a> {
     wires: &'a [Wire<'a>],
@@ -128,26 +104,22 @@ impl<'a> Script<'a> {
     }
 }
 
-impl<'a> Arrivals for Script<'a> {
-    type Client = Wire<'a>;
-
-    type Order = Letter<'a>;
+impl<'a> Connections for Script<'a> {
+    type Connection = Wire<'a>;
 
     ghost waited = { λ script. script.waited };
 
     ghost failures = { λ script. script.failures };
 
-    fn next(&mut self) -> Arrival<Wire<'a>, Letter<'a>> {
+    fn accept(&mut self) -> Option<Wire<'a>> {
         let place = self.waited as usize;
         self.waited = self.waited.saturating_add(1);
         match self.wires.get(place) {
             None | Some(Wire::Absent) => {
                 self.failures = self.failures.saturating_add(1);
-                Arrival::Nobody
+                None
             }
-            Some(Wire::Order(bytes)) => Arrival::Order(Letter(Some(bytes))),
-            Some(Wire::Cut) => Arrival::Order(Letter(None)),
-            Some(wire) => Arrival::Client(*wire),
+            Some(wire) => Some(*wire),
         }
     }
 }
@@ -375,25 +347,21 @@ impl TimedWrite for Slow<'_> {
     }
 }
 
-/// Answers all requests as out of memory, and counts those at its moment, and the orders and their
-/// bytes.
+/// Answers all requests as out of memory, and counts those at its moment, and the calls of its
+/// hook.
 #[derive(Drop)]
 pub struct Noting {
-    alloc: Global,
     moment: Moment,
     pub asked: u64,
-    pub ordered: u64,
-    pub bytes: usize,
+    pub idled: u64,
 }
 
 impl Noting {
-    pub fn new(alloc: Global, moment: Moment) -> Noting {
+    pub fn new(moment: Moment) -> Noting {
         Noting {
-            alloc,
             moment,
             asked: 0,
-            ordered: 0,
-            bytes: 0,
+            idled: 0,
         }
     }
 }
@@ -409,18 +377,10 @@ impl Responder for Noting {
     }
 }
 
-impl Office for Noting {
-    ghost orders = { λ _ _ _ _. Unit {0} };
+impl IdleHook for Noting {
+    ghost idles = { λ _ _. Unit {0} };
 
-    fn order(&mut self, bytes: &[u8]) -> Answer {
-        self.ordered = self.ordered.saturating_add(1);
-        self.bytes = self.bytes.saturating_add(bytes.len());
-        Answer {
-            carried: Carried {
-                line: RequestLine::of(b"office credit "),
-                status: 1,
-            },
-            text: String::new(self.alloc),
-        }
+    fn on_idle(&mut self) {
+        self.idled = self.idled.saturating_add(1);
     }
 }
