@@ -1233,12 +1233,11 @@ def waits_as_the_proxy_wants(front, passes):
     """More requests at once than the proxy lets through: each slot is there in the end, and each booking made."""
     with BookingPage(front) as page:
         page.enter(passes["other"])
-        page.run("performance.setResourceTimingBufferSize(5000)")
         for ahead in range(20, 24):
             page.run("showDay(arguments[0])", day(ahead))
             time.sleep(0.2)
         page.when("dayIsThere()", "a day after many")
-        met = page.run("return performance.getEntriesByType('resource').filter((each) => each.responseStatus === 429).length")
+        met = pathlib.Path("error.log").read_text().count("limiting requests")
         check(met > 0, "a limit that was met", met)
         check(page.run("return [...cells.values()].every((cell) => cell.view !== null)"), "a slot without an answer")
         page.booked("court-3", 9)
