@@ -1,8 +1,9 @@
-"""Four clients at a server, and two offices beside it: office_beside_desk.py DESK FILE PORT.
+"""Four clients at a server, and two offices beside it: office_beside_desk.py DESK FILE PORT ORDERS.
 
-Reads the passes of the keys k1 to k4 from the file `passes`. Each client makes 500 requests at a facility of its own, and each
-reply has to be that which it reckons; the offices give 200 orders, and each has to print what it reckons. Prints how long the
-orders and the requests took.
+Reads the passes of the keys k1 to k4 from the file `passes`. Each client makes 1,250 requests at a facility of its own, and each
+reply has to be that which it reckons; the offices give 500 orders, or none, and each has to print what it reckons. Prints how long
+the orders and the requests took. With `slow` for the orders: one order beside a silent client, and one beside a client that sends a
+byte a second, at a server with a patience of two seconds.
 """
 
 import json
@@ -12,7 +13,7 @@ import sys
 import threading
 import time
 
-desk, file, port = sys.argv[1], sys.argv[2], int(sys.argv[3])
+desk, file, port, orders = sys.argv[1], sys.argv[2], int(sys.argv[3]), sys.argv[4]
 passes = dict(line.split() for line in open("passes"))
 wrong = []
 order_times, request_times = [], []
@@ -55,7 +56,7 @@ def client(place):
         taken = 0 if number % 3 == 0 else 2
         expect(f"{slot} taken", ask(key, "GET", slot)[1].get("taken"), taken)
         account(key, place, spent, booked)
-    for _ in range(500 - 90 * 4 - 30):
+    for _ in range(1250 - 90 * 4 - 30):
         account(key, place, spent, booked)
 
 
@@ -72,13 +73,34 @@ def order(words, wanted):
 
 
 def office(place):
-    """A hundred orders: members, credits, closed slots and revoked keys."""
-    for n in range(1, 26):
-        name = f"o{place}-{n}"
+    """250 orders: members, credits, closed slots, revoked keys, and looks at a slot."""
+    for n in range(1, 51):
+        name, day = f"o{place}-{n}", f"2026-{6 + n // 29:02d}-{1 + n % 28:02d}"
         order(["add-member", file, name, "5"], "done\n")
         order(["credit", file, name, str(100 * n)], "done\n")
-        order(["close-slot", file, f"room-{place}", f"2026-06-{n:02d}", "10"], "done\n")
+        order(["close-slot", file, f"room-{place}", day, "10"], "done\n")
         order(["revoke-key", file, f"old-{place}"], "done\n")
+        slot = f"facility room-{place}\nday {day}\nhour 10\nkind room\nprice 5\nplaces 1\ntaken 0\nclosed yes\n"
+        order(["show-slot", file, f"room-{place}", day, "10"], slot)
+
+
+def beside(dawdle):
+    """How long an order takes beside a client that dawdles."""
+    with socket.create_connection(("127.0.0.1", port), 60) as client:
+        dawdling = threading.Thread(target=dawdle, args=[client])
+        dawdling.start()
+        time.sleep(0.2)
+        order(["credit", file, "m4", "1"], "done\n")
+        dawdling.join()
+
+
+def drips(client):
+    for byte in b"GET /a":
+        try:
+            client.sendall(bytes([byte]))
+        except OSError:
+            return
+        time.sleep(1)
 
 
 def times(what, found):
@@ -87,16 +109,25 @@ def times(what, found):
     print(f"{len(found)} {what}: half of them within {middle * 1000:.0f} ms, the longest {last * 1000:.0f} ms")
 
 
-workers = [threading.Thread(target=client, args=[n]) for n in range(1, 5)]
-workers += [threading.Thread(target=office, args=[n]) for n in range(1, 3)]
-for worker in workers:
-    worker.start()
-for worker in workers:
-    worker.join()
-times("orders", order_times)
-times("requests", request_times)
-expect("orders", len(order_times), 200)
-expect("requests", len(request_times), 2000)
+if orders == "slow":
+    beside(lambda client: None)
+    beside(drips)
+    if max(order_times) > 3:
+        wrong.append(f"an order beside a slow client took {max(order_times):.1f} s")
+    times("orders beside slow clients", order_times)
+else:
+    workers = [threading.Thread(target=client, args=[n]) for n in range(1, 5)]
+    if int(orders):
+        workers += [threading.Thread(target=office, args=[n]) for n in range(1, 3)]
+    for worker in workers:
+        worker.start()
+    for worker in workers:
+        worker.join()
+    if order_times:
+        times("orders", order_times)
+    times("requests", request_times)
+    expect("orders", len(order_times), int(orders))
+    expect("requests", len(request_times), 5000)
 for line in wrong[:20]:
     print(line, file=sys.stderr)
 sys.exit(1 if wrong else 0)

@@ -1,8 +1,9 @@
 #!/bin/sh
-# The office beside the desk, with real processes: 200 orders of two offices while four clients make 2,000 requests of one
-# server, each order and each reply as it has to be, and the totals are the sums, by sqlite3 in a pause. Then wishes and addresses
-# that are stale or odd, a server that is killed while the office waits, an office that is killed while the server waits, a pause
-# that ends in time and one that doesn't, and the modes of the files. Prints how long orders took. Not part of the gate.
+# The office beside the desk, with real processes: 500 orders of two offices, by the server's door, while four clients make 5,000
+# requests of it, each order and each reply as it has to be, and the totals are the sums, by sqlite3 once the server is stopped. Then
+# 20 kills of servers and of orders, a client that is silent, a door that is stale or taken, a second server, links to the file and
+# its folder, a file that is moved, another user, and the modes of the files. Prints how long orders and requests took, in one run
+# with a server without orders. Not part of the gate.
 #   tests/office_beside_desk.sh
 # groups: programs faults
 set -eu
@@ -10,7 +11,6 @@ set -eu
 wants python3 python3
 wants curl curl
 wants sqlite3 sqlite3
-wants flock util-linux
 noon=2026-04-20T12:00
 root=00112233445566778899aabbccddeeff
 
@@ -19,21 +19,26 @@ fail() {
     exit 1
 }
 
-# Whether a word is found after at most so many tenths of a second: waits TENTHS COMMAND..
-waits() {
-    tenths=$1
-    shift
-    while ! "$@" >/dev/null 2>&1; do
-        [ "$tenths" -gt 0 ] || return 1
-        tenths=$((tenths - 1))
-        sleep 0.1
-    done
-}
-
-mode() { stat -c %a "$1"; }
+kind() { stat -c '%F %a' "$1"; }
 account() { curl -s -o reply -w '%{http_code}' -m 20 -H "Authorization: Bearer $(sed -n 's/^k1 //p' passes)" "http://127.0.0.1:$port/account"; }
 now() { date +%s%N; }
 millis() { echo $((($(now) - $1) / 1000000)); }
+
+# ends WANTED MOST COMMAND..: a command ends so, its status and what it printed, within so many milliseconds.
+ends() {
+    wanted=$1
+    most=$2
+    shift 2
+    begun=$(now)
+    status=0
+    "$@" >told 2>&1 || status=$?
+    took=$(millis "$begun")
+    [ "$status $(cat told)" = "$wanted" ] || fail "$*: $status $(cat told)"
+    [ "$took" -le "$most" ] || fail "$* took $took ms"
+}
+
+# The points that a member was credited, by a look through the door or at the file.
+points() { "$desk" show-account "$1" k1 --at "$noon" | sed -n 's/^balance //p'; }
 
 # The club: for each client a court, a member with 10,000 points and a key; for each office a room, and a key to revoke.
 for n in 1 2 3 4; do
@@ -47,23 +52,45 @@ for n in 1 2; do
     "$desk" add-facility club "room-$n" room 1 5 8 22 >told
     "$desk" add-key club "old-$n" m1 "$root" >told
 done
-[ "$(mode club)$(mode club-wal)" = 600600 ] || fail "the file or its log has mode $(mode club), $(mode club-wal)"
+[ "$(stat -c %a club)$(stat -c %a club-wal)" = 600600 ] || fail "the file or its log has mode $(stat -c %a club club-wal)"
+copy club alone
 
+# ---- a server without orders, and one with
+serve alone 1000000 "$noon"
+python3 "$here/office_beside_desk.py" "$desk" alone "$port" 0
+kill "$server"
+wait "$server" || :
+server=
 serve club 1000000 "$noon" --log
-[ "$(mode club-serving)" = 600 ] || fail "the address has mode $(mode club-serving)"
-[ "$(cat club-serving)" = "127.0.0.1:$port" ] || fail "the address is $(cat club-serving)"
-python3 "$here/office_beside_desk.py" "$desk" club "$port"
-echo "$(grep -c ' - - 400 ' fault) connections woke the server"
-[ ! -e club-wanted ] || fail "a wish was left"
+[ "$(kind club-office)" = 'socket 600' ] || fail "the door is a $(kind club-office)"
+python3 "$here/office_beside_desk.py" "$desk" club "$port" 500
+[ "$(grep -c ' office ' fault)" = 500 ] || fail "$(grep -c ' office ' fault) orders have a line"
+if grep -q "$root" fault; then fail "a root is in the log"; fi
 
-# ---- a pause, with sqlite3 in it
-"$desk" pause club 3 >paused &
-pausing=$!
-waits 30 grep -q 'done' paused || fail "no pause"
-[ "$(mode club-wanted)" = 600 ] || fail "the wish has mode $(mode club-wanted)"
+# ---- what a second server, a link, a moved file and another user meet
 begun=$(now)
-account >status &
-asking=$!
+ends '5 storage failed' 15000 "$desk" serve club --port 0 --count 1
+ln -s club linked
+ends '0 done' 1000 "$desk" credit linked m2 1
+mkdir -p folder
+ln -s "$PWD" folder/here
+ends '0 done' 1000 "$desk" credit folder/here/club m2 1
+mv club moved
+ends '0 done' 1000 "$desk" credit club m2 1
+mv moved club
+if [ "$(id -u)" = 0 ] && command -v setpriv >/dev/null; then
+    chmod 755 .
+    chmod 644 club
+    ends '5 storage failed' 1000 setpriv --reuid=65534 --regid=65534 --clear-groups "$desk" credit club m2 1
+    chmod 600 club
+fi
+
+# ---- the totals, once the server is stopped
+kill "$server"
+wait "$server" || :
+server=
+[ -e club-office ] || fail "a killed server took its door along"
+ends '0 done' 2000 "$desk" credit club m3 1
 sqlite3 club "SELECT * FROM pragma_integrity_check WHERE integrity_check <> 'ok'; SELECT * FROM pragma_foreign_key_check;
     SELECT name, used FROM members WHERE used <> (SELECT total(charge - refund) FROM bookings JOIN keys ON keys.name = pass_key
         WHERE member = members.name);
@@ -71,81 +98,55 @@ sqlite3 club "SELECT * FROM pragma_integrity_check WHERE integrity_check <> 'ok'
         AND b.facility = s.facility AND b.day = s.day AND b.hour = s.hour)" >unsound
 [ ! -s unsound ] || fail "sqlite3 finds $(cat unsound)"
 sqlite3 club "SELECT count(*), sum(cancelled), sum(charge - refund) FROM bookings; SELECT count(*), sum(credited) FROM members
-    WHERE name LIKE 'o%'; SELECT count(*) FROM slots WHERE closed" >totals
-printf '360|120|3360\n50|65000\n50\n' | cmp -s - totals || fail "the totals are $(cat totals)"
-wait "$pausing" || fail "the pause ended with $?"
-wait "$asking"
-[ "$(cat status)" = 200 ] || fail "a request in the pause got $(cat status)"
-[ "$(millis "$begun")" -ge 1500 ] || fail "a request didn't wait for the pause"
+    WHERE name LIKE 'o%'; SELECT count(*) FROM slots WHERE closed; SELECT sum(credited) FROM members WHERE name LIKE 'm%'" >totals
+printf '360|120|3360\n100|255000\n100\n40004\n' | cmp -s - totals || fail "the totals are $(cat totals)"
 
-# ---- a pause that is longer than a request waits
-"$desk" pause club 13 >paused &
-pausing=$!
-waits 30 grep -q 'done' paused || fail "no long pause"
-begun=$(now)
-account >status
-[ "$(cat status)" = 503 ] || fail "a request in a long pause got $(cat status)"
-[ "$(millis "$begun")" -ge 9000 ] || fail "a request gave up after $(millis "$begun") ms"
-wait "$pausing"
-account >status
-[ "$(cat status)" = 200 ] || fail "the request behind a long pause got $(cat status)"
+# ---- a door that is taken by something else, and one that is stale
+rm -f club-office
+mkdir club-office
+ends '5 storage failed' 2000 "$desk" serve club --port 0 --count 1
+[ -d club-office ] || fail "a folder was removed"
+rmdir club-office
 
-# ---- an office that is killed while the server waits
-"$desk" pause club 60 >paused &
-pausing=$!
-waits 30 grep -q 'done' paused || fail "no pause to be killed"
-account >status &
-asking=$!
-sleep 0.5
-kill -KILL "$pausing"
-begun=$(now)
-wait "$asking"
-[ "$(cat status)" = 200 ] || fail "behind a killed pause a request got $(cat status)"
-[ "$(millis "$begun")" -le 2000 ] || fail "behind a killed pause a request took $(millis "$begun") ms"
-[ ! -e club-wanted ] || fail "the wish of a killed pause stays"
-
-# ---- a stale wish, and odd ones
-: >club-wanted
-account >status
-account >status
-[ "$(cat status)" = 200 ] || fail "beside a stale wish a request got $(cat status)"
-[ ! -e club-wanted ] || fail "a stale wish stays"
-"$desk" credit club m1 1 >told || fail "no order behind a stale wish"
-mkdir club-wanted
-account >status
-[ "$(cat status)" = 200 ] || fail "beside an odd wish a request got $(cat status)"
-begun=$(now)
-if "$desk" credit club m1 1 >told 2>&1; then fail "an order without a wish was carried out"; fi
-[ "$(cat told)" = 'storage failed' ] || fail "an order without a wish prints $(cat told)"
-[ "$(millis "$begun")" -ge 9000 ] || fail "an order without a wish gave up after $(millis "$begun") ms"
-rmdir club-wanted
-
-# ---- an address that wakes nobody: the next request does
-echo nonsense >club-serving
-"$desk" credit club m1 1 >told 2>&1 &
-ordering=$!
-sleep 0.5
-account >status
-wait "$ordering" || fail "an order beside an odd address prints $(cat told)"
-
-# ---- a server that is killed while the office waits
-kill -STOP "$server"
-"$desk" credit club m1 1 >told 2>&1 &
-ordering=$!
-sleep 0.5
-kill -KILL "$server"
-wait "$ordering" || fail "an order behind a killed server prints $(cat told)"
+# ---- a client that is silent, and one that sends a byte a second, keep an order no longer than their patience
+"$desk" serve club --port 0 --count 1000000 --at "$noon" --patience 2 >listening 2>fault &
+server=$!
+read -r line <listening
+port=${line##*:}
+python3 "$here/office_beside_desk.py" "$desk" club "$port" slow
+kill "$server"
+wait "$server" || :
 server=
-echo "127.0.0.1:1" >club-serving
-"$desk" credit club m1 1 >told || fail "an order beside a stale address prints $(cat told)"
-[ ! -e club-wanted ] || fail "a wish stays"
 
-# ---- a server that ends takes its address with it
+# ---- 20 kills: of the server, or of the order, at some moment; the order was carried out or not, and its status says so where it can
+n=0
+while [ "$n" -lt 20 ]; do
+    n=$((n + 1))
+    serve club 1000000 "$noon"
+    before=$(points club)
+    "$desk" credit club m1 1 >told 2>&1 &
+    order=$!
+    sleep "0.00$((n % 10))$((n * 7 % 10))"
+    if [ $((n % 2)) = 0 ]; then kill -KILL "$server"; else kill -KILL "$order" 2>/dev/null || :; fi
+    status=0
+    wait "$order" 2>/dev/null || status=$?
+    kill -KILL "$server" 2>/dev/null || :
+    wait "$server" 2>/dev/null || :
+    server=
+    after=$(points club)
+    case "$status $((after - before))" in
+        '0 1' | '5 0' | '8 0' | '8 1' | '137 0' | '137 1') ;;
+        *) fail "an order ended with $status, $(cat told), and credited $((after - before))" ;;
+    esac
+done
+
+# ---- a server that ends takes its door with it, and what an older version left
+: >club-wanted
+echo '127.0.0.1:1' >club-serving
 serve club 1 "$noon"
+if [ -e club-wanted ] || [ -e club-serving ]; then fail "what an older version left stays"; fi
 account >status
 [ "$(cat status)" = 200 ] || fail "the last server answers $(cat status)"
 finish
-[ ! -e club-serving ] || fail "an address stays"
-sqlite3 club "SELECT credited FROM members WHERE name = 'm1'" >credited
-[ "$(cat credited)" = 10004 ] || fail "m1 has $(cat credited) points"
-echo "the office and the desk took their turns"
+[ ! -e club-office ] || fail "a door stays"
+echo "the office and the desk spoke with one another"

@@ -332,7 +332,7 @@ copy=$(grep "^$(date -u +%Y)" told | sort | tail -n 1)
 same 'the copy' "600 clubdesk" "$(inside stat -c '%a %U' "/var/backups/clubdesk/club/$copy")"
 
 # ---- One program at a time, and the restore: what was booked after the copy is gone.
-grep -q 'clubdesk pause' "$running" || blocks 'One program at a time' | gives 'One program at a time'
+blocks 'One program at a time' | gives 'One program at a time'
 same 'a booking after the copy' '{"booking":"amy-1/8","charge":1,"left":49} 200' "$(by_tls PUT "slots/court-1/$day/19/bookings/8" '{"guests":0}')"
 blocks Restore | sed "s/2026-05-01T031007Z/$copy/" | gives Restore
 answers 8080

@@ -15,10 +15,12 @@ use crate::expect::{expect_eq, expect_shown};
 use crate::rows::{expect_row, moment};
 use club_clock::{Fixed, Moments};
 use club_http::Face;
-use desk_server::{ClockOutOfRange, Connections, serve_on};
+use desk_server::{Accepted, Arrival, Arrivals, ClockOutOfRange, Listening, serve_on};
 use doubles::{Countdown, Noting, Script, Wire};
 use std::alloc::Global;
+use std::net::TcpListener;
 use std::process::Abort;
+use std::time::{Clock, Duration};
 use test_kit::moments::NOON;
 
 const REQUEST: &[u8] = b"GET /account HTTP/1.1\r\nAuthorization: Bearer AgEJ\r\n\r\n";
@@ -42,69 +44,93 @@ fn noons(rt: &impl Abort, count: u32) -> Countdown {
 }
 
 /// So many of these connections are served with this desk.
-fn serves_with<L: Connections, M: Moments>(
+fn serves_with<L: Arrivals, M: Moments>(
     rt: &(impl Abort + Alloc<A = Global>),
-    connections: &mut L,
+    arrivals: &mut L,
     count: u32,
     moments: &mut M,
     desk: &mut Noting,
 ) -> Result<(), ClockOutOfRange> {
     let mut face = Face::new(rt.alloc()).expect(rt, "a face");
-    serve_on(connections, count, moments, &mut face, desk)
+    serve_on(arrivals, count, moments, &mut face, desk)
 }
 
 /// So many of these connections are served, and how many requests the desk is asked at noon.
-fn serves<L: Connections, M: Moments>(
+fn serves<L: Arrivals, M: Moments>(
     rt: &(impl Abort + Alloc<A = Global>),
-    connections: &mut L,
+    arrivals: &mut L,
     count: u32,
     moments: &mut M,
 ) -> (Result<(), ClockOutOfRange>, u64) {
-    let mut desk = Noting::new(moment(rt, NOON));
-    let outcome = serves_with(rt, connections, count, moments, &mut desk);
+    let mut desk = Noting::new(rt.alloc(), moment(rt, NOON));
+    let outcome = serves_with(rt, arrivals, count, moments, &mut desk);
     (outcome, desk.asked)
 }
 
-/// Failing connections, and refused requests.
-static FAILING: [Wire<'static>; 7] = [
+/// Failing clients, refused requests, and orders of the office between them.
+static FAILING: [Wire<'static>; 10] = [
     Wire::Whole(REQUEST),
+    Wire::Order(b"an order"),
     Wire::Absent,
     Wire::Broken,
+    Wire::Cut,
+    Wire::Order(b"another order"),
     Wire::Whole(b"x"),
     Wire::Deaf(REQUEST),
     Wire::Whole(REQUEST),
     Wire::Whole(REQUEST),
 ];
 
-/// How many of these connections are served, how many of them reach the desk, and how often its
-/// hook is called.
-type Count = (u32, u64, u64);
+/// How many of these clients are served, how often is waited for one, and how many of them reach
+/// the desk, of the orders too. Orders don't count, and the one before the last client that is
+/// served is the last.
+type Count = (u32, u64, u64, u64);
 
 static COUNTS: [Count; 7] = [
-    (0, 0, 0),
-    (1, 1, 1),
-    (2, 1, 1),
-    (3, 1, 2),
-    (4, 1, 3),
-    (5, 2, 4),
-    (6, 3, 5),
+    (0, 0, 0, 0),
+    (1, 1, 1, 0),
+    (2, 3, 1, 1),
+    (3, 4, 1, 1),
+    (4, 7, 1, 2),
+    (5, 8, 2, 2),
+    (6, 9, 3, 2),
 ];
 
-fn serves_so_many(rt: &(impl Abort + Alloc<A = Global>), (count, asked, idled): &Count) {
-    let mut connections = Script::new(&FAILING);
-    let mut desk = Noting::new(moment(rt, NOON));
-    let served = serves_with(rt, &mut connections, *count, &mut noon(rt), &mut desk);
-    let returned = (served, connections.waited, desk.asked, desk.idled);
-    let want = (Ok(()), u64::from(*count), *asked, *idled);
-    expect_row(rt, &returned, &want, count);
+fn serves_so_many(rt: &(impl Abort + Alloc<A = Global>), (count, waited, asked, ordered): &Count) {
+    let mut arrivals = Script::new(&FAILING);
+    let mut desk = Noting::new(rt.alloc(), moment(rt, NOON));
+    let served = serves_with(rt, &mut arrivals, *count, &mut noon(rt), &mut desk);
+    let returned = (served, arrivals.waited, desk.asked, desk.ordered);
+    expect_row(rt, &returned, &(Ok(()), *waited, *asked, *ordered), count);
 }
 
-// Failing connections count, and the server goes on after a refused request. It calls the hook once
-// for each exchange, also for one that fails; not if `accept` failed.
+// Failing clients count, and the server goes on after a refused request. Each order is carried out
+// once, with its own bytes; one that doesn't come whole isn't.
 #[test]
 fn serves_as_many_as_asked(rt: HostRuntime) {
     for row in &COUNTS {
         serves_so_many(&rt, row);
+    }
+    let mut desk = Noting::new(rt.alloc(), moment(&rt, NOON));
+    let served = serves_with(
+        &rt,
+        &mut Script::new(&FAILING),
+        6,
+        &mut noon(&rt),
+        &mut desk,
+    );
+    expect_eq(&rt, &(served, desk.bytes), &(Ok(()), 21));
+}
+
+/// The next client of a listener.
+fn client_at<'a, C: Clock>(
+    listener: &'a TcpListener,
+    clock: &'a C,
+    patience: Duration,
+) -> Option<Accepted<'a, C>> {
+    match Listening::new(listener, None, clock, patience).next() {
+        Arrival::Client(client) => Some(client),
+        Arrival::Order(_) | Arrival::Nobody => None,
     }
 }
 
@@ -117,9 +143,9 @@ static WITH_REQUESTS: [Wire<'static>; 4] = [
 
 #[test]
 fn stops_without_a_moment(rt: HostRuntime) {
-    let mut connections = Script::new(&WITH_REQUESTS);
-    let served = serves(&rt, &mut connections, 4, &mut noons(&rt, 1));
+    let mut arrivals = Script::new(&WITH_REQUESTS);
+    let served = serves(&rt, &mut arrivals, 4, &mut noons(&rt, 1));
     expect_eq(&rt, &served, &(Err(ClockOutOfRange), 1));
-    expect_eq(&rt, &connections.waited, &3);
+    expect_eq(&rt, &arrivals.waited, &3);
     expect_shown(&rt, &ClockOutOfRange, "clock out of range");
 }

@@ -11,9 +11,8 @@ use Rattle.command_line.specs.FormName.{form_name, form_named}
 use Rattle.clubdesk_arguments.specs.Application.{application, log_flag, refusals, root_flag, subcommand, word_named}
 use Rattle.clubdesk_arguments.specs.JobModel.{JobModel}
 use Rattle.clubdesk_arguments.specs.Laws.{AddMemberTakesItsParts, CreditTakesItsParts, AddFacilityTakesItsParts, AddKeyTakesItsParts, AddKeyTakesV2}
-use Rattle.clubdesk_arguments.specs.Laws.{RevokeKeyTakesItsKey, RotateKeyTakesItsParts}
+use Rattle.clubdesk_arguments.specs.Laws.{RevokeKeyTakesItsKey, RotateKeyTakesItsParts, ServeTakesItsLog, ServeTakesItsPatience}
 use Rattle.clubdesk_arguments.specs.Laws.{RotateKeyTakesV2, CloseSlotTakesItsSlot, SheetTakesItsDay, ServeTakesItsParts, ServeTakesUtc, ServeTakesItsMoment}
-use Rattle.clubdesk_arguments.specs.Laws.{PauseTakesItsSeconds, ServeTakesItsLog, ServeTakesItsPatience}
 use Rattle.clubdesk_arguments.specs.Values.{parse_number, patience_of}
 use Rattle.club_clock.specs.Zone.{zone_of}
 use Rattle.clubdesk_arguments.specs.Words.{asked_job, job_of_words, job_of_match}
@@ -277,24 +276,6 @@ module _ (program file day : Text) where
 pub sheet_takes_its_day : SheetTakesItsDay
 sheet_takes_its_day program file day on spelled =
     asked_is _ _ _ (sheet_its_day-clear program file day) (sheet_its_day-found program file day) (rw (spelled) refl)
-
--- ---- pause_takes_its_seconds
-
-module _ (program file seconds : Text) where
-  abbrev pause_its_seconds-words : List Text
-  pause_its_seconds-words = program ∷ codes "pause" ∷ codes "--" ∷ file ∷ seconds ∷ []
-
-  pause_its_seconds-clear : refusals pause_its_seconds-words ≡ []
-  unfolding clap_on_literals application refusals
-  pause_its_seconds-clear = refl
-
-  pause_its_seconds-found : subcommand pause_its_seconds-words ≡ Some (codes "pause", given (codes "FILE") file ∷ given (codes "SECONDS") seconds ∷ [])
-  unfolding clap_on_literals application subcommand
-  pause_its_seconds-found = refl
-
-pub pause_takes_its_seconds : PauseTakesItsSeconds
-pause_takes_its_seconds program file seconds many spelled =
-    asked_is _ _ _ (pause_its_seconds-clear program file seconds) (pause_its_seconds-found program file seconds) (rw (spelled) refl)
 
 -- ---- serve_takes_its_parts
 

@@ -17,7 +17,8 @@ use Rattle.clubdesk_arguments.specs.Words.{AnswersAsked, AnswersForm, AsksText, 
 use Rattle.clubdesk_arguments.specs.Words.{job_of_match, job_of_words, over_file, task_named, with_form_value, word_in}
 use Rattle.clubdesk_arguments.specs.declared.task.Task.{Task}
 use Rattle.clubdesk_arguments.specs.declared.fault.Fault.{Fault}
-use Rattle.clubdesk_arguments.specs.declared.fault.Fault.TheVariants.{Refused, Words, BadValue, Memory, Storage, ClockOutOfRange, InputOutput}
+use Rattle.clubdesk_arguments.specs.declared.fault.Fault.TheVariants.{Refused, Words, BadValue, Memory, Storage}
+use Rattle.clubdesk_arguments.specs.declared.fault.Fault.TheVariants.{ClockOutOfRange, InputOutput, NoAnswer, Answered}
 use Rattle.clubdesk_arguments.specs.JobModel.{JobModel}
 
 -- clap gives the matches of the application, and the kinds of its faults, as a function of the words
@@ -56,6 +57,8 @@ faulted words found (Refused fault) clear same h = absurd h
 faulted words found Storage clear same h = absurd h
 faulted words found ClockOutOfRange clear same h = absurd h
 faulted words found InputOutput clear same h = absurd h
+faulted words found NoAnswer clear same h = absurd h
+faulted words found (Answered status line) clear same h = absurd h
 
 -- what is refused is refused alike by what keeps refusals
 pub refused_through : {A B : Type 0} (f : Result A ArgumentRefusal → Result B ArgumentRefusal) → ((refusal : ArgumentRefusal) → f (Err refusal) ≡ Err refusal)
@@ -67,6 +70,8 @@ refused_through f keeps expected (Refused fault) h = absurd h
 refused_through f keeps expected Storage h = absurd h
 refused_through f keeps expected ClockOutOfRange h = absurd h
 refused_through f keeps expected InputOutput h = absurd h
+refused_through f keeps expected NoAnswer h = absurd h
+refused_through f keeps expected (Answered status line) h = absurd h
 
 -- and so is a form that is none
 pub form_refused : (rows : List Row) (of : Form → List Row → Option Task) (expected : Option Form) (fault : Fault) → AnswersForm expected (Err fault)
@@ -78,6 +83,8 @@ form_refused rows of expected (Refused fault) h = absurd h
 form_refused rows of expected Storage h = absurd h
 form_refused rows of expected ClockOutOfRange h = absurd h
 form_refused rows of expected InputOutput h = absurd h
+form_refused rows of expected NoAnswer h = absurd h
+form_refused rows of expected (Answered status line) h = absurd h
 
 -- of the command that clap found, the fault is that of its task
 pub task_refused : (found : Option (Text × List Row)) (name : Text) (rows : List Row) (fault : Fault) → found ≡ Some (name, rows)

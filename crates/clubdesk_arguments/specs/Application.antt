@@ -83,10 +83,6 @@ close_slot_command =
 abbrev pub sheet_command : App
 sheet_command = command_of_words (codes "sheet") (codes "FILE" ∷ codes "DAY" ∷ [])
 
--- `pause FILE SECONDS`
-abbrev pub pause_command : App
-pause_command = command_of_words (codes "pause") (codes "FILE" ∷ codes "SECONDS" ∷ [])
-
 -- `show-account FILE KEY [--zone RULE] [--at MOMENT]`
 abbrev pub show_account_command : App
 show_account_command = with_clock (command_of_words (codes "show-account") (codes "FILE" ∷ codes "KEY" ∷ []))
@@ -119,7 +115,7 @@ unfoldable pub application : App
 application =
     with_commands top
     (add_member_command ∷ credit_command ∷ add_facility_command ∷ add_key_command ∷ revoke_key_command
-    ∷ rotate_key_command ∷ close_slot_command ∷ sheet_command ∷ serve_command ∷ pause_command ∷ show_account_command ∷ show_slot_command ∷ [])
+    ∷ rotate_key_command ∷ close_slot_command ∷ sheet_command ∷ serve_command ∷ show_account_command ∷ show_slot_command ∷ [])
 
 -- the kinds of error that clap may return for the words, the program's name first; none if it accepts them
 unfoldable pub refusals : List Text → Kinds

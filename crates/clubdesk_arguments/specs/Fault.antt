@@ -1,5 +1,6 @@
 -- The exit status and the line of each fault (ours).
 use Rattle.std.specs.Prelude.{◌≡◌, ℕ, List, ◌++◌, Option, Some, None, codes}
+use Rattle.std.specs.String.{string_bytes}
 use Rattle.clap.specs.Words.{kind_of}
 use Rattle.clap.specs.declared.error.kind.ErrorKind.TheVariants as kind
 use Rattle.command_line.specs.declared.errors.WordsFault.{WordsFault}
@@ -8,7 +9,8 @@ use Rattle.club_core.specs.Faults.{office_fault_text}
 use Rattle.club_core.specs.declared.store.StoreFault.{StoreFault}
 use Rattle.club_core.specs.declared.store.StoreFault.TheVariants as store
 use Rattle.clubdesk_arguments.specs.declared.fault.Fault.{Fault}
-use Rattle.clubdesk_arguments.specs.declared.fault.Fault.TheVariants.{Refused, Words, BadValue, Memory, Storage, ClockOutOfRange, InputOutput}
+use Rattle.clubdesk_arguments.specs.declared.fault.Fault.TheVariants.{Refused, Words, BadValue, Memory, Storage}
+use Rattle.clubdesk_arguments.specs.declared.fault.Fault.TheVariants.{ClockOutOfRange, InputOutput, NoAnswer, Answered}
 
 abbrev pub fault_status : Fault → ℕ
 fault_status (Refused fault) = 1
@@ -18,6 +20,8 @@ fault_status Memory = 4
 fault_status Storage = 5
 fault_status ClockOutOfRange = 6
 fault_status InputOutput = 7
+fault_status NoAnswer = 8
+fault_status (Answered status line) = status
 
 -- the fault of refused words
 abbrev pub of_words : WordsFault → Fault
@@ -38,6 +42,8 @@ fault_line Memory = Some (codes "out of memory")
 fault_line Storage = Some (codes "storage failed")
 fault_line ClockOutOfRange = Some (codes "clock out of range")
 fault_line InputOutput = Some (codes "input or output failed")
+fault_line NoAnswer = Some (codes "no answer")
+fault_line (Answered status line) = Some (string_bytes line)
 
 -- the faults of words that aren't UTF-8
 abbrev pub IsNotText : Fault → Type 0

@@ -7,13 +7,13 @@ use Rattle.club_core.specs.declared.command.Command.TheVariants as order
 use Rattle.pass_forms.specs.declared.form.Form.{Form}
 use Rattle.pass_forms.specs.declared.form.Form.TheVariants.{V2}
 use Rattle.command_line.specs.FormName.{form_name}
-use Rattle.clubdesk_arguments.specs.Values.{count_of, parse_number, patience_of, pause_seconds, port_of, key_root_of}
+use Rattle.clubdesk_arguments.specs.Values.{count_of, parse_number, patience_of, port_of, key_root_of}
 use Rattle.club_clock.specs.Zone.{zone_of}
 use Rattle.clubdesk_arguments.specs.Words.{asked_job}
 use Rattle.clubdesk_arguments.specs.declared.clock.Clock.TheVariants.{Fixed, InZone}
 use Rattle.clubdesk_arguments.specs.declared.task.Task.{Task}
 use Rattle.clubdesk_arguments.specs.declared.task.Task.TheVariants.{Order, AddKey, AddKeyByInput, RotateKey, RotateKeyByInput}
-use Rattle.clubdesk_arguments.specs.declared.task.Task.TheVariants.{Sheet, Serve, Pause, ShowAccount, ShowSlot}
+use Rattle.clubdesk_arguments.specs.declared.task.Task.TheVariants.{Sheet, Serve, ShowAccount, ShowSlot}
 
 -- words ask for a task over a file
 abbrev pub AsksFor : List Text → Text → Task → Type 0
@@ -117,11 +117,6 @@ ShowSlotTakesItsSlot = (program file facility day hour : Text) (what : Text) (on
     → name_of_text facility ≡ Some what → day_of_text day ≡ Some on → hour_of_text hour ≡ Some at
     → AsksFor (program ∷ codes "show-slot" ∷ codes "--" ∷ file ∷ facility ∷ day ∷ hour ∷ [])
     file (ShowSlot (record { facility = what; day = on; hour = at }))
-
--- `pause FILE SECONDS`
-abbrev pub PauseTakesItsSeconds : Type 0
-PauseTakesItsSeconds = (program file seconds : Text) (many : ℕ) → pause_seconds seconds ≡ Some many
-    → AsksFor (program ∷ codes "pause" ∷ codes "--" ∷ file ∷ seconds ∷ []) file (Pause many)
 
 -- `serve --port=P --count=N --zone=RULE -- FILE`, with ten seconds of patience
 abbrev pub ServeTakesItsParts : Type 0

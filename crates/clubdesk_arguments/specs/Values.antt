@@ -21,10 +21,6 @@ port_of text = where_between 0 65_535 (parse_number text)
 abbrev pub count_of : List ℕ → Option ℕ
 count_of text = where_between 1 1_000_000 (parse_number text)
 
--- the seconds of a pause, 1 to 600
-abbrev pub pause_seconds : List ℕ → Option ℕ
-pause_seconds text = where_between 1 600 (parse_number text)
-
 -- a limit of time, 1 to 3,600 seconds
 abbrev pub patience_of : List ℕ → Option ℕ
 patience_of text = where_between 1 3_600 (parse_number text)

@@ -16,7 +16,7 @@ use Rattle.club_core.specs.declared.command.Command.TheVariants as order
 use Rattle.pass_forms.specs.declared.form.Form.{Form}
 use Rattle.clubdesk_arguments.specs.Application.{refusals, subcommand}
 use Rattle.clubdesk_arguments.specs.JobModel.{JobModel}
-use Rattle.clubdesk_arguments.specs.Values.{count_of, parse_number, patience_of, pause_seconds, port_of, key_root_of}
+use Rattle.clubdesk_arguments.specs.Values.{count_of, parse_number, patience_of, port_of, key_root_of}
 use Rattle.club_clock.specs.Zone.{zone_of}
 use Rattle.clubdesk_arguments.specs.declared.fault.Fault.{Fault}
 use Rattle.clubdesk_arguments.specs.declared.fault.Fault.TheVariants.{Words, BadValue, Memory}
@@ -24,7 +24,7 @@ use Rattle.clubdesk_arguments.specs.declared.clock.Clock.{Clock}
 use Rattle.clubdesk_arguments.specs.declared.clock.Clock.TheVariants.{Fixed, InZone}
 use Rattle.clubdesk_arguments.specs.declared.task.Task.{Task}
 use Rattle.clubdesk_arguments.specs.declared.task.Task.TheVariants.{Order, AddKey, AddKeyByInput, RotateKey, RotateKeyByInput}
-use Rattle.clubdesk_arguments.specs.declared.task.Task.TheVariants.{Sheet, Serve, Pause, ShowAccount, ShowSlot}
+use Rattle.clubdesk_arguments.specs.declared.task.Task.TheVariants.{Sheet, Serve, ShowAccount, ShowSlot}
 use Rattle.clubdesk_arguments.specs.declared.words.Asked.{Asked}
 use Rattle.clubdesk_arguments.specs.declared.words.Asked.TheVariants.{Perform, ShowText}
 
@@ -140,11 +140,6 @@ serve_of rows = do
   patience ← patience_of (word_in (codes "patience") rows)
   Some (Serve (record { port = port; count = count; clock = clock; patience = patience; log = is_set (codes "log") rows }))
 
-abbrev pub pause_of : List Row → Option Task
-pause_of rows = do
-  seconds ← pause_seconds (word_in (codes "SECONDS") rows)
-  Some (Pause seconds)
-
 abbrev pub show_account_of : List Row → Option Task
 show_account_of rows = do
   key ← name_value (codes "KEY") rows
@@ -206,10 +201,9 @@ task_named name rows =
     else (if bytes_eq name (codes "close-slot") then unless_bad (close_slot_of rows)
     else (if bytes_eq name (codes "sheet") then unless_bad (sheet_of rows)
     else (if bytes_eq name (codes "serve") then unless_bad (serve_of rows)
-    else (if bytes_eq name (codes "pause") then unless_bad (pause_of rows)
     else (if bytes_eq name (codes "show-account") then unless_bad (show_account_of rows)
     else (if bytes_eq name (codes "show-slot") then unless_bad (show_slot_of rows)
-    else Err no_command)))))))))))
+    else Err no_command))))))))))
 
 abbrev pub over_file : Text → Result Task ArgumentRefusal → Result JobModel ArgumentRefusal
 over_file file (Err refusal) = Err refusal
@@ -224,7 +218,7 @@ abbrev pub IsCommandName : Text → Type 0
 IsCommandName name =
     (name ≡ codes "add-member") ⊎ (name ≡ codes "credit") ⊎ (name ≡ codes "add-facility") ⊎ (name ≡ codes "add-key")
     ⊎ (name ≡ codes "revoke-key") ⊎ (name ≡ codes "rotate-key") ⊎ (name ≡ codes "close-slot") ⊎ (name ≡ codes "sheet")
-    ⊎ (name ≡ codes "serve") ⊎ (name ≡ codes "pause") ⊎ (name ≡ codes "show-account") ⊎ (name ≡ codes "show-slot")
+    ⊎ (name ≡ codes "serve") ⊎ (name ≡ codes "show-account") ⊎ (name ≡ codes "show-slot")
 
 -- clap found one of the commands
 abbrev pub FindsCommand : Option (Text × List Row) → Type 0

@@ -22,7 +22,8 @@ const STATUSES: &str = "Exit status:
   4  out of memory
   5  storage failed
   6  serve, show-account: the clock doesn't stand in the years 2000 to 2099
-  7  input or output failed";
+  7  input or output failed
+  8  no answer from the server that was handed the order";
 
 const ADD_MEMBER_HELP: &str = "FILE is the database; it is made where it isn't there.
 QUOTA is the most bookings that the member has open at once, 0 to 99.
@@ -93,13 +94,6 @@ are taken, and whether it is closed. HOUR has two digits, 00 to 23.
 Example:
   clubdesk show-slot club.db court-1 2026-05-01 18";
 
-const PAUSE_HELP: &str =
-    "SECONDS are 1 to 600. Once done is printed, another program may open the file
-for so long, as sqlite3; requests wait for it meanwhile, ten seconds at most.
-
-Example:
-  clubdesk pause club.db 60";
-
 /// The whole command line.
 pub fn make_application<'a>(alloc: Global) -> Result<Command<'a>, AllocError>
     ensures { IfOk result (λ made. app_of made ≡ spec.application) }
@@ -159,14 +153,12 @@ fn with_days<'a>(
     app: Result<Command<'a>, AllocError>,
 ) -> Result<Command<'a>, AllocError>
     ensures { spec.AddsCommands
-        (spec.close_slot_command ∷ spec.sheet_command ∷ spec.serve_command ∷ spec.pause_command
-        ∷ [])
+        (spec.close_slot_command ∷ spec.sheet_command ∷ spec.serve_command ∷ [])
         app.entry result }
 {
     let app = with_command(app, make_close_slot(alloc));
     let app = with_command(app, make_sheet(alloc));
-    let app = with_command(app, make_serve(alloc));
-    with_command(app, make_pause(alloc))
+    with_command(app, make_serve(alloc))
 }
 
 // The commands that show, and change nothing.
@@ -318,18 +310,6 @@ fn make_show_slot<'a>(alloc: Global) -> Result<Command<'a>, AllocError>
         "Shows a slot of a facility",
         SHOW_SLOT_HELP,
         &["FILE", "FACILITY", "DAY", "HOUR"],
-    )
-}
-
-fn make_pause<'a>(alloc: Global) -> Result<Command<'a>, AllocError>
-    ensures { IfOk result (IsMade spec.pause_command) }
-{
-    make_command(
-        alloc,
-        "pause",
-        "Has the server let go of its file",
-        PAUSE_HELP,
-        &["FILE", "SECONDS"],
     )
 }
 

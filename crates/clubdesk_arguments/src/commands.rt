@@ -7,7 +7,7 @@ ghost use Rattle.clubdesk_arguments.specs.Words as spec;
 use crate::clock::Clock;
 use crate::options::{given, moment_word, name_of, number_at};
 use crate::task::{Service, Task};
-use crate::values::{count_of, patience_of, pause_seconds, port_of, root_of};
+use crate::values::{count_of, patience_of, port_of, root_of};
 use clap::ArgMatches;
 use club_clock::Zone;
 use club_core::Command;
@@ -143,14 +143,6 @@ pub fn serve<'a>(words: &ArgMatches<'a>) -> Option<Task<'a>>
         patience,
         log: is_set(words, "log"),
     }))
-}
-
-/// `pause FILE SECONDS`
-pub fn pause<'a>(words: &ArgMatches<'a>) -> Option<Task<'a>>
-    ensures { result ≡ spec.pause_of (rows_of (found_of words.now)) }
-{
-    let seconds = pause_seconds(value_of(words, "SECONDS"))?;
-    Some(Task::Pause(seconds))
 }
 
 /// `show-account FILE KEY [--zone RULE] [--at MOMENT]`

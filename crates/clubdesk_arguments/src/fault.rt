@@ -22,13 +22,17 @@ pub enum Fault {
     ClockOutOfRange,
     /// The output couldn't be written, or the server couldn't listen.
     InputOutput,
+    /// A server was handed the order, and didn't answer: it may have carried it out or not.
+    NoAnswer,
+    /// A server was handed the order, and answered with this status and line.
+    Answered { status: u8, line: String },
 }
 
 impl Fault {
     ghost use Rattle.std.specs.Prelude.{◌≡◌};
     ghost use Rattle.clubdesk_arguments.specs.Fault.{fault_status};
 
-    /// The exit status, 1 to 7.
+    /// The exit status, 1 to 8.
     pub fn status(&self) -> u8
         ensures { result ≡ fault_status self.now }
     {
@@ -40,6 +44,8 @@ impl Fault {
             Fault::Storage => 5,
             Fault::ClockOutOfRange => 6,
             Fault::InputOutput => 7,
+            Fault::NoAnswer => 8,
+            Fault::Answered { status, .. } => *status,
         }
     }
 }
@@ -58,6 +64,8 @@ impl fmt::Display for Fault {
             Fault::Storage => f.write_str("storage failed"),
             Fault::ClockOutOfRange => f.write_str("clock out of range"),
             Fault::InputOutput => f.write_str("input or output failed"),
+            Fault::NoAnswer => f.write_str("no answer"),
+            Fault::Answered { line, .. } => f.write_str(line.as_str()),
         }
     }
 }

@@ -13,7 +13,6 @@ ghost use Rattle.clubdesk_arguments.specs.Laws.{
   RotateKeyTakesItsInput,
   CloseSlotTakesItsSlot,
   SheetTakesItsDay,
-  PauseTakesItsSeconds,
   ShowAccountTakesItsParts,
   ShowAccountTakesUtc,
   ShowAccountTakesItsMoment,
@@ -87,11 +86,6 @@ pub fn close_slot_takes_its_slot()
 /// `sheet FILE DAY` asks for the sheet of that day.
 pub fn sheet_takes_its_day()
     ensures { SheetTakesItsDay }
-{}
-
-/// `pause FILE SECONDS` asks for a pause of so many seconds.
-pub fn pause_takes_its_seconds()
-    ensures { PauseTakesItsSeconds }
 {}
 
 /// `show-account FILE KEY` with a zone asks for the account of that key, by the clock in the zone.

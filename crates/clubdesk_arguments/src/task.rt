@@ -50,8 +50,6 @@ pub enum Task<'a> {
     },
     /// What the desk shows of a slot.
     ShowSlot(Slot),
-    /// A pause of so many seconds, 1 to 600, in which the server keeps away from the file.
-    Pause(u32),
 }
 
 /// The settings of the server.

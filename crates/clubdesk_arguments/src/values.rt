@@ -9,9 +9,6 @@ use club_values::digits::read_digits;
 /// The most connections that are served.
 pub const MAX_CONNECTIONS: u32 = 1_000_000;
 
-/// The most seconds of a pause.
-pub const MAX_PAUSE_SECONDS: u32 = 600;
-
 /// The most seconds of a limit of time.
 pub const MAX_PATIENCE: u32 = 3_600;
 
@@ -37,17 +34,6 @@ pub fn count_of(text: &str) -> Option<u32>
 {
     let number = parse_number(text)?;
     if number == 0 || number > MAX_CONNECTIONS {
-        return None;
-    }
-    Some(number)
-}
-
-/// How many seconds a pause has, 1 to 600.
-pub fn pause_seconds(text: &str) -> Option<u32>
-    ensures { result ≡ spec.pause_seconds text.now }
-{
-    let number = parse_number(text)?;
-    if number == 0 || number > MAX_PAUSE_SECONDS {
         return None;
     }
     Some(number)

@@ -89,7 +89,6 @@ fn task_of<'a>(alloc: Global, name: &str, words: &ArgMatches<'a>) -> Result<Task
         "close-slot" => or_bad_value(commands::close_slot(words)),
         "sheet" => or_bad_value(commands::sheet(words)),
         "serve" => or_bad_value(commands::serve(words)),
-        "pause" => or_bad_value(commands::pause(words)),
         "show-account" => or_bad_value(commands::show_account(words)),
         "show-slot" => or_bad_value(commands::show_slot(words)),
         _ => unreachable!(),

@@ -30,7 +30,7 @@ fn expect_refused(rt: &(impl Abort + AllocGlobal), lines: &[&str], end: &End) {
     }
 }
 
-static BAD_VALUES: [&str; 55] = [
+static BAD_VALUES: [&str; 49] = [
     "add-member|F|Amy|5",
     "add-member|F||5",
     "add-member|F|amybobcydideeveflogushalfi|5",
@@ -65,12 +65,6 @@ static BAD_VALUES: [&str; 55] = [
     "serve|F|--port|0|--count|1|--zone|Europe/Berlin",
     "serve|F|--port|0|--count|1|--at|2026-05-01",
     "serve|F|--port|0|--count|1|--at|2026-05-01T24:00",
-    "pause|F|0",
-    "pause|F|601",
-    "pause|F|1000000000",
-    "pause|F|x",
-    "pause|F|1s",
-    "pause|F|",
     // The zone is checked beside a fixed moment.
     "serve|F|--port|0|--count|1|--at|2026-05-01T12:00|--zone|x",
     "serve|F|--port|0|--count|1|--patience|0",
@@ -152,7 +146,7 @@ fn bad_forms(rt: HostRuntime) {
     }
 }
 
-static BAD_WORDS: [&str; 36] = [
+static BAD_WORDS: [&str; 34] = [
     "frob",
     "help|frob",
     "add-member|--version",
@@ -177,9 +171,8 @@ static BAD_WORDS: [&str; 36] = [
     "serve|F|--count|1",
     "serve|--port|0|--count|1",
     "serve|F|--port|0|--count|1|--verbose",
-    "pause|F",
-    "pause|F|1|2",
-    "pause|F|-1",
+    // Some versions had this command.
+    "pause|F|60",
     "serve|F|--port|0|--count|1|--patience",
     "show-account|F",
     "show-account|F|amy-1|2026-05-01T12:00",
@@ -209,11 +202,10 @@ fn words_that_are_no_text(rt: HostRuntime) {
     expect_end(&rt, &output_of_fault(&rt, &fault), &NOT_TEXT);
 }
 
-static HELP: [&str; 9] = [
+static HELP: [&str; 8] = [
     "--help",
     "help",
     "help|serve",
-    "help|pause",
     "help|show-account",
     "help|show-slot",
     "add-facility|-h",

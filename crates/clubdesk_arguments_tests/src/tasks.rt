@@ -75,7 +75,6 @@ fn describe_task(
         }
         Task::Sheet(day) => write!(output, "sheet {day}"),
         Task::Serve(service) => describe_service(output, service),
-        Task::Pause(seconds) => write!(output, "pause {seconds}"),
         Task::ShowAccount { key, clock } => describe_look(output, key.as_str(), clock),
         Task::ShowSlot(slot) => write!(output, "show {slot:?}"),
     }
@@ -102,7 +101,7 @@ fn expect_asked(rt: &(impl Abort + AllocGlobal), line: &str, file: &str, want: &
 }
 
 /// Lines, and what they ask for over the file `F`.
-static TASKS: [(&str, &str); 36] = [
+static TASKS: [(&str, &str); 32] = [
     (
         "add-member|F|amy|5",
         "AddMember { name: \"amy\", quota: 5 }",
@@ -196,10 +195,6 @@ static TASKS: [(&str, &str); 36] = [
         "show-slot|F|court-1|2026-05-01|18",
         "show Slot { facility: \"court-1\", day: Day { number: 20574 }, hour: Hour { number: 18 } }",
     ),
-    ("pause|F|1", "pause 1"),
-    ("pause|F|600", "pause 600"),
-    ("pause|F|000000060", "pause 60"),
-    ("pause|--|F|2", "pause 2"),
     (
         "serve|F|--port|0|--count|1",
         "serve 0 1 by the clock for 10",
@@ -257,7 +252,6 @@ fn laws_hold() {
     laws::rotate_key_takes_v2();
     laws::close_slot_takes_its_slot();
     laws::sheet_takes_its_day();
-    laws::pause_takes_its_seconds();
     laws::add_key_takes_its_input();
     laws::rotate_key_takes_its_input();
     laws::show_account_takes_its_parts();

@@ -2,11 +2,12 @@
 use Rattle.std.proofs.Common.{◌≡◌, ◌∙◌, ℕ, List, Option, true, false, inl, inr, refl, ap}
 use Rattle.clubdesk_arguments.specs.JobModel.{JobModel}
 use Rattle.clubdesk_commands.specs.Input.{IsWholeInput, awaits_root, with_root}
-use Rattle.clubdesk_commands.specs.Run.{IsOffice, logs}
+use Rattle.clubdesk_commands.specs.Does.{IsOffice}
+use Rattle.clubdesk_commands.specs.Run.{logs}
 use Rattle.clubdesk_arguments.specs.declared.task.Service.{Service}
 use Rattle.clubdesk_arguments.specs.declared.task.Task.{Task}
 use Rattle.clubdesk_arguments.specs.declared.task.Task.TheVariants.{Order, AddKey, AddKeyByInput, RotateKey, RotateKeyByInput}
-use Rattle.clubdesk_arguments.specs.declared.task.Task.TheVariants.{Sheet, Serve, Pause, ShowAccount, ShowSlot}
+use Rattle.clubdesk_arguments.specs.declared.task.Task.TheVariants.{Sheet, Serve, ShowAccount, ShowSlot}
 
 -- with its root a task awaits none
 rooted : (task : Task) (root : List ℕ) → awaits_root task ≡ true → awaits_root (with_root task root) ≡ false
@@ -17,7 +18,6 @@ rooted (AddKey name member old form) root awaits = refl
 rooted (RotateKey name old until form) root awaits = refl
 rooted (Sheet day) root awaits = refl
 rooted (Serve service) root awaits = refl
-rooted (Pause seconds) root awaits = refl
 rooted (ShowAccount key clock) root awaits = refl
 rooted (ShowSlot slot) root awaits = refl
 
@@ -35,7 +35,6 @@ rooted_logs (AddKey name member old form) root awaits = refl
 rooted_logs (RotateKey name old until form) root awaits = refl
 rooted_logs (Sheet day) root awaits = refl
 rooted_logs (Serve service) root awaits = let bad : false ≡ true = awaits in cc
-rooted_logs (Pause seconds) root awaits = refl
 rooted_logs (ShowAccount key clock) root awaits = refl
 rooted_logs (ShowSlot slot) root awaits = refl
 
@@ -45,16 +44,14 @@ whole_logs job whole left left' (inl (none, same)) unlogged = ap (λ (it : JobMo
 whole_logs job whole left left' (inr (awaits, root, took, same)) unlogged =
     ap (λ (it : JobModel). logs it.task) same ∙ rooted_logs job.task root awaits
 
--- what is neither a server's task nor a pause, nor awaits a root, is the office's
-pub office_else : (task : Task) → awaits_root task ≡ false → ((service : Service) → task ≡ Serve service → ⊥)
-    → ((seconds : ℕ) → task ≡ Pause seconds → ⊥) → IsOffice task
-office_else (AddKeyByInput name member form) none serves pauses = let bad : true ≡ false = none in cc
-office_else (RotateKeyByInput name until form) none serves pauses = let bad : true ≡ false = none in cc
-office_else (Order order) none serves pauses = tt
-office_else (AddKey name member root form) none serves pauses = tt
-office_else (RotateKey name root until form) none serves pauses = tt
-office_else (Sheet day) none serves pauses = tt
-office_else (Serve service) none serves pauses = absurd (serves service refl)
-office_else (Pause seconds) none serves pauses = absurd (pauses seconds refl)
-office_else (ShowAccount key clock) none serves pauses = tt
-office_else (ShowSlot slot) none serves pauses = tt
+-- what is no server's task, nor awaits a root, is the office's
+pub office_else : (task : Task) → awaits_root task ≡ false → ((service : Service) → task ≡ Serve service → ⊥) → IsOffice task
+office_else (AddKeyByInput name member form) none serves = let bad : true ≡ false = none in cc
+office_else (RotateKeyByInput name until form) none serves = let bad : true ≡ false = none in cc
+office_else (Order order) none serves = tt
+office_else (AddKey name member root form) none serves = tt
+office_else (RotateKey name root until form) none serves = tt
+office_else (Sheet day) none serves = tt
+office_else (Serve service) none serves = absurd (serves service refl)
+office_else (ShowAccount key clock) none serves = tt
+office_else (ShowSlot slot) none serves = tt

@@ -2,5 +2,5 @@ pub mod RunLemmas
 pub mod InputLemmas
 pub mod RootTexts
 pub mod ServerLemmas
-pub mod SeenLemmas
-pub mod AtNeedLemmas
+pub mod OrderLemmas
+pub mod OfficeDeskLemmas

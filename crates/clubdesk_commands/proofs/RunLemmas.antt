@@ -20,19 +20,21 @@ use Rattle.clubdesk_arguments.specs.Application.{refusals}
 use Rattle.clubdesk_arguments.specs.JobModel.{JobModel}
 use Rattle.clubdesk_commands.specs.Looks as looks
 use Rattle.clubdesk_commands.specs.Office as office
-use Rattle.clubdesk_commands.specs.Office.{Gives, GivesReply, IsAnswered, fault_of_desk}
+use Rattle.clubdesk_commands.specs.Office.{GivesText, GivesReply, IsAnswered, fault_of_desk}
 use Rattle.clubdesk_commands.specs.Output.{Output, Prints, WritesText}
-use Rattle.desk_server.specs.Databases.{Closing, Opening}
+use Rattle.desk_server.specs.Databases.{Closing, Opening, Reaching}
 use Rattle.clubdesk_arguments.specs.Fault.{fault_of_opening}
-use Rattle.clubdesk_commands.specs.Run.{Announces, AnswersWords, Does, EndsFor, IsOfTask, IsSilent, Performs, job_of}
+use Rattle.clubdesk_commands.specs.Does.{Does}
+use Rattle.clubdesk_commands.specs.Run.{Announces, AnswersWords, EndsFor, IsOfServer, IsOfTask, IsSilent, Performs, job_of}
 use Rattle.clubdesk_commands.specs.Run as spec
 use Rattle.clubdesk_arguments.specs.Words.{AsksText, IsFaultOf, ReadsWords, asked_job, job_of_words}
 use Rattle.clubdesk_arguments.specs.declared.fault.Fault.{Fault}
-use Rattle.clubdesk_arguments.specs.declared.fault.Fault.TheVariants.{Refused, Words, BadValue, Memory, Storage, ClockOutOfRange, InputOutput}
+use Rattle.clubdesk_arguments.specs.declared.fault.Fault.TheVariants.{Refused, Words, BadValue, Memory, Storage}
+use Rattle.clubdesk_arguments.specs.declared.fault.Fault.TheVariants.{ClockOutOfRange, InputOutput, NoAnswer, Answered}
 use Rattle.clubdesk_arguments.specs.declared.task.Service.{Service}
 use Rattle.clubdesk_arguments.specs.declared.task.Task.{Task}
 use Rattle.clubdesk_arguments.specs.declared.task.Task.TheVariants.{Order, AddKey, AddKeyByInput, RotateKey, RotateKeyByInput}
-use Rattle.clubdesk_arguments.specs.declared.task.Task.TheVariants.{Sheet, Serve, Pause, ShowAccount, ShowSlot}
+use Rattle.clubdesk_arguments.specs.declared.task.Task.TheVariants.{Sheet, Serve, ShowAccount, ShowSlot}
 use Rattle.clubdesk_arguments.specs.declared.words.Asked.{Asked}
 use Rattle.clubdesk_arguments.specs.declared.words.Asked.TheVariants.{Perform, ShowText}
 
@@ -69,6 +71,8 @@ nothing_asked words BadValue bad = inr (rw (bad.0, bad.1) refl)
 nothing_asked words Memory bad = inl refl
 nothing_asked words (Refused fault) bad = absurd bad
 nothing_asked words Storage bad = absurd bad
+nothing_asked words NoAnswer bad = absurd bad
+nothing_asked words (Answered status line) bad = absurd bad
 nothing_asked words ClockOutOfRange bad = absurd bad
 nothing_asked words InputOutput bad = absurd bad
 
@@ -85,6 +89,8 @@ run_words words (Perform job) (Err (Words error)) reads ends = absurd ends
 run_words words (Perform job) (Err BadValue) reads ends = inr (rw (some_asked words job reads.0 reads.1) ends)
 run_words words (Perform job) (Err Memory) reads ends = tt
 run_words words (Perform job) (Err Storage) reads ends = some_is words job (some_asked words job reads.0 reads.1)
+run_words words (Perform job) (Err NoAnswer) reads ends = some_is words job (some_asked words job reads.0 reads.1)
+run_words words (Perform job) (Err (Answered status line)) reads ends = some_is words job (some_asked words job reads.0 reads.1)
 run_words words (Perform job) (Err ClockOutOfRange) reads ends = some_is words job (some_asked words job reads.0 reads.1)
 run_words words (Perform job) (Err InputOutput) reads ends = inl (some_is words job (some_asked words job reads.0 reads.1))
 
@@ -109,6 +115,8 @@ text_ends written text (Err (Words error)) h = absurd h
 text_ends written text (Err BadValue) h = absurd h
 text_ends written text (Err Memory) h = absurd h
 text_ends written text (Err Storage) h = absurd h
+text_ends written text (Err NoAnswer) h = absurd h
+text_ends written text (Err (Answered status line)) h = absurd h
 text_ends written text (Err ClockOutOfRange) h = absurd h
 
 prints_well : (written : Output) (answer : Result (List ℕ) Fault) (result : Result Unit Fault) → IfErr answer IsOfTask → Prints answer written result
@@ -125,6 +133,8 @@ of_server port written (Err (Refused fault)) h = absurd h
 of_server port written (Err (Words error)) h = absurd h
 of_server port written (Err BadValue) h = absurd h
 of_server port written (Err Storage) h = absurd h
+of_server port written (Err NoAnswer) h = absurd h
+of_server port written (Err (Answered status line)) h = absurd h
 
 -- an answer of the desk is no fault of the words
 desk_faults : (fault : DeskFault) → IsOfTask (fault_of_desk fault)
@@ -137,7 +147,7 @@ of_reply text answer (replies.Refused fault) is = rw is (desk_faults fault)
 of_reply text answer replies.Done is = rw is tt
 of_reply text answer (replies.Key signature) is = rw is tt
 
-of_read : (answer : Result (List ℕ) Fault) (read : Result (List ℕ) DeskFault) → Gives answer read → IfErr answer IsOfTask
+of_read : (answer : Result (List ℕ) Fault) (read : Result (List ℕ) DeskFault) → GivesText answer read → IfErr answer IsOfTask
 of_read answer (Ok text) is = rw is tt
 of_read answer (Err fault) is = rw is (desk_faults fault)
 
@@ -152,7 +162,6 @@ module _ {S : Type 0} (Clean : S → Type 0) (Represents : S → Club → List C
   of_task (RotateKey name root until form) h = of_order _ _ h
   of_task (Sheet day) h = of_read answer h.1.read h.1.gives
   of_task (Serve service) h = absurd h
-  of_task (Pause seconds) h = absurd h
   of_task (AddKeyByInput name member form) h = absurd h
   of_task (RotateKeyByInput name until form) h = absurd h
   of_task (ShowAccount key clock) (looks.at_moment moment shows h) = of_read answer h.shown h.gives
@@ -164,33 +173,43 @@ of_opening : (Silent : Type 0) (fault : StoreFault) (result : Result Unit Fault)
 of_opening Silent store.Memory result is silent = rw is (record { of_task = tt; silent = λ s. silent })
 of_opening Silent store.Storage result is silent = rw is (record { of_task = tt; silent = λ s. silent })
 
-module _ {D S : Type 0} (Opens : Opening D S) (Closes : Closing D S) (FindsWish : D → List ℕ → Bool → Type 0) (Clean : S → Type 0)
+of_server_too : (answer : Result (List ℕ) Fault) → IfErr answer IsOfServer → IfErr answer IsOfTask
+of_server_too (Ok text) h = tt
+of_server_too (Err Memory) h = tt
+of_server_too (Err NoAnswer) h = tt
+of_server_too (Err (Answered status line)) h = tt
+of_server_too (Err (Refused fault)) h = absurd h
+of_server_too (Err (Words error)) h = absurd h
+of_server_too (Err BadValue) h = absurd h
+of_server_too (Err Storage) h = absurd h
+of_server_too (Err ClockOutOfRange) h = absurd h
+of_server_too (Err InputOutput) h = absurd h
+
+module _ {D S V : Type 0} (Opens : Opening D S) (Reaches : Reaching D S V) (Closes : Closing D S) (Clean : S → Type 0)
     (Represents : S → Club → List Club → Type 0) (Fails : Option Change → S → StoreFault → S → Type 0)
     (job : JobModel) (old new : D) (written : Output) (Noted : List Fate → Type 0) (result : Result Unit Fault)
   where
     -- however a task ends
-    pub performs_well : Performs Opens Closes FindsWish Clean Represents Fails job old new written Noted result → EndsWell written.no_change result
+    pub performs_well : Performs Opens Reaches Closes Clean Represents Fails job old new written Noted result → EndsWell written.no_change result
     performs_well (spec.out_of_memory memory same silent nothing) = rw memory (record { of_task = tt; silent = λ s. silent })
     performs_well (spec.not_opened fault opens is silent nothing) = of_opening written.no_change fault result is silent
-    performs_well (spec.task_done answer store left between opens does closes prints nothing) =
+    performs_well (spec.not_reached fault reaches is silent nothing) = of_opening written.no_change fault result is silent
+    performs_well (spec.task_done answer store left between reaches does closes prints nothing) =
         prints_well written answer result (of_task Clean Represents store left answer job.task does) prints
-    performs_well (spec.server_done service store between is opens serves) = of_server service.port written result serves.announces
-    performs_well (spec.pause_done seconds store between is opens closes wrote nothing) = text_ends written (codes "done\n") result wrote
-    performs_well (spec.pause_failed seconds is storage same silent nothing) = rw storage (record { of_task = tt; silent = λ s. silent })
+    performs_well (spec.handed_over visit answer reaches of_it prints nothing) = prints_well written answer result (of_server_too answer of_it) prints
+    performs_well (spec.server_done service store left between is opens serves announces closes) = of_server service.port written result announces
+    performs_well (spec.no_door service store between is opens closes storage silent nothing) =
+        rw storage (record { of_task = tt; silent = λ s. silent })
 
     -- what isn't a server's task notes nothing, whatever a log would note
     pub notes_nothing : ((service : Service) → job.task ≡ Serve service → ⊥) → Noted []
-        → Performs Opens Closes FindsWish Clean Represents Fails job old new written (λ fates. fates ≡ []) result
-        → Performs Opens Closes FindsWish Clean Represents Fails job old new written Noted result
+        → Performs Opens Reaches Closes Clean Represents Fails job old new written (λ fates. fates ≡ []) result
+        → Performs Opens Reaches Closes Clean Represents Fails job old new written Noted result
     notes_nothing none noted (spec.out_of_memory memory same silent nothing) = spec.out_of_memory memory same silent noted
     notes_nothing none noted (spec.not_opened fault opens is silent nothing) = spec.not_opened fault opens is silent noted
-    notes_nothing none noted (spec.task_done answer store left between opens does closes prints nothing) =
-        spec.task_done answer store left between opens does closes prints noted
-    notes_nothing none noted (spec.server_done service store between is opens serves) = absurd (none service is)
-    notes_nothing none noted (spec.pause_done seconds store between is opens closes wrote nothing) =
-        spec.pause_done seconds store between is opens closes wrote noted
-    notes_nothing none noted (spec.pause_failed seconds is storage same silent nothing) = spec.pause_failed seconds is storage same silent noted
-
--- a pause is no server's task
-pub pause_serves_nobody : (seconds : ℕ) (service : Service) → Pause seconds ≡ Serve service → ⊥
-pause_serves_nobody seconds service is = cc
+    notes_nothing none noted (spec.not_reached fault reaches is silent nothing) = spec.not_reached fault reaches is silent noted
+    notes_nothing none noted (spec.task_done answer store left between reaches does closes prints nothing) =
+        spec.task_done answer store left between reaches does closes prints noted
+    notes_nothing none noted (spec.handed_over visit answer reaches of_it prints nothing) = spec.handed_over visit answer reaches of_it prints noted
+    notes_nothing none noted (spec.server_done service store left between is opens serves announces closes) = absurd (none service is)
+    notes_nothing none noted (spec.no_door service store between is opens closes storage silent nothing) = absurd (none service is)

@@ -3,12 +3,12 @@ use Rattle.std.proofs.Common.{◌≡◌, ◌∙◌, ℕ, List, [], ◌∷◌, �
 use Rattle.std.specs.Io.KnownBytes.{Appends}
 use Rattle.command_line.specs.Output.{AppendsFront}
 use Rattle.club_http.specs.Replied.{AnswerRelation}
-use Rattle.desk_server.specs.Served.{AreNoted, AreServed, Ends, Idles, ServesOne, IsStopped, Notes}
+use Rattle.desk_server.specs.Served.{AreNoted, AreServed, Ends, Orders, ServesOne, IsStopped, Notes}
 use Rattle.club_clock.specs.Moments.{GivesMoment}
 use Rattle.desk_server.specs.Served as served
 use Rattle.club_clock.specs.Zone.{ShowsIn}
 use Rattle.desk_server.specs.declared.log.Fate.{Fate}
-use Rattle.desk_server.specs.declared.log.Fate.TheVariants.{Absent, Unanswered, Exchanged}
+use Rattle.desk_server.specs.declared.log.Fate.TheVariants.{Absent, Overrun, Unanswered, Exchanged, Ordered}
 use Rattle.jiff_core.specs.declared.timestamp.Timestamp.{Timestamp}
 use Rattle.clubdesk_commands.specs.Output.{Output}
 use Rattle.clubdesk_commands.specs.Run.{Announces, IfLogged, IsAnnounced, IsPortFor, RunsServer, ServesAll}
@@ -16,7 +16,8 @@ use Rattle.clubdesk_commands.specs.Run.{ClockShows, StopsBefore, WritesLine, lis
 use Rattle.clubdesk_arguments.specs.declared.clock.Clock.{Clock}
 use Rattle.clubdesk_arguments.specs.declared.clock.Clock.TheVariants.{InZone}
 use Rattle.clubdesk_arguments.specs.declared.fault.Fault.{Fault}
-use Rattle.clubdesk_arguments.specs.declared.fault.Fault.TheVariants.{Refused, Words, BadValue, Memory, Storage, ClockOutOfRange, InputOutput}
+use Rattle.clubdesk_arguments.specs.declared.fault.Fault.TheVariants.{Refused, Words, BadValue, Memory, Storage}
+use Rattle.clubdesk_arguments.specs.declared.fault.Fault.TheVariants.{ClockOutOfRange, InputOutput, NoAnswer, Answered}
 use Rattle.clubdesk_arguments.specs.declared.task.Service.{Service}
 
 -- ---- the line
@@ -40,6 +41,8 @@ module _ (asked port : ℕ) (written : Output) (for_it : IsPortFor asked port) w
   stopped_at (Words error) wrote = absurd wrote
   stopped_at BadValue wrote = absurd wrote
   stopped_at Storage wrote = absurd wrote
+  stopped_at NoAnswer wrote = absurd wrote
+  stopped_at (Answered status line) wrote = absurd wrote
   stopped_at ClockOutOfRange wrote = absurd wrote
 
 -- ---- the moments
@@ -52,29 +55,33 @@ in_zone rule Given shown (Some instant, given, is_shown) = inl (instant.nanoseco
 -- ---- the connections
 
 -- a server over these connections is one over connections with any outcomes
-module _ {Clock Desk Connection : Type 0} (Gives : GivesMoment Clock) (Answers : ℕ → AnswerRelation Desk) (Idled : Idles Desk) (Ended : Ends Connection) where
+module _ {Clock Desk Connection : Type 0} (Gives : GivesMoment Clock) (Answers : ℕ → AnswerRelation Desk) (Carries : Orders Desk)
+    (Ended : Ends Connection) where
   one_over_socket : (clock : Clock) (desk : Desk) (f : ℕ) (fate : Fate) (clock' : Clock) (desk' : Desk) (f' : ℕ)
-      → ServesOne Gives Answers Idled Ended clock desk f fate clock' desk' f' → ServesOne Gives Answers Idled over_socket clock desk f fate clock' desk' f'
+      → ServesOne Gives Answers Carries Ended clock desk f fate clock' desk' f' → ServesOne Gives Answers Carries over_socket clock desk f fate clock' desk' f'
   one_over_socket clock desk f Absent clock' desk' f' one = one
+  one_over_socket clock desk f Overrun clock' desk' f' one = one
+  one_over_socket clock desk f (Ordered moment carried) clock' desk' f' one = one
   one_over_socket clock desk f Unanswered clock' desk' f' never = absurd never
   one_over_socket clock desk f (Exchanged moment line outcome) clock' desk' f' (counted, returned, exchange, ended) =
       (counted, returned, exchange, (tt, tt))
 
   are_over_socket : (clock : Clock) (desk : Desk) (f : ℕ) (fates : List Fate) (clock' : Clock) (desk' : Desk) (f' : ℕ)
-      → AreServed Gives Answers Idled Ended clock desk f fates clock' desk' f' → AreServed Gives Answers Idled over_socket clock desk f fates clock' desk' f'
+      → AreServed Gives Answers Carries Ended clock desk f fates clock' desk' f'
+      → AreServed Gives Answers Carries over_socket clock desk f fates clock' desk' f'
   are_over_socket clock desk f _ _ _ _ served.none = served.none
   are_over_socket clock desk f _ _ _ _ (served.more fates fate c d f1 c' d' f' before one) =
       served.more fates fate c d f1 c' d' f' (are_over_socket clock desk f fates c d f1 before) (one_over_socket c d f1 fate c' d' f' one)
 
   module _ (count : ℕ) (clock : Clock) (desk : Desk) (clock' : Clock) (desk' : Desk) (failures : ℕ) (Besides Wanted : List Fate → Type 0)
       (gives : (fates : List Fate) → Besides fates → Wanted fates) where
-    pub all_over_socket : served.Serves Gives Answers Idled Ended count clock desk 0 (Ok tt) clock' desk' failures Besides
-        → ServesAll Gives Answers Idled count clock desk clock' desk' Wanted (Ok tt)
+    pub all_over_socket : served.Serves Gives Answers Carries Ended count clock desk 0 (Ok tt) clock' desk' failures Besides
+        → ServesAll Gives Answers Carries count clock desk clock' desk' Wanted (Ok tt)
     all_over_socket (fates, so_many, were, besides) =
         (fates, failures, so_many, are_over_socket clock desk 0 fates clock' desk' failures were, gives fates besides)
 
-    pub stopped_over_socket : IsStopped Gives Answers Idled Ended count clock desk 0 clock' desk' failures Besides
-        → ServesAll Gives Answers Idled count clock desk clock' desk' Wanted (Err ClockOutOfRange)
+    pub stopped_over_socket : IsStopped Gives Answers Carries Ended count clock desk 0 clock' desk' failures Besides
+        → ServesAll Gives Answers Carries count clock desk clock' desk' Wanted (Err ClockOutOfRange)
     stopped_over_socket stop = (
       failures,
       record {
@@ -89,30 +96,35 @@ module _ {Clock Desk Connection : Type 0} (Gives : GivesMoment Clock) (Answers :
 
 -- a server with a clock whose state doesn't change serves at the moments that it shows
 module _ {Source Desk : Type 0} (Gives : GivesMoment Source) (clock : Clock) (Answers : ℕ
-    → AnswerRelation Desk) (Idled : Idles Desk) (moments : Source) (desk : Desk)
+    → AnswerRelation Desk) (Carries : Orders Desk) (moments : Source) (desk : Desk)
     (Besides : List Fate → Type 0) (stays : (shown : Option ℕ) (next : Source) → Gives moments shown next → (next ≡ moments) × ClockShows clock shown) where
   abbrev ByShowing : List Fate → Source → Desk → ℕ → Type 0
-  ByShowing fates last left failures = (last ≡ moments) × AreServed (showing clock) Answers Idled over_socket tt desk 0 fates tt left failures
+  ByShowing fates last left failures = (last ≡ moments) × AreServed (showing clock) Answers Carries over_socket tt desk 0 fates tt left failures
 
   one_more : (fates : List Fate) (fate : Fate) (d : Desk) (f : ℕ) (next : Source) (d' : Desk) (f' : ℕ)
-      → AreServed (showing clock) Answers Idled over_socket tt desk 0 fates tt d f → ServesOne Gives Answers Idled over_socket moments d f fate next d' f'
+      → AreServed (showing clock) Answers Carries over_socket tt desk 0 fates tt d f → ServesOne Gives Answers Carries over_socket moments d f fate next d' f'
       → ByShowing (fates ++ fate ∷ []) next d' f'
   one_more fates Absent d f next d' f' before (counted, same, kept) =
       (same, served.more fates Absent tt d f tt d' f' before (counted, refl, kept))
+  one_more fates Overrun d f next d' f' before (counted, same, kept) =
+      (same, served.more fates Overrun tt d f tt d' f' before (counted, refl, kept))
+  one_more fates (Ordered moment carried) d f next d' f' before (counted, returned, carries) =
+      let shows = stays moment next returned in
+      (shows.0, served.more fates (Ordered moment carried) tt d f tt d' f' before (counted, shows.1, carries))
   one_more fates Unanswered d f next d' f' before never = absurd never
   one_more fates (Exchanged moment line outcome) d f next d' f' before (counted, returned, exchange, ended) =
       let shows = stays (Some moment) next returned in
       (shows.0, served.more fates (Exchanged moment line outcome) tt d f tt d' f' before (counted, shows.1, exchange, ended))
 
   by_showing : (fates : List Fate) (last : Source) (left : Desk) (failures : ℕ)
-      → AreServed Gives Answers Idled over_socket moments desk 0 fates last left failures → ByShowing fates last left failures
+      → AreServed Gives Answers Carries over_socket moments desk 0 fates last left failures → ByShowing fates last left failures
   by_showing _ _ _ _ served.none = (refl, served.none)
   by_showing _ _ _ _ (served.more fates fate c d f c' d' f' before one) =
       let so_far = by_showing fates c d f before in one_more fates fate d f c' d' f' so_far.1 (rw so_far.0 at one)
 
   stopped : (count : ℕ) (last : Source) (left : Desk) (failures : ℕ)
-      → IsStopped Gives Answers Idled over_socket count moments desk 0 last left failures Besides
-      → IsStopped (showing clock) Answers Idled over_socket count tt desk 0 tt left failures Besides
+      → IsStopped Gives Answers Carries over_socket count moments desk 0 last left failures Besides
+      → IsStopped (showing clock) Answers Carries over_socket count tt desk 0 tt left failures Besides
   stopped count last left failures stop =
       let so_far = by_showing stop.fates stop.last left failures stop.before in
       record {
@@ -125,7 +137,8 @@ module _ {Source Desk : Type 0} (Gives : GivesMoment Source) (clock : Clock) (An
       }
 
   pub serves_by_showing : (count : ℕ) (last : Source) (left : Desk) (result : Result Unit Fault)
-      → ServesAll Gives Answers Idled count moments desk last left Besides result → ServesAll (showing clock) Answers Idled count tt desk tt left Besides result
+      → ServesAll Gives Answers Carries count moments desk last left Besides result
+      → ServesAll (showing clock) Answers Carries count tt desk tt left Besides result
   serves_by_showing count last left (Ok done) (fates, failures, so_many, were, besides) =
       (fates, failures, so_many, (by_showing fates last left failures were).1, besides)
   serves_by_showing count last left (Err ClockOutOfRange) (failures, stop) = (failures, stopped count last left failures stop)
@@ -135,22 +148,26 @@ module _ {Source Desk : Type 0} (Gives : GivesMoment Source) (clock : Clock) (An
   serves_by_showing count last left (Err (Words error)) h = absurd h
   serves_by_showing count last left (Err BadValue) h = absurd h
   serves_by_showing count last left (Err Storage) h = absurd h
+  serves_by_showing count last left (Err NoAnswer) h = absurd h
+  serves_by_showing count last left (Err (Answered status line)) h = absurd h
 
 -- ---- a server
 
 module _ (service : Service) (written : Output) where
   -- one that doesn't listen serves nobody, and notes nothing
   module _ {Log : Type 0} (Begins : Log → Log → Type 0) (Noted : Notes Log) (log : Log) where
-    pub serves_nobody : {Desk : Type 0} (Answers : ℕ → AnswerRelation Desk) (Idled : Idles Desk) (desk : Desk) (fault : Fault)
+    pub serves_nobody : {Desk : Type 0} (Answers : ℕ → AnswerRelation Desk) (Carries : Orders Desk) (desk : Desk) (fault : Fault)
         → StopsBefore service.port written fault
-        → RunsServer Answers Idled service desk desk (λ fates. AreNoted Begins Noted log fates log) (Err fault)
-    serves_nobody Answers Idled desk Memory h = (refl, served.nothing)
-    serves_nobody Answers Idled desk InputOutput h = (refl, served.nothing)
-    serves_nobody Answers Idled desk (Refused fault) h = absurd h
-    serves_nobody Answers Idled desk (Words error) h = absurd h
-    serves_nobody Answers Idled desk BadValue h = absurd h
-    serves_nobody Answers Idled desk Storage h = absurd h
-    serves_nobody Answers Idled desk ClockOutOfRange h = absurd h
+        → RunsServer Answers Carries service desk desk (λ fates. AreNoted Begins Noted log fates log) (Err fault)
+    serves_nobody Answers Carries desk Memory h = (refl, served.nothing)
+    serves_nobody Answers Carries desk InputOutput h = (refl, served.nothing)
+    serves_nobody Answers Carries desk (Refused fault) h = absurd h
+    serves_nobody Answers Carries desk (Words error) h = absurd h
+    serves_nobody Answers Carries desk BadValue h = absurd h
+    serves_nobody Answers Carries desk Storage h = absurd h
+    serves_nobody Answers Carries desk NoAnswer h = absurd h
+    serves_nobody Answers Carries desk (Answered status line) h = absurd h
+    serves_nobody Answers Carries desk ClockOutOfRange h = absurd h
 
   pub announces_nothing : (fault : Fault) → StopsBefore service.port written fault → Announces service.port written (Err fault)
   announces_nothing Memory h = h
@@ -159,15 +176,17 @@ module _ (service : Service) (written : Output) where
   announces_nothing (Words error) h = absurd h
   announces_nothing BadValue h = absurd h
   announces_nothing Storage h = absurd h
+  announces_nothing NoAnswer h = absurd h
+  announces_nothing (Answered status line) h = absurd h
   announces_nothing ClockOutOfRange h = absurd h
 
-module _ (service : Service) {Desk : Type 0} (Answers : ℕ → AnswerRelation Desk) (Idled : Idles Desk) (old new : Desk) (Besides : List Fate → Type 0) where
+module _ (service : Service) {Desk : Type 0} (Answers : ℕ → AnswerRelation Desk) (Carries : Orders Desk) (old new : Desk) (Besides : List Fate → Type 0) where
   abbrev All : Result Unit Fault → Type 0
-  All result = ServesAll (showing service.clock) Answers Idled service.count tt old tt new Besides result
+  All result = ServesAll (showing service.clock) Answers Carries service.count tt old tt new Besides result
 
   -- one that listens serves all, or stops; what is noted counts where a log is asked for
   module _ (Noted : List Fate → Type 0) (gives : (fates : List Fate) → Besides fates → IfLogged service Noted fates) where
-    pub serves : (result : Result Unit Fault) → All result → RunsServer Answers Idled service old new Noted result
+    pub serves : (result : Result Unit Fault) → All result → RunsServer Answers Carries service old new Noted result
     serves (Ok done) (fates, failures, so_many, were, besides) = (fates, failures, so_many, were, gives fates besides)
     serves (Err ClockOutOfRange) (failures, stop) = (
       failures,
@@ -186,6 +205,8 @@ module _ (service : Service) {Desk : Type 0} (Answers : ℕ → AnswerRelation D
     serves (Err (Words error)) h = absurd h
     serves (Err BadValue) h = absurd h
     serves (Err Storage) h = absurd h
+    serves (Err NoAnswer) h = absurd h
+    serves (Err (Answered status line)) h = absurd h
 
   -- and wrote its address, however it ends
   pub announces : (written : Output) (result : Result Unit Fault) → IsAnnounced service.port written → All result
@@ -198,3 +219,5 @@ module _ (service : Service) {Desk : Type 0} (Answers : ℕ → AnswerRelation D
   announces written (Err (Words error)) h all = absurd all
   announces written (Err BadValue) h all = absurd all
   announces written (Err Storage) h all = absurd all
+  announces written (Err NoAnswer) h all = absurd all
+  announces written (Err (Answered status line)) h all = absurd all

@@ -1,19 +1,15 @@
 -- What a run does, over databases, stores and a log whose traits say what their calls may do (ours).
 use Rattle.std.specs.Prelude.{◌≡◌, ℕ, List, Option, None, Result, IfErr, false}
 use Rattle.club_core.specs.declared.store.ClubStore.{Ghosts as StoreWords}
-use Rattle.club_http.specs.Desk.{AnswersBy}
-use Rattle.club_http.specs.Replied.{AnswerRelation}
 use Rattle.desk_server.specs.Served.{AreNoted}
 use Rattle.desk_server.specs.declared.log.Fate.{Fate}
 use Rattle.desk_server.specs.declared.databases.Databases.{Ghosts as DatabasesWords}
 use Rattle.desk_server.specs.declared.log.Log.{Ghosts as LogWords}
-use Rattle.clubdesk_commands.specs.AtNeed.{Access, AnswersAtNeed, GivesWay}
 use Rattle.clubdesk_commands.specs.Input.{asks_root}
 use Rattle.clubdesk_arguments.specs.JobModel.{JobModel}
 use Rattle.clubdesk_commands.specs.Output.{Input, Output}
-use Rattle.clubdesk_commands.specs.Run.{IsSilent, Performs, PerformsAsked, RunsServer, asks_log}
+use Rattle.clubdesk_commands.specs.Run.{IsSilent, Performs, PerformsAsked, asks_log}
 use Rattle.clubdesk_arguments.specs.declared.fault.Fault.{Fault}
-use Rattle.clubdesk_arguments.specs.declared.task.Service.{Service}
 
 -- a log before and after: what it notes of connections, and the statement that it is unchanged
 pub record LogChange : Type 1 where
@@ -23,25 +19,16 @@ pub record LogChange : Type 1 where
 abbrev pub log_change : {L : Type 0} → LogWords L → L → L → LogChange
 log_change log old new = record { notes = λ fates. AreNoted log.begins log.notes old fates new; no_change = new ≡ old }
 
-module _ {D S P A : Type 0} (databases : DatabasesWords D S P A) (stores : StoreWords S) where
-  -- a request is answered over the open store, or over one that is opened for it
-  abbrev pub AnswersOver : List ℕ → ℕ → AnswerRelation (Access D S)
-  AnswersOver file = AnswersAtNeed databases.opens (AnswersBy stores.disk_is_clean stores.represents stores.fails) file
-
-  -- a server over the file of this name
-  abbrev pub ServesOver : List ℕ → Service → Access D S → Access D S → (List Fate → Type 0) → Result Unit Fault → Type 0
-  ServesOver file service old new Noted result =
-      RunsServer (AnswersOver file) (GivesWay databases.closes databases.finds_wish file) service old new Noted result
-
+module _ {D S R V : Type 0} (databases : DatabasesWords D S R V) (stores : StoreWords S) where
   -- a run with a task
   abbrev pub PerformsOver : JobModel → D → D → Output → (List Fate → Type 0) → Result Unit Fault → Type 0
   PerformsOver job old new written Noted result =
-      Performs databases.opens databases.closes databases.finds_wish stores.disk_is_clean stores.represents stores.fails job old new written Noted result
+      Performs databases.opens databases.reaches databases.closes stores.disk_is_clean stores.represents stores.fails job old new written Noted result
 
   -- A run that is asked for a task, or for none.
   pub record Runs (asked_for : Option JobModel) (given : Input) (old new : D) (written : Output) (log : LogChange) (result : Result Unit Fault) : Type 0 where
     -- If a task is asked for, it was done at the database of the name that is given.
-    pub command : PerformsAsked databases.opens databases.closes databases.finds_wish stores.disk_is_clean stores.represents stores.fails asked_for
+    pub command : PerformsAsked databases.opens databases.reaches databases.closes stores.disk_is_clean stores.represents stores.fails asked_for
         given.before given.after old new written log.notes result
     -- If none is asked for, no database was opened.
     pub not_opened : asked_for ≡ None → new ≡ old

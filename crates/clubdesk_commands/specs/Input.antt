@@ -53,3 +53,15 @@ ReadsRoot job left left' (Err fault) = (awaits_root job.task ≡ true) × TakesR
 abbrev pub asks_root : Option JobModel → Bool
 asks_root None = false
 asks_root (Some command) = awaits_root command.task
+
+-- a task got the root that a text spells, where it awaits one, and is the same where it doesn't
+abbrev pub IsRooted : JobModel → List ℕ → JobModel → Type 0
+IsRooted job text whole =
+    ((awaits_root job.task ≡ false) × (whole ≡ job))
+    ⊎ ((awaits_root job.task ≡ true) × (root : List ℕ) × (root_in_input text ≡ Some root)
+    × (whole ≡ record { file = job.file; task = with_root job.task root }))
+
+-- the same, or it awaits a root and the text spells none
+abbrev pub TakesRootOf : List ℕ → JobModel → Result JobModel Fault → Type 0
+TakesRootOf text job (Ok whole) = IsRooted job text whole
+TakesRootOf text job (Err fault) = (fault ≡ BadValue) × (awaits_root job.task ≡ true) × (root_in_input text ≡ None)

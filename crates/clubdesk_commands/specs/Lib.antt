@@ -1,8 +1,9 @@
 pub mod Output
 pub mod Office
 pub mod Looks
-pub mod AtNeed
-pub mod DeskAtNeed
+pub mod Does
+pub mod Order
+pub mod OfficeDesk
 pub mod Input
 pub mod Run
 pub mod ByTraits

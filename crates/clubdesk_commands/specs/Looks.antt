@@ -7,7 +7,7 @@ use Rattle.club_core.specs.Store.{KeepsClub}
 use Rattle.club_gate.specs.Looks.{IsUnshown, account_look, slot_look}
 use Rattle.club_gate.specs.declared.fault.Fault.{Fault as DeskFault}
 use Rattle.club_clock.specs.Zone.{IsShown}
-use Rattle.clubdesk_commands.specs.Office.{Gives}
+use Rattle.clubdesk_commands.specs.Office.{GivesText}
 use Rattle.clubdesk_arguments.specs.declared.clock.Clock.{Clock}
 use Rattle.clubdesk_arguments.specs.declared.clock.Clock.TheVariants.{Fixed, InZone}
 use Rattle.clubdesk_arguments.specs.declared.fault.Fault.{Fault}
@@ -51,4 +51,4 @@ pub data LooksByClock (clock : Clock) (Stopped : Type 0) (Looked : ℕ → Type 
 -- An account is looked at, at a moment of the clock, and what the desk shows of it is the answer.
 abbrev pub IsAccountShown : {S : Type 0} → (S → Type 0) → (S → Club → List Club → Type 0) → List ℕ → Clock → Result (List ℕ) Fault → S → S → Type 0
 IsAccountShown Clean Represents key clock answer old new =
-    LooksByClock clock (StopsLook old new answer) (λ moment. Looks Clean Represents old new (ShowsAccount key moment) (Gives answer))
+    LooksByClock clock (StopsLook old new answer) (λ moment. Looks Clean Represents old new (ShowsAccount key moment) (GivesText answer))

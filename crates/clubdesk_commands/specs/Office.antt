@@ -57,9 +57,9 @@ IsAnswered Represents Clean old new order IsText answer =
     IsOrderedOnce IsText ((answer ≡ Err Memory) × (new ≡ old)) (λ text. IsOrdered Represents Clean old new order (GivesReply text answer))
 
 -- the answer is a text that was read, or its fault
-abbrev pub Gives : Result (List ℕ) Fault → Result (List ℕ) DeskFault → Type 0
-Gives answer (Ok text) = answer ≡ Ok text
-Gives answer (Err fault) = answer ≡ Err (fault_of_desk fault)
+abbrev pub GivesText : Result (List ℕ) Fault → Result (List ℕ) DeskFault → Type 0
+GivesText answer (Ok text) = answer ≡ Ok text
+GivesText answer (Err fault) = answer ≡ Err (fault_of_desk fault)
 
 -- The sheet of a day was read, and given.
 pub record IsSheetRead {S : Type 0} (Represents : S → Club → List Club → Type 0) (Clean : Type 0) (old : S) (day : ℕ) (Given : Result (List ℕ) DeskFault

@@ -3,33 +3,33 @@ use Rattle.std.specs.Prelude.{◌≡◌, ◌⊎◌, ℕ, ◌≤◌, List, [], �
 use Rattle.std.specs.Prelude.{Bool, true, false, codes, decimal}
 use Rattle.std.specs.Io.KnownBytes.{Appends}
 use Rattle.clap.specs.Words.{Text}
-use Rattle.club_core.specs.declared.command.Command.TheVariants as order
 use Rattle.club_core.specs.declared.change.Change.{Change}
 use Rattle.club_core.specs.declared.store.StoreFault.{StoreFault}
 use Rattle.club_core.specs.Club.{Club}
-use Rattle.club_core.specs.Store.{KeepsClub}
 use Rattle.club_http.specs.Desk.{AnswersBy}
 use Rattle.club_http.specs.Replied.{AnswerRelation}
-use Rattle.desk_server.specs.Served.{AreServed, Ends, Idles, IsStopped}
+use Rattle.desk_server.specs.Served.{AreServed, Ends, IsStopped, clients_in}
+use Rattle.desk_server.specs.Served as served
 use Rattle.club_clock.specs.Moments.{GivesMoment}
 use Rattle.desk_server.specs.declared.log.Fate.{Fate}
 use Rattle.command_line.specs.Output.{AppendsFront}
-use Rattle.desk_server.specs.Databases.{Closing, Opening}
-use Rattle.clubdesk_commands.specs.AtNeed.{Access, AnswersAtNeed, GivesWay, LetsGo, access}
+use Rattle.desk_server.specs.Databases.{Closing, Opening, Reaching}
+use Rattle.desk_server.specs.declared.databases.Reached.TheVariants.{Opened, Served}
 use Rattle.clubdesk_arguments.specs.JobModel.{JobModel}
-use Rattle.clubdesk_commands.specs.Office.{Gives, IsAnswered, IsPassLine, IsSheetRead, pass_text}
+use Rattle.clubdesk_commands.specs.Does.{Does}
+use Rattle.clubdesk_commands.specs.OfficeDesk.{Orders}
 use Rattle.clubdesk_commands.specs.Input.{IsWholeInput, TakesRoot, asks_root, awaits_root}
-use Rattle.clubdesk_commands.specs.Looks.{IsAccountShown, IsMomentOf, Looks, ShowsSlot}
+use Rattle.clubdesk_commands.specs.Looks.{IsMomentOf}
 use Rattle.clubdesk_arguments.specs.Fault.{fault_of_opening}
 use Rattle.clubdesk_commands.specs.Output.{Output, Prints, WritesText}
 use Rattle.clubdesk_arguments.specs.Words.{AsksText, IsFaultOf, asked_job}
 use Rattle.clubdesk_arguments.specs.declared.clock.Clock.{Clock}
 use Rattle.clubdesk_arguments.specs.declared.fault.Fault.{Fault}
-use Rattle.clubdesk_arguments.specs.declared.fault.Fault.TheVariants.{Refused, Words, BadValue, Memory, Storage, ClockOutOfRange, InputOutput}
+use Rattle.clubdesk_arguments.specs.declared.fault.Fault.TheVariants.{Refused, Words, BadValue, Memory, Storage}
+use Rattle.clubdesk_arguments.specs.declared.fault.Fault.TheVariants.{ClockOutOfRange, InputOutput, NoAnswer, Answered}
 use Rattle.clubdesk_arguments.specs.declared.task.Service.{Service}
 use Rattle.clubdesk_arguments.specs.declared.task.Task.{Task}
-use Rattle.clubdesk_arguments.specs.declared.task.Task.TheVariants.{Order, AddKey, AddKeyByInput, RotateKey, RotateKeyByInput}
-use Rattle.clubdesk_arguments.specs.declared.task.Task.TheVariants.{Sheet, Serve, Pause, ShowAccount, ShowSlot}
+use Rattle.clubdesk_arguments.specs.declared.task.Task.TheVariants.{Serve}
 use Rattle.clubdesk_arguments.specs.declared.words.Asked.{Asked}
 use Rattle.clubdesk_arguments.specs.declared.words.Asked.TheVariants.{Perform, ShowText}
 
@@ -47,28 +47,29 @@ showing clock old shown new = ClockShows clock shown
 abbrev pub over_socket : Ends (Unit {0})
 over_socket socket outcome = Unit {0}
 
--- All connections were served, each accepted one at a moment that the clock gave; or the clock gave none at one of them. `Besides` holds
--- for their fates.
-abbrev pub ServesAll : {Clock Desk : Type 0} → GivesMoment Clock → (ℕ → AnswerRelation Desk) → Idles Desk → ℕ → Clock → Desk → Clock → Desk
+-- So many clients were served, and the orders that came before them; or the clock gave no moment at one of them. `Besides` holds for the
+-- fates of all.
+abbrev pub ServesAll : {Clock Desk : Type 0} → GivesMoment Clock → (ℕ → AnswerRelation Desk) → served.Orders Desk → ℕ → Clock → Desk → Clock → Desk
     → (List Fate → Type 0)
     → Result Unit Fault → Type 0
-ServesAll Gives Answers Idled count clock old clock' new Besides (Ok done) =
-    (fates : List Fate) × (failures : ℕ) × (length fates ≡ count) × AreServed Gives Answers Idled over_socket clock old 0 fates clock' new failures
+ServesAll Gives Answers Carries count clock old clock' new Besides (Ok done) =
+    (fates : List Fate) × (failures : ℕ) × (clients_in fates ≡ count) × AreServed Gives Answers Carries over_socket clock old 0 fates clock' new failures
     × Besides fates
-ServesAll Gives Answers Idled count clock old clock' new Besides (Err ClockOutOfRange) =
-    (failures : ℕ) × IsStopped Gives Answers Idled over_socket count clock old 0 clock' new failures Besides
-ServesAll Gives Answers Idled count clock old clock' new Besides (Err fault) = ⊥
+ServesAll Gives Answers Carries count clock old clock' new Besides (Err ClockOutOfRange) =
+    (failures : ℕ) × IsStopped Gives Answers Carries over_socket count clock old 0 clock' new failures Besides
+ServesAll Gives Answers Carries count clock old clock' new Besides (Err fault) = ⊥
 
--- connections were noted, if a log is asked for
+-- what arrived was noted, if a log is asked for
 abbrev pub IfLogged : Service → (List Fate → Type 0) → List Fate → Type 0
 IfLogged service Noted fates = service.log ≡ true → Noted fates
 
 -- How a server ends: as above, by its clock, with its log; or it couldn't listen or write its address, and served and noted nothing.
-abbrev pub RunsServer : {Desk : Type 0} → (ℕ → AnswerRelation Desk) → Idles Desk → Service → Desk → Desk → (List Fate → Type 0) → Result Unit Fault → Type 0
-RunsServer Answers Idled service old new Noted (Err Memory) = (new ≡ old) × Noted []
-RunsServer Answers Idled service old new Noted (Err InputOutput) = (new ≡ old) × Noted []
-RunsServer Answers Idled service old new Noted result =
-    ServesAll (showing service.clock) Answers Idled service.count tt old tt new (IfLogged service Noted) result
+abbrev pub RunsServer : {Desk : Type 0} → (ℕ → AnswerRelation Desk) → served.Orders Desk → Service → Desk → Desk → (List Fate → Type 0)
+    → Result Unit Fault → Type 0
+RunsServer Answers Carries service old new Noted (Err Memory) = (new ≡ old) × Noted []
+RunsServer Answers Carries service old new Noted (Err InputOutput) = (new ≡ old) × Noted []
+RunsServer Answers Carries service old new Noted result =
+    ServesAll (showing service.clock) Answers Carries service.count tt old tt new (IfLogged service Noted) result
 
 -- the line of a server that listens at a port of the loopback address
 abbrev pub listening_line : ℕ → List ℕ
@@ -100,63 +101,37 @@ Announces asked written (Ok done) = IsAnnounced asked written
 Announces asked written (Err ClockOutOfRange) = IsAnnounced asked written
 Announces asked written (Err fault) = StopsBefore asked written fault
 
--- ---- a task
-
--- What a task of the office answers, and how it changes a store, by the store's trait.
-abbrev pub Does : {S : Type 0} → (S → Type 0) → (S → Club → List Club → Type 0) → Task → Result (List ℕ) Fault → S → S → Type 0
-Does Clean Represents (Order given) answer old new = IsAnswered Represents (Clean new) old new given (λ line. line ≡ codes "done\n") answer
-Does Clean Represents (AddKey name member root form) answer old new =
-    IsAnswered Represents (Clean new) old new (order.AddKey name member root) (IsPassLine (pass_text name root form)) answer
-Does Clean Represents (RotateKey name root until form) answer old new =
-    IsAnswered Represents (Clean new) old new (order.RotateKey name root until) (IsPassLine (pass_text name root form)) answer
-Does Clean Represents (Sheet day) answer old new =
-    (Clean new → KeepsClub Represents old new) × IsSheetRead Represents (Clean new) old day (Gives answer)
-Does Clean Represents (Serve service) answer old new = ⊥
-Does Clean Represents (Pause seconds) answer old new = ⊥
-Does Clean Represents (AddKeyByInput name member form) answer old new = ⊥
-Does Clean Represents (RotateKeyByInput name until form) answer old new = ⊥
-Does Clean Represents (ShowAccount key clock) answer old new = IsAccountShown Clean Represents key clock answer old new
-Does Clean Represents (ShowSlot slot) answer old new = Looks Clean Represents old new (ShowsSlot slot) (Gives answer)
-
--- a task of the office
-abbrev pub IsOffice : Task → Type 0
-IsOffice (Serve service) = ⊥
-IsOffice (Pause seconds) = ⊥
-IsOffice (AddKeyByInput name member form) = ⊥
-IsOffice (RotateKeyByInput name until form) = ⊥
-IsOffice task = Unit {0}
-
 -- ---- a run
 
-module _ {Databases Store : Type 0} (Opens : Opening Databases Store) (Closes : Closing Databases Store) (FindsWish : Databases → List ℕ → Bool → Type 0)
-    (Clean : Store → Type 0) (Represents : Store → Club → List Club → Type 0) (Fails : Option Change → Store → StoreFault → Store → Type 0) where
-  -- A server over the file of this name, which begins with an open store of it. Each exchange is the desk's, over that store or one that was
-  -- opened again. Between two exchanges the server closes the store if another program wishes for the file. Its log notes the connections.
-  -- At the end no store is open.
-  pub record ServesFile (file : List ℕ) (service : Service) (databases : Databases) (store : Store) (new : Databases) (written : Output)
-      (Noted : List Fate → Type 0) (result : Result Unit Fault) : Type 0 where
-    pub last : Access Databases Store
-    pub serves : RunsServer (AnswersAtNeed Opens (AnswersBy Clean Represents Fails) file) (GivesWay Closes FindsWish file) service
-        (access databases (Some store)) last Noted result
-    pub announces : Announces service.port written result
-    pub ends : LetsGo Closes last (access new None)
+-- a fault of a server that was handed an order, or of handing it over
+abbrev pub IsOfServer : Fault → Type 0
+IsOfServer Memory = Unit {0}
+IsOfServer NoAnswer = Unit {0}
+IsOfServer (Answered status line) = Unit {0}
+IsOfServer fault = ⊥
 
-  -- A run with a task. It opened the database of the task's name; then it did the office's task, closed the database and wrote the
-  -- answer, or served over it, or closed it for a pause and wrote `done`. Or the database couldn't be opened, or servers couldn't be kept away for a pause, or memory
-  -- ran out before. Only a server's log notes anything.
+module _ {Databases Store Visit : Type 0} (Opens : Opening Databases Store) (Reaches : Reaching Databases Store Visit) (Closes : Closing Databases Store)
+    (Clean : Store → Type 0) (Represents : Store → Club → List Club → Type 0) (Fails : Option Change → Store → StoreFault → Store → Type 0) where
+  -- A run with a task. A server opened the database of the task's name, served clients and carried out orders at the one desk over that store,
+  -- and closed it at the end; or the database has no door. The office's task was handed to the server of the database, and its answer was
+  -- written, of which nothing is promised; or the database was opened, the task was done, the database closed and the answer written. Or the
+  -- database couldn't be opened, or memory ran out before. Only a server's log notes anything.
   pub data Performs (job : JobModel) (old new : Databases) (written : Output) (Noted : List Fate → Type 0) (result : Result Unit Fault) : Type 0 where
     out_of_memory : result ≡ Err Memory → new ≡ old → written.no_change → Noted [] → Performs job old new written Noted result
     not_opened : (fault : StoreFault) → Opens old job.file (Err fault) new → result ≡ Err (fault_of_opening fault) → written.no_change → Noted []
         → Performs job old new written Noted result
-    task_done : (answer : Result (List ℕ) Fault) (store left : Store) (between : Databases) → Opens old job.file (Ok store) between
+    not_reached : (fault : StoreFault) → Reaches old job.file (Err fault) new → result ≡ Err (fault_of_opening fault) → written.no_change → Noted []
+        → Performs job old new written Noted result
+    task_done : (answer : Result (List ℕ) Fault) (store left : Store) (between : Databases) → Reaches old job.file (Ok (Opened store)) between
         → Does Clean Represents job.task answer store left → Closes between left new → Prints answer written result → Noted []
         → Performs job old new written Noted result
-    server_done : (service : Service) (store : Store) (between : Databases) → job.task ≡ Serve service → Opens old job.file (Ok store) between
-        → ServesFile job.file service between store new written Noted result → Performs job old new written Noted result
-    pause_done : (seconds : ℕ) (store : Store) (between : Databases) → job.task ≡ Pause seconds → Opens old job.file (Ok store) between
-        → Closes between store new → WritesText (codes "done\n") written result → Noted [] → Performs job old new written Noted result
-    pause_failed : (seconds : ℕ) → job.task ≡ Pause seconds → result ≡ Err Storage → new ≡ old → written.no_change → Noted []
-        → Performs job old new written Noted result
+    handed_over : (visit : Visit) (answer : Result (List ℕ) Fault) → Reaches old job.file (Ok (Served visit)) new → IfErr answer IsOfServer
+        → Prints answer written result → Noted [] → Performs job old new written Noted result
+    server_done : (service : Service) (store left : Store) (between : Databases) → job.task ≡ Serve service → Opens old job.file (Ok store) between
+        → RunsServer (AnswersBy Clean Represents Fails) (Orders Clean Represents) service store left Noted result → Announces service.port written result
+        → Closes between left new → Performs job old new written Noted result
+    no_door : (service : Service) (store : Store) (between : Databases) → job.task ≡ Serve service → Opens old job.file (Ok store) between
+        → Closes between store new → result ≡ Err Storage → written.no_change → Noted [] → Performs job old new written Noted result
 
   -- The same of a task that may await a root of the input: it was read before the database was opened; or it is no root, or couldn't be
   -- read, and nothing was done; or memory was refused before.
@@ -183,6 +158,8 @@ AnswersWords words (Err Memory) = Unit {0}
 AnswersWords words (Err InputOutput) = IsSome (asked_job words) ⊎ AsksText words
 AnswersWords words (Err (Refused fault)) = IsSome (asked_job words)
 AnswersWords words (Err Storage) = IsSome (asked_job words)
+AnswersWords words (Err NoAnswer) = IsSome (asked_job words)
+AnswersWords words (Err (Answered status line)) = IsSome (asked_job words)
 AnswersWords words (Err ClockOutOfRange) = IsSome (asked_job words)
 
 -- a fault after which nothing was written

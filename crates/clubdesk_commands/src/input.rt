@@ -48,6 +48,44 @@ pub(crate) fn with_root<'a, R: Read>(reader: &mut R, job: Job<'a>) -> Result<Job
             }
             Err(fault) => Err(fault),
         },
+        other => Ok(Job { file, task: other }),
+    }
+}
+
+/// The task with the root that a text spells, if it awaits one.
+///
+/// # Errors
+///
+/// `BadValue` if it awaits one, and the text spells none.
+pub(crate) fn with_root_of<'a>(text: &[u8], job: Job<'a>) -> Result<Job<'a>, Fault>
+    ensures { spec.TakesRootOf text.now job.entry result }
+{
+    let Job { file, task } = job;
+    match task {
+        Task::AddKeyByInput { name, member, form } => match root_in(text) {
+            Some(root) => {
+                let task = Task::AddKey {
+                    name,
+                    member,
+                    root,
+                    form,
+                };
+                Ok(Job { file, task })
+            }
+            None => Err(Fault::BadValue),
+        },
+        Task::RotateKeyByInput { name, until, form } => match root_in(text) {
+            Some(root) => {
+                let task = Task::RotateKey {
+                    name,
+                    root,
+                    until,
+                    form,
+                };
+                Ok(Job { file, task })
+            }
+            None => Err(Fault::BadValue),
+        },
         task => Ok(Job { file, task }),
     }
 }

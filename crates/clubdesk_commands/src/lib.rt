@@ -1,17 +1,18 @@
-//! The commands of `clubdesk`: what its arguments ask for, done at a database.
+//! The commands of `clubdesk`: what its arguments ask for, done at a database, or by the server
+//! that has it open.
 #![tactic(auto)]
 
-mod at_need;
 mod input;
 mod looks;
 mod office;
+mod office_desk;
+mod order;
 mod program;
 mod server;
-mod turns;
 
-pub use at_need::{DeskAtNeed, close_open};
 pub use looks::{show_account, show_slot};
 pub use office::{give_order, order_pass, show_sheet};
+pub use office_desk::OfficeDesk;
+pub use order::{Order, order_bytes, read_order};
 pub use program::{run, run_with_clock};
-pub use server::{AddressKeeper, serve};
-pub use turns::{pause, serve_file};
+pub use server::{serve, serve_file};

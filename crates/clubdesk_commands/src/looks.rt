@@ -2,7 +2,7 @@
 
 ghost use Rattle.club_core.specs.Store.{KeepsClub};
 ghost use Rattle.clubdesk_commands.specs.Looks as spec;
-ghost use Rattle.clubdesk_commands.specs.Office.{Gives};
+ghost use Rattle.clubdesk_commands.specs.Office.{GivesText};
 ghost use Rattle.clubdesk_commands.specs.Output.{text_of};
 
 use crate::office::fault_of_desk;
@@ -42,7 +42,7 @@ pub fn show_account<S: ClubStore, C: time::Clock>(
 /// unchanged.
 pub fn show_slot<S: ClubStore>(desk: &mut Desk<S>, slot: &Slot) -> Result<String, Fault>
     ensures { spec.Looks S.disk_is_clean S.represents desk.old desk.new (spec.ShowsSlot slot.now)
-        (Gives (text_of result)) }
+        (GivesText (text_of result)) }
 {
     match desk.show_slot(slot) {
         Ok(text) => Ok(text),
@@ -57,7 +57,7 @@ fn show_account_at<S: ClubStore>(
     moment: Moment,
 ) -> Result<String, Fault>
     ensures { spec.Looks S.disk_is_clean S.represents desk.old desk.new
-        (spec.ShowsAccount key.now moment) (Gives (text_of result)) }
+        (spec.ShowsAccount key.now moment) (GivesText (text_of result)) }
 {
     match desk.show_account(key, moment) {
         Ok(text) => Ok(text),

@@ -71,7 +71,7 @@ pub fn order_pass<S: ClubStore>(
 pub fn show_sheet<S: ClubStore>(desk: &mut Desk<S>, day: Day) -> Result<String, Fault>
     ensures kept { S.disk_is_clean desk.new → KeepsClub S.represents desk.old desk.new }
     ensures returned { spec.IsSheetRead S.represents (S.disk_is_clean desk.new) desk.old day
-        (spec.Gives (text_of result)) }
+        (spec.GivesText (text_of result)) }
 {
     match desk.sheet(day) {
         Ok(text) => Ok(text),

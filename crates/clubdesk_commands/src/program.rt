@@ -1,7 +1,8 @@
 //! A run of the program, over words, a reader and writers.
 
-ghost use Rattle.std.specs.Prelude.{◌≡◌, IfErr, false, [], map};
+ghost use Rattle.std.specs.Prelude.{◌≡◌, ◌↔◌, IfErr, IsTrue, false, [], map};
 ghost use Rattle.clubdesk_commands.specs.ByTraits.{PerformsOver, Runs, log_change};
+ghost use Rattle.clubdesk_commands.specs.Does.{Does, IsOffice};
 ghost use Rattle.clubdesk_commands.specs.Input.{awaits_root};
 ghost use Rattle.clubdesk_commands.specs.Output.{Prints, input, output, text_of};
 ghost use Rattle.clubdesk_commands.specs.Run as spec;
@@ -10,24 +11,26 @@ ghost use Rattle.clubdesk_arguments.specs.Words.{asked_job};
 use crate::input::with_root;
 use crate::looks::{show_account, show_slot};
 use crate::office::{give_order, order_pass, show_sheet, written};
-use crate::turns::{pause, serve_file};
+use crate::order::order_bytes;
+use crate::server::serve_file;
 use club_core::{ClubStore, Command};
 use club_gate::Desk;
 use clubdesk_arguments::{Asked, Fault, Job, Task, command_of};
-use desk_server::{Databases, Log};
-use std::alloc::Global;
+use command_line::flush;
+use desk_server::{Databases, Log, Reached, Visit};
+use std::alloc::{AllocError, Global};
 use std::convert::AsStr;
 use std::io::{Read, Write};
 use std::time::Clock;
 
 /// Runs the program on its words, of which the first is its name.
 ///
-/// The words are checked before a database is opened; it is opened once, and closed at the end.
-/// Only a server opens it more than once: it closes it where another program wishes for it, and
-/// opens it again where a request needs it. Only a root is read, which `--root-stdin` asks for: in
-/// hexadecimal, one line feed at its end taken off, behind the words and before the database is
-/// opened. Help and the version are written as `clap` makes them. Only `serve` with `--log` notes
-/// each connection in the log.
+/// The words are checked before a database is reached. A server opens it once, and closes it at its
+/// end; meanwhile other runs hand their orders to it. Without a server a run opens it once, and
+/// closes it before it writes. Only a root is read, which `--root-stdin` asks for: in hexadecimal,
+/// one line feed at its end taken off, after the words and before the database is reached. Help and
+/// the version are written as `clap` makes them. Only `serve` with `--log` notes each client and
+/// each order in the log.
 ///
 /// # Errors
 ///
@@ -76,16 +79,17 @@ pub fn run_with_clock<C: Clock, D: Databases, S: AsStr, R: Read, W: Write, G: Lo
         (output W.contents writer.old writer.new) (log_change G.Log log.old log.new) result }
 {
     match command_of(rt.alloc(), words) {
-        Ok(asked) => answer(rt, machine, databases, asked, reader, writer, log),
+        Ok(asked) => answer(rt, machine, databases, words, asked, reader, writer, log),
         Err(fault) => Err(fault),
     }
 }
 
 // Shows a text, or does what is asked for.
-fn answer<C: Clock, D: Databases, R: Read, W: Write, G: Log>(
+fn answer<C: Clock, D: Databases, S: AsStr, R: Read, W: Write, G: Log>(
     rt: &HostRuntime,
     machine: &C,
     databases: &mut D,
+    words: &[S],
     asked: Asked<'_>,
     reader: &mut R,
     writer: &mut W,
@@ -99,17 +103,18 @@ fn answer<C: Clock, D: Databases, R: Read, W: Write, G: Log>(
     match asked {
         Asked::ShowText(text) => show(&text, writer),
         Asked::Perform(job) => match with_root(reader, job) {
-            Ok(job) => perform(rt, machine, databases, job, writer, log),
+            Ok(job) => perform(rt, machine, databases, words, job, writer, log),
             Err(fault) => Err(fault),
         },
     }
 }
 
 // Does a task at the database.
-fn perform<C: Clock, D: Databases, W: Write, G: Log>(
+fn perform<C: Clock, D: Databases, S: AsStr, W: Write, G: Log>(
     rt: &HostRuntime,
     machine: &C,
     databases: &mut D,
+    words: &[S],
     job: Job<'_>,
     writer: &mut W,
     log: &mut G,
@@ -125,34 +130,81 @@ fn perform<C: Clock, D: Databases, W: Write, G: Log>(
     let Job { file, task } = job;
     match task {
         Task::Serve(service) => serve_file(rt, machine, databases, file, service, writer, log),
-        Task::Pause(seconds) => pause(databases, file, seconds, writer),
-        task => work(rt.alloc(), machine, databases, file, task, writer),
+        task => work(rt.alloc(), machine, databases, words, file, task, writer),
     }
 }
 
-// Opens the database, does a task of the office at it, and closes it. Only then it writes the
-// answer, so that a writer that waits doesn't keep the database.
-fn work<C: Clock, D: Databases, W: Write>(
+// Does a task of the office: by the server that has the database open, or at the database itself.
+// That is closed before the answer is written, so that a writer that waits doesn't keep it.
+fn work<C: Clock, D: Databases, S: AsStr, W: Write>(
     alloc: Global,
     machine: &C,
     databases: &mut D,
+    words: &[S],
     file: &str,
     task: Task<'_>,
     writer: &mut W,
 ) -> Result<(), Fault>
-    requires { spec.IsOffice task }
+    requires { IsOffice task }
     ensures { PerformsOver D.Databases D.Store.ClubStore
         (record { file = file.now; task = task.entry }) databases.old databases.new
         (output W.contents writer.old writer.new) (λ fates. fates ≡ []) result }
 {
-    match databases.open(file) {
-        Ok(store) => {
+    match databases.reach(file) {
+        Ok(Reached::Opened(store)) => {
             let mut desk = Desk::new(alloc, store);
             let answer = carry_out(alloc, machine, &mut desk, task);
             databases.close(desk.into_store());
             print(answer, writer)
         }
+        Ok(Reached::Served(visit)) => print(hand_over(alloc, visit, words, &task), writer),
         Err(fault) => Err(Fault::from(fault)),
+    }
+}
+
+// Hands an order to a server, and returns its answer.
+fn hand_over<V: Visit + Drop, S: AsStr>(
+    alloc: Global,
+    visit: V,
+    words: &[S],
+    task: &Task<'_>,
+) -> Result<String, Fault>
+    ensures { IfErr (text_of result) spec.IsOfServer }
+{
+    let order = match root_text(alloc, task) {
+        Ok(root) => order_bytes(alloc, root.as_str(), words),
+        Err(fault) => Err(fault),
+    };
+    let order = match order {
+        Ok(order) => order,
+        Err(_) => return Err(Fault::Memory),
+    };
+    match visit.give(order.as_slice()) {
+        Some((0, text)) => Ok(text),
+        Some((status, line)) => Err(Fault::Answered { status, line }),
+        None => Err(Fault::NoAnswer),
+    }
+}
+
+// The root of a task in hexadecimal, for a server that is handed words without it; empty if the
+// task has none. Words that have a root are read before this.
+fn root_text(alloc: Global, task: &Task<'_>) -> Result<String, AllocError> {
+    match task {
+        Task::AddKey { root, .. } | Task::RotateKey { root, .. } => hex::encode(
+            alloc,
+            root.as_bytes(),
+        ),
+        _ => Ok(String::new(alloc)),
+    }
+}
+
+// Whether a task is the office's, with its root.
+pub(crate) fn is_office(task: &Task<'_>) -> bool
+    ensures { IsTrue result ↔ IsOffice task.now }
+{
+    match task {
+        Task::Serve(_) | Task::AddKeyByInput { .. } | Task::RotateKeyByInput { .. } => false,
+        _ => true,
     }
 }
 
@@ -167,14 +219,14 @@ fn print<W: Write>(answer: Result<String, Fault>, writer: &mut W) -> Result<(), 
 }
 
 // Does a task of the office at a desk, and returns the answer.
-fn carry_out<C: Clock, S: ClubStore>(
+pub(crate) fn carry_out<C: Clock, S: ClubStore>(
     alloc: Global,
     machine: &C,
     desk: &mut Desk<S>,
     task: Task<'_>,
 ) -> Result<String, Fault>
-    requires { spec.IsOffice task }
-    ensures { spec.Does S.disk_is_clean S.represents task.entry (text_of result)
+    requires { IsOffice task }
+    ensures { Does S.disk_is_clean S.represents task.entry (text_of result)
         desk.old desk.new }
 {
     match task {
@@ -200,10 +252,9 @@ fn carry_out<C: Clock, S: ClubStore>(
         Task::Sheet(day) => show_sheet(desk, day),
         Task::ShowAccount { key, clock } => show_account(machine, desk, &key, clock),
         Task::ShowSlot(slot) => show_slot(desk, &slot),
-        Task::Serve(_)
-        | Task::Pause(_)
-        | Task::AddKeyByInput { .. }
-        | Task::RotateKeyByInput { .. } => unreachable!(),
+        Task::Serve(_) | Task::AddKeyByInput { .. } | Task::RotateKeyByInput { .. } => {
+            unreachable!()
+        }
     }
 }
 
@@ -212,6 +263,6 @@ fn show<W: Write>(text: &clap::Error, writer: &mut W) -> Result<(), Fault>
     ensures { IfErr result (λ fault. fault ≡ Fault.InputOutput) }
 {
     write!(writer, "{text}")?;
-    writer.flush()?;
+    flush(writer)?;
     Ok(())
 }

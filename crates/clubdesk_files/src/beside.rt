@@ -1,54 +1,101 @@
-//! Small files beside a database.
+//! The files beside a database.
 
 use std::alloc::AllocError;
-use std::fs;
 use std::fs::{File, OpenOptions};
-use std::os::unix::fs::{MetadataExt, OpenOptionsExt};
+use std::io::ErrorKind;
+use std::os::fd::AsRawFd;
+use std::os::unix::fs::{FileTypeExt, OpenOptionsExt};
+use std::path::Path;
+use std::{fs, io};
 
 /// The mode of new files: their owner may read and write them, and nobody else.
-const OWNERS_MODE: u32 = 0o600;
+pub(crate) const OWNERS_MODE: u32 = 0o600;
 
 /// The name of a database in memory, which has no files.
-const IN_MEMORY: &str = ":memory:";
+pub(crate) const IN_MEMORY: &str = ":memory:";
 
-/// The path beside a database.
-pub fn path_beside(rt: &HostRuntime, name: &str, ending: &str) -> Result<String, AllocError> {
-    format!(in rt.alloc(); "{name}-{ending}")
+/// The folder in which a program runs.
+const HERE: &str = ".";
+
+/// The ending of the door's name, after the database's name.
+const OFFICE: &str = "office";
+
+/// The endings of files that an older version left beside a database.
+const OLD: [&str; 3] = ["wanted", "serving", "paused"];
+
+/// The folder of a database, opened, and the database's name in it. Links on the way are resolved.
+/// A path by the folder's descriptor is short enough for a socket's address, however long the
+/// folder's own is.
+#[derive(Drop)]
+pub(crate) struct Place {
+    folder: File,
+    name: String,
 }
 
-/// Creates an empty file for its owner alone, and opens it; `None` if the name is taken or that
-/// fails.
-pub fn make_private(rt: &HostRuntime, path: &str) -> Option<File> {
-    if path == IN_MEMORY {
-        return None;
+impl Place {
+    /// The place of the database of this path. Where the file is gone, but not its folder, it is
+    /// that of its name in the folder: a server that has it open goes on.
+    pub fn find(rt: &HostRuntime, file: &str) -> io::Result<Place> {
+        match fs::canonicalize(rt, file) {
+            Ok(whole) => Place::of(rt, whole.as_path()),
+            Err(error) if error.kind() == ErrorKind::NotFound => Place::of(rt, Path::new(file)),
+            Err(error) => Err(error),
+        }
     }
-    let mut options = OpenOptions::new();
-    options
-        .read(true)
-        .write(true)
-        .create_new(true)
-        .mode(OWNERS_MODE);
-    options.open(rt, path).ok()
-}
 
-/// Opens the file of this name; `None` if it is missing, or can't be read and written.
-pub fn open_there(rt: &HostRuntime, path: &str) -> Option<File> {
-    let mut options = OpenOptions::new();
-    options.read(true).write(true);
-    options.open(rt, path).ok()
-}
+    fn of(rt: &HostRuntime, file: Path<'_>) -> io::Result<Place> {
+        let Some(name) = file.file_name() else {
+            return Err(io::Error::from(ErrorKind::InvalidInput));
+        };
+        let name = format!(in rt.alloc(); "{name}")?;
+        let folder = match file.parent() {
+            Some(folder) if !folder.as_str().is_empty() => folder,
+            _ => Path::new(HERE),
+        };
+        let folder = File::open(rt, folder)?;
+        Ok(Place { folder, name })
+    }
 
-/// Whether an open file is a regular one that still has a name.
-pub fn has_name(file: &File) -> bool {
-    match file.metadata() {
-        Ok(found) => found.is_file() && found.nlink() > 0,
-        Err(_) => false,
+    /// The path of the door.
+    pub fn door(&self, rt: &HostRuntime) -> Result<String, AllocError> {
+        self.beside(rt, OFFICE)
+    }
+
+    fn beside(&self, rt: &HostRuntime, ending: &str) -> Result<String, AllocError> {
+        let descriptor = self.folder.as_raw_fd();
+        let name = self.name.as_str();
+        format!(in rt.alloc(); "/proc/self/fd/{descriptor}/{name}-{ending}")
+    }
+
+    /// Removes the small files that an older version left.
+    pub fn remove_old(&self, rt: &HostRuntime) {
+        for ending in &OLD {
+            if let Ok(path) = self.beside(rt, ending) {
+                let _ = fs::remove_file(rt, path.as_str());
+            }
+        }
     }
 }
 
-/// Removes the name of an open file, if it still has one.
-pub fn remove_name(rt: &HostRuntime, path: &str, file: &File) {
-    if has_name(file) {
-        let _ = fs::remove_file(rt, path);
+/// Removes the socket at a path, if one is there.
+///
+/// # Errors
+///
+/// Something else is there, or it can't be removed.
+pub(crate) fn remove_socket(rt: &HostRuntime, path: &str) -> io::Result<()> {
+    match fs::symlink_metadata(rt, path) {
+        Ok(found) if found.file_type().is_socket() => fs::remove_file(rt, path),
+        Ok(_) => Err(io::Error::from(ErrorKind::AlreadyExists)),
+        Err(error) if error.kind() == ErrorKind::NotFound => Ok(()),
+        Err(error) => Err(error),
+    }
+}
+
+/// Creates an empty file for its owner alone, if nothing has its name.
+pub(crate) fn make_private(rt: &HostRuntime, file: &str) {
+    if file != IN_MEMORY {
+        let mut options = OpenOptions::new();
+        options.write(true).create_new(true).mode(OWNERS_MODE);
+        let _made = options.open(rt, file);
     }
 }

@@ -1,18 +1,18 @@
-//! Databases in files. Programs take turns at a file: one that finds it held leaves a wish beside
-//! it, wakes the server that has it, and tries again.
+//! Databases in files. One program has a file open at a time. A server has a door beside its file,
+//! by which the office's commands hand it their orders; without a server they open the file
+//! themselves.
 #![tactic(auto)]
 
-mod address;
 mod attempts;
 mod beside;
+mod door;
 mod files;
 mod openings;
 mod user;
-mod wish;
+mod visit;
 
-pub use address::{Address, wake};
 pub use attempts::{Attempts, gain};
+pub use door::FileDoor;
 pub use files::Files;
-pub use openings::Pause;
 pub use user::{DatabasesUser, run_over_files};
-pub use wish::{Mark, is_paused, is_wished};
+pub use visit::FileVisit;

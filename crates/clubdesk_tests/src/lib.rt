@@ -8,11 +8,15 @@ mod callers;
 #[cfg(test)]
 mod clubs;
 #[cfg(test)]
+mod door;
+#[cfg(test)]
 mod ends;
 #[cfg(test)]
 mod expect;
 #[cfg(test)]
 mod files;
+#[cfg(test)]
+mod handed_over;
 #[cfg(test)]
 mod input;
 #[cfg(test)]
@@ -21,8 +25,6 @@ mod looks;
 mod memory;
 #[cfg(test)]
 mod orders;
-#[cfg(test)]
-mod others;
 #[cfg(test)]
 mod ports;
 #[cfg(test)]
@@ -33,5 +35,3 @@ mod served;
 mod servers;
 #[cfg(test)]
 mod terminal;
-#[cfg(test)]
-mod turns;

@@ -1,63 +1,99 @@
 //! A database in memory, and runs of the program over it.
 
 use crate::callers::{Caller, Machine};
-use crate::others::{NOBODY, Others, OthersScript};
 use crate::runs::{Output, ROOM, Row, Run, expect_output, words_of};
 use crate::terminal::{Input, NO_INPUT};
 use club_core::{ClubStore, StoreFault};
 use club_http::WriteOutlet;
 use club_store::Store;
 use clubdesk_commands::{run, run_with_clock};
-use desk_server::{Databases, LogLines, Unlogged};
+use desk_server::{Databases, Door, LogLines, Reached, Unlogged, Visit};
 use std::alloc::AllocError;
 use std::cell::Cell;
 use std::io::{self, Write};
+use std::os::unix::net::UnixListener;
 use std::test::Fail;
 
 /// The name of the database.
 pub const NAME: &str = "club";
 
+/// What a server answers to an order: the status and the text, or nothing.
+pub type ServerAnswer<'a> = Option<(u8, &'a str)>;
+
+/// No door.
+#[derive(Drop)]
+pub struct NoDoor;
+
+impl Door for NoDoor {
+    fn listener(&self) -> Option<&UnixListener> {
+        None
+    }
+}
+
+/// A server that has greeted, and gives one answer to each order.
+#[derive(Drop)]
+pub struct Greeted<'a> {
+    rt: &'a HostRuntime,
+    answer: ServerAnswer<'a>,
+    handed: &'a Cell<usize>,
+}
+
+impl Visit for Greeted<'_> {
+    fn give(self, order: &[u8]) -> Option<(u8, String)> {
+        self.handed.set(order.len());
+        let (status, text) = self.answer?;
+        Some((status, format!(in self.rt.alloc(); "{text}").ok()?))
+    }
+}
+
 /// One database, which stays from one opening to the next; there is none of another name. Its
-/// opening may fail.
+/// opening may fail, and a server may have it.
 #[derive(Drop)]
 struct InMemory<'a, S: ClubStore + Drop> {
+    rt: &'a HostRuntime,
     store: Option<S>,
     fault: Option<StoreFault>,
+    server: Option<ServerAnswer<'a>>,
     opened: u64,
     closed: &'a Cell<u64>,
-    others: Others<'a>,
+    handed: &'a Cell<usize>,
 }
 
 impl<'a, S: ClubStore + Drop> InMemory<'a, S> {
-    // A database that nobody opened yet, and where its closings are counted.
+    // A database that nobody opened yet, and where its closings and the bytes handed over are
+    // counted.
     fn new(
+        rt: &'a HostRuntime,
         store: S,
         fault: Option<StoreFault>,
-        script: OthersScript<'a>,
+        server: Option<ServerAnswer<'a>>,
         closed: &'a Cell<u64>,
+        handed: &'a Cell<usize>,
     ) -> InMemory<'a, S> {
         InMemory {
+            rt,
             store: Some(store),
             fault,
+            server,
             opened: 0,
             closed,
-            others: Others::new(script),
+            handed,
         }
     }
 }
 
-impl<S: ClubStore + Drop> Databases for InMemory<'_, S> {
+impl<'a, S: ClubStore + Drop> Databases for InMemory<'a, S> {
     type Store = S;
 
-    type Pause = ();
+    type Door = NoDoor;
 
-    type Address = ();
+    type Visit = Greeted<'a>;
 
     ghost opens = { λ _ _ _ _. Unit {0} };
 
-    ghost closes = { λ _ _ _. Unit {0} };
+    ghost reaches = { λ _ _ _ _. Unit {0} };
 
-    ghost finds_wish = { λ _ _ _. Unit {0} };
+    ghost closes = { λ _ _ _. Unit {0} };
 
     // Nobody opens it while it is open.
     fn open(&mut self, name: &str) -> Result<S, StoreFault> {
@@ -71,13 +107,17 @@ impl<S: ClubStore + Drop> Databases for InMemory<'_, S> {
         }
     }
 
-    fn reopen(&mut self, name: &str) -> Result<S, StoreFault> {
-        match self.others.fault_of_reopening() {
-            Some(fault) => {
-                self.opened = self.opened.saturating_add(1);
-                Err(fault)
-            }
-            None => self.open(name),
+    fn reach(&mut self, name: &str) -> Result<Reached<S, Greeted<'a>>, StoreFault> {
+        match self.server {
+            Some(answer) => Ok(Reached::Served(Greeted {
+                rt: self.rt,
+                answer,
+                handed: self.handed,
+            })),
+            None => match self.open(name) {
+                Ok(store) => Ok(Reached::Opened(store)),
+                Err(fault) => Err(fault),
+            },
         }
     }
 
@@ -86,22 +126,8 @@ impl<S: ClubStore + Drop> Databases for InMemory<'_, S> {
         self.store = Some(store);
     }
 
-    fn is_wanted(&self, name: &str) -> bool {
-        name == NAME && self.others.look()
-    }
-
-    fn pause(&self, _name: &str) -> Option<()> {
-        if self.others.script.refuse_pauses {
-            None
-        } else {
-            Some(())
-        }
-    }
-
-    fn keep_address(&self, _name: &str, _port: u16) {}
-
-    fn wait(&self, seconds: u32) {
-        self.others.wait(seconds);
+    fn make_door(&self, name: &str) -> Option<NoDoor> {
+        if name == NAME { Some(NoDoor) } else { None }
     }
 }
 
@@ -110,8 +136,8 @@ impl<S: ClubStore + Drop> Databases for InMemory<'_, S> {
 pub struct Scene<'a> {
     /// The fault of each opening.
     pub fault: Option<StoreFault>,
-    /// What other programs do during the run.
-    pub script: OthersScript<'a>,
+    /// The answer of the server that has the database, if one has.
+    pub server: Option<ServerAnswer<'a>>,
     /// The orders before the run, each of which ends as its row expects.
     pub orders: &'a [Row<'a>],
     /// The clock of the machine, as `Machine` has it: its second and its microseconds.
@@ -129,7 +155,7 @@ impl<'a> Scene<'a> {
     pub fn after(orders: &'a [Row<'a>]) -> Scene<'a> {
         Scene {
             fault: None,
-            script: NOBODY,
+            server: None,
             orders,
             second: Some(0),
             later: 0,
@@ -140,15 +166,14 @@ impl<'a> Scene<'a> {
     }
 }
 
-/// How a run ended; and how often its database was opened and closed, how many looks for wishes
-/// there were, and how many seconds were waited, before and after the run too.
+/// How a run ended; and how often its database was opened and closed, before and after the run too,
+/// and how many bytes of an order were handed over last.
 #[derive(Drop)]
 pub struct SceneOutcome {
     pub output: Output,
     opened: u64,
     closed: u64,
-    pub looks: usize,
-    pub waited: u64,
+    pub handed: usize,
 }
 
 // Runs the program over the database.
@@ -232,14 +257,14 @@ fn play_over<S: ClubStore + Drop>(
     line: &str,
 ) -> Result<SceneOutcome, Fail> {
     let closed = Cell::new(0);
-    let mut databases = InMemory::new(store, scene.fault, scene.script, &closed);
+    let handed = Cell::new(0);
+    let mut databases = InMemory::new(rt, store, scene.fault, scene.server, &closed, &handed);
     let output = run_scene(rt, &mut databases, scene, line)?;
     Ok(SceneOutcome {
         output,
         opened: databases.opened,
         closed: closed.get(),
-        looks: databases.others.looks(),
-        waited: databases.others.seconds_waited(),
+        handed: handed.get(),
     })
 }
 
@@ -339,7 +364,8 @@ fn watch_over<S: ClubStore + Drop>(
     store: S,
     line: &str,
 ) -> Result<Option<u64>, Fail> {
-    let mut databases = InMemory::new(store, None, NOBODY, closed);
+    let handed = Cell::new(0);
+    let mut databases = InMemory::new(rt, store, None, None, closed, &handed);
     let mut writer = Watching {
         closed,
         found: None,

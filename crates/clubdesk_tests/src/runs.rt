@@ -3,11 +3,12 @@
 use crate::callers::Caller;
 use crate::served::serve_and_drop;
 use crate::terminal::{Input, NO_INPUT};
+use club_core::StoreFault;
 use club_http::WriteOutlet;
 use clubdesk_arguments::Fault;
 use clubdesk_commands::run;
-use clubdesk_files::Files;
-use desk_server::{Databases, LogLines};
+use clubdesk_files::{DatabasesUser, run_over_files};
+use desk_server::{Databases, LogLines, Reached};
 use std::alloc::AllocError;
 use std::net::TcpListener;
 use std::test::Fail;
@@ -172,16 +173,77 @@ fn work_over<D: Databases>(
     }
 }
 
-/// Does this over databases in files. It is the one function here that names their types: the proof
-/// of each takes a minute.
-pub fn do_work(rt: &HostRuntime, work: Work<'_>) -> Result<RunOutcome, Fail> {
-    let mut files = Files::new(rt);
-    let output = work_over(rt, &mut files, work)?;
-    Ok(RunOutcome {
-        output,
-        opened: files.tried,
-        closed: files.closed,
-    })
+/// Databases whose openings and closings are counted.
+#[derive(Drop)]
+struct Counted<'d, D> {
+    databases: &'d mut D,
+    opened: u64,
+    closed: u64,
+}
+
+impl<D: Databases> Databases for Counted<'_, D> {
+    type Store = D::Store;
+
+    type Door = D::Door;
+
+    type Visit = D::Visit;
+
+    ghost opens = { λ _ _ _ _. Unit {0} };
+
+    ghost reaches = { λ _ _ _ _. Unit {0} };
+
+    ghost closes = { λ _ _ _. Unit {0} };
+
+    fn open(&mut self, name: &str) -> Result<D::Store, StoreFault> {
+        self.opened = self.opened.saturating_add(1);
+        self.databases.open(name)
+    }
+
+    fn reach(&mut self, name: &str) -> Result<Reached<D::Store, D::Visit>, StoreFault> {
+        self.opened = self.opened.saturating_add(1);
+        self.databases.reach(name)
+    }
+
+    fn close(&mut self, store: D::Store) {
+        self.closed = self.closed.saturating_add(1);
+        self.databases.close(store);
+    }
+
+    fn make_door(&self, name: &str) -> Option<D::Door> {
+        self.databases.make_door(name)
+    }
+}
+
+/// What is done, over whichever databases.
+#[derive(Drop)]
+struct Worker<'x> {
+    rt: &'x HostRuntime,
+    work: Work<'x>,
+}
+
+impl DatabasesUser for Worker<'_> {
+    type Outcome = Result<RunOutcome, Fail>;
+
+    ghost outcomes = { λ _ _. Unit {0} };
+
+    fn run_over<D: Databases>(self, databases: &mut D) -> Result<RunOutcome, Fail> {
+        let mut counted = Counted {
+            databases,
+            opened: 0,
+            closed: 0,
+        };
+        let output = work_over(self.rt, &mut counted, self.work)?;
+        Ok(RunOutcome {
+            output,
+            opened: counted.opened,
+            closed: counted.closed,
+        })
+    }
+}
+
+/// Does this over databases in files.
+pub fn do_work<'x>(rt: &'x HostRuntime, work: Work<'x>) -> Result<RunOutcome, Fail> {
+    run_over_files(rt, Worker { rt, work })
 }
 
 /// Runs the program on a line of words over databases in files, to a writer with this much room.

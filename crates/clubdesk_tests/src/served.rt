@@ -3,8 +3,9 @@
 use crate::runs::{Run, Work, do_work};
 use club_clock::Fixed;
 use club_core::ClubStore;
-use club_http::{Desk, Face};
+use club_http::Face;
 use club_values::Moment;
+use clubdesk_commands::OfficeDesk;
 use desk_server::{Databases, Listening, serve_on};
 use std::io::{Read, Write};
 use std::net::{TcpListener, TcpStream};
@@ -19,15 +20,22 @@ fn client_of(rt: &HostRuntime, listener: &TcpListener, request: &str) -> Result<
 }
 
 // Serves one request at noon of 2026-04-20.
-fn serve_at<S: ClubStore>(
-    rt: &HostRuntime,
-    listener: &TcpListener,
-    desk: &mut Desk<S>,
+fn serve_at<'x, S: ClubStore + Drop>(
+    rt: &'x HostRuntime,
+    listener: &'x TcpListener,
+    store: S,
 ) -> Result<(), Fail> {
     let mut face = Face::new(rt.alloc())?;
     let moment = Moment::read(b"2026-04-20T12:00").ok_or("moment")?;
-    let mut connections = Listening::new(listener, rt, Duration::from_secs(10));
-    serve_on(&mut connections, 1, &mut Fixed { moment }, &mut face, desk)?;
+    let mut desk = OfficeDesk::new(rt.alloc(), rt, store);
+    let mut arrivals = Listening::new(listener, None, rt, Duration::from_secs(10));
+    serve_on(
+        &mut arrivals,
+        1,
+        &mut Fixed { moment },
+        &mut face,
+        &mut desk,
+    )?;
     Ok(())
 }
 
@@ -38,8 +46,7 @@ pub fn serve_and_drop<D: Databases>(
     path: &str,
     listener: &TcpListener,
 ) -> Result<(), Fail> {
-    let mut desk = Desk::new(rt.alloc(), databases.open(path)?);
-    serve_at(rt, listener, &mut desk)
+    serve_at(rt, listener, databases.open(path)?)
 }
 
 // Serves a client that waits, over the database in a file, and drops that.

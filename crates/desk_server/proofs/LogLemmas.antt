@@ -6,7 +6,7 @@ use Rattle.desk_server.specs.Log as log
 use Rattle.desk_server.specs.Served.{AreNoted, IsNoted, Notes}
 use Rattle.desk_server.specs.Served as served
 use Rattle.desk_server.specs.declared.log.Fate.{Fate}
-use Rattle.desk_server.specs.declared.log.Fate.TheVariants.{Absent, Unanswered, Exchanged}
+use Rattle.desk_server.specs.declared.log.Fate.TheVariants.{Absent, Overrun, Unanswered, Exchanged, Ordered}
 
 -- a log that writes a line for each note
 module _ {Log : Type 0} (Begins : Log → Log → Type 0) (Noted : Notes Log) (taken : Log → Option (List ℕ)) (failures : Log → ℕ)
@@ -22,6 +22,8 @@ module _ {Log : Type 0} (Begins : Log → Log → Type 0) (Noted : Notes Log) (t
 
   line_of : (old : Log) (fate : Fate) (new : Log) → IsNoted Begins Noted old fate new → Line old fate new
   line_of old Absent new noted = writes old Absent new noted
+  line_of old Overrun new noted = writes old Overrun new noted
+  line_of old (Ordered moment carried) new (begun, begins, noted) = line_behind old begun (Ordered moment carried) new begins noted
   line_of old Unanswered new (begun, begins, noted) = line_behind old begun Unanswered new begins noted
   line_of old (Exchanged moment line outcome) new (begun, begins, noted) = line_behind old begun (Exchanged moment line outcome) new begins noted
 

@@ -1,54 +1,166 @@
--- Lemmas on the steps of a server.
-use Rattle.std.proofs.Common.{◌≡◌, ℕ, ◌+◌, List, [], ◌∷◌, ◌++◌, length, arith, add-one, length-append, refl}
-use Rattle.club_http.specs.Ends.{one_more}
-use Rattle.club_http.specs.Replied.{AnswerRelation}
-use Rattle.desk_server.specs.Served.{AreServed, CountsOn, Ends, HasAnswered, Idles, IsExchanged, ServesOne, failures_after}
+-- Lists of arrivals, one after the other.
+use Rattle.std.proofs.Common.{◌≡◌, ℕ, ◌+◌, List, [], ◌∷◌, ◌++◌, ◌≤◌, length, arith, length-append, append_assoc, append-nil, refl, Ok, Err}
+use Rattle.std.specs.Prelude.{None, OnErr, OnOk, Option, Result}
 use Rattle.club_clock.specs.Moments.{GivesMoment}
+use Rattle.club_http.specs.Replied.{AnswerRelation}
+use Rattle.desk_server.specs.Served.{AreNoted, AreServed, CountsOn, Ends, IsNoted, Notes, Orders, Serves, ServesOne, clients_in}
 use Rattle.desk_server.specs.Served as spec
+use Rattle.desk_server.specs.Server.{IsOrdered, IsServed, ServesSome, StopsNext, calls}
 use Rattle.desk_server.specs.declared.log.Fate.{Fate}
-use Rattle.desk_server.specs.declared.log.Fate.TheVariants.{Absent, Unanswered, Exchanged}
+use Rattle.desk_server.specs.declared.log.Fate.TheVariants.{Absent, Overrun, Unanswered, Exchanged, Ordered}
+use Rattle.desk_server.specs.declared.serve.ClockOutOfRange.{ClockOutOfRange}
 
--- a count of i, and one more
-pub counts_more : (waited i now new : ℕ) → CountsOn waited i now → CountsOn now 1 new → CountsOn waited (i + 1) new
-counts_more waited i now new so_far more fits = let before : now ≡ waited + i = so_far (omega arith) in let last : new ≡ now + 1 = more (omega arith) in
-    omega arith
+-- one count after another
+pub counts_on : (waited n m now new : ℕ) → CountsOn waited n now → CountsOn now m new → CountsOn waited (n + m) new
+counts_on waited n m now new first second fits =
+    let before : now ≡ waited + n = first (omega arith) in let last : new ≡ now + m = second (omega arith) in omega arith
 
--- the length of a list with one more item
-pub length_more : (fates : List Fate) (fate : Fate) → length (fates ++ fate ∷ []) ≡ length fates + 1
-length_more fates fate = length-append fates (fate ∷ [])
+-- the clients of two lists
+pub clients_append : (first second : List Fate) → clients_in (first ++ second) ≡ clients_in first + clients_in second
+clients_append [] second = omega arith
+clients_append (Ordered moment carried ∷ first) second = clients_append first second
+clients_append (Absent ∷ first) second = omega (arith, clients_append first second)
+clients_append (Overrun ∷ first) second = omega (arith, clients_append first second)
+clients_append (Unanswered ∷ first) second = omega (arith, clients_append first second)
+clients_append (Exchanged moment line outcome ∷ first) second = omega (arith, clients_append first second)
 
-one_failure : (failures failed_count : ℕ) → one_more (failures_after failures failed_count) ≡ failures_after failures (failed_count + 1)
-one_failure failures failed_count = rw (add-one failed_count) refl
+-- what holds of an outcome, from what holds of it
+pub on_ok : {A E : Type 0} (result : Result A E) (P Q : Type 0) → (P → Q) → OnOk result P → OnOk result Q
+on_ok (Ok done) P Q gives holds = gives holds
+on_ok (Err fault) P Q gives holds = tt
 
-module _ {Clock Desk Connection : Type 0} (Gives : GivesMoment Clock) (Answers : ℕ → AnswerRelation Desk) (Idled : Idles Desk)
+pub on_err : {A E : Type 0} (result : Result A E) (P Q : Type 0) → (P → Q) → OnErr result P → OnErr result Q
+on_err (Ok done) P Q gives holds = tt
+on_err (Err fault) P Q gives holds = gives holds
+
+module _ {Log : Type 0} (Begins : Log → Log → Type 0) (Noted : Notes Log) where
+  pub noted_append : (log l l' : Log) (first second : List Fate) → AreNoted Begins Noted log first l → AreNoted Begins Noted l second l'
+      → AreNoted Begins Noted log (first ++ second) l'
+  noted_append log l _ first _ before spec.nothing = rw (append-nil first) before
+  noted_append log l last first _ before (spec.one_noted second fate m _ so_far one) =
+      rw (← append_assoc first second (fate ∷ [])) (spec.one_noted (first ++ second) fate m last (noted_append log l m first second before so_far) one)
+
+module _ {Clock Desk Connection : Type 0} (Gives : GivesMoment Clock) (Answers : ℕ → AnswerRelation Desk) (Carries : Orders Desk)
     (Ended : Ends Connection) where
-  -- one connection more
-  answered_more : (n : ℕ) (desk : Desk) (failures : ℕ) (clock : Clock) (d : Desk) (f : ℕ) (fate : Fate) (clock' : Clock) (desk' : Desk) (failures' : ℕ)
-      → HasAnswered Answers Idled n desk failures d f → ServesOne Gives Answers Idled Ended clock d f fate clock' desk' failures'
-      → HasAnswered Answers Idled (n + 1) desk failures desk' failures'
-  answered_more n desk failures clock d f Absent clock' desk' failures' so_far (one, same, kept) = record {
-    exchanges = so_far.exchanges;
-    failed_count = so_far.failed_count + 1;
-    all = omega (arith, so_far.all);
-    failure_count = rw (one, so_far.failure_count) (one_failure failures so_far.failed_count);
-    desk_steps = rw kept so_far.desk_steps;
-  }
-  answered_more n desk failures clock d f (Exchanged moment line outcome) clock' desk' failures' so_far
-      (same, returned, (bytes, begins, exchange), ended) = record {
-        exchanges = so_far.exchanges + 1;
-        failed_count = so_far.failed_count;
-        all = omega (arith, so_far.all);
-        failure_count = rw same so_far.failure_count;
-        desk_steps = spec.another so_far.exchanges d desk' moment bytes outcome so_far.desk_steps exchange;
-      }
-  answered_more n desk failures clock d f Unanswered clock' desk' failures' so_far never = absurd never
+  pub served_append : (clock : Clock) (desk : Desk) (f : ℕ) (c : Clock) (d : Desk) (f1 : ℕ) (c' : Clock) (d' : Desk) (f' : ℕ) (first second : List Fate)
+      → AreServed Gives Answers Carries Ended clock desk f first c d f1 → AreServed Gives Answers Carries Ended c d f1 second c' d' f'
+      → AreServed Gives Answers Carries Ended clock desk f (first ++ second) c' d' f'
+  served_append clock desk f c d f1 _ _ _ first _ before spec.none = rw (append-nil first) before
+  served_append clock desk f c d f1 _ _ _ first _ before (spec.more second fate c2 d2 f2 c' d' f' so_far one) =
+      rw (← append_assoc first second (fate ∷ []))
+      (spec.more (first ++ second) fate c2 d2 f2 c' d' f' (served_append clock desk f c d f1 c2 d2 f2 first second before so_far) one)
 
-  -- the part of the server's steps that is about the desk
-  pub desk_steps : (clock : Clock) (desk : Desk) (failures : ℕ) (fates : List Fate) (clock' : Clock) (desk' : Desk) (failures' : ℕ)
-      → AreServed Gives Answers Idled Ended clock desk failures fates clock' desk' failures'
-      → HasAnswered Answers Idled (length fates) desk failures desk' failures'
-  desk_steps clock desk failures _ _ _ _ spec.none =
-      record { exchanges = 0; failed_count = 0; all = refl; failure_count = refl; desk_steps = spec.nobody }
-  desk_steps clock desk failures _ _ _ _ (spec.more fates fate c d f c' d' f' before one) =
-      rw (length_more fates fate) (answered_more (length fates) desk failures c d f fate c' d' f'
-      (desk_steps clock desk failures fates c d f before) one)
+  -- the same server, with less that is said of its fates
+  pub serves_besides : (Besides Wanted : List Fate → Type 0) (gives : (fates : List Fate) → Besides fates → Wanted fates)
+      (count : ℕ) (clock : Clock) (desk : Desk)
+      (f : ℕ) (result : Result Unit ClockOutOfRange) (clock' : Clock) (desk' : Desk) (f' : ℕ)
+      → Serves Gives Answers Carries Ended count clock desk f result clock' desk' f' Besides
+      → Serves Gives Answers Carries Ended count clock desk f result clock' desk' f' Wanted
+  serves_besides Besides Wanted gives count clock desk f (Ok done) clock' desk' f' (fates, so_many, served, besides) =
+      (fates, so_many, served, gives fates besides)
+  serves_besides Besides Wanted gives count clock desk f (Err stopped) clock' desk' f' stop = record {
+    fates = stop.fates;
+    last = stop.last;
+    fewer = stop.fewer;
+    before = stop.before;
+    no_moment = stop.no_moment;
+    besides = gives (stop.fates ++ Unanswered ∷ []) stop.besides;
+  }
+
+  module _ {Source Log : Type 0} (waited failures : Source → ℕ) (Begins : Log → Log → Type 0) (Noted : Notes Log) where
+    abbrev Some : ℕ → Source → Source → Clock → Desk → Log → Clock → Desk → Log → Type 0
+    Some n old new clock desk log clock' desk' log' =
+        ServesSome Gives Begins Noted Answers Carries Ended n (calls waited failures old new) clock desk log clock' desk' log'
+
+    abbrev Stops : Source → Source → Clock → Desk → Log → Clock → Desk → Log → Type 0
+    Stops old new clock desk log clock' desk' log' =
+        StopsNext Gives Begins Noted Answers Carries Ended (calls waited failures old new) clock desk log clock' desk' log'
+
+    -- nothing yet
+    pub serves_none : (source : Source) (clock : Clock) (desk : Desk) (log : Log) → Some 0 source source clock desk log clock desk log
+    serves_none source clock desk log =
+        record { fates = []; so_many = refl; served = spec.none; noted = spec.nothing; called = λ fits. omega arith }
+
+    -- some, and then others
+    pub serves_more : (n m : ℕ) (s s1 s' : Source) (c c1 c' : Clock) (d d1 d' : Desk) (l l1 l' : Log) → Some n s s1 c d l c1 d1 l1
+        → Some m s1 s' c1 d1 l1 c' d' l' → Some (n + m) s s' c d l c' d' l'
+    serves_more n m s s1 s' c c1 c' d d1 d' l l1 l' first second = record {
+      fates = first.fates ++ second.fates;
+      so_many = omega (arith, clients_append first.fates second.fates, first.so_many, second.so_many);
+      served = served_append c d _ c1 d1 _ c' d' _ first.fates second.fates first.served second.served;
+      noted = noted_append Begins Noted l l1 l' first.fates second.fates first.noted second.noted;
+      called = rw (length-append first.fates second.fates) (counts_on _ _ _ _ _ first.called second.called);
+    }
+
+    -- one arrival more, of any kind
+    abbrev pub serves_one : (n : ℕ) (s s1 s' : Source) (c c1 c' : Clock) (d d1 d' : Desk) (l l1 l' : Log) (fate : Fate) → Some n s s1 c d l c1 d1 l1
+        → ServesOne Gives Answers Carries Ended c1 d1 (failures s1) fate c' d' (failures s') → IsNoted Begins Noted l1 fate l'
+        → CountsOn (waited s1) 1 (waited s') → Some (n + clients_in (fate ∷ [])) s s' c d l c' d' l'
+    serves_one n s s1 s' c c1 c' d d1 d' l l1 l' fate first one noted waits = record {
+      fates = first.fates ++ fate ∷ [];
+      so_many = omega (arith, clients_append first.fates (fate ∷ []), first.so_many);
+      served = spec.more first.fates fate c1 d1 _ c' d' _ first.served one;
+      noted = spec.one_noted first.fates fate l1 l' first.noted noted;
+      called = rw (length-append first.fates (fate ∷ [])) (counts_on _ _ 1 _ _ first.called waits);
+    }
+
+    -- so many orders, and no client
+    pub record Orderly (n : ℕ) (s s' : Source) (c : Clock) (d : Desk) (l : Log) (c' : Clock) (d' : Desk) (l' : Log) : Type 0 where
+      pub some : Some 0 s s' c d l c' d' l'
+      pub so_many : length some.fates ≡ n
+
+    pub no_order : (source : Source) (clock : Clock) (desk : Desk) (log : Log) → Orderly 0 source source clock desk log clock desk log
+    no_order source clock desk log = record {
+      some = record { fates = []; so_many = refl; served = spec.none; noted = spec.nothing; called = λ fits. omega arith };
+      so_many = refl;
+    }
+
+    pub one_order : (n : ℕ) (s s1 s' : Source) (c c1 c' : Clock) (d d1 d' : Desk) (l l1 l' : Log) → Orderly n s s1 c d l c1 d1 l1
+        → IsOrdered Gives Begins Noted Carries c1 d1 l1 c' d' l' → failures s' ≡ failures s1 → CountsOn (waited s1) 1 (waited s')
+        → Orderly (n + 1) s s' c d l c' d' l'
+    one_order n s s1 s' c c1 c' d d1 d' l l1 l' first (moment, carried, noted, gives, is) same waits =
+        let fate = Ordered moment carried in
+        record {
+          some = record {
+            fates = first.some.fates ++ fate ∷ [];
+            so_many = omega (arith, clients_append first.some.fates (fate ∷ []), first.some.so_many);
+            served = spec.more first.some.fates fate c1 d1 _ c' d' _ first.some.served (same, gives, is);
+            noted = spec.one_noted first.some.fates fate l1 l' first.some.noted noted;
+            called = rw (length-append first.some.fates (fate ∷ [])) (counts_on _ _ 1 _ _ first.some.called waits);
+          };
+          so_many = omega (arith, length-append first.some.fates (fate ∷ []), first.so_many);
+        }
+
+    -- more orders than a count of calls has room for
+    pub overruns : (s s1 : Source) (c c1 : Clock) (d d1 : Desk) (l l1 l' : Log) (n : ℕ) → Orderly n s s1 c d l c1 d1 l1 → 18446744073709551615 ≤ n
+        → IsNoted Begins Noted l1 Overrun l' → Some 1 s s1 c d l c1 d1 l'
+    overruns s s1 c c1 d d1 l l1 l' n first many noted =
+        let fates = first.some.fates in
+        record {
+          fates = fates ++ Overrun ∷ [];
+          so_many = omega (arith, clients_append fates (Overrun ∷ []), first.some.so_many);
+          served = spec.more fates Overrun c1 d1 _ c1 d1 _ first.some.served (refl, refl, refl);
+          noted = spec.one_noted fates Overrun l1 l' first.some.noted noted;
+          called = λ fits. absurd (omega (arith, length-append fates (Overrun ∷ []), first.so_many, fits));
+        }
+
+    -- a client
+    pub serves_client : (s s1 s' : Source) (c c1 c' : Clock) (d d1 d' : Desk) (l l1 l' : Log) → Some 0 s s1 c d l c1 d1 l1
+        → failures s' ≡ failures s1 → CountsOn (waited s1) 1 (waited s')
+        → IsServed Gives Begins Noted Answers Ended c1 d1 l1 c' d' l' → Some 1 s s' c d l c' d' l'
+    serves_client s s1 s' c c1 c' d d1 d' l l1 l' first same waits (moment, line, outcome, noted, gives, exchange, ended) =
+        serves_one 0 s s1 s' c c1 c' d d1 d' l l1 l' (Exchanged moment line outcome) first (same, gives, exchange, ended) noted waits
+
+    -- a client for whom the clock gave no moment
+    pub stops_client : (s s1 s' : Source) (c c1 c' : Clock) (d d1 d' : Desk) (l l1 l' : Log) → Some 0 s s1 c d l c1 d1 l1
+        → failures s' ≡ failures s1 → CountsOn (waited s1) 1 (waited s')
+        → IsNoted Begins Noted l1 Unanswered l' × Gives c1 None c' × (d' ≡ d1) → Stops s s' c d l c' d' l'
+    stops_client s s1 s' c c1 c' d d1 d' l l1 l' first same waits (noted, gives, kept) = record {
+      fates = first.fates;
+      last = c1;
+      no_clients = first.so_many;
+      served = rw (kept, same) first.served;
+      no_moment = gives;
+      noted = spec.one_noted first.fates Unanswered l1 l' first.noted noted;
+      called = counts_on _ _ 1 _ _ first.called waits;
+    }

@@ -1,6 +1,10 @@
 -- Lemmas on the bytes of several reads.
-use Rattle.std.proofs.Common.{◌≡◌, ◌↔◌, ℕ, zero, suc, ◌+◌, ◌<◌, Bool, false, inl, List, [], ◌++◌, length, Option, Some, None, refl, sym, ap, ◌∙◌, append_assoc, length-append, arith}
+use Rattle.std.proofs.Common.{◌≡◌, ◌↔◌, ℕ, zero, suc, ◌+◌, ◌<◌, ◌≤◌, Bool, false, inl, List, [], ◌++◌, length, take, Option, Some, None}
+use Rattle.std.proofs.Common.{refl, sym, ap, ◌∙◌, append_assoc, length-append, arith}
 use Rattle.std.specs.Prelude.{IsTrue}
+use Rattle.std.proofs.Math.Seq.{take-append-add}
+use Rattle.std.proofs.lemmas.List.{take-append-le, length-take-le}
+use borrow.Rule.Slice.PartMut.{put_mid}
 use Rattle.std.specs.Io.KnownBytes.{Appends, Consumes, Keeps}
 use Rattle.desk_server.specs.Limits.{AreInterrupted, AtShown, Calls, IsCalledUnder, ended, left_until, nanos_of}
 use Rattle.desk_server.specs.declared.limit.Limit.{Limit}
@@ -18,6 +22,14 @@ consumes_more (Some old) (Some mid) (Some new) xs ys first second =
 pub consumes_nothing : (a : Option (List ℕ)) → Consumes a a []
 consumes_nothing None = tt
 consumes_nothing (Some xs) = refl
+
+-- a buffer that was filled from a place on
+pub filled : (room part : List ℕ) (len n k : ℕ) → len ≤ length room → n ≤ length part → take (len + n) (put_mid len k room part) ≡ take len room ++ take n part
+filled room part len n k within few =
+    let front = length-take-le len room within in
+    ap (λ (m : ℕ). take (m + n) (put_mid len k room part)) (sym front)
+    ∙ take-append-add (take len room) _ n
+    ∙ ap (λ (l : List ℕ). take len room ++ l) (take-append-le n part _ few)
 
 -- ---- calls that keep what is known, and one after them
 

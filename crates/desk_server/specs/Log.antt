@@ -10,7 +10,8 @@ use Rattle.club_http.specs.declared.fault.AnswerFault.{AnswerFault}
 use Rattle.club_values.specs.Moment.{moment_text}
 use Rattle.desk_server.specs.RequestLine.{method_of, path_of}
 use Rattle.desk_server.specs.declared.log.Fate.{Fate}
-use Rattle.desk_server.specs.declared.log.Fate.TheVariants.{Absent, Unanswered, Exchanged}
+use Rattle.desk_server.specs.declared.log.Fate.TheVariants.{Absent, Overrun, Unanswered, Exchanged, Ordered}
+use Rattle.desk_server.specs.declared.office.Carried.{Carried}
 
 -- a word, or a dash if there is none
 abbrev pub or_dash : Option (List ℕ) → List ℕ
@@ -31,10 +32,22 @@ status_text (Err fault) = codes "-"
 unfoldable pub request_text : List ℕ → List ℕ
 request_text line = codes " " ++ or_dash (method_of line) ++ codes " " ++ or_dash (path_of line) ++ codes " "
 
--- the moment, the method, the path and the status of a connection
+-- a moment, or a dash if the clock gave none
+abbrev pub moment_or_dash : Option ℕ → List ℕ
+moment_or_dash (Some moment) = moment_text moment
+moment_or_dash None = codes "-"
+
+-- the name of an order's command, and its exit status; dashes if no order came whole
+unfoldable pub order_text : Option Carried → List ℕ
+order_text (Some carried) = codes " office " ++ or_dash (path_of carried.line) ++ codes " " ++ decimal carried.status
+order_text None = codes " office " ++ codes "- -"
+
+-- the moment, the method, the path and the status of a client; of an order the moment, the command's name and its status
 unfoldable pub front_text : Fate → List ℕ
 front_text Absent = codes "- - - -"
+front_text Overrun = codes "- - - -"
 front_text Unanswered = codes "- - - -"
+front_text (Ordered moment carried) = moment_or_dash moment ++ order_text carried
 front_text (Exchanged moment line outcome) = moment_text moment ++ request_text line ++ status_text outcome
 
 -- a line: the front, and the microseconds that the connection took
@@ -47,7 +60,7 @@ IsTextWritten taken taken' failures failures' text =
     (Appends taken taken' text × (failures' ≡ failures))
     ⊎ ((n : ℕ) × (n < length text) × Appends taken taken' (take n text) × (failures' ≡ one_more failures))
 
--- the writer took the lines of the connections, in their order, each with some number of microseconds
+-- the writer took the lines of the arrivals, in their order, each with some number of microseconds
 pub data AreWritten (taken : Option (List ℕ)) (failures : ℕ) : List Fate → Option (List ℕ) → ℕ → Type 0 where
   no_line : AreWritten taken failures [] taken failures
   one_line : (fates : List Fate) (fate : Fate) (microseconds : ℕ) (t : Option (List ℕ)) (f : ℕ) (t' : Option (List ℕ)) (f' : ℕ)

@@ -1,29 +1,69 @@
--- What a server does to its connections, its clock, its desk and its log (ours).
-use Rattle.std.specs.Prelude.{ℕ, length, Result}
-use Rattle.club_http.specs.Replied.{AnswerRelation}
-use Rattle.desk_server.specs.Served.{AreNoted, CountsOn, Ends, Idles, IsNoted, Notes, Serves, ServesOne}
+-- What a server does to its arrivals, its clock, its desk and its log (ours).
+use Rattle.std.specs.Prelude.{◌≡◌, ℕ, ◌+◌, List, [], ◌∷◌, ◌++◌, length, take, Option, Some, None, Result}
 use Rattle.club_clock.specs.Moments.{GivesMoment}
-use Rattle.desk_server.specs.declared.connections.Connections.{Ghosts}
+use Rattle.club_core.specs.declared.reply.Reply.{Reply}
+use Rattle.club_http.specs.Replied.{AnswerRelation}
+use Rattle.club_http.specs.declared.fault.AnswerFault.{AnswerFault}
+use Rattle.desk_server.specs.Served.{AreNoted, AreServed, CountsOn, Ends, IsCarriedOut, IsExchanged, IsNoted, Notes, Orders, Serves, clients_in}
 use Rattle.desk_server.specs.declared.log.Fate.{Fate}
+use Rattle.desk_server.specs.declared.log.Fate.TheVariants.{Exchanged, Ordered, Unanswered}
+use Rattle.desk_server.specs.declared.office.Carried.{Carried}
 use Rattle.desk_server.specs.declared.serve.ClockOutOfRange.{ClockOutOfRange}
 
-module _ {Source Connection Clock Desk : Type 0} (g : Ghosts Source Connection) (Gives : GivesMoment Clock) (Answers : ℕ → AnswerRelation Desk)
-    (Idled : Idles Desk) (Ended : Ends Connection) where
-  -- a server of so many connections of a source, each of which the source counts
-  abbrev pub ServesOn : ℕ → Source → Clock → Desk → Result Unit ClockOutOfRange → Source → Clock → Desk → Type 0
-  ServesOn count source clock desk result source' clock' desk' =
-      Serves Gives Answers Idled Ended count clock desk (g.failures source) result clock' desk' (g.failures source')
-      (λ fates. CountsOn (g.waited source) (length fates) (g.waited source'))
+-- a source of arrivals before and after: how many calls failed, and the statement that it was called so often
+pub record SourceCalls : Type 1 where
+  pub failures : ℕ
+  pub failures' : ℕ
+  pub called : ℕ → Type 0
 
-  module _ {Log : Type 0} (Begins : Log → Log → Type 0) (Noted : Notes Log) where
-    -- the same with a log, which notes each of them
-    abbrev pub ServesLogged : ℕ → Source → Clock → Desk → Log → Result Unit ClockOutOfRange → Source → Clock → Desk → Log → Type 0
-    ServesLogged count source clock desk log result source' clock' desk' log' =
-        Serves Gives Answers Idled Ended count clock desk (g.failures source) result clock' desk' (g.failures source')
-        (λ fates. CountsOn (g.waited source) (length fates) (g.waited source') × AreNoted Begins Noted log fates log')
+abbrev pub calls : {Source : Type 0} → (Source → ℕ) → (Source → ℕ) → Source → Source → SourceCalls
+calls waited failures old new = record { failures = failures old; failures' = failures new; called = λ many. CountsOn (waited old) many (waited new) }
 
-    -- one of them is served, and noted
-    abbrev pub ServesNext : Source → Clock → Desk → Log → Source → Clock → Desk → Log → Type 0
-    ServesNext source clock desk log source' clock' desk' log' =
-        (fate : Fate) × IsNoted Begins Noted log fate log'
-        × ServesOne Gives Answers Idled Ended clock desk (g.failures source) fate clock' desk' (g.failures source')
+module _ {Clock Desk Log : Type 0} (Gives : GivesMoment Clock) (Begins : Log → Log → Type 0) (Noted : Notes Log) where
+  -- an order, carried out or not, and noted with the clock's moment
+  abbrev pub IsOrdered : Orders Desk → Clock → Desk → Log → Clock → Desk → Log → Type 0
+  IsOrdered Carries clock desk log clock' desk' log' =
+      (moment : Option ℕ) × (carried : Option Carried) × IsNoted Begins Noted log (Ordered moment carried) log'
+      × Gives clock moment clock' × IsCarriedOut Carries desk carried desk'
+
+  -- an exchange with a client, at a moment of the clock, and noted
+  abbrev pub IsServed : {Connection : Type 0} → (ℕ → AnswerRelation Desk) → Ends Connection → Clock → Desk → Log → Clock → Desk → Log → Type 0
+  IsServed {Connection} Answers Ended clock desk log clock' desk' log' =
+      (moment : ℕ) × (line : List ℕ) × (outcome : Result Reply AnswerFault)
+      × IsNoted Begins Noted log (Exchanged moment line outcome) log'
+      × Gives clock (Some moment) clock'
+      × ((bytes : List ℕ) × (line ≡ take 96 bytes) × IsExchanged (Answers moment) bytes desk outcome desk')
+      × ((connection : Connection) × Ended connection outcome)
+
+  module _ {Connection : Type 0} (Answers : ℕ → AnswerRelation Desk) (Carries : Orders Desk) (Ended : Ends Connection) where
+    -- a server of so many clients of a source, which counts each call, with a log, which notes each arrival
+    abbrev pub ServesLogged : ℕ → SourceCalls → Clock → Desk → Log → Result Unit ClockOutOfRange → Clock → Desk → Log → Type 0
+    ServesLogged count source clock desk log result clock' desk' log' =
+        Serves Gives Answers Carries Ended count clock desk source.failures result clock' desk' source.failures'
+        (λ fates. source.called (length fates) × AreNoted Begins Noted log fates log')
+
+    -- arrivals of which so many are clients, each noted
+    pub record ServesSome (count : ℕ) (source : SourceCalls) (clock : Clock) (desk : Desk) (log : Log) (clock' : Clock) (desk' : Desk) (log' : Log)
+        : Type 0 where
+      pub fates : List Fate
+      pub so_many : clients_in fates ≡ count
+      pub served : AreServed Gives Answers Carries Ended clock desk source.failures fates clock' desk' source.failures'
+      pub noted : AreNoted Begins Noted log fates log'
+      pub called : source.called (length fates)
+
+    -- orders, and then a client for whom the clock gave no moment
+    pub record StopsNext (source : SourceCalls) (clock : Clock) (desk : Desk) (log : Log) (clock' : Clock) (desk' : Desk) (log' : Log) : Type 0 where
+      pub fates : List Fate
+      pub last : Clock
+      pub no_clients : clients_in fates ≡ 0
+      pub served : AreServed Gives Answers Carries Ended clock desk source.failures fates last desk' source.failures'
+      pub no_moment : Gives last None clock'
+      pub noted : AreNoted Begins Noted log (fates ++ Unanswered ∷ []) log'
+      pub called : source.called (length fates + 1)
+
+-- the same whatever is noted
+module _ {Clock Desk Connection : Type 0} (Gives : GivesMoment Clock) (Answers : ℕ → AnswerRelation Desk) (Carries : Orders Desk)
+    (Ended : Ends Connection) where
+  abbrev pub ServesOn : ℕ → SourceCalls → Clock → Desk → Result Unit ClockOutOfRange → Clock → Desk → Type 0
+  ServesOn count source clock desk result clock' desk' =
+      Serves Gives Answers Carries Ended count clock desk source.failures result clock' desk' source.failures' (λ fates. source.called (length fates))

@@ -1,13 +1,13 @@
-//! Connections, and what they come from.
+//! Connections of clients and of the office, and what they come from.
 
 use crate::limit::{Limit, MonotonicClock};
+use crate::office::{Carried, Office};
 use crate::timed::{TimedInlet, TimedOutlet};
 use club_core::Reply;
 use club_http::{AnswerFault, Face, Responder, send_reply};
 use club_values::Moment;
-use std::net::{Shutdown, TcpListener, TcpStream};
-use std::thread;
-use std::time::{Clock, Duration};
+use std::net::{Shutdown, TcpStream};
+use std::time::Duration;
 
 /// A connection.
 pub trait Connection {
@@ -44,7 +44,7 @@ pub struct Accepted<'c, C> {
 
 impl<'c, C: MonotonicClock> Accepted<'c, C> {
     // A connection that was accepted now.
-    fn new(stream: TcpStream, clock: &'c C, patience: Duration) -> Accepted<'c, C> {
+    pub(crate) fn new(stream: TcpStream, clock: &'c C, patience: Duration) -> Accepted<'c, C> {
         Accepted {
             stream,
             clock,
@@ -55,8 +55,8 @@ impl<'c, C: MonotonicClock> Accepted<'c, C> {
 
     // Ends a connection whose reply was written, and whose request may go on. A socket that is
     // closed while bytes of its client are unread resets the connection, and a client that is still
-    // sending may then lose its reply. So this shuts the writing side first, and then reads what the
-    // client still sends.
+    // sending may then lose its reply. So this shuts the writing side first, and then reads what
+    // the client still sends.
     fn take_rest(&self) {
         if self.stream.shutdown(Shutdown::Write).is_ok() {
             let limit = Limit::after(self.clock, self.patience);
@@ -95,79 +95,43 @@ impl<C: MonotonicClock> Connection for Accepted<'_, C> {
     }
 }
 
-/// What connections come from.
-pub trait Connections {
-    type Connection: Connection + Drop;
+/// A connection of the office, which brings an order.
+pub trait Handover {
+    ghost use Rattle.desk_server.specs.Served.{IsCarriedOut};
+
+    /// Reads an order, has the desk carry it out, and writes the answer; `None` if no order came
+    /// whole.
+    fn carry_out<D: Office>(&mut self, desk: &mut D) -> Option<Carried>
+        ensures { IsCarriedOut D.orders desk.old result desk.new };
+}
+
+/// What came.
+#[derive(Drop)]
+pub enum Arrival<C, O> {
+    Client(C),
+    Order(O),
+    /// Waiting failed.
+    Nobody,
+}
+
+/// What clients and orders come from.
+pub trait Arrivals {
+    type Client: Connection + Drop;
+
+    type Order: Handover + Drop;
 
     ghost use Rattle.std.specs.Prelude.{◌≡◌, ℕ};
-    ghost use Rattle.club_http.specs.Ends.{read_failures};
     ghost use Rattle.desk_server.specs.Served.{CountsOn};
+    ghost use Rattle.desk_server.specs.Arrival.{failures_after};
 
-    // the number of calls of `accept`
+    // the number of calls of `next`
     ghost waited: { Self → ℕ };
 
     // the number of these calls that failed
     ghost failures: { Self → ℕ };
 
-    /// Waits for the next connection; `None` if that failed.
-    fn accept(&mut self) -> Option<Self::Connection>
+    /// Waits for the next arrival.
+    fn next(&mut self) -> Arrival<Self::Client, Self::Order>
         ensures waited { CountsOn (waited self.old) 1 (waited self.new) }
-        ensures failure_count { failures self.new ≡ read_failures (failures self.old) result };
-}
-
-/// How many milliseconds the server sleeps after `accept` failed, so that a listener that keeps
-/// failing doesn't use up all connections at once.
-const REST_MILLISECONDS: u64 = 10;
-
-/// The connections that a listener accepts, each with the same patience.
-#[derive(Drop)]
-pub struct Listening<'a, C> {
-    listener: &'a TcpListener,
-    clock: &'a C,
-    patience: Duration,
-    waited: u64,
-    failures: u64,
-}
-
-impl<'a, C: Clock> Listening<'a, C> {
-    ghost use Rattle.std.specs.Prelude.{◌≡◌};
-
-    /// A source whose `accept` wasn't called yet. This clock measures the limits.
-    pub fn new(listener: &'a TcpListener, clock: &'a C, patience: Duration) -> Listening<'a, C>
-        ensures { result ≡ record {
-          listener = listener.entry;
-          clock = clock.entry;
-          patience = patience;
-          waited = 0;
-          failures = 0;
-        } }
-    {
-        Listening {
-            listener,
-            clock,
-            patience,
-            waited: 0,
-            failures: 0,
-        }
-    }
-}
-
-impl<'a, C: Clock> Connections for Listening<'a, C> {
-    type Connection = Accepted<'a, C>;
-
-    ghost waited = { λ listening. listening.waited };
-
-    ghost failures = { λ listening. listening.failures };
-
-    fn accept(&mut self) -> Option<Accepted<'a, C>> {
-        self.waited = self.waited.saturating_add(1);
-        match self.listener.accept() {
-            Ok((stream, _)) => Some(Accepted::new(stream, self.clock, self.patience)),
-            Err(_) => {
-                self.failures = self.failures.saturating_add(1);
-                thread::sleep(self.clock, Duration::from_millis(REST_MILLISECONDS));
-                None
-            }
-        }
-    }
+        ensures failure_count { failures self.new ≡ failures_after (failures self.old) result };
 }

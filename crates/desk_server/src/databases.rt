@@ -1,55 +1,63 @@
-//! The databases that a server and the office open, as a trait.
+//! The databases that a server and the office open, as a trait, and the door between the two.
 
 use club_core::{ClubStore, StoreFault};
+use std::os::unix::net::UnixListener;
 
-/// Databases that programs open by their names. One program at a time has one open, so programs
-/// take turns: an opening waits for a while, and meanwhile the other programs see that it wishes
-/// for the database.
+/// The door of a server, by which orders of the office come. It is removed when this is dropped.
+pub trait Door {
+    /// What orders come to; `None` where there is no door.
+    fn listener(&self) -> Option<&UnixListener>;
+}
+
+/// A server whose door was found, and which has greeted.
+pub trait Visit {
+    /// Hands over the bytes of an order, and returns the answer's status and text; `None` if there
+    /// is no answer, and then nobody knows whether the order was carried out.
+    fn give(self, order: &[u8]) -> Option<(u8, String)>;
+}
+
+/// A database that was reached.
+pub enum Reached<S, V> {
+    /// It was opened.
+    Opened(S),
+    /// A server has it open, and takes orders.
+    Served(V),
+}
+
+/// Databases that programs open by their names. One program at a time has one open.
 pub trait Databases {
     type Store: ClubStore + Drop;
 
-    /// Keeps servers away from a database until it is dropped.
-    type Pause: Drop;
+    type Door: Door + Drop;
 
-    /// The address of a server, kept beside its database. It is removed when this is dropped.
-    type Address: Drop;
+    type Visit: Visit + Drop;
 
-    ghost use Rattle.std.specs.Prelude.{Bool, ℕ, List};
-    ghost use Rattle.desk_server.specs.Databases.{Closing, Opening};
+    ghost use Rattle.desk_server.specs.Databases.{Closing, Opening, Reaching};
 
     // what opening a name returns, with the databases before and after
     ghost opens: { Opening Self Self.Store };
 
+    // what reaching a name returns
+    ghost reaches: { Reaching Self Self.Store Self.Visit };
+
     // the databases before and after closing one
     ghost closes: { Closing Self Self.Store };
 
-    // what `is_wanted` may return
-    ghost finds_wish: { Self → List ℕ → Bool → Type 0 };
-
-    /// Opens the database of a name; creates an empty one if there is none. While another program
-    /// has it, this wishes for it.
+    /// Opens the database of a name, for a server; creates an empty one if there is none. While
+    /// another program has it, this tries again for a while.
     fn open(&mut self, name: &str) -> Result<Self::Store, StoreFault>
         ensures { opens self.old name.now result self.new };
 
-    /// Opens it again, for a server that has closed it. For a while other programs that wish for it
-    /// may open it first.
-    fn reopen(&mut self, name: &str) -> Result<Self::Store, StoreFault>
-        ensures { opens self.old name.now result self.new };
+    /// Reaches the database of a name, for the office: the server that has it open, or else opens
+    /// it as `open` does.
+    fn reach(&mut self, name: &str) -> Result<Reached<Self::Store, Self::Visit>, StoreFault>
+        ensures { reaches self.old name.now result self.new };
 
     /// Closes a database. Committed changes are kept, even if that fails.
     fn close(&mut self, store: Self::Store)
         ensures { closes self.old store self.new };
 
-    /// Whether another program wishes for the database of a name.
-    fn is_wanted(&self, name: &str) -> bool
-        ensures { finds_wish self.now name.now result };
-
-    /// Wishes for the database of a name, and keeps servers away from it; `None` if that fails.
-    fn pause(&self, name: &str) -> Option<Self::Pause>;
-
-    /// Keeps the port of a database's server, so that programs that wish for it can wake that.
-    fn keep_address(&self, name: &str, port: u16) -> Self::Address;
-
-    /// Waits for so many seconds.
-    fn wait(&self, seconds: u32);
+    /// Makes the door of a server that has the database of a name open, in place of what a killed
+    /// server left. `None` if that fails.
+    fn make_door(&self, name: &str) -> Option<Self::Door>;
 }

@@ -1,22 +1,27 @@
-//! The server of the desk: it accepts connections one after the other, each at the moment that the
-//! club's clock shows. `Databases` is the trait by which it and the office open a database.
+//! The server of the desk: it serves clients and orders of the office one after the other, each
+//! client at the moment that the club's clock shows. `Databases` is the trait by which it and the
+//! office open a database.
 #![tactic(auto)]
 
 mod connections;
 mod databases;
-mod idle;
+mod door;
 pub mod laws;
 mod limit;
+mod listening;
 mod log;
+mod office;
 mod request_line;
 mod serve;
 mod timed;
 
-pub use connections::{Accepted, Connection, Connections, Listening};
-pub use databases::Databases;
-pub use idle::IdleHook;
+pub use connections::{Accepted, Arrival, Arrivals, Connection, Handover};
+pub use databases::{Databases, Door, Reached, Visit};
+pub use door::{GREETING, Handed, MAX_ORDER_LEN, read_order};
 pub use limit::{Limit, MonotonicClock};
+pub use listening::Listening;
 pub use log::{Fate, Log, LogLines, Unlogged};
+pub use office::{Answer, Carried, Office};
 pub use request_line::{MAX_KEPT, RequestLine};
 pub use serve::{ClockOutOfRange, serve_logged, serve_on};
 pub use timed::{MAX_REST, TimedInlet, TimedOutlet, TimedRead, TimedWrite, Waited};

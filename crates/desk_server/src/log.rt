@@ -4,6 +4,7 @@ ghost use Rattle.std.specs.Prelude.{◌≡◌, ◌≤◌, ◌+◌, ◌++◌, len
 ghost use Rattle.desk_server.specs.Log as spec;
 ghost use Rattle.desk_server.specs.RequestLine.{word_bytes};
 
+use crate::office::Carried;
 use crate::request_line::RequestLine;
 use club_core::Reply;
 use club_http::{AnswerFault, Outlet, put_all};
@@ -14,15 +15,22 @@ use std::time::{Clock, Instant};
 /// The status of a reply that serves.
 const OK: u16 = 200;
 
-/// What became of a connection.
+/// What became of an arrival.
 #[derive(Drop)]
 pub enum Fate {
-    /// `accept` failed.
+    /// Waiting failed.
     Absent,
-    /// It was closed unanswered, since the clock showed no moment of the club's.
+    /// More orders came in a row than a u64 counts, and no client.
+    Overrun,
+    /// A client's connection was closed unanswered, since the clock showed no moment of the club's.
     Unanswered,
-    /// It had an exchange at this moment: the start of its request, and the reply or the fault
-    /// that `club_http::answer` returned.
+    /// A connection of the office, at this moment: its order was carried out, or none came whole.
+    Ordered {
+        moment: Option<Moment>,
+        carried: Option<Carried>,
+    },
+    /// A client had an exchange at this moment: the start of its request, and the reply or the
+    /// fault that `club_http::answer` returned.
     Exchanged {
         moment: Moment,
         line: RequestLine,
@@ -30,7 +38,8 @@ pub enum Fate {
     },
 }
 
-/// A log of connections. It is called as each begins and ends, and changes nothing of the outcome.
+/// A log of clients and orders. It is called as each begins and ends, and changes nothing of the
+/// outcome.
 pub trait Log {
     ghost use Rattle.desk_server.specs.Served.{Notes};
 
@@ -40,11 +49,11 @@ pub trait Log {
     // the log before and after a call of `note`
     ghost notes: { Notes Self };
 
-    /// Notes that a connection was accepted.
+    /// Notes that a client or an order was accepted.
     fn begin(&mut self)
         ensures { begins self.old self.new };
 
-    /// Notes how a connection ended.
+    /// Notes how it ended.
     fn note(&mut self, fate: &Fate)
         ensures { notes self.old fate.now self.new };
 }
@@ -63,9 +72,10 @@ impl Log for Unlogged {
     fn note(&mut self, _fate: &Fate) {}
 }
 
-/// Writes a line for each connection: the moment, the method, the path, the status of the reply and
-/// the microseconds that it took, with spaces between them. A dash replaces a missing value and
-/// the status of a reply that wasn't written whole. If the writer fails, the server goes on.
+/// Writes a line for each client: the moment, the method, the path, the status of the reply and the
+/// microseconds that it took, with spaces between them. A dash replaces a missing value and the
+/// status of a reply that wasn't written whole. The line of an order has the moment, `office`, the
+/// command's name, its exit status and the microseconds. If the writer fails, the server goes on.
 #[derive(Drop)]
 pub struct LogLines<'a, W, C> {
     /// What the lines are written to.
@@ -138,7 +148,13 @@ fn front_of(fate: &Fate) -> Line
 {
     let mut front = Line::new();
     match fate {
-        Fate::Absent | Fate::Unanswered => front.push(b"- - - -"),
+        Fate::Absent => front.push(b"- - - -"),
+        Fate::Overrun => front.push(b"- - - -"),
+        Fate::Unanswered => front.push(b"- - - -"),
+        Fate::Ordered { moment, carried } => {
+            push_moment(&mut front, moment);
+            push_order(&mut front, carried);
+        }
         Fate::Exchanged {
             moment,
             line,
@@ -150,6 +166,36 @@ fn front_of(fate: &Fate) -> Line
         }
     }
     front
+}
+
+// A moment, or a dash where there is none.
+fn push_moment(front: &mut Line, moment: &Option<Moment>)
+    requires { length front.old ≤ 0 }
+    ensures text { front.new ≡ front.old ++ spec.moment_or_dash moment.now }
+    ensures len { length front.new ≤ 16 }
+{
+    match moment {
+        Some(moment) => front.push(&moment.text()),
+        None => front.push(b"-"),
+    }
+}
+
+// The name of an order's command, and its status.
+#[tactic(auto, unfolding(crate::specs::Log::order_text))]
+fn push_order(front: &mut Line, carried: &Option<Carried>)
+    requires { length front.old ≤ 16 }
+    ensures text { front.new ≡ front.old ++ spec.order_text carried.now }
+    ensures len { length front.new ≤ 142 }
+{
+    front.push(b" office ");
+    match carried {
+        Some(carried) => {
+            front.push(or_dash(carried.line.path()));
+            front.push(b" ");
+            front.push_number(u64::from(carried.status));
+        }
+        None => front.push(b"- -"),
+    }
 }
 
 // The method and the path of a request.

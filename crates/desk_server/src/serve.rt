@@ -1,13 +1,21 @@
 //! The server.
 
 ghost use Rattle.std.specs.Prelude.{◌≡◌, None, OnErr, OnOk};
-ghost use Rattle.desk_server.specs.Served.{CountsOn, IsNoted, ServerSteps};
-ghost use Rattle.desk_server.specs.Server.{ServesLogged, ServesNext, ServesOn};
+ghost use Rattle.desk_server.specs.Served.{IsNoted};
+ghost use Rattle.desk_server.specs.Server.{
+  IsOrdered,
+  IsServed,
+  ServesLogged,
+  ServesOn,
+  ServesSome,
+  StopsNext,
+  calls,
+};
 ghost use Rattle.desk_server.specs.declared.log.Fate.TheVariants.{Unanswered};
 
-use crate::connections::{Connection, Connections};
-use crate::idle::IdleHook;
+use crate::connections::{Arrival, Arrivals, Connection, Handover};
 use crate::log::{Fate, Log, Unlogged};
+use crate::office::Office;
 use crate::request_line::RequestLine;
 use club_clock::Moments;
 use club_http::Face;
@@ -30,53 +38,49 @@ impl fmt::Display for ClockOutOfRange {
 
 impl Error for ClockOutOfRange {}
 
-/// Serves this many connections, one after the other. Each gets the moment of the clock at its
-/// start. A connection that fails, in `accept` or in its exchange, counts like any other, and so
-/// does one whose request was refused. After each exchange, with the connection closed, the server
-/// calls the desk's hook.
+/// Serves this many clients, one after the other, and carries out each order of the office that
+/// comes before one of them. A client gets the moment of the clock at its start. One that fails, on
+/// its way or in its exchange, counts like any other, and so does one whose request was refused.
+/// Orders don't count.
 ///
 /// # Errors
 ///
-/// `ClockOutOfRange` if the clock shows no moment of the club's. The connection is closed
+/// `ClockOutOfRange` if the clock shows no moment of the club's. The client's connection is closed
 /// unanswered, and the server accepts no other.
-pub fn serve_on<L: Connections, M: Moments, D: IdleHook>(
-    connections: &mut L,
+pub fn serve_on<L: Arrivals, M: Moments, D: Office>(
+    arrivals: &mut L,
     count: u32,
     moments: &mut M,
     face: &mut Face,
     desk: &mut D,
 ) -> Result<(), ClockOutOfRange>
-    ensures served { ServesOn L.Connections M.gives D.answers D.idles L.Connection.ends count
-        connections.old moments.old desk.old result connections.new moments.new desk.new }
-    // The desk alone: it changed by an exchange for each accepted connection, and by the call of
-    // its hook after it.
-    ensures desk_steps { ServerSteps D.answers D.idles count
-        desk.old (L.failures connections.old) result desk.new (L.failures connections.new) }
+    ensures { ServesOn M.gives D.answers D.orders L.Client.ends count
+        (calls L.waited L.failures arrivals.old arrivals.new)
+        moments.old desk.old result moments.new desk.new }
 {
-    serve_logged(connections, count, moments, face, desk, &mut Unlogged)
+    serve_logged(arrivals, count, moments, face, desk, &mut Unlogged)
 }
 
-/// Serves connections as `serve_on`, and logs each. The log doesn't change what is served.
+/// Serves as `serve_on`, and logs each client and each order. The log changes nothing of what is
+/// served.
 ///
 /// # Errors
 ///
 /// As `serve_on`.
-pub fn serve_logged<L: Connections, M: Moments, D: IdleHook, G: Log>(
-    connections: &mut L,
+pub fn serve_logged<L: Arrivals, M: Moments, D: Office, G: Log>(
+    arrivals: &mut L,
     count: u32,
     moments: &mut M,
     face: &mut Face,
     desk: &mut D,
     log: &mut G,
 ) -> Result<(), ClockOutOfRange>
-    ensures served { ServesLogged L.Connections M.gives D.answers D.idles L.Connection.ends
-        G.begins G.notes count connections.old moments.old desk.old log.old result
-        connections.new moments.new desk.new log.new }
-    ensures desk_steps { ServerSteps D.answers D.idles count
-        desk.old (L.failures connections.old) result desk.new (L.failures connections.new) }
+    ensures { ServesLogged M.gives G.begins G.notes D.answers D.orders L.Client.ends count
+        (calls L.waited L.failures arrivals.old arrivals.new)
+        moments.old desk.old log.old result moments.new desk.new log.new }
 {
     for served in 0..count {
-        match serve_next(connections, moments, face, desk, log) {
+        match serve_next(arrivals, moments, face, desk, log) {
             Ok(()) => {}
             Err(stopped) => return Err(stopped),
         }
@@ -84,41 +88,80 @@ pub fn serve_logged<L: Connections, M: Moments, D: IdleHook, G: Log>(
     Ok(())
 }
 
-// Serves one connection, and logs it.
-fn serve_next<L: Connections, M: Moments, D: IdleHook, G: Log>(
-    connections: &mut L,
+// Carries out the orders that come before the next client, and serves that.
+fn serve_next<L: Arrivals, M: Moments, D: Office, G: Log>(
+    arrivals: &mut L,
     moments: &mut M,
     face: &mut Face,
     desk: &mut D,
     log: &mut G,
 ) -> Result<(), ClockOutOfRange>
-    ensures waited { CountsOn (L.waited connections.old) 1 (L.waited connections.new) }
-    ensures served { OnOk result (ServesNext L.Connections M.gives D.answers D.idles
-        L.Connection.ends G.begins G.notes connections.old moments.old desk.old log.old
-        connections.new moments.new desk.new log.new) }
-    ensures no_moment { OnErr result (IsNoted G.begins G.notes log.old Unanswered log.new
-        × M.gives moments.old None moments.new
-        × (desk.new ≡ desk.old)
-        × (L.failures connections.new ≡ L.failures connections.old)) }
+    ensures served { OnOk result (ServesSome M.gives G.begins G.notes D.answers D.orders
+        L.Client.ends 1 (calls L.waited L.failures arrivals.old arrivals.new)
+        moments.old desk.old log.old moments.new desk.new log.new) }
+    ensures stopped { OnErr result (StopsNext M.gives G.begins G.notes D.answers D.orders
+        L.Client.ends (calls L.waited L.failures arrivals.old arrivals.new)
+        moments.old desk.old log.old moments.new desk.new log.new) }
 {
-    let Some(mut connection) = connections.accept() else {
-        log.note(&Fate::Absent);
-        return Ok(());
-    };
+    for ordered in 0..u64::MAX {
+        match arrivals.next() {
+            Arrival::Order(order) => carry_out(order, moments, desk, log),
+            Arrival::Client(client) => {
+                return serve_client(client, moments, face, desk, log);
+            }
+            Arrival::Nobody => {
+                log.note(&Fate::Absent);
+                return Ok(());
+            }
+        }
+    }
+    log.note(&Fate::Overrun);
+    Ok(())
+}
+
+// Carries out an order, and logs it.
+fn carry_out<O: Handover + Drop, M: Moments, D: Office, G: Log>(
+    mut order: O,
+    moments: &mut M,
+    desk: &mut D,
+    log: &mut G,
+)
+    ensures { IsOrdered M.gives G.begins G.notes D.orders moments.old desk.old log.old
+        moments.new desk.new log.new }
+{
+    log.begin();
+    let moment = moments.now();
+    let carried = order.carry_out(desk);
+    drop(order);
+    log.note(&Fate::Ordered { moment, carried });
+}
+
+// Serves a client, and logs it.
+fn serve_client<C: Connection + Drop, M: Moments, D: Office, G: Log>(
+    mut client: C,
+    moments: &mut M,
+    face: &mut Face,
+    desk: &mut D,
+    log: &mut G,
+) -> Result<(), ClockOutOfRange>
+    ensures served { OnOk result (IsServed M.gives G.begins G.notes D.answers C.ends
+        moments.old desk.old log.old moments.new desk.new log.new) }
+    ensures stopped { OnErr result (IsNoted G.begins G.notes log.old Unanswered log.new
+        × M.gives moments.old None moments.new × (desk.new ≡ desk.old)) }
+{
     log.begin();
     let Some(moment) = moments.now() else {
         log.note(&Fate::Unanswered);
         return Err(ClockOutOfRange);
     };
     // Whatever the outcome, the server goes on.
-    let outcome = connection.exchange(face, desk, moment);
-    drop(connection);
+    let outcome = client.exchange(face, desk, moment);
+    drop(client);
     let line = RequestLine::of(face.request());
     log.note(&Fate::Exchanged {
         moment,
         line,
         outcome,
     });
-    desk.on_idle();
     Ok(())
 }

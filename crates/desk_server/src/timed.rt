@@ -9,6 +9,7 @@ use club_http::{Inlet, Outlet};
 use std::io;
 use std::io::{ErrorKind, Read, Write};
 use std::net::TcpStream;
+use std::os::unix::net::UnixStream;
 use std::time::Duration;
 
 /// How a call ended that waits for a limited time.
@@ -81,6 +82,38 @@ impl TimedRead for &TcpStream {
 
 /// No contract states which bytes a socket takes.
 impl TimedWrite for &TcpStream {
+    ghost use Rattle.std.specs.Prelude.{None};
+
+    ghost taken = { λ _. None };
+
+    ghost writes = { λ _ _ _ _. Unit {0} };
+
+    fn write_within(&mut self, limit: Duration, bytes: &[u8]) -> Waited {
+        match self.set_write_timeout(Some(limit)) {
+            Ok(()) => outcome_of(self.write(bytes)),
+            Err(_) => Waited::Failed,
+        }
+    }
+}
+
+/// No contract states which bytes a socket gives.
+impl TimedRead for &UnixStream {
+    ghost use Rattle.std.specs.Prelude.{None};
+
+    ghost to_come = { λ _. None };
+
+    ghost reads = { λ _ _ _ _. Unit {0} };
+
+    fn read_within(&mut self, limit: Duration, room: &mut [u8]) -> Waited {
+        match self.set_read_timeout(Some(limit)) {
+            Ok(()) => outcome_of(self.read(room)),
+            Err(_) => Waited::Failed,
+        }
+    }
+}
+
+/// No contract states which bytes a socket takes.
+impl TimedWrite for &UnixStream {
     ghost use Rattle.std.specs.Prelude.{None};
 
     ghost taken = { λ _. None };

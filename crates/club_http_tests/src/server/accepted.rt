@@ -2,14 +2,14 @@
 //! day they name, and under limits by a clock that is set by hand. Only these tests refuse an
 //! exchange that reads or writes less over its socket, or by other limits.
 
-use super::noon;
+use super::{client_at, noon};
 use crate::expect::expect_bytes;
 use crate::rows::{expect_row, moment};
 use crate::sockets::{client_of, loopback_listener};
 use club_core::{Reply, Request};
 use club_http::{AnswerFault, Face, Responder};
 use club_values::{Kind, Moment};
-use desk_server::{Connection, Connections, Listening};
+use desk_server::Connection;
 use http_request::Words;
 use std::alloc::Global;
 use std::cell::Cell;
@@ -91,7 +91,7 @@ fn exchanges_after(
     desk: &mut Recorder<'_>,
 ) -> Result<Reply, AnswerFault> {
     let clock = desk.clock;
-    let accepted = Listening::new(listener, clock, Duration::from_millis(PATIENCE)).accept();
+    let accepted = client_at(listener, clock, Duration::from_millis(PATIENCE));
     let mut connection = accepted.expect(rt, "a connection");
     clock.advance(waited);
     let mut face = Face::new(rt.alloc()).expect(rt, "a face");

@@ -53,6 +53,20 @@ impl Log for Closings {
 /// before it is closed.
 static CUT: [&[u8]; 3] = [b"", b"G", b"GET /account HTTP/1.1\r\nHost: club\r\n"];
 
+// The next connection of the listener is served with this log; whether the server came to its end.
+fn serves_with<'x>(
+    rt: &'x (impl Abort + Alloc<A = Global> + Clock),
+    listener: &'x TcpListener,
+    log: &mut Closings,
+) -> bool {
+    let mut arrivals = Listening::new(listener, None, rt, Duration::from_millis(20));
+    let mut face = Face::new(rt.alloc()).expect(rt, "a face");
+    let mut moments = noon(rt);
+    let mut desk = Noting::new(rt.alloc(), moments.moment);
+    let served = serve_logged(&mut arrivals, 1, &mut moments, &mut face, &mut desk, log);
+    served.is_ok()
+}
+
 fn closes_before_its_line(
     rt: &(impl Abort + Alloc<A = Global> + Clock + Net<Listener = TcpListener, Stream = TcpStream>),
     sent: &[u8],
@@ -63,19 +77,8 @@ fn closes_before_its_line(
         lines: 0,
         closed: 0,
     };
-    let mut connections = Listening::new(&listener, rt, Duration::from_millis(20));
-    let mut face = Face::new(rt.alloc()).expect(rt, "a face");
-    let mut moments = noon(rt);
-    let mut desk = Noting::new(moments.moment);
-    let served = serve_logged(
-        &mut connections,
-        1,
-        &mut moments,
-        &mut face,
-        &mut desk,
-        &mut log,
-    );
-    expect_eq(rt, &(served.is_ok(), log.lines, log.closed), &(true, 1, 1));
+    let served = serves_with(rt, &listener, &mut log);
+    expect_eq(rt, &(served, log.lines, log.closed), &(true, 1, 1));
 }
 
 #[test]

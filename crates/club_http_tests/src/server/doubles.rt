@@ -6,17 +6,25 @@ use club_clock::Moments;
 use club_core::{Refusal, Reply};
 use club_http::{AnswerFault, Face, ReadInlet, Responder, WriteOutlet, answer};
 use club_values::Moment;
-use desk_server::{Connection, Connections, IdleHook, TimedRead, TimedWrite, Waited};
+use desk_server::{
+    Answer, Arrival, Arrivals, Carried, Connection, Handover, Office, RequestLine, TimedRead,
+    TimedWrite, Waited,
+};
 use http_request::Words;
+use std::alloc::Global;
 use std::cell::Cell;
 use std::io::{self, ErrorKind, Read, Write};
 use std::time::{Clock, Duration};
 
-/// What comes of waiting for a connection.
+/// What comes of waiting for an arrival.
 #[derive(Clone, Copy, Drop)]
 pub enum Wire<'a> {
-    /// None: `accept` failed.
+    /// Nobody: waiting failed.
     Absent,
+    /// A connection of the office with these bytes.
+    Order(&'a [u8]),
+    /// One whose order doesn't come whole.
+    Cut,
     /// One whose reader fails.
     Broken,
     /// One that sends these bytes, and then ends.
@@ -86,7 +94,23 @@ impl Connection for Wire<'_> {
     }
 }
 
-/// Connections in turn.
+/// A connection of the office over memory.
+#[derive(Drop)]
+pub struct Letter<'a>(Option<&'a [u8]>);
+
+impl Handover for Letter<'_> {
+    fn carry_out<D: Office>(&mut self, desk: &mut D) -> Option<Carried> {
+        match self.0 {
+            Some(bytes) => {
+                let Answer { carried, text: _ } = desk.order(bytes);
+                Some(carried)
+            }
+            None => None,
+        }
+    }
+}
+
+/// Arrivals in turn.
 #[derive(Drop)]
 pub struct Script<'a> {
     wires: &'a [Wire<'a>],
@@ -104,22 +128,26 @@ impl<'a> Script<'a> {
     }
 }
 
-impl<'a> Connections for Script<'a> {
-    type Connection = Wire<'a>;
+impl<'a> Arrivals for Script<'a> {
+    type Client = Wire<'a>;
+
+    type Order = Letter<'a>;
 
     ghost waited = { λ script. script.waited };
 
     ghost failures = { λ script. script.failures };
 
-    fn accept(&mut self) -> Option<Wire<'a>> {
+    fn next(&mut self) -> Arrival<Wire<'a>, Letter<'a>> {
         let place = self.waited as usize;
         self.waited = self.waited.saturating_add(1);
         match self.wires.get(place) {
             None | Some(Wire::Absent) => {
                 self.failures = self.failures.saturating_add(1);
-                None
+                Arrival::Nobody
             }
-            Some(wire) => Some(*wire),
+            Some(Wire::Order(bytes)) => Arrival::Order(Letter(Some(bytes))),
+            Some(Wire::Cut) => Arrival::Order(Letter(None)),
+            Some(wire) => Arrival::Client(*wire),
         }
     }
 }
@@ -347,21 +375,25 @@ impl TimedWrite for Slow<'_> {
     }
 }
 
-/// Answers all requests as out of memory, and counts those at its moment, and the calls of its
-/// hook.
+/// Answers all requests as out of memory, and counts those at its moment, and the orders and their
+/// bytes.
 #[derive(Drop)]
 pub struct Noting {
+    alloc: Global,
     moment: Moment,
     pub asked: u64,
-    pub idled: u64,
+    pub ordered: u64,
+    pub bytes: usize,
 }
 
 impl Noting {
-    pub fn new(moment: Moment) -> Noting {
+    pub fn new(alloc: Global, moment: Moment) -> Noting {
         Noting {
+            alloc,
             moment,
             asked: 0,
-            idled: 0,
+            ordered: 0,
+            bytes: 0,
         }
     }
 }
@@ -377,10 +409,18 @@ impl Responder for Noting {
     }
 }
 
-impl IdleHook for Noting {
-    ghost idles = { λ _ _. Unit {0} };
+impl Office for Noting {
+    ghost orders = { λ _ _ _ _. Unit {0} };
 
-    fn on_idle(&mut self) {
-        self.idled = self.idled.saturating_add(1);
+    fn order(&mut self, bytes: &[u8]) -> Answer {
+        self.ordered = self.ordered.saturating_add(1);
+        self.bytes = self.bytes.saturating_add(bytes.len());
+        Answer {
+            carried: Carried {
+                line: RequestLine::of(b"office credit "),
+                status: 1,
+            },
+            text: String::new(self.alloc),
+        }
     }
 }

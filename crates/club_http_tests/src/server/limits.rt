@@ -6,8 +6,10 @@ use crate::expect::expect_eq;
 use crate::rows::{expect_row, moment};
 use crate::sockets::loopback_listener;
 use club_http::{AnswerFault, Face, answer};
-use desk_server::{Connections, Limit, Listening, TimedInlet, TimedOutlet};
+use desk_server::{Arrival, Arrivals, Limit, Listening, TimedInlet, TimedOutlet};
+use libc::net as c;
 use std::alloc::Global;
+use std::os::fd::AsRawFd;
 use std::process::Abort;
 use std::time::Duration;
 use test_kit::moments::NOON;
@@ -58,7 +60,7 @@ fn outcome_of(rt: &(impl Abort + Alloc<A = Global>), client: &Client) -> Outcome
     let limit = Limit::after(&clock, patience);
     let mut face = Face::new(rt.alloc()).expect(rt, "a face");
     let noon = moment(rt, NOON);
-    let mut desk = Noting::new(noon);
+    let mut desk = Noting::new(rt.alloc(), noon);
     let mut inlet = TimedInlet::new(Slow::new(&clock, sends, REQUEST), &limit);
     let mut outlet = TimedOutlet::new(Slow::new(&clock, takes, b""), &clock, patience);
     let outcome = answer(&mut face, &mut desk, noon, &mut inlet, &mut outlet);
@@ -105,7 +107,7 @@ fn outcome_interrupted(
     let mut outlet = TimedOutlet::new(Slow::new(&clock, 0, b""), &clock, patience);
     let outcome = answer(
         &mut face,
-        &mut Noting::new(noon),
+        &mut Noting::new(rt.alloc(), noon),
         noon,
         &mut inlet,
         &mut outlet,
@@ -153,15 +155,15 @@ fn what_still_comes_is_taken(rt: HostRuntime) {
     }
 }
 
-// A listener that waits for nobody fails at once, and the server rests each time.
+// A listener that is shut down fails at once, and the server rests each time.
 #[test]
-fn rests_after_a_connection_that_failed(rt: HostRuntime) {
+fn rests_after_a_wait_that_failed(rt: HostRuntime) {
     let listener = loopback_listener(&rt);
-    listener.set_nonblocking(true).expect(&rt, "a listener");
+    let _ = c::shutdown(listener.as_raw_fd(), c::SHUT_RDWR);
     let clock = Running::new(ALWAYS);
-    let mut connections = Listening::new(&listener, &clock, Duration::from_secs(10));
+    let mut arrivals = Listening::new(&listener, None, &clock, Duration::from_secs(10));
     for _ in 0..3 {
-        expect_eq(&rt, &connections.accept().is_none(), &true);
+        expect_eq(&rt, &matches!(arrivals.next(), Arrival::Nobody), &true);
     }
     expect_eq(&rt, &clock.elapsed(), &30);
 }

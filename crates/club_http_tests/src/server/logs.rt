@@ -12,8 +12,10 @@ use std::io::Write;
 use std::process::Abort;
 use test_kit::moments::NOON;
 
-static SCRIPT: [Wire<'static>; 8] = [
+static SCRIPT: [Wire<'static>; 10] = [
+    Wire::Order(b"an order"),
     Wire::Whole(REQUEST),
+    Wire::Cut,
     Wire::Absent,
     Wire::Broken,
     Wire::Deaf(REQUEST),
@@ -23,7 +25,9 @@ static SCRIPT: [Wire<'static>; 8] = [
     Wire::Whole(b"AgEJY2x1Yi1kZXNr /account HTTP/1.1\r\n\r\n"),
 ];
 
-const LINES: &str = "2026-04-20T12:00 GET /account 503 1533
+const LINES: &str = "2026-04-20T12:00 office credit 1 1533
+2026-04-20T12:00 GET /account 503 1533
+2026-04-20T12:00 office - - 1533
 - - - - 0
 2026-04-20T12:00 - - - 1533
 2026-04-20T12:00 GET /account - 1533
@@ -33,7 +37,7 @@ const LINES: &str = "2026-04-20T12:00 GET /account 503 1533
 2026-04-20T12:00 - /account 405 1533
 ";
 
-/// What comes of serving with a log: the outcome, how many connections were waited for, and how
+/// What comes of serving with a log: the outcome, how many arrivals were waited for, and how
 /// many requests the desk was asked at noon.
 type Served = (Result<(), ClockOutOfRange>, u64, u64);
 
@@ -43,11 +47,11 @@ fn serve_script<M: Moments, G: Log>(
     moments: &mut M,
     log: &mut G,
 ) -> Served {
-    let mut connections = Script::new(&SCRIPT);
+    let mut arrivals = Script::new(&SCRIPT);
     let mut face = Face::new(rt.alloc()).expect(rt, "a face");
-    let mut desk = Noting::new(moment(rt, NOON));
-    let outcome = serve_logged(&mut connections, 8, moments, &mut face, &mut desk, log);
-    (outcome, connections.waited, desk.asked)
+    let mut desk = Noting::new(rt.alloc(), moment(rt, NOON));
+    let outcome = serve_logged(&mut arrivals, 8, moments, &mut face, &mut desk, log);
+    (outcome, arrivals.waited, desk.asked)
 }
 
 /// The same, with the lines written here.
@@ -71,7 +75,7 @@ fn a_log_has_its_lines() {
 fn a_line_for_each_connection(rt: HostRuntime) {
     let mut written = Vec::new(rt.alloc());
     let returned = log_script(&rt, &mut noon(&rt), &mut written);
-    expect_eq(&rt, &returned, &(Ok(()), 8, 2));
+    expect_eq(&rt, &returned, &(Ok(()), 10, 2));
     expect_bytes(&rt, &written, LINES.as_bytes(), "the script");
 }
 
@@ -79,13 +83,14 @@ fn a_line_for_each_connection(rt: HostRuntime) {
 fn a_line_for_a_connection_without_a_moment(rt: HostRuntime) {
     let mut written = Vec::new(rt.alloc());
     let returned = log_script(&rt, &mut noons(&rt, 0), &mut written);
-    expect_eq(&rt, &returned, &(Err(ClockOutOfRange), 1, 0));
-    expect_bytes(&rt, &written, b"- - - - 1533\n", "no moment");
+    expect_eq(&rt, &returned, &(Err(ClockOutOfRange), 2, 0));
+    let lines = b"- office credit 1 1533\n- - - - 1533\n";
+    expect_bytes(&rt, &written, lines, "no moment");
 }
 
 // What is served is the same.
 #[test]
 fn a_log_that_fails(rt: HostRuntime) {
     let returned = log_script(&rt, &mut noon(&rt), &mut Taken { fails: true });
-    expect_eq(&rt, &returned, &(Ok(()), 8, 2));
+    expect_eq(&rt, &returned, &(Ok(()), 10, 2));
 }

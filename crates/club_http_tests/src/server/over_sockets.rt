@@ -3,12 +3,12 @@
 //! its socket or writes nothing to it.
 
 use super::doubles::{Noting, Running};
-use super::{REPLY, REQUEST, noon, serves};
+use super::{REPLY, REQUEST, client_at, noon, serves};
 use crate::expect::{expect_bytes, expect_eq};
 use crate::rows::moment;
 use crate::sockets::{client_of, connect, expect_no_reset, expect_reply, loopback_listener};
 use club_http::Face;
-use desk_server::{Connection, Connections, Listening};
+use desk_server::{Connection, Listening};
 use std::alloc::Global;
 use std::net::{Net, TcpListener, TcpStream};
 use std::process::Abort;
@@ -21,9 +21,9 @@ fn patience() -> Duration {
 }
 
 /// The next two connections of the listener are served, and one request is asked.
-fn serves_two(rt: &(impl Abort + Alloc<A = Global> + Clock), listener: &TcpListener) {
-    let mut connections = Listening::new(listener, rt, patience());
-    let served = serves(rt, &mut connections, 2, &mut noon(rt));
+fn serves_two<'x>(rt: &'x (impl Abort + Alloc<A = Global> + Clock), listener: &'x TcpListener) {
+    let mut arrivals = Listening::new(listener, None, rt, patience());
+    let served = serves(rt, &mut arrivals, 2, &mut noon(rt));
     expect_eq(rt, &served, &(Ok(()), 1));
 }
 
@@ -42,7 +42,7 @@ fn serves_over_a_socket(rt: HostRuntime) {
 fn accepts_a_client(rt: HostRuntime) {
     let listener = loopback_listener(&rt);
     let _client = connect(&rt, &listener);
-    let accepted = Listening::new(&listener, &rt, patience()).accept();
+    let accepted = client_at(&listener, &rt, patience());
     expect_eq(&rt, &accepted.is_some(), &true);
 }
 
@@ -54,11 +54,15 @@ const BAD_REQUEST: &[u8] =
 static EXCHANGES: [(&[u8], u64, &[u8]); 2] = [(REQUEST, 1, REPLY), (b"x\r\n\r\n", 0, BAD_REQUEST)];
 
 /// How many requests the desk is asked in an exchange of the listener's next connection.
-fn count_requests(rt: &(impl Abort + Clock), listener: &TcpListener, face: &mut Face) -> u64 {
-    let accepted = Listening::new(listener, rt, patience()).accept();
+fn count_requests(
+    rt: &(impl Abort + Alloc<A = Global> + Clock),
+    listener: &TcpListener,
+    face: &mut Face,
+) -> u64 {
+    let accepted = client_at(listener, rt, patience());
     let mut connection = accepted.expect(rt, "a connection");
     let noon = moment(rt, NOON);
-    let mut desk = Noting::new(noon);
+    let mut desk = Noting::new(rt.alloc(), noon);
     let _ = connection.exchange(face, &mut desk, noon);
     desk.asked
 }
@@ -121,11 +125,11 @@ fn closes_at_once_after_a_request(rt: HostRuntime) {
     let listener = loopback_listener(&rt);
     let _client = client_of(&rt, &listener, REQUEST);
     let clock = Running::new(10);
-    let accepted = Listening::new(&listener, &clock, patience()).accept();
+    let accepted = client_at(&listener, &clock, patience());
     let mut connection = accepted.expect(&rt, "a connection");
     let noon = moment(&rt, NOON);
     let mut face = Face::new(rt.alloc()).expect(&rt, "a face");
-    let outcome = connection.exchange(&mut face, &mut Noting::new(noon), noon);
+    let outcome = connection.exchange(&mut face, &mut Noting::new(rt.alloc(), noon), noon);
     expect_eq(&rt, &(outcome.is_ok(), clock.readable()), &(true, 6));
 }
 
@@ -135,7 +139,7 @@ fn cuts_a_silent_client_off(rt: HostRuntime) {
     let listener = loopback_listener(&rt);
     let _silent = connect(&rt, &listener);
     let _slow = client_of(&rt, &listener, b"GET /acc");
-    let mut connections = Listening::new(&listener, &rt, Duration::from_millis(50));
-    let served = serves(&rt, &mut connections, 2, &mut noon(&rt));
+    let mut arrivals = Listening::new(&listener, None, &rt, Duration::from_millis(50));
+    let served = serves(&rt, &mut arrivals, 2, &mut noon(&rt));
     expect_eq(&rt, &served, &(Ok(()), 0));
 }

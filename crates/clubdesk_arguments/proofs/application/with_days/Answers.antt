@@ -4,5 +4,4 @@ pub returns : goal.returns
 returns c = λ before is.
     let one = c.with_command-app.ensures.made _ _ is c.make_close_slot.ensures in
     let two = c.with_command-app-2.ensures.made _ _ one c.make_sheet.ensures in
-    let three = c.with_command-app-3.ensures.made _ _ two c.make_serve.ensures in
-    c.with_command.ensures.made _ _ three c.make_pause.ensures
+    c.with_command.ensures.made _ _ two c.make_serve.ensures

@@ -1,0 +1,16 @@
+use Rattle.std.proofs.Common.{Err, ap, refl}
+use Rattle.desk_server.specs.Served as served
+use Rattle.clubdesk_commands.specs.Run as spec
+use Rattle.clubdesk_commands.proofs.server.serve_file.Goals as goal
+
+pub returns-in-Err-clause-done : goal.returns-in-Err-clause-done
+returns-in-Err-clause-done g c = spec.not_opened c.in-Err.fault c.in-Err.ensures (ap Err c.from.ensures) refl served.nothing
+
+pub returns-in_default-clause-done : goal.returns-in_default-clause-done
+returns-in_default-clause-done g c =
+    spec.no_door c.args.service c.in-Ok.store c.open.new.self refl c.in-Ok.ensures c.close.ensures refl refl served.nothing
+
+pub returns-clause-done : goal.returns-clause-done
+returns-clause-done g c =
+    spec.server_done c.args.service c.in-Ok.store c.serve-outcome.new.desk c.open.new.self refl c.in-Ok.ensures
+    (rw c.new-desk.ensures at c.serve-outcome.ensures.served) c.serve-outcome.ensures.announced (rw c.into_store.ensures at c.close-2.ensures)

@@ -1,0 +1,22 @@
+-- The bytes of an order, as its command hands them to a server (ours).
+use Rattle.std.specs.Prelude.{◌≡◌, ℕ, List, [], ◌∷◌, ◌++◌, length, map, Option, Some, None, decimal}
+use Rattle.std.specs.String.{string_bytes}
+use Rattle.clap.specs.Words.{Text}
+use Rattle.clubdesk_commands.specs.declared.order.Order.{Order}
+
+-- a piece, and the byte that ends it, which no word has
+abbrev pub piece : Text → List ℕ
+piece text = text ++ 0 ∷ []
+
+abbrev pub pieces : List Text → List ℕ
+pieces [] = []
+pieces (text ∷ texts) = piece text ++ pieces texts
+
+-- how many words there are, the root that was read from standard input, empty if none was, and the words
+abbrev pub order_bytes : Text → List Text → List ℕ
+order_bytes root words = piece (decimal (length words)) ++ (piece root ++ pieces words)
+
+-- the bytes are those of the order, if there is one
+abbrev pub IsOrderOf : List ℕ → Option Order → Type 0
+IsOrderOf bytes (Some order) = bytes ≡ order_bytes (string_bytes order.root) (map string_bytes order.words.items)
+IsOrderOf bytes None = Unit {0}

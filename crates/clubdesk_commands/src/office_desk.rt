@@ -1,0 +1,188 @@
+//! A desk that a server serves, with the office at it.
+
+ghost use Rattle.std.specs.Prelude.{◌≡◌, map, MatchOption, Err};
+ghost use Rattle.std.specs.String.{string_bytes};
+ghost use Rattle.clubdesk_commands.specs.Does.{Does, IsOffice};
+ghost use Rattle.clubdesk_commands.specs.OfficeDesk as spec;
+ghost use Rattle.clubdesk_commands.specs.OfficeDesk.{AnswersWith};
+ghost use Rattle.clubdesk_commands.specs.Output.{text_of};
+
+use crate::input::with_root_of;
+use crate::order::{Order, read_order};
+use crate::program::{carry_out, is_office};
+use club_core::{ClubStore, Reply};
+use club_gate::Desk;
+use club_http::{Responder, Words};
+use club_values::Moment;
+use clubdesk_arguments::{Asked, Fault, Job, command_of};
+use desk_server::{Answer, Carried, Office, RequestLine};
+use http_response::Line;
+use std::alloc::Global;
+use std::marker::Model;
+use std::time::Clock;
+
+/// The status of an order that was done.
+const DONE: u8 = 0;
+
+/// The status of bytes that spell no order of the office.
+const NO_ORDER: u8 = 2;
+
+/// The status of an order whose answer memory was refused for.
+const OUT_OF_MEMORY: u8 = 4;
+
+/// More letters than a command's name has.
+const MAX_NAME_LEN: usize = 24;
+
+/// A desk over an open store, and what its office needs besides: memory, and the machine's clock.
+/// Contracts see it as the store.
+#[derive(Drop)]
+pub struct OfficeDesk<'a, S: ClubStore, C> {
+    desk: Desk<S>,
+    alloc: Global,
+    machine: &'a C,
+}
+
+impl<'a, S: ClubStore, C> Model for OfficeDesk<'a, S, C> {
+    ghost Value = { S };
+
+    ghost view = { λ desk. desk.desk };
+}
+
+impl<'a, S: ClubStore, C: Clock> OfficeDesk<'a, S, C> {
+    ghost use Rattle.std.specs.Prelude.{◌≡◌};
+
+    /// A desk over this store.
+    pub fn new(alloc: Global, machine: &'a C, store: S) -> OfficeDesk<'a, S, C>
+        ensures { result ≡ store }
+    {
+        OfficeDesk {
+            desk: Desk::new(alloc, store),
+            alloc,
+            machine,
+        }
+    }
+
+    /// The store.
+    pub fn into_store(self) -> S
+        ensures { result ≡ self.entry }
+    {
+        let OfficeDesk { desk, .. } = self;
+        desk.into_store()
+    }
+}
+
+impl<S: ClubStore, C: Clock> Responder for OfficeDesk<'_, S, C> {
+    ghost use Rattle.club_http.specs.Desk.{AnswersBy};
+
+    ghost answers = { AnswersBy S.disk_is_clean S.represents S.fails };
+
+    fn ask(&mut self, moment: Moment, words: &Words<'_>) -> Reply {
+        Responder::ask(&mut self.desk, moment, words)
+    }
+}
+
+impl<S: ClubStore, C: Clock> Office for OfficeDesk<'_, S, C> {
+    ghost use Rattle.clubdesk_commands.specs.OfficeDesk.{Orders};
+
+    ghost orders = { Orders S.disk_is_clean S.represents };
+
+    fn order(&mut self, bytes: &[u8]) -> Answer {
+        let order = match read_order(self.alloc, bytes) {
+            Ok(Some(order)) => order,
+            Ok(None) => return answer_of(NO_ORDER, None, String::new(self.alloc)),
+            Err(_) => return answer_of(OUT_OF_MEMORY, None, String::new(self.alloc)),
+        };
+        match answer_order(self.alloc, self.machine, &mut self.desk, &order) {
+            None => answer_of(NO_ORDER, None, String::new(self.alloc)),
+            Some(Ok(text)) => answer_of(DONE, order.words.get(1), text),
+            Some(Err(fault)) => refusal_of(self.alloc, &fault, order.words.get(1)),
+        }
+    }
+}
+
+// Does what an order asks for; `None` if it asks for nothing of the office's.
+fn answer_order<S: ClubStore, C: Clock>(
+    alloc: Global,
+    machine: &C,
+    desk: &mut Desk<S>,
+    order: &Order,
+) -> Option<Result<String, Fault>>
+    ensures { MatchOption result (desk.new ≡ desk.old) (λ answer. spec.DoesWords
+        S.disk_is_clean S.represents (string_bytes order.now.root)
+        (map string_bytes order.now.words.items) (text_of answer) desk.old desk.new) }
+{
+    match command_of(alloc, order.words.as_slice()) {
+        Ok(asked) => answer_asked(alloc, machine, desk, order.root.as_str(), asked),
+        Err(fault) => Some(Err(fault)),
+    }
+}
+
+// Does what words ask for, with the root that was read for them.
+fn answer_asked<S: ClubStore, C: Clock>(
+    alloc: Global,
+    machine: &C,
+    desk: &mut Desk<S>,
+    root: &str,
+    asked: Asked<'_>,
+) -> Option<Result<String, Fault>>
+    ensures { MatchOption result (desk.new ≡ desk.old) (λ answer. spec.DoesAsked
+        S.disk_is_clean S.represents root.now asked.entry (text_of answer) desk.old desk.new) }
+{
+    match asked {
+        Asked::ShowText(_text) => None,
+        Asked::Perform(job) => match with_root_of(root.as_bytes(), job) {
+            Ok(job) => perform(alloc, machine, desk, job),
+            Err(fault) => Some(Err(fault)),
+        },
+    }
+}
+
+// Does a task that has its root; `None` if it isn't the office's.
+fn perform<S: ClubStore, C: Clock>(
+    alloc: Global,
+    machine: &C,
+    desk: &mut Desk<S>,
+    job: Job<'_>,
+) -> Option<Result<String, Fault>>
+    ensures { MatchOption result (desk.new ≡ desk.old) (λ answer. IsOffice job.entry.task
+        × Does S.disk_is_clean S.represents job.entry.task (text_of answer) desk.old desk.new) }
+{
+    let Job { file: _, task } = job;
+    if !is_office(&task) {
+        return None;
+    }
+    Some(carry_out(alloc, machine, desk, task))
+}
+
+// The answer with this status and text. Only the name of a command is kept for a log.
+fn answer_of(status: u8, name: Option<&String>, text: String) -> Answer
+    ensures status { result.carried.status ≡ status }
+    ensures text { result.text ≡ text }
+{
+    let mut line = Line::new();
+    if let Some(name) = name {
+        let name = name.as_str().as_bytes();
+        line.push(b"office ");
+        line.push(&name[..name.len().min(MAX_NAME_LEN)]);
+        line.push(b" ");
+    }
+    let line = RequestLine::of(line.as_bytes());
+    Answer {
+        carried: Carried { line, status },
+        text,
+    }
+}
+
+// The answer for a fault: its status and its line.
+fn refusal_of(alloc: Global, fault: &Fault, name: Option<&String>) -> Answer
+    ensures { AnswersWith (Err fault.now) result }
+{
+    let name = match fault {
+        Fault::Words(_) => None,
+        _ => name,
+    };
+    match format!(in alloc; "{fault}") {
+        Ok(line) => answer_of(fault.status(), name, line),
+        Err(_) => answer_of(OUT_OF_MEMORY, name, String::new(alloc)),
+    }
+}

@@ -1,0 +1,81 @@
+//! The door of a server, in the file system: a socket beside the database, for its owner alone.
+
+use crate::beside::{IN_MEMORY, OWNERS_MODE, Place, remove_socket};
+use desk_server::Door;
+use libc::{fchmod, net as c};
+use std::io;
+use std::io::ErrorKind;
+use std::net::Net;
+use std::os::fd::{AsFd, AsRawFd};
+use std::os::unix::net::{SocketAddr, UnixListener};
+use std::rt::Files;
+
+/// How many orders may wait.
+const BACKLOG: i32 = 128;
+
+/// The socket of a server's door. It is removed when this is dropped. A database in memory has no
+/// door.
+pub struct FileDoor<'a> {
+    rt: &'a HostRuntime,
+    at: Option<(Place, UnixListener)>,
+}
+
+impl<'a> FileDoor<'a> {
+    /// Makes the door of a database, in place of the socket that a killed server left. Only the
+    /// program that has the database open calls this, so nobody listens at a socket that is there.
+    ///
+    /// # Errors
+    ///
+    /// Something else than a socket has the door's name, or the folder can't be written.
+    pub fn make(rt: &'a HostRuntime, file: &str) -> io::Result<FileDoor<'a>> {
+        if file == IN_MEMORY {
+            return Ok(FileDoor { rt, at: None });
+        }
+        let place = Place::find(rt, file)?;
+        place.remove_old(rt);
+        let path = place.door(rt)?;
+        remove_socket(rt, path.as_str())?;
+        let listener = bind_private(rt, path.as_str())?;
+        Ok(FileDoor {
+            rt,
+            at: Some((place, listener)),
+        })
+    }
+}
+
+// Binds a socket at a path. The mode of its file is that of its descriptor, less the umask, so
+// nobody else can connect at any time.
+fn bind_private(rt: &HostRuntime, path: &str) -> io::Result<UnixListener> {
+    let address = SocketAddr::from_pathname(path)?;
+    let socket = rt.unix_socket()?;
+    if fchmod(socket.as_raw_fd(), OWNERS_MODE) < 0 {
+        return Err(io::Error::from(ErrorKind::Other));
+    }
+    rt.bind_unix(socket.as_fd(), &address)?;
+    if c::listen(socket.as_raw_fd(), BACKLOG) < 0 {
+        return Err(io::Error::from(ErrorKind::Other));
+    }
+    let listener = UnixListener::from(socket);
+    listener.set_nonblocking(true)?;
+    Ok(listener)
+}
+
+impl Door for FileDoor<'_> {
+    fn listener(&self) -> Option<&UnixListener> {
+        match &self.at {
+            Some((_, listener)) => Some(listener),
+            None => None,
+        }
+    }
+}
+
+impl Drop for FileDoor<'_> {
+    fn drop(self) {
+        let FileDoor { rt, at } = self;
+        if let Some((place, _listener)) = at {
+            if let Ok(path) = place.door(rt) {
+                let _ = remove_socket(rt, path.as_str());
+            }
+        }
+    }
+}

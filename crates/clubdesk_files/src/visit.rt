@@ -1,0 +1,92 @@
+//! A command that gives its order to a server.
+
+use crate::beside::Place;
+use desk_server::{GREETING, Visit};
+use std::io;
+use std::io::{ErrorKind, Read, Write};
+use std::net::Shutdown;
+use std::os::unix::net::UnixStream;
+use std::time::Duration;
+
+/// How many seconds the server has to greet: longer than one client can hold it under the default
+/// patience.
+const GREETING_SECONDS: u64 = 60;
+
+/// How many seconds the server has to take an order and to answer it.
+const ANSWER_SECONDS: u64 = 600;
+
+/// A server that has greeted.
+#[derive(Drop)]
+pub struct FileVisit<'a> {
+    rt: &'a HostRuntime,
+    stream: UnixStream,
+}
+
+/// What comes of looking for a server.
+pub(crate) enum Found<'a> {
+    /// It has greeted.
+    Greeted(FileVisit<'a>),
+    /// Nobody listens.
+    Nobody,
+    /// One listens, but doesn't greet in time, or the door can't be used.
+    Silent,
+}
+
+/// Looks for the server of a database.
+pub(crate) fn look<'a>(rt: &'a HostRuntime, file: &str) -> Found<'a> {
+    match connect(rt, file) {
+        Ok(stream) => match greeted(&stream) {
+            Ok(()) => Found::Greeted(FileVisit { rt, stream }),
+            Err(_) => Found::Silent,
+        },
+        Err(error) => match error.kind() {
+            ErrorKind::NotFound | ErrorKind::ConnectionRefused => Found::Nobody,
+            _ => Found::Silent,
+        },
+    }
+}
+
+fn connect(rt: &HostRuntime, file: &str) -> io::Result<UnixStream> {
+    let place = Place::find(rt, file)?;
+    let path = place.door(rt)?;
+    UnixStream::connect(rt, path.as_str())
+}
+
+// Waits for the greeting of a server.
+fn greeted(stream: &UnixStream) -> io::Result<()> {
+    let mut stream = stream;
+    let mut greeting = [0; 1];
+    stream.set_read_timeout(Some(Duration::from_secs(GREETING_SECONDS)))?;
+    stream.read_exact(&mut greeting)?;
+    if greeting == GREETING {
+        Ok(())
+    } else {
+        Err(io::Error::from(ErrorKind::InvalidData))
+    }
+}
+
+impl Visit for FileVisit<'_> {
+    fn give(self, order: &[u8]) -> Option<(u8, String)> {
+        let FileVisit { rt, stream } = self;
+        answered(rt, &stream, order).ok()
+    }
+}
+
+// Sends an order, and reads the answer to its end: the status, and the text.
+fn answered(rt: &HostRuntime, stream: &UnixStream, order: &[u8]) -> io::Result<(u8, String)> {
+    let mut stream = stream;
+    let most = Some(Duration::from_secs(ANSWER_SECONDS));
+    stream.set_read_timeout(most)?;
+    stream.set_write_timeout(most)?;
+    stream.write_all(order)?;
+    stream.shutdown(Shutdown::Write)?;
+    let mut answer = Vec::new(rt.alloc());
+    stream.read_to_end(&mut answer)?;
+    match answer.split_first() {
+        Some((status, text)) => {
+            let text = String::from_utf8_lossy(rt.alloc(), text)?;
+            Ok((*status, text))
+        }
+        None => Err(io::Error::from(ErrorKind::UnexpectedEof)),
+    }
+}

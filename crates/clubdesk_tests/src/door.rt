@@ -1,0 +1,68 @@
+//! The door of a server: its file, and orders by it, from the first byte to the answer.
+
+use crate::expect::expect_eq;
+use crate::runs::{Row, expect_rows, new_path, remove};
+use clubdesk_files::FileDoor;
+use desk_server::Door;
+use std::fs;
+use std::os::unix::fs::{FileTypeExt, MetadataExt};
+use std::os::unix::net::UnixStream;
+use std::test::Fail;
+
+static AMY: [Row; 1] = [Row("add-member", "amy 5", "0 done\n")];
+
+fn door_of(rt: &HostRuntime, path: &str) -> Result<String, Fail> {
+    Ok(format!(in rt.alloc(); "{path}-office")?)
+}
+
+// The mode of a socket; `None` if there is none.
+fn socket_mode(rt: &HostRuntime, path: &str) -> Option<u32> {
+    let found = fs::symlink_metadata(rt, path).ok()?;
+    if found.file_type().is_socket() {
+        Some(found.mode() & 0o777)
+    } else {
+        None
+    }
+}
+
+/// The mode of a file that is its owner's alone.
+const OWN: Option<u32> = Some(0o600);
+
+// A door is its owner's alone, is removed when it is dropped, and takes the place of a stale one.
+#[test]
+fn a_door_beside_its_file(rt: HostRuntime) -> Result<(), Fail> {
+    let path = new_path(&rt, "door")?;
+    expect_rows(&rt, path.as_str(), &AMY)?;
+    let place = door_of(&rt, path.as_str())?;
+    let door = FileDoor::make(&rt, path.as_str())?;
+    expect_eq(&rt, &socket_mode(&rt, place.as_str()), &OWN);
+    let again = FileDoor::make(&rt, path.as_str())?;
+    expect_eq(
+        &rt,
+        &UnixStream::connect(&rt, place.as_str()).is_ok(),
+        &true,
+    );
+    expect_eq(&rt, &again.listener().is_some(), &true);
+    drop(again);
+    expect_eq(&rt, &socket_mode(&rt, place.as_str()), &None);
+    drop(door);
+    remove(&rt, path.as_str());
+    Ok(())
+}
+
+// A file or a folder at the door's name stays, and there is no door.
+#[test]
+fn no_door_over_a_file(rt: HostRuntime) -> Result<(), Fail> {
+    let path = new_path(&rt, "no-door")?;
+    expect_rows(&rt, path.as_str(), &AMY)?;
+    let place = door_of(&rt, path.as_str())?;
+    fs::write(&rt, place.as_str(), b"x")?;
+    expect_eq(&rt, &FileDoor::make(&rt, path.as_str()).is_err(), &true);
+    expect_eq(&rt, &fs::read(&rt, place.as_str())?.len(), &1);
+    fs::remove_file(&rt, place.as_str())?;
+    fs::create_dir(&rt, place.as_str())?;
+    expect_eq(&rt, &FileDoor::make(&rt, path.as_str()).is_err(), &true);
+    fs::remove_dir(&rt, place.as_str())?;
+    remove(&rt, path.as_str());
+    Ok(())
+}

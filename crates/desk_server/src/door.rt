@@ -1,0 +1,94 @@
+//! The office's door, as the server sees it.
+
+ghost use Rattle.std.specs.Prelude.{◌≡◌, ◌≤◌, length, take, IfSome};
+ghost use Rattle.std.specs.Io.KnownBytes.{Consumes, IsAtEnd};
+
+use crate::connections::Handover;
+use crate::limit::{Limit, MonotonicClock};
+use crate::office::{Answer, Carried, Office};
+use crate::timed::{TimedInlet, TimedOutlet};
+use club_http::{Inlet, put_all};
+use std::os::unix::net::UnixStream;
+use std::time::Duration;
+
+/// What the server sends when it has accepted a connection of the office. Only then the command
+/// sends its order: one that has gone by then has sent none.
+pub const GREETING: [u8; 1] = *b"!";
+
+/// The most bytes of an order, less one.
+pub const MAX_ORDER_LEN: usize = 8_192;
+
+/// How many milliseconds the office has to send its order.
+const ORDER_MILLISECONDS: u64 = 1_000;
+
+/// A connection of the office that a door accepted. The answer has to be taken within the patience.
+#[derive(Drop)]
+pub struct Handed<'c, C> {
+    stream: UnixStream,
+    clock: &'c C,
+    patience: Duration,
+}
+
+impl<'c, C: MonotonicClock> Handed<'c, C> {
+    // A connection that was accepted now.
+    pub(crate) fn new(stream: UnixStream, clock: &'c C, patience: Duration) -> Handed<'c, C> {
+        Handed {
+            stream,
+            clock,
+            patience,
+        }
+    }
+
+    // Greets the command, and reads its order; `None` if it doesn't come whole and in time.
+    fn receive(&self, room: &mut [u8]) -> Option<usize>
+        ensures { IfSome result (λ n. n ≤ length room.new) }
+    {
+        let stream = &self.stream;
+        let limit = Limit::after(self.clock, Duration::from_millis(ORDER_MILLISECONDS));
+        let mut writer = TimedOutlet::new(stream, self.clock, self.patience);
+        if put_all(&mut writer, &GREETING).is_err() {
+            return None;
+        }
+        read_order(&mut TimedInlet::new(stream, &limit), room)
+    }
+
+    // Sends the answer: the status, and the text. Whether the command takes it changes nothing.
+    fn send(&self, status: u8, text: &str) {
+        let mut writer = TimedOutlet::new(&self.stream, self.clock, self.patience);
+        if put_all(&mut writer, &[status]).is_ok() {
+            let _ = put_all(&mut writer, text.as_bytes());
+        }
+    }
+}
+
+/// Reads the bytes of an order up to the end of the input, and returns how many; `None` if the
+/// reader fails, or the buffer is full before the end.
+pub fn read_order<R: Inlet>(reader: &mut R, room: &mut [u8]) -> Option<usize>
+    ensures { IfSome result (λ n. (n ≤ length room.new)
+        × Consumes (R.to_come reader.old) (R.to_come reader.new) (take n room.new)
+        × IsAtEnd (R.to_come reader.new)) }
+{
+    let mut len = 0;
+    while len < room.len() {
+        match reader.fill(&mut room[len..]) {
+            None => return None,
+            Some(0) => return Some(len),
+            Some(came) => len += came,
+        }
+    }
+    None
+}
+
+impl<C: MonotonicClock> Handover for Handed<'_, C> {
+    fn carry_out<D: Office>(&mut self, desk: &mut D) -> Option<Carried> {
+        let mut room = [0; MAX_ORDER_LEN];
+        match self.receive(&mut room) {
+            Some(len) => {
+                let Answer { carried, text } = desk.order(&room[..len]);
+                self.send(carried.status, text.as_str());
+                Some(carried)
+            }
+            None => None,
+        }
+    }
+}

@@ -1,0 +1,144 @@
+//! The listeners of a server: clients come over TCP, and orders of the office by its door.
+
+use crate::connections::{Accepted, Arrival, Arrivals};
+use crate::door::Handed;
+use libc::net as c;
+use libc::types::pollfd;
+use std::io::ErrorKind;
+use std::net::TcpListener;
+use std::os::fd::{AsRawFd, RawFd};
+use std::os::unix::net::UnixListener;
+use std::time::{Clock, Duration};
+use std::{io, thread};
+
+/// How many milliseconds the server sleeps after waiting failed, so that a listener that keeps
+/// failing doesn't use up all clients at once.
+const REST_MILLISECONDS: u64 = 10;
+
+/// No descriptor: `poll` passes over it.
+const NO_DESCRIPTOR: RawFd = -1;
+
+/// Clients of a listener and, if there is a door, orders of the office, each with the same
+/// patience. Where both wait they take turns.
+#[derive(Drop)]
+pub struct Listening<'a, C> {
+    clients: &'a TcpListener,
+    door: Option<&'a UnixListener>,
+    clock: &'a C,
+    patience: Duration,
+    // whether an order goes before a client
+    order_first: bool,
+    waited: u64,
+    failures: u64,
+}
+
+impl<'a, C: Clock> Listening<'a, C> {
+    ghost use Rattle.std.specs.Prelude.{◌≡◌};
+
+    /// A source whose `next` wasn't called yet. This clock measures the limits.
+    pub fn new(
+        clients: &'a TcpListener,
+        door: Option<&'a UnixListener>,
+        clock: &'a C,
+        patience: Duration,
+    ) -> Listening<'a, C>
+        ensures waited { result.waited ≡ 0 }
+        ensures failures { result.failures ≡ 0 }
+    {
+        Listening {
+            clients,
+            door,
+            clock,
+            patience,
+            order_first: true,
+            waited: 0,
+            failures: 0,
+        }
+    }
+
+    // Waits until an order or a client is there. A connection that was gone before it was accepted
+    // is waited for no more.
+    fn wait(&mut self) -> Arrival<Accepted<'a, C>, Handed<'a, C>>
+        ensures waited { self.new.waited ≡ self.old.waited }
+        ensures failures { self.new.failures ≡ self.old.failures }
+    {
+        for _ in 0..u64::MAX {
+            let Some((order, client)) = self.ready() else {
+                return Arrival::Nobody;
+            };
+            let arrival = if order && (self.order_first || !client) {
+                self.order_first = false;
+                self.take_order()
+            } else {
+                self.order_first = true;
+                self.take_client()
+            };
+            match arrival {
+                Ok(arrival) => return arrival,
+                Err(error) if error.kind() == ErrorKind::WouldBlock => {}
+                Err(_) => return Arrival::Nobody,
+            }
+        }
+        Arrival::Nobody
+    }
+
+    // Waits until one is ready, and returns whether an order is, and whether a client.
+    fn ready(&self) -> Option<(bool, bool)> {
+        let door = match self.door {
+            Some(door) => door.as_raw_fd(),
+            None => NO_DESCRIPTOR,
+        };
+        let mut asked = [waits_for(door), waits_for(self.clients.as_raw_fd())];
+        if c::poll(&mut asked, -1) < 0 {
+            return None;
+        }
+        Some((asked[0].revents != 0, asked[1].revents != 0))
+    }
+
+    fn take_order(&self) -> io::Result<Arrival<Accepted<'a, C>, Handed<'a, C>>> {
+        match self.door {
+            Some(door) => {
+                let (stream, _) = door.accept()?;
+                let handed = Handed::new(stream, self.clock, self.patience);
+                Ok(Arrival::Order(handed))
+            }
+            None => Ok(Arrival::Nobody),
+        }
+    }
+
+    fn take_client(&self) -> io::Result<Arrival<Accepted<'a, C>, Handed<'a, C>>> {
+        let (stream, _) = self.clients.accept()?;
+        let accepted = Accepted::new(stream, self.clock, self.patience);
+        Ok(Arrival::Client(accepted))
+    }
+}
+
+fn waits_for(fd: RawFd) -> pollfd {
+    pollfd {
+        fd,
+        events: c::POLLIN,
+        revents: 0,
+    }
+}
+
+impl<'a, C: Clock> Arrivals for Listening<'a, C> {
+    type Client = Accepted<'a, C>;
+
+    type Order = Handed<'a, C>;
+
+    ghost waited = { λ listening. listening.waited };
+
+    ghost failures = { λ listening. listening.failures };
+
+    fn next(&mut self) -> Arrival<Accepted<'a, C>, Handed<'a, C>> {
+        self.waited = self.waited.saturating_add(1);
+        match self.wait() {
+            Arrival::Nobody => {
+                self.failures = self.failures.saturating_add(1);
+                thread::sleep(self.clock, Duration::from_millis(REST_MILLISECONDS));
+                Arrival::Nobody
+            }
+            arrival => arrival,
+        }
+    }
+}

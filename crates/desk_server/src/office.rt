@@ -1,0 +1,33 @@
+//! Orders of the office, at the desk that a server serves.
+
+use crate::request_line::RequestLine;
+use club_http::Responder;
+
+/// What a log shows of an order that was carried out.
+#[derive(Drop)]
+pub struct Carried {
+    /// The first bytes of a line whose second word is the command's name.
+    pub line: RequestLine,
+    /// The exit status of the command.
+    pub status: u8,
+}
+
+/// The answer to an order.
+#[derive(Drop)]
+pub struct Answer {
+    pub carried: Carried,
+    /// What the command prints: on standard output if the status is 0, else on standard error.
+    pub text: String,
+}
+
+/// A responder that carries out orders of the office, too.
+pub trait Office: Responder {
+    ghost use Rattle.desk_server.specs.Served.{Orders};
+
+    // what it may do with the bytes of an order
+    ghost orders: { Orders Self };
+
+    /// Carries out the order that the bytes spell. Bytes that spell none change nothing.
+    fn order(&mut self, bytes: &[u8]) -> Answer
+        ensures { orders bytes.now self.old result self.new };
+}
