@@ -171,6 +171,14 @@ class Trial:
         return "names", next((line for line in lines if FAULT.match(line)), lines[0])
 
 
+def take_libraries(copy):
+    """The libraries that are built here serve in the copy: rt takes one for built while its sources are the same."""
+    for crate in os.listdir(f"{ROOT}/crates"):
+        for part in ("rlib", "incremental"):
+            if os.path.isdir(f"{ROOT}/crates/{crate}/out/{part}"):
+                shutil.copytree(f"{ROOT}/crates/{crate}/out/{part}", f"{copy}/crates/{crate}/out/{part}")
+
+
 def try_crate(copy, name, wanted, counts):
     """Tries the edits of a crate of the copy; where some are wanted, these alone."""
     crate = f"{copy}/crates/{name}"
@@ -207,6 +215,7 @@ def main(words):
     counts = {}
     with tempfile.TemporaryDirectory(prefix="more-edits-") as copy:
         shutil.copytree(ROOT, copy, dirs_exist_ok=True, ignore=shutil.ignore_patterns("out", ".git"))
+        take_libraries(copy)
         for name in names:
             if not wanted or name in wanted:
                 try_crate(copy, name, wanted.get(name), counts)
