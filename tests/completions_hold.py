@@ -1,6 +1,7 @@
 #!/usr/bin/env python3
 """Asks bash, zsh and fish for completions, with the files NAME.bash, NAME.zsh and NAME.fish of this folder, and compares them with what
-`--help` of the programs shows: completions_hold.py PROGRAM.. Read by tests/completions_hold.sh."""
+`--help` of the programs shows: completions_hold.py PROGRAM.. A program whose help Python prints has a club before its command, as office.
+Read by tests/completions_hold.sh."""
 
 import os
 import pty
@@ -14,8 +15,11 @@ from pathlib import Path
 FORMS = {"v1", "v2", "json"}
 
 
+CLUBS = {"rowing", "tennis"}
+
+
 def printed(*words):
-    return subprocess.run(words, check=True, capture_output=True, text=True).stdout
+    return subprocess.run(words, check=True, capture_output=True, text=True, env={**os.environ, "COLUMNS": "200"}).stdout
 
 
 def between(text, first):
@@ -28,16 +32,17 @@ def between(text, first):
 
 
 def names_of(text):
-    return {line.split()[0] for line in between(text, "Commands") if re.match(r"  [a-z]", line)}
+    return {line.split()[0] for line in between(text, "Commands") + between(text, "commands") if re.match(r" {2,4}[a-z]", line)}
 
 
 def options_of(text):
-    """Each long option, and whether it takes a value."""
-    return {found[1]: bool(found[2]) for line in between(text, "Options") if (found := re.match(r" .*?--([a-z-]+)( <)?", line))}
+    """Each long option, and the name of its value, if it takes one."""
+    lines = between(text, "Options") + between(text, "options")
+    return {found[1]: found[2] for line in lines if (found := re.match(r" .*?--([a-z-]+)(?: <?([A-Z-]+))?", line))}
 
 
 def words_of(text):
-    return re.findall(r"^  [<\[]([A-Z]+)[>\]]", "\n".join(between(text, "Arguments")), re.M)
+    return re.findall(r"^  [<\[]?([A-Z|-]+)", "\n".join(between(text, "Arguments") + between(text, "positional arguments")), re.M)
 
 
 class Bash:
@@ -130,39 +135,52 @@ def longs(found):
 
 
 def hold(shell, program, folder):
-    kind = type(shell).__name__.lower()
+    kind = f"{type(shell).__name__.lower()}, {Path(program).name}"
     top = printed(program, "--help")
+    club = ["rowing"] if top.startswith("usage: ") else []
     commands = names_of(top)
-    same(f"{kind}: commands", commands, {it for it in shell.offers("") if not it.startswith("-")})
+    if club:
+        same(f"{kind}: clubs", CLUBS, {it for it in shell.offers("") if not it.startswith("-")})
+        same(f"{kind}: options before a club", {f"--{it}" for it in options_of(top)}, longs(shell.offers("--")))
+    same(f"{kind}: commands", commands, {it for it in shell.offers(*club, "") if not it.startswith("-")})
     first = sorted(commands)[0]
-    same(f"{kind}: commands that begin with {first[:2]}", {it for it in commands if it.startswith(first[:2])}, shell.offers(first[:2]))
-    same(f"{kind}: options", {f"--{it}" for it in options_of(top)}, longs(shell.offers("--")))
+    same(f"{kind}: commands that begin with {first[:2]}", {it for it in commands if it.startswith(first[:2])}, shell.offers(*club, first[:2]))
+    same(f"{kind}: options", {f"--{it}" for it in options_of(top)}, longs(shell.offers(*club, "--")))
     files = {it.name + ("/" if it.is_dir() else "") for it in Path(folder).iterdir()}
+    of_club = {it.rstrip("/") for it in files if it.startswith("club")}
     for command in sorted(commands - {"help"}):
-        text = printed(program, "help", command)
+        text = printed(program, *club, command, "--help") if club else printed(program, "help", command)
         options, words = options_of(text), words_of(text)
-        same(f"{kind}: options of {command}", {f"--{it}" for it in options}, longs(shell.offers(command, "--")))
-        for option, has_value in options.items():
-            if has_value:
+        before = [*club, command]
+        same(f"{kind}: options of {command}", {f"--{it}" for it in options}, longs(shell.offers(*before, "--")))
+        for option, value in options.items():
+            if value in ("FILE", "FOLDER"):
+                same(f"{kind}: files for --{option} of {command}", of_club, {it.rstrip("/") for it in shell.offers(*before, f"--{option}", "club")})
+            elif value:
                 wanted = FORMS if option == "form" else set()
-                same(f"{kind}: values of --{option} of {command}", wanted, {it for it in shell.offers(command, f"--{option}", "") if it != "--"})
+                same(f"{kind}: values of --{option} of {command}", wanted, {it for it in shell.offers(*before, f"--{option}", "") if it != "--"})
         for at, word in enumerate(words):
-            given = ["x"] * at
-            found = {it.rstrip("/") for it in shell.offers(command, *given, "club")}
-            wanted = {it.rstrip("/") for it in files if it.startswith("club")} if word == "FILE" else set()
+            given = [*before, *["x"] * at]
+            found = {it.rstrip("/") for it in shell.offers(*given, "club")}
+            wanted = of_club if word == "FILE" else set()
             if word == "KIND":
-                found, wanted = shell.offers(command, *given, ""), {"court", "boat", "room"}
+                found, wanted = shell.offers(*given, ""), {"court", "boat", "room"}
             same(f"{kind}: {word} of {command}", wanted, found)
             if word != "FILE" and "form" in options:
-                same(f"{kind}: a form before {word} of {command}", FORMS, shell.offers(command, *given, "--form", ""))
-    same(f"{kind}: commands behind help", commands - {"help"}, shell.offers("help", ""))
-    same(f"{kind}: an unknown command", set(), {it for it in shell.offers("no-such", "x") if not it.startswith("-")})
+                same(f"{kind}: a form before {word} of {command}", FORMS, shell.offers(*given, "--form", ""))
+    if not club:
+        same(f"{kind}: commands behind help", commands - {"help"}, shell.offers("help", ""))
+    same(f"{kind}: an unknown command", set(), {it for it in shell.offers(*club, "no-such", "x") if not it.startswith("-")})
 
 
 def main(programs):
     folder = os.getcwd()
     Path("club").touch()
     Path("club-other").touch()
+    os.environ["OFFICE_CONF"] = os.path.join(folder, "conf")
+    Path("conf").mkdir()
+    for it in [*(f"{it}.conf" for it in CLUBS), "rowing.health"]:
+        Path("conf", it).touch()
     for program in programs:
         for make in (Bash, Zsh, Fish):
             hold(make(Path(program).name, folder), program, folder)

@@ -1,7 +1,8 @@
 #!/bin/sh
 # The manual pages are clean to `mandoc`, and have the commands, options and statuses of `--help`.
 #
-# They have no others. Installs Debian's mandoc where it is missing. Not part of the gate.
+# They have no others. That of office is only held against `mandoc` here, and against its `--help` by tests/office_holds.py. Installs
+# Debian's mandoc where it is missing. Not part of the gate.
 # groups: package quick
 set -eu
 . "$(dirname -- "$0")/serving.sh"
@@ -57,7 +58,7 @@ fail() {
 
 # In the pages' folder, where they find one another.
 # That the machine's own index of pages is older than its pages is nothing that these have to mend.
-(cd "$here/../man" && mandoc -T lint clubdesk.1 passtool.1) 2>&1 | grep -v 'outdated mandoc.db' >said || :
+(cd "$here/../man" && mandoc -T lint clubdesk.1 passtool.1 office.1) 2>&1 | grep -v 'outdated mandoc.db' >said || :
 [ ! -s said ] || fail "$(cat said)"
 for program in "$desk" "$tool"; do
     name=$(basename "$program")
