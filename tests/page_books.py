@@ -81,10 +81,13 @@ class Server:
 
 
 class Between:
-    """Passes connections on to the desk. `fates` says what becomes of the next ones whose request begins with a method, in order."""
+    """Passes connections on to the desk. `fates` says what becomes of the next ones whose request begins with a method, in order; `most`
+    is how many were here at once."""
 
     def __init__(self, server):
-        self.server, self.fates, self.delay = server, {}, 0
+        self.server, self.fates = server, {}
+        self.here = self.most = 0
+        self.counting = threading.Lock()
         self.listener = socket.create_server(("127.0.0.1", 0), backlog=200)
         self.port = self.listener.getsockname()[1]
         threading.Thread(target=self.listen, daemon=True).start()
@@ -95,7 +98,7 @@ class Between:
             threading.Thread(target=self.serve, args=[client], daemon=True).start()
 
     def serve(self, client):
-        with contextlib.suppress(OSError), client:
+        with contextlib.suppress(OSError), client, self.counted():
             request = b""
             while b"\r\n\r\n" not in request:
                 request += client.recv(4096)
@@ -104,6 +107,17 @@ class Between:
                 request += client.recv(4096)
             waiting = self.fates.get(request.split()[0].decode(), [])
             self.fulfil(client, request, waiting.pop(0) if waiting else "reply")
+
+    @contextlib.contextmanager
+    def counted(self):
+        with self.counting:
+            self.here += 1
+            self.most = max(self.most, self.here)
+        try:
+            yield
+        finally:
+            with self.counting:
+                self.here -= 1
 
     def fulfil(self, client, request, fate):
         kind, _, detail = fate.partition(" ")
@@ -414,6 +428,12 @@ def day_says_what_is(page, passes):
     asked = [address for method, address in page.requests() if "/slots/" in address and method == "GET"]
     check(asked and all(int(address[-2:]) > hour for address in asked), "hours that are over aren't asked for", asked)
     check(page.run("return byName('day-before').disabled"), "no day before today")
+    page.run("byName('day-field').value = arguments[0]; byName('day-field').dispatchEvent(new Event('change'))", day(1))
+    page.when(f"shownDay() === '{day(1)}' && dayIsThere()", "a day by the field")
+    check(page.run("return [byName('day-field').min, byName('day-field').max]") == [day(0), day(60)], "the field's days")
+    for button, wanted in [("day-after", 2), ("day-before", 1), ("today", 0)]:
+        page.click(button)
+        page.when(f"shownDay() === '{day(wanted)}' && dayIsThere()", "a day by a button", button)
     page.go(day(60))
     check(page.run("return byName('day-after').disabled"), "no day after the last")
     check(page.run("return cellAt('court-1', arguments[0]).button.innerText", hour) != "Not yet", "60 days ahead")
@@ -424,6 +444,132 @@ def day_says_what_is(page, passes):
         check(words in page.run("return shownText('day-fault')"), "a day out of the 60", wanted, page.run("return shownText('day-fault')"))
         check(page.run("return [...cells.values()].every((cell) => cell.button.disabled)"), "nothing to press", wanted)
     print("closed, full, over, not yet; nothing to press out of the 60 days")
+
+
+def looks_six_at_a_time(page, passes, between):
+    """The day's requests: six at once at most, and those of the facility that a narrow screen shows first; how far it is is shown."""
+    page.sees(360, "light", 740)
+    page.enter(passes["bob-2"])
+    page.press("Not here", "notices")
+    page.go(day(4))
+    page.run("pressIn(byName('facility-choice'), 'Double scull')")
+    page.requests()
+    between.most = 0
+    between.fates["GET"] = ["slow 0.1"] * CELLS
+    page.run("look()")
+    page.when(f"!byName('progress').hidden && byName('progress').max === {CELLS} && byName('progress').value > 5", "progress")
+    text = page.run("return shownText('looked')")
+    check(re.fullmatch(f"[0-9]+ of {CELLS} looked up", text), "how far it is", text)
+    page.when("dayIsThere()", "the day")
+    check(between.most == 6, "requests at once", between.most)
+    asked = [address.split("/slots/")[1].split("/")[0] for method, address in page.requests() if "/slots/" in address]
+    check(len(asked) == CELLS and set(asked[:16]) == {"boat-1"}, "what is shown is asked for first", asked)
+    page.sees(1280, "light")
+    print("six requests at once, of the shown facility first, and progress")
+
+
+def swipes(page, passes):
+    """On a narrow screen one facility is shown: that which is chosen by its name, or swiped to."""
+    page.sees(360, "light", 740)
+    page.command("Emulation.setTouchEmulationEnabled", enabled=True)
+    page.enter(passes["bob-2"])
+    page.press("Not here", "notices")
+    page.go(day(4))
+
+    def shows(facility, *what):
+        found = page.run("return [...byName('slots').querySelectorAll('td')].filter((each) => each.offsetParent !== null).map((each) => each.dataset.facility)")
+        check(set(found) == {facility}, "the facility on a narrow screen", *what, facility, set(found))
+        pressed = page.run("return [...byName('facility-choice').children].filter((each) => each.getAttribute('aria-pressed') === 'true').map((each) => each.dataset.facility)")
+        check(pressed == [facility], "what is marked as chosen", *what, pressed)
+        check(not page.run("return isDialogOpen()"), "a swipe presses nothing", *what)
+
+    def drag(across, down, fingers=1):
+        page.run("byName('slots').rows[8].scrollIntoView({ block: 'center' })")
+        left, top = (300 if across < 0 else 60), 370 - down // 2
+        points = [[{"x": left + across * step / 8 + 20 * finger, "y": top + down * step / 8, "id": finger} for finger in range(fingers)] for step in range(9)]
+        page.command("Input.dispatchTouchEvent", type="touchStart", touchPoints=points[0])
+        for each in points[1:]:
+            page.command("Input.dispatchTouchEvent", type="touchMove", touchPoints=each)
+        page.command("Input.dispatchTouchEvent", type="touchEnd", touchPoints=[])
+        time.sleep(0.1)
+
+    shows("court-1", "at first")
+    for name, *_ in [*FACILITIES[1:], FACILITIES[-1]]:
+        drag(-200, 10)
+        shows(name, "swiped to the left")
+    for name, *_ in [*FACILITIES[-2::-1], FACILITIES[0]]:
+        drag(200, -10)
+        shows(name, "swiped to the right")
+    for across, down, fingers in [(0, 200, 1), (0, -200, 1), (-30, 0, 1), (-150, 120, 1), (-200, 0, 2)]:
+        drag(across, down, fingers)
+        shows("court-1", "no swipe", across, down, fingers)
+    page.run("pressIn(byName('facility-choice'), 'Coxed four')")
+    shows("boat-2", "chosen")
+    inside = page.run("const [bar, chip] = ['facility-choice', 0].map((id) => id ? byName(id).getBoundingClientRect() : document.querySelector('.chip[aria-pressed=true]').getBoundingClientRect());"
+                      "return chip.left >= bar.left && chip.right <= bar.right")
+    check(inside, "the chosen name is to be seen")
+    page.go(day(5))
+    shows("boat-2", "another day")
+    page.command("Emulation.setTouchEmulationEnabled", enabled=False)
+    page.sees(1280, "light")
+    print("on a narrow screen a facility is chosen by its name, or swiped to")
+
+
+def looks_again(page, passes):
+    """A page that is looked at again after a while asks for its day again; one that was away for a moment doesn't."""
+    page.enter(passes["bob-2"])
+    page.go(day(4))
+    own = page.driver.current_window_handle
+
+    def goes_away(seconds):
+        page.driver.switch_to.new_window("tab")
+        time.sleep(seconds)
+        page.driver.close()
+        page.driver.switch_to.window(own)
+
+    page.run("globalThis.seen = []; document.addEventListener('visibilitychange', () => seen.push(document.visibilityState))")
+    number = draw.randrange(1, 10**9)
+    curl(page, "PUT", f"/slots/court-3/{day(4)}/14/bookings/{number}", passes["other"], '{"guests":1}')
+    page.requests()
+    goes_away(1)
+    page.when("seen.length === 2", "a page that was away")
+    check(page.run("return seen") == ["hidden", "visible"], "away, and back", page.run("return seen"))
+    time.sleep(1)
+    check(not [address for _, address in page.requests() if "/slots/" in address], "away for a moment")
+    goes_away(16)
+    page.when("seen.length === 4 && dayIsThere() && cellAt('court-3', 14).button.innerText === 'Full'", "what changed while it was away")
+    asked = Counter(address for _, address in page.requests() if "/slots/" in address)
+    check(len(asked) == CELLS and set(asked.values()) == {1}, "each slot once", len(asked), Counter(asked.values()))
+    # So it does where another view was looked at meanwhile.
+    curl(page, "DELETE", f"/slots/court-3/{day(4)}/14/bookings/{number}", passes["other"])
+    page.view("bookings")
+    page.run("lookedAt -= 16000")
+    page.view("day")
+    page.when("dayIsThere() && cellAt('court-3', 14).button.innerText.includes('2 of 2 free')", "another view meanwhile")
+    print("a page that is looked at again after a while asks again")
+
+
+MOVING = """
+const times = (text) => text.split(", ").map(parseFloat);
+return [...document.querySelectorAll("*")].filter((each) => [null, "::before", "::after", "::backdrop"].some((part) => {
+  const { transitionDuration, transitionProperty, animationName, scrollBehavior } = getComputedStyle(each, part);
+  return (transitionProperty !== "none" && times(transitionDuration).some((time) => time > 0)) || animationName !== "none" || scrollBehavior === "smooth";
+})).length;
+"""
+
+
+def moves_little(page, passes):
+    """Nothing moves for whoever asks the system for less of it."""
+    page.enter(passes["bob-2"])
+    page.go(day(4))
+    page.offer("court-1", 10)
+    for wanted in ("no-preference", "reduce"):
+        page.command("Emulation.setEmulatedMedia", features=[{"name": "prefers-reduced-motion", "value": wanted}])
+        check((page.run(MOVING) > 0) == (wanted == "no-preference"), "what moves", wanted, page.run(MOVING))
+    page.open(page.address.replace("book.html", "pass.html"))
+    check(page.driver.execute_script(MOVING) == 0, "what moves on the other page")
+    page.command("Emulation.setEmulatedMedia", features=[])
+    print("nothing moves where less motion is asked for")
 
 
 def curl(page, method, path, text, body=None):
@@ -531,7 +677,27 @@ def refusals_say_what_to_do(page, passes, between):
         page.run("showDay()")
         page.when(f"shownText('day-fault').includes(\"{words}\")", "a refused pass", fault)
         between.fates.clear()
-    print("each of the 22 faults has its own sentence in both languages; those that a member meets were met")
+    # What comes in place of a reply, where the desk is away, busy or slow.
+    page.enter(passes["amy-1"])
+    for hour, status, body, words in [(15, 502, "<html>", "isn't there just now (502)"), (16, 504, "<html>", "takes too long to answer (504)"),
+                                      (17, 503, '{"fault":22,"text":"unavailable"}', "is busy just now (503)")]:
+        between.fates["GET"] = [f"answer {status} {body}"] * 200
+        page.view("account")
+        page.run("lookAtAccount()")
+        page.when(f"shownText('account-facts').includes(\"{words}\")", "the account", status)
+        between.fates.clear()
+        page.press("Try again", "account-facts")
+        page.when("shownText('account-facts').includes('of 99')", "the account again")
+        page.view("day")
+        page.go(day(6))
+        between.fates["PUT"] = [f"answer {status} {body}"] * 50
+        page.book("court-2", hour)
+        page.when(f"dialogText().includes(\"{words}\") && dialogText().includes('Sending again, try')", "a booking", status)
+        between.fates.clear()
+        page.when("dialogText().includes('Booked.')", "a booking at last")
+        page.press("Close")
+    same_record(page, "amy-1")
+    print("each of the 22 faults has its own sentence in both languages, and so have 502 and 504; those that a member meets were met")
 
 
 FAILURES = ["silent", "answer 502 <html>bad gateway</html>", "answer 504 <html>gateway timeout</html>", "answer 200 <html>a page</html>",
@@ -618,6 +784,54 @@ def pages_end(page, passes, between, server):
     same_record(page, "ends-1")
     totals_are_sums()
     print("pages that end before, in and after a request, and a desk that is away: each booking once")
+
+
+def writes_before_it_sends(front, passes):
+    """What is to be sent is on the disk before it is, and so is its reply before it counts."""
+    watch = """globalThis.order = [];
+        const begin = IDBDatabase.prototype.transaction;
+        IDBDatabase.prototype.transaction = function (names, mode, options) {
+          const begun = begin.call(this, names, mode, options);
+          if (mode === "readwrite") begun.addEventListener("complete", () => order.push(`written, ${options?.durability}`));
+          return begun;
+        };
+        const send = globalThis.fetch;
+        globalThis.fetch = (path, options) => {
+          if (options?.method !== undefined && options.method !== "GET") order.push(`sent, ${options.method}`);
+          return send(path, options);
+        };"""
+    with BookingPage(front, before=watch) as page:
+        page.enter(passes["hall-screen"])
+        page.go(day(6))
+        entry = page.booked("boat-2", 20)
+        page.run("offerCancellation(ownEntries().find((each) => each.number === arguments[0]), () => {})", entry["number"])
+        page.press("Cancel the booking")
+        page.when("dialogText().includes('came back')", "a cancellation")
+        found = page.run("return order")
+        check(found == ["written, strict", "sent, PUT", "written, strict", "written, strict", "sent, DELETE", "written, strict"], "the order", found)
+    print("each request is on the disk before it is sent, and its reply after")
+
+
+def lists_what_is_past(front, passes):
+    """Past bookings are listed apart, the newest first, and nothing can be done about them."""
+    with BookingPage(front) as page:
+        page.enter(passes["amy-phone"])
+        page.view("account")
+        page.when("shownText('account-facts').includes('of 99')", "the account")
+        page.view("account")
+        for words in ("One key for each person.", "One key for each device.", "as amy-phone, each keeps", "Lost telephone?", "Forget the pass"):
+            check(words in page.run("return shownText('account')"), "what is said where it bites", words, page.run("return shownText('account')"))
+        page.run("byName('import-text').value = arguments[0]; byName('import').requestSubmit()", "record of amy-phone\n"
+                 f"5 court-1 {day(-3)} 10 guests 1 charge 400 left 2\n6 boat-1 {day(-2)} 09 guests 0 charge 150 left 1 refund 75\n")
+        page.when("shownText('import-news').includes('2 bookings')", "a record of past bookings")
+        page.view("bookings")
+        check(page.run("return byName('to-come').children.length") == 0 and page.run("return byName('bookings-count').textContent") == "", "nothing to come")
+        page.run("byName('past-part').open = true")
+        cards = page.run("return [...byName('past').children].map((each) => each.innerText)")
+        check(len(cards) == 2 and "Double scull" in cards[0] and "Cancelled, 75 points came back" in cards[0] and "Court 1" in cards[1]
+              and "Booked" in cards[1] and "2 persons" in cards[1] and "400 points" in cards[1], "past bookings", cards)
+        check(page.run("return byName('past').querySelector('button') === null"), "nothing can be done about them")
+    print("past bookings are listed apart; the traps are named where they bite")
 
 
 def tabs_send_nothing_twice(page, passes, between, server):
@@ -1192,6 +1406,9 @@ def is_quick_and_small(front, passes):
         status = subprocess.run([*words, "-o", "none", "-H", f"If-None-Match: {mark}", "-H", "Accept-Encoding: gzip", "-w", "%{http_code}", f"{base}/{name}"],
                                 capture_output=True, text=True, check=True).stdout
         check(status == "304", "a page that is the same", name, status)
+    head = subprocess.run([*words, "-o", "none", "-D", "-", "-H", "Accept-Encoding: gzip", f"{base}/club.json"], capture_output=True, text=True, check=True).stdout.lower()
+    for field in ("content-encoding: gzip", "cache-control: no-cache", "x-content-type-options: nosniff", "content-type: application/json"):
+        check(field in head, "a field of club.json", field, head)
     to = subprocess.run([*words, "-o", "none", "-w", "%{http_code} %{redirect_url}", f"{base}/"], capture_output=True, text=True, check=True).stdout
     check(to == f"302 {base}/book.html", "/ leads to the page", to)
     head = subprocess.run([*words, "-o", "none", "-D", "-", f"{base}/account"], capture_output=True, text=True, check=True).stdout.lower()
@@ -1336,13 +1553,14 @@ def main():
 
     one_browser((books_and_cancels, passes), (day_says_what_is, passes), (leaves_out_what_the_pass_denies, passes))
     one_browser((refusals_say_what_to_do, passes, between),)
+    one_browser((looks_six_at_a_time, passes, between), (swipes, passes), (looks_again, passes), (moves_little, passes))
     for function, words in [(letters, [passes])]:
         if wanted(function):
             function(*words)
     for step, words in [(survives_failures, (passes, between)), (pages_end, (passes, between, server)), (tabs_send_nothing_twice, (passes, between, server)),
                         (goes_by_keyboard, (passes,)), (odd_passes, (passes,)), (odd_clubs, (passes,)), (offline, (passes,))]:
         one_browser((step, *words))
-    for function, words in [(browser_ends, (front, passes, between)), (broken_browsers, (front, passes, server)), (clocks, (front, passes)),
+    for function, words in [(writes_before_it_sends, (front, passes)), (lists_what_is_past, (front, passes)), (browser_ends, (front, passes, between)), (broken_browsers, (front, passes, server)), (clocks, (front, passes)),
                             (rotations, (front, passes, between)), (devices, (front, passes, server)), (cancelled_by_the_office, (front, passes, server)),
                             (survives_kills, (front, passes, server)), (is_quick_and_small, (start_proxy(server.port), passes)),
                             (waits_as_the_proxy_wants, (start_proxy(server.port, rate=3, burst=10), passes)), (looks_right, (front, passes)), (on_three_phones, (front, passes)),

@@ -1,13 +1,14 @@
 #!/bin/sh
 # Drives web/book.html, the page on which a member looks, books and cancels, in Debian's chromium by tests/page_books.py, against the
 # desk over a file, behind Debian's nginx by the stored configuration, with TLS:
-# - the day, a booking, a cancellation, the account, in English and German; what a pass leaves out; by keyboard alone;
+# - the day, a booking, a cancellation, the account, in English and German; what a pass leaves out; by keyboard alone, by swipes; six
+#   requests at once; a page that is looked at again;
 # - requests that get lost in each way, a desk that is killed, pages, tabs and browsers that end at each point; 200 bookings and
 #   cancellations while the server is killed 30 times: the record is the table of bookings, and the totals are its sums;
 # - odd passes, an odd or missing list of the club, a browser that keeps nothing, a clock that is wrong, replies that aren't the desk's;
 # - the record on its way to another device; what deploy/record, deploy/club_json and deploy/letter print;
-# - the hall's screen; names for screen readers, contrasts, widths; that nothing goes to another origin, and nothing runs but what the
-#   page's policy names; how long a day takes, and how many bytes the pages are as they are sent.
+# - the hall's screen; names for screen readers, contrasts, widths, less motion; that nothing goes to another origin, and nothing runs but
+#   what the page's policy names; how long a day takes, and how many bytes the pages are as they are sent.
 # Before that: the pages are those that bin/pages makes of web/src, and the modules pass their own tests, by node.
 # Installs Debian's packages where they are missing. Not part of the gate.
 #   tests/page_books.sh            all of it
@@ -31,6 +32,7 @@ command -v chromium >/dev/null && command -v chromedriver >/dev/null && "$python
     installs chromium chromium-driver python3-selenium || exit 2
 top=$(CDPATH='' cd -P -- "$here/.." && pwd)
 "$top/bin/pages" --check
+for module in "$top"/web/src/*.mjs "$top"/web/tests/*.mjs; do node --check "$module"; done
 node --test "$top/web/tests/" >units 2>&1 || { grep -A 20 '^not ok' units >&2; exit 1; }
 echo "the pages are those of web/src, and $(sed -n 's/^# pass //p' units) tests of its modules pass"
 openssl req -x509 -newkey rsa:2048 -nodes -days 2 -subj /CN=desk.example.org -addext subjectAltName=DNS:desk.example.org \

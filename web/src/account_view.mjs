@@ -8,7 +8,7 @@ import { dropPass, keepPass } from "./keeping.mjs";
 import { fact, keyWarning, limitList } from "./pass_words.mjs";
 import { drawQr } from "./qr_picture.mjs";
 import { fragmentOfRecord, hasBegun, isLive, merged, readRecord, recordText } from "./record.mjs";
-import { limitText, refusalText } from "./refusals.mjs";
+import { limitText, noReplyText, refusalText } from "./refusals.mjs";
 import { NO_SUCH_BOOKING, NoReply, NUMBER_USED } from "./replies.mjs";
 import { canSend, clubMoment, clubTime, denial, ownEntries, state } from "./state.mjs";
 import { say } from "./words.mjs";
@@ -29,7 +29,7 @@ export async function lookAtAccount() {
     showAccount(reply.fault === undefined ? "" : refusalText(reply));
   } catch (fault) {
     if (!(fault instanceof NoReply)) throw fault;
-    showAccount(say("account-failed"));
+    showAccount(noReplyText(fault.status, "account-failed"));
   }
 }
 
@@ -68,7 +68,7 @@ export function showPass(forget) {
     forget();
   });
   put("pass-buttons", ...(state.isKept ? [] : [keep]), copy, drop);
-  put("trap-device", say("trap-device", { key: state.key?.replace(/-[0-9]+$/, "") ?? "" }));
+  put("trap-device", say("trap-device", { key: state.account?.member ?? state.key?.replace(/-[0-9]+$/, "") ?? "" }));
 }
 
 async function copyText(text, place, copied, failed, field = null) {

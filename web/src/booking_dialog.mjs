@@ -5,7 +5,7 @@ import { closeDialog, isDialogOpen, openDialog } from "./dialog.mjs";
 import { button, element } from "./elements.mjs";
 import { fact } from "./pass_words.mjs";
 import { refundAt, stateOf, unfinished } from "./record.mjs";
-import { refusalText } from "./refusals.mjs";
+import { noReplyText, refusalText } from "./refusals.mjs";
 import { NotStored } from "./sender.mjs";
 import { clubMoment, denial, liveAt, state } from "./state.mjs";
 import { dateText, dayText, say } from "./words.mjs";
@@ -118,7 +118,8 @@ function waitingWords(outcome) {
     const waited = Date.now() - begun;
     if (waited < SEEN_AFTER) return;
     const count = state.sender.tries + 1;
-    const lines = [element("p", "sending", say("sending-again", { count }))];
+    const why = noReplyText(state.sender.status, "sending-no-answer");
+    const lines = [element("p", "sending", say("sending-again", { why, count }))];
     if (waited >= LONG_AFTER) lines.push(element("p", "note", say("sending-long")));
     outcome.replaceChildren(...lines);
   }, 500);

@@ -11,6 +11,13 @@ export function refusalText(reply, action = "book") {
   return say(`fault-${reply.fault}`);
 }
 
+// What it means that no reply of the desk came, by the status of what came in its place: 502 and 504 are the proxy's, which met no desk,
+// or one that took too long.
+export function noReplyText(status, otherwise) {
+  const texts = { 502: "no-reply-502", 503: "fault-22", 504: "no-reply-504" };
+  return say(texts[status] ?? otherwise);
+}
+
 // The sentence of a limit of the pass, by its number from 1.
 export function limitText(number) {
   const caveat = state.pass?.caveats[number - 1];

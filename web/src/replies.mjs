@@ -17,17 +17,18 @@ const UNAVAILABLE = 22;
 
 const TOO_MANY_REQUESTS = 429; // the proxy's
 
-// Nothing came that is the desk's. `wait` is how long the proxy wants the client to wait, in milliseconds, where it said so.
+// Nothing came that is the desk's. `wait` is how long the proxy wants the client to wait, in milliseconds, where it said so; `status` is
+// that of what came, 0 where nothing did.
 export class NoReply extends Error {
-  constructor(what, wait = 0) {
+  constructor(what, status = 0, wait = 0) {
     super(what);
-    this.wait = wait;
+    Object.assign(this, { status, wait });
   }
 }
 
 // Throws where the proxy says that too many requests came at once.
 export function refuseTooMany(status, retryAfter) {
-  if (status === TOO_MANY_REQUESTS) throw new NoReply(`status ${status}`, 1000 * (Number(retryAfter) || 1));
+  if (status === TOO_MANY_REQUESTS) throw new NoReply(`status ${status}`, status, 1000 * (Number(retryAfter) || 1));
 }
 
 function isCount(value) {
@@ -49,11 +50,11 @@ export function readReply(action, asked, status, text) {
   try {
     body = JSON.parse(text);
   } catch {
-    throw new NoReply(`status ${status}`);
+    throw new NoReply(`status ${status}`, status);
   }
-  if (typeof body !== "object" || body === null) throw new NoReply(`status ${status}`);
+  if (typeof body !== "object" || body === null) throw new NoReply(`status ${status}`, status);
   if (status === 200 && SHAPES[action](body, asked)) return body;
-  if (status === 200 || !isCount(body.fault) || STATUSES[body.fault] !== status || body.fault === UNAVAILABLE) throw new NoReply(`status ${status}`);
+  if (status === 200 || !isCount(body.fault) || STATUSES[body.fault] !== status || body.fault === UNAVAILABLE) throw new NoReply(`status ${status}`, status);
   return body;
 }
 

@@ -21,6 +21,7 @@ export class Sender {
     this.unsaved = new Map(); // what the browser couldn't write down after it was answered
     this.followers = new Map(); // who waits for what becomes of a booking
     this.tries = 0; // without a reply, one after the other
+    this.status = 0; // of what came at the last of them in a reply's place
     this.wait = 0; // how long the proxy wants it to wait, in milliseconds
     this.running = false;
   }
@@ -110,6 +111,7 @@ export class Sender {
       replies += await this.lock(() => this.send(entry.key, entry.number)) ? 1 : 0;
     }
     this.tries = replies > 0 ? 0 : this.tries + 1;
+    if (replies > 0) this.status = 0;
     this.changed();
     if (replies === 0) await this.pause(Math.max(pauseBefore(this.tries), this.wait));
     this.wait = 0;
@@ -132,6 +134,7 @@ export class Sender {
     } catch (fault) {
       if (!(fault instanceof NoReply)) throw fault;
       this.wait = fault.wait;
+      this.status = fault.status;
       this.tell(entry);
       return false;
     }

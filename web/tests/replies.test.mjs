@@ -42,7 +42,9 @@ test("what is no reply of the desk", () => {
     [200, '{"booking":"amy-1/8","charge":600,"left":1}'], [200, '{"booking":"bob-1/7","charge":600,"left":1}'], [200, '{"booking":"amy-1/7","charge":600}'],
     [200, '{"booking":"amy-1/7","charge":-1,"left":1}'], [200, '{"booking":"amy-1/7","charge":600,"left":1'], [200, '{"booking":"amy-1/7","refund":600}'],
   ];
-  for (const [status, body] of rows) assert.throws(() => readReply("book", BOOKING, status, body), NoReply, body);
+  for (const [status, body] of rows) {
+    assert.throws(() => readReply("book", BOOKING, status, body), (fault) => fault instanceof NoReply && fault.status === status, body);
+  }
   assert.throws(() => readReply("view", SLOT, 200, '{"facility":"court-2","day":"2026-05-01","hour":8,"price":1,"places":1,"taken":0,"closed":false}'), NoReply);
 });
 
@@ -57,7 +59,7 @@ test("pauses double up to five seconds", () => {
 
 test("a proxy that wants requests to come later says when", () => {
   for (const [field, wait] of [["1", 1000], ["7", 7000], [null, 1000], ["soon", 1000]]) {
-    assert.throws(() => refuseTooMany(429, field), (fault) => fault instanceof NoReply && fault.wait === wait);
+    assert.throws(() => refuseTooMany(429, field), (fault) => fault instanceof NoReply && fault.wait === wait && fault.status === 429);
   }
   refuseTooMany(200, null);
 });

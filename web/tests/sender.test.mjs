@@ -94,6 +94,21 @@ test("a booking is written down before it is sent, and its reply after", async (
   assert.equal(entry.number, 41);
 });
 
+test("what came in a reply's place is known until a reply comes", async () => {
+  const [store, desk] = [new MemoryStore(), new Desk()];
+  const found = [];
+  const sender = senderOf(store, {
+    exchange: (...words) => {
+      found.push(sender.status);
+      if (found.length < 3) throw new NoReply("status", [502, 504][found.length - 1]);
+      return desk.exchange(...words);
+    },
+  });
+  await sender.book(SLOT, 0, false);
+  await sender.run();
+  assert.deepEqual([...found, sender.status], [0, 502, 504, 0]);
+});
+
 for (const fate of ["lost before", "lost after"]) {
   test(`a request is sent again, ${fate} the desk`, async () => {
     const store = new MemoryStore();
