@@ -3,6 +3,7 @@
 import fcntl
 import os
 import re
+import sqlite3
 import subprocess
 import threading
 import time
@@ -338,6 +339,124 @@ def back_ups():
     same("the newest is a club", (told.returncode, told.stdout.splitlines()[0]), (0, f"Day sheet {DAY}"))
 
 
+def keep_copy():
+    """A night's copy; its name."""
+    before = set(os.listdir(f"{HOME}/back-ups")) if os.path.isdir(f"{HOME}/back-ups") else set()
+    line = ["runuser", "-u", "clubdesk", "--", "/usr/lib/clubdesk/keep_copies", f"{HOME}/club", f"{HOME}/back-ups"]
+    subprocess.run(line, check=True, capture_output=True, cwd="/")
+    return (set(os.listdir(f"{HOME}/back-ups")) - before).pop()
+
+
+def restores(server):
+    """A copy in the club's place: what changes is shown, the club as it was becomes a copy, and a file that isn't whole is kept."""
+    with open("/etc/clubdesk/club.conf", "a", encoding="ascii") as out:
+        out.write(f"BACK_UPS={HOME}/back-ups\n")
+    same("no copy of a night", [line for line in done("copies", "--csv").splitlines() if "back-up" in line], [])
+    text = done("add-key", "amy-6", "amy").strip()
+    book(server, text, "court-2", 19, 61, 1)
+    book(server, text, "court-2", 8, 62, 0)
+    done("add-member", "finn", "1")
+    night, before = keep_copy(), everything()
+    balance = account(server, text)["balance"]
+    same("a cancellation after the copy", server.answer(text, "DELETE", f"/slots/court-2/{DAY}/19/bookings/61")[0], 200)
+    book(server, text, "court-2", 9, 63, 0)
+    done("credit", "amy", "50")
+    done("add-member", "dora", "3")
+    done("add-key", "dora-1", "dora")
+    done("revoke-key", "amy-5")
+    done("rotate-key", "amy-3", "2000-01-01T00:00")
+    done("set-facility", "boat-1", "--price", "60", *YES)
+    done("close-slot", "court-2", DAY, "11")
+    after = everything()
+    same("the copies", {line.rsplit(",", 1)[0] for line in done("copies", "--csv").splitlines()} >= {"copy,is", f"{night},back-up"}, True)
+    shown = [
+        "forgets the member dora", f"balance of amy: {balance + 250}, then {balance}", "forgets the key dora-1: its passes are refused",
+        "takes passes of amy-3 of before it was rotated, and refuses those of after", "takes passes of amy-5, which is revoked now",
+        "the facility boat-1 is as it was", f"opens court-2 {DAY} 11:00 again", f"loses court-2 {DAY} 09:00, 1 persons, 200 points: amy-6 63, amy",
+        f"books again court-2 {DAY} 19:00, 2 persons, 400 points: amy-6 61, amy",
+    ]
+    status, out, _ = office("restore", night, *AT, given="n\n")
+    same("a restore that isn't confirmed", (status, out.splitlines()[:-1]), (1, shown))
+    same("it changes nothing", everything(), after)
+    starts = server.starts
+    same("a restore", done("restore", night, *YES).splitlines(), [*shown, "done"])
+    same("the club of the copy", everything(), before)
+    same("a repeat of before", json_of(server.answer(text, "PUT", f"/slots/court-2/{DAY}/19/bookings/61", '{"guests":1}'))["charge"], 400)
+    same("what came after", server.answer(text, "DELETE", f"/slots/court-2/{DAY}/09/bookings/63"), (404, '{"fault":15,"text":"no such booking"}'))
+    same("the server began anew", server.starts > starts, True)
+    whole("a restore")
+    undone = sorted(file for file in os.listdir(f"{HOME}/club-before") if file.endswith("-restore"))[-1]
+    same("its own copy is listed", f"{undone},before a correction" in {line.rsplit(",", 1)[0] for line in done("copies", "--csv").splitlines()}, True)
+    same("the lines of what undoes it", len(done("restore", undone, *YES).splitlines()), len(shown) + 1)
+    same("it is undone", everything(), after)
+    refused(["restore", "2001-01-01T000000Z", *YES], 1, "refused: there is no copy 2001-01-01T000000Z")
+    for wrong in ("../club", "club", "2026-04-20", f"{night}/..", "2026-04-20T12-00-00-debit;"):
+        refused(["restore", wrong, *YES], 3, "bad value")
+    for place, (called, change) in enumerate((("2026-01-01T000000Z", "empty"), ("2026-01-02T000000Z", "UPDATE members SET used = used + 1 WHERE name = 'amy'"))):
+        path = f"{HOME}/back-ups/{called}"
+        subprocess.run(["cp", f"{HOME}/back-ups/{night}" if place else os.devnull, path], check=True)
+        if place:
+            subprocess.run(["sqlite3", path, change], check=True)
+        else:
+            open(path, "wb").write(b"no club" * 1000)
+        subprocess.run(["chown", "clubdesk:", path], check=True)
+        refused(["restore", called, *YES], 1, "is no club that clubdesk opens" if not place else "isn't sound: member amy: used is")
+        os.unlink(path)
+    changed_while_asked(server, night)
+    damaged(server, text, night, before)
+
+
+def changed_while_asked(server, night):
+    done("add-key", "amy-7", "amy")
+    with begun(["restore", night, *AT]) as asked:
+        same("what is shown", asked.stdout.readline(), "forgets the member dora\n")
+        done("credit", "amy", "1")
+        _, errors = asked.communicate("y\n")
+    same("a credit between the question and its answer", (asked.returncode, "has changed since" in errors), (1, True))
+
+
+def damaged(server, text, night, before):
+    """A file whose head is lost, all of whose pages are, or one of an index; one that is empty, and one that isn't there."""
+    for what in ("head", "pages", "index", "empty", "gone"):
+        server.stop()
+        desk("sheet", f"{HOME}/club", DAY)  # its log is in it now
+        if os.path.exists(f"{HOME}/club-wal"):
+            os.unlink(f"{HOME}/club-wal")
+        with open(f"{HOME}/club", "r+b") as file:
+            size = file.seek(0, 2)
+            if what == "head":
+                spoil(file, 0, 4096)
+            elif what == "pages":
+                spoil(file, 4096, size)
+            elif what == "index":
+                ((page,),) = sqlite3.connect(f"file:{HOME}/club?immutable=1", uri=True).execute(
+                    "SELECT min(rootpage) FROM sqlite_master WHERE type = 'index' AND tbl_name = 'bookings'"
+                )
+                spoil(file, 4096 * (page - 1), 4096 * page)
+            elif what == "empty":
+                file.truncate(0)
+            else:
+                os.rename(f"{HOME}/club", f"{HOME}/mislaid")
+        if what in ("head", "pages"):
+            same(f"{what}: no club", desk("sheet", f"{HOME}/club", DAY).returncode, 5)
+        lost = len([file for file in os.listdir(HOME) if file.startswith("club-lost-") and not file.endswith("-wal")])
+        out = done("restore", night, *YES)
+        same(f"{what}: what is said", ("and is kept beside the new one" in out, out.splitlines()[-1]), (True, "done"))
+        found = len([file for file in os.listdir(HOME) if file.startswith("club-lost-") and not file.endswith("-wal")])
+        same(f"{what}: the file is kept", found - lost, 0 if what == "gone" else 1)
+        same(f"{what}: the club of the copy", everything(), before)
+        same(f"{what}: its owner and mode", (os.stat(f"{HOME}/club").st_uid, oct(os.stat(f"{HOME}/club").st_mode)), (os.stat(HOME).st_uid, "0o100600"))
+        server = Service("club", server.port)
+        same(f"{what}: the desk", account(server, text)["open"], 2)
+        time.sleep(1)
+    server.stop()
+
+
+def spoil(file, begin, end):
+    file.seek(begin)
+    file.write(b"\xff" * (end - begin))
+
+
 def in_the_book():
     lines = done("log").splitlines()
     same("its first lines", [line.split(" ", 1)[1] for line in lines[:3]], ["anna 0 new", "anna 1 new", "anna 0 add-member amy 5"])
@@ -412,5 +531,5 @@ changed_meanwhile(server)
 back_ups()
 in_the_book()
 in_the_journal()
-server.stop()
+restores(server)
 leave()

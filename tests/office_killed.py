@@ -7,7 +7,7 @@ import sys
 import threading
 import time
 
-from office_room import HOME, NOON, Service, configure, done, kill, killed_after, leave, office, processes_of, rows, run_as, same, whole
+from office_room import HOME, NOON, Service, configure, done, everything, kill, killed_after, leave, office, processes_of, rows, run_as, same, whole
 
 kills, seed = int(sys.argv[1]), int(sys.argv[2])
 chance = random.Random(seed)
@@ -123,6 +123,38 @@ def hold_book(given):
     lines = {" ".join(word for word in words if word != "--yes") for words in given} | {"credit zoe 100000", f"debit zoe 1 --at {NOON}"}
     same("no order of nobody", [line for line in book if line[3] in ("credit", "debit") and " ".join(line[3:]) not in lines], [])
     print(f"of the credits and debits {sum(line[2] == '0' for line in book if line[3] in ('credit', 'debit')) - 2} were done, {maybe} were broken off")
+
+
+def restores():
+    """A restore, killed at random: the club is that of before or that of the copy, whole."""
+    night = "2026-04-19T030000Z"
+    configure("club", BACK_UPS=f"{HOME}/back-ups")
+    subprocess.run(["install", "-d", "-o", "clubdesk", "-g", "clubdesk", "-m", "700", f"{HOME}/back-ups"], check=True)
+    subprocess.run(["runuser", "-u", "clubdesk", "--", "/usr/lib/clubdesk/back_up", f"{HOME}/club", f"{HOME}/back-ups/{night}"], check=True, stdout=subprocess.DEVNULL)
+    copy = everything()
+    done("add-member", "after", "1")
+    done("credit", "after", "5")
+    later = everything()
+    server = Service("club")
+    begun = time.monotonic()
+    done("restore", night, "--yes")
+    plain = time.monotonic() - begun
+    outcomes = {"before": 0, "restored": 0}
+    for _ in range(25):
+        found = everything()
+        if found == copy:
+            done("add-member", "after", "1")
+            done("credit", "after", "5")
+        killed_after(chance.uniform(0, plain * 1.2), ["restore", night, "--yes"], chance)
+        found = everything()
+        same("a club that is one or the other", found in (copy, later), True)
+        outcomes["restored" if found == copy else "before"] += 1
+        whole("a killed restore")
+    same("it is done after all kills", done("restore", night, "--yes").splitlines()[-1], "done")
+    same("the club of the copy", everything(), copy)
+    same("the desk serves", server.wait(), True)
+    server.stop()
+    print(f"a restore, killed 25 times: {outcomes}")
 
 
 MEMBERS = [
@@ -267,5 +299,6 @@ def refused_lists():
 
 
 orders_beside_the_desk()
+restores()
 imports()
 leave()

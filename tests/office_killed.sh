@@ -1,8 +1,9 @@
 #!/bin/sh
 # The office, killed: 100 orders and corrections, each killed at a random moment, beside a running desk with four clients; then no total
 # is off, each reply was right, each order is done once or not at all, and the desk serves. An import of twelve members, killed before
-# and after each of its orders, and 40 times at random: nobody is credited twice, and each pass that it leaves opens its account. Wants
-# root, for a machine of its own (tests/office_room.sh). Not part of the gate.
+# and after each of its orders, and 40 times at random: nobody is credited twice, and each pass that it leaves opens its account. A restore,
+# killed 25 times: the club is that of before or that of the copy. Wants root, for a machine of its own (tests/office_room.sh). Not part of
+# the gate.
 #   tests/office_killed.sh [KILLS [SEED]]
 # groups: package faults root
 set -eu

@@ -3,7 +3,8 @@
 #
 # Debian is made by debootstrap and booted by systemd-nspawn, with its own systemd and without a network but loopback. The lines for root of
 # docs/RUNNING.md are given there, from the installation to the restore: the desk behind nginx with TLS, its timers and what they call, a
-# second club in another zone, mail, a machine that boots anew. The package is upgraded while a client books, upgraded to one whose program
+# second club in another zone, mail, a machine that boots anew. A clerk without root has her first week: import, who booked, sheet, wrong
+# credit, price, tournament, rain, lost pass, leaving member, restore. The package is upgraded while a client books, upgraded to one whose program
 # opens no club, removed, installed again, and purged: no acknowledged booking is lost, and the clubs' files stay. At the end the archive for
 # other systems, below /usr/local. Wants root, and Debian's mirror for the fresh Debian: DEBIAN=FOLDER names one that is there already, made
 # by `debootstrap --variant=minbase --include=systemd,systemd-sysv bookworm FOLDER`, of which a copy is taken. Not part of the gate.
@@ -94,6 +95,8 @@ deb=clubdesk_${version}_amd64.deb
 lintian --allow-root --fail-on error,warning --tag-display-limit 0 "first/$deb" >told 2>&1 || fail "lintian: $(cat told)"
 same 'what lintian says' '' "$(cat told)"
 dpkg-deb -x "first/$deb" unpacked
+same 'its completions' 'clubdesk office passtool _clubdesk _office _passtool clubdesk.fish office.fish passtool.fish' \
+    "$(cd unpacked/usr/share && for folder in bash-completion/completions zsh/vendor-completions fish/vendor_completions.d; do ls $folder; done | xargs)"
 for program in clubdesk passtool; do
     same "the packed $program" "$(sha256sum <"$(if [ $program = clubdesk ]; then echo "$desk"; else echo "$tool"; fi)")" "$(sha256sum <"unpacked/usr/bin/$program")"
 done
@@ -127,6 +130,7 @@ boot
 # blocks HEADING: the lines for root of a section of RUNNING, as the package has it.
 running=unpacked/usr/share/doc/clubdesk/docs/RUNNING.md
 blocks() {
+    echo "$1" >>given
     found=$(awk -v heading="$1" '
         /^```/ { if (inside) inside = 0; else if ($0 == "```sh" && here) inside = 1; else other = !other; next }
         inside { print; next }
@@ -137,7 +141,8 @@ blocks() {
 # gives WHAT: the lines on standard input are given by root in the fresh Debian, each of which has to do its work.
 gives() {
     checks=$((checks + 1))
-    { echo 'set -e; cd /root'; cat; } | inside sh >told 2>&1 || fail "RUNNING, $1: $(tail -n 30 told)"
+    { echo 'set -e; cd /root'; cat; } >"$root/root/lines"
+    inside sh /root/lines >told 2>&1 </dev/null || fail "RUNNING, $1: $(tail -n 30 told)"
 }
 
 # answers PORT: the desk listens there, within ten seconds, and refuses a request without a pass.
@@ -152,6 +157,7 @@ answers() {
 }
 
 # ---- RUNNING, from the installation on.
+installed=$(date +%s)
 blocks Install | grep '^apt install ' | head -n 1 >install
 same 'the line that installs' "apt install ./$deb" "$(cat install)"
 gives Install <install
@@ -209,6 +215,8 @@ by_tls() {
 }
 day=$(TZ=CET-1CEST,M3.5.0,M10.5.0/3 date -d '+2 days' +%F)
 same 'a booking behind TLS' '{"booking":"amy-1/7","charge":3,"left":47} 200' "$(by_tls PUT "slots/court-1/$day/18/bookings/7" '{"guests":2}')"
+served=$(($(date +%s) - installed))
+[ "$served" -lt 600 ] || fail "a served club behind TLS took $served seconds"
 for page in book.html pass.html; do
     same "the page $page" "$(sha256sum <"$top/web/$page")" "$(inside curl -sS --cacert /etc/ssl/clubdesk/certificate.pem \
         --resolve desk.example.org:443:127.0.0.1 "https://desk.example.org/$page" | sha256sum)"
@@ -313,6 +321,51 @@ same 'the account after it' '{"member":"eve","balance":1000,"quota":7,"open":0,"
 office anna log >told
 [ "$(grep -c anna told)" -ge 6 ] || fail "the book: $(cat told)"
 if office carl credit eve 1000 >told 2>&1; then fail 'a credit by somebody who is no clerk'; fi
+
+# Her first week: what a club's office does, by nobody but her.
+week=$(date -u -d '+3 days' +%F)
+# asks PASS METHOD PATH [BODY]: a request to her desk under a pass in a file of hers.
+asks() {
+    inside sh -c 'curl -sS --max-time 20 -X "$2" ${4:+-d "$4"} -H "Authorization: Bearer $(cat "/home/anna/$1")" "http://127.0.0.1:8083/$3"' sh "$@"
+}
+printf '%s\n' 'name,quota,points' 'Amy,5,10000' '"Müller, Bob",2,3000' >"$root/home/anna/members.csv"
+holds 'an import' office anna import members.csv --yes
+same 'who was imported' 'amy,10000,5,0,1 mueller-bob,3000,2,0,1' "$(office anna members --csv | grep -E '^(amy|mueller)' | xargs)"
+same 'the import again' 'nothing to do' "$(office anna import members.csv --yes | tail -n 1)"
+for booking in 'amy-1 10 1 1' 'amy-1 14 2 0' 'mueller-bob-1 12 1 0'; do
+    # shellcheck disable=SC2086 # key, hour, number, guests
+    set -- $booking
+    same "a booking of $1" "{\"booking\":\"$1/$3\",\"charge\":$((10 * ($4 + 1))),\"left\":$((3 - $4))}" \
+        "$(asks "passes/$1" PUT "slots/court-1/$week/$2/bookings/$3" "{\"guests\":$4}")"
+done
+same 'who booked' "$week,10,court-1,amy,amy-1,1,2,20 $week,12,court-1,mueller-bob,mueller-bob-1,1,1,10 $week,14,court-1,amy,amy-1,2,1,10" \
+    "$(office anna bookings "$week" --csv | tail -n +2 | xargs)"
+same 'the sheet' 'Total bookings 3, persons 4, charge 40' "$(office anna sheet "$week" | tail -n 1)"
+holds 'a wrong credit' office anna credit amy 500
+same 'its correction' 'balance of amy: 10470, then 9970 done' "$(office anna debit amy 500 --yes | xargs)"
+holds 'a price' office anna set-facility court-1 --price 12 --yes
+same 'the price' 'price 12' "$(office anna show-slot court-1 "$week" 10 | grep price)"
+same 'a tournament' "cancels court-1 $week 10:00, 2 persons, 20 points back: amy-1 1, amy closes court-1 $week 10:00 done" \
+    "$(office anna close "$week" 10-11 court-1 --yes | xargs)"
+same 'its slot' '{"fault":17,"text":"slot closed"}' "$(asks passes/amy-1 PUT "slots/court-1/$week/10/bookings/3" '{"guests":0}')"
+same 'rain' "cancels court-1 $week 12:00, 1 persons, 10 points back: mueller-bob-1 1, mueller-bob done" "$(office anna rain "$week" court-1 12 --yes | xargs)"
+holds 'a lost pass' office anna rotate-key amy-1 2000-01-01T00:00 --to amy-1-new
+same 'the lost pass' '{"fault":9,"text":"not verified"}' "$(asks passes/amy-1 GET account)"
+same 'the new one' '{"member":"amy","balance":9990,"quota":5,"open":1,"spent":10}' "$(asks amy-1-new GET account)"
+holds 'a copy of the night' inside systemctl start clubdesk-back-up@tennis
+night=$(office anna copies --csv | grep back-up | tail -n 1 | cut -d , -f 1)
+holds 'a member who leaves' office anna leave mueller-bob --yes
+same 'her pass' '{"fault":9,"text":"not verified"}' "$(asks passes/mueller-bob-1 GET account)"
+same 'who is there' '1,3000,0,0,1 amy,9990,5,1,1 eve,1000,7,0,1' "$(office anna members --csv | tail -n +2 | xargs)"
+office anna restore "$night" --yes >told
+same 'a restore' 'forgets the member 1
+has the member mueller-bob again
+forgets the key 1-1: its passes are refused
+has the key mueller-bob-1 again, and its passes
+done' "$(cat told)"
+same 'a pass of before' '{"member":"mueller-bob","balance":3000,"quota":2,"open":0,"spent":0}' "$(asks passes/mueller-bob-1 GET account)"
+same 'the totals of her club' 'the totals are the sums of the bookings' "$(office anna check)"
+[ "$(office anna log | grep -c ' anna 0 ')" -ge 20 ] || fail "the book: $(office anna log)"
 same 'what a clerk reads of the clubs' '' "$(inside runuser -u anna -- sh -c 'cat /var/lib/clubdesk/* /var/backups/clubdesk/* 2>/dev/null' || :)"
 same 'what a clerk reads of the sheets' "$today" "$(inside runuser -u anna -- ls /var/spool/clubdesk/rowing)"
 
@@ -417,4 +470,10 @@ answers 8080
 same 'its desk' '{"booking":"amy-1/7","charge":3,"left":47} 200' "$(by_tls PUT "slots/court-1/$day/18/bookings/7" '{"guests":2}')"
 same 'units that failed' '' "$(inside systemctl --failed --plain --no-legend)"
 halt
-echo "$checks checks of the package's life passed; $acknowledged bookings in the course of three upgrades"
+sort -u given >wanted
+awk '
+    /^```/ { if (inside) inside = 0; else if ($0 == "```sh") { inside = 1; print title } else other = !other; next }
+    !inside && !other && /^#+ / { title = $0; sub(/^#+ /, "", title) }' "$running" | sort -u >found
+same 'sections whose lines nobody gave, but those of a certificate, which tests/proxy_holds.sh gives' 'A certificate' "$(comm -13 wanted found)"
+echo "$checks checks of the package's life passed; a served club behind TLS after $served seconds of RUNNING, without the downloads;" \
+    "$acknowledged bookings in the course of three upgrades"
