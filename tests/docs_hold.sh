@@ -14,6 +14,8 @@
 # - docs/LAYERS.md has the layers and crates of crates.txt in their order, each with what it stands on; TRUST names each crate.
 # - TRUST's table of scripts has what `tests/run --list` says of each.
 # - docs/TOUR.md gives each answer as a path of three to six steps, each a file with a name that it defines.
+# - No command writes a pass into a file but under a temporary name (`> pass.new && mv pass.new pass`): the shell empties the file before
+#   the command is refused.
 # - What README tries unproved by `rt try` prints `signed`, and ends in proved=no.
 # - The logic that README.md and docs/TRUST.md name by its sum is this toolchain's, and bin/demo prints what tests/demo_tells.sh wants.
 # Programs are proved and built by bin/proved where they have to be. Installs Debian's curl, sqlite3 and openssl where they are
@@ -378,6 +380,12 @@ hold_scripts() {
         sed -n 's/^\([<>]\)/docs\/TRUST.md: other rows than those of tests\/run --list (>): \1/p' >>"$faults"
 }
 
+# keep_passes PAGE: a command that prints a pass writes to no file but one whose name ends in .new.
+keep_passes() {
+    { blocks "$1" console | sed -n 's/^\$ //p'; blocks "$1" sh; } | grep -E '(^|[ |])(passtool|clubdesk|office [a-z]+) (mint|narrow|convert|add-key|rotate-key) ' |
+        sed -E 's/"[^"]*"//g; s,>&?[ ]*[^ ]*\.new,,g' | grep -E '>|[|] *tee ' | sed "s,^,$1: a pass without a temporary name: ," >>"$faults"
+}
+
 # name_crates PAGE: the page names each crate of crates.txt.
 name_crates() {
     sed -nE 's/^([a-z][a-z_0-9]*)[ :].*/\1/p' crates.txt | while read -r crate; do
@@ -405,6 +413,7 @@ for page; do
     hold_names "$page"
     hold_definitions "$page"
     find_quotes "$page"
+    keep_passes "$page"
     case $page in
         docs/PROMISES.md) hold_promises ;;
         docs/GLOSSARY.md) hold_glossary ;;
