@@ -7,8 +7,8 @@ use std::process::Abort;
 // A key, a text and their HMAC.
 type Mac = (&'static [u8], &'static [u8], &'static [u8; 32]);
 
-// The cases 1, 2, 3 and 6 of RFC 4231, section 4.
-static CASES: [Mac; 4] = [
+// The cases of RFC 4231, section 4, but for the one whose output is cut off.
+static CASES: [Mac; 6] = [
     (
         &[0x0b; 20],
         b"Hi There",
@@ -25,9 +25,19 @@ static CASES: [Mac; 4] = [
         b"\x77\x3e\xa9\x1e\x36\x80\x0e\x46\x85\x4d\xb8\xeb\xd0\x91\x81\xa7\x29\x59\x09\x8b\x3e\xf8\xc1\x22\xd9\x63\x55\x14\xce\xd5\x65\xfe",
     ),
     (
+        b"\x01\x02\x03\x04\x05\x06\x07\x08\x09\x0a\x0b\x0c\x0d\x0e\x0f\x10\x11\x12\x13\x14\x15\x16\x17\x18\x19",
+        &[0xcd; 50],
+        b"\x82\x55\x8a\x38\x9a\x44\x3c\x0e\xa4\xcc\x81\x98\x99\xf2\x08\x3a\x85\xf0\xfa\xa3\xe5\x78\xf8\x07\x7a\x2e\x3f\xf4\x67\x29\x66\x5b",
+    ),
+    (
         &[0xaa; 131],
         b"Test Using Larger Than Block-Size Key - Hash Key First",
         b"\x60\xe4\x31\x59\x1e\xe0\xb6\x7f\x0d\x8a\x26\xaa\xcb\xf5\xb7\x7f\x8e\x0b\xc6\x21\x37\x28\xc5\x14\x05\x46\x04\x0f\x0e\xe3\x7f\x54",
+    ),
+    (
+        &[0xaa; 131],
+        b"This is a test using a larger than block-size key and a larger than block-size data. The key needs to be hashed before being used by the HMAC algorithm.",
+        b"\x9b\x09\xff\xa7\x1b\x94\x2f\xcb\x27\x63\x5f\xbc\xd5\xb0\xe9\x44\xbf\xdc\x63\x64\x4f\x07\x13\x93\x8a\x7f\x51\x53\x5c\x3a\x35\xe2",
     ),
 ];
 
@@ -40,6 +50,15 @@ fn are_macs(rt: &impl Abort, rows: &[Mac]) {
 #[test]
 fn hmac_of_the_rfc(rt: HostRuntime) {
     are_macs(&rt, &CASES);
+}
+
+// Case 5 of RFC 4231, whose output is cut off after 16 bytes.
+const FRONT: &[u8] = b"\xa3\xb6\x16\x74\x73\x10\x0e\xe0\x6e\x0c\x79\x6c\x29\x55\x55\x2b";
+
+#[test]
+fn hmac_of_the_rfc_in_front(rt: HostRuntime) {
+    let mac = hmac(&[0x0c; 20], b"Test With Truncation");
+    expect_eq(&rt, &&mac[..16], &FRONT, &"case 5");
 }
 
 // A key of a whole block is used as it is, and a longer one is hashed. By an independent program.
