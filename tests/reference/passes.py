@@ -10,6 +10,7 @@ from dataclasses import dataclass, field
 MOST_BYTES = 8192  # of a text
 MOST_CAVEATS = 64
 DEEPEST = 127  # arrays and objects in one another
+NO_JSON = (ValueError, RecursionError)  # what `json_value` raises
 
 
 class NoPass(Exception):
@@ -186,8 +187,7 @@ class Fields:
 
 def read_v2(data):
     fields = Fields(data)
-    if fields.byte() != 2:
-        raise Malformed
+    fields.byte()  # 2, by which the form was found
     location = fields.take_if(LOCATION) or b""
     identifier = fields.take(IDENTIFIER)
     fields.end()
@@ -244,12 +244,12 @@ def refused_constant(text):
     raise ValueError(text)
 
 
-def depth(value):
-    """How deep arrays and objects lie in one another."""
-    deepest, level = 0, [value]
-    while level := [it for it in level if isinstance(it, (dict, list))]:
-        deepest += 1
-        level = [it for outer in level for it in (outer.values() if isinstance(outer, dict) else outer)]
+def depth(text):
+    """How deep arrays and objects lie in one another, in JSON."""
+    deepest = level = 0
+    for sign in re.sub(r'"(?:\\.|[^"\\])*"', "", text):
+        level += (sign in "[{") - (sign in "]}")
+        deepest = max(deepest, level)
     return deepest
 
 
@@ -262,21 +262,17 @@ def has_lone_surrogate(value):
 
 
 def json_value(data):
-    """The value that bytes are to serde_json; of equal names the last counts. Raises ValueError for other bytes."""
+    """The value that bytes are to serde_json; of equal names the last counts. Raises one of NO_JSON for other bytes."""
     seen = []
 
     def pairs(found):
         seen.extend(found)
         return dict(found)
 
-    try:
-        value = json.loads(data.decode(), object_pairs_hook=pairs, parse_int=whole_number, parse_float=finite,
-                           parse_constant=refused_constant)
-    except RecursionError as fault:
-        raise ValueError("too deep") from fault
+    value = json.loads(data.decode(), object_pairs_hook=pairs, parse_int=whole_number, parse_float=finite, parse_constant=refused_constant)
     # a value that a later one of its name replaces was read too
     everything = [value, *(it for pair in seen for it in pair)]
-    if any(map(has_lone_surrogate, everything)) or max(map(depth, everything)) > DEEPEST:
+    if any(map(has_lone_surrogate, everything)) or depth(data.decode()) > DEEPEST:
         raise ValueError("no JSON of serde_json")
     return value
 
@@ -309,7 +305,7 @@ def is_whole_two(value):
 def read_json(data):
     try:
         value = json_value(data)
-    except ValueError as fault:
+    except NO_JSON as fault:
         raise Malformed from fault
     if not isinstance(value, dict) or set(value) - {"v", "l", "l64", "i", "i64", "c", "s", "s64"}:
         raise Malformed

@@ -6,7 +6,7 @@ from datetime import timedelta
 
 from .caveats import EPOCH, NAME, day_of, hour_of
 from .club import Refused, Request
-from .passes import json_value
+from .passes import NO_JSON, json_value
 
 MOST_HEAD, MOST_BODY, MOST_FIELDS = 16_384, 256, 32
 
@@ -72,7 +72,7 @@ def guests_in(body):
     """The guests that the body of a PUT names."""
     try:
         value = json_value(body)
-    except ValueError as fault:
+    except NO_JSON as fault:
         raise NotDecoded(1) from fault
     guests = value.get("guests") if isinstance(value, dict) and set(value) == {"guests"} else None
     if not isinstance(guests, int) or isinstance(guests, bool) or not 0 <= guests <= 49:
