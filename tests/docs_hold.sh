@@ -16,6 +16,7 @@
 # - docs/TOUR.md gives each answer as a path of three to six steps, each a file with a name that it defines.
 # - No command writes a pass into a file but under a temporary name (`> pass.new && mv pass.new pass`): the shell empties the file before
 #   the command is refused.
+# - docs/AUDIT.md is what tests/audit.py makes, and each step of the tour's paths through definitions is cited by the one before it.
 # - What README tries unproved by `rt try` prints `signed`, and ends in proved=no.
 # - The logic that README.md and docs/TRUST.md name by its sum is this toolchain's, and bin/demo prints what tests/demo_tells.sh wants.
 # Programs are proved and built by bin/proved where they have to be. Installs Debian's curl, sqlite3 and openssl where they are
@@ -251,8 +252,8 @@ hold_names() {
     grep -E '^(src|specs|proofs|must-fail|more-edits)/' "$work/words" | while read -r path; do
         case $1 in crates/*) [ -e "${1%README.md}$path" ] || echo "$1: no file $path" ;; esac
     done >>"$faults"
-    # Promises are named within their crate, and held above.
-    [ "$1" != docs/PROMISES.md ] || return 0
+    # Promises are named within their crate, and held above; the audit is made of the sources, and names calls of libraries.
+    case $1 in docs/PROMISES.md | docs/AUDIT.md) return 0 ;; esac
     awk -v page="$1" '
         FILENAME == ARGV[1] { if ($3 != "clause" && $3 != "impl") { defined[$1, $4]; anywhere[$4] } crates[$1]; next }
         /^[A-Za-z_]+(::[A-Za-z_0-9]+)+$/ {
@@ -369,7 +370,14 @@ hold_tour() {
             close(path)
             if (!found) lacks(path " has no " piece[4])
         }
-        END { close_question(); if (questions != 12) lacks(questions " questions") }' "$work/index" docs/TOUR.md >>"$faults"
+        END { close_question(); if (questions != 24) lacks(questions " questions") }' "$work/index" docs/TOUR.md >>"$faults"
+}
+
+# Both pages are held by one run.
+audited=
+hold_audit() {
+    [ -n "$audited" ] || tests/audit.py --check >/dev/null 2>>"$faults"
+    audited=yes
 }
 
 # The table of scripts in docs/TRUST.md says of each what `tests/run --list` says, where a page of docs/ is no link.
@@ -423,7 +431,11 @@ for page; do
             name_crates "$page"
             hold_scripts
             ;;
-        docs/TOUR.md) hold_tour ;;
+        docs/TOUR.md)
+            hold_tour
+            hold_audit
+            ;;
+        docs/AUDIT.md) hold_audit ;;
         docs/INDEX.md)
             for other in docs/*.md; do
                 [ "$other" = "$page" ] || grep -qF "($(basename "$other"))" "$page" || echo "$page: doesn't name $other" >>"$faults"

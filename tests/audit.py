@@ -1,0 +1,483 @@
+#!/usr/bin/env python3
+"""docs/AUDIT.md, what has to be believed of each promise, is what the sources say; the vectors hold of the rules in Python
+(`tests/reference`) by which it marks what they show; and each step of a path through the definitions in docs/TOUR.md is cited by the
+one before it. Writes that page, unless it is asked to check.
+
+It reads the promises of docs/PROMISES.md, the clauses that carry them, and the definitions below these, by tests/definitions.py.
+
+    tests/audit.py                  writes docs/AUDIT.md
+    tests/audit.py --check          says whether it is current
+    tests/audit.py --strict         the same, and fails where a promise reaches a name of specs/computed/
+    tests/audit.py --below NAME     what there is to read below one definition, in reading order
+"""
+# groups: quick: --check
+
+import argparse
+import difflib
+import re
+import shutil
+import sys
+from collections import defaultdict
+from pathlib import Path
+
+sys.dont_write_bytecode = True
+import shown
+from definitions import ROOT, Book, closure, owner_of
+
+PAGE = ROOT / "docs" / "AUDIT.md"
+PROMISES = ROOT / "docs" / "PROMISES.md"
+TOUR = ROOT / "docs" / "TOUR.md"
+OF_SPECS = ("definition", "record", "data")
+# What comments say of where definitions are from.
+SOURCES = (r"RFC \d+", r"FIPS [\d-]+", r"NDSS \d+", r"libmacaroons", r"\bours\b")
+# Methods that std's types have too: by their names alone nobody knows whose they are.
+OF_STD = set("len is_empty push iter next clone as_slice as_bytes as_str into_iter map unwrap unwrap_or ok_or expect write read remove".split())
+
+
+class Fault(Exception):
+    """Why there is no page."""
+
+
+class Promise:
+    """One of docs/PROMISES.md: its title, and the clauses that carry it, with the fields of a record that count."""
+
+    def __init__(self, book, number, line):
+        self.book, self.number = book, number
+        self.title = re.match(r"\d+\. \*\*(.*?)\.\*\*", line)[1]
+        text, _, carriers = line.rpartition(": `")
+        self.fields = [it for group in re.findall(r"\((`[^)]*)\)", text) for it in re.findall(r"`(\w+)`", group)]
+        # 7 names a clause and its function in the middle of its sentence, too.
+        self.carriers = []
+        for group in [*re.findall(r": (`[\w:]+`, `\w+`)\. ", text), f"`{carriers}"]:
+            function, labels = None, []
+            for word in re.findall(r"`([\w:]+)`", group):
+                if "::" in word or function is None:
+                    if function:
+                        self.carriers.append((function, labels))
+                    function, labels = word, []
+                else:
+                    labels.append(word)
+            self.carriers.append((function, labels))
+        self.clauses = [it for function, labels in self.carriers for it in self.clauses_of(function, labels)]
+        self.cited, heads = self.read()
+        self.below = closure(self.cited)
+        self.below += [it for it in heads if it not in self.below]
+
+    def clauses_of(self, function, labels):
+        """(file, function, label, text, place) of each clause."""
+        *before, name = function.split("::")
+        owner = next((it for it in before if it[0].isupper()), None)
+        crate = before[0] if before and before[0] in self.book.crates else "club_gate"
+        for key, file in self.book.code.items():
+            if not key.startswith(f"{crate}/"):
+                continue
+            for it in (owner,) if owner else (None, "Desk"):
+                try:
+                    start, clauses = file.clauses(name, it)
+                except KeyError:
+                    continue
+                found = [(file, function, *clause[1:3], start) for clause in clauses
+                         if clause[0] == "requires" or not labels or clause[1] in labels]
+                if found and {label for _, _, label, _, _ in found} >= set(labels):
+                    return found
+        raise Fault(f"no clause {function}: {' '.join(labels)}")
+
+    def read(self):
+        """What the clauses cite; of a record of which the promise names fields only what those cite, and the record itself."""
+        cited, heads, used = [], [], set()
+        for file, _, _, text, start in self.clauses:
+            found, unknown = file.cited_by(start, text)
+            if unknown:
+                raise Fault(f"not understood in {self.title}: {' '.join(unknown)}")
+            for it in found:
+                fields = [name for name in self.fields if name in it.parts]
+                if fields:
+                    heads.append(it)
+                    used.update(fields)
+                cited += [other for name in fields for other in it.parts[name]] if fields else [it]
+        if used != set(self.fields):
+            raise Fault(f"no fields {' '.join(sorted(set(self.fields) - used))}: {self.title}")
+        return cited, heads
+
+    def of(self, *kinds):
+        return [it for it in self.below if it.kind in kinds]
+
+    @property
+    def words(self):
+        """The carriers as the page shows them."""
+        carriers = [f"`{function}`" + (f": `{'`, `'.join(labels)}`" if labels else "") for function, labels in self.carriers]
+        return "; ".join(carriers) + (f" (`{'`, `'.join(self.fields)}`)" if self.fields else "")
+
+
+def promises_of(book):
+    lines = [line for line in PROMISES.read_text(encoding="utf-8").splitlines() if re.match(r"\d+\. \*\*", line)]
+    return [Promise(book, number, line) for number, line in enumerate(lines, 1)]
+
+
+def source_of(comments):
+    """Where definitions are from, as the head of their file and their own comments say."""
+    found = [it[0] for pattern in SOURCES for it in re.finditer(pattern, comments)]
+    return ", ".join(dict.fromkeys(found)) or "not said"
+
+
+def in_reading_order(book, files):
+    """Files from the standards up: crates in the order of crates.txt, and within one each behind those that it imports."""
+    done = []
+
+    def visit(file):
+        if file in done:
+            return
+        for module, _, _ in file.imports:
+            other = book.specs.get(module)
+            if other and other.crate == file.crate and other in files:
+                visit(other)
+        done.append(file)
+
+    for crate in book.crates:
+        for file in sorted((it for it in files if it.crate == crate), key=lambda it: it.module):
+            visit(file)
+    return done
+
+
+class Audit:
+    def __init__(self):
+        self.book = Book()
+        self.promises = promises_of(self.book)
+        self.marks = shown.marks()
+        self.every = {id(it): it for promise in self.promises for it in promise.below}
+        unknown = [f"{it}: {word}" for it in self.every.values() for word in it.unknown]
+        if unknown:
+            raise Fault(f"not understood: {', '.join(unknown)}")
+        known = {(it.crate, it.module.rsplit(".", 1)[-1], it.name) for file in self.book.specs.values() for it in file.definitions.values()}
+        lost = [".".join(it) for it in self.marks if it not in known]
+        if lost:
+            raise Fault(f"tests/shown.py: no definitions {' '.join(lost)}")
+        rows = closure([it for file in self.book.specs.values() if re.search(r"Example|Rotation", file.module)
+                        for it in file.definitions.values() if it.kind in OF_SPECS])
+        self.rows = {id(it) for it in rows}
+
+    # ---- parts of the page
+
+    def mark(self, it):
+        mark = self.marks.get((it.crate, it.module.rsplit(".", 1)[-1], it.name))
+        return mark or ("row" if id(it) in self.rows else "")
+
+    def numbers(self, it):
+        return self.spelled(promise.number for promise in self.promises if any(it is other for other in promise.below))
+
+    @staticmethod
+    def spelled(numbers):
+        runs = []
+        for number in sorted(numbers):
+            if runs and number == runs[-1][1] + 1:
+                runs[-1][1] = number
+            else:
+                runs.append([number, number])
+        return ", ".join(str(a) if a == b else f"{a}-{b}" for a, b in runs)
+
+    def summary(self):
+        yield "| Promise | Clause | Definitions | Lines | Computing | Types |"
+        yield "|---|---|---|---|---|---|"
+        for it in self.promises:
+            specs = it.of(*OF_SPECS)
+            plain = [other for other in specs if not other.is_computed]
+            yield (f"| {it.number}. {it.title} | {it.words} | {len(plain)} | {sum(other.lines for other in plain)} "
+                   f"| {len(specs) - len(plain)} | {len(it.of('type'))} |")
+        specs = [it for it in self.every.values() if it.kind in OF_SPECS]
+        plain = [it for it in specs if not it.is_computed]
+        types = [it for it in self.every.values() if it.kind == "type"]
+        yield f"| together | | {len(plain)} | {sum(it.lines for it in plain)} | {len(specs) - len(plain)} | {len(types)} |"
+
+    def computed(self):
+        return sorted((it for it in self.every.values() if it.is_computed and it.kind in OF_SPECS), key=lambda it: (it.module, it.line))
+
+    def first_computed(self):
+        """The computing definitions that one of the others, or a clause, cites, with those."""
+        found = defaultdict(set)
+        for it in self.every.values():
+            if not it.is_computed:
+                for other in map(owner_of, it.cited):
+                    if other.is_computed:
+                        found[id(other)].add(it.name)
+        for promise in self.promises:
+            for other in map(owner_of, promise.cited):
+                if other.is_computed:
+                    found[id(other)].add(f"the clause of {promise.number}")
+        return found
+
+    def faults(self):
+        cited = self.first_computed()
+        yield "| Computing definition | In | Cited by |"
+        yield "|---|---|---|"
+        for it in self.computed():
+            if id(it) in cited:
+                names = ", ".join(name if " " in name else f"`{name}`" for name in sorted(cited[id(it)]))
+                yield f"| `{it.name}` | `{it.file}` | {names} |"
+
+    def further_faults(self):
+        """The computing definitions that only such ones cite, by their files."""
+        cited, by_file = self.first_computed(), defaultdict(list)
+        for it in self.computed():
+            if id(it) not in cited:
+                by_file[it.file].append(f"`{it.name}`")
+        yield "| In | Computing definitions below those |"
+        yield "|---|---|"
+        for file, names in by_file.items():
+            yield f"| `{file}` | {', '.join(names)} |"
+
+    def table_of(self, crate):
+        listed = [it for it in self.every.values() if it.crate == crate and it.kind in OF_SPECS and not it.is_computed]
+        files = in_reading_order(self.book, [self.book.specs[module] for module in {it.module for it in listed}])
+        yield "| Line | Definition | Lines | Promises | Shown |"
+        yield "|---|---|---|---|---|"
+        for file in files:
+            rows = sorted((it for it in listed if it.module == file.module), key=lambda it: it.line)
+            gist = re.sub(r" \([^)]*\)", "", re.match(r".*?[^A-Z0-9][.:](?= |$)|.*", file.head)[0]).rstrip(".:")
+            source = source_of(" ".join([file.head, *(it.comment for it in rows)]))
+            yield f"| | **`{file.path.relative_to(ROOT)}`**: {gist} [{source}] | | | |"
+            for it in rows:
+                yield f"| {it.line} | `{it.name}` | {it.lines} | {self.numbers(it)} | {self.mark(it)} |"
+
+    def types(self):
+        by_file = defaultdict(list)
+        for it in self.every.values():
+            if it.kind == "type":
+                by_file[it.path].append(it)
+        order = {crate: at for at, crate in enumerate(self.book.crates)}
+        yield "| In | Names, each with its line |"
+        yield "|---|---|"
+        for path in sorted(by_file, key=lambda it: (order[it.relative_to(ROOT).parts[1]], it)):
+            names = ", ".join(f"`{it.name}` {it.line}" for it in sorted(by_file[path], key=lambda it: it.line))
+            yield f"| `{path.relative_to(ROOT)}` | {names} |"
+
+    def ghosts(self):
+        yield "| Ghost | Promises | What stands for it |"
+        yield "|---|---|---|"
+        for it in sorted((it for it in self.every.values() if it.kind == "ghost"), key=lambda it: (it.path, it.line)):
+            trait, name = it.name.split(".")
+            stands = []
+            for key, file in self.book.code.items():
+                if key.split("/")[0].endswith("_tests") or key.split("/")[0] in ("test_kit", "club_bench"):
+                    continue
+                for found in re.finditer(rf"^impl\b[^{{]*\b{trait}(?:<[^{{]*>)? for (\w+)[^{{]*\{{", file.text, re.MULTILINE):
+                    block = file.text[found.start():file.block_end(found.start())]
+                    value = re.search(rf"\bghost {name} = \{{\s*(.*?)\s*\}};", block, re.DOTALL)
+                    if value:
+                        stands.append(f"of `{found[1]}` in `{file.path.relative_to(ROOT)}`: `{' '.join(value[1].split())}`")
+            yield f"| `{it.name}`, `{it.file}` line {it.line} | {self.numbers(it)} | {'; '.join(stands)} |"
+
+    # ---- what is trusted beside them
+
+    def libraries_below(self, promise):
+        """The crates whose code a promise's functions call: their own, and those below."""
+        uses = {line.split(":")[0].split()[0]: line.split(":")[1].split()
+                for line in (ROOT / "crates.txt").read_text(encoding="utf-8").splitlines() if line and not line.startswith("#")}
+        found, open_ = set(), [file.crate for file, *_ in promise.clauses]
+        while open_:
+            crate = open_.pop()
+            if crate not in found:
+                found.add(crate)
+                open_ += [it for it in uses.get(crate, ()) if it in uses]
+        return found
+
+    def calls(self):
+        """Of each library the calls that our crates make of it, by name, with the promises below which they are made."""
+        kit = Path(shutil.which("rt") or "/").resolve().parent.parent / "rattle"
+        if not kit.is_dir():
+            raise Fault("no toolchain: its libraries say which calls are theirs")
+        below = {promise.number: self.libraries_below(promise) for promise in self.promises}
+        found, promises = defaultdict(set), defaultdict(set)
+        for file in self.book.code.values():
+            numbers = {number for number, crates in below.items() if file.crate in crates}
+            if not numbers:
+                continue
+            for library in {crate for crate, _ in file.uses.values() if crate not in self.book.crates and (kit / crate / "src").is_dir()}:
+                if library in ("std", "core"):
+                    continue
+                declared = {name for path in (kit / library / "src").rglob("*.rt")
+                            for name in re.findall(r"\bfn (\w+)", path.read_text(encoding="utf-8"))}
+                calls = set()
+                for here, (crate, name) in file.uses.items():
+                    if crate == library:
+                        calls |= {f"{name}::{it}" for it in re.findall(rf"\b{here}(?:::<[^>]*>)?::([a-z]\w*)\(", file.text)}
+                        if here[0].islower() and re.search(rf"(?<![:.\w]){here}\(", file.text):
+                            calls.add(name)
+                calls |= {it for it in re.findall(r"\.(\w+)(?:::<[^>]*>)?\(", file.text) if it in declared - OF_STD}
+                if calls:
+                    found[library] |= calls
+                    promises[library] |= numbers
+        return found, promises
+
+    def words_of(self):
+        """Of each library the words of its specs that the definitions cite, with their promises."""
+        found, promises = defaultdict(set), defaultdict(set)
+        for promise in self.promises:
+            for it in promise.of("library"):
+                if it.crate != "std":
+                    found[it.crate].add(it.name)
+                    promises[it.crate].add(promise.number)
+        return found, promises
+
+    def trusted(self):
+        calls, below = self.calls()
+        words, citing = self.words_of()
+        ours = {name for file in self.book.code.values() for name in re.findall(r"\bfn (\w+)\([&m]*self", file.text)}
+        yield "| Library | Calls | Words of its contracts | Promises |"
+        yield "|---|---|---|---|"
+        for library in sorted(set(calls) | set(words)):
+            names = ", ".join(f"`{it}`" for it in sorted(calls[library] - ours))
+            perhaps = ", ".join(f"`{it}`" for it in sorted(calls[library] & ours))
+            names += f"; perhaps {perhaps}" if perhaps else ""
+            cited = ", ".join(f"`{it}`" for it in sorted(words[library]))
+            yield f"| `{library}` | {names} | {cited} | {self.spelled(below[library] | citing[library])} |"
+
+    def externs(self):
+        found = [f"`{file.path.relative_to(ROOT)}`" for file in self.book.code.values() if re.search(r"\bextern\b", file.text)]
+        return f"Functions of C are declared in {', '.join(found)}." if found else "No file declares a function of C (`extern`)."
+
+    # ---- the page
+
+    def section_of_faults(self):
+        computed = self.computed()
+        if not computed:
+            return ["No promise rests on a computing definition of `specs/computed/`."]
+        return [
+            f"These promises still rest on {len(computed)} computing definitions of `specs/computed/`, which say in steps what another definition "
+            f"states. Laws say that both agree, but whoever reads a clause comes upon these. They aren't in the tables below. "
+            f"{len(self.first_computed())} of them are cited by a definition that doesn't compute:",
+            "\n".join(self.faults()),
+            "The others are below those:",
+            "\n".join(self.further_faults()),
+        ]
+
+    def page(self):
+        specs = [it for it in self.every.values() if it.kind in OF_SPECS]
+        plain = [it for it in specs if not it.is_computed]
+        counts = {mark: sum(1 for it in plain if self.mark(it) == mark) for mark in ("all", "part", "none", "row", "")}
+        handles = (ROOT / "HANDLES").read_text(encoding="utf-8").strip().rpartition(": ")[2].rstrip(".")
+        sections = [
+            "# What has to be believed",
+            "For whoever asks what the eight promises of [README](../README.md#what-is-proved) mean: the definitions below their clauses, each "
+            "once, from the standards up, and what is trusted beside them. Proofs aren't among them, since the check reads those; lemmas and laws "
+            "neither. `tests/audit.py` makes this page of the sources, and `tests/audit.py --below NAME` prints what is below one definition. "
+            "[TOUR](TOUR.md#when-is-a-root-good) answers twelve questions by a path each.",
+            "To believe a promise: read its clause, then the rows with its number, from the top. Each file has in brackets where its definitions are "
+            "from: a standard, libmacaroons, or ours. A line is one of code, without comments and empty ones.",
+            "\n".join(self.summary()),
+            "## Computing definitions",
+            *self.section_of_faults(),
+            "## What a mark means",
+            "*Shown* says what [vectors.json](vectors.json) shows of a definition. `tests/reference` is a second writing of it in Python, made from "
+            "the pages alone, which gives for each vector what the vector wants. With `all` the vectors run each line of that writing, with `part` "
+            f"some, with `none` no line: {counts['all']}, {counts['part']} and {counts['none']} of {len(plain)} definitions. {counts['row']} "
+            "more, with `row`, are in statements over worked rows, which are proved by computing them. "
+            f"The other {counts['']} no vector shows: laws, which speak of all clubs, texts or stores, and what a store and its tables hold. HMAC "
+            "is shown by the seven cases of RFC 4231, too.",
+        ]
+        for crate in self.book.crates:
+            if any(it.crate == crate for it in plain):
+                sections += [f"## {crate}", "\n".join(self.table_of(crate))]
+        sections += [
+            "## Types and constants of the code",
+            "A definition sees a type of the code by its fields and variants, or as the value that its `Model` says. The constants are statements "
+            "of SQL.",
+            "\n".join(self.types()),
+            "## Ghosts of traits",
+            "Promises over any store, reader or writer name it by a ghost of its trait. What a type of ours has for it is read with them; those of "
+            "a reader and a writer stand for the bytes that they give and take.",
+            "\n".join(self.ghosts()),
+            "## Trusted beside them",
+            "The toolchain's contracts of the libraries that these promises rest on. Calls are those of the crates below a promise, by name: a "
+            "function or a method that a file calls which imports from the library, and that the library declares; `perhaps` where a method of "
+            "ours has the same name. Words are those of the library's own definitions that ours or the clauses cite. Those of std are left out: "
+            "nearly every line has one.",
+            "\n".join(self.trusted()),
+            f"{self.externs()} The programs' handle is {handles}. [TRUST](TRUST.md#trusted) has the rest: the compiler, the prover, the C library and "
+            "the system; and what is [only read](TRUST.md#read-and-shown-by-vectors), and [not claimed](TRUST.md#not-claimed).",
+        ]
+        return "\n\n".join(sections) + "\n"
+
+    # ---- paths
+
+    def paths(self):
+        """Faults of the paths in the tour's second part: each step is a clause, or a definition that the step before cites."""
+        text = TOUR.read_text(encoding="utf-8").partition("\n# ")[2]
+        for question in re.split(r"^## ", text, flags=re.MULTILINE)[1:]:
+            title, cited = question.splitlines()[0], None
+            for path, name in re.findall(r"^\d+\. `([^`]+)`: `([^`]+)`", question, re.MULTILINE):
+                if path.endswith(".rt"):
+                    cited = self.cited_by_clause(path, name)
+                    if cited is None:
+                        yield f"docs/TOUR.md: {title}: {path} has no clause {name}"
+                    continue
+                file = self.book.specs.get(".".join(Path(path).with_suffix("").parts[1:]))
+                it = file.definitions.get(name) if file else None
+                if it is None:
+                    yield f"docs/TOUR.md: {title}: {path} defines no {name}"
+                elif cited is not None and not any(it is other for other in map(owner_of, cited)):
+                    yield f"docs/TOUR.md: {title}: {name} isn't cited by the step before"
+                cited = it.cited if it else None
+
+    def cited_by_clause(self, path, label):
+        file = self.book.code.get("/".join((Path(path).parts[1], ".".join(Path(path).with_suffix("").parts[3:]))))
+        if file is None:
+            return None
+        found = None
+        for clause in re.finditer(rf"ensures {label} \{{", file.text):
+            end, depth = clause.end(), 1
+            while depth:
+                depth += (file.text[end] == "{") - (file.text[end] == "}")
+                end += 1
+            start = max(it.start() for it in re.finditer(r"\bfn \w+", file.text[:clause.start()]))
+            found = (found or []) + file.cited_by(start, file.text[clause.end():end - 1])[0]
+        return found
+
+    def below(self, name):
+        found = [it for file in self.book.specs.values() for it in file.definitions.values() if it.name == name and it.kind in OF_SPECS]
+        if len(found) != 1:
+            raise Fault(f"{len(found)} definitions {name}")
+        listed = [it for it in closure(found) if it.kind in OF_SPECS]
+        files = in_reading_order(self.book, [self.book.specs[module] for module in {it.module for it in listed}])
+        for file in files:
+            for it in sorted((it for it in listed if it.module == file.module), key=lambda it: it.line):
+                yield f"{it.file}:{it.line}: {it.name}"
+        yield f"{len(listed)} definitions, {sum(it.lines for it in listed)} lines, {sum(it.is_computed for it in listed)} computing"
+
+
+def run(arguments):
+    audit = Audit()
+    if arguments.below:
+        print("\n".join(audit.below(arguments.below)))
+        return 0
+    page, faults = audit.page(), []
+    if arguments.check or arguments.strict:
+        old = PAGE.read_text(encoding="utf-8") if PAGE.exists() else ""
+        if old != page:
+            faults.append("docs/AUDIT.md isn't current: run tests/audit.py")
+            faults += list(difflib.unified_diff(old.splitlines(), page.splitlines(), "the page", "the sources", lineterm="", n=0))[:20]
+        faults += audit.paths()
+    else:
+        PAGE.write_text(page, encoding="utf-8")
+    if arguments.strict:
+        faults += [f"{it.file}:{it.line}: reaches a computed name: {it.name}" for it in audit.computed()]
+        faults += [f"{len(audit.computed())} computed names"] if audit.computed() else []
+    for it in faults:
+        print(it, file=sys.stderr)
+    if not faults:
+        print("docs/AUDIT.md is current" if arguments.check or arguments.strict else f"docs/AUDIT.md: {page.count(chr(10))} lines")
+    return 1 if faults else 0
+
+
+def main():
+    parser = argparse.ArgumentParser(description="Writes docs/AUDIT.md, or says whether it is current.")
+    parser.add_argument("--check", action="store_true")
+    parser.add_argument("--strict", action="store_true")
+    parser.add_argument("--below", metavar="NAME")
+    try:
+        sys.exit(run(parser.parse_args()))
+    except (Fault, shown.Disagreement) as fault:
+        sys.exit(f"tests/audit.py: {fault}")
+
+
+if __name__ == "__main__":
+    main()
