@@ -1,4 +1,4 @@
--- Decisions as lists of lines: the first line whose condition holds gives the answer.
+-- Decisions as lists of lines (ours): the first line whose condition holds gives the answer.
 use Rattle.std.specs.Prelude.{Bool, if◌then◌else◌, List, [], ◌∷◌}
 
 -- an answer and its condition

@@ -1,4 +1,4 @@
--- An exchange: it reads bytes, gets the desk's reply, and writes the text of the reply.
+-- An exchange (ours): it reads bytes, gets the desk's reply, and writes the text of the reply.
 use Rattle.std.specs.Prelude.{ℕ, ◌<◌, List, length, take, Option, IfSome, Result, Ok, Err}
 use Rattle.club_core.specs.declared.reply.Reply.{Reply}
 use Rattle.club_http.specs.declared.fault.AnswerFault.{AnswerFault}

@@ -1,4 +1,4 @@
--- The bytes that were received of a request.
+-- The bytes that were received of a request (ours).
 use Rattle.std.specs.Prelude.{ℕ, ◌≤◌, ◌⊎◌, List, length, Option}
 use Rattle.std.specs.Io.KnownBytes.{Consumes, IsAtEnd}
 use Rattle.http_request.specs.Frame.{IsWhole}

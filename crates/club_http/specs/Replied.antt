@@ -1,4 +1,4 @@
--- The reply to the bytes of a request.
+-- The reply to the bytes of a request (ours).
 use Rattle.std.specs.Prelude.{◌≡◌, ℕ, List, Ok, Err}
 use Rattle.club_core.specs.declared.refusal.Refusal.{Refusal}
 use Rattle.club_core.specs.declared.refusal.Refusal.TheVariants.{Unavailable}

@@ -1,4 +1,4 @@
--- What statements return or write in a transaction of their own.
+-- What statements return or write in a transaction of their own (ours).
 use Rattle.std.specs.Prelude.{◌≡◌, ℕ, ◌<◌, ◌≤◌, true, List, [], ◌∷◌, length, Ok, IsTrue, is_ok}
 use Rattle.sqlite.specs.Store.{Ghosts}
 use Rattle.sqlite.specs.Order.{Row}

@@ -1,4 +1,4 @@
--- Decimal digits of a fixed width.
+-- Decimal digits of a fixed width (ours).
 use Rattle.std.specs.Prelude.{ℕ, ◌+◌, ◌/◌, ◌%◌, List, [], ◌∷◌, ◌++◌}
 
 -- two digits, for a number below 100

@@ -1,4 +1,4 @@
--- Reading a pass text in any form. The wide pass that bytes spell in each form is a parameter here: a further form adds
+-- Reading a pass text in any form (ours). The wide pass that bytes spell in each form is a parameter here: a further form adds
 -- its spelling and changes nothing.
 use Rattle.std.specs.Prelude.{ℕ, List, length, Result, Ok, Err}
 use Rattle.pass_forms.specs.declared.fault.FormFault.{FormFault}

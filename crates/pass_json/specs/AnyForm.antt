@@ -1,4 +1,4 @@
--- Pass texts in any of the three forms: how they are read and written.
+-- Pass texts in any of the three forms (ours): how they are read and written.
 use Rattle.std.specs.Prelude.{◌≡◌, ◌⊎◌, ℕ, List, Result, Ok, IsOk}
 use Rattle.pass_forms.specs.declared.fault.FormFault.{FormFault}
 use Rattle.pass_forms.specs.declared.form.Form.{Form}
