@@ -2,3 +2,5 @@ pub mod RequestLineLemmas
 pub mod ServedLemmas
 pub mod TimedLemmas
 pub mod LogLemmas
+pub mod MeanwhileLemmas
+pub mod AnswerLemmas

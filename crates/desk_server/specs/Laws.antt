@@ -1,10 +1,9 @@
 -- Laws of the definitions (ours).
 use Rattle.std.specs.Prelude.{ℕ, List, Option}
 use Rattle.desk_server.specs.Log.{AreWritten}
-use Rattle.desk_server.specs.Served.{AreNoted, Notes}
-use Rattle.desk_server.specs.declared.log.Fate.{Fate}
+use Rattle.desk_server.specs.Served.{AreNoted, Notes, Turn, fates_in}
 
--- after a log has noted connections, it has written their lines
+-- after a log has noted turns, it has written the lines of their fates
 abbrev pub WritesLines : {Log : Type 0} → (Log → Log → Type 0) → Notes Log → (Log → Option (List ℕ)) → (Log → ℕ) → Type 0
-WritesLines {Log} Begins Noted taken failures = (old new : Log) (fates : List Fate) → AreNoted Begins Noted old fates new
-    → AreWritten (taken old) (failures old) fates (taken new) (failures new)
+WritesLines {Log} Begins Noted taken failures = (old new : Log) (turns : List Turn) → AreNoted Begins Noted old turns new
+    → AreWritten (taken old) (failures old) (fates_in turns) (taken new) (failures new)

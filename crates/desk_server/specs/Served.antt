@@ -1,5 +1,8 @@
--- A server: it serves what arrives, clients and orders of the office, one after the other (ours).
-use Rattle.std.specs.Prelude.{◌≡◌, ℕ, suc, ◌+◌, ◌^◌, ◌<◌, List, [], ◌∷◌, ◌++◌, take, Option, Some, None, Result, Ok, Err}
+-- A server: it serves what arrives, clients and orders of the office, one after the other, and orders also while a client's request is awaited
+-- (ours).
+use Rattle.std.specs.Prelude.{◌≡◌, ℕ, ◌+◌, ◌^◌, ◌<◌, List, [], ◌∷◌, ◌++◌, take, Option, Some, None, Result, Ok, Err}
+use Rattle.std.specs.Io.KnownBytes.{Appends}
+use Rattle.std.specs.String.{string_bytes}
 use Rattle.club_clock.specs.Moments.{GivesMoment}
 use Rattle.club_core.specs.declared.reply.Reply.{Reply}
 use Rattle.club_http.specs.Ends.{one_more}
@@ -40,51 +43,96 @@ IsCarriedOut Carries old None new = new ≡ old
 IsCarriedOut Carries old (Some carried) new =
     (bytes : List ℕ) × (answer : Answer) × Carries bytes old answer new × (carried ≡ answer.carried)
 
--- how many of these were clients: an order is none
-abbrev pub clients_in : List Fate → ℕ
+-- An order was carried out, and its answer was written: its status and its text, whole or a beginning of them.
+pub record AnswersOrder {Desk : Type 0} (Carries : Orders Desk) (bytes : List ℕ) (old : Desk) (taken : Option (List ℕ)) (carried : Carried) (new : Desk)
+    (taken' : Option (List ℕ)) : Type 0 where
+  pub answer : Answer
+  pub carries : Carries bytes old answer new
+  pub same : carried ≡ answer.carried
+  pub writes : (n : ℕ) × Appends taken taken' (take n (answer.carried.status ∷ string_bytes answer.text))
+
+-- A turn of the server: an arrival with its fate, and with the fates of the orders that were carried out meanwhile, while its request was awaited.
+pub record Turn : Type 0 where
+  pub meanwhile : List Fate
+  pub fate : Fate
+
+-- a turn without orders meanwhile
+abbrev pub alone : Fate → Turn
+alone fate = record { meanwhile = []; fate = fate }
+
+-- the fates in the order in which they ended: a client's behind those of the orders meanwhile
+abbrev pub fates_in : List Turn → List Fate
+fates_in [] = []
+fates_in (turn ∷ turns) = (turn.meanwhile ++ turn.fate ∷ []) ++ fates_in turns
+
+-- what a fate adds to the number of clients: an order is none
+abbrev pub client_in : Fate → ℕ
+client_in (Ordered moment carried) = 0
+client_in fate = 1
+
+-- how many of these turns were clients'
+abbrev pub clients_in : List Turn → ℕ
 clients_in [] = 0
-clients_in (Ordered moment carried ∷ fates) = clients_in fates
-clients_in (fate ∷ fates) = suc (clients_in fates)
+clients_in (turn ∷ turns) = client_in turn.fate + clients_in turns
 
 -- ---- the clock, the desk and what arrives
 
+module _ {Clock Desk : Type 0} (Gives : GivesMoment Clock) (Carries : Orders Desk) where
+  -- orders one after the other, each carried out whether or not the clock gives a moment
+  pub data AreOrdered (clock : Clock) (desk : Desk) : List Fate → Clock → Desk → Type 0 where
+    no_order : AreOrdered clock desk [] clock desk
+    one_order : (fates : List Fate) (moment : Option ℕ) (carried : Option Carried) (c : Clock) (d : Desk) (c' : Clock) (d' : Desk)
+        → AreOrdered clock desk fates c d → Gives c moment c' → IsCarriedOut Carries d carried d'
+        → AreOrdered clock desk (fates ++ Ordered moment carried ∷ []) c' d'
+
 module _ {Clock Desk Connection : Type 0} (Gives : GivesMoment Clock) (Answers : ℕ → AnswerRelation Desk) (Carries : Orders Desk)
     (Ended : Ends Connection) where
-  -- What one arrival did to the clock, the desk and the count of failed calls. If waiting failed, only the count grew. A client has an exchange
-  -- at the moment that the clock gave, with an outcome that such a connection may have. An order is carried out, whether or not the clock gives
-  -- a moment. After 2 ^ 64 - 1 orders in a row one client counts that never came.
-  abbrev pub ServesOne : Clock → Desk → ℕ → Fate → Clock → Desk → ℕ → Type 0
-  ServesOne clock desk failures Absent clock' desk' failures' = (failures' ≡ one_more failures) × (clock' ≡ clock) × (desk' ≡ desk)
-  ServesOne clock desk failures Overrun clock' desk' failures' = (failures' ≡ failures) × (clock' ≡ clock) × (desk' ≡ desk)
-  ServesOne clock desk failures (Exchanged moment line outcome) clock' desk' failures' =
-      (failures' ≡ failures)
-      × Gives clock (Some moment) clock'
-      × ((bytes : List ℕ) × (line ≡ take 96 bytes) × IsExchanged (Answers moment) bytes desk outcome desk')
-      × ((connection : Connection) × Ended connection outcome)
-  ServesOne clock desk failures (Ordered moment carried) clock' desk' failures' =
-      (failures' ≡ failures) × Gives clock moment clock' × IsCarriedOut Carries desk carried desk'
-  ServesOne clock desk failures Unanswered clock' desk' failures' = ⊥
+  -- What a client did to the clock and the desk: the clock gave its moment, orders were carried out meanwhile, each at a moment of its own, and
+  -- then it had an exchange with the desk as these had left it, with an outcome that such a connection may have.
+  pub record IsAttended (meanwhile : List Fate) (moment : ℕ) (line : List ℕ) (outcome : Result Reply AnswerFault) (clock : Clock) (desk : Desk)
+      (clock' : Clock) (desk' : Desk) : Type 0 where
+    pub given : Clock
+    pub left : Desk
+    pub gives : Gives clock (Some moment) given
+    pub ordered : AreOrdered Gives Carries given desk meanwhile clock' left
+    pub exchanged : (bytes : List ℕ) × (line ≡ take 96 bytes) × IsExchanged (Answers moment) bytes left outcome desk'
+    pub ended : (connection : Connection) × Ended connection outcome
 
-  -- arrivals one after the other, each with its fate
-  pub data AreServed (clock : Clock) (desk : Desk) (failures : ℕ) : List Fate → Clock → Desk → ℕ → Type 0 where
+  -- What one arrival did to the clock, the desk and the count of failed calls. If waiting failed, only the count grew. An order is carried out,
+  -- whether or not the clock gives a moment. Only a client has orders meanwhile. After 2 ^ 64 - 1 orders in a row one client counts that never
+  -- came.
+  abbrev pub ServesOne : Clock → Desk → ℕ → List Fate → Fate → Clock → Desk → ℕ → Type 0
+  ServesOne clock desk failures meanwhile Absent clock' desk' failures' =
+      (meanwhile ≡ []) × (failures' ≡ one_more failures) × (clock' ≡ clock) × (desk' ≡ desk)
+  ServesOne clock desk failures meanwhile Overrun clock' desk' failures' =
+      (meanwhile ≡ []) × (failures' ≡ failures) × (clock' ≡ clock) × (desk' ≡ desk)
+  ServesOne clock desk failures meanwhile (Exchanged moment line outcome) clock' desk' failures' =
+      (failures' ≡ failures) × IsAttended meanwhile moment line outcome clock desk clock' desk'
+  ServesOne clock desk failures meanwhile (Ordered moment carried) clock' desk' failures' =
+      (meanwhile ≡ []) × (failures' ≡ failures) × Gives clock moment clock' × IsCarriedOut Carries desk carried desk'
+  ServesOne clock desk failures meanwhile Unanswered clock' desk' failures' = ⊥
+
+  -- turns one after the other
+  pub data AreServed (clock : Clock) (desk : Desk) (failures : ℕ) : List Turn → Clock → Desk → ℕ → Type 0 where
     none : AreServed clock desk failures [] clock desk failures
-    more : (fates : List Fate) (fate : Fate) (c : Clock) (d : Desk) (f : ℕ) (c' : Clock) (d' : Desk) (f' : ℕ)
-        → AreServed clock desk failures fates c d f → ServesOne c d f fate c' d' f' → AreServed clock desk failures (fates ++ fate ∷ []) c' d' f'
+    more : (turns : List Turn) (turn : Turn) (c : Clock) (d : Desk) (f : ℕ) (c' : Clock) (d' : Desk) (f' : ℕ)
+        → AreServed clock desk failures turns c d f → ServesOne c d f turn.meanwhile turn.fate c' d' f'
+        → AreServed clock desk failures (turns ++ turn ∷ []) c' d' f'
 
   -- The server stopped early, at a client for whom the clock gave no moment.
   pub record IsStopped (count : ℕ) (clock : Clock) (desk : Desk) (failures : ℕ) (clock' : Clock) (desk' : Desk) (failures' : ℕ)
-      (Besides : List Fate → Type 0) : Type 0 where
-    pub fates : List Fate
+      (Besides : List Turn → Type 0) : Type 0 where
+    pub turns : List Turn
     pub last : Clock
-    pub fewer : clients_in fates < count
-    pub before : AreServed clock desk failures fates last desk' failures'
+    pub fewer : clients_in turns < count
+    pub before : AreServed clock desk failures turns last desk' failures'
     pub no_moment : Gives last None clock'
-    pub besides : Besides (fates ++ Unanswered ∷ [])
+    pub besides : Besides (turns ++ alone Unanswered ∷ [])
 
-  -- How a server of so many clients ends; `Besides` holds for the fates of all that it waited for.
-  abbrev pub Serves : ℕ → Clock → Desk → ℕ → Result Unit ClockOutOfRange → Clock → Desk → ℕ → (List Fate → Type 0) → Type 0
+  -- How a server of so many clients ends; `Besides` holds for the turns of all that it waited for.
+  abbrev pub Serves : ℕ → Clock → Desk → ℕ → Result Unit ClockOutOfRange → Clock → Desk → ℕ → (List Turn → Type 0) → Type 0
   Serves count clock desk failures (Ok done) clock' desk' failures' Besides =
-      (fates : List Fate) × (clients_in fates ≡ count) × AreServed clock desk failures fates clock' desk' failures' × Besides fates
+      (turns : List Turn) × (clients_in turns ≡ count) × AreServed clock desk failures turns clock' desk' failures' × Besides turns
   Serves count clock desk failures (Err stopped) clock' desk' failures' Besides =
       IsStopped count clock desk failures clock' desk' failures' Besides
 
@@ -95,13 +143,46 @@ abbrev pub Notes : Type 0 → Type 1
 Notes Log = Log → Fate → Log → Type 0
 
 module _ {Log : Type 0} (Begins : Log → Log → Type 0) (Noted : Notes Log) where
-  -- what was accepted is begun and then noted; the rest is only noted
-  abbrev pub IsNoted : Log → Fate → Log → Type 0
-  IsNoted log Absent log' = Noted log Absent log'
-  IsNoted log Overrun log' = Noted log Overrun log'
-  IsNoted log fate log' = (begun : Log) × Begins log begun × Noted begun fate log'
+  -- orders meanwhile, each begun and then noted, in their order
+  pub data AreNotedMeanwhile (log : Log) : List Fate → Log → Type 0 where
+    no_note : AreNotedMeanwhile log [] log
+    one_note : (fates : List Fate) (fate : Fate) (l begun l' : Log) → AreNotedMeanwhile log fates l → Begins l begun → Noted begun fate l'
+        → AreNotedMeanwhile log (fates ++ fate ∷ []) l'
+
+  -- what was accepted is begun
+  abbrev pub IsBegun : Log → Fate → Log → Type 0
+  IsBegun log Absent begun = begun ≡ log
+  IsBegun log Overrun begun = begun ≡ log
+  IsBegun log fate begun = Begins log begun
+
+  -- A turn: what was accepted is begun, then the orders meanwhile are begun and noted, and then it is noted itself. The rest is only noted.
+  pub record IsNoted (log : Log) (turn : Turn) (log' : Log) : Type 0 where
+    pub begun : Log
+    pub awaited : Log
+    pub begins : IsBegun log turn.fate begun
+    pub meanwhile : AreNotedMeanwhile begun turn.meanwhile awaited
+    pub notes : Noted awaited turn.fate log'
 
   -- all of them, in their order
-  pub data AreNoted (log : Log) : List Fate → Log → Type 0 where
+  pub data AreNoted (log : Log) : List Turn → Log → Type 0 where
     nothing : AreNoted log [] log
-    one_noted : (fates : List Fate) (fate : Fate) (l l' : Log) → AreNoted log fates l → IsNoted l fate l' → AreNoted log (fates ++ fate ∷ []) l'
+    one_noted : (turns : List Turn) (turn : Turn) (l l' : Log) → AreNoted log turns l → IsNoted l turn l' → AreNoted log (turns ++ turn ∷ []) l'
+
+-- ---- the clock, the desk and the log
+
+module _ {Clock Desk Log : Type 0} (Gives : GivesMoment Clock) (Carries : Orders Desk) (Begins : Log → Log → Type 0) (Noted : Notes Log) where
+  -- orders meanwhile, carried out and noted, in their order
+  pub record IsMeanwhile (fates : List Fate) (clock : Clock) (desk : Desk) (log : Log) (clock' : Clock) (desk' : Desk) (log' : Log) : Type 0 where
+    pub ordered : AreOrdered Gives Carries clock desk fates clock' desk'
+    pub noted : AreNotedMeanwhile Begins Noted log fates log'
+
+  -- some of them
+  abbrev pub Meanwhile : Clock → Desk → Log → Clock → Desk → Log → Type 0
+  Meanwhile clock desk log clock' desk' log' = (fates : List Fate) × IsMeanwhile fates clock desk log clock' desk' log'
+
+  -- An exchange: while the request was awaited, orders were carried out and noted; then the outcome is as at the desk that they left.
+  pub record ExchangesBetween (Answers : AnswerRelation Desk) (bytes : List ℕ) (clock : Clock) (desk : Desk) (log : Log) (outcome : Result Reply AnswerFault)
+      (clock' : Clock) (desk' : Desk) (log' : Log) : Type 0 where
+    pub left : Desk
+    pub meanwhile : Meanwhile clock desk log clock' left log'
+    pub exchanged : IsExchanged Answers bytes left outcome desk'

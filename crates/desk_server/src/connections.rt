@@ -1,50 +1,58 @@
 //! Connections of clients and of the office, and what they come from.
 
+use crate::between::{Handover, Waits, receive_between};
 use crate::limit::{Limit, MonotonicClock};
-use crate::office::{Carried, Office};
+use crate::log::Log;
+use crate::office::Office;
+use crate::stream::{ClientStream, Woken};
 use crate::timed::{TimedInlet, TimedOutlet};
+use club_clock::Moments;
 use club_core::Reply;
-use club_http::{AnswerFault, Face, Responder, send_reply};
+use club_http::{AnswerFault, Face, send_reply};
 use club_values::Moment;
-use std::net::{Shutdown, TcpStream};
 use std::time::Duration;
 
-/// A connection.
+/// A client's connection.
 pub trait Connection {
-    ghost use Rattle.desk_server.specs.Served.{Ends, IsExchanged};
+    ghost use Rattle.desk_server.specs.Served.{Ends, ExchangesBetween};
 
     // the outcomes that an exchange with it may have
     ghost ends: { Ends Self };
 
-    /// One exchange with the desk, at a moment. The desk changed as the returned outcome says; the
-    /// bytes that were read of the request stay in the face.
+    /// One exchange with the desk, at a moment. While the request is awaited, orders are carried
+    /// out and logged, each at a moment of its own; then the desk changed as the returned outcome
+    /// says. The bytes that were read of the request stay in the face.
     ///
     /// # Errors
     ///
     /// As `club_http::answer`.
-    fn exchange<D: Responder>(
+    fn exchange<M: Moments, D: Office, G: Log>(
         &mut self,
         face: &mut Face,
+        moments: &mut M,
         desk: &mut D,
+        log: &mut G,
         moment: Moment,
     ) -> Result<Reply, AnswerFault>
-        ensures exchanged { IsExchanged (D.answers moment) face.new desk.old result desk.new }
+        ensures exchanged { ExchangesBetween M.gives D.orders G.begins G.notes (D.answers moment)
+            face.new moments.old desk.old log.old result moments.new desk.new log.new }
         ensures ended { ends self.old result };
 }
 
 /// A connection that a listener accepted. The client has the patience for its request, the same
-/// time again for taking the reply, and once more for bytes that it still sends.
+/// time again for taking the reply, and once more for bytes that it still sends. An order that is
+/// carried out meanwhile doesn't extend the patience.
 #[derive(Drop)]
-pub struct Accepted<'c, C> {
-    stream: TcpStream,
+pub struct Accepted<'c, S, C> {
+    stream: S,
     clock: &'c C,
     patience: Duration,
     limit: Limit<'c, C>,
 }
 
-impl<'c, C: MonotonicClock> Accepted<'c, C> {
-    // A connection that was accepted now.
-    pub(crate) fn new(stream: TcpStream, clock: &'c C, patience: Duration) -> Accepted<'c, C> {
+impl<'c, S: ClientStream, C: MonotonicClock> Accepted<'c, S, C> {
+    /// A connection that was accepted now.
+    pub fn new(stream: S, clock: &'c C, patience: Duration) -> Accepted<'c, S, C> {
         Accepted {
             stream,
             clock,
@@ -55,30 +63,73 @@ impl<'c, C: MonotonicClock> Accepted<'c, C> {
 
     // Ends a connection whose reply was written, and whose request may go on. A socket that is
     // closed while bytes of its client are unread resets the connection, and a client that is still
-    // sending may then lose its reply. So this shuts the writing side first, and then reads what
-    // the client still sends.
+    // sending may then lose its reply. So this ends the writing side first, and then reads what the
+    // client still sends.
     fn take_rest(&self) {
-        if self.stream.shutdown(Shutdown::Write).is_ok() {
+        if self.stream.end_writing() {
             let limit = Limit::after(self.clock, self.patience);
             TimedInlet::new(&self.stream, &limit).take_rest();
         }
     }
 }
 
-/// An exchange as `club_http::answer` makes it, over a socket. No contract states which bytes a
-/// socket gives or takes.
-impl<C: MonotonicClock> Connection for Accepted<'_, C> {
+/// Waits for a client under its limit. Where both are there, its bytes and orders take turns.
+#[derive(Drop)]
+struct Awaited<'s, 'l, 'c, S, C> {
+    stream: &'s S,
+    limit: &'l Limit<'c, C>,
+    // whether an order goes before the client's bytes
+    order_first: bool,
+}
+
+impl<S: ClientStream, C: MonotonicClock> Waits for Awaited<'_, '_, '_, S, C> {
+    type Order = S::Order;
+
+    fn order_before(&mut self) -> Option<S::Order> {
+        for _ in 0..u64::MAX {
+            let left = self.limit.left();
+            if left.is_zero() {
+                return None;
+            }
+            match self.stream.wait_within(left, self.order_first) {
+                Woken::Order(order) => {
+                    self.order_first = false;
+                    return Some(order);
+                }
+                Woken::Client => {
+                    self.order_first = true;
+                    return None;
+                }
+                Woken::Nobody => {}
+            }
+        }
+        None
+    }
+}
+
+/// An exchange as `club_http::answer` makes it, over a socket, but that orders are carried out
+/// while the request is awaited. No contract states which bytes a socket gives or takes.
+impl<S: ClientStream, C: MonotonicClock> Connection for Accepted<'_, S, C> {
     ghost ends = { λ _ _. Unit {0} };
 
-    fn exchange<D: Responder>(
+    fn exchange<M: Moments, D: Office, G: Log>(
         &mut self,
         face: &mut Face,
+        moments: &mut M,
         desk: &mut D,
+        log: &mut G,
         moment: Moment,
     ) -> Result<Reply, AnswerFault> {
         let stream = &self.stream;
-        let mut reader = TimedInlet::new(stream, &self.limit);
-        let Some(scan) = face.receive(&mut reader) else {
+        let limit = &self.limit;
+        let mut reader = TimedInlet::new(stream, limit);
+        let mut waits = Awaited {
+            stream,
+            limit,
+            order_first: false,
+        };
+        let received = receive_between(face, &mut reader, &mut waits, moments, desk, log);
+        let Some(scan) = received else {
             return Err(AnswerFault::Read);
         };
         let reply = face.reply(&scan, desk, moment);
@@ -93,16 +144,6 @@ impl<C: MonotonicClock> Connection for Accepted<'_, C> {
             Err(sent) => Err(AnswerFault::Write(sent)),
         }
     }
-}
-
-/// A connection of the office, which brings an order.
-pub trait Handover {
-    ghost use Rattle.desk_server.specs.Served.{IsCarriedOut};
-
-    /// Reads an order, has the desk carry it out, and writes the answer; `None` if no order came
-    /// whole.
-    fn carry_out<D: Office>(&mut self, desk: &mut D) -> Option<Carried>
-        ensures { IsCarriedOut D.orders desk.old result desk.new };
 }
 
 /// What came.

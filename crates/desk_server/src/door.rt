@@ -2,13 +2,15 @@
 
 ghost use Rattle.std.specs.Prelude.{◌≡◌, ◌≤◌, length, take, IfSome};
 ghost use Rattle.std.specs.Io.KnownBytes.{Consumes, IsAtEnd};
+ghost use Rattle.desk_server.specs.Served.{AnswersOrder};
 
-use crate::connections::Handover;
+use crate::between::Handover;
 use crate::limit::{Limit, MonotonicClock};
 use crate::office::{Answer, Carried, Office};
 use crate::timed::{TimedInlet, TimedOutlet};
-use club_http::{Inlet, put_all};
-use std::os::unix::net::UnixStream;
+use club_http::{Inlet, Outlet, put_all};
+use std::io;
+use std::os::unix::net::{UnixListener, UnixStream};
 use std::time::Duration;
 
 /// What the server sends when it has accepted a connection of the office. Only then the command
@@ -30,13 +32,18 @@ pub struct Handed<'c, C> {
 }
 
 impl<'c, C: MonotonicClock> Handed<'c, C> {
-    // A connection that was accepted now.
-    pub(crate) fn new(stream: UnixStream, clock: &'c C, patience: Duration) -> Handed<'c, C> {
-        Handed {
+    // The next connection of a door.
+    pub(crate) fn accept(
+        door: &UnixListener,
+        clock: &'c C,
+        patience: Duration,
+    ) -> io::Result<Handed<'c, C>> {
+        let (stream, _) = door.accept()?;
+        Ok(Handed {
             stream,
             clock,
             patience,
-        }
+        })
     }
 
     // Greets the command, and reads its order; `None` if it doesn't come whole and in time.
@@ -45,19 +52,15 @@ impl<'c, C: MonotonicClock> Handed<'c, C> {
     {
         let stream = &self.stream;
         let limit = Limit::after(self.clock, Duration::from_millis(ORDER_MILLISECONDS));
-        let mut writer = TimedOutlet::new(stream, self.clock, self.patience);
-        if put_all(&mut writer, &GREETING).is_err() {
+        if put_all(&mut self.writer(), &GREETING).is_err() {
             return None;
         }
         read_order(&mut TimedInlet::new(stream, &limit), room)
     }
 
-    // Sends the answer: the status, and the text. Whether the command takes it changes nothing.
-    fn send(&self, status: u8, text: &str) {
-        let mut writer = TimedOutlet::new(&self.stream, self.clock, self.patience);
-        if put_all(&mut writer, &[status]).is_ok() {
-            let _ = put_all(&mut writer, text.as_bytes());
-        }
+    // Where the answer is sent to.
+    fn writer(&self) -> TimedOutlet<'c, &UnixStream, C> {
+        TimedOutlet::new(&self.stream, self.clock, self.patience)
     }
 }
 
@@ -79,15 +82,27 @@ pub fn read_order<R: Inlet>(reader: &mut R, room: &mut [u8]) -> Option<usize>
     None
 }
 
+/// Has the desk carry out an order, and writes its answer: the status, and then the text. Whether
+/// the writer takes it changes nothing.
+pub fn answer_order<D: Office, W: Outlet>(desk: &mut D, bytes: &[u8], writer: &mut W) -> Carried
+    ensures { AnswersOrder D.orders bytes.now desk.old (W.taken writer.old)
+        result desk.new (W.taken writer.new) }
+{
+    let Answer { carried, text } = desk.order(bytes);
+    match put_all(writer, &[carried.status]) {
+        Ok(()) => {
+            let _ = put_all(writer, text.as_str().as_bytes());
+        }
+        Err(_) => {}
+    }
+    carried
+}
+
 impl<C: MonotonicClock> Handover for Handed<'_, C> {
     fn carry_out<D: Office>(&mut self, desk: &mut D) -> Option<Carried> {
         let mut room = [0; MAX_ORDER_LEN];
         match self.receive(&mut room) {
-            Some(len) => {
-                let Answer { carried, text } = desk.order(&room[..len]);
-                self.send(carried.status, text.as_str());
-                Some(carried)
-            }
+            Some(len) => Some(answer_order(desk, &room[..len], &mut self.writer())),
             None => None,
         }
     }

@@ -1,8 +1,9 @@
-//! The server of the desk: it serves clients and orders of the office one after the other, each
-//! client at the moment that the club's clock shows. `Databases` is the trait by which it and the
-//! office open a database.
+//! The server of the desk: it serves clients and orders of the office one after the other, and
+//! orders also while a client's request is awaited, each client at the moment that the club's clock
+//! shows. `Databases` is the trait by which it and the office open a database.
 #![tactic(auto)]
 
+mod between;
 mod connections;
 mod databases;
 mod door;
@@ -13,15 +14,18 @@ mod log;
 mod office;
 mod request_line;
 mod serve;
+mod stream;
 mod timed;
 
-pub use connections::{Accepted, Arrival, Arrivals, Connection, Handover};
+pub use between::{Handover, Waits, receive_between};
+pub use connections::{Accepted, Arrival, Arrivals, Connection};
 pub use databases::{Databases, Door, Reached, Visit};
-pub use door::{GREETING, Handed, MAX_ORDER_LEN, read_order};
+pub use door::{GREETING, Handed, MAX_ORDER_LEN, answer_order, read_order};
 pub use limit::{Limit, MonotonicClock};
 pub use listening::Listening;
 pub use log::{Fate, Log, LogLines, Unlogged};
 pub use office::{Answer, Carried, Office};
 pub use request_line::{MAX_KEPT, RequestLine};
 pub use serve::{ClockOutOfRange, serve_logged, serve_on};
+pub use stream::{ClientSocket, ClientStream, Woken};
 pub use timed::{MAX_REST, TimedInlet, TimedOutlet, TimedRead, TimedWrite, Waited};

@@ -2,8 +2,8 @@
 
 use crate::connections::{Accepted, Arrival, Arrivals};
 use crate::door::Handed;
+use crate::stream::{ClientSocket, waits_for};
 use libc::net as c;
-use libc::types::pollfd;
 use std::io::ErrorKind;
 use std::net::TcpListener;
 use std::os::fd::{AsRawFd, RawFd};
@@ -17,6 +17,9 @@ const REST_MILLISECONDS: u64 = 10;
 
 /// No descriptor: `poll` passes over it.
 const NO_DESCRIPTOR: RawFd = -1;
+
+/// A client of a listener, or an order that came by a door.
+type Arrived<'a, C> = Arrival<Accepted<'a, ClientSocket<'a, C>, C>, Handed<'a, C>>;
 
 /// Clients of a listener and, if there is a door, orders of the office, each with the same
 /// patience. Where both wait they take turns.
@@ -58,7 +61,7 @@ impl<'a, C: Clock> Listening<'a, C> {
 
     // Waits until an order or a client is there. A connection that was gone before it was accepted
     // is waited for no more.
-    fn wait(&mut self) -> Arrival<Accepted<'a, C>, Handed<'a, C>>
+    fn wait(&mut self) -> Arrived<'a, C>
         ensures waited { self.new.waited ≡ self.old.waited }
         ensures failures { self.new.failures ≡ self.old.failures }
     {
@@ -95,34 +98,26 @@ impl<'a, C: Clock> Listening<'a, C> {
         Some((asked[0].revents != 0, asked[1].revents != 0))
     }
 
-    fn take_order(&self) -> io::Result<Arrival<Accepted<'a, C>, Handed<'a, C>>> {
+    fn take_order(&self) -> io::Result<Arrived<'a, C>> {
         match self.door {
             Some(door) => {
-                let (stream, _) = door.accept()?;
-                let handed = Handed::new(stream, self.clock, self.patience);
+                let handed = Handed::accept(door, self.clock, self.patience)?;
                 Ok(Arrival::Order(handed))
             }
             None => Ok(Arrival::Nobody),
         }
     }
 
-    fn take_client(&self) -> io::Result<Arrival<Accepted<'a, C>, Handed<'a, C>>> {
+    fn take_client(&self) -> io::Result<Arrived<'a, C>> {
         let (stream, _) = self.clients.accept()?;
-        let accepted = Accepted::new(stream, self.clock, self.patience);
+        let socket = ClientSocket::new(stream, self.door, self.clock, self.patience);
+        let accepted = Accepted::new(socket, self.clock, self.patience);
         Ok(Arrival::Client(accepted))
     }
 }
 
-fn waits_for(fd: RawFd) -> pollfd {
-    pollfd {
-        fd,
-        events: c::POLLIN,
-        revents: 0,
-    }
-}
-
 impl<'a, C: Clock> Arrivals for Listening<'a, C> {
-    type Client = Accepted<'a, C>;
+    type Client = Accepted<'a, ClientSocket<'a, C>, C>;
 
     type Order = Handed<'a, C>;
 
@@ -130,7 +125,7 @@ impl<'a, C: Clock> Arrivals for Listening<'a, C> {
 
     ghost failures = { λ listening. listening.failures };
 
-    fn next(&mut self) -> Arrival<Accepted<'a, C>, Handed<'a, C>> {
+    fn next(&mut self) -> Arrived<'a, C> {
         self.waited = self.waited.saturating_add(1);
         match self.wait() {
             Arrival::Nobody => {

@@ -39,7 +39,7 @@ pub enum Fate {
 }
 
 /// A log of clients and orders. It is called as each begins and ends, and changes nothing of the
-/// outcome.
+/// outcome. Orders that come while a client's request is awaited begin and end within the client.
 pub trait Log {
     ghost use Rattle.desk_server.specs.Served.{Notes};
 
@@ -81,7 +81,9 @@ pub struct LogLines<'a, W, C> {
     /// What the lines are written to.
     pub writer: W,
     clock: &'a C,
+    // when the last that hasn't ended began, and the one around it
     began: Option<Instant>,
+    around: Option<Instant>,
 }
 
 impl<'a, W: Outlet, C: Clock> LogLines<'a, W, C> {
@@ -91,6 +93,7 @@ impl<'a, W: Outlet, C: Clock> LogLines<'a, W, C> {
             writer,
             clock,
             began: None,
+            around: None,
         }
     }
 
@@ -118,12 +121,13 @@ impl<'a, W: Outlet, C: Clock> Log for LogLines<'a, W, C> {
         (line_text fate microseconds) };
 
     fn begin(&mut self) {
+        self.around = self.began;
         self.began = Instant::now(self.clock).ok();
     }
 
     fn note(&mut self, fate: &Fate) {
         let line = line_of(fate, self.microseconds());
-        self.began = None;
+        self.began = self.around.take();
         let _ = put_all(&mut self.writer, line.as_bytes());
     }
 }

@@ -1,9 +1,8 @@
 //! The server.
 
 ghost use Rattle.std.specs.Prelude.{◌≡◌, None, OnErr, OnOk};
-ghost use Rattle.desk_server.specs.Served.{IsNoted};
+ghost use Rattle.desk_server.specs.Served.{IsNoted, alone};
 ghost use Rattle.desk_server.specs.Server.{
-  IsOrdered,
   IsServed,
   ServesLogged,
   ServesOn,
@@ -13,7 +12,8 @@ ghost use Rattle.desk_server.specs.Server.{
 };
 ghost use Rattle.desk_server.specs.declared.log.Fate.TheVariants.{Unanswered};
 
-use crate::connections::{Arrival, Arrivals, Connection, Handover};
+use crate::between::carry_out;
+use crate::connections::{Arrival, Arrivals, Connection};
 use crate::log::{Fate, Log, Unlogged};
 use crate::office::Office;
 use crate::request_line::RequestLine;
@@ -39,7 +39,8 @@ impl fmt::Display for ClockOutOfRange {
 impl Error for ClockOutOfRange {}
 
 /// Serves this many clients, one after the other, and carries out each order of the office that
-/// comes before one of them. A client gets the moment of the clock at its start. One that fails, on
+/// comes before one of them, or while its request is awaited. A client gets the moment of the clock
+/// at its start. One that fails, on
 /// its way or in its exchange, counts like any other, and so does one whose request was refused.
 /// Orders don't count.
 ///
@@ -119,23 +120,6 @@ fn serve_next<L: Arrivals, M: Moments, D: Office, G: Log>(
     Ok(())
 }
 
-// Carries out an order, and logs it.
-fn carry_out<O: Handover + Drop, M: Moments, D: Office, G: Log>(
-    mut order: O,
-    moments: &mut M,
-    desk: &mut D,
-    log: &mut G,
-)
-    ensures { IsOrdered M.gives G.begins G.notes D.orders moments.old desk.old log.old
-        moments.new desk.new log.new }
-{
-    log.begin();
-    let moment = moments.now();
-    let carried = order.carry_out(desk);
-    drop(order);
-    log.note(&Fate::Ordered { moment, carried });
-}
-
 // Serves a client, and logs it.
 fn serve_client<C: Connection + Drop, M: Moments, D: Office, G: Log>(
     mut client: C,
@@ -144,9 +128,9 @@ fn serve_client<C: Connection + Drop, M: Moments, D: Office, G: Log>(
     desk: &mut D,
     log: &mut G,
 ) -> Result<(), ClockOutOfRange>
-    ensures served { OnOk result (IsServed M.gives G.begins G.notes D.answers C.ends
+    ensures served { OnOk result (IsServed M.gives G.begins G.notes D.answers D.orders C.ends
         moments.old desk.old log.old moments.new desk.new log.new) }
-    ensures stopped { OnErr result (IsNoted G.begins G.notes log.old Unanswered log.new
+    ensures stopped { OnErr result (IsNoted G.begins G.notes log.old (alone Unanswered) log.new
         × M.gives moments.old None moments.new × (desk.new ≡ desk.old)) }
 {
     log.begin();
@@ -155,7 +139,7 @@ fn serve_client<C: Connection + Drop, M: Moments, D: Office, G: Log>(
         return Err(ClockOutOfRange);
     };
     // Whatever the outcome, the server goes on.
-    let outcome = client.exchange(face, desk, moment);
+    let outcome = client.exchange(face, moments, desk, log, moment);
     drop(client);
     let line = RequestLine::of(face.request());
     log.note(&Fate::Exchanged {

@@ -8,7 +8,6 @@ use crate::limit::{Limit, MonotonicClock};
 use club_http::{Inlet, Outlet};
 use std::io;
 use std::io::{ErrorKind, Read, Write};
-use std::net::TcpStream;
 use std::os::unix::net::UnixStream;
 use std::time::Duration;
 
@@ -65,38 +64,6 @@ pub trait TimedWrite {
 }
 
 /// No contract states which bytes a socket gives.
-impl TimedRead for &TcpStream {
-    ghost use Rattle.std.specs.Prelude.{None};
-
-    ghost to_come = { λ _. None };
-
-    ghost reads = { λ _ _ _ _. Unit {0} };
-
-    fn read_within(&mut self, limit: Duration, room: &mut [u8]) -> Waited {
-        match self.set_read_timeout(Some(limit)) {
-            Ok(()) => outcome_of(self.read(room)),
-            Err(_) => Waited::Failed,
-        }
-    }
-}
-
-/// No contract states which bytes a socket takes.
-impl TimedWrite for &TcpStream {
-    ghost use Rattle.std.specs.Prelude.{None};
-
-    ghost taken = { λ _. None };
-
-    ghost writes = { λ _ _ _ _. Unit {0} };
-
-    fn write_within(&mut self, limit: Duration, bytes: &[u8]) -> Waited {
-        match self.set_write_timeout(Some(limit)) {
-            Ok(()) => outcome_of(self.write(bytes)),
-            Err(_) => Waited::Failed,
-        }
-    }
-}
-
-/// No contract states which bytes a socket gives.
 impl TimedRead for &UnixStream {
     ghost use Rattle.std.specs.Prelude.{None};
 
@@ -128,8 +95,8 @@ impl TimedWrite for &UnixStream {
     }
 }
 
-// How a call of `std` ended.
-fn outcome_of(returned: io::Result<usize>) -> Waited
+/// How a call of `std` ended.
+pub(crate) fn outcome_of(returned: io::Result<usize>) -> Waited
     ensures { MatchResult returned (λ n. result ≡ Waited.Moved n) (λ _. moved result ≡ None) }
 {
     match returned {

@@ -1,4 +1,5 @@
 use Rattle.std.proofs.Common.{◌≡◌, ◌∷◌, [], ◌++◌, arith, append_assoc, length-append}
+use Rattle.desk_server.specs.Served.{alone}
 use Rattle.desk_server.specs.declared.log.Fate.TheVariants.{Unanswered}
 use Rattle.desk_server.proofs.ServedLemmas.{clients_append, counts_on, noted_append, served_append, serves_more, serves_none}
 use Rattle.desk_server.proofs.serve.serve_logged.Goals as goal
@@ -16,14 +17,15 @@ returns-in-Err g c =
     let inv = c.loop-served.invariant in
     let stop = c.in-Err.ensures.stopped in
     record {
-      fates = inv.fates ++ stop.fates;
+      turns = inv.turns ++ stop.turns;
       last = stop.last;
-      fewer = omega (arith, clients_append inv.fates stop.fates, inv.so_many, stop.no_clients);
-      before = served_append _ _ _ _ _ _ _ _ _ _ _ _ _ inv.fates stop.fates inv.served stop.served;
+      fewer = omega (arith, clients_append inv.turns stop.turns, inv.so_many, stop.no_clients);
+      before = served_append _ _ _ _ _ _ _ _ _ _ _ _ _ inv.turns stop.turns inv.served stop.served;
       no_moment = stop.no_moment;
-      besides = rw (append_assoc inv.fates stop.fates (Unanswered ∷ [])) (
-        rw (length-append inv.fates (stop.fates ++ Unanswered ∷ []), length-append stop.fates (Unanswered ∷ [])) (counts_on _ _ _ _ _ inv.called stop.called),
-        noted_append _ _ _ _ _ inv.fates (stop.fates ++ Unanswered ∷ []) inv.noted stop.noted,
+      besides = rw (append_assoc inv.turns stop.turns (alone Unanswered ∷ [])) (
+        rw (length-append inv.turns (stop.turns ++ alone Unanswered ∷ []), length-append stop.turns (alone Unanswered ∷ []))
+            (counts_on _ _ _ _ _ inv.called stop.called),
+        noted_append _ _ _ _ _ inv.turns (stop.turns ++ alone Unanswered ∷ []) inv.noted stop.noted,
       );
     }
 
@@ -31,4 +33,4 @@ pub returns : goal.returns
 returns g c =
     let inv = c.loop-served.invariant in
     let all : c.args.count ≡ c.loop-served.served = omega arith in
-    (inv.fates, rw all inv.so_many, inv.served, (inv.called, inv.noted))
+    (inv.turns, rw all inv.so_many, inv.served, (inv.called, inv.noted))

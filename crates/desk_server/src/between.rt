@@ -1,0 +1,140 @@
+//! Orders of the office, and those that come between the pieces of a client's request.
+
+ghost use Rattle.std.specs.Prelude.{◌≡◌, IfNone, IfSome};
+ghost use Rattle.http_request.specs.Front.{Covers};
+ghost use Rattle.club_http.specs.Received.{IsCutOff, Receives};
+ghost use Rattle.desk_server.specs.Served.{Meanwhile};
+ghost use Rattle.desk_server.specs.Server.{IsOrdered};
+
+use crate::log::{Fate, Log};
+use crate::office::{Carried, Office};
+use club_clock::Moments;
+use club_http::{Face, Inlet};
+use http_request::HeadScan;
+
+/// A connection of the office, which brings an order.
+pub trait Handover {
+    ghost use Rattle.desk_server.specs.Served.{IsCarriedOut};
+
+    /// Reads an order, has the desk carry it out, and writes the answer; `None` if no order came
+    /// whole.
+    fn carry_out<D: Office>(&mut self, desk: &mut D) -> Option<Carried>
+        ensures { IsCarriedOut D.orders desk.old result desk.new };
+}
+
+/// Carries out an order, and logs it.
+pub(crate) fn carry_out<O: Handover + Drop, M: Moments, D: Office, G: Log>(
+    mut order: O,
+    moments: &mut M,
+    desk: &mut D,
+    log: &mut G,
+)
+    ensures { IsOrdered M.gives G.begins G.notes D.orders moments.old desk.old log.old
+        moments.new desk.new log.new }
+{
+    log.begin();
+    let moment = moments.now();
+    let carried = order.carry_out(desk);
+    drop(order);
+    log.note(&Fate::Ordered { moment, carried });
+}
+
+/// What waits for a client and for the office at once.
+pub trait Waits {
+    type Order: Handover + Drop;
+
+    /// Waits until the client is to be read, and returns the order that comes before, if one does.
+    /// The client is to be read once its bytes or its end are there, its time is over, or waiting
+    /// failed.
+    fn order_before(&mut self) -> Option<Self::Order>;
+}
+
+/// A client's reader that carries out the orders that come while it waits.
+#[derive(Drop)]
+struct Between<'r, 'w, 'm, 'd, 'g, R, W, M, D, G> {
+    reader: &'r mut R,
+    waits: &'w mut W,
+    moments: &'m mut M,
+    desk: &'d mut D,
+    log: &'g mut G,
+}
+
+impl<R: Inlet, W: Waits, M: Moments, D: Office, G: Log> Inlet
+    for Between<'_, '_, '_, '_, '_, R, W, M, D, G> {
+    ghost use Rattle.std.specs.Prelude.{◌≡◌};
+    ghost use Rattle.desk_server.specs.Served.{Meanwhile};
+
+    ghost to_come = { λ between. R.to_come between.reader.now };
+
+    ghost failures = { λ between. R.failures between.reader.now };
+
+    ghost fills = { λ old result room new.
+        (new.reader.ghost_name ≡ old.reader.ghost_name)
+        × (new.moments.ghost_name ≡ old.moments.ghost_name)
+        × (new.desk.ghost_name ≡ old.desk.ghost_name)
+        × (new.log.ghost_name ≡ old.log.ghost_name)
+        × Meanwhile M.gives D.orders G.begins G.notes
+        old.moments.now old.desk.now old.log.now new.moments.now new.desk.now new.log.now
+        × R.fills old.reader.now result room new.reader.now };
+
+    fn fill(&mut self, room: &mut [u8]) -> Option<usize> {
+        for ordered in 0..u64::MAX {
+            match self.waits.order_before() {
+                Some(order) => {
+                    carry_out(order, &mut *self.moments, &mut *self.desk, &mut *self.log);
+                }
+                None => return self.reader.fill(room),
+            }
+        }
+        self.reader.fill(room)
+    }
+}
+
+/// Reads a request, as `Face::receive` does, and carries out the orders that come while it is
+/// awaited. Each has a moment of its own, and is logged.
+pub fn receive_between<R: Inlet, W: Waits, M: Moments, D: Office, G: Log>(
+    face: &mut Face,
+    reader: &mut R,
+    waits: &mut W,
+    moments: &mut M,
+    desk: &mut D,
+    log: &mut G,
+) -> Option<HeadScan>
+    ensures covered { IfSome result (λ scan. Covers scan face.new) }
+    ensures received { IfSome result
+        (λ _. Receives (R.to_come reader.old) (R.to_come reader.new) face.new) }
+    ensures cut_off { IfNone result
+        (IsCutOff (R.to_come reader.old) (R.to_come reader.new) face.new) }
+    ensures meanwhile { Meanwhile M.gives D.orders G.begins G.notes
+        moments.old desk.old log.old moments.new desk.new log.new }
+{
+    let mut between = Between {
+        reader,
+        waits,
+        moments,
+        desk,
+        log,
+    };
+    receive_in(face, &mut between)
+}
+
+// Reads a request.
+fn receive_in<R: Inlet, W: Waits, M: Moments, D: Office, G: Log>(
+    face: &mut Face,
+    between: &mut Between<'_, '_, '_, '_, '_, R, W, M, D, G>,
+) -> Option<HeadScan>
+    ensures covered { IfSome result (λ scan. Covers scan face.new) }
+    ensures received { IfSome result (λ _. Receives (R.to_come between.old.reader.now)
+        (R.to_come between.new.reader.now) face.new) }
+    ensures cut_off { IfNone result (IsCutOff (R.to_come between.old.reader.now)
+        (R.to_come between.new.reader.now) face.new) }
+    ensures same_reader { between.new.reader.ghost_name ≡ between.old.reader.ghost_name }
+    ensures same_moments { between.new.moments.ghost_name ≡ between.old.moments.ghost_name }
+    ensures same_desk { between.new.desk.ghost_name ≡ between.old.desk.ghost_name }
+    ensures same_log { between.new.log.ghost_name ≡ between.old.log.ghost_name }
+    ensures meanwhile { Meanwhile M.gives D.orders G.begins G.notes
+        between.old.moments.now between.old.desk.now between.old.log.now
+        between.new.moments.now between.new.desk.now between.new.log.now }
+{
+    face.receive(between)
+}

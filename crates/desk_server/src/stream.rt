@@ -1,0 +1,183 @@
+//! The stream of a client, with the office's door beside it.
+
+use crate::between::Handover;
+use crate::door::Handed;
+use crate::limit::MonotonicClock;
+use crate::timed::{TimedRead, TimedWrite, Waited, outcome_of};
+use libc::net as c;
+use libc::types::pollfd;
+use std::cell::Cell;
+use std::io::{ErrorKind, Read, Write};
+use std::net::{Shutdown, TcpStream};
+use std::os::fd::{AsRawFd, RawFd};
+use std::os::unix::net::UnixListener;
+use std::time::Duration;
+
+/// How a wait for a client and for the office ended.
+#[derive(Drop)]
+pub enum Woken<O> {
+    /// An order came.
+    Order(O),
+    /// The client is to be read: its bytes or its end are there, the time is over, or waiting
+    /// failed.
+    Client,
+    /// An order came that was gone before it was accepted.
+    Nobody,
+}
+
+/// A client's stream, with the office's door beside it. No contract states which bytes it gives or
+/// takes, nor which orders come.
+pub trait ClientStream {
+    ghost use Rattle.std.specs.Prelude.{◌≤◌, length, IfSome};
+    ghost use Rattle.desk_server.specs.Limits.{moved};
+
+    type Order: Handover + Drop;
+
+    /// Waits at most this long for the client and for the office at once. Where both are there, it
+    /// says whose turn it is.
+    fn wait_within(&self, limit: Duration, order_first: bool) -> Woken<Self::Order>;
+
+    /// Reads as `TimedRead::read_within`.
+    fn read_for(&self, limit: Duration, room: &mut [u8]) -> Waited
+        ensures { IfSome (moved result) (λ n. n ≤ length room.new) };
+
+    /// Writes as `TimedWrite::write_within`.
+    fn write_for(&self, limit: Duration, bytes: &[u8]) -> Waited
+        ensures { IfSome (moved result) (λ n. n ≤ length bytes.now) };
+
+    /// Tells the client that no more bytes come, and returns whether that was done.
+    fn end_writing(&self) -> bool;
+}
+
+/// No contract states which bytes a client gives.
+impl<S: ClientStream> TimedRead for &S {
+    ghost use Rattle.std.specs.Prelude.{None};
+
+    ghost to_come = { λ _. None };
+
+    ghost reads = { λ _ _ _ _. Unit {0} };
+
+    fn read_within(&mut self, limit: Duration, room: &mut [u8]) -> Waited {
+        self.read_for(limit, room)
+    }
+}
+
+/// No contract states which bytes a client takes.
+impl<S: ClientStream> TimedWrite for &S {
+    ghost use Rattle.std.specs.Prelude.{None};
+
+    ghost taken = { λ _. None };
+
+    ghost writes = { λ _ _ _ _. Unit {0} };
+
+    fn write_within(&mut self, limit: Duration, bytes: &[u8]) -> Waited {
+        self.write_for(limit, bytes)
+    }
+}
+
+/// A client's socket, with the office's door beside it, if there is one. Its orders have the same
+/// patience.
+#[derive(Drop)]
+pub struct ClientSocket<'a, C> {
+    stream: TcpStream,
+    door: Option<&'a UnixListener>,
+    clock: &'a C,
+    patience: Duration,
+    // whether the last wait found that the next read doesn't block
+    readable: Cell<bool>,
+}
+
+impl<'a, C: MonotonicClock> ClientSocket<'a, C> {
+    // A socket that was accepted now.
+    pub(crate) fn new(
+        stream: TcpStream,
+        door: Option<&'a UnixListener>,
+        clock: &'a C,
+        patience: Duration,
+    ) -> ClientSocket<'a, C> {
+        ClientSocket {
+            stream,
+            door,
+            clock,
+            patience,
+            readable: Cell::new(false),
+        }
+    }
+
+    // Waits for the client and for this door.
+    fn wait_beside(
+        &self,
+        door: &'a UnixListener,
+        limit: Duration,
+        order_first: bool,
+    ) -> Woken<Handed<'a, C>> {
+        let mut asked = [
+            waits_for(door.as_raw_fd()),
+            waits_for(self.stream.as_raw_fd()),
+        ];
+        if c::poll(&mut asked, milliseconds_of(limit)) <= 0 {
+            return Woken::Client;
+        }
+        let order = asked[0].revents != 0;
+        let client = asked[1].revents != 0;
+        if client && !(order && order_first) {
+            self.readable.set(true);
+            return Woken::Client;
+        }
+        match Handed::accept(door, self.clock, self.patience) {
+            Ok(handed) => Woken::Order(handed),
+            Err(error) if error.kind() == ErrorKind::WouldBlock => Woken::Nobody,
+            Err(_) => Woken::Client,
+        }
+    }
+}
+
+impl<'a, C: MonotonicClock> ClientStream for ClientSocket<'a, C> {
+    type Order = Handed<'a, C>;
+
+    fn wait_within(&self, limit: Duration, order_first: bool) -> Woken<Handed<'a, C>> {
+        match self.door {
+            Some(door) => self.wait_beside(door, limit, order_first),
+            None => Woken::Client,
+        }
+    }
+
+    fn read_for(&self, limit: Duration, room: &mut [u8]) -> Waited {
+        let mut stream = &self.stream;
+        let readable = self.readable.get();
+        self.readable.set(false);
+        if readable || stream.set_read_timeout(Some(limit)).is_ok() {
+            outcome_of(stream.read(room))
+        } else {
+            Waited::Failed
+        }
+    }
+
+    fn write_for(&self, limit: Duration, bytes: &[u8]) -> Waited {
+        let mut stream = &self.stream;
+        match stream.set_write_timeout(Some(limit)) {
+            Ok(()) => outcome_of(stream.write(bytes)),
+            Err(_) => Waited::Failed,
+        }
+    }
+
+    fn end_writing(&self) -> bool {
+        self.stream.shutdown(Shutdown::Write).is_ok()
+    }
+}
+
+/// What `poll` is asked to wait for: the bytes of a descriptor, or its next connection.
+pub(crate) fn waits_for(fd: RawFd) -> pollfd {
+    pollfd {
+        fd,
+        events: c::POLLIN,
+        revents: 0,
+    }
+}
+
+// The milliseconds of a time, rounded up, as `poll` takes them.
+fn milliseconds_of(limit: Duration) -> i32 {
+    i32::try_from(limit.as_millis())
+        .unwrap_or(i32::MAX)
+        .saturating_add(1)
+}
