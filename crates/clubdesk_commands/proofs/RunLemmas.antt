@@ -15,7 +15,7 @@ use Rattle.club_gate.specs.declared.event.OfficeReply.{OfficeReply}
 use Rattle.club_gate.specs.declared.event.OfficeReply.TheVariants as replies
 use Rattle.club_gate.specs.declared.fault.Fault.{Fault as DeskFault}
 use Rattle.club_gate.specs.declared.fault.Fault.TheVariants as desk
-use Rattle.desk_server.specs.declared.log.Fate.{Fate}
+use Rattle.desk_server.specs.Served.{Turn}
 use Rattle.clubdesk_arguments.specs.Application.{refusals}
 use Rattle.clubdesk_arguments.specs.JobModel.{JobModel}
 use Rattle.clubdesk_commands.specs.Looks as looks
@@ -187,7 +187,7 @@ of_server_too (Err InputOutput) h = absurd h
 
 module _ {D S V : Type 0} (Opens : Opening D S) (Reaches : Reaching D S V) (Closes : Closing D S) (Clean : S → Type 0)
     (Represents : S → Club → List Club → Type 0) (Fails : Option Change → S → StoreFault → S → Type 0)
-    (job : JobModel) (old new : D) (written : Output) (Noted : List Fate → Type 0) (result : Result Unit Fault)
+    (job : JobModel) (old new : D) (written : Output) (Noted : List Turn → Type 0) (result : Result Unit Fault)
   where
     -- however a task ends
     pub performs_well : Performs Opens Reaches Closes Clean Represents Fails job old new written Noted result → EndsWell written.no_change result
@@ -203,7 +203,7 @@ module _ {D S V : Type 0} (Opens : Opening D S) (Reaches : Reaching D S V) (Clos
 
     -- what isn't a server's task notes nothing, whatever a log would note
     pub notes_nothing : ((service : Service) → job.task ≡ Serve service → ⊥) → Noted []
-        → Performs Opens Reaches Closes Clean Represents Fails job old new written (λ fates. fates ≡ []) result
+        → Performs Opens Reaches Closes Clean Represents Fails job old new written (λ turns. turns ≡ []) result
         → Performs Opens Reaches Closes Clean Represents Fails job old new written Noted result
     notes_nothing none noted (spec.out_of_memory memory same silent nothing) = spec.out_of_memory memory same silent noted
     notes_nothing none noted (spec.not_opened fault opens is silent nothing) = spec.not_opened fault opens is silent noted

@@ -3,10 +3,12 @@ use Rattle.std.proofs.Common.{◌≡◌, ◌∙◌, ℕ, List, [], ◌∷◌, �
 use Rattle.std.specs.Io.KnownBytes.{Appends}
 use Rattle.command_line.specs.Output.{AppendsFront}
 use Rattle.club_http.specs.Replied.{AnswerRelation}
-use Rattle.desk_server.specs.Served.{AreNoted, AreServed, Ends, Orders, ServesOne, IsStopped, Notes}
+use Rattle.desk_server.specs.Served.{AreNoted, AreOrdered, AreServed, Ends, IsAttended, IsStopped, Notes, Orders, ServesOne, Turn, alone}
 use Rattle.club_clock.specs.Moments.{GivesMoment}
 use Rattle.desk_server.specs.Served as served
 use Rattle.club_clock.specs.Zone.{ShowsIn}
+use Rattle.club_core.specs.declared.reply.Reply.{Reply}
+use Rattle.club_http.specs.declared.fault.AnswerFault.{AnswerFault}
 use Rattle.desk_server.specs.declared.log.Fate.{Fate}
 use Rattle.desk_server.specs.declared.log.Fate.TheVariants.{Absent, Overrun, Unanswered, Exchanged, Ordered}
 use Rattle.jiff_core.specs.declared.timestamp.Timestamp.{Timestamp}
@@ -57,78 +59,125 @@ in_zone rule Given shown (Some instant, given, is_shown) = inl (instant.nanoseco
 -- a server over these connections is one over connections with any outcomes
 module _ {Clock Desk Connection : Type 0} (Gives : GivesMoment Clock) (Answers : ℕ → AnswerRelation Desk) (Carries : Orders Desk)
     (Ended : Ends Connection) where
-  one_over_socket : (clock : Clock) (desk : Desk) (f : ℕ) (fate : Fate) (clock' : Clock) (desk' : Desk) (f' : ℕ)
-      → ServesOne Gives Answers Carries Ended clock desk f fate clock' desk' f' → ServesOne Gives Answers Carries over_socket clock desk f fate clock' desk' f'
-  one_over_socket clock desk f Absent clock' desk' f' one = one
-  one_over_socket clock desk f Overrun clock' desk' f' one = one
-  one_over_socket clock desk f (Ordered moment carried) clock' desk' f' one = one
-  one_over_socket clock desk f Unanswered clock' desk' f' never = absurd never
-  one_over_socket clock desk f (Exchanged moment line outcome) clock' desk' f' (counted, returned, exchange, ended) =
-      (counted, returned, exchange, (tt, tt))
+  attended_over_socket : (meanwhile : List Fate) (moment : ℕ) (line : List ℕ) (outcome : Result Reply AnswerFault) (clock : Clock) (desk : Desk)
+      (clock' : Clock) (desk' : Desk) → IsAttended Gives Answers Carries Ended meanwhile moment line outcome clock desk clock' desk'
+      → IsAttended Gives Answers Carries over_socket meanwhile moment line outcome clock desk clock' desk'
+  attended_over_socket meanwhile moment line outcome clock desk clock' desk' client = record {
+    given = client.given;
+    left = client.left;
+    gives = client.gives;
+    ordered = client.ordered;
+    exchanged = client.exchanged;
+    ended = (tt, tt);
+  }
 
-  are_over_socket : (clock : Clock) (desk : Desk) (f : ℕ) (fates : List Fate) (clock' : Clock) (desk' : Desk) (f' : ℕ)
-      → AreServed Gives Answers Carries Ended clock desk f fates clock' desk' f'
-      → AreServed Gives Answers Carries over_socket clock desk f fates clock' desk' f'
+  one_over_socket : (clock : Clock) (desk : Desk) (f : ℕ) (meanwhile : List Fate) (fate : Fate) (clock' : Clock) (desk' : Desk) (f' : ℕ)
+      → ServesOne Gives Answers Carries Ended clock desk f meanwhile fate clock' desk' f'
+      → ServesOne Gives Answers Carries over_socket clock desk f meanwhile fate clock' desk' f'
+  one_over_socket clock desk f meanwhile Absent clock' desk' f' one = one
+  one_over_socket clock desk f meanwhile Overrun clock' desk' f' one = one
+  one_over_socket clock desk f meanwhile (Ordered moment carried) clock' desk' f' one = one
+  one_over_socket clock desk f meanwhile Unanswered clock' desk' f' never = absurd never
+  one_over_socket clock desk f meanwhile (Exchanged moment line outcome) clock' desk' f' (counted, client) =
+      (counted, attended_over_socket meanwhile moment line outcome clock desk clock' desk' client)
+
+  are_over_socket : (clock : Clock) (desk : Desk) (f : ℕ) (turns : List Turn) (clock' : Clock) (desk' : Desk) (f' : ℕ)
+      → AreServed Gives Answers Carries Ended clock desk f turns clock' desk' f'
+      → AreServed Gives Answers Carries over_socket clock desk f turns clock' desk' f'
   are_over_socket clock desk f _ _ _ _ served.none = served.none
-  are_over_socket clock desk f _ _ _ _ (served.more fates fate c d f1 c' d' f' before one) =
-      served.more fates fate c d f1 c' d' f' (are_over_socket clock desk f fates c d f1 before) (one_over_socket c d f1 fate c' d' f' one)
+  are_over_socket clock desk f _ _ _ _ (served.more turns turn c d f1 c' d' f' before one) =
+      served.more turns turn c d f1 c' d' f' (are_over_socket clock desk f turns c d f1 before)
+      (one_over_socket c d f1 turn.meanwhile turn.fate c' d' f' one)
 
-  module _ (count : ℕ) (clock : Clock) (desk : Desk) (clock' : Clock) (desk' : Desk) (failures : ℕ) (Besides Wanted : List Fate → Type 0)
-      (gives : (fates : List Fate) → Besides fates → Wanted fates) where
+  module _ (count : ℕ) (clock : Clock) (desk : Desk) (clock' : Clock) (desk' : Desk) (failures : ℕ) (Besides Wanted : List Turn → Type 0)
+      (gives : (turns : List Turn) → Besides turns → Wanted turns) where
     pub all_over_socket : served.Serves Gives Answers Carries Ended count clock desk 0 (Ok tt) clock' desk' failures Besides
         → ServesAll Gives Answers Carries count clock desk clock' desk' Wanted (Ok tt)
-    all_over_socket (fates, so_many, were, besides) =
-        (fates, failures, so_many, are_over_socket clock desk 0 fates clock' desk' failures were, gives fates besides)
+    all_over_socket (turns, so_many, were, besides) =
+        (turns, failures, so_many, are_over_socket clock desk 0 turns clock' desk' failures were, gives turns besides)
 
     pub stopped_over_socket : IsStopped Gives Answers Carries Ended count clock desk 0 clock' desk' failures Besides
         → ServesAll Gives Answers Carries count clock desk clock' desk' Wanted (Err ClockOutOfRange)
     stopped_over_socket stop = (
       failures,
       record {
-        fates = stop.fates;
+        turns = stop.turns;
         last = stop.last;
         fewer = stop.fewer;
-        before = are_over_socket clock desk 0 stop.fates stop.last desk' failures stop.before;
+        before = are_over_socket clock desk 0 stop.turns stop.last desk' failures stop.before;
         no_moment = stop.no_moment;
-        besides = gives (stop.fates ++ Unanswered ∷ []) stop.besides;
+        besides = gives (stop.turns ++ alone Unanswered ∷ []) stop.besides;
       },
     )
 
 -- a server with a clock whose state doesn't change serves at the moments that it shows
 module _ {Source Desk : Type 0} (Gives : GivesMoment Source) (clock : Clock) (Answers : ℕ
     → AnswerRelation Desk) (Carries : Orders Desk) (moments : Source) (desk : Desk)
-    (Besides : List Fate → Type 0) (stays : (shown : Option ℕ) (next : Source) → Gives moments shown next → (next ≡ moments) × ClockShows clock shown) where
-  abbrev ByShowing : List Fate → Source → Desk → ℕ → Type 0
-  ByShowing fates last left failures = (last ≡ moments) × AreServed (showing clock) Answers Carries over_socket tt desk 0 fates tt left failures
+    (Besides : List Turn → Type 0) (stays : (shown : Option ℕ) (next : Source) → Gives moments shown next → (next ≡ moments) × ClockShows clock shown) where
+  abbrev OrderedByShowing : List Fate → Source → Desk → Desk → Type 0
+  OrderedByShowing fates last first left = (last ≡ moments) × AreOrdered (showing clock) Carries tt first fates tt left
 
-  one_more : (fates : List Fate) (fate : Fate) (d : Desk) (f : ℕ) (next : Source) (d' : Desk) (f' : ℕ)
-      → AreServed (showing clock) Answers Carries over_socket tt desk 0 fates tt d f → ServesOne Gives Answers Carries over_socket moments d f fate next d' f'
-      → ByShowing (fates ++ fate ∷ []) next d' f'
-  one_more fates Absent d f next d' f' before (counted, same, kept) =
-      (same, served.more fates Absent tt d f tt d' f' before (counted, refl, kept))
-  one_more fates Overrun d f next d' f' before (counted, same, kept) =
-      (same, served.more fates Overrun tt d f tt d' f' before (counted, refl, kept))
-  one_more fates (Ordered moment carried) d f next d' f' before (counted, returned, carries) =
-      let shows = stays moment next returned in
-      (shows.0, served.more fates (Ordered moment carried) tt d f tt d' f' before (counted, shows.1, carries))
-  one_more fates Unanswered d f next d' f' before never = absurd never
-  one_more fates (Exchanged moment line outcome) d f next d' f' before (counted, returned, exchange, ended) =
-      let shows = stays (Some moment) next returned in
-      (shows.0, served.more fates (Exchanged moment line outcome) tt d f tt d' f' before (counted, shows.1, exchange, ended))
+  ordered_by_showing : (first : Desk) (fates : List Fate) (last : Source) (left : Desk) → AreOrdered Gives Carries moments first fates last left
+      → OrderedByShowing fates last first left
+  ordered_by_showing first _ _ _ served.no_order = (refl, served.no_order)
+  ordered_by_showing first _ _ _ (served.one_order fates moment carried c d c' d' before gives is) =
+      let so_far = ordered_by_showing first fates c d before in
+      let shows = stays moment c' (rw so_far.0 at gives) in
+      (shows.0, served.one_order fates moment carried tt d tt d' so_far.1 shows.1 is)
 
-  by_showing : (fates : List Fate) (last : Source) (left : Desk) (failures : ℕ)
-      → AreServed Gives Answers Carries over_socket moments desk 0 fates last left failures → ByShowing fates last left failures
+  attended_by_showing : (meanwhile : List Fate) (moment : ℕ) (line : List ℕ) (outcome : Result Reply AnswerFault) (d : Desk) (next : Source) (d' : Desk)
+      → IsAttended Gives Answers Carries over_socket meanwhile moment line outcome moments d next d'
+      → (next ≡ moments) × IsAttended (showing clock) Answers Carries over_socket meanwhile moment line outcome tt d tt d'
+  attended_by_showing meanwhile moment line outcome d next d' client =
+      let shows = stays (Some moment) client.given client.gives in
+      let ordered = ordered_by_showing d meanwhile next client.left (rw shows.0 at client.ordered) in (
+        ordered.0,
+        record {
+          given = tt;
+          left = client.left;
+          gives = shows.1;
+          ordered = ordered.1;
+          exchanged = client.exchanged;
+          ended = client.ended;
+        },
+      )
+
+  abbrev ByShowing : List Turn → Source → Desk → ℕ → Type 0
+  ByShowing turns last left failures = (last ≡ moments) × AreServed (showing clock) Answers Carries over_socket tt desk 0 turns tt left failures
+
+  one_more : (turns : List Turn) (meanwhile : List Fate) (fate : Fate) (d : Desk) (f : ℕ) (next : Source) (d' : Desk) (f' : ℕ)
+      → AreServed (showing clock) Answers Carries over_socket tt desk 0 turns tt d f
+      → ServesOne Gives Answers Carries over_socket moments d f meanwhile fate next d' f'
+      → ByShowing (turns ++ record { meanwhile = meanwhile; fate = fate } ∷ []) next d' f'
+  one_more turns meanwhile Absent d f next d' f' before (none, counted, same, kept) =
+      (same, served.more turns (record { meanwhile = meanwhile; fate = Absent }) tt d f tt d' f' before (none, counted, refl, kept))
+  one_more turns meanwhile Overrun d f next d' f' before (none, counted, same, kept) =
+      (same, served.more turns (record { meanwhile = meanwhile; fate = Overrun }) tt d f tt d' f' before (none, counted, refl, kept))
+  one_more turns meanwhile (Ordered moment carried) d f next d' f' before (none, counted, returned, carries) =
+      let shows = stays moment next returned in (
+        shows.0,
+        served.more turns (record { meanwhile = meanwhile; fate = Ordered moment carried }) tt d f tt d' f' before (none, counted, shows.1, carries),
+      )
+  one_more turns meanwhile Unanswered d f next d' f' before never = absurd never
+  one_more turns meanwhile (Exchanged moment line outcome) d f next d' f' before (counted, client) =
+      let shown = attended_by_showing meanwhile moment line outcome d next d' client in (
+        shown.0,
+        served.more turns (record { meanwhile = meanwhile; fate = Exchanged moment line outcome }) tt d f tt d' f' before (counted, shown.1),
+      )
+
+  by_showing : (turns : List Turn) (last : Source) (left : Desk) (failures : ℕ)
+      → AreServed Gives Answers Carries over_socket moments desk 0 turns last left failures → ByShowing turns last left failures
   by_showing _ _ _ _ served.none = (refl, served.none)
-  by_showing _ _ _ _ (served.more fates fate c d f c' d' f' before one) =
-      let so_far = by_showing fates c d f before in one_more fates fate d f c' d' f' so_far.1 (rw so_far.0 at one)
+  by_showing _ _ _ _ (served.more turns turn c d f c' d' f' before one) =
+      let so_far = by_showing turns c d f before in one_more turns turn.meanwhile turn.fate d f c' d' f' so_far.1 (rw so_far.0 at one)
 
   stopped : (count : ℕ) (last : Source) (left : Desk) (failures : ℕ)
       → IsStopped Gives Answers Carries over_socket count moments desk 0 last left failures Besides
       → IsStopped (showing clock) Answers Carries over_socket count tt desk 0 tt left failures Besides
   stopped count last left failures stop =
-      let so_far = by_showing stop.fates stop.last left failures stop.before in
+      let so_far = by_showing stop.turns stop.last left failures stop.before in
       record {
-        fates = stop.fates;
+        turns = stop.turns;
         last = tt;
         fewer = stop.fewer;
         before = so_far.1;
@@ -139,8 +188,8 @@ module _ {Source Desk : Type 0} (Gives : GivesMoment Source) (clock : Clock) (An
   pub serves_by_showing : (count : ℕ) (last : Source) (left : Desk) (result : Result Unit Fault)
       → ServesAll Gives Answers Carries count moments desk last left Besides result
       → ServesAll (showing clock) Answers Carries count tt desk tt left Besides result
-  serves_by_showing count last left (Ok done) (fates, failures, so_many, were, besides) =
-      (fates, failures, so_many, (by_showing fates last left failures were).1, besides)
+  serves_by_showing count last left (Ok done) (turns, failures, so_many, were, besides) =
+      (turns, failures, so_many, (by_showing turns last left failures were).1, besides)
   serves_by_showing count last left (Err ClockOutOfRange) (failures, stop) = (failures, stopped count last left failures stop)
   serves_by_showing count last left (Err Memory) h = absurd h
   serves_by_showing count last left (Err InputOutput) h = absurd h
@@ -158,7 +207,7 @@ module _ (service : Service) (written : Output) where
   module _ {Log : Type 0} (Begins : Log → Log → Type 0) (Noted : Notes Log) (log : Log) where
     pub serves_nobody : {Desk : Type 0} (Answers : ℕ → AnswerRelation Desk) (Carries : Orders Desk) (desk : Desk) (fault : Fault)
         → StopsBefore service.port written fault
-        → RunsServer Answers Carries service desk desk (λ fates. AreNoted Begins Noted log fates log) (Err fault)
+        → RunsServer Answers Carries service desk desk (λ turns. AreNoted Begins Noted log turns log) (Err fault)
     serves_nobody Answers Carries desk Memory h = (refl, served.nothing)
     serves_nobody Answers Carries desk InputOutput h = (refl, served.nothing)
     serves_nobody Answers Carries desk (Refused fault) h = absurd h
@@ -180,23 +229,23 @@ module _ (service : Service) (written : Output) where
   announces_nothing (Answered status line) h = absurd h
   announces_nothing ClockOutOfRange h = absurd h
 
-module _ (service : Service) {Desk : Type 0} (Answers : ℕ → AnswerRelation Desk) (Carries : Orders Desk) (old new : Desk) (Besides : List Fate → Type 0) where
+module _ (service : Service) {Desk : Type 0} (Answers : ℕ → AnswerRelation Desk) (Carries : Orders Desk) (old new : Desk) (Besides : List Turn → Type 0) where
   abbrev All : Result Unit Fault → Type 0
   All result = ServesAll (showing service.clock) Answers Carries service.count tt old tt new Besides result
 
   -- one that listens serves all, or stops; what is noted counts where a log is asked for
-  module _ (Noted : List Fate → Type 0) (gives : (fates : List Fate) → Besides fates → IfLogged service Noted fates) where
+  module _ (Noted : List Turn → Type 0) (gives : (turns : List Turn) → Besides turns → IfLogged service Noted turns) where
     pub serves : (result : Result Unit Fault) → All result → RunsServer Answers Carries service old new Noted result
-    serves (Ok done) (fates, failures, so_many, were, besides) = (fates, failures, so_many, were, gives fates besides)
+    serves (Ok done) (turns, failures, so_many, were, besides) = (turns, failures, so_many, were, gives turns besides)
     serves (Err ClockOutOfRange) (failures, stop) = (
       failures,
       record {
-        fates = stop.fates;
+        turns = stop.turns;
         last = stop.last;
         fewer = stop.fewer;
         before = stop.before;
         no_moment = stop.no_moment;
-        besides = gives (stop.fates ++ Unanswered ∷ []) stop.besides;
+        besides = gives (stop.turns ++ alone Unanswered ∷ []) stop.besides;
       },
     )
     serves (Err Memory) h = absurd h

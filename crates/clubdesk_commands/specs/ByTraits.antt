@@ -1,8 +1,7 @@
 -- What a run does, over databases, stores and a log whose traits say what their calls may do (ours).
 use Rattle.std.specs.Prelude.{◌≡◌, ℕ, List, Option, None, Result, IfErr, false}
 use Rattle.club_core.specs.declared.store.ClubStore.{Ghosts as StoreWords}
-use Rattle.desk_server.specs.Served.{AreNoted}
-use Rattle.desk_server.specs.declared.log.Fate.{Fate}
+use Rattle.desk_server.specs.Served.{AreNoted, Turn}
 use Rattle.desk_server.specs.declared.databases.Databases.{Ghosts as DatabasesWords}
 use Rattle.desk_server.specs.declared.log.Log.{Ghosts as LogWords}
 use Rattle.clubdesk_commands.specs.Input.{asks_root}
@@ -13,15 +12,15 @@ use Rattle.clubdesk_arguments.specs.declared.fault.Fault.{Fault}
 
 -- a log before and after: what it notes of connections, and the statement that it is unchanged
 pub record LogChange : Type 1 where
-  pub notes : List Fate → Type 0
+  pub notes : List Turn → Type 0
   pub no_change : Type 0
 
 abbrev pub log_change : {L : Type 0} → LogWords L → L → L → LogChange
-log_change log old new = record { notes = λ fates. AreNoted log.begins log.notes old fates new; no_change = new ≡ old }
+log_change log old new = record { notes = λ turns. AreNoted log.begins log.notes old turns new; no_change = new ≡ old }
 
 module _ {D S R V : Type 0} (databases : DatabasesWords D S R V) (stores : StoreWords S) where
   -- a run with a task
-  abbrev pub PerformsOver : JobModel → D → D → Output → (List Fate → Type 0) → Result Unit Fault → Type 0
+  abbrev pub PerformsOver : JobModel → D → D → Output → (List Turn → Type 0) → Result Unit Fault → Type 0
   PerformsOver job old new written Noted result =
       Performs databases.opens databases.reaches databases.closes stores.disk_is_clean stores.represents stores.fails job old new written Noted result
 

@@ -8,10 +8,9 @@ use Rattle.club_core.specs.declared.store.StoreFault.{StoreFault}
 use Rattle.club_core.specs.Club.{Club}
 use Rattle.club_http.specs.Desk.{AnswersBy}
 use Rattle.club_http.specs.Replied.{AnswerRelation}
-use Rattle.desk_server.specs.Served.{AreServed, Ends, IsStopped, clients_in}
+use Rattle.desk_server.specs.Served.{AreServed, Ends, IsStopped, Turn, clients_in}
 use Rattle.desk_server.specs.Served as served
 use Rattle.club_clock.specs.Moments.{GivesMoment}
-use Rattle.desk_server.specs.declared.log.Fate.{Fate}
 use Rattle.command_line.specs.Output.{AppendsFront}
 use Rattle.desk_server.specs.Databases.{Closing, Opening, Reaching}
 use Rattle.desk_server.specs.declared.databases.Reached.TheVariants.{Opened, Served}
@@ -47,24 +46,24 @@ showing clock old shown new = ClockShows clock shown
 abbrev pub over_socket : Ends (Unit {0})
 over_socket socket outcome = Unit {0}
 
--- So many clients were served, and the orders that came before them; or the clock gave no moment at one of them. `Besides` holds for the
--- fates of all.
+-- So many clients were served, and the orders that came before them and meanwhile; or the clock gave no moment at one of them. `Besides` holds
+-- for the turns of all.
 abbrev pub ServesAll : {Clock Desk : Type 0} → GivesMoment Clock → (ℕ → AnswerRelation Desk) → served.Orders Desk → ℕ → Clock → Desk → Clock → Desk
-    → (List Fate → Type 0)
+    → (List Turn → Type 0)
     → Result Unit Fault → Type 0
 ServesAll Gives Answers Carries count clock old clock' new Besides (Ok done) =
-    (fates : List Fate) × (failures : ℕ) × (clients_in fates ≡ count) × AreServed Gives Answers Carries over_socket clock old 0 fates clock' new failures
-    × Besides fates
+    (turns : List Turn) × (failures : ℕ) × (clients_in turns ≡ count) × AreServed Gives Answers Carries over_socket clock old 0 turns clock' new failures
+    × Besides turns
 ServesAll Gives Answers Carries count clock old clock' new Besides (Err ClockOutOfRange) =
     (failures : ℕ) × IsStopped Gives Answers Carries over_socket count clock old 0 clock' new failures Besides
 ServesAll Gives Answers Carries count clock old clock' new Besides (Err fault) = ⊥
 
 -- what arrived was noted, if a log is asked for
-abbrev pub IfLogged : Service → (List Fate → Type 0) → List Fate → Type 0
-IfLogged service Noted fates = service.log ≡ true → Noted fates
+abbrev pub IfLogged : Service → (List Turn → Type 0) → List Turn → Type 0
+IfLogged service Noted turns = service.log ≡ true → Noted turns
 
 -- How a server ends: as above, by its clock, with its log; or it couldn't listen or write its address, and served and noted nothing.
-abbrev pub RunsServer : {Desk : Type 0} → (ℕ → AnswerRelation Desk) → served.Orders Desk → Service → Desk → Desk → (List Fate → Type 0)
+abbrev pub RunsServer : {Desk : Type 0} → (ℕ → AnswerRelation Desk) → served.Orders Desk → Service → Desk → Desk → (List Turn → Type 0)
     → Result Unit Fault → Type 0
 RunsServer Answers Carries service old new Noted (Err Memory) = (new ≡ old) × Noted []
 RunsServer Answers Carries service old new Noted (Err InputOutput) = (new ≡ old) × Noted []
@@ -116,7 +115,7 @@ module _ {Databases Store Visit : Type 0} (Opens : Opening Databases Store) (Rea
   -- and closed it at the end; or the database has no door. The office's task was handed to the server of the database, and its answer was
   -- written, of which nothing is promised; or the database was opened, the task was done, the database closed and the answer written. Or the
   -- database couldn't be opened, or memory ran out before. Only a server's log notes anything.
-  pub data Performs (job : JobModel) (old new : Databases) (written : Output) (Noted : List Fate → Type 0) (result : Result Unit Fault) : Type 0 where
+  pub data Performs (job : JobModel) (old new : Databases) (written : Output) (Noted : List Turn → Type 0) (result : Result Unit Fault) : Type 0 where
     out_of_memory : result ≡ Err Memory → new ≡ old → written.no_change → Noted [] → Performs job old new written Noted result
     not_opened : (fault : StoreFault) → Opens old job.file (Err fault) new → result ≡ Err (fault_of_opening fault) → written.no_change → Noted []
         → Performs job old new written Noted result
@@ -135,7 +134,7 @@ module _ {Databases Store Visit : Type 0} (Opens : Opening Databases Store) (Rea
 
   -- The same of a task that may await a root of the input: it was read before the database was opened; or it is no root, or couldn't be
   -- read, and nothing was done; or memory was refused before.
-  pub data PerformsWhole (job : JobModel) (left left' : Option (List ℕ)) (old new : Databases) (written : Output) (Noted : List Fate → Type 0)
+  pub data PerformsWhole (job : JobModel) (left left' : Option (List ℕ)) (old new : Databases) (written : Output) (Noted : List Turn → Type 0)
       (result : Result Unit Fault) : Type 0 where
     whole : (read : JobModel) → IsWholeInput job left left' read → Performs read old new written Noted result
         → PerformsWhole job left left' old new written Noted result
@@ -144,7 +143,7 @@ module _ {Databases Store Visit : Type 0} (Opens : Opening Databases Store) (Rea
     unread : result ≡ Err Memory → new ≡ old → written.no_change → Noted [] → PerformsWhole job left left' old new written Noted result
 
   -- the same where a task is asked for
-  abbrev pub PerformsAsked : Option JobModel → Option (List ℕ) → Option (List ℕ) → Databases → Databases → Output → (List Fate → Type 0)
+  abbrev pub PerformsAsked : Option JobModel → Option (List ℕ) → Option (List ℕ) → Databases → Databases → Output → (List Turn → Type 0)
       → Result Unit Fault → Type 0
   PerformsAsked asked_for left left' old new written Noted result =
       (job : JobModel) → asked_for ≡ Some job → PerformsWhole job left left' old new written Noted result

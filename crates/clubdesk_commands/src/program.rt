@@ -148,7 +148,7 @@ fn work<C: Clock, D: Databases, S: AsStr, W: Write>(
     requires { IsOffice task }
     ensures { PerformsOver D.Databases D.Store.ClubStore
         (record { file = file.now; task = task.entry }) databases.old databases.new
-        (output W.contents writer.old writer.new) (λ fates. fates ≡ []) result }
+        (output W.contents writer.old writer.new) (λ turns. turns ≡ []) result }
 {
     match databases.reach(file) {
         Ok(Reached::Opened(store)) => {

@@ -89,7 +89,7 @@ pub fn serve<D: Office, C: time::Clock, W: Write, G: Log>(
     log: &mut G,
 ) -> Result<(), Fault>
     ensures served { spec.RunsServer D.answers D.orders service.entry
-        desk.old desk.new (λ fates. AreNoted G.begins G.notes log.old fates log.new) result }
+        desk.old desk.new (λ turns. AreNoted G.begins G.notes log.old turns log.new) result }
     ensures announced { spec.Announces service.entry.port
         (output W.contents writer.old writer.new) result }
     ensures unlogged { service.entry.log ≡ false → log.new ≡ log.old }
@@ -184,7 +184,7 @@ fn serve_by<D: Office, C: time::Clock, G: Log>(
 ) -> Result<(), Fault>
     ensures { spec.ServesAll (spec.showing service.entry.clock) D.answers D.orders
         service.entry.count tt desk.old tt desk.new
-        (λ fates. AreNoted G.begins G.notes log.old fates log.new) result }
+        (λ turns. AreNoted G.begins G.notes log.old turns log.new) result }
 {
     let Service {
         port: _,
@@ -219,7 +219,7 @@ fn serve_at<D: Office, L: Arrivals, M: Moments, G: Log>(
     requires { L.failures arrivals.old ≡ 0 }
     ensures { spec.ServesAll M.gives D.answers D.orders count
         moments.old desk.old moments.new desk.new
-        (λ fates. AreNoted G.begins G.notes log.old fates log.new) result }
+        (λ turns. AreNoted G.begins G.notes log.old turns log.new) result }
 {
     match serve_logged(arrivals, count, moments, face, desk, log) {
         Ok(()) => Ok(()),
