@@ -2,8 +2,8 @@
 
 Reads the passes of the keys k1 to k4 from the file `passes`. Each client makes 1,250 requests at a facility of its own, and each
 reply has to be that which it reckons; the offices give 500 orders, or none, and each has to print what it reckons. Prints how long
-the orders and the requests took. With `slow` for the orders: one order beside a silent client, and one beside a client that sends a
-byte a second, at a server with a patience of two seconds.
+the orders and the requests took. With `slow` for the orders: orders beside a silent client, and beside a client that sends a byte a
+second, at a server with a patience of four seconds; each ends within a fraction of a second, while the client is still awaited.
 """
 
 import json
@@ -85,12 +85,21 @@ def office(place):
 
 
 def beside(dawdle):
-    """How long an order takes beside a client that dawdles."""
+    """How long orders take beside a client that dawdles, and that the server cuts off only later."""
     with socket.create_connection(("127.0.0.1", port), 60) as client:
+        begun = time.monotonic()
         dawdling = threading.Thread(target=dawdle, args=[client])
         dawdling.start()
-        time.sleep(0.2)
-        order(["credit", file, "m4", "1"], "done\n")
+        for wait in (0.2, 1.1):
+            time.sleep(wait)
+            order(["credit", file, "m4", "1"], "done\n")
+        try:
+            expect("a reply to a client that dawdles", client.recv(1), b"")
+        except ConnectionResetError:
+            pass
+        held = time.monotonic() - begun
+        if not 3.9 < held < 6:
+            wrong.append(f"a client that dawdles was cut off after {held:.1f} s")
         dawdling.join()
 
 
@@ -112,7 +121,7 @@ def times(what, found):
 if orders == "slow":
     beside(lambda client: None)
     beside(drips)
-    if max(order_times) > 3:
+    if max(order_times) > 0.9:
         wrong.append(f"an order beside a slow client took {max(order_times):.1f} s")
     times("orders beside slow clients", order_times)
 else:

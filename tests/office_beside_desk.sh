@@ -108,8 +108,8 @@ ends '5 storage failed' 2000 "$desk" serve club --port 0 --count 1
 [ -d club-office ] || fail "a folder was removed"
 rmdir club-office
 
-# ---- a client that is silent, and one that sends a byte a second, keep an order no longer than their patience
-"$desk" serve club --port 0 --count 1000000 --at "$noon" --patience 2 >listening 2>fault &
+# ---- a client that is silent, and one that sends a byte a second, keep no order
+"$desk" serve club --port 0 --count 1000000 --at "$noon" --patience 4 >listening 2>fault &
 server=$!
 read -r line <listening
 port=${line##*:}

@@ -2,9 +2,12 @@
 //! another language, from the zones' own database.
 
 mod accepted;
+mod between;
+mod by_the_door;
 mod clocks;
 mod closed;
 mod doubles;
+mod journal;
 mod limits;
 mod logs;
 mod over_sockets;
@@ -15,7 +18,9 @@ use crate::expect::{expect_eq, expect_shown};
 use crate::rows::{expect_row, moment};
 use club_clock::{Fixed, Moments};
 use club_http::Face;
-use desk_server::{Accepted, Arrival, Arrivals, ClockOutOfRange, Listening, serve_on};
+use desk_server::{
+    Accepted, Arrival, Arrivals, ClientSocket, ClockOutOfRange, Listening, serve_on,
+};
 use doubles::{Countdown, Noting, Script, Wire};
 use std::alloc::Global;
 use std::net::TcpListener;
@@ -127,7 +132,7 @@ fn client_at<'a, C: Clock>(
     listener: &'a TcpListener,
     clock: &'a C,
     patience: Duration,
-) -> Option<Accepted<'a, C>> {
+) -> Option<Accepted<'a, ClientSocket<'a, C>, C>> {
     match Listening::new(listener, None, clock, patience).next() {
         Arrival::Client(client) => Some(client),
         Arrival::Order(_) | Arrival::Nobody => None,

@@ -2,81 +2,25 @@
 //! day they name, and under limits by a clock that is set by hand. Only these tests refuse an
 //! exchange that reads or writes less over its socket, or by other limits.
 
+use super::journal::{HandSet, Journal, Recorder};
 use super::{client_at, noon};
 use crate::expect::expect_bytes;
 use crate::rows::{expect_row, moment};
 use crate::sockets::{client_of, loopback_listener};
-use club_core::{Reply, Request};
-use club_http::{AnswerFault, Face, Responder};
+use club_clock::Fixed;
+use club_core::Reply;
+use club_http::{AnswerFault, Face};
 use club_values::{Kind, Moment};
-use desk_server::Connection;
-use http_request::Words;
+use desk_server::{Connection, Unlogged};
 use std::alloc::Global;
-use std::cell::Cell;
-use std::io::{self, Read};
+use std::io::Read;
 use std::net::{Net, TcpListener, TcpStream};
 use std::process::Abort;
-use std::time::{Clock, Duration};
+use std::time::Duration;
 use test_kit::moments::{BEGUN, NOON};
 use test_kit::replies::{ACCOUNT_AFTER, BOOKED_7, CANCELLED_7};
 use test_kit::requests::{ACCOUNT, BOOK_7, CANCEL_7};
 use test_kit::{PlainReply, PlainRequest, PlainSlot, exchanges};
-
-/// A clock that is set by hand, in milliseconds.
-#[derive(Drop)]
-struct HandSet(Cell<u64>);
-
-impl HandSet {
-    fn advance(&self, milliseconds: u64) {
-        self.0.set(self.0.get().saturating_add(milliseconds));
-    }
-}
-
-impl Clock for HandSet {
-    fn monotonic(&self) -> io::Result<Duration> {
-        Ok(Duration::from_millis(self.0.get()))
-    }
-
-    fn since_1970(&self) -> io::Result<Duration> {
-        self.monotonic()
-    }
-}
-
-/// A call of a responder: the milliseconds that its clock showed, the moment and the request.
-type Call = (u64, Moment, Request);
-
-/// A responder that records its calls. Each takes so many milliseconds, and gets one reply.
-#[derive(Drop)]
-struct Recorder<'c> {
-    clock: &'c HandSet,
-    takes: u64,
-    reply: Reply,
-    calls: u64,
-    last: Option<Call>,
-}
-
-impl<'c> Recorder<'c> {
-    fn new(clock: &'c HandSet, takes: u64, reply: Reply) -> Recorder<'c> {
-        Recorder {
-            clock,
-            takes,
-            reply,
-            calls: 0,
-            last: None,
-        }
-    }
-}
-
-impl Responder for Recorder<'_> {
-    ghost answers = { λ _ _ _ _ _ _. Unit {0} };
-
-    fn ask(&mut self, moment: Moment, words: &Words<'_>) -> Reply {
-        self.calls = self.calls.saturating_add(1);
-        self.last = Some((self.clock.0.get(), moment, words.request));
-        self.clock.advance(self.takes);
-        self.reply
-    }
-}
 
 /// The patience with a client, in milliseconds.
 const PATIENCE: u64 = 10_000;
@@ -86,16 +30,17 @@ const PATIENCE: u64 = 10_000;
 fn exchanges_after(
     rt: &(impl Abort + Alloc<A = Global>),
     listener: &TcpListener,
+    clock: &HandSet,
     at: Moment,
     waited: u64,
     desk: &mut Recorder<'_>,
 ) -> Result<Reply, AnswerFault> {
-    let clock = desk.clock;
     let accepted = client_at(listener, clock, Duration::from_millis(PATIENCE));
     let mut connection = accepted.expect(rt, "a connection");
     clock.advance(waited);
     let mut face = Face::new(rt.alloc()).expect(rt, "a face");
-    connection.exchange(&mut face, desk, at)
+    let mut moments = Fixed { moment: at };
+    connection.exchange(&mut face, &mut moments, desk, &mut Unlogged, at)
 }
 
 /// What a desk replies, for this test.
@@ -214,10 +159,11 @@ fn exchanges_row(
 ) {
     let listener = loopback_listener(rt);
     let mut client = client_of(rt, &listener, row.request.as_bytes());
-    let clock = HandSet(Cell::new(1_000));
-    let mut desk = Recorder::new(&clock, 0, row.returned.reply(rt));
+    let journal = Journal::new(rt.alloc());
+    journal.clock.advance(1_000);
+    let mut desk = Recorder::new(&journal, rt.alloc(), row.returned.reply(rt));
     let at = moment(rt, row.at);
-    let outcome = exchanges_after(rt, &listener, at, 7, &mut desk);
+    let outcome = exchanges_after(rt, &listener, &journal.clock, at, 7, &mut desk);
     expect_row(rt, &outcome, &Ok(desk.reply), &row.request);
     let asked = row.asked.request().expect(rt, "a request");
     expect_row(
@@ -256,9 +202,11 @@ fn asked_after(
     waited: u64,
     takes: u64,
 ) -> (u64, Option<AnswerFault>) {
-    let clock = HandSet(Cell::new(0));
-    let mut desk = Recorder::new(&clock, takes, BOOKED_7.reply().expect(rt, "a reply"));
-    let outcome = exchanges_after(rt, listener, noon(rt).moment, waited, &mut desk);
+    let journal = Journal::new(rt.alloc());
+    let reply = BOOKED_7.reply().expect(rt, "a reply");
+    let mut desk = Recorder::new(&journal, rt.alloc(), reply).that_takes(takes, 0);
+    let clock = &journal.clock;
+    let outcome = exchanges_after(rt, listener, clock, noon(rt).moment, waited, &mut desk);
     (desk.calls, outcome.err())
 }
 

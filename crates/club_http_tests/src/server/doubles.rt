@@ -1,14 +1,15 @@
 //! Connections, moments, clocks and a responder over memory.
 
-ghost use Rattle.std.specs.Prelude.{◌≤◌, length};
+ghost use Rattle.std.specs.Prelude.{◌≤◌, length, IfSome};
+ghost use Rattle.desk_server.specs.Limits.{moved};
 
 use club_clock::Moments;
 use club_core::{Refusal, Reply};
-use club_http::{AnswerFault, Face, ReadInlet, Responder, WriteOutlet, answer};
+use club_http::Responder;
 use club_values::Moment;
 use desk_server::{
-    Answer, Arrival, Arrivals, Carried, Connection, Handover, Office, RequestLine, TimedRead,
-    TimedWrite, Waited,
+    Accepted, Answer, Arrival, Arrivals, Carried, ClientStream, Handover, Office, RequestLine,
+    TimedRead, TimedWrite, Waited, Woken,
 };
 use http_request::Words;
 use std::alloc::Global;
@@ -25,25 +26,29 @@ pub enum Wire<'a> {
     Order(&'a [u8]),
     /// One whose order doesn't come whole.
     Cut,
-    /// One whose reader fails.
+    /// A client whose reader fails.
     Broken,
     /// One that sends these bytes, and then ends.
     Whole(&'a [u8]),
     /// One that sends these bytes, and whose writer fails.
     Deaf(&'a [u8]),
+    /// One that sends its bytes in pieces, with orders between them, and then ends.
+    Pieces(&'a [Piece<'a>]),
 }
 
-/// Gives what is left of what a connection sends, or fails.
-#[derive(Drop)]
-struct Sent<'a>(Option<&'a [u8]>);
-
-impl Read for Sent<'_> {
-    fn read(&mut self, room: &mut [u8]) -> io::Result<usize> {
-        match &mut self.0 {
-            Some(left) => left.read(room),
-            None => Err(io::Error::from(ErrorKind::ConnectionReset)),
-        }
-    }
+/// What comes next of a client, or beside it.
+#[derive(Clone, Copy, Drop)]
+pub enum Piece<'a> {
+    /// Some of its bytes.
+    Bytes(&'a [u8]),
+    /// A connection of the office with these bytes.
+    Order(&'a [u8]),
+    /// One whose order doesn't come whole.
+    Cut,
+    /// One that was gone before it was accepted.
+    Gone,
+    /// Its reader fails.
+    Broken,
 }
 
 /// Takes what is written, or fails at each write.
@@ -65,38 +70,90 @@ impl Write for Taken {
     }
 }
 
-impl Wire<'_> {
-    fn reader(&self) -> Sent<'_> {
-        match self {
-            Wire::Whole(bytes) | Wire::Deaf(bytes) => Sent(Some(bytes)),
-            _ => Sent(None),
+/// The stream of a client over memory.
+#[derive(Drop)]
+pub struct Played<'a> {
+    wire: Wire<'a>,
+    // how many of its pieces have come
+    came: Cell<usize>,
+}
+
+impl<'a> Played<'a> {
+    fn new(wire: Wire<'a>) -> Played<'a> {
+        Played {
+            wire,
+            came: Cell::new(0),
         }
     }
 
-    fn writer(&self) -> Taken {
-        let fails = matches!(self, Wire::Deaf(_));
-        Taken { fails }
+    // The next piece; `None` at its end.
+    fn next(&self) -> Option<Piece<'a>> {
+        match self.wire {
+            Wire::Pieces(pieces) => pieces.get(self.came.get()).copied(),
+            Wire::Whole(bytes) | Wire::Deaf(bytes) if self.came.get() == 0 => {
+                Some(Piece::Bytes(bytes))
+            }
+            Wire::Broken => Some(Piece::Broken),
+            _ => None,
+        }
+    }
+
+    fn take(&self) {
+        self.came.set(self.came.get().saturating_add(1));
     }
 }
 
-impl Connection for Wire<'_> {
-    ghost ends = { λ _ _. Unit {0} };
-
-    fn exchange<D: Responder>(
-        &mut self,
-        face: &mut Face,
-        desk: &mut D,
-        moment: Moment,
-    ) -> Result<Reply, AnswerFault> {
-        let mut reader = ReadInlet::new(self.reader());
-        let mut writer = WriteOutlet::new(self.writer());
-        answer(face, desk, moment, &mut reader, &mut writer)
+/// How a read of all that comes at once ends.
+pub fn read_from(bytes: &[u8], room: &mut [u8]) -> Waited
+    ensures { IfSome (moved result) (λ n. n ≤ length room.new) }
+{
+    let mut left = bytes;
+    match left.read(room) {
+        Ok(came) => Waited::Moved(came),
+        Err(_) => Waited::Failed,
     }
 }
 
-/// A connection of the office over memory.
+impl<'a> ClientStream for Played<'a> {
+    type Order = Letter<'a>;
+
+    fn wait_within(&self, _limit: Duration, _order_first: bool) -> Woken<Letter<'a>> {
+        let woken = match self.next() {
+            Some(Piece::Order(bytes)) => Woken::Order(Letter(Some(bytes))),
+            Some(Piece::Cut) => Woken::Order(Letter(None)),
+            Some(Piece::Gone) => Woken::Nobody,
+            _ => return Woken::Client,
+        };
+        self.take();
+        woken
+    }
+
+    fn read_for(&self, _limit: Duration, room: &mut [u8]) -> Waited {
+        match self.next() {
+            Some(Piece::Bytes(bytes)) => {
+                self.take();
+                read_from(bytes, room)
+            }
+            Some(_) => Waited::Failed,
+            None => Waited::Moved(0),
+        }
+    }
+
+    fn write_for(&self, _limit: Duration, bytes: &[u8]) -> Waited {
+        match self.wire {
+            Wire::Deaf(_) => Waited::Failed,
+            _ => Waited::Moved(bytes.len()),
+        }
+    }
+
+    fn end_writing(&self) -> bool {
+        false
+    }
+}
+
+/// A connection of the office over memory; `None` if its order doesn't come whole.
 #[derive(Drop)]
-pub struct Letter<'a>(Option<&'a [u8]>);
+pub struct Letter<'a>(pub Option<&'a [u8]>);
 
 impl Handover for Letter<'_> {
     fn carry_out<D: Office>(&mut self, desk: &mut D) -> Option<Carried> {
@@ -109,6 +166,9 @@ impl Handover for Letter<'_> {
         }
     }
 }
+
+/// The clock of clients over memory.
+static STOPPED: Stopped = Stopped(Some(Duration::ZERO));
 
 /// Arrivals in turn.
 #[derive(Drop)]
@@ -129,7 +189,7 @@ impl<'a> Script<'a> {
 }
 
 impl<'a> Arrivals for Script<'a> {
-    type Client = Wire<'a>;
+    type Client = Accepted<'a, Played<'a>, Stopped>;
 
     type Order = Letter<'a>;
 
@@ -137,7 +197,7 @@ impl<'a> Arrivals for Script<'a> {
 
     ghost failures = { λ script. script.failures };
 
-    fn next(&mut self) -> Arrival<Wire<'a>, Letter<'a>> {
+    fn next(&mut self) -> Arrival<Accepted<'a, Played<'a>, Stopped>, Letter<'a>> {
         let place = self.waited as usize;
         self.waited = self.waited.saturating_add(1);
         match self.wires.get(place) {
@@ -147,7 +207,10 @@ impl<'a> Arrivals for Script<'a> {
             }
             Some(Wire::Order(bytes)) => Arrival::Order(Letter(Some(bytes))),
             Some(Wire::Cut) => Arrival::Order(Letter(None)),
-            Some(wire) => Arrival::Client(*wire),
+            Some(wire) => {
+                let stream = Played::new(*wire);
+                Arrival::Client(Accepted::new(stream, &STOPPED, Duration::from_secs(10)))
+            }
         }
     }
 }

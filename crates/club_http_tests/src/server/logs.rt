@@ -1,6 +1,6 @@
 //! Logs of connections.
 
-use super::doubles::{Noting, Script, Taken, Ticking, Wire};
+use super::doubles::{Noting, Piece, Script, Taken, Ticking, Wire};
 use super::{REQUEST, noon, noons};
 use crate::expect::{expect_bytes, expect_eq};
 use crate::rows::moment;
@@ -12,11 +12,20 @@ use std::io::Write;
 use std::process::Abort;
 use test_kit::moments::NOON;
 
-static SCRIPT: [Wire<'static>; 10] = [
+/// One of the requests comes in two pieces, with orders before them and between.
+static SCRIPT: [Wire<'static>; 11] = [
     Wire::Order(b"an order"),
     Wire::Whole(REQUEST),
     Wire::Cut,
     Wire::Absent,
+    Wire::Pieces(&[
+        Piece::Order(b"an order"),
+        Piece::Bytes(b"GET /account HTTP/1.1\r\nAuthorization:"),
+        Piece::Cut,
+        Piece::Gone,
+        Piece::Order(b"an order"),
+        Piece::Bytes(b" Bearer AgEJ\r\n\r\n"),
+    ]),
     Wire::Broken,
     Wire::Deaf(REQUEST),
     Wire::Whole(b"x"),
@@ -29,6 +38,10 @@ const LINES: &str = "2026-04-20T12:00 office credit 1 1533
 2026-04-20T12:00 GET /account 503 1533
 2026-04-20T12:00 office - - 1533
 - - - - 0
+2026-04-20T12:00 office credit 1 1533
+2026-04-20T12:00 office - - 1533
+2026-04-20T12:00 office credit 1 1533
+2026-04-20T12:00 GET /account 503 10731
 2026-04-20T12:00 - - - 1533
 2026-04-20T12:00 GET /account - 1533
 2026-04-20T12:00 - - 400 1533
@@ -50,7 +63,7 @@ fn serve_script<M: Moments, G: Log>(
     let mut arrivals = Script::new(&SCRIPT);
     let mut face = Face::new(rt.alloc()).expect(rt, "a face");
     let mut desk = Noting::new(rt.alloc(), moment(rt, NOON));
-    let outcome = serve_logged(&mut arrivals, 8, moments, &mut face, &mut desk, log);
+    let outcome = serve_logged(&mut arrivals, 9, moments, &mut face, &mut desk, log);
     (outcome, arrivals.waited, desk.asked)
 }
 
@@ -75,7 +88,7 @@ fn a_log_has_its_lines() {
 fn a_line_for_each_connection(rt: HostRuntime) {
     let mut written = Vec::new(rt.alloc());
     let returned = log_script(&rt, &mut noon(&rt), &mut written);
-    expect_eq(&rt, &returned, &(Ok(()), 10, 2));
+    expect_eq(&rt, &returned, &(Ok(()), 11, 3));
     expect_bytes(&rt, &written, LINES.as_bytes(), "the script");
 }
 
@@ -92,5 +105,5 @@ fn a_line_for_a_connection_without_a_moment(rt: HostRuntime) {
 #[test]
 fn a_log_that_fails(rt: HostRuntime) {
     let returned = log_script(&rt, &mut noon(&rt), &mut Taken { fails: true });
-    expect_eq(&rt, &returned, &(Ok(()), 10, 2));
+    expect_eq(&rt, &returned, &(Ok(()), 11, 3));
 }

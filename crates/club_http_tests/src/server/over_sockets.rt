@@ -7,8 +7,9 @@ use super::{REPLY, REQUEST, client_at, noon, serves};
 use crate::expect::{expect_bytes, expect_eq};
 use crate::rows::moment;
 use crate::sockets::{client_of, connect, expect_no_reset, expect_reply, loopback_listener};
+use club_clock::Fixed;
 use club_http::Face;
-use desk_server::{Connection, Listening};
+use desk_server::{Connection, Listening, Unlogged};
 use std::alloc::Global;
 use std::net::{Net, TcpListener, TcpStream};
 use std::process::Abort;
@@ -63,7 +64,8 @@ fn count_requests(
     let mut connection = accepted.expect(rt, "a connection");
     let noon = moment(rt, NOON);
     let mut desk = Noting::new(rt.alloc(), noon);
-    let _ = connection.exchange(face, &mut desk, noon);
+    let mut moments = Fixed { moment: noon };
+    let _ = connection.exchange(face, &mut moments, &mut desk, &mut Unlogged, noon);
     desk.asked
 }
 
@@ -118,8 +120,8 @@ fn replies_before_bytes_behind_a_request(rt: HostRuntime) {
     }
 }
 
-// The clock is read as the limits of the request and of the reply begin, and once more for each: a
-// client that stays after a request that is over isn't waited for.
+// The clock is read as the limits of the request and of the reply begin, and once more for each
+// wait, read and write: a client that stays after a request that is over isn't waited for.
 #[test]
 fn closes_at_once_after_a_request(rt: HostRuntime) {
     let listener = loopback_listener(&rt);
@@ -129,8 +131,10 @@ fn closes_at_once_after_a_request(rt: HostRuntime) {
     let mut connection = accepted.expect(&rt, "a connection");
     let noon = moment(&rt, NOON);
     let mut face = Face::new(rt.alloc()).expect(&rt, "a face");
-    let outcome = connection.exchange(&mut face, &mut Noting::new(rt.alloc(), noon), noon);
-    expect_eq(&rt, &(outcome.is_ok(), clock.readable()), &(true, 6));
+    let mut desk = Noting::new(rt.alloc(), noon);
+    let mut moments = Fixed { moment: noon };
+    let outcome = connection.exchange(&mut face, &mut moments, &mut desk, &mut Unlogged, noon);
+    expect_eq(&rt, &(outcome.is_ok(), clock.readable()), &(true, 5));
 }
 
 // By the machine's clock: a client that sends nothing, and one that sends no whole request.

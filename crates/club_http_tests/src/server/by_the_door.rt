@@ -1,0 +1,156 @@
+//! Orders that come by the office's door while a client's request is awaited, over sockets in one
+//! process.
+
+use super::{REPLY, REQUEST};
+use crate::expect::{expect_bytes, expect_eq};
+use crate::sockets::{client_of, expect_reply, loopback_listener};
+use club_clock::Fixed;
+use club_core::{Refusal, Reply};
+use club_http::{AnswerFault, Face, Responder};
+use club_values::Moment;
+use desk_server::{
+    Answer, Arrival, Arrivals, Carried, Connection, Listening, Office, RequestLine, Unlogged,
+};
+use http_request::Words;
+use std::alloc::Global;
+use std::io::{Read, Write};
+use std::net::{Shutdown, TcpListener, TcpStream};
+use std::os::unix::net::{UnixListener, UnixStream};
+use std::test::Fail;
+use std::time::Duration;
+use std::{env, fs, process};
+use test_kit::moments::NOON;
+
+/// A desk whose client sends the rest of its request only once an order was carried out. Where it
+/// is asked, it looks at what the office has got by then.
+#[derive(Drop)]
+struct Tied<'s> {
+    alloc: Global,
+    client: &'s TcpStream,
+    office: &'s UnixStream,
+    rest: &'s [u8],
+    ordered: usize,
+    asked: u64,
+    got: &'s mut Vec<u8>,
+}
+
+impl Responder for Tied<'_> {
+    ghost answers = { λ _ _ _ _ _ _. Unit {0} };
+
+    fn ask(&mut self, _moment: Moment, _words: &Words<'_>) -> Reply {
+        self.asked = self.asked.saturating_add(1);
+        let mut office = self.office;
+        let _ = office.read_to_end(&mut *self.got);
+        Reply::Refused(Refusal::Unavailable)
+    }
+}
+
+impl Office for Tied<'_> {
+    ghost orders = { λ _ _ _ _. Unit {0} };
+
+    fn order(&mut self, bytes: &[u8]) -> Answer {
+        self.ordered = self.ordered.saturating_add(bytes.len());
+        let mut client = self.client;
+        let _ = client.write_all(self.rest);
+        Answer {
+            carried: Carried {
+                line: RequestLine::of(b"office credit "),
+                status: 7,
+            },
+            text: String::new(self.alloc),
+        }
+    }
+}
+
+/// A path of this process alone.
+fn new_path(rt: &HostRuntime, name: &str) -> Result<String, Fail> {
+    let folder = env::temp_dir(rt)?;
+    let folder = folder.as_str();
+    let id = process::id(rt.process());
+    Ok(format!(in rt.alloc(); "{folder}/{name}-{id}")?)
+}
+
+/// A door at this path.
+fn door_at(rt: &HostRuntime, path: &str) -> Result<UnixListener, Fail> {
+    let door = UnixListener::bind(rt, path)?;
+    door.set_nonblocking(true)?;
+    Ok(door)
+}
+
+/// A connection of the office that has sent this order, and waits for its answer no longer than a
+/// second.
+fn office_at(rt: &HostRuntime, path: &str, order: &[u8]) -> Result<UnixStream, Fail> {
+    let mut office = UnixStream::connect(rt, path)?;
+    office.write_all(order)?;
+    office.shutdown(Shutdown::Write)?;
+    office.set_read_timeout(Some(Duration::from_secs(1)))?;
+    Ok(office)
+}
+
+/// How an exchange ended with a client that was accepted before an order came: the fault, the bytes
+/// of the order that was carried out, and how often the desk was asked.
+type Outcome = (Option<AnswerFault>, usize, u64);
+
+/// A client and the next order at this door, in an exchange within this time.
+fn exchanges(
+    rt: &HostRuntime,
+    listener: &TcpListener,
+    path: &str,
+    patience: Duration,
+    client: &TcpStream,
+    rest: &[u8],
+    got: &mut Vec<u8>,
+) -> Result<Outcome, Fail> {
+    let door = door_at(rt, path)?;
+    let mut arrivals = Listening::new(listener, Some(&door), rt, patience);
+    let Arrival::Client(mut connection) = arrivals.next() else {
+        return Err("no client".into());
+    };
+    let office = office_at(rt, path, b"an order")?;
+    let mut desk = Tied {
+        alloc: rt.alloc(),
+        client,
+        office: &office,
+        rest,
+        ordered: 0,
+        asked: 0,
+        got,
+    };
+    let moment = Moment::read(NOON.as_bytes()).ok_or("a moment")?;
+    let mut moments = Fixed { moment };
+    let mut face = Face::new(rt.alloc())?;
+    let outcome = connection.exchange(&mut face, &mut moments, &mut desk, &mut Unlogged, moment);
+    fs::remove_file(rt, path)?;
+    Ok((outcome.err(), desk.ordered, desk.asked))
+}
+
+// The client has sent a letter. The order is carried out, and answered, before the rest comes.
+#[test]
+fn an_order_between_two_pieces(rt: HostRuntime) -> Result<(), Fail> {
+    let path = new_path(&rt, "between-two-pieces")?;
+    let listener = loopback_listener(&rt);
+    let mut client = client_of(&rt, &listener, b"G");
+    let mut got = Vec::new(rt.alloc());
+    let patience = Duration::from_secs(10);
+    let rest = &REQUEST[1..];
+    let path = path.as_str();
+    let outcome = exchanges(&rt, &listener, path, patience, &client, rest, &mut got)?;
+    expect_eq(&rt, &outcome, &(None, 8, 1));
+    expect_bytes(&rt, &got, b"!\x07", "what the office got");
+    expect_reply(&rt, &mut client, REPLY);
+    Ok(())
+}
+
+// The client sends nothing: the order is carried out all the same, and then the client is cut off.
+#[test]
+fn an_order_beside_a_silent_client(rt: HostRuntime) -> Result<(), Fail> {
+    let path = new_path(&rt, "beside-a-silent-client")?;
+    let listener = loopback_listener(&rt);
+    let client = client_of(&rt, &listener, b"");
+    let mut got = Vec::new(rt.alloc());
+    let patience = Duration::from_millis(50);
+    let path = path.as_str();
+    let outcome = exchanges(&rt, &listener, path, patience, &client, b"", &mut got)?;
+    expect_eq(&rt, &outcome, &(Some(AnswerFault::Read), 8, 0));
+    Ok(())
+}
