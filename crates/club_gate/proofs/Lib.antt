@@ -9,3 +9,4 @@ pub mod FollowedEvents
 pub mod FollowedRuns
 pub mod Reading
 pub mod LookTexts
+pub mod Spending

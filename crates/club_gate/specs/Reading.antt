@@ -1,5 +1,5 @@
 -- What the desk reads of the club to answer a signed pass (ours).
-use Rattle.std.specs.Prelude.{ℕ, true, map, Option, Some, None, option_map, option_and_then, if◌then◌else◌}
+use Rattle.std.specs.Prelude.{◌≡◌, ℕ, true, map, Option, Some, None, option_map, option_and_then, if◌then◌else◌}
 use Rattle.pass_caveats.specs.declared.ask.Ask.{Ask}
 use Rattle.pass_caveats.specs.declared.fault.CaveatFault.{CaveatFault}
 use Rattle.pass_caveats.specs.computed.CaveatOf.{caveat_of, first_fault_of}
@@ -14,7 +14,7 @@ use Rattle.club_core.specs.declared.verdict.Verdict.{Verdict}
 use Rattle.club_core.specs.declared.view.View.{View}
 use Rattle.club_core.specs.Answer.{answer_by_view, ask_of}
 use Rattle.club_core.specs.Basis.{account_named, slot_use, state_of}
-use Rattle.club_core.specs.Club.{Club, bookings_of}
+use Rattle.club_core.specs.Club.{Club, bookings_of, key_named}
 use Rattle.club_core.specs.Looks.{bare_view, books_anew}
 use Rattle.club_core.specs.Request.{request_number, request_slot}
 use Rattle.club_core.specs.Sums.{booking_under, count_to_come, spent_under}
@@ -54,6 +54,10 @@ last_view club (asked.Book slot number guests) moment view =
     if books_anew view then with_member club moment (with_slot club slot view) else Some view
 last_view club (asked.Cancel slot number) moment view = Some view
 last_view club asked.Account moment view = option_map (with_spent club) (with_member club moment view)
+
+-- the row of a key is one of the club's
+abbrev pub IsOnRecord : Club → Key → Type 0
+IsOnRecord club key = key_named key.name club ≡ Some key
 
 -- the first caveat of a pass that refuses the request, if the key has spent this much before
 abbrev pub fault_after : Plain → ℕ → Ask → Option CaveatFault

@@ -1,19 +1,21 @@
 //! What the desk reads of the club to answer a signed pass: only what the caveats and the decision
 //! depend on.
 
-ghost use Rattle.std.specs.Prelude.{◌≡◌, option_map};
+ghost use Rattle.std.specs.Prelude.{◌≡◌, ◌≤◌, true, option_map};
 ghost use Rattle.club_core.specs.Store.{ReadsOrFails};
 ghost use Rattle.club_core.specs.Sums.{spent_under};
 ghost use Rattle.club_gate.specs.Desk.{ReadsStore};
 ghost use Rattle.club_gate.specs.Reading as read;
+ghost use Rattle.club_gate.specs.Reading.{IsOnRecord};
 ghost use Rattle.club_gate.specs.Verify.{OfItsPass};
 
 use crate::desk::Desk;
-use crate::walk::{depends_on_spent, fault_after};
+use crate::walk::{fault_after, unspent_fault};
 use club_core::{ClubStore, Request, SlotUse, StoreFault, View};
+use club_laws::spending::{accounts_show_what_is_used, spends_within_its_member};
 use club_rows::Key;
-use club_values::{Moment, Name, Slot};
-use pass_caveats::{Ask, CaveatFault};
+use club_values::{Moment, Slot};
+use pass_caveats::{Ask, CaveatFault, Unspent};
 use pass_forms::FieldSource;
 
 impl<S: ClubStore> Desk<S> {
@@ -37,23 +39,42 @@ impl<S: ClubStore> Desk<S> {
     }
 
     /// The first caveat that refuses a request with this key. The source yields the fields of the
-    /// pass. What the key has spent is read only if the result depends on it.
+    /// pass. What the key has spent is read only if what its member has used leaves the result open.
     pub(crate) fn caveat_fault<'a, F: FieldSource<'a> + Drop>(
         &mut self,
         source: &F,
-        key: &Name,
+        key: &Key,
         ask: &Ask,
     ) -> Result<Option<CaveatFault>, StoreFault>
         ensures reads { ReadsStore S.disk_is_clean S.represents self.old self.new result
-            (λ club fault. OfItsPass (F.left source.now) (λ pass.
-            fault ≡ read.fault_after pass (spent_under key.now club.bookings) ask.now)) }
+            (λ club fault. IsOnRecord club key.now → OfItsPass (F.left source.now) (λ pass. fault
+            ≡ read.fault_after pass (spent_under key.now.name club.bookings) ask.now)) }
         ensures failed { S.disk_is_clean self.new → ReadsOrFails S.fails self.old self.new result }
     {
-        if !depends_on_spent(source, ask) {
-            return Ok(fault_after(source, ask, 0));
+        let Unspent { fault, slack } = unspent_fault(source, ask);
+        let Some(slack) = slack else {
+            return Ok(fault);
+        };
+        if self.has_spent_within(key, slack)? {
+            return Ok(fault);
         }
-        let spent = self.store.spent(key)?;
+        let spent = self.store.spent(&key.name)?;
         Ok(fault_after(source, ask, spent))
+    }
+
+    /// Whether the member of a key has used no more than this, and so the key has spent no more.
+    fn has_spent_within(&mut self, key: &Key, most: u64) -> Result<bool, StoreFault>
+        ensures reads { ReadsStore S.disk_is_clean S.represents self.old self.new result
+            (λ club within. within ≡ true → IsOnRecord club key.now
+            → spent_under key.now.name club.bookings ≤ most) }
+        ensures failed { S.disk_is_clean self.new → ReadsOrFails S.fails self.old self.new result }
+    {
+        spends_within_its_member();
+        accounts_show_what_is_used();
+        let Some(account) = self.store.account(&key.member)? else {
+            return Ok(false);
+        };
+        Ok(u64::from(account.used()) <= most)
     }
 
     /// Adds the state of a slot to the view.

@@ -34,7 +34,7 @@ ghost use Rattle.club_gate.specs.Verify.{
   signer_in,
   words_in_form,
 };
-ghost use Rattle.club_gate.specs.Reading.{verdict_read};
+ghost use Rattle.club_gate.specs.Reading.{IsOnRecord, verdict_read};
 
 use crate::desk::Desk;
 use crate::identifier::key_name_in;
@@ -157,7 +157,8 @@ impl<S: ClubStore> Desk<S> {
     }
 
     /// The verdict on a request with a pass that is signed under this key. If a caveat refuses the
-    /// request, no sum is read but what the key has spent, and that only if a caveat depends on it.
+    /// request, no sum is read but what the key's member has used and the key has spent, and these
+    /// only if a caveat depends on them.
     fn verdict_under<'a, F: FieldSource<'a> + Drop>(
         &mut self,
         key: &Key,
@@ -166,12 +167,12 @@ impl<S: ClubStore> Desk<S> {
         moment: Moment,
     ) -> Result<Verdict, StoreFault>
         ensures reads { ReadsStore S.disk_is_clean S.represents self.old self.new result
-            (λ club verdict. OfItsPass (F.left source.now) (λ pass.
+            (λ club verdict. IsOnRecord club key.now → OfItsPass (F.left source.now) (λ pass.
             verdict ≡ verdict_read club key.now pass request.now moment)) }
         ensures failed { S.disk_is_clean self.new → ReadsOrFails S.fails self.old self.new result }
     {
         let view = self.first_view(key, request)?;
-        let fault = self.caveat_fault(source, &key.name, &view.ask(request, moment))?;
+        let fault = self.caveat_fault(source, key, &view.ask(request, moment))?;
         if fault.is_some() {
             return Ok(answer(Some(&view), true, fault, request, moment));
         }

@@ -1,15 +1,15 @@
 //! Scans of the fields of a pass: one for its signature, and one for its caveats.
 
-ghost use Rattle.std.specs.Prelude.{◌≡◌, ℕ, false, fold, map};
+ghost use Rattle.std.specs.Prelude.{◌≡◌, ℕ, fold, map};
 ghost use Rattle.pass_caveats.specs.computed.CaveatOf.{caveat_of, first_fault_of};
+ghost use Rattle.pass_caveats.specs.Spending.{IsWithin};
 ghost use Rattle.pass_forms.specs.Pass.{Plain};
 ghost use Rattle.club_gate.specs.Signing.{signing_with, is_one_of};
 ghost use Rattle.club_gate.specs.Reading as read;
 ghost use Rattle.club_gate.specs.Verify.{OfItsPass, fields_behind};
 
 use crate::signing::Signing;
-use pass_caveats::laws::{limits_no_more, owes_nothing};
-use pass_caveats::{Ask, CaveatFault, fault_at};
+use pass_caveats::{Ask, CaveatFault, Unspent, fault_at, unspent_at};
 use pass_forms::{Field, FieldSource};
 
 /// Whether a pass is signed: extended by all its caveats, one of these chains has its signature.
@@ -59,14 +59,46 @@ pub(crate) fn fault_after<'a, F: FieldSource<'a> + Drop>(
     first_fault(&mut source, &Ask { spent, ..*ask })
 }
 
-/// Whether the first caveat that refuses the request may depend on what the key has spent: the
-/// request costs something, and a key that has spent more than any limit is refused otherwise than
-/// one that has spent nothing.
-pub(crate) fn depends_on_spent<'a, F: FieldSource<'a> + Drop>(source: &F, ask: &Ask) -> bool
-    ensures { OfItsPass (F.left source.now) (λ pass. result ≡ false → (spent : ℕ)
-        → read.fault_after pass spent ask.now ≡ read.fault_after pass 0 ask.now) }
+/// The first caveat of a pass that refuses a request of a key that has spent nothing before, and
+/// the most that the key may have spent for the same result.
+fn first_unspent<'a, F: FieldSource<'a>>(source: &mut F, ask: &Ask) -> Unspent
+    ensures { OfItsPass (F.left source.old) (λ pass. (spent : ℕ) → IsWithin result.slack spent
+        → read.fault_after pass spent ask.now ≡ result.fault) }
 {
-    owes_nothing();
-    limits_no_more();
-    ask.owed != 0 && fault_after(source, ask, u64::MAX) != fault_after(source, ask, 0)
+    let mut slack: Option<u64> = None;
+    let mut number: usize = 1;
+    while let Some(field) = source.next() {
+        if let Field::Caveat(caveat) = field {
+            let one = unspent_at(caveat, number, ask);
+            slack = least(slack, one.slack);
+            if one.fault.is_some() {
+                return Unspent {
+                    fault: one.fault,
+                    slack,
+                };
+            }
+            number = number.saturating_add(1);
+        }
+    }
+    Unspent { fault: None, slack }
+}
+
+/// The lower of two bounds.
+fn least(bound: Option<u64>, other: Option<u64>) -> Option<u64>
+    ensures { (spent : ℕ) → IsWithin result spent → IsWithin bound spent × IsWithin other spent }
+{
+    match (bound, other) {
+        (Some(bound), Some(other)) => Some(bound.min(other)),
+        (None, _) => other,
+        (_, None) => bound,
+    }
+}
+
+/// As `first_unspent`, but leaves the source unchanged.
+pub(crate) fn unspent_fault<'a, F: FieldSource<'a> + Drop>(source: &F, ask: &Ask) -> Unspent
+    ensures { OfItsPass (F.left source.now) (λ pass. (spent : ℕ) → IsWithin result.slack spent
+        → read.fault_after pass spent ask.now ≡ result.fault) }
+{
+    let mut source = source.again();
+    first_unspent(&mut source, ask)
 }

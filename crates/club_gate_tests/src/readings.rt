@@ -50,12 +50,24 @@ const BOOKING: Calls = Calls {
     ..RECORD
 };
 
+/// Under a limit that leaves room for all that the member has used, no sum over bookings is read:
+/// the account is, once for the caveats and once for the decision.
 const LIMITED_BOOKING: Calls = Calls {
-    spent: 1,
+    accounts: 2,
     ..BOOKING
 };
 
-const OVER_THE_LIMIT: Calls = Calls { spent: 1, ..RECORD };
+/// Under a lower limit what the key has spent is read, too.
+const SUMMED_BOOKING: Calls = Calls {
+    spent: 1,
+    ..LIMITED_BOOKING
+};
+
+const OVER_THE_LIMIT: Calls = Calls {
+    accounts: 1,
+    spent: 1,
+    ..RECORD
+};
 
 const SUMS: Calls = Calls {
     accounts: 1,
@@ -71,19 +83,20 @@ fn book<S: ClubStore>(rt: &(impl Abort + Alloc<A = Global>), desk: &mut Desk<S>)
     expect_eq(rt, &returned, &BOOKED_7.reply().expect(rt, "a reply"));
 }
 
-/// Revokes bob's key, and books number 7 or not.
+/// Revokes bob's key, gives amy a second one, and books number 7 or not.
 fn prepare<S: ClubStore>(
     rt: &(impl Abort + Alloc<A = Global>),
     desk: &mut Desk<S>,
     is_booked: bool,
 ) {
     carry_out(rt, desk, &Order::RevokeKey("bob-1"));
+    carry_out(rt, desk, &Order::AddKey("amy-2", "amy", ROOT));
     if is_booked {
         book(rt, desk);
     }
 }
 
-/// The fixture, in which bob's key is revoked, after number 7 was booked or before.
+/// The fixture, in which bob's key is revoked and amy has two, after number 7 was booked or before.
 fn counted_fixture<S: ClubStore>(
     rt: &(impl Abort + Alloc<A = Global>),
     desk: Desk<S>,
@@ -157,6 +170,65 @@ static AGAIN: [Row; 6] = [
     (SPENDS_700, BOOK_8, DENIED_1, OVER_THE_LIMIT),
 ];
 
+/// A booking of the last place for 200 points, under either key of amy.
+const BOOKED_BY_1: PlainReply = PlainReply::Booked("amy-1", 8, 200, 0);
+
+const BOOKED_BY_2: PlainReply = PlainReply::Booked("amy-2", 8, 200, 0);
+
+// Number 7 is booked, for 600 points: all that amy has used, and her first key has spent. Number 8
+// costs 200, so the limits leave 599, 600 and 601 points for what was spent before.
+static LIMITS: [Row; 7] = [
+    (
+        Shown::Of("amy-1", ROOT, &["spend <= 799"]),
+        BOOK_8,
+        DENIED_1,
+        OVER_THE_LIMIT,
+    ),
+    (
+        Shown::Of("amy-1", ROOT, &["spend <= 800"]),
+        BOOK_8,
+        BOOKED_BY_1,
+        LIMITED_BOOKING,
+    ),
+    (
+        Shown::Of("amy-1", ROOT, &["spend <= 801"]),
+        BOOK_8,
+        BOOKED_BY_1,
+        LIMITED_BOOKING,
+    ),
+    // The second key has spent nothing.
+    (
+        Shown::Of("amy-2", ROOT, &["spend <= 799"]),
+        BOOK_8,
+        BOOKED_BY_2,
+        SUMMED_BOOKING,
+    ),
+    (
+        Shown::Of("amy-2", ROOT, &["spend <= 800"]),
+        BOOK_8,
+        BOOKED_BY_2,
+        LIMITED_BOOKING,
+    ),
+    // The lowest limit decides whether a sum is read.
+    (
+        Shown::Of(
+            "amy-2",
+            ROOT,
+            &["spend <= 900", "spend <= 799", "spend <= 901"],
+        ),
+        BOOK_8,
+        BOOKED_BY_2,
+        SUMMED_BOOKING,
+    ),
+    // A limit below the charge refuses whatever was spent.
+    (
+        Shown::Of("amy-2", ROOT, &["spend <= 199"]),
+        BOOK_8,
+        DENIED_1,
+        RECORD,
+    ),
+];
+
 /// The reply to a row's request, and what the desk asked of its store for it.
 fn reply_and_calls<S: ClubStore + Drop>(
     rt: &(impl Abort + Alloc<A = Global>),
@@ -217,4 +289,9 @@ fn an_answer_reads_what_it_needs(rt: HostRuntime) {
 #[test]
 fn a_repeat_and_a_cancellation_read_no_sum(rt: HostRuntime) {
     reads_each(&rt, true, &AGAIN);
+}
+
+#[test]
+fn a_sum_is_read_only_where_the_limit_lies_below_what_the_member_has_used(rt: HostRuntime) {
+    reads_each(&rt, true, &LIMITS);
 }

@@ -34,3 +34,4 @@ pub mod FollowedSteps
 pub mod FailedEvents
 pub mod SoloRuns
 pub mod FailureLemmas
+pub mod UsedPoints

@@ -2,6 +2,7 @@ pub mod SoundRuns
 pub mod SingleRequest
 pub mod Points
 pub mod Conservation
+pub mod Spending
 pub mod Repeats
 pub mod ExampleRuns
 pub mod Frame

@@ -12,3 +12,4 @@ pub mod runs_with_failures;
 pub mod single_request;
 pub mod solo;
 pub mod sound;
+pub mod spending;

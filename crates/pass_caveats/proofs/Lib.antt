@@ -6,3 +6,4 @@ pub mod DecisionLemmas
 pub mod CandidateLemmas
 pub mod CaveatOfLemmas
 pub mod SpendingLemmas
+pub mod KindLemmas

@@ -1,15 +1,15 @@
 -- What was spent before changes the first fault of a list only under a spend limit, and only where something is owed.
-use Rattle.std.proofs.Common.{◌≡◌, ◌⊎◌, inl, inr, ℕ, zero, suc, ◌+◌, ◌≤◌, ◌==◌, ◌||◌, Bool, true, false, cond, nat_le, List, [], ◌∷◌, map, Option, Some, None}
-use Rattle.std.proofs.Common.{refl, sym, ◌∙◌, arith}
+use Rattle.std.proofs.Common.{◌≡◌, ◌⊎◌, inl, inr, ℕ, zero, suc, ◌+◌, ◌-◌, ◌≤◌, ◌==◌, ◌||◌, min, Bool, true, false, cond, nat_le, List, [], ◌∷◌, map, Option, Some, None}
+use Rattle.std.proofs.Common.{refl, sym, ap, ◌∙◌, arith}
 use Rattle.std.proofs.lemmas.Bool.Decides.{nat_tests}
 use Rattle.pass_caveats.specs.declared.ask.Ask.{Ask}
 use Rattle.pass_caveats.specs.declared.caveat.Caveat.{Caveat}
 use Rattle.pass_caveats.specs.declared.caveat.Caveat.TheVariants.{Spend}
-use Rattle.pass_caveats.specs.declared.fault.CaveatFault.TheVariants.{Denied}
+use Rattle.pass_caveats.specs.declared.fault.CaveatFault.TheVariants.{Denied, NotUnderstood}
 use Rattle.pass_caveats.specs.Caveat.{IsCaveat}
 use Rattle.pass_caveats.specs.computed.CaveatOf.{caveat_of, first_fault_from, permits}
 use Rattle.club_values.specs.Number.{number_limit}
-use Rattle.pass_caveats.specs.Spending.{after_spending}
+use Rattle.pass_caveats.specs.Spending.{HoldsWithin, IsWithin, after_spending, slack_under}
 use Rattle.pass_caveats.proofs.CaveatOfLemmas.{understood-caveat_of}
 
 -- a spend limit that allows more allows less
@@ -104,12 +104,74 @@ total zero b = inl (omega arith)
 total (suc a) zero = inr (omega arith)
 total (suc a) (suc b) = elim (total a b) [ inl h ↦ inl (omega (arith, h)) | inr h ↦ inr (omega (arith, h)) ]
 
-pub limits_no_more : (texts : List (List ℕ)) (ask : Ask) (spent most : ℕ) → number_limit ≤ most
+pub limits_no_more : (texts : List (List ℕ)) (ask : Ask) (spent most : ℕ) → min spent number_limit ≤ most
     → first_fault_from 1 (map caveat_of texts) (after_spending most ask) ≡ first_fault_from 1 (map caveat_of texts) (after_spending 0 ask)
     → first_fault_from 1 (map caveat_of texts) (after_spending spent ask) ≡ first_fault_from 1 (map caveat_of texts) (after_spending 0 ask)
-limits_no_more texts ask spent most far same = go (total spent most)
+limits_no_more texts ask spent most far same = go (total spent most) (total spent number_limit)
   where
-    go : (spent ≤ most) ⊎ (most ≤ spent)
+    go : (spent ≤ most) ⊎ (most ≤ spent) → (spent ≤ number_limit) ⊎ (number_limit ≤ spent)
         → first_fault_from 1 (map caveat_of texts) (after_spending spent ask) ≡ first_fault_from 1 (map caveat_of texts) (after_spending 0 ask)
-    go (inl less) = between 1 (map caveat_of texts) ask spent most less same
-    go (inr more) = beyond 1 texts ask spent most far more ∙ same
+    go (inl less) limit = between 1 (map caveat_of texts) ask spent most less same
+    go (inr more) (inl small) = between 1 (map caveat_of texts) ask spent most (omega (arith, far, more, small)) same
+    go (inr more) (inr great) = beyond 1 texts ask spent most (omega (arith, far, great)) more ∙ same
+
+-- ---- one caveat
+
+limited : (owed spent n : ℕ) → (owed == 0 || nat_le (0 + owed) n) ≡ true
+    → ((owed == 0 || nat_le (spent + owed) n) ≡ true → IsWithin (cond (owed == 0) None (Some (n - owed))) spent)
+    × (IsWithin (cond (owed == 0) None (Some (n - owed))) spent → (owed == 0 || nat_le (spent + owed) n) ≡ true)
+limited zero spent n h = (λ _. tt, λ _. refl)
+limited (suc owed) spent n h = (λ e. grind (arith, nat_tests), λ e. grind (arith, nat_tests))
+
+-- a caveat that allows a request of a key that spent nothing allows it just within its slack
+pub permits_within : (caveat : Caveat) (ask : Ask) (spent : ℕ) → permits caveat (after_spending 0 ask) ≡ true
+    → (permits caveat (after_spending spent ask) ≡ true → IsWithin (slack_under caveat ask) spent)
+    × (IsWithin (slack_under caveat ask) spent → permits caveat (after_spending spent ask) ≡ true)
+unfolding permits
+permits_within (Spend n) ask spent h = limited ask.owed spent n h
+permits_within caveat ask spent h = (λ _. tt, λ _. h)
+
+denied : (n : ℕ) (b : Bool) → b ≡ false → cond b None (Some (Denied n)) ≡ Some (Denied n)
+denied n true e = absurd (cc)
+denied n false e = refl
+
+allowed : (n : ℕ) (b : Bool) → b ≡ true → cond b None (Some (Denied n)) ≡ None
+allowed n true e = refl
+allowed n false e = absurd (cc)
+
+only_allowed : (n : ℕ) (b : Bool) → cond b None (Some (Denied n)) ≡ None → b ≡ true
+only_allowed n true e = refl
+only_allowed n false e = absurd (cc)
+
+never : (caveat : Caveat) (ask : Ask) (spent : ℕ) → permits caveat (after_spending 0 ask) ≡ false → (b : Bool)
+    → permits caveat (after_spending spent ask) ≡ b → b ≡ false
+never caveat ask spent h true e = let x = permits_less caveat ask 0 spent (omega arith) e in absurd (cc)
+never caveat ask spent h false e = refl
+
+-- a text that isn't understood is at fault whatever was spent
+pub holds_unread : (text : List ℕ) (n : ℕ) (ask : Ask) → caveat_of text ≡ None → HoldsWithin text n ask (Some (NotUnderstood n)) None
+holds_unread text n ask e = record {
+  within = λ spent h. ap (λ (c : Option Caveat). first_fault_from n (c ∷ []) (after_spending spent ask)) e;
+  beyond = λ spent h. absurd (h tt);
+}
+
+-- so is a caveat that denies a key that spent nothing
+pub holds_denied : (text : List ℕ) (n : ℕ) (ask : Ask) (caveat : Caveat) → caveat_of text ≡ Some caveat → permits caveat (after_spending 0 ask) ≡ false
+    → HoldsWithin text n ask (Some (Denied n)) None
+holds_denied text n ask caveat e denies = record {
+  within = λ spent h.
+      ap (λ (c : Option Caveat). first_fault_from n (c ∷ []) (after_spending spent ask)) e
+      ∙ denied n (permits caveat (after_spending spent ask)) (never caveat ask spent denies (permits caveat (after_spending spent ask)) refl);
+  beyond = λ spent h. absurd (h tt);
+}
+
+pub holds_allowed : (text : List ℕ) (n : ℕ) (ask : Ask) (caveat : Caveat) → caveat_of text ≡ Some caveat → permits caveat (after_spending 0 ask) ≡ true
+    → HoldsWithin text n ask None (slack_under caveat ask)
+holds_allowed text n ask caveat e allows = record {
+  within = λ spent h.
+      ap (λ (c : Option Caveat). first_fault_from n (c ∷ []) (after_spending spent ask)) e
+      ∙ allowed n (permits caveat (after_spending spent ask)) ((permits_within caveat ask spent allows).1 h);
+  beyond = λ spent h same.
+      h ((permits_within caveat ask spent allows).0 (only_allowed n (permits caveat (after_spending spent ask))
+      (sym (ap (λ (c : Option Caveat). first_fault_from n (c ∷ []) (after_spending spent ask)) e) ∙ same)));
+}

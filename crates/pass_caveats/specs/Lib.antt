@@ -6,4 +6,5 @@ pub mod Caveat
 pub mod Fault
 pub mod Laws
 pub mod Spending
+pub mod Kinds
 pub mod computed

@@ -1,8 +1,9 @@
 //! The caveats that are understood, and the requests that each allows.
 
-ghost use Rattle.std.specs.Prelude.{◌≡◌, ◌⊎◌, ◌+◌, ◌≤◌, ◌↔◌, IsTrue};
+ghost use Rattle.std.specs.Prelude.{◌≡◌, ◌⊎◌, ◌+◌, ◌≤◌, ◌↔◌, IsTrue, Some, false};
 ghost use Rattle.club_values.specs.Reading.{Reads};
 ghost use Rattle.pass_caveats.specs.Caveat.{SpellsCaveat, Understood, Permits};
+ghost use Rattle.pass_caveats.specs.Kinds.{IsBlindToKind, is_on_kind};
 ghost use Rattle.pass_caveats.specs.computed.CaveatOf.{caveat_of, permits};
 
 use crate::actions::Actions;
@@ -40,6 +41,15 @@ pub enum Caveat<'a> {
     Spend(u32),
     /// The action is in the set.
     Actions(Actions),
+}
+
+impl Caveat<'_> {
+    /// Whether it is a caveat on the kind.
+    fn is_on_kind(&self) -> bool
+        ensures { result ≡ is_on_kind (Some self.now) }
+    {
+        matches!(self, Caveat::Kind(_))
+    }
 }
 
 fn line_of(text: &[u8]) -> Option<Caveat<'_>>
@@ -127,4 +137,16 @@ pub fn allows(caveat: &Caveat, ask: &Ask) -> bool
     ensures function { result ≡ permits caveat.now ask.now }
 {
     is_in_set(caveat, ask)
+}
+
+/// Whether a text is a caveat on the kind of the slot's facility. Any other text has the same fault
+/// for each kind.
+pub fn looks_at_kind(text: &[u8]) -> bool
+    ensures function { result ≡ is_on_kind (caveat_of text.now) }
+    ensures blind { result ≡ false → IsBlindToKind text.now }
+{
+    match read(text) {
+        Some(caveat) => caveat.is_on_kind(),
+        None => false,
+    }
 }

@@ -52,8 +52,9 @@ pub fn owes_nothing()
     ensures { OwesNothing }
 {}
 
-/// No spend limit is above 999,999,999 points: if the first fault of a list is the same with
-/// nothing spent and with that much or more, it is the same for any amount.
+/// If the first fault of a list is the same with nothing spent and with some amount, it is the same
+/// for any smaller one. No spend limit is above 999,999,999 points: with that much it is the same
+/// for any amount.
 pub fn limits_no_more()
     ensures { LimitsNoMore }
 {}

@@ -10,14 +10,16 @@ pub mod laws;
 mod lines;
 mod names;
 mod parts;
+mod unspent;
 mod weekdays;
 
 pub use actions::Actions;
 pub use ask::Ask;
-pub use caveat::{Caveat, MAX_CAVEAT_LEN, allows, read};
+pub use caveat::{Caveat, MAX_CAVEAT_LEN, allows, looks_at_kind, read};
 pub use club_values::{
     Action, Day, Hour, Kind, MAX_NAME_LEN, MINUTES_A_DAY, Moment, Name, Slot, Weekday,
 };
 pub use fault::{CaveatFault, fault_at, first_fault};
 pub use names::{MAX_NAMES, Names};
+pub use unspent::{Unspent, unspent_at};
 pub use weekdays::Weekdays;

@@ -4,6 +4,7 @@ use Rattle.std.proofs.lemmas.Result.{IfOk-weaker}
 use Rattle.club_core.specs.Club.{IsSound}
 use Rattle.club_gate.proofs.Reading.{read_alike}
 use Rattle.club_gate.proofs.Signers.{refused_by_row}
+use Rattle.club_gate.proofs.Spending.{on_record}
 use Rattle.club_gate.proofs.desk.Desk.verdict_of.Goals as goal
 
 pub returns-in-Ok-clause-reads : goal.returns-in-Ok-clause-reads
@@ -16,9 +17,10 @@ returns-in-Ok-clause-reads g c = record {
       let sound = All-head IsSound club others (g.met.S.ClubStore.sound c.args.self.now club others represents) in
       IfOk-weaker c.verdict_under.result _ _
       (λ verdict answered pass fields short.
-      answered pass fields short
+      let signed = sym (found pass fields) ∙ c.in-Ok.is in
+      answered (on_record club pass c.args.request.now c.args.moment c.in-Ok.key signed) pass fields short
       ∙ read_alike c.own_bookings_suffice.ensures c.looks_no_further.ensures club c.in-Ok.key pass c.args.request.now c.args.moment sound
-      (sym (found pass fields) ∙ c.in-Ok.is))
+      signed)
       (c.verdict_under.ensures.reads.returns was_clean club others (c.signer.ensures.reads.kept before club others represents));
 }
 

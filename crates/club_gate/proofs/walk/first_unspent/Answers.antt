@@ -1,0 +1,26 @@
+use Rattle.std.proofs.Common.{◌≡◌, true, [], ◌∷◌, is_some, sym}
+use Rattle.pass_caveats.specs.computed.CaveatOf.{caveat_of, first_fault_from}
+use Rattle.pass_caveats.specs.Spending.{after_spending}
+use Rattle.club_gate.proofs.Walking.{fault_at_last, fault_comes, no_fault_comes}
+use Rattle.club_gate.proofs.walk.first_unspent.Goals as goal
+
+pub returns-then-is_some : goal.returns-then-is_some
+returns-then-is_some g c = λ pass e short spent within.
+    let both = c.least-slack.ensures spent within in
+    let ask = after_spending spent c.args.ask.now in
+    let n = c.loop-field.number in
+    let left = g.F.FieldSource.left c.loop-field.source in
+    let fault = c.unspent_at-one.result.fault in
+    let some : is_some fault ≡ true = cc in
+    let one = first_fault_from n (caveat_of c.in-Caveat.caveat.now ∷ []) ask in
+    sym (fault_at_last ask n (g.F.FieldSource.left c.args.source.now) left fault
+    (fault_comes ask n left _ _ _ fault c.in-Some.ensures.some c.in-Caveat.is (sym {a = one} (c.unspent_at-one.ensures.within spent both.1)) some)
+    (c.loop-field.invariant spent both.0) pass e short)
+
+pub returns : goal.returns
+returns g c = λ pass e short spent within.
+    let ask = after_spending spent c.args.ask.now in
+    let n = c.loop-field.number in
+    let left = g.F.FieldSource.left c.loop-field.source in
+    sym (fault_at_last ask n (g.F.FieldSource.left c.args.source.now) left _
+    (no_fault_comes ask n left c.in_default.ensures.none.0) (c.loop-field.invariant spent within) pass e short)

@@ -1,0 +1,14 @@
+-- For any amount within the slack, the first fault from here on is the first of all fields.
+use Rattle.std.proofs.Common.{◌≡◌, ℕ, length}
+use Rattle.pass_caveats.specs.Spending.{IsWithin, after_spending}
+use Rattle.club_gate.proofs.Walking.{fault_in}
+use Rattle.club_gate.proofs.walk.first_unspent.Given as goal
+
+abbrev pub invariant-loop-field : goal.invariant-loop-field
+invariant-loop-field g l =
+    (spent : ℕ) → IsWithin l.slack spent
+    → fault_in (after_spending spent l.ask) l.number (g.F.FieldSource.left l.source)
+    ≡ fault_in (after_spending spent l.ask) l.initial.number (g.F.FieldSource.left l.initial.source)
+
+abbrev pub decreases-loop-field : goal.decreases-loop-field
+decreases-loop-field g l = length (g.F.FieldSource.left l.source)

@@ -1,0 +1,17 @@
+//! What a key has spent is part of what its member has used.
+
+ghost use Rattle.club_laws.specs.Spending.{AccountsShowWhatIsUsed, SpendsWithinItsMember};
+
+use club_core::laws::own_bookings_suffice;
+
+/// No key has spent more than its member has used.
+pub fn spends_within_its_member()
+    ensures { SpendsWithinItsMember }
+{
+    own_bookings_suffice();
+}
+
+/// In a sound club, an account's credit less its balance is what the member has used.
+pub fn accounts_show_what_is_used()
+    ensures { AccountsShowWhatIsUsed }
+{}

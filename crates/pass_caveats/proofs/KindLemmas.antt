@@ -1,0 +1,25 @@
+-- A caveat that isn't on the kind has the same fault for each kind.
+use Rattle.std.proofs.Common.{◌≡◌, ℕ, Bool, false, cond, List, [], ◌∷◌, Option, Some, None, refl, ap}
+use Rattle.club_values.specs.declared.kind.Kind.{Kind as AKind}
+use Rattle.pass_caveats.specs.declared.ask.Ask.{Ask}
+use Rattle.pass_caveats.specs.declared.caveat.Caveat.{Caveat}
+use Rattle.pass_caveats.specs.declared.caveat.Caveat.TheVariants.{Kind}
+use Rattle.pass_caveats.specs.declared.fault.CaveatFault.{CaveatFault}
+use Rattle.pass_caveats.specs.declared.fault.CaveatFault.TheVariants.{Denied}
+use Rattle.pass_caveats.specs.Kinds.{IsBlindToKind, at_kind, is_on_kind}
+use Rattle.pass_caveats.specs.computed.CaveatOf.{caveat_of, first_fault_from, permits}
+
+permits_alike : (caveat : Caveat) (ask : Ask) (kind : Option AKind) → is_on_kind (Some caveat) ≡ false
+    → permits caveat (at_kind kind ask) ≡ permits caveat ask
+unfolding permits
+permits_alike (Kind one) ask kind h = absurd (cc)
+permits_alike caveat ask kind h = refl
+
+fault_alike : (number : ℕ) (caveat : Option Caveat) (ask : Ask) (kind : Option AKind) → is_on_kind caveat ≡ false
+    → first_fault_from number (caveat ∷ []) (at_kind kind ask) ≡ first_fault_from number (caveat ∷ []) ask
+fault_alike number None ask kind h = refl
+fault_alike number (Some caveat) ask kind h =
+    ap (λ (b : Bool). let fault : Option CaveatFault = cond b None (Some (Denied number)) in fault) (permits_alike caveat ask kind h)
+
+pub blind_to_kind : (text : List ℕ) → is_on_kind (caveat_of text) ≡ false → IsBlindToKind text
+blind_to_kind text h number ask kind = fault_alike number (caveat_of text) ask kind h

@@ -1,0 +1,22 @@
+-- Which caveats look at the kind of a slot's facility (ours).
+use Rattle.std.specs.Prelude.{◌≡◌, ℕ, Bool, true, false, List, [], ◌∷◌, Option, Some}
+use Rattle.club_values.specs.declared.kind.Kind.{Kind as AKind}
+use Rattle.pass_caveats.specs.declared.ask.Ask.{Ask}
+use Rattle.pass_caveats.specs.declared.caveat.Caveat.{Caveat}
+use Rattle.pass_caveats.specs.declared.caveat.Caveat.TheVariants.{Kind}
+use Rattle.pass_caveats.specs.computed.CaveatOf.{caveat_of, first_fault_from}
+
+-- whether it is a caveat on the kind
+abbrev pub is_on_kind : Option Caveat → Bool
+is_on_kind (Some (Kind kind)) = true
+is_on_kind caveat = false
+
+-- the same request at a facility of this kind
+abbrev pub at_kind : Option AKind → Ask → Ask
+at_kind kind ask = record ask { kind = kind }
+
+-- the fault of the text is the same for each kind
+abbrev pub IsBlindToKind : List ℕ → Type 0
+IsBlindToKind text =
+    (number : ℕ) (ask : Ask) (kind : Option AKind)
+    → first_fault_from number (caveat_of text ∷ []) (at_kind kind ask) ≡ first_fault_from number (caveat_of text ∷ []) ask

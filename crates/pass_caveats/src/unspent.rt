@@ -1,0 +1,57 @@
+//! The fault of a caveat for a key that has spent nothing.
+
+ghost use Rattle.std.specs.Prelude.{◌≡◌};
+ghost use Rattle.pass_caveats.specs.Spending.{HoldsWithin, slack_under};
+
+use crate::ask::Ask;
+use crate::caveat::{Caveat, allows, read};
+use crate::fault::CaveatFault;
+
+/// The fault for a key that has spent nothing before, and how much it may have spent for the same.
+#[derive(Clone, Copy, Debug, PartialEq, Eq)]
+pub struct Unspent {
+    /// The fault; `None` if the request is allowed.
+    pub fault: Option<CaveatFault>,
+    /// The most that the key may have spent before for the same fault; `None` if any amount gives
+    /// the same.
+    pub slack: Option<u64>,
+}
+
+/// The fault of one caveat with this number in its list, if the key has spent nothing before. For
+/// any amount up to the slack it is the same, and for no other.
+pub fn unspent_at(text: &[u8], number: usize, ask: &Ask) -> Unspent
+    ensures { HoldsWithin text.now number ask.now result.fault result.slack }
+{
+    let Some(caveat) = read(text) else {
+        return Unspent {
+            fault: Some(CaveatFault::NotUnderstood(number)),
+            slack: None,
+        };
+    };
+    if !allows(&caveat, &Ask { spent: 0, ..*ask }) {
+        return Unspent {
+            fault: Some(CaveatFault::Denied(number)),
+            slack: None,
+        };
+    }
+    Unspent {
+        fault: None,
+        slack: slack_of(&caveat, ask),
+    }
+}
+
+/// What a spend limit leaves for earlier spending, if the charge alone is within it; `None` if the
+/// caveat limits nothing.
+fn slack_of(caveat: &Caveat, ask: &Ask) -> Option<u64>
+    ensures { result ≡ slack_under caveat.now ask.now }
+{
+    match caveat {
+        Caveat::Spend(points) => {
+            if ask.owed == 0 {
+                return None;
+            }
+            Some(u64::from(*points).saturating_sub(ask.owed))
+        }
+        _ => None,
+    }
+}
